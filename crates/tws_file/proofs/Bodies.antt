@@ -1,0 +1,32 @@
+-- The fields that a body is read as have its bytes.
+use Rattle.std.proofs.Common.{◌≡◌, ℕ, ◌+◌, ◌≤◌, List, ◌∷◌, ◌++◌, length, take, drop, slice_index, ap, sym, ◌∙◌, arith, take-append-drop, length-drop, drop-drop}
+use Rattle.std.proofs.lemmas.List.{drop_more}
+use Rattle.byteorder.specs.Endian.{little_bytes, little_number}
+use Rattle.tws_file.specs.declared.key.Key.{Key}
+use Rattle.tws_file.specs.Fields.{IsBytes, set_key, key_bytes}
+use Rattle.tws_file.proofs.Parts.{IsBytes-drop}
+use Rattle.tws_file.proofs.Numbers.{little_bytes-little_number_4}
+
+-- a number of four bytes at a place, and what follows it
+number_at : (at n : ℕ) (bytes here more : List ℕ) → at + 4 ≤ length bytes → IsBytes bytes → here ≡ drop at bytes → n ≡ little_number 4 here → more ≡ drop (at + 4) bytes → little_bytes 4 n ++ more ≡ drop at bytes
+number_at at n bytes here more long fits here-is n-is more-is =
+    let four = little_bytes-little_number_4 (drop at bytes) (omega (arith, length-drop at bytes)) (IsBytes-drop at bytes fits) in
+    ap (λ (m : ℕ). little_bytes 4 m ++ more) (n-is ∙ ap (little_number 4) here-is)
+    ∙ ap (λ (xs : List ℕ). xs ++ more) four
+    ∙ ap (λ (xs : List ℕ). take 4 (drop at bytes) ++ xs) (more-is ∙ sym (drop-drop 4 at bytes))
+    ∙ take-append-drop 4 (drop at bytes)
+
+-- flags, start, seed, ticks and moves
+pub solved_from : (rest a b moves : List ℕ) (seed ticks : ℕ) → IsBytes rest → 10 ≤ length rest → a ≡ drop 2 rest → b ≡ drop 6 rest → seed ≡ little_number 4 a → ticks ≡ little_number 4 b → moves ≡ drop 10 rest
+    → slice_index rest 0 ∷ slice_index rest 1 ∷ (little_bytes 4 seed ++ (little_bytes 4 ticks ++ moves)) ≡ rest
+solved_from rest a b moves seed ticks fits long a-is b-is seed-is ticks-is moves-is =
+    let later = number_at 6 ticks rest b moves (omega arith) fits b-is ticks-is moves-is in
+    let both = number_at 2 seed rest a (little_bytes 4 ticks ++ moves) (omega arith) fits a-is seed-is later in
+    ap (λ (xs : List ℕ). slice_index rest 0 ∷ slice_index rest 1 ∷ xs) both
+    ∙ ap (λ (xs : List ℕ). slice_index rest 0 ∷ xs) (sym (drop_more rest 1 0 (omega arith)))
+    ∙ sym (drop_more rest 0 0 (omega arith))
+
+-- a body of the key of the set
+pub set_from : (body rest : List ℕ) (key : Key) → key_bytes key ≡ take 6 body → key ≡ set_key → rest ≡ drop 6 body → key_bytes set_key ++ rest ≡ body
+set_from body rest key bytes is_set rest-is =
+    ap (λ (k : Key). key_bytes k ++ rest) (sym is_set) ∙ ap (λ (xs : List ℕ). xs ++ rest) bytes ∙ ap (λ (xs : List ℕ). take 6 body ++ xs) rest-is ∙ take-append-drop 6 body

@@ -1,0 +1,117 @@
+-- Bytes have at most one fault, and the text of a file has none.
+use Rattle.std.proofs.Common.{◌≡◌, ◌⊎◌, ℕ, ◌+◌, ◌≤◌, List, [], ◌∷◌, ◌++◌, length, slice_index, refl, ap, sym, ◌∙◌, subst, arith, append_assoc, append-nil, inl, inr, ⊎_elim, length-append}
+use Rattle.std.specs.List.{flat_map}
+use Rattle.tws_file.specs.declared.file_fault.FileFault.{FileFault}
+use Rattle.tws_file.specs.declared.file_fault.FileFault.TheVariants.{ShortHeader, BadSignature, BadRuleset, ShortRecord, BadSize, Memory}
+use Rattle.tws_file.specs.declared.«ruleset».Ruleset.{Ruleset}
+use Rattle.tws_file.specs.declared.«ruleset».Ruleset.TheVariants.{Lynx, Ms}
+use Rattle.tws_file.specs.Fields.{ruleset_code}
+use Rattle.tws_file.specs.Text.{File, IsFile, IsText, text_of, record_text}
+use Rattle.tws_file.specs.Fault.{IsSigned, StopsAt, HasBadSize, IsRecordCut, HasFault}
+use Rattle.tws_file.proofs.FileText.{text_parts, nothing_begins}
+
+-- a whole header
+record HasHeader (bytes : List ℕ) : Type 0 where
+  signed : IsSigned bytes
+  known : (slice_index bytes 4 ≡ 1) ⊎ (slice_index bytes 4 ≡ 2)
+  whole : 8 + slice_index bytes 7 ≤ length bytes
+
+code_known : (kind : Ruleset) → (ruleset_code kind ≡ 1) ⊎ (ruleset_code kind ≡ 2)
+code_known Lynx = inl refl
+code_known Ms = inr refl
+
+-- the bytes of a header, and what follows them
+abbrev header_bytes : ℕ → List ℕ → ℕ → List ℕ → List ℕ
+header_bytes code word count rest = 0x35 ∷ 0x33 ∷ 0x9B ∷ 0x99 ∷ code ∷ (word ++ (count ∷ rest))
+
+header_is : (code : ℕ) (word : List ℕ) (count : ℕ) (rest : List ℕ) → length word ≡ 2 → (code ≡ 1) ⊎ (code ≡ 2) → count ≤ length rest → HasHeader (header_bytes code word count rest)
+header_is code [] count rest len known long = absurd (omega arith)
+header_is code (a ∷ []) count rest len known long = absurd (omega arith)
+header_is code (a ∷ b ∷ []) count rest len known long =
+    record { signed = record { long = omega arith; signed = refl }; known = known; whole = omega arith }
+header_is code (a ∷ b ∷ c ∷ word) count rest len known long = absurd (omega arith)
+
+header_of_text : (f : File) (rest : List ℕ) → IsFile f → HasHeader (text_of f ++ rest)
+header_of_text f rest fits =
+    let records = flat_map record_text f.records in
+    let count = length f.extra in
+    let after = f.extra ++ (records ++ rest) in
+    let shape : text_of f ++ rest ≡ header_bytes (ruleset_code f.ruleset) f.word count after =
+    ap (λ (xs : List ℕ). 0x35 ∷ 0x33 ∷ 0x9B ∷ 0x99 ∷ ruleset_code f.ruleset ∷ xs) (append_assoc (f.word ++ (count ∷ f.extra)) records rest ∙ append_assoc f.word (count ∷ f.extra) (records ++ rest)) in
+    subst HasHeader (sym shape) (header_is (ruleset_code f.ruleset) f.word count after fits.word_length (code_known f.ruleset) (omega (arith, length-append f.extra (records ++ rest))))
+
+-- ---- a whole header has no fault
+
+short_header : (bytes : List ℕ) (n : ℕ) → HasHeader bytes → HasFault bytes (ShortHeader n) → ⊥
+short_header bytes n header fault = ⊎_elim (λ short. absurd (omega (arith, header.signed.long))) (λ cut. absurd (omega (arith, header.whole, cut.cut))) fault.1
+
+bad_signature : (bytes : List ℕ) → IsSigned bytes → HasFault bytes BadSignature → ⊥
+bad_signature bytes signed fault = fault.1 signed.signed
+
+unknown_ruleset : (bytes : List ℕ) (code : ℕ) → (slice_index bytes 4 ≡ 1) ⊎ (slice_index bytes 4 ≡ 2) → HasFault bytes (BadRuleset code) → ⊥
+unknown_ruleset bytes code known fault = ⊎_elim (λ one. fault.2.0 (fault.1 ∙ one)) (λ two. fault.2.1 (fault.1 ∙ two)) known
+
+-- ---- where the records stop
+
+stop_header : (bytes : List ℕ) (offset : ℕ) (rest : List ℕ) → StopsAt bytes offset rest → HasHeader bytes
+stop_header bytes offset rest stop = subst HasHeader (sym stop.split) (header_of_text stop.front rest stop.fits)
+
+one_stop : (bytes : List ℕ) (o p : ℕ) (x y : List ℕ) → StopsAt bytes o x → StopsAt bytes p y → (o ≡ p) × (x ≡ y)
+one_stop bytes o p x y s t =
+    let same = text_parts s.front t.front x y s.fits t.fits s.no_record t.no_record (sym s.split ∙ t.split) in
+    (s.place ∙ ap (λ (f : File). length (text_of f)) same.0 ∙ sym t.place, same.1)
+
+bad_or_cut : (rest : List ℕ) → HasBadSize rest → IsRecordCut rest → ⊥
+bad_or_cut rest bad cut = ⊎_elim (λ short. absurd (omega (arith, bad.0))) (λ whole. whole.1 bad.1) cut
+
+cut_and_bad : (bytes : List ℕ) (o p : ℕ) → HasFault bytes (ShortRecord o) → HasFault bytes (BadSize p) → ⊥
+cut_and_bad bytes o p cut bad =
+    bad_or_cut bad.0 bad.2 (subst IsRecordCut (one_stop bytes o p cut.0 bad.0 cut.1 bad.1).1 cut.2)
+
+-- ---- one fault
+
+pub one_fault : (bytes : List ℕ) (d e : FileFault) → HasFault bytes d → HasFault bytes e → d ≡ e
+one_fault bytes (ShortHeader m) (ShortHeader n) p q = ap ShortHeader (p.0 ∙ sym q.0)
+one_fault bytes (ShortHeader m) BadSignature p q = ⊎_elim (λ short. absurd (omega (arith, q.0))) (λ cut. absurd (bad_signature bytes cut.signed q)) p.1
+one_fault bytes (ShortHeader m) (BadRuleset code) p q = ⊎_elim (λ short. absurd (omega (arith, q.0.long))) (λ cut. absurd (unknown_ruleset bytes code cut.known q)) p.1
+one_fault bytes (ShortHeader m) (ShortRecord o) p q = absurd (short_header bytes m (stop_header bytes o q.0 q.1) p)
+one_fault bytes (ShortHeader m) (BadSize o) p q = absurd (short_header bytes m (stop_header bytes o q.0 q.1) p)
+one_fault bytes BadSignature (ShortHeader n) p q = ⊎_elim (λ short. absurd (omega (arith, p.0))) (λ cut. absurd (bad_signature bytes cut.signed p)) q.1
+one_fault bytes BadSignature BadSignature p q = refl
+one_fault bytes BadSignature (BadRuleset code) p q = absurd (bad_signature bytes q.0 p)
+one_fault bytes BadSignature (ShortRecord o) p q = absurd (bad_signature bytes (stop_header bytes o q.0 q.1).signed p)
+one_fault bytes BadSignature (BadSize o) p q = absurd (bad_signature bytes (stop_header bytes o q.0 q.1).signed p)
+one_fault bytes (BadRuleset code) (ShortHeader n) p q = ⊎_elim (λ short. absurd (omega (arith, p.0.long))) (λ cut. absurd (unknown_ruleset bytes code cut.known p)) q.1
+one_fault bytes (BadRuleset code) BadSignature p q = absurd (bad_signature bytes p.0 q)
+one_fault bytes (BadRuleset b) (BadRuleset c) p q = ap BadRuleset (p.1 ∙ sym q.1)
+one_fault bytes (BadRuleset code) (ShortRecord o) p q = absurd (unknown_ruleset bytes code (stop_header bytes o q.0 q.1).known p)
+one_fault bytes (BadRuleset code) (BadSize o) p q = absurd (unknown_ruleset bytes code (stop_header bytes o q.0 q.1).known p)
+one_fault bytes (ShortRecord o) (ShortHeader n) p q = absurd (short_header bytes n (stop_header bytes o p.0 p.1) q)
+one_fault bytes (ShortRecord o) BadSignature p q = absurd (bad_signature bytes (stop_header bytes o p.0 p.1).signed q)
+one_fault bytes (ShortRecord o) (BadRuleset code) p q = absurd (unknown_ruleset bytes code (stop_header bytes o p.0 p.1).known q)
+one_fault bytes (ShortRecord m) (ShortRecord n) p q = ap ShortRecord (one_stop bytes m n p.0 q.0 p.1 q.1).0
+one_fault bytes (ShortRecord m) (BadSize n) p q = absurd (cut_and_bad bytes m n p q)
+one_fault bytes (BadSize o) (ShortHeader n) p q = absurd (short_header bytes n (stop_header bytes o p.0 p.1) q)
+one_fault bytes (BadSize o) BadSignature p q = absurd (bad_signature bytes (stop_header bytes o p.0 p.1).signed q)
+one_fault bytes (BadSize o) (BadRuleset code) p q = absurd (unknown_ruleset bytes code (stop_header bytes o p.0 p.1).known q)
+one_fault bytes (BadSize m) (ShortRecord n) p q = absurd (cut_and_bad bytes n m q p)
+one_fault bytes (BadSize m) (BadSize n) p q = ap BadSize (one_stop bytes m n p.0 q.0 p.1 q.1).0
+one_fault bytes Memory e p q = absurd p
+one_fault bytes d Memory p q = absurd q
+
+-- ---- a text has none
+
+text_header : (bytes : List ℕ) (f : File) → IsText bytes f → HasHeader bytes
+text_header bytes f text = subst HasHeader (append-nil (text_of f) ∙ sym text.text) (header_of_text f [] text.fits)
+
+text_goes_on : (bytes : List ℕ) (f : File) (offset : ℕ) (rest : List ℕ) → IsText bytes f → StopsAt bytes offset rest → ⊥
+text_goes_on bytes f offset rest text stop =
+    stop.some (sym (text_parts f stop.front [] rest text.fits stop.fits nothing_begins stop.no_record (append-nil (text_of f) ∙ sym text.text ∙ stop.split)).1)
+
+pub text_without_fault : (bytes : List ℕ) (f : File) (e : FileFault) → IsText bytes f → HasFault bytes e → ⊥
+text_without_fault bytes f (ShortHeader n) text fault = short_header bytes n (text_header bytes f text) fault
+text_without_fault bytes f BadSignature text fault = bad_signature bytes (text_header bytes f text).signed fault
+text_without_fault bytes f (BadRuleset code) text fault = unknown_ruleset bytes code (text_header bytes f text).known fault
+text_without_fault bytes f (ShortRecord o) text fault = text_goes_on bytes f o fault.0 text fault.1
+text_without_fault bytes f (BadSize o) text fault = text_goes_on bytes f o fault.0 text fault.1
+text_without_fault bytes f Memory text fault = fault

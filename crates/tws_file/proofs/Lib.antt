@@ -1,0 +1,13 @@
+pub mod Parts
+pub mod Codes
+pub mod Numbers
+pub mod RecordText
+pub mod FileText
+pub mod Faults
+pub mod Headers
+pub mod Bodies
+pub mod ReadFile
+pub mod Sending
+pub mod Listings
+pub mod RecordLines
+pub mod Pieces

@@ -1,0 +1,69 @@
+-- Which fault bytes have that no file's text is. docs/FORMATS.md has the same as a table.
+use Rattle.std.specs.Prelude.{◌≡◌, ◌≢◌, ◌⊎◌, ℕ, ◌+◌, ◌<◌, ◌≤◌, List, [], ◌++◌, length, slice_index, take, Result, MatchResult}
+use Rattle.byteorder.specs.Endian.{little_number}
+use Rattle.tws_file.specs.declared.file_fault.FileFault.{FileFault}
+use Rattle.tws_file.specs.declared.file_fault.FileFault.TheVariants.{ShortHeader, BadSignature, BadRuleset, ShortRecord, BadSize, Memory}
+use Rattle.tws_file.specs.Fields.{signature}
+use Rattle.tws_file.specs.Text.{File, Record, IsFile, IsRecord, text_of, record_text}
+
+-- ---- the header
+
+-- the eight bytes that every header has, with the signature
+pub record IsSigned (bytes : List ℕ) : Type 0 where
+  pub long : 8 ≤ length bytes
+  pub signed : take 4 bytes ≡ signature
+
+-- no set of rules has this code
+abbrev pub IsUnknownRuleset : ℕ → Type 0
+IsUnknownRuleset code = (code ≢ 1) × (code ≢ 2)
+
+-- a header whose further bytes, as many as byte 7 says, are cut
+pub record IsHeaderCut (bytes : List ℕ) : Type 0 where
+  pub signed : IsSigned bytes
+  pub known : (slice_index bytes 4 ≡ 1) ⊎ (slice_index bytes 4 ≡ 2)
+  pub cut : length bytes < 8 + slice_index bytes 7
+
+-- ---- the records
+
+-- no front of the bytes is the text of a record
+abbrev pub BeginsNoRecord : List ℕ → Type 0
+BeginsNoRecord bytes = (r : Record) (more : List ℕ) → IsRecord r → bytes ≢ record_text r ++ more
+
+-- The bytes are a header, the texts of records up to this offset, and a rest which isn't empty and begins no record.
+pub record StopsAt (bytes : List ℕ) (offset : ℕ) (rest : List ℕ) : Type 0 where
+  pub front : File
+  pub fits : IsFile front
+  pub split : bytes ≡ text_of front ++ rest
+  pub place : offset ≡ length (text_of front)
+  pub some : rest ≢ []
+  pub no_record : BeginsNoRecord rest
+
+-- no record has such a size
+abbrev pub IsBadSize : ℕ → Type 0
+IsBadSize n = (1 ≤ n) × (n ≤ 5) ⊎ (7 ≤ n) × (n ≤ 15)
+
+abbrev pub HasBadSize : List ℕ → Type 0
+HasBadSize rest = (4 ≤ length rest) × IsBadSize (little_number 4 rest)
+
+-- the size field is cut, or what it announces
+abbrev pub IsRecordCut : List ℕ → Type 0
+IsRecordCut rest = (length rest < 4) ⊎ ((4 ≤ length rest) × ¬ IsBadSize (little_number 4 rest) × (length rest < 4 + little_number 4 rest))
+
+-- ---- the fault
+
+abbrev pub HasFault : List ℕ → FileFault → Type 0
+HasFault bytes (ShortHeader n) = (n ≡ length bytes) × ((length bytes < 8) ⊎ IsHeaderCut bytes)
+HasFault bytes BadSignature = (8 ≤ length bytes) × (take 4 bytes ≢ signature)
+HasFault bytes (BadRuleset code) = IsSigned bytes × (code ≡ slice_index bytes 4) × IsUnknownRuleset code
+HasFault bytes (ShortRecord offset) = (rest : List ℕ) × StopsAt bytes offset rest × IsRecordCut rest
+HasFault bytes (BadSize offset) = (rest : List ℕ) × StopsAt bytes offset rest × HasBadSize rest
+-- want of memory is no fault of the bytes
+HasFault bytes Memory = ⊥
+
+-- a reading ended so: with the fault of the bytes, or since memory ran out
+abbrev pub FailsWith : List ℕ → FileFault → Type 0
+FailsWith bytes e = HasFault bytes e ⊎ (e ≡ Memory)
+
+-- a reading answered so: this file, or memory ran out
+abbrev pub IsReadAs : File → Result File FileFault → Type 0
+IsReadAs file answer = MatchResult answer (λ f. f ≡ file) (λ e. e ≡ Memory)

@@ -1,0 +1,33 @@
+-- The fields of a solution file and their bytes. Every number is little-endian.
+use Rattle.std.specs.Prelude.{◌≡◌, ℕ, ◌<◌, ◌^◌, List, [], ◌∷◌, ◌++◌, length, slice_index}
+use Rattle.byteorder.specs.Endian.{little_bytes}
+use Rattle.tws_file.specs.declared.key.Key.{Key}
+use Rattle.tws_file.specs.declared.«ruleset».Ruleset.{Ruleset}
+use Rattle.tws_file.specs.declared.«ruleset».Ruleset.TheVariants.{Lynx, Ms}
+
+-- a list of bytes: no member is above 255
+abbrev pub IsBytes : List ℕ → Type 0
+IsBytes bytes = (i : ℕ) → slice_index bytes i < 256
+
+-- what each file begins with
+abbrev pub signature : List ℕ
+signature = 0x35 ∷ 0x33 ∷ 0x9B ∷ 0x99 ∷ []
+
+-- the byte of a set of rules
+abbrev pub ruleset_code : Ruleset → ℕ
+ruleset_code Lynx = 1
+ruleset_code Ms = 2
+
+-- a level's number fits its two bytes, and a password is four bytes
+pub record IsKey (key : Key) : Type 0 where
+  pub number : key.number < 2 ^ 16
+  pub password : IsBytes key.password
+  pub password_length : length key.password ≡ 4
+
+-- the key that no level has: a record of the set of levels begins with it
+abbrev pub set_key : Key
+set_key = record { number = 0; password = 0 ∷ 0 ∷ 0 ∷ 0 ∷ [] }
+
+-- two bytes of number, and the password
+abbrev pub key_bytes : Key → List ℕ
+key_bytes key = little_bytes 2 key.number ++ key.password

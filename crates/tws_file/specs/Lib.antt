@@ -1,0 +1,9 @@
+pub mod Fields
+pub mod Text
+pub mod Fault
+pub mod Solution
+pub mod Record
+pub mod TwsFile
+pub mod Steps
+pub mod Listing
+pub mod Output

@@ -1,0 +1,60 @@
+-- What the private steps of reading and of listing say. Callers need none of it.
+use Rattle.std.specs.Prelude.{◌≡◌, ◌≢◌, ◌⊎◌, Option, ℕ, ◌+◌, ◌<◌, ◌≤◌, ◌^◌, List, [], ◌∷◌, ◌++◌, length}
+use Rattle.std.specs.List.{flat_map, AllByRecursion}
+use Rattle.std.specs.Io.KnownBytes.{Appends}
+use Rattle.byteorder.specs.Endian.{little_bytes}
+use Rattle.tws_file.specs.declared.file_fault.FileFault.{FileFault}
+use Rattle.tws_file.specs.declared.file_fault.FileFault.TheVariants.{ShortHeader, BadSignature, BadRuleset, ShortRecord, BadSize, Memory}
+use Rattle.tws_file.specs.declared.«ruleset».Ruleset.{Ruleset}
+use Rattle.tws_file.specs.Fields.{IsBytes}
+use Rattle.tws_file.specs.Text.{Solution, Record, IsRecord, header_text, record_text}
+use Rattle.tws_file.specs.Fault.{BeginsNoRecord, IsRecordCut, HasBadSize}
+
+-- the bytes are a header of these fields, and then the rest
+pub record BeginsWithHeader (bytes : List ℕ) (kind : Ruleset) (word extra rest : List ℕ) : Type 0 where
+  pub split : bytes ≡ header_text kind word extra ++ rest
+  pub word_bytes : IsBytes word
+  pub word_length : length word ≡ 2
+  pub extra_bytes : IsBytes extra
+  pub extra_length : length extra < 2 ^ 8
+
+-- the sizes that the body of a record has
+abbrev pub IsSize : ℕ → Type 0
+IsSize n = (n ≡ 0) ⊎ (n ≡ 6) ⊎ (16 ≤ n)
+
+-- no record was read from these bytes, which begin at this offset
+abbrev pub RecordFails : List ℕ → ℕ → FileFault → Type 0
+RecordFails bytes offset (ShortRecord o) = (o ≡ offset) × IsRecordCut bytes
+RecordFails bytes offset (BadSize o) = (o ≡ offset) × HasBadSize bytes
+RecordFails bytes offset Memory = Unit {0}
+RecordFails bytes offset (ShortHeader n) = ⊥
+RecordFails bytes offset BadSignature = ⊥
+RecordFails bytes offset (BadRuleset code) = ⊥
+
+-- the bytes are the texts of records up to this offset, counted on from start, and a rest that begins no record
+pub record StopsAfter (bytes : List ℕ) (start offset : ℕ) (rest : List ℕ) : Type 0 where
+  pub front : List Record
+  pub fits : AllByRecursion IsRecord front
+  pub split : bytes ≡ flat_map record_text front ++ rest
+  pub place : offset ≡ start + length (flat_map record_text front)
+  pub some : rest ≢ []
+  pub no_record : BeginsNoRecord rest
+
+-- the bytes, which begin at the offset start, are no texts of records
+abbrev pub RecordsFail : List ℕ → ℕ → FileFault → Type 0
+RecordsFail bytes start (ShortRecord o) = (rest : List ℕ) × StopsAfter bytes start o rest × IsRecordCut rest
+RecordsFail bytes start (BadSize o) = (rest : List ℕ) × StopsAfter bytes start o rest × HasBadSize rest
+RecordsFail bytes start Memory = Unit {0}
+RecordsFail bytes start (ShortHeader n) = ⊥
+RecordsFail bytes start BadSignature = ⊥
+RecordsFail bytes start (BadRuleset code) = ⊥
+
+-- a solution's body behind its key
+abbrev pub solved_after_key : Solution → List ℕ
+solved_after_key s = s.flags ∷ s.start ∷ (little_bytes 4 s.seed ++ (little_bytes 4 s.ticks ++ s.moves))
+
+-- a front of the text has gone to the writer, and this rest has not
+pub record Sends (old new : Option (List ℕ)) (text rest : List ℕ) : Type 0 where
+  pub sent : List ℕ
+  pub cut : text ≡ sent ++ rest
+  pub appends : Appends old new sent

@@ -1,0 +1,46 @@
+ghost use Rattle.std.specs.Prelude.{◌≡◌};
+ghost use Rattle.tws_file.specs.declared.file_fault.FileFault.TheVariants.{Memory};
+
+use std::alloc::{AllocError, AllocFailed};
+use thiserror::Error;
+
+/// Why bytes are no solution file.
+///
+/// Offsets are counted in bytes from the start of the file. The first fault in the file decides.
+#[derive(Clone, Copy, Debug, PartialEq, Eq, Error)]
+pub enum FileFault {
+    /// The file ends in its header. Its length.
+    #[error("ShortHeader({0})")]
+    ShortHeader(u64),
+    /// The file does not begin with the signature `35 33 9B 99`.
+    #[error("BadSignature")]
+    BadSignature,
+    /// Byte 4 names no set of rules. That byte.
+    #[error("BadRuleset({0})")]
+    BadRuleset(u8),
+    /// The file ends in a record. The offset of the record's size field.
+    #[error("ShortRecord({0})")]
+    ShortRecord(u64),
+    /// No record has the size that stands here. The offset of that size field.
+    #[error("BadSize({0})")]
+    BadSize(u64),
+    /// Memory ran out, which says nothing of the bytes.
+    #[error("Memory")]
+    Memory,
+}
+
+impl From<AllocError> for FileFault {
+    ghost from_gives = { λ _ e. e ≡ Memory };
+
+    fn from(_error: AllocError) -> Self {
+        FileFault::Memory
+    }
+}
+
+impl<T: Drop> From<AllocFailed<T>> for FileFault {
+    ghost from_gives = { λ _ e. e ≡ Memory };
+
+    fn from(_error: AllocFailed<T>) -> Self {
+        FileFault::Memory
+    }
+}

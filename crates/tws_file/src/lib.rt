@@ -1,0 +1,30 @@
+//! Tile World solution files (TWS): what a file is, which fault bytes have, and the listing of a file.
+#![tactic(auto)]
+
+mod bytes;
+mod file_fault;
+mod hex;
+mod key;
+mod listing;
+mod out_fault;
+mod output;
+mod reading;
+mod record;
+mod records;
+mod ruleset;
+mod solution;
+mod tws_file;
+
+pub use bytes::Bytes;
+pub use file_fault::FileFault;
+pub use hex::Hex;
+pub use key::Key;
+pub use listing::show;
+pub use out_fault::OutFault;
+pub use output::put;
+pub use reading::read_file;
+pub use record::Record;
+pub use records::Records;
+pub use ruleset::Ruleset;
+pub use solution::Solution;
+pub use tws_file::TwsFile;

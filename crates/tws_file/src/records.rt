@@ -1,0 +1,57 @@
+ghost use Rattle.std.specs.Prelude.{◌≡◌, [], length, IsTrue, ◌↔◌};
+ghost use Rattle.tws_file.specs.Record.{records_of};
+
+use crate::record::Record;
+use std::alloc::{Allocator, Global};
+use std::marker::Model;
+
+/// The records of a file, in their order.
+#[derive(Drop)]
+#[derive_where(Debug)]
+pub struct Records<A: Allocator = Global> {
+    records: Vec<Record<A>, A>,
+}
+
+impl<A: Allocator> Model for Records<A> {
+    ghost use Rattle.std.specs.Prelude.{List};
+    ghost use Rattle.tws_file.specs.Text.{Record as Plain};
+    ghost use Rattle.tws_file.specs.Record.{records_of};
+
+    ghost Value = { List Plain };
+
+    ghost view = { λ r. records_of r.records.items };
+}
+
+impl<A: Allocator> Records<A> {
+    /// The records of a vector, which takes no memory.
+    pub fn of(records: Vec<Record<A>, A>) -> Self
+        ensures { result ≡ records_of records.items }
+    {
+        Records { records }
+    }
+
+    pub fn as_slice(&self) -> &[Record<A>]
+        ensures { records_of result.now ≡ self.now }
+    {
+        self.records.as_slice()
+    }
+
+    /// The vector again, which takes no memory.
+    pub fn into_vec(self) -> Vec<Record<A>, A>
+        ensures { records_of result.items ≡ self }
+    {
+        self.records
+    }
+
+    pub fn len(&self) -> usize
+        ensures { result ≡ length self.now }
+    {
+        self.records.len()
+    }
+
+    pub fn is_empty(&self) -> bool
+        ensures { IsTrue result ↔ (self.now ≡ []) }
+    {
+        self.records.is_empty()
+    }
+}
