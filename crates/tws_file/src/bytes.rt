@@ -26,6 +26,7 @@ impl<A: Allocator> Bytes<A> {
         Bytes { bytes }
     }
 
+    /// Lends the bytes, in their order.
     pub fn as_slice(&self) -> &[u8]
         ensures list { result.now ≡ self.now }
     {
@@ -39,12 +40,14 @@ impl<A: Allocator> Bytes<A> {
         self.bytes
     }
 
+    /// How many there are.
     pub fn len(&self) -> usize
         ensures { result ≡ length self.now }
     {
         self.bytes.len()
     }
 
+    /// Whether there are none.
     pub fn is_empty(&self) -> bool
         ensures { IsTrue result ↔ (self.now ≡ []) }
     {

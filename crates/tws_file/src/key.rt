@@ -8,7 +8,9 @@ use std::fmt;
 /// What names a level: its number, and its password of four bytes. Keys are ordered by number, then by password.
 #[derive(Clone, Copy, Debug, PartialEq, Eq, PartialOrd, Ord)]
 pub struct Key {
+    /// The level's number in its set.
     pub number: u16,
+    /// Four letters, where Tile World wrote it. Any bytes are kept.
     pub password: [u8; 4],
 }
 

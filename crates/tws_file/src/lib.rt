@@ -5,6 +5,7 @@ mod bytes;
 mod file_fault;
 mod hex;
 mod key;
+mod laws;
 mod listing;
 mod out_fault;
 mod output;
@@ -19,6 +20,7 @@ pub use bytes::Bytes;
 pub use file_fault::FileFault;
 pub use hex::Hex;
 pub use key::Key;
+pub use laws::{one_fault, one_file, text_without_fault};
 pub use listing::show;
 pub use out_fault::OutFault;
 pub use output::put;
@@ -28,3 +30,6 @@ pub use records::Records;
 pub use ruleset::Ruleset;
 pub use solution::Solution;
 pub use tws_file::TwsFile;
+
+#[cfg(test)]
+mod tests;

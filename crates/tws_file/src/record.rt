@@ -13,5 +13,6 @@ pub enum Record<A: Allocator = Global> {
     Set { rest: Bytes<A> },
     /// A level that is known and not solved.
     Bare { key: Key },
+    /// A level and how it was solved.
     Solution(Solution<A>),
 }

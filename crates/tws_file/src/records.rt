@@ -30,6 +30,7 @@ impl<A: Allocator> Records<A> {
         Records { records }
     }
 
+    /// Lends the records, in their order.
     pub fn as_slice(&self) -> &[Record<A>]
         ensures { records_of result.now ≡ self.now }
     {
@@ -43,12 +44,14 @@ impl<A: Allocator> Records<A> {
         self.records
     }
 
+    /// How many there are.
     pub fn len(&self) -> usize
         ensures { result ≡ length self.now }
     {
         self.records.len()
     }
 
+    /// Whether there are none.
     pub fn is_empty(&self) -> bool
         ensures { IsTrue result ↔ (self.now ≡ []) }
     {

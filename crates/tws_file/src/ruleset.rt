@@ -6,7 +6,9 @@ use std::fmt;
 /// The rules that a file's levels were played by: byte 4 of the file.
 #[derive(Clone, Copy, Debug, PartialEq, Eq)]
 pub enum Ruleset {
+    /// The rules of the Lynx console.
     Lynx,
+    /// The rules of the Windows game.
     Ms,
 }
 

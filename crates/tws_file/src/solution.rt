@@ -9,7 +9,9 @@ use std::marker::Model;
 #[derive(Drop)]
 #[derive_where(Debug)]
 pub struct Solution<A: Allocator = Global> {
+    /// The level.
     pub key: Key,
+    /// Bits of Tile World's own, kept as they are.
     pub flags: u8,
     /// Bits 0 to 2 are the initial slide direction, bits 3 to 5 the stepping value. Nothing of it is checked.
     pub start: u8,

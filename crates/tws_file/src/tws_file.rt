@@ -10,11 +10,13 @@ use std::marker::Model;
 #[derive(Drop)]
 #[derive_where(Debug)]
 pub struct TwsFile<A: Allocator = Global> {
+    /// Byte 4: the rules that all levels of the file were played by.
     pub ruleset: Ruleset,
     /// Bytes 5 and 6. Tile World keeps the number of the current level there.
     pub word: [u8; 2],
-    /// The further header bytes.
+    /// The further header bytes, as many as byte 7 says.
     pub extra: Bytes<A>,
+    /// What stands behind the header, up to the end of the file.
     pub records: Records<A>,
 }
 

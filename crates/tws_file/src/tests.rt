@@ -1,0 +1,202 @@
+// Files from outside: the fault of each that has one, and the listing of each that is read.
+use super::*;
+use std::alloc::Allocator;
+use std::test::Fail;
+
+const LYNX: [u8; 8] = [0x35, 0x33, 0x9B, 0x99, 0x01, 0x00, 0x00, 0x00];
+
+// Level 1, BDHP, 100 ticks, no moves.
+const SOLUTION: [u8; 20] = [
+    0x10, 0x00, 0x00, 0x00, 0x01, 0x00, 0x42, 0x44, 0x48, 0x50, 0x00, 0x00, 0x00, 0x00, 0x00, 0x00,
+    0x64, 0x00, 0x00, 0x00,
+];
+
+// The header, and what follows it.
+fn join<A: Allocator>(alloc: A, header: &[u8], rest: &[u8]) -> Result<Vec<u8, A>, Fail> {
+    let mut bytes = Vec::from_slice(alloc, header)?;
+    bytes.extend_from_slice(rest)?;
+    Ok(bytes)
+}
+
+fn listing<A: Allocator + Copy>(alloc: A, bytes: &[u8]) -> Result<String<A>, Fail> {
+    let file = read_file(alloc, bytes)?;
+    let mut out = Vec::new(alloc);
+    show(alloc, &file, &mut out)?;
+    Ok(String::from_utf8(out)?)
+}
+
+#[test]
+fn faults_of_headers(rt: HostRuntime) -> Result<(), Fail> {
+    let faults: [(&[u8], FileFault, &str); 5] = [
+        (&[], FileFault::ShortHeader(0), "ShortHeader(0)"),
+        (
+            &[0x35, 0x33, 0x9B, 0x98, 2, 0, 0],
+            FileFault::ShortHeader(7),
+            "ShortHeader(7)",
+        ),
+        (
+            &[0x35, 0x33, 0x9B, 0x98, 2, 0, 0, 0],
+            FileFault::BadSignature,
+            "BadSignature",
+        ),
+        (
+            &[0x35, 0x33, 0x9B, 0x99, 3, 0, 0, 0],
+            FileFault::BadRuleset(3),
+            "BadRuleset(3)",
+        ),
+        (
+            &[0x35, 0x33, 0x9B, 0x99, 1, 0, 0, 2, 0xAA],
+            FileFault::ShortHeader(9),
+            "ShortHeader(9)",
+        ),
+    ];
+    for (bytes, fault, text) in faults {
+        assert_eq!(rt; read_file(rt.alloc(), bytes).err(), Some(fault));
+        assert_eq!(rt; format!(in rt.alloc(); "{fault}")?.as_str(), text);
+    }
+    Ok(())
+}
+
+#[test]
+fn faults_of_records(rt: HostRuntime) -> Result<(), Fail> {
+    let faults: [(&[u8], FileFault, &str); 5] = [
+        (&[0x0F, 0, 0, 0], FileFault::BadSize(8), "BadSize(8)"),
+        (&[6, 0], FileFault::ShortRecord(8), "ShortRecord(8)"),
+        (&SOLUTION[..19], FileFault::ShortRecord(8), "ShortRecord(8)"),
+        (
+            &[0, 0, 0, 0, 0, 0, 0, 0, 0xFF, 0xFF, 0xFF, 0xFF, 7],
+            FileFault::ShortRecord(16),
+            "ShortRecord(16)",
+        ),
+        (&[0, 0, 0, 0, 7, 0, 0, 0], FileFault::BadSize(12), "BadSize(12)"),
+    ];
+    for (rest, fault, text) in faults {
+        let bytes = join(rt.alloc(), &LYNX, rest)?;
+        assert_eq!(rt; read_file(rt.alloc(), &bytes).err(), Some(fault));
+        assert_eq!(rt; format!(in rt.alloc(); "{fault}")?.as_str(), text);
+    }
+    Ok(())
+}
+
+#[test]
+fn listings_of_records(rt: HostRuntime) -> Result<(), Fail> {
+    let listings: [(&[u8], &str); 5] = [
+        (
+            &[6, 0, 0, 0, 1, 0, 0x42, 0x44, 0x48, 0x50, 0, 0, 0, 0],
+            "level 1 BDHP\npad\nrecords 2\n",
+        ),
+        (
+            &[
+                6, 0, 0, 0, 0, 0, 0, 0, 0, 0, 6, 0, 0, 0, 2, 0, 0x41, 0x42, 0x43, 0,
+            ],
+            "set 0\nlevel 2 x41424300\nrecords 2\n",
+        ),
+        (
+            &[
+                0x11, 0, 0, 0, 0, 0, 0, 0, 0, 0, 0, 0, 0, 0, 0, 0, 0, 0, 0, 0, 0,
+            ],
+            "set 11\nrecords 1\n",
+        ),
+        (
+            &SOLUTION,
+            "level 1 BDHP ticks 100 flags 00 start 00 seed 0 bytes 0\nrecords 1\n",
+        ),
+        (
+            &[
+                0x13, 0, 0, 0, 2, 1, 0x5B, 0x61, 0x7A, 0x5A, 0xAB, 0x0C, 1, 2, 3, 4, 5, 6, 7, 8, 9,
+                9, 9,
+            ],
+            "level 258 x5b617a5a ticks 134678021 flags ab start 0c seed 67305985 bytes 3\nrecords 1\n",
+        ),
+    ];
+    for (rest, text) in listings {
+        let bytes = join(rt.alloc(), &LYNX, rest)?;
+        let listing = listing(rt.alloc(), &bytes)?;
+        assert_eq!(rt; listing.strip_prefix("ruleset lynx word 0000 extra 0\n"), Some(text));
+    }
+    Ok(())
+}
+
+#[test]
+fn listings_of_headers(rt: HostRuntime) -> Result<(), Fail> {
+    let moved = [
+        0x12, 0, 0, 0, 1, 0, 0x42, 0x44, 0x48, 0x50, 0, 0, 0, 0, 0, 0, 0x64, 0, 0, 0, 0x00, 0x61,
+    ];
+    let listings: [(&[u8], &[u8], &str); 4] = [
+        (
+            &[0x35, 0x33, 0x9B, 0x99, 2, 0, 0, 0],
+            &[],
+            "ruleset ms word 0000 extra 0\nrecords 0\n",
+        ),
+        (
+            &[0x35, 0x33, 0x9B, 0x99, 2, 0, 0, 0],
+            &moved,
+            "ruleset ms word 0000 extra 0\nlevel 1 BDHP ticks 100 flags 00 start 00 seed 0 bytes 2\nrecords 1\n",
+        ),
+        (
+            &[0x35, 0x33, 0x9B, 0x99, 1, 0x0A, 0xF0, 2],
+            &[6, 0, 0, 0, 0, 0],
+            "ruleset lynx word 0af0 extra 2\npad\nrecords 1\n",
+        ),
+        (
+            &[0x35, 0x33, 0x9B, 0x99, 1, 0, 0, 255],
+            &[6; 255],
+            "ruleset lynx word 0000 extra 255\nrecords 0\n",
+        ),
+    ];
+    for (header, rest, text) in listings {
+        let bytes = join(rt.alloc(), header, rest)?;
+        assert_eq!(rt; listing(rt.alloc(), &bytes)?.as_str(), text);
+    }
+    Ok(())
+}
+
+#[test]
+fn a_hundred_thousand_records(rt: HostRuntime) -> Result<(), Fail> {
+    let mut bytes = Vec::from_slice(rt.alloc(), &LYNX)?;
+    for _ in 0..100_000 {
+        bytes.extend_from_slice(&SOLUTION)?;
+    }
+    let file = read_file(rt.alloc(), &bytes)?;
+    assert_eq!(rt; file.records.len(), 100_000);
+
+    let listing = listing(rt.alloc(), &bytes)?;
+    assert_eq!(rt; listing.lines().count(), 100_002);
+    assert!(rt; listing.ends_with("bytes 0\nrecords 100000\n"));
+    Ok(())
+}
+
+#[test]
+fn what_is_read_is_handed_out(rt: HostRuntime) -> Result<(), Fail> {
+    let bytes = join(rt.alloc(), &[0x35, 0x33, 0x9B, 0x99, 1, 7, 8, 1, 0x21], &SOLUTION)?;
+    let file = read_file(rt.alloc(), &bytes)?;
+    assert_eq!(rt; file.ruleset, Ruleset::Lynx);
+    assert_eq!(rt; file.ruleset.code(), 1);
+    assert_eq!(rt; file.word, [7, 8]);
+    assert_eq!(rt; file.extra.as_slice(), [0x21].as_slice());
+    assert_eq!(rt; file.extra.len(), 1);
+    assert!(rt; !file.extra.is_empty());
+    assert!(rt; !file.records.is_empty());
+    let Record::Solution(solution) = &file.records.as_slice()[0] else {
+        return Err(Fail::new("no solution"));
+    };
+    assert_eq!(rt; solution.key, Key { number: 1, password: *b"BDHP" });
+    assert!(rt; !solution.key.is_set());
+    assert!(rt; Key::SET.is_set());
+    assert!(rt; solution.moves.is_empty());
+    assert_eq!(rt; file.extra.into_vec().as_slice(), [0x21].as_slice());
+    assert_eq!(rt; file.records.into_vec().len(), 1);
+    Ok(())
+}
+
+#[test]
+fn a_writer_that_is_full(rt: HostRuntime) -> Result<(), Fail> {
+    let bytes = join(rt.alloc(), &LYNX, &SOLUTION)?;
+    let file = read_file(rt.alloc(), &bytes)?;
+    let mut room = [0u8; 10];
+    let mut out = room.as_mut_slice();
+    assert_eq!(rt; show(rt.alloc(), &file, &mut out), Err(OutFault::Io));
+    assert_eq!(rt; room, *b"ruleset ly");
+    assert_eq!(rt; format!(in rt.alloc(); "{}", OutFault::Io)?.as_str(), "Io");
+    Ok(())
+}
