@@ -1,0 +1,38 @@
+//! The program `tws`: the process's words and streams, and its exit status.
+#![tactic(auto)]
+
+use std::process::ExitCode;
+use std::{env, io};
+use tws_tool::run_words;
+
+fn run(rt: &HostRuntime) -> io::Result<u8> {
+    let words: Vec<String> = env::args(rt)?.collect(rt.alloc())?;
+    let (mut input, mut out, mut errors) = (rt.stdin(), rt.stdout(), rt.stderr());
+    Ok(run_words(
+        rt,
+        rt.alloc(),
+        &words,
+        &mut input,
+        &mut out,
+        &mut errors,
+    ))
+}
+
+// Says why the process's words could not be read.
+fn refuse(rt: &HostRuntime, error: io::Error) -> u8 {
+    let (status, text) = match error.kind() {
+        io::ErrorKind::OutOfMemory => (2, "out of memory"),
+        _ => (1, "a word is not UTF-8"),
+    };
+    // There is no place left to say that this failed.
+    let _ = eprintln!(rt; "tws: {text}");
+    status
+}
+
+fn main(rt: HostRuntime) -> ExitCode {
+    let status = match run(&rt) {
+        Ok(status) => status,
+        Err(error) => refuse(&rt, error),
+    };
+    ExitCode::from(status)
+}

@@ -1,0 +1,44 @@
+-- Why a command fails.
+use Rattle.std.specs.Prelude.{◌≡◌, ◌⊎◌, ℕ, List, Option, IfSome}
+use Rattle.tws_file.specs.declared.file_fault.FileFault.{FileFault}
+use Rattle.tws_file.specs.declared.file_fault.FileFault.TheVariants as file
+use Rattle.tws_file.specs.declared.out_fault.OutFault.{OutFault}
+use Rattle.tws_file.specs.declared.out_fault.OutFault.TheVariants as out
+use Rattle.tws_file.specs.Fault.{HasFault}
+use Rattle.tws_tool.specs.declared.tool_fault.ToolFault.{ToolFault}
+use Rattle.tws_tool.specs.declared.tool_fault.ToolFault.TheVariants.{Read, Write, Unreadable, Memory}
+
+-- a fault of writing, as a command's
+abbrev pub written_fault : OutFault → ToolFault
+written_fault out.Io = Write
+written_fault out.Memory = Memory
+
+-- a fault of reading a file, as a command's
+abbrev pub input_fault : ℕ → FileFault → ToolFault
+input_fault index file.Memory = Memory
+input_fault index fault = Unreadable index fault
+
+-- an input was not read to its end
+abbrev pub IsReadFault : ToolFault → Type 0
+IsReadFault e = (e ≡ Read) ⊎ (e ≡ Memory)
+
+-- the fault comes before anything is written
+abbrev pub IsBeforeOutput : ToolFault → Type 0
+IsBeforeOutput Read = Unit {0}
+IsBeforeOutput Write = ⊥
+IsBeforeOutput (Unreadable index fault) = Unit {0}
+IsBeforeOutput Memory = ⊥
+
+-- no file was read from the input of this index, which had these bytes
+abbrev pub ReadFails : ℕ → Option (List ℕ) → ToolFault → Type 0
+ReadFails index known Read = Unit {0}
+ReadFails index known Write = ⊥
+ReadFails index known (Unreadable i fault) = (i ≡ index) × IfSome known (λ (bytes : List ℕ). HasFault bytes fault)
+ReadFails index known Memory = Unit {0}
+
+-- the exit status of a program that failed so
+abbrev pub status_of : ToolFault → ℕ
+status_of Read = 2
+status_of Write = 2
+status_of (Unreadable index fault) = 3
+status_of Memory = 2

@@ -1,0 +1,16 @@
+//! The commands of the program `tws`, over any reader and writer.
+#![tactic(auto)]
+
+mod input;
+mod job;
+mod program;
+mod show;
+mod tool_fault;
+
+pub use input::INPUT_READS;
+pub use program::run_words;
+pub use show::run_show;
+pub use tool_fault::ToolFault;
+
+#[cfg(test)]
+mod tests;

@@ -1,0 +1,33 @@
+ghost use Rattle.std.specs.Prelude.{◌≡◌, OnOk, IfErr};
+ghost use Rattle.std.specs.Io.KnownBytes.{IsAtEnd};
+ghost use Rattle.tws_tool.specs.Faults.{IsBeforeOutput};
+ghost use Rattle.tws_tool.specs.Show.{Shows, ShowFails};
+
+use crate::input::read_input;
+use crate::tool_fault::ToolFault;
+use std::alloc::Global;
+use std::io::{Read, Write};
+use tws_file::show;
+
+/// Reads a solution file to its end, and writes its listing.
+///
+/// # Errors
+///
+/// `Read` where the reader fails or does not end within `INPUT_READS` reads, and `Unreadable` with index 0 and the
+/// fault of the bytes: then nothing was written. `Write` where the writer fails: then a front of the listing was
+/// written. `Memory` where memory ran out, and nothing or a front of the listing was written.
+pub fn run_show<R: Read, W: Write>(
+    alloc: Global,
+    input: &mut R,
+    out: &mut W,
+) -> Result<(), ToolFault>
+    ensures end { OnOk result (IsAtEnd (R.remaining input.new)) }
+    ensures listed { OnOk result (Shows (R.remaining input.old) (W.contents out.old) (W.contents out.new)) }
+    ensures fails { IfErr result (ShowFails (R.remaining input.old) (W.contents out.old) (W.contents out.new)) }
+    // Also of a writer that does not tell what it holds.
+    ensures unwritten { IfErr result (λ e. IsBeforeOutput e → out.new ≡ out.old) }
+{
+    let file = read_input(alloc, 0, input)?;
+    show(alloc, &file, out)?;
+    Ok(())
+}

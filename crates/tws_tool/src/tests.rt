@@ -1,0 +1,161 @@
+// The commands as the program runs them: what is printed, and the status.
+use super::*;
+use std::io;
+use std::test::Fail;
+use tws_file::FileFault;
+
+const SOLUTION: [u8; 28] = [
+    0x35, 0x33, 0x9B, 0x99, 0x01, 0x00, 0x00, 0x00, 0x10, 0x00, 0x00, 0x00, 0x01, 0x00, 0x42, 0x44,
+    0x48, 0x50, 0x00, 0x00, 0x00, 0x00, 0x00, 0x00, 0x64, 0x00, 0x00, 0x00,
+];
+
+// What a run of the program printed and answered.
+#[derive(Drop)]
+struct Outcome {
+    status: u8,
+    out: Vec<u8>,
+    errors: Vec<u8>,
+}
+
+fn run(rt: &HostRuntime, words: &[&str], input: &[u8]) -> Result<Outcome, Fail> {
+    let mut owned = Vec::new(rt.alloc());
+    for word in words {
+        owned.push(String::from_str(rt.alloc(), word)?)?;
+    }
+    let mut input = input;
+    let mut out = Vec::new(rt.alloc());
+    let mut errors = Vec::new(rt.alloc());
+    let status = run_words(rt, rt.alloc(), &owned, &mut input, &mut out, &mut errors);
+    Ok(Outcome { status, out, errors })
+}
+
+#[test]
+fn show_lists_a_file(rt: HostRuntime) -> Result<(), Fail> {
+    let outcome = run(&rt, &["tws", "show"], &SOLUTION)?;
+    assert_eq!(rt; outcome.status, 0);
+    let listing = "ruleset lynx word 0000 extra 0\nlevel 1 BDHP ticks 100 flags 00 start 00 seed 0 bytes 0\nrecords 1\n";
+    assert_eq!(rt; outcome.out.as_slice(), listing.as_bytes());
+    assert!(rt; outcome.errors.is_empty());
+    Ok(())
+}
+
+#[test]
+fn show_refuses_what_is_no_file(rt: HostRuntime) -> Result<(), Fail> {
+    let faults: [(&[u8], &str); 3] = [
+        (&[], "tws: standard input: unreadable: ShortHeader(0)\n"),
+        (&SOLUTION[..27], "tws: standard input: unreadable: ShortRecord(8)\n"),
+        (
+            &[0x35, 0x33, 0x9B, 0x98, 2, 0, 0, 0],
+            "tws: standard input: unreadable: BadSignature\n",
+        ),
+    ];
+    for (bytes, line) in faults {
+        let outcome = run(&rt, &["tws", "show"], bytes)?;
+        assert_eq!(rt; outcome.status, 3);
+        assert!(rt; outcome.out.is_empty());
+        assert_eq!(rt; outcome.errors.as_slice(), line.as_bytes());
+    }
+    Ok(())
+}
+
+#[test]
+fn words_that_ask_for_nothing(rt: HostRuntime) -> Result<(), Fail> {
+    let wrong: [&[&str]; 4] = [&["tws"], &["tws", "list"], &["tws", "show", "x"], &["tws", "show", "--all"]];
+    for words in wrong {
+        let outcome = run(&rt, words, &SOLUTION)?;
+        assert_eq!(rt; outcome.status, 1);
+        assert!(rt; outcome.out.is_empty());
+        assert!(rt; outcome.errors.starts_with(b"error: "));
+    }
+    let help: [&[&str]; 3] = [&["tws", "--help"], &["tws", "help"], &["tws", "show", "-h"]];
+    for words in help {
+        let outcome = run(&rt, words, &SOLUTION)?;
+        assert_eq!(rt; outcome.status, 0);
+        assert!(rt; !outcome.out.is_empty());
+        assert!(rt; outcome.errors.is_empty());
+    }
+    Ok(())
+}
+
+// Fails at every read and write.
+#[derive(Drop)]
+struct Broken;
+
+impl io::Read for Broken {
+    fn read(&mut self, _buf: &mut [u8]) -> io::Result<usize> {
+        Err(io::Error::from(io::ErrorKind::Other))
+    }
+}
+
+impl io::Write for Broken {
+    fn write(&mut self, _buf: &[u8]) -> io::Result<usize> {
+        Err(io::Error::from(io::ErrorKind::Other))
+    }
+
+    fn flush(&mut self) -> io::Result<()> {
+        Ok(())
+    }
+}
+
+#[test]
+fn streams_that_fail(rt: HostRuntime) -> Result<(), Fail> {
+    let words = vec![in rt.alloc(); String::from_str(rt.alloc(), "tws")?, String::from_str(rt.alloc(), "show")?]?;
+    let mut out = Vec::new(rt.alloc());
+    let mut errors = Vec::new(rt.alloc());
+    let status = run_words(&rt, rt.alloc(), &words, &mut Broken, &mut out, &mut errors);
+    assert_eq!(rt; status, 2);
+    assert!(rt; out.is_empty());
+    assert_eq!(rt; errors.as_slice(), b"tws: read fault\n".as_slice());
+
+    errors.clear();
+    let mut input = SOLUTION.as_slice();
+    let status = run_words(&rt, rt.alloc(), &words, &mut input, &mut Broken, &mut errors);
+    assert_eq!(rt; status, 2);
+    assert_eq!(rt; errors.as_slice(), b"tws: write fault\n".as_slice());
+    Ok(())
+}
+
+#[test]
+fn show_answers_its_faults(rt: HostRuntime) {
+    let mut room = [0u8; 10];
+    let mut out = room.as_mut_slice();
+    let mut input = SOLUTION.as_slice();
+    assert_eq!(rt; run_show(rt.alloc(), &mut input, &mut out), Err(ToolFault::Write));
+    assert_eq!(rt; room, *b"ruleset ly");
+
+    let mut out = Vec::new(rt.alloc());
+    let mut input = &SOLUTION[..9];
+    let fault = ToolFault::Unreadable { index: 0, fault: FileFault::ShortRecord(8) };
+    assert_eq!(rt; run_show(rt.alloc(), &mut input, &mut out), Err(fault));
+}
+
+// Gives a byte at each read, and ends after so many.
+#[derive(Drop)]
+struct Drops {
+    left: u32,
+}
+
+impl io::Read for Drops {
+    fn read(&mut self, buf: &mut [u8]) -> io::Result<usize> {
+        if self.left == 0 || buf.is_empty() {
+            return Ok(0);
+        }
+        self.left -= 1;
+        buf[0] = 0;
+        Ok(1)
+    }
+}
+
+#[test]
+fn an_input_that_does_not_end(rt: HostRuntime) {
+    let mut out = Vec::new(rt.alloc());
+    let mut input = Drops { left: u32::MAX };
+    assert_eq!(rt; run_show(rt.alloc(), &mut input, &mut out), Err(ToolFault::Read));
+    assert_eq!(rt; input.left, u32::MAX - INPUT_READS);
+
+    // The last read that is allowed finds the end.
+    let mut input = Drops { left: INPUT_READS - 1 };
+    let fault = ToolFault::Unreadable { index: 0, fault: FileFault::BadSignature };
+    assert_eq!(rt; run_show(rt.alloc(), &mut input, &mut out), Err(fault));
+    assert!(rt; out.is_empty());
+}

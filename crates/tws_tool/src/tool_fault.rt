@@ -1,0 +1,69 @@
+ghost use Rattle.std.specs.Prelude.{◌≡◌};
+ghost use Rattle.tws_tool.specs.Faults.{written_fault, input_fault, status_of};
+ghost use Rattle.tws_tool.specs.declared.tool_fault.ToolFault.TheVariants.{Memory};
+
+use std::alloc::AllocError;
+use thiserror::Error;
+use tws_file::{FileFault, OutFault};
+
+/// Why a command failed.
+#[derive(Clone, Copy, Debug, PartialEq, Eq, Error)]
+pub enum ToolFault {
+    /// A reader failed, or did not end.
+    #[error("read fault")]
+    Read,
+    /// The writer failed.
+    #[error("write fault")]
+    Write,
+    /// An input is no solution file.
+    #[error("input {index}: unreadable: {fault}")]
+    Unreadable {
+        /// Which input, counted from 0.
+        index: usize,
+        fault: FileFault,
+    },
+    /// Memory ran out.
+    #[error("out of memory")]
+    Memory,
+}
+
+impl ToolFault {
+    /// What the fault of a file that was read is at the input of this index. Want of memory is not the file's.
+    pub(crate) fn of_input(index: usize, fault: FileFault) -> Self
+        ensures { result ≡ input_fault index fault }
+    {
+        match fault {
+            FileFault::Memory => ToolFault::Memory,
+            fault => ToolFault::Unreadable { index, fault },
+        }
+    }
+
+    /// The exit status of a program that failed so.
+    pub(crate) fn status(self) -> u8
+        ensures { result ≡ status_of self }
+    {
+        match self {
+            ToolFault::Read | ToolFault::Write | ToolFault::Memory => 2,
+            ToolFault::Unreadable { .. } => 3,
+        }
+    }
+}
+
+impl From<AllocError> for ToolFault {
+    ghost from_gives = { λ _ e. e ≡ Memory };
+
+    fn from(_error: AllocError) -> Self {
+        ToolFault::Memory
+    }
+}
+
+impl From<OutFault> for ToolFault {
+    ghost from_gives = { λ fault e. e ≡ written_fault fault };
+
+    fn from(fault: OutFault) -> Self {
+        match fault {
+            OutFault::Io => ToolFault::Write,
+            OutFault::Memory => ToolFault::Memory,
+        }
+    }
+}
