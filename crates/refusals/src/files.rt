@@ -1,8 +1,11 @@
 // A solution file is read and listed.
+ghost use Rattle.std.specs.Prelude.{ℕ, ◌+◌, length};
+ghost use Rattle.tws_file.specs.Reader.{HasRoom, HasAtMost};
+
 use refusing::Refusing;
 use std::alloc::{Allocator, Global};
 use std::test::Fail;
-use tws_file::{FileFault, OutFault, TwsFile, read_file, show};
+use tws_file::{FileFault, OutFault, Reader, TwsFile, read_file, show};
 
 // Two further header bytes, then a set record, a bare one, a pad, and a solution with two bytes of moves.
 const EVERY_KIND: [u8; 66] = [
@@ -13,7 +16,8 @@ const EVERY_KIND: [u8; 66] = [
     0x00, 0x61,
 ];
 
-const LISTING: &str = "ruleset ms word 0000 extra 2\nset 10\nlevel 2 ABCD\npad\nlevel 1 BDHP ticks 100 flags 00 start 00 seed 0 bytes 2\nrecords 4\n";
+const LISTING: &str =
+    "ruleset ms word 0000 extra 2\nset 10\nlevel 2 ABCD\npad\nlevel 1 BDHP ticks 100 flags 00 start 00 seed 0 bytes 2\nrecords 4\n";
 
 // No run makes so many requests.
 const MANY: u64 = 100;
@@ -73,4 +77,33 @@ fn a_cut_record_of_the_greatest_size(rt: HostRuntime) {
     let outcome = read_file(&refusing, &bytes);
     assert_eq!(rt; outcome.err(), Some(FileFault::ShortRecord(8)));
     assert_eq!(rt; refusing.requests(), 0);
+}
+
+// Pushes a piece, and once more where memory ran out.
+fn push_again<A: Allocator + Copy>(reader: &mut Reader<A>, piece: &[u8]) -> Result<(), FileFault>
+    requires { HasRoom reader.old piece.now }
+    ensures { (n : ℕ) → HasAtMost reader.old n → HasAtMost reader.new (n + length piece.now) }
+{
+    match reader.push(piece) {
+        Err(FileFault::Memory) => reader.push(piece),
+        outcome => outcome,
+    }
+}
+
+#[test]
+fn reading_in_pieces(rt: HostRuntime) -> Result<(), Fail> {
+    for nth in 1..MANY {
+        let refusing = Refusing::new(rt.alloc(), nth);
+        let mut reader = Reader::new(&refusing);
+        for i in 0..EVERY_KIND.len() {
+            push_again(&mut reader, &EVERY_KIND[i..i + 1])?;
+        }
+        let file = reader.finish()?;
+        assert!(rt; is_listed(rt.alloc(), &file));
+        if !refusing.has_refused() {
+            assert!(rt; nth > 6);
+            return Ok(());
+        }
+    }
+    Err(Fail::new("a request was refused in each run"))
 }

@@ -8,14 +8,7 @@ use tws_tool::run_words;
 fn run(rt: &HostRuntime) -> io::Result<u8> {
     let words: Vec<String> = env::args(rt)?.collect(rt.alloc())?;
     let (mut input, mut out, mut errors) = (rt.stdin(), rt.stdout(), rt.stderr());
-    Ok(run_words(
-        rt,
-        rt.alloc(),
-        &words,
-        &mut input,
-        &mut out,
-        &mut errors,
-    ))
+    Ok(run_words(rt, rt.alloc(), &words, &mut input, &mut out, &mut errors))
 }
 
 // Says why the process's words could not be read.

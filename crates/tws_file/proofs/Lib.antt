@@ -6,8 +6,9 @@ pub mod FileText
 pub mod Faults
 pub mod Headers
 pub mod Bodies
-pub mod ReadFile
 pub mod Sending
 pub mod Listings
 pub mod RecordLines
 pub mod Pieces
+pub mod Fronts
+pub mod Lasting

@@ -1,5 +1,5 @@
 -- Parts of lists and of bytes.
-use Rattle.std.proofs.Common.{◌≡◌, ℕ, ◌+◌, List, [], ◌∷◌, ◌++◌, length, take, drop, refl, arith, inl, inr, get_or-drop, get_or-take, length-take}
+use Rattle.std.proofs.Common.{◌≡◌, ℕ, ◌+◌, List, [], ◌∷◌, ◌++◌, length, take, drop, refl, arith, inl, inr, get_or-drop, get_or-take, length-take, Option, None, Some, IfSome, IfNone, subst}
 use Rattle.std.proofs.lemmas.Bool.{cases_lt}
 use Rattle.std.proofs.lemmas.List.{get_or_past}
 use Rattle.tws_file.specs.Fields.{IsBytes}
@@ -26,3 +26,11 @@ IsBytes-take n bytes fits i =
       | inl lt ↦ rw (get_or-take n bytes i 0 lt) (fits i)
       | inr le ↦ rw (get_or_past (take n bytes) i 0 (omega (arith, length-take n bytes))) (omega arith)
     ]
+
+-- what is known of an option that is there
+pub at_some : {X : Type 0} (P : X → Type 0) (o : Option X) (x : X) → o ≡ Some x → IfSome o P → P x
+at_some {X} P o x e p = subst (λ (q : Option X). IfSome q P) e p
+
+-- what is known of one that is not
+pub at_none : {X P : Type 0} (o : Option X) → o ≡ None → IfNone o P → P
+at_none {X} {P} o e p = subst (λ (q : Option X). IfNone q P) e p

@@ -1,12 +1,13 @@
 -- A text of three parts, which is gathered part by part and sent as it grows large.
-use Rattle.std.proofs.Common.{◌≡◌, ℕ, List, [], ◌++◌, Option, refl, ap, subst}
+use Rattle.std.proofs.Common.{◌≡◌, ℕ, List, [], ◌++◌, Option, refl, ap, subst, ◌∙◌}
 use Rattle.tws_file.specs.Output.{AppendsFront}
 use Rattle.tws_file.specs.Steps.{Sends}
 use Rattle.tws_file.proofs.Sending.{Appends-nil, Sends-push, front_sent, front_more}
 
-module _ (old new : Option (List ℕ)) (header body last start : List ℕ) (start-is : start ≡ header) where
+-- the first part was gathered behind nothing
+module _ (old new : Option (List ℕ)) (header body last before start : List ℕ) (start-is : start ≡ before ++ header) (before-is : before ≡ []) where
   whole-is : start ++ body ++ last ≡ header ++ body ++ last
-  whole-is = ap (λ (x : List ℕ). x ++ body ++ last) start-is
+  whole-is = ap (λ (x : List ℕ). x ++ body ++ last) (start-is ∙ ap (λ (x : List ℕ). x ++ header) before-is)
 
   -- nothing has gone out
   pub none_sent : AppendsFront old old (header ++ body ++ last)

@@ -60,6 +60,15 @@ HasFault bytes (BadSize offset) = (rest : List ℕ) × StopsAt bytes offset rest
 -- want of memory is no fault of the bytes
 HasFault bytes Memory = ⊥
 
+-- a fault that no further bytes mend
+abbrev pub IsLasting : FileFault → Type 0
+IsLasting (ShortHeader n) = ⊥
+IsLasting BadSignature = Unit {0}
+IsLasting (BadRuleset code) = Unit {0}
+IsLasting (ShortRecord offset) = ⊥
+IsLasting (BadSize offset) = Unit {0}
+IsLasting Memory = ⊥
+
 -- a reading ended so: with the fault of the bytes, or since memory ran out
 abbrev pub FailsWith : List ℕ → FileFault → Type 0
 FailsWith bytes e = HasFault bytes e ⊎ (e ≡ Memory)

@@ -5,5 +5,6 @@ pub mod Solution
 pub mod Record
 pub mod TwsFile
 pub mod Steps
+pub mod Reader
 pub mod Listing
 pub mod Output

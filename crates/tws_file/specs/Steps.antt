@@ -1,5 +1,5 @@
 -- What the private steps of reading and of listing say. Callers need none of it.
-use Rattle.std.specs.Prelude.{◌≡◌, ◌≢◌, ◌⊎◌, Option, ℕ, ◌+◌, ◌<◌, ◌≤◌, ◌^◌, List, [], ◌∷◌, ◌++◌, length}
+use Rattle.std.specs.Prelude.{◌≡◌, ◌≢◌, ◌⊎◌, Option, None, Some, ℕ, ◌+◌, ◌<◌, ◌≤◌, ◌^◌, List, [], ◌∷◌, ◌++◌, length, drop}
 use Rattle.std.specs.List.{flat_map, AllByRecursion}
 use Rattle.std.specs.Io.KnownBytes.{Appends}
 use Rattle.byteorder.specs.Endian.{little_bytes}
@@ -7,8 +7,8 @@ use Rattle.tws_file.specs.declared.file_fault.FileFault.{FileFault}
 use Rattle.tws_file.specs.declared.file_fault.FileFault.TheVariants.{ShortHeader, BadSignature, BadRuleset, ShortRecord, BadSize, Memory}
 use Rattle.tws_file.specs.declared.«ruleset».Ruleset.{Ruleset}
 use Rattle.tws_file.specs.Fields.{IsBytes}
-use Rattle.tws_file.specs.Text.{Solution, Record, IsRecord, header_text, record_text}
-use Rattle.tws_file.specs.Fault.{BeginsNoRecord, IsRecordCut, HasBadSize}
+use Rattle.tws_file.specs.Text.{Solution, Record, File, IsRecord, IsFile, header_text, record_text, text_of}
+use Rattle.tws_file.specs.Fault.{BeginsNoRecord, IsRecordCut, HasBadSize, HasFault, IsLasting}
 
 -- the bytes are a header of these fields, and then the rest
 pub record BeginsWithHeader (bytes : List ℕ) (kind : Ruleset) (word extra rest : List ℕ) : Type 0 where
@@ -24,7 +24,7 @@ IsSize n = (n ≡ 0) ⊎ (n ≡ 6) ⊎ (16 ≤ n)
 
 -- no record was read from these bytes, which begin at this offset
 abbrev pub RecordFails : List ℕ → ℕ → FileFault → Type 0
-RecordFails bytes offset (ShortRecord o) = (o ≡ offset) × IsRecordCut bytes
+RecordFails bytes offset (ShortRecord o) = ⊥
 RecordFails bytes offset (BadSize o) = (o ≡ offset) × HasBadSize bytes
 RecordFails bytes offset Memory = Unit {0}
 RecordFails bytes offset (ShortHeader n) = ⊥
@@ -42,7 +42,7 @@ pub record StopsAfter (bytes : List ℕ) (start offset : ℕ) (rest : List ℕ) 
 
 -- the bytes, which begin at the offset start, are no texts of records
 abbrev pub RecordsFail : List ℕ → ℕ → FileFault → Type 0
-RecordsFail bytes start (ShortRecord o) = (rest : List ℕ) × StopsAfter bytes start o rest × IsRecordCut rest
+RecordsFail bytes start (ShortRecord o) = ⊥
 RecordsFail bytes start (BadSize o) = (rest : List ℕ) × StopsAfter bytes start o rest × HasBadSize rest
 RecordsFail bytes start Memory = Unit {0}
 RecordsFail bytes start (ShortHeader n) = ⊥
@@ -58,3 +58,35 @@ pub record Sends (old new : Option (List ℕ)) (text rest : List ℕ) : Type 0 w
   pub sent : List ℕ
   pub cut : text ≡ sent ++ rest
   pub appends : Appends old new sent
+
+-- ---- pieces
+
+-- no file was read from these bytes, and no further ones help
+abbrev pub FailsForGood : List ℕ → FileFault → Type 0
+FailsForGood bytes e = (IsLasting e × HasFault bytes e) ⊎ (e ≡ Memory)
+
+-- the bytes are too short for a header
+abbrev pub IsShort : List ℕ → Type 0
+IsShort bytes = HasFault bytes (ShortHeader (length bytes))
+
+-- the bytes that were read, with none before the header has come
+abbrev pub text_so_far : Option File → List ℕ
+text_so_far None = []
+text_so_far (Some file) = text_of file
+
+-- what was read is a file, and ends at the offset
+abbrev pub IsAt : Option File → ℕ → Type 0
+IsAt None offset = offset ≡ 0
+IsAt (Some file) offset = IsFile file × (offset ≡ length (text_of file))
+
+-- nothing whole is left to read
+abbrev pub IsLeft : Option File → List ℕ → Type 0
+IsLeft None rest = IsShort rest
+IsLeft (Some file) rest = IsRecordCut rest
+
+-- of these bytes, which stand at the offset, so many were read
+pub record Advances (old new : Option File) (offset : ℕ) (bytes : List ℕ) (count : ℕ) : Type 0 where
+  pub within : count ≤ length bytes
+  pub text : text_so_far old ++ bytes ≡ text_so_far new ++ drop count bytes
+  pub at : IsAt new (offset + count)
+  pub left : IsLeft new (drop count bytes)

@@ -3,12 +3,14 @@
 
 mod bytes;
 mod file_fault;
+mod header;
 mod hex;
 mod key;
 mod laws;
 mod listing;
 mod out_fault;
 mod output;
+mod reader;
 mod reading;
 mod record;
 mod records;
@@ -24,7 +26,7 @@ pub use laws::{one_fault, one_file, text_without_fault};
 pub use listing::show;
 pub use out_fault::OutFault;
 pub use output::put;
-pub use reading::read_file;
+pub use reader::{Reader, read_file};
 pub use record::Record;
 pub use records::Records;
 pub use ruleset::Ruleset;

@@ -1,8 +1,8 @@
-ghost use Rattle.std.specs.Prelude.{◌≡◌, [], length, IsTrue, ◌↔◌};
+ghost use Rattle.std.specs.Prelude.{◌≡◌, [], ◌++◌, length, IsTrue, ◌↔◌, OnOk, OnErr};
 ghost use Rattle.tws_file.specs.Record.{records_of};
 
 use crate::record::Record;
-use std::alloc::{Allocator, Global};
+use std::alloc::{AllocError, Allocator, Global};
 use std::marker::Model;
 
 /// The records of a file, in their order.
@@ -28,6 +28,15 @@ impl<A: Allocator> Records<A> {
         ensures { result ≡ records_of records.items }
     {
         Records { records }
+    }
+
+    /// Adds records behind these. After an error these stay.
+    pub(crate) fn append(&mut self, more: Vec<Record<A>, A>) -> Result<(), AllocError>
+        ensures ok { OnOk result (self.new ≡ self.old ++ records_of more.items) }
+        ensures err { OnErr result (self.new ≡ self.old) }
+    {
+        let mut more = more;
+        self.records.append(&mut more)
     }
 
     /// Lends the records, in their order.

@@ -68,7 +68,11 @@ fn faults_of_records(rt: HostRuntime) -> Result<(), Fail> {
             FileFault::ShortRecord(16),
             "ShortRecord(16)",
         ),
-        (&[0, 0, 0, 0, 7, 0, 0, 0], FileFault::BadSize(12), "BadSize(12)"),
+        (
+            &[0, 0, 0, 0, 7, 0, 0, 0],
+            FileFault::BadSize(12),
+            "BadSize(12)",
+        ),
     ];
     for (rest, fault, text) in faults {
         let bytes = join(rt.alloc(), &LYNX, rest)?;
@@ -112,7 +116,10 @@ fn listings_of_records(rt: HostRuntime) -> Result<(), Fail> {
     for (rest, text) in listings {
         let bytes = join(rt.alloc(), &LYNX, rest)?;
         let listing = listing(rt.alloc(), &bytes)?;
-        assert_eq!(rt; listing.strip_prefix("ruleset lynx word 0000 extra 0\n"), Some(text));
+        assert_eq!(rt;
+            listing.strip_prefix("ruleset lynx word 0000 extra 0\n"),
+            Some(text)
+        );
     }
     Ok(())
 }
@@ -168,7 +175,11 @@ fn a_hundred_thousand_records(rt: HostRuntime) -> Result<(), Fail> {
 
 #[test]
 fn what_is_read_is_handed_out(rt: HostRuntime) -> Result<(), Fail> {
-    let bytes = join(rt.alloc(), &[0x35, 0x33, 0x9B, 0x99, 1, 7, 8, 1, 0x21], &SOLUTION)?;
+    let bytes = join(
+        rt.alloc(),
+        &[0x35, 0x33, 0x9B, 0x99, 1, 7, 8, 1, 0x21],
+        &SOLUTION,
+    )?;
     let file = read_file(rt.alloc(), &bytes)?;
     assert_eq!(rt; file.ruleset, Ruleset::Lynx);
     assert_eq!(rt; file.ruleset.code(), 1);
@@ -180,7 +191,13 @@ fn what_is_read_is_handed_out(rt: HostRuntime) -> Result<(), Fail> {
     let Record::Solution(solution) = &file.records.as_slice()[0] else {
         return Err(Fail::new("no solution"));
     };
-    assert_eq!(rt; solution.key, Key { number: 1, password: *b"BDHP" });
+    assert_eq!(rt;
+        solution.key,
+        Key {
+            number: 1,
+            password: *b"BDHP"
+        }
+    );
     assert!(rt; !solution.key.is_set());
     assert!(rt; Key::SET.is_set());
     assert!(rt; solution.moves.is_empty());
@@ -198,5 +215,58 @@ fn a_writer_that_is_full(rt: HostRuntime) -> Result<(), Fail> {
     assert_eq!(rt; show(rt.alloc(), &file, &mut out), Err(OutFault::Io));
     assert_eq!(rt; room, *b"ruleset ly");
     assert_eq!(rt; format!(in rt.alloc(); "{}", OutFault::Io)?.as_str(), "Io");
+    Ok(())
+}
+
+// Pushes a byte at a time, and tells at which push the first fault came.
+fn push_bytes<A: Allocator + Copy>(alloc: A, bytes: &[u8]) -> (Option<usize>, Reader<A>) {
+    let mut reader = Reader::new(alloc);
+    let mut first = None;
+    for i in 0..bytes.len() {
+        if reader.push(&bytes[i..i + 1]).is_err() && first.is_none() {
+            first = Some(i + 1);
+        }
+    }
+    (first, reader)
+}
+
+#[test]
+fn a_file_that_comes_byte_by_byte(rt: HostRuntime) -> Result<(), Fail> {
+    let bytes = [
+        0x35, 0x33, 0x9B, 0x99, 1, 7, 8, 1, 0x21, 6, 0, 0, 0, 1, 0, 0x42, 0x44, 0x48, 0x50, 6, 0,
+        0, 0, 2, 0, 0x42, 0x44, 0x48, 0x50,
+    ];
+    let (first, reader) = push_bytes(rt.alloc(), &bytes);
+    assert_eq!(rt; first, None);
+    let file = reader.finish()?;
+    assert_eq!(rt; file.word, [7, 8]);
+    assert_eq!(rt; file.extra.as_slice(), [0x21].as_slice());
+    assert_eq!(rt; file.records.len(), 2);
+
+    let cuts = [
+        (28, FileFault::ShortRecord(19)),
+        (8, FileFault::ShortHeader(8)),
+    ];
+    for (count, fault) in cuts {
+        let (first, reader) = push_bytes(rt.alloc(), bytes.get(..count).unwrap_or(&[]));
+        assert_eq!(rt; first, None);
+        assert_eq!(rt; reader.finish().err(), Some(fault));
+    }
+    Ok(())
+}
+
+#[test]
+fn a_fault_that_is_kept(rt: HostRuntime) -> Result<(), Fail> {
+    let bytes = join(rt.alloc(), &LYNX, &[0, 0, 0, 0, 7, 0, 0, 0, 1, 2, 3])?;
+    let (first, reader) = push_bytes(rt.alloc(), &bytes);
+    assert_eq!(rt; first, Some(16));
+    assert_eq!(rt; reader.finish().err(), Some(FileFault::BadSize(12)));
+
+    let mut reader = Reader::new(rt.alloc());
+    let mut wrong = LYNX;
+    wrong[3] = 0x98;
+    assert_eq!(rt; reader.push(&wrong), Err(FileFault::BadSignature));
+    assert_eq!(rt; reader.push(&LYNX), Err(FileFault::BadSignature));
+    assert_eq!(rt; reader.finish().err(), Some(FileFault::BadSignature));
     Ok(())
 }

@@ -1,39 +1,18 @@
 //! A whole input, up to its end.
 
-ghost use Rattle.std.specs.Prelude.{◌≡◌, ◌⊎◌, IfOk, IfErr};
-ghost use Rattle.std.specs.Io.KnownBytes.{Consumes, IsAtEnd};
-ghost use Rattle.tws_tool.specs.Faults.{IsReadFault, ReadFails};
+ghost use Rattle.std.specs.Prelude.{IfOk, IfErr};
+ghost use Rattle.tws_tool.specs.Faults.{ReadFails};
 ghost use Rattle.tws_tool.specs.Inputs.{IsRead};
 
 use crate::tool_fault::ToolFault;
 use std::alloc::Global;
 use std::io::Read;
-use tws_file::{TwsFile, read_file};
+use tws_file::{FileFault, Reader, TwsFile};
 
 /// How often one input is read. One whose last read gave no bytes has ended, also where that read was the last allowed.
 pub const INPUT_READS: u32 = 1 << 26;
 
-// Reads up to the end, which has to come within so many reads.
-fn read_whole<R: Read>(alloc: Global, input: &mut R, reads: u32) -> Result<Vec<u8>, ToolFault>
-    ensures bytes { IfOk result (λ bytes. Consumes (R.remaining input.old) (R.remaining input.new) bytes.items) }
-    ensures end { IfOk result (λ _. IsAtEnd (R.remaining input.new)) }
-    ensures fault { IfErr result IsReadFault }
-{
-    let mut bytes = Vec::new(alloc);
-    let mut buffer = [0; 1 << 16];
-    for _ in 0..reads {
-        let Ok(count) = input.read(&mut buffer) else {
-            return Err(ToolFault::Read);
-        };
-        if count == 0 {
-            return Ok(bytes);
-        }
-        bytes.extend_from_slice(&buffer[..count])?;
-    }
-    Err(ToolFault::Read)
-}
-
-// The solution file that the input of this index holds.
+// The solution file that the input of this index holds. After a fault of the bytes it is still read to its end.
 pub(crate) fn read_input<R: Read>(
     alloc: Global,
     index: usize,
@@ -42,6 +21,21 @@ pub(crate) fn read_input<R: Read>(
     ensures file { IfOk result (IsRead (R.remaining input.old) (R.remaining input.new)) }
     ensures fault { IfErr result (ReadFails index (R.remaining input.old)) }
 {
-    let bytes = read_whole(alloc, input, INPUT_READS)?;
-    read_file(alloc, &bytes).map_err(|fault| ToolFault::of_input(index, fault))
+    let mut reader = Reader::new(alloc);
+    let mut piece = [0; 1 << 16];
+    for _ in 0..INPUT_READS {
+        let Ok(count) = input.read(&mut piece) else {
+            return Err(ToolFault::Read);
+        };
+        if count == 0 {
+            return reader
+                .finish()
+                .map_err(|fault| ToolFault::of_input(index, fault));
+        }
+        // The reader keeps any other fault.
+        if reader.push(&piece[..count]) == Err(FileFault::Memory) {
+            return Err(ToolFault::Memory);
+        }
+    }
+    Err(ToolFault::Read)
 }

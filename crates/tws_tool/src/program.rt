@@ -12,6 +12,7 @@ use std::io::{Read, Write};
 use std::rt::Files;
 
 const DONE: u8 = 0;
+
 const USAGE: u8 = 1;
 
 // Says why a command failed, and answers the status.

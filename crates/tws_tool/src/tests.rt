@@ -26,14 +26,19 @@ fn run(rt: &HostRuntime, words: &[&str], input: &[u8]) -> Result<Outcome, Fail> 
     let mut out = Vec::new(rt.alloc());
     let mut errors = Vec::new(rt.alloc());
     let status = run_words(rt, rt.alloc(), &owned, &mut input, &mut out, &mut errors);
-    Ok(Outcome { status, out, errors })
+    Ok(Outcome {
+        status,
+        out,
+        errors,
+    })
 }
 
 #[test]
 fn show_lists_a_file(rt: HostRuntime) -> Result<(), Fail> {
     let outcome = run(&rt, &["tws", "show"], &SOLUTION)?;
     assert_eq!(rt; outcome.status, 0);
-    let listing = "ruleset lynx word 0000 extra 0\nlevel 1 BDHP ticks 100 flags 00 start 00 seed 0 bytes 0\nrecords 1\n";
+    let listing =
+        "ruleset lynx word 0000 extra 0\nlevel 1 BDHP ticks 100 flags 00 start 00 seed 0 bytes 0\nrecords 1\n";
     assert_eq!(rt; outcome.out.as_slice(), listing.as_bytes());
     assert!(rt; outcome.errors.is_empty());
     Ok(())
@@ -43,7 +48,10 @@ fn show_lists_a_file(rt: HostRuntime) -> Result<(), Fail> {
 fn show_refuses_what_is_no_file(rt: HostRuntime) -> Result<(), Fail> {
     let faults: [(&[u8], &str); 3] = [
         (&[], "tws: standard input: unreadable: ShortHeader(0)\n"),
-        (&SOLUTION[..27], "tws: standard input: unreadable: ShortRecord(8)\n"),
+        (
+            &SOLUTION[..27],
+            "tws: standard input: unreadable: ShortRecord(8)\n",
+        ),
         (
             &[0x35, 0x33, 0x9B, 0x98, 2, 0, 0, 0],
             "tws: standard input: unreadable: BadSignature\n",
@@ -60,7 +68,12 @@ fn show_refuses_what_is_no_file(rt: HostRuntime) -> Result<(), Fail> {
 
 #[test]
 fn words_that_ask_for_nothing(rt: HostRuntime) -> Result<(), Fail> {
-    let wrong: [&[&str]; 4] = [&["tws"], &["tws", "list"], &["tws", "show", "x"], &["tws", "show", "--all"]];
+    let wrong: [&[&str]; 4] = [
+        &["tws"],
+        &["tws", "list"],
+        &["tws", "show", "x"],
+        &["tws", "show", "--all"],
+    ];
     for words in wrong {
         let outcome = run(&rt, words, &SOLUTION)?;
         assert_eq!(rt; outcome.status, 1);
@@ -99,7 +112,10 @@ impl io::Write for Broken {
 
 #[test]
 fn streams_that_fail(rt: HostRuntime) -> Result<(), Fail> {
-    let words = vec![in rt.alloc(); String::from_str(rt.alloc(), "tws")?, String::from_str(rt.alloc(), "show")?]?;
+    let words = vec![in rt.alloc();
+        String::from_str(rt.alloc(), "tws")?,
+        String::from_str(rt.alloc(), "show")?,
+    ]?;
     let mut out = Vec::new(rt.alloc());
     let mut errors = Vec::new(rt.alloc());
     let status = run_words(&rt, rt.alloc(), &words, &mut Broken, &mut out, &mut errors);
@@ -109,7 +125,14 @@ fn streams_that_fail(rt: HostRuntime) -> Result<(), Fail> {
 
     errors.clear();
     let mut input = SOLUTION.as_slice();
-    let status = run_words(&rt, rt.alloc(), &words, &mut input, &mut Broken, &mut errors);
+    let status = run_words(
+        &rt,
+        rt.alloc(),
+        &words,
+        &mut input,
+        &mut Broken,
+        &mut errors,
+    );
     assert_eq!(rt; status, 2);
     assert_eq!(rt; errors.as_slice(), b"tws: write fault\n".as_slice());
     Ok(())
@@ -120,12 +143,18 @@ fn show_answers_its_faults(rt: HostRuntime) {
     let mut room = [0u8; 10];
     let mut out = room.as_mut_slice();
     let mut input = SOLUTION.as_slice();
-    assert_eq!(rt; run_show(rt.alloc(), &mut input, &mut out), Err(ToolFault::Write));
+    assert_eq!(rt;
+        run_show(rt.alloc(), &mut input, &mut out),
+        Err(ToolFault::Write)
+    );
     assert_eq!(rt; room, *b"ruleset ly");
 
     let mut out = Vec::new(rt.alloc());
     let mut input = &SOLUTION[..9];
-    let fault = ToolFault::Unreadable { index: 0, fault: FileFault::ShortRecord(8) };
+    let fault = ToolFault::Unreadable {
+        index: 0,
+        fault: FileFault::ShortRecord(8),
+    };
     assert_eq!(rt; run_show(rt.alloc(), &mut input, &mut out), Err(fault));
 }
 
@@ -150,12 +179,20 @@ impl io::Read for Drops {
 fn an_input_that_does_not_end(rt: HostRuntime) {
     let mut out = Vec::new(rt.alloc());
     let mut input = Drops { left: u32::MAX };
-    assert_eq!(rt; run_show(rt.alloc(), &mut input, &mut out), Err(ToolFault::Read));
+    assert_eq!(rt;
+        run_show(rt.alloc(), &mut input, &mut out),
+        Err(ToolFault::Read)
+    );
     assert_eq!(rt; input.left, u32::MAX - INPUT_READS);
 
     // The last read that is allowed finds the end.
-    let mut input = Drops { left: INPUT_READS - 1 };
-    let fault = ToolFault::Unreadable { index: 0, fault: FileFault::BadSignature };
+    let mut input = Drops {
+        left: INPUT_READS - 1,
+    };
+    let fault = ToolFault::Unreadable {
+        index: 0,
+        fault: FileFault::BadSignature,
+    };
     assert_eq!(rt; run_show(rt.alloc(), &mut input, &mut out), Err(fault));
     assert!(rt; out.is_empty());
 }

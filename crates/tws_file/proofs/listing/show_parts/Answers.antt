@@ -1,4 +1,4 @@
-use Rattle.std.proofs.Common.{ℕ, List, ◌++◌, ◌∙◌, ap, length, refl, string_bytes}
+use Rattle.std.proofs.Common.{[], ◌++◌, ◌∙◌, length, refl, string_bytes}
 use Rattle.std.proofs.lemmas.Result.{on_ok_weaker, on_err_weaker}
 use Rattle.tws_file.specs.Listing.{header_line, count_line}
 use Rattle.tws_file.proofs.Sending.{at_err, all_sent, front_then}
@@ -10,23 +10,21 @@ pub returns-in_err-push_header-clause-err : goal.returns-in_err-push_header-clau
 returns-in_err-push_header-clause-err g c =
     let old = g.W.Write.contents c.args.out.now in
     let header = header_line c.args.«ruleset» c.args.word c.args.extra.now in
-    at_err c.from_residual.result (none_sent old old header (lines c.args.records.now) (count_line (length c.args.records.now)) header refl)
+    at_err c.from_residual.result (none_sent old old header (lines c.args.records.now) (count_line (length c.args.records.now)) [] header refl refl)
 
 pub returns-in_err-show_records-clause-err : goal.returns-in_err-show_records-clause-err
 returns-in_err-show_records-clause-err g c =
     let old = g.W.Write.contents c.args.out.now in
     let new = g.W.Write.contents c.show_records.new.out in
     let header = header_line c.args.«ruleset» c.args.word c.args.extra.now in
-    let start-is = c.in_ok-push_header.ensures ∙ ap (λ (x : List ℕ). x ++ header) c.new-text.ensures.bytes in
-    at_err c.from_residual-in_err-show_records.result (front_of_two old new header (lines c.args.records.now) (count_line (length c.args.records.now)) (string_bytes c.push_header.new.text) start-is c.in_err-show_records.ensures.err)
+    at_err c.from_residual-in_err-show_records.result (front_of_two old new header (lines c.args.records.now) (count_line (length c.args.records.now)) (string_bytes c.new-text.result) (string_bytes c.push_header.new.text) c.in_ok-push_header.ensures c.new-text.ensures.bytes c.in_err-show_records.ensures.err)
 
 pub returns-in_err-push_count-clause-err : goal.returns-in_err-push_count-clause-err
 returns-in_err-push_count-clause-err g c =
     let old = g.W.Write.contents c.args.out.now in
     let new = g.W.Write.contents c.show_records.new.out in
     let header = header_line c.args.«ruleset» c.args.word c.args.extra.now in
-    let start-is = c.in_ok-push_header.ensures ∙ ap (λ (x : List ℕ). x ++ header) c.new-text.ensures.bytes in
-    at_err c.from_residual-in_err-push_count.result (sent_of_two old new header (lines c.args.records.now) (count_line (length c.args.records.now)) (string_bytes c.push_header.new.text) start-is (string_bytes c.show_records.new.text) c.in_ok-show_records.ensures.ok)
+    at_err c.from_residual-in_err-push_count.result (sent_of_two old new header (lines c.args.records.now) (count_line (length c.args.records.now)) (string_bytes c.new-text.result) (string_bytes c.push_header.new.text) c.in_ok-push_header.ensures c.new-text.ensures.bytes (string_bytes c.show_records.new.text) c.in_ok-show_records.ensures.ok)
 
 pub returns-clause-ok : goal.returns-clause-ok
 returns-clause-ok g c =
@@ -36,9 +34,8 @@ returns-clause-ok g c =
     let header = header_line c.args.«ruleset» c.args.word c.args.extra.now in
     let body = lines c.args.records.now in
     let last = count_line (length c.args.records.now) in
-    let start-is = c.in_ok-push_header.ensures ∙ ap (λ (x : List ℕ). x ++ header) c.new-text.ensures.bytes in
     let pushed-is = c.as_bytes.ensures.value ∙ c.in_ok-push_count.ensures in
-    let gathered = all_gathered old mid header body last (string_bytes c.push_header.new.text) start-is (string_bytes c.show_records.new.text) c.as_bytes.result.now c.in_ok-show_records.ensures.ok pushed-is in
+    let gathered = all_gathered old mid header body last (string_bytes c.new-text.result) (string_bytes c.push_header.new.text) c.in_ok-push_header.ensures c.new-text.ensures.bytes (string_bytes c.show_records.new.text) c.as_bytes.result.now c.in_ok-show_records.ensures.ok pushed-is in
     on_ok_weaker c.put.result (λ p. all_sent old mid new (header ++ body ++ last) c.as_bytes.result.now gathered p) c.put.ensures.ok
 
 pub returns-clause-err : goal.returns-clause-err
@@ -49,7 +46,6 @@ returns-clause-err g c =
     let header = header_line c.args.«ruleset» c.args.word c.args.extra.now in
     let body = lines c.args.records.now in
     let last = count_line (length c.args.records.now) in
-    let start-is = c.in_ok-push_header.ensures ∙ ap (λ (x : List ℕ). x ++ header) c.new-text.ensures.bytes in
     let pushed-is = c.as_bytes.ensures.value ∙ c.in_ok-push_count.ensures in
-    let gathered = all_gathered old mid header body last (string_bytes c.push_header.new.text) start-is (string_bytes c.show_records.new.text) c.as_bytes.result.now c.in_ok-show_records.ensures.ok pushed-is in
+    let gathered = all_gathered old mid header body last (string_bytes c.new-text.result) (string_bytes c.push_header.new.text) c.in_ok-push_header.ensures c.new-text.ensures.bytes (string_bytes c.show_records.new.text) c.as_bytes.result.now c.in_ok-show_records.ensures.ok pushed-is in
     on_err_weaker c.put.result (λ p. front_then old mid new (header ++ body ++ last) c.as_bytes.result.now gathered p) c.put.ensures.err

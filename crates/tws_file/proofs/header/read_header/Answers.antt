@@ -1,7 +1,7 @@
 use Rattle.std.proofs.Common.{rules, arith}
 use Rattle.std.proofs.lemmas.List.{take_rest}
 use Rattle.tws_file.proofs.Headers.{header_from}
-use Rattle.tws_file.proofs.reading.read_header.Goals as goal
+use Rattle.tws_file.proofs.header.read_header.Goals as goal
 
 pub returns-clause-header : goal.returns-clause-header
 returns-clause-header c =

@@ -1,0 +1,197 @@
+-- A file that was read so far, and the bytes behind it.
+use Rattle.std.proofs.Common.{◌≡◌, ◌≢◌, ℕ, ◌+◌, ◌-◌, ◌<◌, ◌≤◌, List, [], ◌∷◌, ◌++◌, length, drop, Option, None, Some, Err, refl, ap, sym, subst, ◌∙◌, append_assoc, append-nil, arith, inl, inr, ⊎_elim, length-append}
+use Rattle.std.specs.List.{flat_map, AllByRecursion}
+use Rattle.std.proofs.Math.Seq.{drop-append_seam}
+use Rattle.std.proofs.lemmas.List.Concat.{flat_map-append}
+use Rattle.byteorder.specs.Endian.{little_bytes, little_number}
+use Rattle.byteorder.specs.Numbers.{little_number-reads_back}
+use Rattle.tws_file.specs.declared.file_fault.FileFault.{FileFault}
+use Rattle.tws_file.specs.declared.file_fault.FileFault.TheVariants.{ShortHeader, BadSignature, BadRuleset, ShortRecord, BadSize, Memory}
+use Rattle.tws_file.specs.declared.«ruleset».Ruleset.{Ruleset}
+use Rattle.tws_file.specs.Text.{File, Record, IsRecord, IsFile, IsText, header_text, text_of, body_of, record_text}
+use Rattle.tws_file.specs.Fault.{HasFault, IsLasting, StopsAt, BeginsNoRecord, IsRecordCut, FailsWith}
+use Rattle.tws_file.specs.Reader.{Reading, reading_from, Finishes, HasNoLasting}
+use Rattle.tws_file.specs.Steps.{BeginsWithHeader, StopsAfter, RecordsFail, FailsForGood, IsAt, IsLeft, text_so_far, Advances}
+use Rattle.tws_file.proofs.RecordText.{body_size}
+use Rattle.tws_file.proofs.Faults.{one_fault, text_without_fault}
+
+-- ---- more records
+
+AllByRecursion-append : {X : Type 0} (P : X → Type 0) (xs ys : List X) → AllByRecursion P xs → AllByRecursion P ys → AllByRecursion P (xs ++ ys)
+AllByRecursion-append P [] ys p q = q
+AllByRecursion-append P (x ∷ xs) ys p q = (p.0, AllByRecursion-append P xs ys p.1 q)
+
+-- the file with more records behind its own
+abbrev pub with_more : File → List Record → File
+with_more file more = record { «ruleset» = file.ruleset; word = file.word; extra = file.extra; records = file.records ++ more }
+
+pub with_more_fits : (file : File) (more : List Record) → IsFile file → AllByRecursion IsRecord more → IsFile (with_more file more)
+with_more_fits file more fits fits_more = record {
+  word = fits.word;
+  word_length = fits.word_length;
+  extra = fits.extra;
+  extra_length = fits.extra_length;
+  records = AllByRecursion-append IsRecord file.records more fits.records fits_more;
+}
+
+with_more_text : (file : File) (more : List Record) → text_of (with_more file more) ≡ text_of file ++ flat_map record_text more
+with_more_text file more =
+    ap (λ (xs : List ℕ). header_text file.ruleset file.word file.extra ++ xs) (flat_map-append record_text file.records more)
+    ∙ sym (append_assoc (header_text file.ruleset file.word file.extra) (flat_map record_text file.records) (flat_map record_text more))
+
+-- a stop in the bytes behind a file is one in all bytes
+stop_behind : (file : File) (bytes stopped : List ℕ) (offset place : ℕ) → IsFile file → offset ≡ length (text_of file) → StopsAfter bytes offset place stopped → StopsAt (text_of file ++ bytes) place stopped
+stop_behind file bytes stopped offset place fits offset-is stop =
+    let texts = flat_map record_text stop.front in
+    let whole = with_more_text file stop.front in
+    record {
+      front = with_more file stop.front;
+      fits = with_more_fits file stop.front fits stop.fits;
+      split = ap (λ (xs : List ℕ). text_of file ++ xs) stop.split ∙ sym (append_assoc (text_of file) texts stopped) ∙ ap (λ (xs : List ℕ). xs ++ stopped) (sym whole);
+      place = omega (arith, stop.place, offset-is, ap length whole, length-append (text_of file) texts);
+      some = stop.some;
+      no_record = stop.no_record;
+    }
+
+-- records that fail behind a file are a fault of all bytes
+pub more_fails : (file : File) (bytes : List ℕ) (offset : ℕ) (e : FileFault) → IsFile file → offset ≡ length (text_of file) → RecordsFail bytes offset e → FailsForGood (text_of file ++ bytes) e
+more_fails file bytes offset (ShortHeader n) fits offset-is fault = absurd fault
+more_fails file bytes offset BadSignature fits offset-is fault = absurd fault
+more_fails file bytes offset (BadRuleset code) fits offset-is fault = absurd fault
+more_fails file bytes offset (ShortRecord o) fits offset-is fault = absurd fault
+more_fails file bytes offset (BadSize o) fits offset-is fault =
+    inl (tt, (fault.0, stop_behind file bytes fault.0 offset o fits offset-is fault.1, fault.2))
+more_fails file bytes offset Memory fits offset-is fault = inr refl
+
+-- ---- the header
+
+-- a header alone is a file without records
+abbrev without_records : Ruleset → List ℕ → List ℕ → File
+without_records kind word extra = record { «ruleset» = kind; word = word; extra = extra; records = [] }
+
+without_records_fits : (bytes word extra rest : List ℕ) (kind : Ruleset) → BeginsWithHeader bytes kind word extra rest → IsFile (without_records kind word extra)
+without_records_fits bytes word extra rest kind header = record {
+  word = header.word_bytes;
+  word_length = header.word_length;
+  extra = header.extra_bytes;
+  extra_length = header.extra_length;
+  records = tt;
+}
+
+header_split : (bytes word extra rest : List ℕ) (kind : Ruleset) → BeginsWithHeader bytes kind word extra rest → bytes ≡ text_of (without_records kind word extra) ++ rest
+header_split bytes word extra rest kind header =
+    header.split ∙ ap (λ (xs : List ℕ). xs ++ rest) (sym (append-nil (header_text kind word extra)))
+
+-- records that fail behind a header are a fault of all bytes
+pub front_fails : (bytes word extra rest : List ℕ) (kind : Ruleset) (e : FileFault) → BeginsWithHeader bytes kind word extra rest → RecordsFail rest (length bytes - length rest) e → FailsForGood bytes e
+front_fails bytes word extra rest kind e header fault =
+    let file = without_records kind word extra in
+    let split = header_split bytes word extra rest kind header in
+    subst (λ (xs : List ℕ). FailsForGood xs e) (sym split) (more_fails file rest (length bytes - length rest) e (without_records_fits bytes word extra rest kind header) (omega (arith, ap length split, length-append (text_of file) rest)) fault)
+
+-- ---- a step
+
+drop_texts : (bytes texts rest : List ℕ) → bytes ≡ texts ++ rest → drop (length bytes - length rest) bytes ≡ rest
+drop_texts bytes texts rest split =
+    let count : length bytes - length rest ≡ length texts = omega (arith, ap length split, length-append texts rest) in
+    ap (λ (n : ℕ). drop n bytes) count ∙ ap (drop (length texts)) split ∙ drop-append_seam texts rest
+
+-- the first file, and what is left behind it
+pub first_advance : (file : File) (offset : ℕ) (bytes rest : List ℕ) → IsAt None offset → IsFile file → bytes ≡ text_of file ++ rest → IsRecordCut rest → Advances None (Some file) offset bytes (length bytes - length rest)
+first_advance file offset bytes rest begin fits split cut =
+    let left = drop_texts bytes (text_of file) rest split in
+    let count : length bytes - length rest ≡ length (text_of file) = omega (arith, ap length split, length-append (text_of file) rest) in
+    record {
+      within = omega arith;
+      text = split ∙ ap (λ (xs : List ℕ). text_of file ++ xs) (sym left);
+      at = (fits, omega (arith, begin, count));
+      left = subst IsRecordCut (sym left) cut;
+    }
+
+-- more records, and what is left behind them
+pub next_advance : (file : File) (offset : ℕ) (bytes rest : List ℕ) (more : List Record) → IsFile file → offset ≡ length (text_of file) → AllByRecursion IsRecord more → bytes ≡ flat_map record_text more ++ rest → IsRecordCut rest
+    → Advances (Some file) (Some (with_more file more)) offset bytes (length bytes - length rest)
+next_advance file offset bytes rest more fits offset-is fits_more split cut =
+    let texts = flat_map record_text more in
+    let whole = with_more_text file more in
+    let left = drop_texts bytes texts rest split in
+    record {
+      within = omega arith;
+      text = ap (λ (xs : List ℕ). text_of file ++ xs) split ∙ sym (append_assoc (text_of file) texts rest) ∙ ap (λ (xs : List ℕ). xs ++ rest) (sym whole) ∙ ap (λ (xs : List ℕ). text_of (with_more file more) ++ xs) (sym left);
+      at = (with_more_fits file more fits fits_more, omega (arith, offset-is, ap length split, length-append texts rest, ap length whole, length-append (text_of file) texts));
+      left = subst IsRecordCut (sym left) cut;
+    }
+
+-- ---- the end
+
+-- a record's text is as long as its size field says
+pub text_size : (rest more : List ℕ) (r : Record) → IsRecord r → rest ≡ record_text r ++ more → (little_number 4 rest ≡ length (body_of r)) × (4 + length (body_of r) ≤ length rest)
+text_size rest more r fits split =
+    let size = length (body_of r) in
+    let regrouped = split ∙ append_assoc (little_bytes 4 size) (body_of r) more in
+    (ap (little_number 4) regrouped ∙ little_number-reads_back 4 size (body_of r ++ more) (body_size r fits).1, omega (arith, ap length split, length-append (body_of r) more))
+
+cut_begins_none : (rest : List ℕ) → IsRecordCut rest → BeginsNoRecord rest
+cut_begins_none rest cut r more fits split =
+    let size = text_size rest more r fits split in
+    ⊎_elim (λ short. omega (arith, size.1)) (λ long. omega (arith, long.2, size.0, size.1)) cut
+
+-- a file, and then bytes that are cut
+pub cut_behind : (file : File) (rest : List ℕ) (offset : ℕ) → IsFile file → offset ≡ length (text_of file) → rest ≢ [] → IsRecordCut rest → HasFault (text_of file ++ rest) (ShortRecord offset)
+cut_behind file rest offset fits offset-is some cut =
+    (rest, record { front = file; fits = fits; split = refl; place = offset-is; some = some; no_record = cut_begins_none rest cut }, cut)
+
+text_alone : (file : File) → IsFile file → IsText (text_of file ++ []) file
+text_alone file fits = record { fits = fits; text = append-nil (text_of file) }
+
+no_lasting_behind : (file : File) (rest : List ℕ) (offset : ℕ) (e : FileFault) → IsFile file → offset ≡ length (text_of file) → IsRecordCut rest → IsLasting e → HasFault (text_of file ++ rest) e → ⊥
+no_lasting_behind file [] offset e fits offset-is cut lasts fault = text_without_fault (text_of file ++ []) file e (text_alone file fits) fault
+no_lasting_behind file (b ∷ rest) offset e fits offset-is cut lasts fault =
+    let some : b ∷ rest ≢ [] = λ none. absurd cc in
+    let same = one_fault (text_of file ++ b ∷ rest) e (ShortRecord offset) fault (cut_behind file (b ∷ rest) offset fits offset-is some cut) in
+    absurd (subst IsLasting same lasts)
+
+-- where nothing whole is left to read there is no fault that lasts
+no_lasting : (front : Option File) (rest : List ℕ) (offset : ℕ) → IsAt front offset → IsLeft front rest → (e : FileFault) → IsLasting e → HasFault (text_so_far front ++ rest) e → ⊥
+no_lasting None rest offset at left e lasts fault =
+    absurd (subst IsLasting (one_fault rest e (ShortHeader (length rest)) fault left) lasts)
+no_lasting (Some file) rest offset at left e lasts fault =
+    no_lasting_behind file rest offset e at.0 at.1 left lasts fault
+
+-- after a step the reading goes on
+pub goes_on : (fault : Option FileFault) (old new : Option File) (bytes rest : List ℕ) (offset count : ℕ) → fault ≡ None → Advances old new offset bytes count → rest ≡ drop count bytes → HasNoLasting (reading_from fault new rest)
+goes_on None old new bytes rest offset count none step rest-is =
+    no_lasting new rest (offset + count) step.at (subst (λ (xs : List ℕ). IsLeft new xs) (sym rest-is) step.left)
+goes_on (Some e) old new bytes rest offset count none step rest-is = absurd cc
+
+-- what a reader answers at the end
+pub finishes_short : (r : Reading) (fault : Option FileFault) (front : Option File) (rest : List ℕ) (n : ℕ) → reading_from fault front rest ≡ r → fault ≡ None → front ≡ None → (fault ≡ None → IsLeft front rest) → n ≡ length rest → Finishes r (Err (ShortHeader n))
+finishes_short r None None rest n view none before left n-is = rw (← view, n-is) (left refl)
+finishes_short r None (Some file) rest n view none before left n-is = absurd cc
+finishes_short r (Some e) front rest n view none before left n-is = absurd cc
+
+pub finishes_cut : (r : Reading) (fault : Option FileFault) (front : Option File) (file : File) (rest : List ℕ) (offset : ℕ) → reading_from fault front rest ≡ r → fault ≡ None → front ≡ Some file → (fault ≡ None → IsLeft front rest) → IsAt front offset → rest ≢ [] → Finishes r (Err (ShortRecord offset))
+finishes_cut r None None file rest offset view none is left at some = absurd cc
+finishes_cut r None (Some other) file rest offset view none is left at some = rw (← view) (cut_behind other rest offset at.0 at.1 some (left refl))
+finishes_cut r (Some e) front file rest offset view none is left at some = absurd cc
+
+-- ---- a reading in one piece
+
+pub fails_with : (bytes : List ℕ) (e : FileFault) → FailsForGood bytes e → FailsWith bytes e
+fails_with bytes e fails = ⊎_elim (λ lasts. inl lasts.1) inr fails
+
+-- the reading of a file's text fails for memory alone
+pub only_memory : (bytes : List ℕ) (file : File) (e : FileFault) → FailsWith bytes e → IsText bytes file → e ≡ Memory
+only_memory bytes file e fails text = ⊎_elim (λ fault. absurd (text_without_fault bytes file e text fault)) (λ memory. memory) fails
+
+-- nothing is left behind the file
+pub read_whole : (bytes rest : List ℕ) (file : File) → length rest < 1 → IsFile file → bytes ≡ text_of file ++ rest → IsText bytes file
+read_whole bytes [] file none fits split = record { fits = fits; text = split ∙ append-nil (text_of file) }
+read_whole bytes (b ∷ rest) file none fits split = absurd (omega arith)
+
+-- something is left
+pub read_cut : (bytes rest : List ℕ) (file : File) → 1 ≤ length rest → IsFile file → bytes ≡ text_of file ++ rest → IsRecordCut rest → FailsWith bytes (ShortRecord (length bytes - length rest))
+read_cut bytes rest file some fits split cut =
+    let not_empty : rest ≢ [] = λ none. omega (arith, ap length none) in
+    let place : length bytes - length rest ≡ length (text_of file) = omega (arith, ap length split, length-append (text_of file) rest) in
+    inl (subst (λ (xs : List ℕ). HasFault xs (ShortRecord (length bytes - length rest))) (sym split) (cut_behind file rest (length bytes - length rest) fits place not_empty cut))

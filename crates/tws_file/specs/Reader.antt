@@ -1,0 +1,90 @@
+-- A reading of a file that comes piece by piece.
+use Rattle.std.specs.Prelude.{◌≡◌, ℕ, ◌+◌, ◌<◌, ◌≤◌, ◌^◌, List, ◌++◌, length, Option, None, Some, Result, Ok, Err}
+use Rattle.tws_file.specs.declared.file_fault.FileFault.{FileFault}
+use Rattle.tws_file.specs.declared.file_fault.FileFault.TheVariants.{ShortHeader, BadSignature, BadRuleset, ShortRecord, BadSize, Memory}
+use Rattle.tws_file.specs.declared.reader.Reader.TheInside.{Inside}
+use Rattle.tws_file.specs.Text.{File, IsText}
+use Rattle.tws_file.specs.Fault.{HasFault, IsLasting}
+use Rattle.tws_file.specs.Steps.{IsAt, IsLeft, text_so_far}
+
+pub data Reading : Type 0 where
+  -- these bytes have come
+  reading : (bytes : List ℕ) → Reading
+  -- the bytes that came had this fault
+  stopped : (fault : FileFault) → Reading
+
+-- these bytes have come, in pieces of whatever sizes
+abbrev pub HasTaken : Reading → List ℕ → Type 0
+HasTaken (reading xs) bytes = xs ≡ bytes
+HasTaken (stopped fault) bytes = IsLasting fault × HasFault bytes fault
+
+-- ---- the calls
+
+-- the condition of a push: all bytes together can be counted
+abbrev pub HasRoom : Reading → List ℕ → Type 0
+HasRoom (reading bytes) piece = length bytes + length piece < 2 ^ 64
+HasRoom (stopped fault) piece = Unit {0}
+
+-- no more than so many bytes have come
+abbrev pub HasAtMost : Reading → ℕ → Type 0
+HasAtMost (reading bytes) n = length bytes ≤ n
+HasAtMost (stopped fault) n = Unit {0}
+
+-- after bytes that had come, this fault at a further piece
+abbrev pub PushFails : List ℕ → List ℕ → FileFault → Reading → Type 0
+PushFails bytes piece Memory new = new ≡ reading bytes
+PushFails bytes piece (ShortHeader n) new = ⊥
+PushFails bytes piece (ShortRecord offset) new = ⊥
+PushFails bytes piece BadSignature new = (new ≡ stopped BadSignature) × HasFault (bytes ++ piece) BadSignature
+PushFails bytes piece (BadRuleset code) new = (new ≡ stopped (BadRuleset code)) × HasFault (bytes ++ piece) (BadRuleset code)
+PushFails bytes piece (BadSize offset) new = (new ≡ stopped (BadSize offset)) × HasFault (bytes ++ piece) (BadSize offset)
+
+abbrev pub Pushes : Reading → List ℕ → Result (Unit {0}) FileFault → Reading → Type 0
+Pushes (reading bytes) piece (Ok done) new = new ≡ reading (bytes ++ piece)
+Pushes (reading bytes) piece (Err e) new = PushFails bytes piece e new
+Pushes (stopped fault) piece result new = (result ≡ Err fault) × (new ≡ stopped fault)
+
+-- the piece was taken, where memory did not run out
+abbrev pub TakesPiece : Result (Unit {0}) FileFault → List ℕ → Reading → Type 0
+TakesPiece (Ok done) bytes new = HasTaken new bytes
+TakesPiece (Err (ShortHeader n)) bytes new = HasTaken new bytes
+TakesPiece (Err BadSignature) bytes new = HasTaken new bytes
+TakesPiece (Err (BadRuleset code)) bytes new = HasTaken new bytes
+TakesPiece (Err (ShortRecord offset)) bytes new = HasTaken new bytes
+TakesPiece (Err (BadSize offset)) bytes new = HasTaken new bytes
+TakesPiece (Err Memory) bytes new = Unit {0}
+
+-- what a reading of all the bytes answers
+abbrev pub IsAnswer : List ℕ → Result File FileFault → Type 0
+IsAnswer bytes (Ok file) = IsText bytes file
+IsAnswer bytes (Err e) = HasFault bytes e
+
+-- no fault of the bytes that came lasts
+abbrev pub HasNoLasting : Reading → Type 0
+HasNoLasting (reading bytes) = (e : FileFault) → IsLasting e → HasFault bytes e → ⊥
+HasNoLasting (stopped fault) = ⊥
+
+abbrev pub Finishes : Reading → Result File FileFault → Type 0
+Finishes (reading bytes) result = IsAnswer bytes result
+Finishes (stopped fault) result = result ≡ Err fault
+
+-- ---- what a reader keeps
+
+-- by the fault that it keeps, what it read, and the bytes behind that
+abbrev pub reading_from : Option FileFault → Option File → List ℕ → Reading
+reading_from (Some fault) front rest = stopped fault
+reading_from None front rest = reading (text_so_far front ++ rest)
+
+abbrev pub reading_of : {A : Type 0} → Inside A → Reading
+reading_of r = reading_from r.fault r.front r.rest.items
+
+abbrev pub KeepsLasting : Option FileFault → Type 0
+KeepsLasting None = Unit {0}
+KeepsLasting (Some fault) = IsLasting fault
+
+-- without a fault nothing whole is left to read
+pub record IsReader {A : Type 0} (r : Inside A) : Type 0 where
+  pub fault : KeepsLasting r.fault
+  pub at : IsAt r.front r.offset
+  pub left : r.fault ≡ None → IsLeft r.front r.rest.items
+  pub counted : r.fault ≡ None → r.offset + length r.rest.items < 2 ^ 64

@@ -1,0 +1,222 @@
+//! A solution file that comes piece by piece.
+
+ghost use Rattle.std.specs.Prelude.{◌≡◌, ◌⊎◌, ◌+◌, ◌<◌, ◌≤◌, ◌^◌, ℕ, List, [], ◌++◌, length, drop, Some, OnOk, OnErr, IfOk, IfErr, IfSome, IfNone};
+ghost use Rattle.tws_file.specs.Text.{File, IsFile, IsText, text_of};
+ghost use Rattle.tws_file.specs.Fault.{FailsWith, IsReadAs, IsRecordCut};
+ghost use Rattle.tws_file.specs.Reader.{reading, HasRoom, Pushes, HasTaken, TakesPiece, HasAtMost, HasNoLasting, Finishes, IsAnswer};
+ghost use Rattle.tws_file.specs.Steps.{IsShort, FailsForGood, IsAt, text_so_far, Advances};
+
+use crate::bytes::Bytes;
+use crate::file_fault::FileFault;
+use crate::header::read_header;
+use crate::reading::read_records;
+use crate::records::Records;
+use crate::tws_file::TwsFile;
+use std::alloc::{Allocator, Global};
+use std::marker::Model;
+
+/// Reads a solution file that comes piece by piece.
+#[derive(Drop)]
+pub struct Reader<A: Allocator + Copy = Global> {
+    alloc: A,
+    /// The fault that the bytes had, which no further ones mend.
+    fault: Option<FileFault>,
+    /// The header and the records that were read; none before the whole header has come.
+    front: Option<TwsFile<A>>,
+    /// Where the rest begins, counted from the start of the file.
+    offset: u64,
+    /// The bytes that came and could not be read yet.
+    rest: Vec<u8, A>,
+}
+
+impl<A: Allocator + Copy> Model for Reader<A> {
+    ghost use Rattle.tws_file.specs.Reader.{Reading, reading_of, IsReader};
+
+    ghost Value = { Reading };
+
+    ghost view = { reading_of };
+
+    ghost invariant = { IsReader };
+}
+
+// The header, the whole records behind it and the bytes behind those; none where the header is cut.
+fn read_front<A: Allocator + Copy>(
+    alloc: A,
+    bytes: &[u8],
+) -> Result<Option<(TwsFile<A>, &[u8])>, FileFault>
+    ensures file { IfOk result (λ r. IfSome r (λ f. IsFile f.0)) }
+    ensures bytes { IfOk result (λ r. IfSome r (λ f. bytes.now ≡ text_of f.0 ++ f.1.now)) }
+    ensures cut { IfOk result (λ r. IfSome r (λ f. IsRecordCut f.1.now)) }
+    ensures short { IfOk result (λ r. IfNone r (IsShort bytes.now)) }
+    ensures fault { IfErr result (FailsForGood bytes.now) }
+{
+    let Some(header) = read_header(bytes)? else {
+        return Ok(None);
+    };
+    let start = bytes.len() - header.records.len();
+    let (records, rest) = read_records(alloc, start as u64, header.records)?;
+    let extra = Vec::from_slice(alloc, header.extra)?;
+    let file = TwsFile {
+        ruleset: header.ruleset,
+        word: header.word,
+        extra: Bytes::of(extra),
+        records: Records::of(records),
+    };
+    Ok(Some((file, rest)))
+}
+
+// Reads the whole records that follow in these bytes, which stand at the offset, and answers how many bytes they took.
+// After an error nothing has changed.
+fn read_on<A: Allocator + Copy>(
+    alloc: A,
+    file: &mut TwsFile<A>,
+    offset: u64,
+    bytes: &[u8],
+) -> Result<usize, FileFault>
+    requires fits { IsFile file.old }
+    requires at { offset ≡ length (text_of file.old) }
+    requires room { offset + length bytes.now < 2 ^ 64 }
+    ensures advances { IfOk result (Advances (Some file.old) (Some file.new) offset bytes.now) }
+    ensures unchanged { OnErr result (file.new ≡ file.old) }
+    ensures fault { IfErr result (FailsForGood (text_of file.old ++ bytes.now)) }
+{
+    let (records, rest) = read_records(alloc, offset, bytes)?;
+    file.records.append(records)?;
+    Ok(bytes.len() - rest.len())
+}
+
+// Reads what is whole of these bytes, which stand at the offset, and answers how many they were. After an error
+// nothing has changed.
+fn advance<A: Allocator + Copy>(
+    alloc: A,
+    front: &mut Option<TwsFile<A>>,
+    offset: u64,
+    bytes: &[u8],
+) -> Result<usize, FileFault>
+    requires at { IsAt front.old offset }
+    requires room { offset + length bytes.now < 2 ^ 64 }
+    ensures advances { IfOk result (Advances front.old front.new offset bytes.now) }
+    ensures unchanged { OnErr result (front.new ≡ front.old) }
+    ensures fault { IfErr result (FailsForGood (text_so_far front.old ++ bytes.now)) }
+{
+    match front {
+        None => {
+            let Some((file, rest)) = read_front(alloc, bytes)? else {
+                return Ok(0);
+            };
+            *front = Some(file);
+            Ok(bytes.len() - rest.len())
+        }
+        Some(file) => read_on(alloc, file, offset, bytes),
+    }
+}
+
+// Takes so many bytes away in front.
+fn drop_front<A: Allocator>(bytes: &mut Vec<u8, A>, count: usize)
+    requires { count ≤ length bytes.old.items }
+    ensures { bytes.new.items ≡ drop count bytes.old.items }
+{
+    if count > 0 {
+        bytes.copy_within(count.., 0);
+        bytes.truncate(bytes.len() - count);
+    }
+}
+
+impl<A: Allocator + Copy> Reader<A> {
+    /// A reader to which nothing has come, which takes no memory.
+    pub fn new(alloc: A) -> Self
+        ensures { result ≡ reading [] }
+    {
+        Reader {
+            alloc,
+            fault: None,
+            front: None,
+            offset: 0,
+            rest: Vec::new(alloc),
+        }
+    }
+
+    /// Takes a further piece of the file. All pieces together have at most 18,446,744,073,709,551,615 bytes.
+    ///
+    /// # Errors
+    ///
+    /// The fault of the bytes so far where no further ones can mend it, so any but `ShortHeader` and `ShortRecord`.
+    /// It is kept, and every later call answers it. After `Memory` the reader is as before the piece.
+    pub fn push(&mut self, piece: &[u8]) -> Result<(), FileFault>
+        requires { HasRoom self.old piece.now }
+        ensures pushes { Pushes self.old piece.now result self.new }
+        // However the bytes are cut, a reader that took them knows what they are.
+        ensures taken { (bytes : List ℕ) → HasTaken self.old bytes → TakesPiece result (bytes ++ piece.now) self.new }
+        // Where a caller counts, the next piece has room.
+        ensures counted { (n : ℕ) → HasAtMost self.old n → HasAtMost self.new (n + length piece.now) }
+        ensures goes_on { OnOk result (HasNoLasting self.new) }
+    {
+        if let Some(fault) = self.fault {
+            return Err(fault);
+        }
+        let before = self.rest.len();
+        self.rest.extend_from_slice(piece)?;
+        match advance(self.alloc, &mut self.front, self.offset, &self.rest) {
+            Ok(count) => {
+                drop_front(&mut self.rest, count);
+                self.offset += count as u64;
+                Ok(())
+            }
+            Err(fault) => {
+                if fault == FileFault::Memory {
+                    self.rest.truncate(before);
+                } else {
+                    self.fault = Some(fault);
+                }
+                Err(fault)
+            }
+        }
+    }
+
+    /// The file whose text has come, once all of it has. It takes no memory.
+    ///
+    /// # Errors
+    ///
+    /// The fault of the bytes that came, or the one that was kept.
+    pub fn finish(self) -> Result<TwsFile<A>, FileFault>
+        ensures finishes { Finishes self result }
+        // It answers what `read_file` of all the bytes does, but that it needs no memory.
+        ensures joined { (bytes : List ℕ) → HasTaken self bytes → IsAnswer bytes result }
+    {
+        let Reader {
+            fault,
+            front,
+            offset,
+            rest,
+            ..
+        } = self;
+        if let Some(fault) = fault {
+            return Err(fault);
+        }
+        match front {
+            None => Err(FileFault::ShortHeader(rest.len() as u64)),
+            Some(file) if rest.is_empty() => Ok(file),
+            Some(_) => Err(FileFault::ShortRecord(offset)),
+        }
+    }
+}
+
+/// Reads a solution file.
+///
+/// # Errors
+///
+/// The fault of the bytes, or `Memory` where a growth was refused.
+pub fn read_file<A: Allocator + Copy>(alloc: A, bytes: &[u8]) -> Result<TwsFile<A>, FileFault>
+    // What is read is the file whose text the bytes are.
+    ensures read { IfOk result (λ file. IsText bytes.now file) }
+    // A file's text is read as that file, unless memory runs out.
+    ensures accepts { (file : File) → IsText bytes.now file → IsReadAs file result }
+    // A fault is the one that the bytes have.
+    ensures fault { IfErr result (FailsWith bytes.now) }
+{
+    match read_front(alloc, bytes)? {
+        None => Err(FileFault::ShortHeader(bytes.len() as u64)),
+        Some((file, [])) => Ok(file),
+        Some((_, rest)) => Err(FileFault::ShortRecord((bytes.len() - rest.len()) as u64)),
+    }
+}
