@@ -1,0 +1,13 @@
+pub mod Parts
+pub mod Codes
+pub mod Numbers
+pub mod Pieces
+pub mod Ticks
+pub mod Spellings
+pub mod Held
+pub mod PieceKinds
+pub mod Waits
+pub mod Least
+pub mod PackedBytes
+pub mod NextPieces
+pub mod LateMoves

@@ -1,0 +1,190 @@
+-- Which moves bytes spell, and where they are cut.
+use Rattle.std.proofs.Common.{◌≡◌, ◌⊎◌, ℕ, zero, suc, ◌+◌, ◌-◌, ◌<◌, ◌≤◌, List, [], ◌∷◌, ◌++◌, length, take, drop, refl, ap, sym, subst, ◌∙◌, arith, inl, inr, ⊎_elim, append_assoc, append-nil, take-append-drop, length-append, length-take, length-drop}
+use Rattle.std.specs.List.{flat_map, AllByRecursion}
+use Rattle.std.proofs.Math.Seq.{take-append_seam, drop-append_seam, take-length}
+use Rattle.std.proofs.lemmas.List.{nil_from_length}
+use Rattle.std.proofs.lemmas.List.Concat.{flat_map-append}
+use Rattle.tws_moves.specs.declared.moves_fault.MovesFault.{MovesFault}
+use Rattle.tws_moves.specs.declared.moves_fault.MovesFault.TheVariants.{Cut, Memory}
+use Rattle.tws_moves.specs.Move.{Move, Wait, moves_from, tick_after}
+use Rattle.std.proofs.lemmas.Bool.{cases_lt}
+use Rattle.tws_moves.specs.Bytes.{IsBytes}
+use Rattle.tws_moves.specs.Spelling.{IsPiece, piece_length, waits_of, pieces_in, moves_in, join, Spells, IsSpelling, IsCutAt, IsCut, MovesFail}
+use Rattle.tws_moves.specs.Steps.{IsPieceCut, ArePieces, ReadsSoFar, CountsSoFar}
+use Rattle.tws_moves.proofs.Parts.{IsBytes-take, IsBytes-drop}
+use Rattle.tws_moves.proofs.Codes.{one_cut, longest_cut}
+use Rattle.tws_moves.proofs.Pieces.{itself, pieces_are_code, none_begins_none, cut_begins_none, piece_some}
+use Rattle.tws_moves.proofs.Ticks.{moves_of_waits, moves_alone, moves_from-append, tick_after-append}
+
+-- ---- one list
+
+pub one_reading : (bytes : List ℕ) (m n : List Move) → Spells bytes m → Spells bytes n → m ≡ n
+one_reading bytes m n sm sn =
+    let same = one_cut IsPiece itself pieces_are_code sm.pieces sn.pieces [] [] sm.fits sn.fits none_begins_none none_begins_none (append-nil (join sm.pieces) ∙ sym sm.joined ∙ sn.joined ∙ sym (append-nil (join sn.pieces))) in
+    moves_alone (flat_map waits_of sm.pieces) m sm.made
+    ∙ ap (λ (ps : List (List ℕ)). moves_from 0 (flat_map waits_of ps)) same.0
+    ∙ sym (moves_alone (flat_map waits_of sn.pieces) n sn.made)
+
+-- the pieces of a text of pieces
+pieces_in_join : (steps : ℕ) (pieces : List (List ℕ)) → AllByRecursion IsPiece pieces → length (join pieces) ≤ steps → pieces_in steps (join pieces) ≡ pieces
+pieces_in_join zero [] fits enough = refl
+pieces_in_join (suc steps) [] fits enough = refl
+pieces_in_join steps ([] ∷ pieces) fits enough = absurd fits.0.whole
+pieces_in_join zero ((first ∷ tail) ∷ pieces) fits enough = absurd (omega arith)
+pieces_in_join (suc steps) ((first ∷ tail) ∷ pieces) fits enough =
+    let count : piece_length first - 1 ≡ length tail = omega (arith, fits.0.whole) in
+    let head : take (piece_length first - 1) (tail ++ join pieces) ≡ tail = ap (λ (n : ℕ). take n (tail ++ join pieces)) count ∙ take-append_seam tail (join pieces) in
+    let rest : drop (piece_length first - 1) (tail ++ join pieces) ≡ join pieces = ap (λ (n : ℕ). drop n (tail ++ join pieces)) count ∙ drop-append_seam tail (join pieces) in
+    ap (λ (xs : List ℕ). (first ∷ xs) ∷ pieces_in steps (drop (piece_length first - 1) (tail ++ join pieces))) head
+    ∙ ap (λ (xs : List ℕ). (first ∷ tail) ∷ pieces_in steps xs) rest
+    ∙ ap (λ (ps : List (List ℕ)). (first ∷ tail) ∷ ps) (pieces_in_join steps pieces fits.1 (omega (arith, enough, length-append tail (join pieces))))
+
+-- the function gives the moves that are spelled
+pub moves_in_spelled : (bytes : List ℕ) (moves : List Move) → Spells bytes moves → moves ≡ moves_in bytes
+moves_in_spelled bytes moves spells =
+    moves_alone (flat_map waits_of spells.pieces) moves spells.made
+    ∙ ap (λ (ps : List (List ℕ)). moves_from 0 (flat_map waits_of ps)) (sym (pieces_in_join (length bytes) spells.pieces spells.fits (omega (arith, ap length spells.joined))) ∙ ap (pieces_in (length bytes)) (sym spells.joined))
+
+pub spells_pieces : (bytes : List ℕ) (pieces : List (List ℕ)) → AllByRecursion IsPiece pieces → bytes ≡ join pieces → Spells bytes (moves_from 0 (flat_map waits_of pieces))
+spells_pieces bytes pieces fits joined =
+    record { pieces = pieces; fits = fits; joined = joined; made = moves_of_waits (flat_map waits_of pieces) }
+
+module _ (bytes rest : List ℕ) (pieces : List (List ℕ)) (so_far : ArePieces bytes rest pieces) where
+  at_join : length bytes - length rest ≡ length (join pieces)
+  at_join = omega (arith, ap length so_far.split, length-append (join pieces) rest)
+
+  -- ---- nothing is left
+
+  spelled_whole : length rest < 1 → bytes ≡ join pieces
+  spelled_whole none = so_far.split ∙ ap (λ (xs : List ℕ). join pieces ++ xs) (nil_from_length rest (omega (arith, none))) ∙ append-nil (join pieces)
+
+  pub spells_so_far : length rest < 1 → Spells bytes (moves_from 0 (flat_map waits_of pieces))
+  spells_so_far none = spells_pieces bytes pieces so_far.fits (spelled_whole none)
+
+  -- ---- what is left is cut
+
+  front_spelled : IsSpelling (take (length (join pieces)) bytes)
+  front_spelled =
+      let front : take (length (join pieces)) bytes ≡ join pieces = ap (take (length (join pieces))) so_far.split ∙ take-append_seam (join pieces) rest in
+      (moves_from 0 (flat_map waits_of pieces), spells_pieces (take (length (join pieces)) bytes) pieces so_far.fits front)
+
+  longest_front : IsPieceCut rest → (n : ℕ) → n ≤ length bytes → IsSpelling (take n bytes) → n ≤ length (join pieces)
+  longest_front cut n within spelled =
+      let other = spelled.1 in
+      let whole : join other.pieces ++ drop n bytes ≡ join pieces ++ rest = ap (λ (xs : List ℕ). xs ++ drop n bytes) (sym other.joined) ∙ take-append-drop n bytes ∙ so_far.split in
+      let shorter = longest_cut IsPiece itself pieces_are_code other.pieces pieces (drop n bytes) rest other.fits so_far.fits (cut_begins_none rest cut) whole in
+      omega (arith, shorter, ap length other.joined, length-take n bytes)
+
+  pub cut_place : IsPieceCut rest → 1 ≤ length rest → IsCutAt bytes (length bytes - length rest)
+  cut_place cut some =
+      rw at_join (record {
+        within = omega (arith, ap length so_far.split, length-append (join pieces) rest);
+        spelled = front_spelled;
+        longest = λ n within spelled. longest_front cut n within spelled;
+      })
+
+  pub cut_at : (e : MovesFault) → e ≡ Cut (length bytes - length rest) → IsPieceCut rest → 1 ≤ length rest → IsCut bytes e
+  cut_at e e-is cut some = subst (IsCut bytes) (sym e-is) (cut_place cut some)
+
+-- bytes that are cut spell nothing
+pub cut_spells_nothing : (bytes : List ℕ) (at : ℕ) (moves : List Move) → IsCutAt bytes at → Spells bytes moves → ⊥
+cut_spells_nothing bytes at moves cut spells =
+    let too_long = cut.longest (length bytes) (omega arith) (subst IsSpelling (sym (take-length bytes)) (moves, spells)) in
+    omega (arith, too_long, cut.within)
+
+pub cut_is_no_spelling : (bytes : List ℕ) (e : MovesFault) (moves : List Move) → IsCut bytes e → Spells bytes moves → ⊥
+cut_is_no_spelling bytes (Cut at) moves cut spells = cut_spells_nothing bytes at moves cut spells
+cut_is_no_spelling bytes Memory moves cut spells = cut
+
+-- the reading of what is spelled fails for memory alone
+pub spelled_fails : (bytes : List ℕ) (e : MovesFault) (moves : List Move) → MovesFail bytes e → Spells bytes moves → e ≡ Memory
+spelled_fails bytes (Cut at) moves fails spells = ⊎_elim (λ cut. absurd (cut_spells_nothing bytes at moves cut spells)) (λ memory. memory) fails
+spelled_fails bytes Memory moves fails spells = refl
+
+pub one_place : (bytes : List ℕ) (m n : ℕ) → IsCutAt bytes m → IsCutAt bytes n → m ≡ n
+one_place bytes m n first second =
+    omega (arith, first.longest n (omega (arith, second.within)) second.spelled, second.longest m (omega (arith, first.within)) first.spelled)
+
+-- ---- one piece more
+
+more_texts : (pieces : List (List ℕ)) (piece : List ℕ) → join (pieces ++ piece ∷ []) ≡ join pieces ++ piece
+more_texts pieces piece = flat_map-append itself pieces (piece ∷ []) ∙ ap (λ (xs : List ℕ). join pieces ++ xs) (append-nil piece)
+
+more_waits : (pieces : List (List ℕ)) (piece : List ℕ) → flat_map waits_of (pieces ++ piece ∷ []) ≡ flat_map waits_of pieces ++ waits_of piece
+more_waits pieces piece = flat_map-append waits_of pieces (piece ∷ []) ∙ ap (λ (ws : List Wait). flat_map waits_of pieces ++ ws) (append-nil (waits_of piece))
+
+one_more : (pieces : List (List ℕ)) (piece : List ℕ) → AllByRecursion IsPiece pieces → IsPiece piece → AllByRecursion IsPiece (pieces ++ piece ∷ [])
+one_more [] piece fits one = (one, tt)
+one_more (p ∷ pieces) piece fits one = (fits.0, one_more pieces piece fits.1 one)
+
+module _ (bytes rest piece after : List ℕ) (one : IsPiece piece) (split : rest ≡ piece ++ after) where
+  pieces_more : (pieces : List (List ℕ)) → ArePieces bytes rest pieces → ArePieces bytes after (pieces ++ piece ∷ [])
+  pieces_more pieces so_far = record {
+    fits = one_more pieces piece so_far.fits one;
+    split = so_far.split ∙ ap (λ (xs : List ℕ). join pieces ++ xs) split ∙ sym (append_assoc (join pieces) piece after) ∙ ap (λ (xs : List ℕ). xs ++ after) (sym (more_texts pieces piece));
+  }
+
+  pub reads_more : (moves pushed : List Move) (tick next : ℕ) → ReadsSoFar bytes rest moves tick → pushed ≡ moves ++ moves_from tick (waits_of piece) → next ≡ tick_after tick (waits_of piece) → ReadsSoFar bytes after pushed next
+  reads_more moves pushed tick next reads pushed-is next-is =
+      let waits = flat_map waits_of reads.pieces in
+      record {
+        pieces = reads.pieces ++ piece ∷ [];
+        so_far = pieces_more reads.pieces reads.so_far;
+        moves_are = pushed-is ∙ ap (λ (ms : List Move). ms ++ moves_from tick (waits_of piece)) reads.moves_are ∙ ap (λ (t : ℕ). moves_from 0 waits ++ moves_from t (waits_of piece)) reads.tick_is ∙ sym (moves_from-append 0 waits (waits_of piece)) ∙ ap (moves_from 0) (sym (more_waits reads.pieces piece));
+        tick_is = next-is ∙ ap (λ (t : ℕ). tick_after t (waits_of piece)) reads.tick_is ∙ sym (tick_after-append 0 waits (waits_of piece)) ∙ ap (tick_after 0) (sym (more_waits reads.pieces piece));
+      }
+
+  pub counts_more : (count next : ℕ) → CountsSoFar bytes rest count → next ≡ count + length (waits_of piece) → CountsSoFar bytes after next
+  counts_more count next counts next-is =
+      record {
+        pieces = counts.pieces ++ piece ∷ [];
+        so_far = pieces_more counts.pieces counts.so_far;
+        count_is = omega (arith, next-is, counts.count_is, ap length (more_waits counts.pieces piece), length-append (flat_map waits_of counts.pieces) (waits_of piece));
+      }
+
+-- ---- every list of bytes
+
+IsBytes-cell : (first : ℕ) (tail : List ℕ) → first < 256 → IsBytes tail → IsBytes (first ∷ tail)
+IsBytes-cell first tail head fits zero = head
+IsBytes-cell first tail head fits (suc i) = fits i
+
+-- the bytes are pieces, and a rest in which none is whole
+abbrev Pieces : List ℕ → Type 0
+Pieces bytes = (rest : List ℕ) × (pieces : List (List ℕ)) × ArePieces bytes rest pieces × IsPieceCut rest
+
+first_piece : (first : ℕ) (tail : List ℕ) → IsBytes (first ∷ tail) → piece_length first ≤ 1 + length tail → IsPiece (first ∷ take (piece_length first - 1) tail)
+first_piece first tail fits whole =
+    let count = piece_length first - 1 in
+    record {
+      bytes = IsBytes-cell first (take count tail) (fits 0) (IsBytes-take count tail (λ i. fits (suc i)));
+      whole = omega (arith, length-take count tail, whole, piece_some first);
+    }
+
+piece_then : (piece behind bytes : List ℕ) → IsPiece piece → bytes ≡ piece ++ behind → Pieces behind → Pieces bytes
+piece_then piece behind bytes one split later =
+    let more : ArePieces bytes later.0 (piece ∷ later.1) = record {
+      fits = (one, later.2.fits);
+      split = split ∙ ap (λ (xs : List ℕ). piece ++ xs) later.2.split ∙ sym (append_assoc piece (join later.1) later.0);
+    } in
+    (later.0, piece ∷ later.1, more, later.3)
+
+nothing_more : (bytes : List ℕ) → IsPieceCut bytes → Pieces bytes
+nothing_more bytes cut = (bytes, [], record { fits = tt; split = refl }, cut)
+
+pieces_of : (fuel : ℕ) (bytes : List ℕ) → IsBytes bytes → length bytes ≤ fuel → Pieces bytes
+pieces_of fuel [] fits enough = nothing_more [] tt
+pieces_of zero (first ∷ tail) fits enough = absurd (omega arith)
+pieces_of (suc fuel) (first ∷ tail) fits enough =
+    let count = piece_length first - 1 in
+    elim (cases_lt (1 + length tail) (piece_length first)) [
+      | inl short ↦ nothing_more (first ∷ tail) short
+      | inr whole ↦ piece_then (first ∷ take count tail) (drop count tail) (first ∷ tail) (first_piece first tail fits whole) (ap (λ (xs : List ℕ). first ∷ xs) (sym (take-append-drop count tail))) (pieces_of fuel (drop count tail) (IsBytes-drop count tail (λ i. fits (suc i))) (omega (arith, length-drop count tail)))
+    ]
+
+pub cut_or_spelled : (bytes : List ℕ) → IsBytes bytes → IsSpelling bytes ⊎ ((at : ℕ) × IsCutAt bytes at)
+cut_or_spelled bytes fits =
+    let found = pieces_of (length bytes) bytes fits (omega arith) in
+    elim (cases_lt (length found.0) 1) [
+      | inl none ↦ inl (moves_from 0 (flat_map waits_of found.1), spells_so_far bytes found.0 found.1 found.2 none)
+      | inr some ↦ inr (length bytes - length found.0, cut_place bytes found.0 found.1 found.2 found.3 some)
+    ]

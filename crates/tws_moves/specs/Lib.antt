@@ -1,0 +1,5 @@
+pub mod Bytes
+pub mod Move
+pub mod Spelling
+pub mod Shortest
+pub mod Steps

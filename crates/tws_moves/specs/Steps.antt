@@ -1,0 +1,62 @@
+-- What the private steps of reading and writing say. Callers need none of it.
+use Rattle.std.specs.Prelude.{◌≡◌, ℕ, ◌+◌, ◌<◌, ◌≤◌, ◌^◌, nat_lt, List, [], ◌∷◌, ◌++◌, length, take, drop, if◌then◌else◌}
+use Rattle.std.specs.List.{flat_map, AllByRecursion}
+use Rattle.tws_moves.specs.declared.act.Act.{Act}
+use Rattle.tws_moves.specs.declared.act.Act.TheVariants.{Step, Code}
+use Rattle.tws_moves.specs.Bytes.{little_bytes}
+use Rattle.tws_moves.specs.Move.{Move, Wait, IsAct, moves_from, tick_after}
+use Rattle.tws_moves.specs.Spelling.{IsPiece, piece_length, waits_of, join}
+use Rattle.tws_moves.specs.Shortest.{alone, waits_bytes}
+
+-- the bytes are shorter than the piece that they begin, or there are none
+abbrev pub IsPieceCut : List ℕ → Type 0
+IsPieceCut [] = Unit {0}
+IsPieceCut (first ∷ rest) = 1 + length rest < piece_length first
+
+-- so far the bytes are these pieces, and a rest
+pub record ArePieces (bytes rest : List ℕ) (pieces : List (List ℕ)) : Type 0 where
+  pub fits : AllByRecursion IsPiece pieces
+  pub split : bytes ≡ join pieces ++ rest
+
+-- the pieces so far make these moves, and a later one can be made from this tick on
+pub record ReadsSoFar (bytes rest : List ℕ) (moves : List Move) (tick : ℕ) : Type 0 where
+  pub pieces : List (List ℕ)
+  pub so_far : ArePieces bytes rest pieces
+  pub moves_are : moves ≡ moves_from 0 (flat_map waits_of pieces)
+  pub tick_is : tick ≡ tick_after 0 (flat_map waits_of pieces)
+
+-- the pieces so far make so many moves
+pub record CountsSoFar (bytes rest : List ℕ) (count : ℕ) : Type 0 where
+  pub pieces : List (List ℕ)
+  pub so_far : ArePieces bytes rest pieces
+  pub count_is : count ≡ length (flat_map waits_of pieces)
+
+-- ---- writing
+
+-- an act's waits that some layout holds are below this
+abbrev pub ticks_limit : Act → ℕ
+ticks_limit (Step direction) = if nat_lt direction 4 then 2 ^ 27 else 2 ^ 11
+ticks_limit (Code code) = 2 ^ 26
+
+-- some layout holds the wait
+pub record IsHeld (w : Wait) : Type 0 where
+  pub act : IsAct w.act
+  pub ticks : w.ticks < ticks_limit w.act
+
+-- The first piece of the waits' spelling is this number in so many bytes, and holds so many waits.
+pub record IsNextPiece (waits : List Wait) (length_of number count : ℕ) : Type 0 where
+  pub some : 1 ≤ count
+  pub within : count ≤ length waits
+  pub held : AllByRecursion IsHeld (take count waits)
+  pub bytes : waits_bytes waits ≡ little_bytes length_of number ++ waits_bytes (drop count waits)
+
+-- the spelling begins with the first wait alone
+abbrev pub StandsAlone : List Wait → Type 0
+StandsAlone [] = ⊥
+StandsAlone (w ∷ ws) = waits_bytes (w ∷ ws) ≡ alone w ++ waits_bytes ws
+
+-- the bytes so far are the spelling up to the wait with this number
+pub record WritesSoFar (waits : List Wait) (bytes : List ℕ) (index : ℕ) : Type 0 where
+  pub within : index ≤ length waits
+  pub held : AllByRecursion IsHeld (take index waits)
+  pub split : waits_bytes waits ≡ bytes ++ waits_bytes (drop index waits)

@@ -1,0 +1,24 @@
+ghost use Rattle.std.specs.Prelude.{◌≡◌};
+ghost use Rattle.tws_moves.specs.Steps.{ticks_limit};
+
+/// What a player does at one tick.
+#[derive(Clone, Copy, Debug, PartialEq, Eq)]
+pub enum Act {
+    /// A step in a direction, 0 to 7.
+    Step(u8),
+    /// A code of nine bits, 0 to 511.
+    Code(u16),
+}
+
+impl Act {
+    /// The waits that some layout holds before it are below this.
+    pub(crate) fn ticks_limit(self) -> u64
+        ensures { result ≡ ticks_limit self }
+    {
+        match self {
+            Act::Step(direction) if direction < 4 => 1 << 27,
+            Act::Step(_) => 1 << 11,
+            Act::Code(_) => 1 << 26,
+        }
+    }
+}

@@ -1,0 +1,54 @@
+ghost use Rattle.std.specs.Prelude.{◌≡◌, ◌≤◌, ℕ, length};
+ghost use Rattle.tws_moves.specs.Spelling.{layout_of, layout_length, layout_waits};
+
+/// How moves stand in a piece of bytes. Tile World's comments have five formats.
+#[derive(Clone, Copy)]
+pub(crate) enum Layout {
+    /// One byte with three steps, which wait three ticks each.
+    ThreeSteps,
+    /// A step in one byte.
+    ShortStep,
+    /// A step in two bytes.
+    MiddleStep,
+    /// A step in four bytes.
+    LongStep,
+    /// A code in two to five bytes.
+    Code,
+}
+
+impl Layout {
+    /// The layout of the piece that begins with this byte.
+    pub(crate) fn of(first: u8) -> Self
+        ensures { result ≡ layout_of first }
+    {
+        match first % 4 {
+            0 => Layout::ThreeSteps,
+            1 => Layout::ShortStep,
+            2 => Layout::MiddleStep,
+            _ if first / 16 % 2 == 0 => Layout::LongStep,
+            _ => Layout::Code,
+        }
+    }
+
+    /// How many bytes the piece has that begins with this byte.
+    pub(crate) fn length(self, first: u8) -> usize
+        ensures { result ≡ layout_length self first }
+    {
+        match self {
+            Layout::ThreeSteps | Layout::ShortStep => 1,
+            Layout::MiddleStep => 2,
+            Layout::LongStep => 4,
+            Layout::Code => 2 + usize::from(first / 4 % 4),
+        }
+    }
+    /// How many moves stand in such a piece.
+    pub(crate) fn moves(self) -> u64
+        ensures count { (n : ℕ) → result ≡ length (layout_waits self n) }
+        ensures bound { result ≤ 3 }
+    {
+        match self {
+            Layout::ThreeSteps => 3,
+            _ => 1,
+        }
+    }
+}

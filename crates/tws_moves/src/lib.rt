@@ -1,0 +1,29 @@
+//! The moves of a Tile World solution, and how bytes spell them.
+#![tactic(auto)]
+
+mod act;
+mod laws;
+mod layout;
+mod moves;
+mod moves_fault;
+mod piece;
+mod reading;
+mod spell_fault;
+mod wait;
+mod writing;
+
+pub use act::Act;
+pub use laws::{
+    cut_or_spelled, moves_by_function, one_reading, packing, shortest_by_function,
+    spelled_moves_are_timed, spelled_or_too_late, ticks_of_waits,
+};
+pub use moves::{Move, is_timed};
+pub use moves_fault::MovesFault;
+pub use reading::{check_moves, read_moves};
+pub use spell_fault::SpellFault;
+pub use writing::write_moves;
+
+#[cfg(test)]
+mod tests;
+#[cfg(test)]
+mod write_tests;

@@ -1,0 +1,157 @@
+ghost use Rattle.std.specs.Prelude.{◌≡◌, ℕ, ◌<◌, ◌^◌, ◌&&◌, ◌++◌, drop, length, slice_index_or, OnOk, IfSome, IfNone};
+ghost use Rattle.tws_moves.specs.Bytes.{little_bytes};
+ghost use Rattle.tws_moves.specs.Move.{Wait as PlainWait, IsTimed, waits_from};
+ghost use Rattle.tws_moves.specs.Shortest.{act_bytes, alone, code_more, is_plain, three_byte};
+ghost use Rattle.tws_moves.specs.Steps.{IsHeld, IsNextPiece, StandsAlone};
+
+use crate::act::Act;
+use crate::moves::Move;
+use crate::wait::Wait;
+use std::alloc::{AllocError, Allocator};
+
+/// A piece to write: its bytes as one number, the first the lowest, how many they are, and how many moves they hold.
+#[derive(Clone, Copy)]
+pub(crate) struct Piece {
+    pub(crate) number: u64,
+    pub(crate) length: usize,
+    pub(crate) moves: usize,
+}
+
+impl Piece {
+    // A step in the shortest layout that holds its wait.
+    fn of_step(ticks: u64, direction: u8) -> Self
+        requires { ticks < 2 ^ 27 }
+        ensures bytes { little_bytes result.length result.number ≡ act_bytes ticks (Act.Step direction) }
+        ensures moves { result.moves ≡ 1 }
+    {
+        let fields = 4 * u64::from(direction) + (ticks << 5);
+        // The low bits that tell the layout, and its bytes.
+        let (layout, length) = if ticks < 1 << 3 {
+            (1, 1)
+        } else if ticks < 1 << 11 {
+            (2, 2)
+        } else {
+            (3, 4)
+        };
+        Piece {
+            number: layout + fields,
+            length,
+            moves: 1,
+        }
+    }
+
+    // A code in the shortest layout that holds its wait.
+    fn of_code(ticks: u64, code: u16) -> Self
+        requires { ticks < 2 ^ 26 }
+        ensures bytes { little_bytes result.length result.number ≡ act_bytes ticks (Act.Code code) }
+        ensures moves { result.moves ≡ 1 }
+    {
+        let more = code_more(ticks);
+        // Bits 0, 1 and 4 tell the layout, and bits 2 and 3 its length.
+        let layout = 19 + 4 * more as u64;
+        Piece {
+            number: layout + (u64::from(code) << 5) + (ticks << 14),
+            length: 2 + more,
+            moves: 1,
+        }
+    }
+
+    // The wait alone, in the shortest layout that holds it; none where no layout does.
+    fn alone(wait: Wait) -> Option<Self>
+        ensures held { IfSome result (λ _. IsHeld wait) }
+        ensures bytes { IfSome result (λ p. little_bytes p.length p.number ≡ alone wait) }
+        ensures moves { IfSome result (λ p. p.moves ≡ 1) }
+        ensures none { IfNone result (IsHeld wait → ⊥) }
+    {
+        if wait.ticks >= wait.act.ticks_limit() {
+            return None;
+        }
+        Some(match wait.act {
+            Act::Step(direction) => Piece::of_step(wait.ticks, direction),
+            Act::Code(code) => Piece::of_code(wait.ticks, code),
+        })
+    }
+
+    // The next three moves in one byte; none where they are not three plain steps.
+    fn three_steps(moves: &[Move], index: usize) -> Option<Self>
+        requires timed { IsTimed moves.now }
+        requires within { index < length moves.now }
+        ensures next { IfSome result (λ p. IsNextPiece (drop index (waits_from 0 moves.now)) p.length p.number p.moves) }
+        ensures apart { IfNone result (StandsAlone (drop index (waits_from 0 moves.now))) }
+    {
+        if moves.len() - index < 3 {
+            return None;
+        }
+        let first = Wait::of(moves, index);
+        let second = Wait::of(moves, index + 1);
+        let third = Wait::of(moves, index + 2);
+        if !are_plain(first, second, third) {
+            return None;
+        }
+        Some(Piece {
+            number: three_byte(first, second, third),
+            length: 1,
+            moves: 3,
+        })
+    }
+
+    /// The piece from the move with this number on; none where no layout holds its wait.
+    pub(crate) fn next(moves: &[Move], index: usize) -> Option<Self>
+        requires timed { IsTimed moves.now }
+        requires within { index < length moves.now }
+        ensures next { IfSome result (λ p. IsNextPiece (drop index (waits_from 0 moves.now)) p.length p.number p.moves) }
+        ensures none { IfNone result ((w : PlainWait) → IsHeld (slice_index_or (waits_from 0 moves.now) index w) → ⊥) }
+    {
+        let wait = Wait::of(moves, index);
+        if !wait.is_plain() {
+            return Piece::alone(wait);
+        }
+        if let Some(piece) = Piece::three_steps(moves, index) {
+            return Some(piece);
+        }
+        Piece::alone(wait)
+    }
+
+    /// Adds its bytes.
+    pub(crate) fn push_to<A: Allocator>(self, bytes: &mut Vec<u8, A>) -> Result<(), AllocError>
+        ensures { OnOk result (bytes.new.items ≡ bytes.old.items ++ little_bytes self.length self.number) }
+    {
+        let mut rest = self.number;
+        for _ in 0..self.length {
+            bytes.push((rest % 256) as u8)?;
+            rest /= 256;
+        }
+        Ok(())
+    }
+}
+
+// How many bytes a code's piece has behind its first two.
+fn code_more(ticks: u64) -> usize
+    ensures { result ≡ code_more ticks }
+{
+    if ticks < 1 << 2 {
+        0
+    } else if ticks < 1 << 10 {
+        1
+    } else if ticks < 1 << 18 {
+        2
+    } else {
+        3
+    }
+}
+
+// Whether a byte holds the three: each is a step 0 to 3 behind three ticks.
+fn are_plain(first: Wait, second: Wait, third: Wait) -> bool
+    ensures { result ≡ (is_plain first && is_plain second && is_plain third) }
+{
+    first.is_plain() && second.is_plain() && third.is_plain()
+}
+
+// The byte that holds three plain steps.
+fn three_byte(first: Wait, second: Wait, third: Wait) -> u64
+    ensures { result ≡ three_byte first second third }
+{
+    4 * u64::from(first.direction())
+        + 16 * u64::from(second.direction())
+        + 64 * u64::from(third.direction())
+}

@@ -1,0 +1,180 @@
+//! Moves from bytes.
+
+ghost use Rattle.std.specs.Prelude.{◌≡◌, ℕ, ◌+◌, ◌-◌, ◌*◌, ◌<◌, ◌≤◌, ◌^◌, List, [], ◌∷◌, ◌++◌, length, Ok, OnOk, IfOk, IfErr, IfSome, IfNone, MatchResult};
+ghost use Rattle.tws_moves.specs.declared.moves_fault.MovesFault.TheVariants as fault;
+ghost use Rattle.tws_moves.specs.declared.layout.Layout.TheVariants as layout;
+ghost use Rattle.tws_moves.specs.Bytes.{number_of, bits};
+ghost use Rattle.tws_moves.specs.Move.{Move as Plain, IsMove, IsTimed, moves_from, tick_after};
+ghost use Rattle.tws_moves.specs.Spelling.{IsPiece, waits_of, layout_waits, Spells, IsCount, IsCut, MovesFail};
+ghost use Rattle.tws_moves.specs.Steps.{IsPieceCut};
+
+use crate::act::Act;
+use crate::layout::Layout;
+use crate::moves::Move;
+use crate::moves_fault::MovesFault;
+use std::alloc::{AllocError, Allocator};
+
+// The piece that the bytes begin with, and the bytes behind it; none where it is cut.
+fn split_piece(bytes: &[u8]) -> Option<(&[u8], &[u8])>
+    ensures piece { IfSome result (λ r. IsPiece r.0.now) }
+    ensures split { IfSome result (λ r. bytes.now ≡ r.0.now ++ r.1.now) }
+    ensures cut { IfNone result (IsPieceCut bytes.now) }
+{
+    let [first, ..] = bytes else {
+        return None;
+    };
+    let length = Layout::of(*first).length(*first);
+    if bytes.len() < length {
+        return None;
+    }
+    Some(bytes.split_at(length))
+}
+
+// The bytes as one number, the first the lowest.
+fn number_of(bytes: &[u8]) -> u64
+    requires { length bytes.now ≤ 5 }
+    ensures number { result ≡ number_of bytes.now }
+    ensures bound { result < 2 ^ 40 }
+{
+    match bytes {
+        [] => 0,
+        [first, rest @ ..] => u64::from(*first) + 256 * number_of(rest),
+    }
+}
+
+// Of a number, so many bits from the bit `low` on.
+fn bits(low: u32, count: u32, number: u64) -> u64
+    requires { low + count < 64 }
+    ensures { result ≡ bits low count number }
+{
+    (number >> low) % (1 << count)
+}
+
+// Adds a move, and answers the tick from which on a later one can be made.
+fn push<A: Allocator>(moves: &mut Vec<Move, A>, at: u64, act: Act) -> Result<u64, AllocError>
+    requires fits { IsMove (record { at = at; act = act }) }
+    requires room { at + 1 < 2 ^ 64 }
+    ensures moves { OnOk result (moves.new.items ≡ moves.old.items ++ record { at = at; act = act } ∷ []) }
+    ensures next { IfOk result (λ n. n ≡ at + 1) }
+{
+    moves.push(Move { at, act })?;
+    Ok(at + 1)
+}
+
+// Adds three steps, each of which waits three ticks.
+fn push_three<A: Allocator>(
+    moves: &mut Vec<Move, A>,
+    next: u64,
+    number: u64,
+) -> Result<u64, AllocError>
+    requires { next < 2 ^ 63 }
+    ensures moves { OnOk result (moves.new.items ≡ moves.old.items ++ moves_from next (layout_waits layout.ThreeSteps number)) }
+    ensures next { IfOk result (λ n. n ≡ next + 12) }
+{
+    let next = push(moves, next + 3, Act::Step(bits(2, 2, number) as u8))?;
+    let next = push(moves, next + 3, Act::Step(bits(4, 2, number) as u8))?;
+    push(moves, next + 3, Act::Step(bits(6, 2, number) as u8))
+}
+
+// Adds the moves of a piece, the first of which can be made from the tick `next` on, and answers from when a later one
+// can.
+fn push_piece<A: Allocator>(
+    moves: &mut Vec<Move, A>,
+    next: u64,
+    piece: &[u8],
+) -> Result<u64, AllocError>
+    requires piece { IsPiece piece.now }
+    requires room { next < 2 ^ 63 }
+    ensures moves { OnOk result (moves.new.items ≡ moves.old.items ++ moves_from next (waits_of piece.now)) }
+    ensures next { IfOk result (λ n. n ≡ tick_after next (waits_of piece.now)) }
+    ensures bound { IfOk result (λ n. n ≤ next + length piece.now * 2 ^ 27) }
+{
+    let number = number_of(piece);
+    match Layout::of(piece[0]) {
+        Layout::ThreeSteps => push_three(moves, next, number),
+        Layout::ShortStep => {
+            let step = Act::Step(bits(2, 3, number) as u8);
+            push(moves, next + bits(5, 3, number), step)
+        }
+        Layout::MiddleStep => {
+            let step = Act::Step(bits(2, 3, number) as u8);
+            push(moves, next + bits(5, 11, number), step)
+        }
+        Layout::LongStep => {
+            let step = Act::Step(bits(2, 2, number) as u8);
+            push(moves, next + bits(5, 27, number), step)
+        }
+        Layout::Code => {
+            let code = Act::Code(bits(5, 9, number) as u16);
+            push(moves, next + (number >> 14), code)
+        }
+    }
+}
+
+// The bytes are cut where what is left of them begins.
+fn cut_before(bytes: &[u8], rest: &[u8]) -> MovesFault
+    requires within { length rest.now ≤ length bytes.now }
+    requires short { length bytes.now < 2 ^ 32 }
+    ensures { result ≡ fault.Cut (length bytes.now - length rest.now) }
+{
+    let at = (bytes.len() - rest.len()) as u64;
+    MovesFault::Cut { at }
+}
+
+/// The moves that the bytes spell, at most 4,294,967,295 of them.
+///
+/// # Errors
+///
+/// `Cut` where the bytes end inside a move, or `Memory` where a growth was refused.
+pub fn read_moves<A: Allocator>(alloc: A, bytes: &[u8]) -> Result<Vec<Move, A>, MovesFault>
+    requires { length bytes.now < 2 ^ 32 }
+    ensures read { IfOk result (λ moves. Spells bytes.now moves.items) }
+    ensures timed { IfOk result (λ moves. IsTimed moves.items) }
+    // What is spelled is read, unless memory runs out.
+    ensures accepts { (moves : List Plain) → Spells bytes.now moves → MatchResult result (λ r. r.items ≡ moves) (λ e. e ≡ fault.Memory) }
+    ensures fault { IfErr result (MovesFail bytes.now) }
+{
+    let mut moves = Vec::new(alloc);
+    let mut next = 0;
+    let mut rest = bytes;
+    while let Some((piece, after)) = split_piece(rest) {
+        next = push_piece(&mut moves, next, piece)?;
+        rest = after;
+    }
+    if !rest.is_empty() {
+        return Err(cut_before(bytes, rest));
+    }
+    Ok(moves)
+}
+
+// How many moves stand in a piece.
+fn count_piece(piece: &[u8]) -> u64
+    requires { IsPiece piece.now }
+    ensures count { result ≡ length (waits_of piece.now) }
+    ensures bound { result ≤ length piece.now * 3 }
+{
+    Layout::of(piece[0]).moves()
+}
+
+/// How many moves the bytes spell, at most 4,294,967,295 of them. It agrees with `read_moves`, and takes no memory.
+///
+/// # Errors
+///
+/// `Cut` where the bytes end inside a move.
+pub fn check_moves(bytes: &[u8]) -> Result<u64, MovesFault>
+    requires { length bytes.now < 2 ^ 32 }
+    ensures counts { IfOk result (IsCount bytes.now) }
+    ensures accepts { (moves : List Plain) → Spells bytes.now moves → result ≡ Ok (length moves) }
+    ensures fault { IfErr result (IsCut bytes.now) }
+{
+    let mut count = 0;
+    let mut rest = bytes;
+    while let Some((piece, after)) = split_piece(rest) {
+        count += count_piece(piece);
+        rest = after;
+    }
+    if !rest.is_empty() {
+        return Err(cut_before(bytes, rest));
+    }
+    Ok(count)
+}
