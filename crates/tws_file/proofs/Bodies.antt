@@ -1,10 +1,16 @@
 -- The fields that a body is read as have its bytes.
-use Rattle.std.proofs.Common.{◌≡◌, ℕ, ◌+◌, ◌≤◌, List, ◌∷◌, ◌++◌, length, take, drop, slice_index, ap, sym, ◌∙◌, arith, take-append-drop, length-drop, drop-drop}
+use Rattle.std.proofs.Common.{◌≡◌, ℕ, ◌+◌, ◌^◌, ◌<◌, ◌≤◌, List, ◌∷◌, ◌++◌, length, take, drop, slice_index, ap, sym, subst, ◌∙◌, arith, take-append-drop, length-drop, drop-drop}
 use Rattle.std.proofs.lemmas.List.{drop_more}
 use Rattle.byteorder.specs.Endian.{little_bytes, little_number}
 use Rattle.tws_file.specs.declared.key.Key.{Key}
-use Rattle.tws_file.specs.Fields.{IsBytes, set_key, key_bytes}
-use Rattle.tws_file.proofs.Parts.{IsBytes-drop}
+use Rattle.tws_moves.specs.Bytes.{IsBytes}
+use Rattle.tws_file.specs.Fields.{set_key, key_bytes}
+use Rattle.tws_moves.specs.Spelling.{IsSpelling}
+use Rattle.tws_moves.proofs.Parts.{IsBytes-drop}
+use Rattle.tws_file.specs.declared.file_fault.FileFault.{FileFault}
+use Rattle.tws_file.specs.declared.file_fault.FileFault.TheVariants.{ShortHeader, BadSignature, BadRuleset, ShortRecord, BadSize, MoveCut, Memory}
+use Rattle.tws_file.specs.Text.{Solution, IsLevel, HasFields, IsSolution}
+use Rattle.tws_file.specs.Steps.{MovesFail, SolutionFails}
 use Rattle.tws_file.proofs.Numbers.{little_bytes-little_number_4}
 
 -- a number of four bytes at a place, and what follows it
@@ -25,6 +31,43 @@ solved_from rest a b moves seed ticks fits long a-is b-is seed-is ticks-is moves
     ap (λ (xs : List ℕ). slice_index rest 0 ∷ slice_index rest 1 ∷ xs) both
     ∙ ap (λ (xs : List ℕ). slice_index rest 0 ∷ xs) (sym (drop_more rest 1 0 (omega arith)))
     ∙ sym (drop_more rest 0 0 (omega arith))
+
+-- ---- a solution from its fields
+
+module _ (key : Key) (rest a b moves : List ℕ) (seed ticks : ℕ) (level : IsLevel key) (fits : IsBytes rest) (long : 10 ≤ length rest) (size : 6 + length rest < 2 ^ 32) (seed_fits : seed < 2 ^ 32) (ticks_fit : ticks < 2 ^ 32) (moves-is : moves ≡ drop 10 rest) where
+  abbrev solved : Solution
+  solved = record { key = key; flags = slice_index rest 0; start = slice_index rest 1; seed = seed; ticks = ticks; moves = moves }
+
+  fields_fit : HasFields solved
+  fields_fit = record {
+    key = level;
+    flags = omega (arith, fits 0);
+    start = omega (arith, fits 1);
+    seed = seed_fits;
+    ticks = ticks_fit;
+    bytes = subst IsBytes (sym moves-is) (IsBytes-drop 10 rest fits);
+    size = omega (arith, size, ap length moves-is, length-drop 10 rest);
+  }
+
+  pub solution_fits : IsSpelling moves → IsSolution solved
+  solution_fits whole = record { fields = fields_fit; whole = whole }
+
+  -- moves that are cut are those of a solution of these fields
+  pub solution_cut : (offset : ℕ) (e : FileFault) → a ≡ drop 2 rest → b ≡ drop 6 rest → seed ≡ little_number 4 a → ticks ≡ little_number 4 b → MovesFail moves offset e → SolutionFails (key_bytes key ++ rest) offset e
+  solution_cut offset (ShortHeader n) a-is b-is seed-is ticks-is fault = fault
+  solution_cut offset BadSignature a-is b-is seed-is ticks-is fault = fault
+  solution_cut offset (BadRuleset code) a-is b-is seed-is ticks-is fault = fault
+  solution_cut offset (ShortRecord o) a-is b-is seed-is ticks-is fault = fault
+  solution_cut offset (BadSize o) a-is b-is seed-is ticks-is fault = fault
+  solution_cut offset (MoveCut place) a-is b-is seed-is ticks-is fault = record {
+    solved = solved;
+    at = fault.0;
+    fields = fields_fit;
+    body_is = ap (λ (xs : List ℕ). key_bytes key ++ xs) (solved_from rest a b moves seed ticks fits long a-is b-is seed-is ticks-is moves-is);
+    cut = fault.1;
+    place_is = fault.2;
+  }
+  solution_cut offset Memory a-is b-is seed-is ticks-is fault = tt
 
 -- a body of the key of the set
 pub set_from : (body rest : List ℕ) (key : Key) → key_bytes key ≡ take 6 body → key ≡ set_key → rest ≡ drop 6 body → key_bytes set_key ++ rest ≡ body

@@ -2,13 +2,14 @@
 use Rattle.std.proofs.Common.{◌≡◌, ◌⊎◌, ℕ, ◌+◌, ◌≤◌, List, [], ◌∷◌, ◌++◌, length, slice_index, refl, ap, sym, ◌∙◌, subst, arith, append_assoc, append-nil, inl, inr, ⊎_elim, length-append}
 use Rattle.std.specs.List.{flat_map}
 use Rattle.tws_file.specs.declared.file_fault.FileFault.{FileFault}
-use Rattle.tws_file.specs.declared.file_fault.FileFault.TheVariants.{ShortHeader, BadSignature, BadRuleset, ShortRecord, BadSize, Memory}
+use Rattle.tws_file.specs.declared.file_fault.FileFault.TheVariants.{ShortHeader, BadSignature, BadRuleset, ShortRecord, BadSize, MoveCut, Memory}
 use Rattle.tws_file.specs.declared.«ruleset».Ruleset.{Ruleset}
 use Rattle.tws_file.specs.declared.«ruleset».Ruleset.TheVariants.{Lynx, Ms}
 use Rattle.tws_file.specs.Fields.{ruleset_code}
 use Rattle.tws_file.specs.Text.{File, IsFile, IsText, text_of, record_text}
-use Rattle.tws_file.specs.Fault.{IsSigned, StopsAt, HasBadSize, IsRecordCut, HasFault}
+use Rattle.tws_file.specs.Fault.{IsSigned, StopsAt, HasBadSize, IsRecordCut, HasCutMoves, StopsInMoves, HasFault}
 use Rattle.tws_file.proofs.FileText.{text_parts, nothing_begins}
+use Rattle.tws_file.proofs.Beginnings.{moves_or_cut, moves_or_bad, one_cut_place}
 
 -- a whole header
 record HasHeader (bytes : List ℕ) : Type 0 where
@@ -68,6 +69,22 @@ cut_and_bad : (bytes : List ℕ) (o p : ℕ) → HasFault bytes (ShortRecord o) 
 cut_and_bad bytes o p cut bad =
     bad_or_cut bad.0 bad.2 (subst IsRecordCut (one_stop bytes o p cut.0 bad.0 cut.1 bad.1).1 cut.2)
 
+-- ---- where moves are cut
+
+cut_and_moves : (bytes : List ℕ) (o p : ℕ) → HasFault bytes (ShortRecord o) → StopsInMoves bytes p → ⊥
+cut_and_moves bytes o p cut moves =
+    moves_or_cut moves.rest moves.at moves.moves (subst IsRecordCut (one_stop bytes o moves.offset cut.0 moves.rest cut.1 moves.stop).1 cut.2)
+
+bad_and_moves : (bytes : List ℕ) (o p : ℕ) → HasFault bytes (BadSize o) → StopsInMoves bytes p → ⊥
+bad_and_moves bytes o p bad moves =
+    moves_or_bad moves.rest moves.at moves.moves (subst HasBadSize (one_stop bytes o moves.offset bad.0 moves.rest bad.1 moves.stop).1 bad.2)
+
+one_moves_stop : (bytes : List ℕ) (o p : ℕ) → StopsInMoves bytes o → StopsInMoves bytes p → o ≡ p
+one_moves_stop bytes o p first second =
+    let same = one_stop bytes first.offset second.offset first.rest second.rest first.stop second.stop in
+    let at = one_cut_place second.rest first.at second.at (subst (λ (xs : List ℕ). HasCutMoves xs first.at) same.1 first.moves) second.moves in
+    omega (arith, first.place_is, second.place_is, same.0, at)
+
 -- ---- one fault
 
 pub one_fault : (bytes : List ℕ) (d e : FileFault) → HasFault bytes d → HasFault bytes e → d ≡ e
@@ -96,6 +113,17 @@ one_fault bytes (BadSize o) BadSignature p q = absurd (bad_signature bytes (stop
 one_fault bytes (BadSize o) (BadRuleset code) p q = absurd (unknown_ruleset bytes code (stop_header bytes o p.0 p.1).known q)
 one_fault bytes (BadSize m) (ShortRecord n) p q = absurd (cut_and_bad bytes n m q p)
 one_fault bytes (BadSize m) (BadSize n) p q = ap BadSize (one_stop bytes m n p.0 q.0 p.1 q.1).0
+one_fault bytes (ShortHeader m) (MoveCut o) p q = absurd (short_header bytes m (stop_header bytes q.offset q.rest q.stop) p)
+one_fault bytes BadSignature (MoveCut o) p q = absurd (bad_signature bytes (stop_header bytes q.offset q.rest q.stop).signed p)
+one_fault bytes (BadRuleset code) (MoveCut o) p q = absurd (unknown_ruleset bytes code (stop_header bytes q.offset q.rest q.stop).known p)
+one_fault bytes (ShortRecord m) (MoveCut n) p q = absurd (cut_and_moves bytes m n p q)
+one_fault bytes (BadSize m) (MoveCut n) p q = absurd (bad_and_moves bytes m n p q)
+one_fault bytes (MoveCut o) (ShortHeader n) p q = absurd (short_header bytes n (stop_header bytes p.offset p.rest p.stop) q)
+one_fault bytes (MoveCut o) BadSignature p q = absurd (bad_signature bytes (stop_header bytes p.offset p.rest p.stop).signed q)
+one_fault bytes (MoveCut o) (BadRuleset code) p q = absurd (unknown_ruleset bytes code (stop_header bytes p.offset p.rest p.stop).known q)
+one_fault bytes (MoveCut m) (ShortRecord n) p q = absurd (cut_and_moves bytes n m q p)
+one_fault bytes (MoveCut m) (BadSize n) p q = absurd (bad_and_moves bytes n m q p)
+one_fault bytes (MoveCut m) (MoveCut n) p q = ap MoveCut (one_moves_stop bytes m n p q)
 one_fault bytes Memory e p q = absurd p
 one_fault bytes d Memory p q = absurd q
 
@@ -114,4 +142,5 @@ text_without_fault bytes f BadSignature text fault = bad_signature bytes (text_h
 text_without_fault bytes f (BadRuleset code) text fault = unknown_ruleset bytes code (text_header bytes f text).known fault
 text_without_fault bytes f (ShortRecord o) text fault = text_goes_on bytes f o fault.0 text fault.1
 text_without_fault bytes f (BadSize o) text fault = text_goes_on bytes f o fault.0 text fault.1
+text_without_fault bytes f (MoveCut o) text fault = text_goes_on bytes f fault.offset fault.rest text fault.stop
 text_without_fault bytes f Memory text fault = fault

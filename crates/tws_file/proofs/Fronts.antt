@@ -3,23 +3,18 @@ use Rattle.std.proofs.Common.{◌≡◌, ◌≢◌, ℕ, ◌+◌, ◌-◌, ◌<�
 use Rattle.std.specs.List.{flat_map, AllByRecursion}
 use Rattle.std.proofs.Math.Seq.{drop-append_seam}
 use Rattle.std.proofs.lemmas.List.Concat.{flat_map-append}
-use Rattle.byteorder.specs.Endian.{little_bytes, little_number}
-use Rattle.byteorder.specs.Numbers.{little_number-reads_back}
+use Rattle.tws_moves.proofs.Parts.{all_append}
 use Rattle.tws_file.specs.declared.file_fault.FileFault.{FileFault}
-use Rattle.tws_file.specs.declared.file_fault.FileFault.TheVariants.{ShortHeader, BadSignature, BadRuleset, ShortRecord, BadSize, Memory}
+use Rattle.tws_file.specs.declared.file_fault.FileFault.TheVariants.{ShortHeader, BadSignature, BadRuleset, ShortRecord, BadSize, MoveCut, Memory}
 use Rattle.tws_file.specs.declared.«ruleset».Ruleset.{Ruleset}
-use Rattle.tws_file.specs.Text.{File, Record, IsRecord, IsFile, IsText, header_text, text_of, body_of, record_text}
-use Rattle.tws_file.specs.Fault.{HasFault, IsLasting, StopsAt, BeginsNoRecord, IsRecordCut, FailsWith}
+use Rattle.tws_file.specs.Text.{File, Record, IsRecord, IsFile, IsText, header_text, text_of, record_text}
+use Rattle.tws_file.specs.Fault.{HasFault, IsLasting, StopsAt, IsRecordCut, FailsWith}
 use Rattle.tws_file.specs.Reader.{Reading, reading_from, Finishes, HasNoLasting}
 use Rattle.tws_file.specs.Steps.{BeginsWithHeader, StopsAfter, RecordsFail, FailsForGood, IsAt, IsLeft, text_so_far, Advances}
-use Rattle.tws_file.proofs.RecordText.{body_size}
+use Rattle.tws_file.proofs.Beginnings.{cut_begins_none}
 use Rattle.tws_file.proofs.Faults.{one_fault, text_without_fault}
 
 -- ---- more records
-
-AllByRecursion-append : {X : Type 0} (P : X → Type 0) (xs ys : List X) → AllByRecursion P xs → AllByRecursion P ys → AllByRecursion P (xs ++ ys)
-AllByRecursion-append P [] ys p q = q
-AllByRecursion-append P (x ∷ xs) ys p q = (p.0, AllByRecursion-append P xs ys p.1 q)
 
 -- the file with more records behind its own
 abbrev pub with_more : File → List Record → File
@@ -31,7 +26,7 @@ with_more_fits file more fits fits_more = record {
   word_length = fits.word_length;
   extra = fits.extra;
   extra_length = fits.extra_length;
-  records = AllByRecursion-append IsRecord file.records more fits.records fits_more;
+  records = all_append IsRecord file.records more fits.records fits_more;
 }
 
 with_more_text : (file : File) (more : List Record) → text_of (with_more file more) ≡ text_of file ++ flat_map record_text more
@@ -61,6 +56,18 @@ more_fails file bytes offset (BadRuleset code) fits offset-is fault = absurd fau
 more_fails file bytes offset (ShortRecord o) fits offset-is fault = absurd fault
 more_fails file bytes offset (BadSize o) fits offset-is fault =
     inl (tt, (fault.0, stop_behind file bytes fault.0 offset o fits offset-is fault.1, fault.2))
+more_fails file bytes offset (MoveCut place) fits offset-is fault =
+    inl (
+      tt,
+      record {
+        offset = fault.0;
+        rest = fault.1;
+        at = fault.2;
+        stop = stop_behind file bytes fault.1 offset fault.0 fits offset-is fault.3;
+        moves = fault.4;
+        place_is = fault.5;
+      },
+    )
 more_fails file bytes offset Memory fits offset-is fault = inr refl
 
 -- ---- the header
@@ -123,18 +130,6 @@ next_advance file offset bytes rest more fits offset-is fits_more split cut =
     }
 
 -- ---- the end
-
--- a record's text is as long as its size field says
-pub text_size : (rest more : List ℕ) (r : Record) → IsRecord r → rest ≡ record_text r ++ more → (little_number 4 rest ≡ length (body_of r)) × (4 + length (body_of r) ≤ length rest)
-text_size rest more r fits split =
-    let size = length (body_of r) in
-    let regrouped = split ∙ append_assoc (little_bytes 4 size) (body_of r) more in
-    (ap (little_number 4) regrouped ∙ little_number-reads_back 4 size (body_of r ++ more) (body_size r fits).1, omega (arith, ap length split, length-append (body_of r) more))
-
-cut_begins_none : (rest : List ℕ) → IsRecordCut rest → BeginsNoRecord rest
-cut_begins_none rest cut r more fits split =
-    let size = text_size rest more r fits split in
-    ⊎_elim (λ short. omega (arith, size.1)) (λ long. omega (arith, long.2, size.0, size.1)) cut
 
 -- a file, and then bytes that are cut
 pub cut_behind : (file : File) (rest : List ℕ) (offset : ℕ) → IsFile file → offset ≡ length (text_of file) → rest ≢ [] → IsRecordCut rest → HasFault (text_of file ++ rest) (ShortRecord offset)

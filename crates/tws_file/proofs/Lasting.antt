@@ -1,17 +1,15 @@
 -- A fault that lasts is also one of more bytes.
-use Rattle.std.proofs.Common.{◌≡◌, ◌≢◌, ℕ, ◌≤◌, List, [], ◌++◌, length, Result, Err, ap, sym, subst, ◌∙◌, append_assoc, arith, ⊎_elim, length-append}
+use Rattle.std.proofs.Common.{◌≡◌, ◌≢◌, ℕ, ◌≤◌, List, [], ◌∷◌, ◌++◌, length, Result, Err, refl, ap, sym, subst, ◌∙◌, append_assoc, arith, length-append}
 use Rattle.std.proofs.Math.ListN.{get_or-append}
 use Rattle.std.proofs.lemmas.List.{take-append-le}
 use Rattle.byteorder.specs.Endian.{little_number}
 use Rattle.byteorder.specs.Numbers.{little_from-take}
 use Rattle.tws_file.specs.declared.file_fault.FileFault.{FileFault}
-use Rattle.tws_file.specs.declared.file_fault.FileFault.TheVariants.{ShortHeader, BadSignature, BadRuleset, ShortRecord, BadSize, Memory}
+use Rattle.tws_file.specs.declared.file_fault.FileFault.TheVariants.{ShortHeader, BadSignature, BadRuleset, ShortRecord, BadSize, MoveCut, Memory}
 use Rattle.tws_file.specs.Text.{File, text_of}
-use Rattle.tws_file.specs.Fault.{HasFault, IsLasting, BeginsNoRecord, IsBadSize, HasBadSize}
-use Rattle.tws_file.specs.Steps.{IsSize}
+use Rattle.tws_file.specs.Fault.{HasFault, IsLasting, IsBadSize, HasBadSize}
 use Rattle.tws_file.specs.Reader.{Reading, reading, stopped, HasTaken, TakesPiece, Finishes, IsAnswer}
-use Rattle.tws_file.proofs.RecordText.{body_size}
-use Rattle.tws_file.proofs.Fronts.{text_size}
+use Rattle.tws_file.proofs.Beginnings.{bad_begins_none, cut_moves_begin_none, cut_moves-append}
 
 little_number_4-append : (bytes more : List ℕ) → 4 ≤ length bytes → little_number 4 (bytes ++ more) ≡ little_number 4 bytes
 little_number_4-append bytes more long =
@@ -19,18 +17,13 @@ little_number_4-append bytes more long =
     ∙ ap (little_number 4) (take-append-le 4 bytes more long)
     ∙ little_from-take 0 4 4 bytes (omega arith)
 
-bad_or_size : (n : ℕ) → IsBadSize n → IsSize n → ⊥
-bad_or_size n bad size =
-    ⊎_elim (λ none. ⊎_elim (λ a. omega (arith, a.0)) (λ b. omega (arith, b.0)) bad) (λ more. ⊎_elim (λ six. ⊎_elim (λ a. omega (arith, a.1)) (λ b. omega (arith, b.0)) bad) (λ long. ⊎_elim (λ a. omega (arith, a.1)) (λ b. omega (arith, b.1)) bad) more) size
-
-bad_begins_none : (rest : List ℕ) → HasBadSize rest → BeginsNoRecord rest
-bad_begins_none rest bad r more fits split =
-    let size = text_size rest more r fits split in
-    bad_or_size (little_number 4 rest) bad.1 (subst IsSize (sym size.0) (body_size r fits).0)
-
 bad_size-append : (rest more : List ℕ) → HasBadSize rest → HasBadSize (rest ++ more)
 bad_size-append rest more bad =
     (omega (arith, bad.0, length-append rest more), subst IsBadSize (sym (little_number_4-append rest more bad.0)) bad.1)
+
+still_some : (rest more : List ℕ) → rest ≢ [] → rest ++ more ≢ []
+still_some [] more some none = some refl
+still_some (b ∷ rest) more some none = absurd cc
 
 pub lasting-append : (bytes more : List ℕ) (e : FileFault) → IsLasting e → HasFault bytes e → HasFault (bytes ++ more) e
 lasting-append bytes more (ShortHeader n) lasts fault = absurd lasts
@@ -56,6 +49,25 @@ lasting-append bytes more (BadSize o) lasts fault =
       },
       bad,
     )
+lasting-append bytes more (MoveCut place) lasts fault =
+    let rest = fault.rest in
+    let stop = fault.stop in
+    let moves = cut_moves-append rest more fault.at fault.moves in
+    record {
+      offset = fault.offset;
+      rest = rest ++ more;
+      at = fault.at;
+      stop = record {
+        front = stop.front;
+        fits = stop.fits;
+        split = ap (λ (xs : List ℕ). xs ++ more) stop.split ∙ append_assoc (text_of stop.front) rest more;
+        place = stop.place;
+        some = still_some rest more stop.some;
+        no_record = cut_moves_begin_none (rest ++ more) fault.at moves;
+      };
+      moves = moves;
+      place_is = fault.place_is;
+    }
 lasting-append bytes more Memory lasts fault = absurd lasts
 
 -- a reader that has stopped takes every piece
@@ -71,6 +83,9 @@ takes_stopped r (ShortRecord o) bytes piece view taken = absurd (subst (λ (s : 
 takes_stopped r (BadSize o) bytes piece view taken =
     let was = subst (λ (s : Reading). HasTaken s bytes) (sym view) taken in
     rw (← view) (was.0, lasting-append bytes piece (BadSize o) was.0 was.1)
+takes_stopped r (MoveCut place) bytes piece view taken =
+    let was = subst (λ (s : Reading). HasTaken s bytes) (sym view) taken in
+    rw (← view) (was.0, lasting-append bytes piece (MoveCut place) was.0 was.1)
 takes_stopped r Memory bytes piece view taken = tt
 
 pub joined_from : (r : Reading) (bytes : List ℕ) (result : Result File FileFault) → HasTaken r bytes → Finishes r result → IsAnswer bytes result

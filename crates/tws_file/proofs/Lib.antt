@@ -1,14 +1,14 @@
-pub mod Parts
-pub mod Codes
 pub mod Numbers
 pub mod RecordText
+pub mod Beginnings
 pub mod FileText
 pub mod Faults
 pub mod Headers
 pub mod Bodies
 pub mod Sending
 pub mod Listings
-pub mod RecordLines
+pub mod Gathering
 pub mod Pieces
 pub mod Fronts
 pub mod Lasting
+pub mod Packs

@@ -2,11 +2,12 @@
 use Rattle.std.proofs.Common.{◌≡◌, ◌≢◌, ◌⊎◌, ℕ, zero, suc, ◌+◌, ◌^◌, ◌<◌, ◌≤◌, List, [], ◌∷◌, ◌++◌, length, refl, ap, sym, ◌∙◌, arith, append-nil, ⊎_elim, inl, inr, length-append}
 use Rattle.byteorder.specs.Endian.{little_bytes}
 use Rattle.tws_file.specs.declared.key.Key.{Key}
-use Rattle.tws_file.specs.Fields.{IsBytes, IsKey, set_key, key_bytes}
-use Rattle.tws_file.specs.Text.{Solution, Record, pad, set, bare, solution, body_of, record_text, IsLevel, IsSolution, IsSet, IsRecord}
-use Rattle.tws_file.specs.Steps.{IsSize, solved_after_key}
-use Rattle.tws_file.proofs.Parts.{append_parts}
-use Rattle.tws_file.proofs.Codes.{IsCode}
+use Rattle.tws_moves.specs.Bytes.{IsBytes}
+use Rattle.tws_file.specs.Fields.{IsKey, set_key, key_bytes}
+use Rattle.tws_file.specs.Text.{Solution, Record, pad, set, bare, solution, body_of, record_text, IsLevel, HasFields, IsSet, IsRecord}
+use Rattle.tws_file.specs.Steps.{IsSize, IsShaped, solved_after_key}
+use Rattle.tws_moves.proofs.Parts.{append_parts}
+use Rattle.tws_moves.proofs.Codes.{IsCode}
 use Rattle.tws_file.proofs.Numbers.{little_bytes-injective}
 
 -- ---- keys
@@ -28,7 +29,7 @@ key_parts j k x y fj fk e =
 
 -- ---- bodies
 
-solution-injective : (s t : Solution) → IsSolution s → IsSolution t → body_of (solution s) ≡ body_of (solution t) → s ≡ t
+solution-injective : (s t : Solution) → HasFields s → HasFields t → body_of (solution s) ≡ body_of (solution t) → s ≡ t
 solution-injective s t fs ft e =
     let key = key_parts s.key t.key (solved_after_key s) (solved_after_key t) fs.key.fits ft.key.fits e in
     let rest : solved_after_key s ≡ solved_after_key t = key.1 in
@@ -62,7 +63,7 @@ no_level key x y level e = level.named (sym (key_parts set_key key x y set_key_f
 key_alone : (key : Key) → key_bytes key ++ [] ≡ key_bytes key
 key_alone key = append-nil (key_bytes key)
 
-pub body_of-injective : (q r : Record) → IsRecord q → IsRecord r → body_of q ≡ body_of r → q ≡ r
+pub body_of-injective : (q r : Record) → IsShaped q → IsShaped r → body_of q ≡ body_of r → q ≡ r
 body_of-injective pad pad fq fr e = refl
 body_of-injective pad (set y) fq fr e = absurd cc
 body_of-injective pad (bare k) fq fr e = absurd cc
@@ -89,7 +90,7 @@ body_of-injective (solution s) (solution t) fq fr e = ap solution (solution-inje
 set_size : (rest : List ℕ) → IsSet rest → (length rest ≡ 0) ⊎ (10 ≤ length rest)
 set_size rest fits = ⊎_elim (λ none. inl (ap length none)) inr fits.long
 
-pub body_size : (r : Record) → IsRecord r → IsSize (length (body_of r)) × (length (body_of r) < 2 ^ 32)
+pub body_size : (r : Record) → IsShaped r → IsSize (length (body_of r)) × (length (body_of r) < 2 ^ 32)
 body_size pad fits = (inl refl, omega arith)
 body_size (set rest) fits =
     (⊎_elim (λ e. inr (inl (omega arith))) (λ e. inr (inr (omega arith))) (set_size rest fits), omega (arith, fits.size))
@@ -99,9 +100,18 @@ body_size (solution s) fits =
     let len : length (body_of (solution s)) ≡ 16 + length s.moves = omega (arith, fits.key.fits.password_length, length-append s.key.password (solved_after_key s)) in
     (inr (inr (omega (arith, len))), omega (arith, len, fits.size))
 
-pub record_texts : IsCode IsRecord record_text
-record_texts q r x y fq fr e =
+pub shaped_texts : IsCode IsShaped record_text
+shaped_texts q r x y fq fr e =
     let size = append_parts (little_bytes 4 (length (body_of q))) (little_bytes 4 (length (body_of r))) (body_of q ++ x) (body_of r ++ y) refl e in
     let same = little_bytes-injective 4 (length (body_of q)) (length (body_of r)) (body_size q fq).1 (body_size r fr).1 size.0 in
     let parts = append_parts (body_of q) (body_of r) x y same size.1 in
     (body_of-injective q r fq fr parts.0, parts.1)
+
+pub shape : (r : Record) → IsRecord r → IsShaped r
+shape pad fits = tt
+shape (set rest) fits = fits
+shape (bare key) fits = fits
+shape (solution s) fits = fits.fields
+
+pub record_texts : IsCode IsRecord record_text
+record_texts q r x y fq fr e = shaped_texts q r x y (shape q fq) (shape r fr) e

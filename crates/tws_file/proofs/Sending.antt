@@ -1,5 +1,5 @@
 -- A text that goes out piece by piece.
-use Rattle.std.proofs.Common.{ℕ, ◌-◌, List, [], ◌++◌, length, take, drop, Option, Some, None, Result, Ok, Err, OnErr, refl, subst, ap, sym, ◌∙◌, append_assoc, append-nil, take-append-drop}
+use Rattle.std.proofs.Common.{◌≡◌, ℕ, ◌-◌, List, [], ◌++◌, length, take, drop, Option, Some, None, Result, Ok, Err, OnErr, refl, subst, ap, sym, ◌∙◌, append_assoc, append-nil, take-append-drop}
 use Rattle.std.proofs.lemmas.List.{take_rest}
 use Rattle.std.specs.Io.KnownBytes.{Appends}
 use Rattle.tws_file.specs.Output.{AppendsFront}
@@ -67,3 +67,41 @@ Sends-more old mid new text rest n s more = record {
   cut = s.cut ∙ ap (λ (xs : List ℕ). s.sent ++ xs) (sym (take-append-drop n rest) ∙ ap (λ (xs : List ℕ). take n rest ++ xs) (sym (take_rest rest n))) ∙ sym (append_assoc s.sent (take n rest) (take (length rest - n) (drop n rest)));
   appends = Appends-then old mid new s.sent (take n rest) s.appends more;
 }
+
+-- ---- a text of two parts, behind one that was gathered
+
+module _ (old mid new : Option (List ℕ)) (start first second pushed buffer : List ℕ) (pushed-is : pushed ≡ start ++ first) where
+  two_parts : pushed ++ second ≡ start ++ (first ++ second)
+  two_parts = ap (λ (x : List ℕ). x ++ second) pushed-is ∙ append_assoc start first second
+
+  -- a front of the first part has gone out
+  pub first_front : AppendsFront old new pushed → AppendsFront old new (start ++ (first ++ second))
+  first_front f = subst (λ (x : List ℕ). AppendsFront old new x) two_parts (front_more old new pushed f second)
+
+  -- the second part follows
+  pub both_sent : Sends old mid pushed buffer → (left : List ℕ) → Sends mid new (buffer ++ second) left → Sends old new (start ++ (first ++ second)) left
+  both_sent s left t = subst (λ (x : List ℕ). Sends old new x left) two_parts (Sends-then old mid new (pushed ++ second) (buffer ++ second) (Sends-push old mid new pushed buffer s second) left t)
+
+  pub both_front : Sends old mid pushed buffer → AppendsFront mid new (buffer ++ second) → AppendsFront old new (start ++ (first ++ second))
+  both_front s f = subst (λ (x : List ℕ). AppendsFront old new x) two_parts (front_then old mid new (pushed ++ second) (buffer ++ second) (Sends-push old mid new pushed buffer s second) f)
+
+-- ---- a text that has gone out, and then another one
+
+module _ (old mid new : Option (List ℕ)) (first second written : List ℕ) (written-is : written ≡ first) where
+  pub first_alone : AppendsFront old mid written → AppendsFront old mid (first ++ second)
+  first_alone f = front_more old mid first (subst (λ (x : List ℕ). AppendsFront old mid x) written-is f) second
+
+  pub sent_in_turn : Appends old mid written → Appends mid new second → Sends old new (first ++ second) []
+  sent_in_turn p q = record {
+    sent = first ++ second;
+    cut = sym (append-nil (first ++ second));
+    appends = Appends-then old mid new first second (subst (λ (x : List ℕ). Appends old mid x) written-is p) q;
+  }
+
+  pub front_in_turn : Appends old mid written → AppendsFront mid new second → AppendsFront old new (first ++ second)
+  front_in_turn p f = record {
+    front = first ++ f.front;
+    rest = f.rest;
+    cut = ap (λ (x : List ℕ). first ++ x) f.cut ∙ sym (append_assoc first f.front f.rest);
+    appends = Appends-then old mid new first f.front (subst (λ (x : List ℕ). Appends old mid x) written-is p) f.appends;
+  }

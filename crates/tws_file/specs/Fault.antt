@@ -1,10 +1,11 @@
 -- Which fault bytes have that no file's text is. docs/FORMATS.md has the same as a table.
 use Rattle.std.specs.Prelude.{◌≡◌, ◌≢◌, ◌⊎◌, ℕ, ◌+◌, ◌<◌, ◌≤◌, List, [], ◌++◌, length, slice_index, take, Result, MatchResult}
 use Rattle.byteorder.specs.Endian.{little_number}
+use Rattle.tws_moves.specs.Spelling.{IsCutAt}
 use Rattle.tws_file.specs.declared.file_fault.FileFault.{FileFault}
-use Rattle.tws_file.specs.declared.file_fault.FileFault.TheVariants.{ShortHeader, BadSignature, BadRuleset, ShortRecord, BadSize, Memory}
+use Rattle.tws_file.specs.declared.file_fault.FileFault.TheVariants.{ShortHeader, BadSignature, BadRuleset, ShortRecord, BadSize, MoveCut, Memory}
 use Rattle.tws_file.specs.Fields.{signature}
-use Rattle.tws_file.specs.Text.{File, Record, IsFile, IsRecord, text_of, record_text}
+use Rattle.tws_file.specs.Text.{File, Record, Solution, solution, IsFile, IsRecord, HasFields, text_of, record_text}
 
 -- ---- the header
 
@@ -49,6 +50,24 @@ HasBadSize rest = (4 ≤ length rest) × IsBadSize (little_number 4 rest)
 abbrev pub IsRecordCut : List ℕ → Type 0
 IsRecordCut rest = (length rest < 4) ⊎ ((4 ≤ length rest) × ¬ IsBadSize (little_number 4 rest) × (length rest < 4 + little_number 4 rest))
 
+-- The bytes begin with what is a solution's text but for its moves, which are cut at this place in them.
+pub record HasCutMoves (bytes : List ℕ) (at : ℕ) : Type 0 where
+  pub solved : Solution
+  pub more : List ℕ
+  pub fields : HasFields solved
+  pub split : bytes ≡ record_text (solution solved) ++ more
+  pub cut : IsCutAt solved.moves at
+
+-- The records stop before a solution whose moves are cut, at this place in the bytes: behind four bytes of size and
+-- sixteen of fields.
+pub record StopsInMoves (bytes : List ℕ) (place : ℕ) : Type 0 where
+  pub offset : ℕ
+  pub rest : List ℕ
+  pub at : ℕ
+  pub stop : StopsAt bytes offset rest
+  pub moves : HasCutMoves rest at
+  pub place_is : place ≡ offset + 20 + at
+
 -- ---- the fault
 
 abbrev pub HasFault : List ℕ → FileFault → Type 0
@@ -57,6 +76,7 @@ HasFault bytes BadSignature = (8 ≤ length bytes) × (take 4 bytes ≢ signatur
 HasFault bytes (BadRuleset code) = IsSigned bytes × (code ≡ slice_index bytes 4) × IsUnknownRuleset code
 HasFault bytes (ShortRecord offset) = (rest : List ℕ) × StopsAt bytes offset rest × IsRecordCut rest
 HasFault bytes (BadSize offset) = (rest : List ℕ) × StopsAt bytes offset rest × HasBadSize rest
+HasFault bytes (MoveCut place) = StopsInMoves bytes place
 -- want of memory is no fault of the bytes
 HasFault bytes Memory = ⊥
 
@@ -67,6 +87,7 @@ IsLasting BadSignature = Unit {0}
 IsLasting (BadRuleset code) = Unit {0}
 IsLasting (ShortRecord offset) = ⊥
 IsLasting (BadSize offset) = Unit {0}
+IsLasting (MoveCut place) = Unit {0}
 IsLasting Memory = ⊥
 
 -- a reading ended so: with the fault of the bytes, or since memory ran out

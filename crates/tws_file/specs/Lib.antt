@@ -8,3 +8,4 @@ pub mod Steps
 pub mod Reader
 pub mod Listing
 pub mod Output
+pub mod Packing

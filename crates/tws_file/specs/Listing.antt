@@ -1,8 +1,13 @@
--- The listing of a file: a line for the header, one for each record, and one for their number.
-use Rattle.std.specs.Prelude.{ℕ, ◌/◌, ◌%◌, false, List, [], ◌∷◌, ◌++◌, length, codes, decimal, if◌then◌else◌}
+-- The listing of a file: a line for the header, one for each record, one for each move if they are asked for, and one for the
+-- number of records.
+use Rattle.std.specs.Prelude.{ℕ, ◌/◌, ◌%◌, Bool, true, false, List, [], ◌∷◌, ◌++◌, length, codes, decimal, if◌then◌else◌}
 use Rattle.std.specs.List.{flat_map, list_all}
 use Rattle.std.specs.Char.{is_ascii_alphabetic}
 use Rattle.std.specs.Fmt.{digit_glyph}
+use Rattle.tws_moves.specs.declared.act.Act.{Act}
+use Rattle.tws_moves.specs.declared.act.Act.TheVariants.{Step, Code}
+use Rattle.tws_moves.specs.Move.{Move}
+use Rattle.tws_moves.specs.Spelling.{moves_in}
 use Rattle.tws_file.specs.declared.key.Key.{Key}
 use Rattle.tws_file.specs.declared.«ruleset».Ruleset.{Ruleset}
 use Rattle.tws_file.specs.declared.«ruleset».Ruleset.TheVariants.{Lynx, Ms}
@@ -38,6 +43,10 @@ line text = text ++ 10 ∷ []
 abbrev pub header_line : Ruleset → List ℕ → List ℕ → List ℕ
 header_line kind word extra = line (codes "ruleset " ++ ruleset_name kind ++ codes " word " ++ hex word ++ codes " extra " ++ decimal (length extra))
 
+-- what a solution's line says up to the time
+abbrev pub solved_words : Key → ℕ → List ℕ
+solved_words key ticks = codes "level " ++ key_text key ++ codes " ticks " ++ decimal ticks
+
 -- what a solution's line says behind the time, up to the count of bytes of moves
 abbrev pub details_line : (flags start seed bytes : ℕ) → List ℕ
 details_line flags start seed bytes = line (codes " flags " ++ hex (flags ∷ []) ++ codes " start " ++ hex (start ∷ []) ++ codes " seed " ++ decimal seed ++ codes " bytes " ++ decimal bytes)
@@ -46,10 +55,27 @@ abbrev pub record_line : Record → List ℕ
 record_line pad = line (codes "pad")
 record_line (set rest) = line (codes "set " ++ decimal (length rest))
 record_line (bare key) = line (codes "level " ++ key_text key)
-record_line (solution s) = codes "level " ++ key_text s.key ++ codes " ticks " ++ decimal s.ticks ++ details_line s.flags s.start s.seed (length s.moves)
+record_line (solution s) = solved_words s.key s.ticks ++ details_line s.flags s.start s.seed (length s.moves)
+
+-- what a move's line says behind its tick
+abbrev pub act_line : Act → List ℕ
+act_line (Step direction) = line (codes " step " ++ decimal direction)
+act_line (Code code) = line (codes " code " ++ decimal code)
+
+abbrev pub move_line : Move → List ℕ
+move_line m = codes " at " ++ decimal m.at ++ act_line m.act
+
+-- the moves of a record, if they are asked for
+abbrev pub move_lines : Bool → Record → List ℕ
+move_lines true (solution s) = flat_map move_line (moves_in s.moves)
+move_lines with_moves r = []
+
+-- a record's line, and then those of its moves
+abbrev pub record_lines : Bool → Record → List ℕ
+record_lines with_moves r = record_line r ++ move_lines with_moves r
 
 abbrev pub count_line : ℕ → List ℕ
 count_line n = line (codes "records " ++ decimal n)
 
-abbrev pub listing_of : File → List ℕ
-listing_of file = header_line file.ruleset file.word file.extra ++ flat_map record_line file.records ++ count_line (length file.records)
+abbrev pub listing_of : Bool → File → List ℕ
+listing_of with_moves file = header_line file.ruleset file.word file.extra ++ flat_map (record_lines with_moves) file.records ++ count_line (length file.records)

@@ -1,7 +1,7 @@
 -- A reading of a file that comes piece by piece.
 use Rattle.std.specs.Prelude.{◌≡◌, ℕ, ◌+◌, ◌<◌, ◌≤◌, ◌^◌, List, ◌++◌, length, Option, None, Some, Result, Ok, Err}
 use Rattle.tws_file.specs.declared.file_fault.FileFault.{FileFault}
-use Rattle.tws_file.specs.declared.file_fault.FileFault.TheVariants.{ShortHeader, BadSignature, BadRuleset, ShortRecord, BadSize, Memory}
+use Rattle.tws_file.specs.declared.file_fault.FileFault.TheVariants.{ShortHeader, BadSignature, BadRuleset, ShortRecord, BadSize, MoveCut, Memory}
 use Rattle.tws_file.specs.declared.reader.Reader.TheInside.{Inside}
 use Rattle.tws_file.specs.Text.{File, IsText}
 use Rattle.tws_file.specs.Fault.{HasFault, IsLasting}
@@ -38,6 +38,7 @@ PushFails bytes piece (ShortRecord offset) new = ⊥
 PushFails bytes piece BadSignature new = (new ≡ stopped BadSignature) × HasFault (bytes ++ piece) BadSignature
 PushFails bytes piece (BadRuleset code) new = (new ≡ stopped (BadRuleset code)) × HasFault (bytes ++ piece) (BadRuleset code)
 PushFails bytes piece (BadSize offset) new = (new ≡ stopped (BadSize offset)) × HasFault (bytes ++ piece) (BadSize offset)
+PushFails bytes piece (MoveCut place) new = (new ≡ stopped (MoveCut place)) × HasFault (bytes ++ piece) (MoveCut place)
 
 abbrev pub Pushes : Reading → List ℕ → Result (Unit {0}) FileFault → Reading → Type 0
 Pushes (reading bytes) piece (Ok done) new = new ≡ reading (bytes ++ piece)
@@ -52,6 +53,7 @@ TakesPiece (Err BadSignature) bytes new = HasTaken new bytes
 TakesPiece (Err (BadRuleset code)) bytes new = HasTaken new bytes
 TakesPiece (Err (ShortRecord offset)) bytes new = HasTaken new bytes
 TakesPiece (Err (BadSize offset)) bytes new = HasTaken new bytes
+TakesPiece (Err (MoveCut place)) bytes new = HasTaken new bytes
 TakesPiece (Err Memory) bytes new = Unit {0}
 
 -- what a reading of all the bytes answers

@@ -4,11 +4,12 @@ use Rattle.std.specs.List.{flat_map, AllByRecursion}
 use Rattle.std.specs.Io.KnownBytes.{Appends}
 use Rattle.byteorder.specs.Endian.{little_bytes}
 use Rattle.tws_file.specs.declared.file_fault.FileFault.{FileFault}
-use Rattle.tws_file.specs.declared.file_fault.FileFault.TheVariants.{ShortHeader, BadSignature, BadRuleset, ShortRecord, BadSize, Memory}
+use Rattle.tws_file.specs.declared.file_fault.FileFault.TheVariants.{ShortHeader, BadSignature, BadRuleset, ShortRecord, BadSize, MoveCut, Memory}
 use Rattle.tws_file.specs.declared.«ruleset».Ruleset.{Ruleset}
-use Rattle.tws_file.specs.Fields.{IsBytes}
-use Rattle.tws_file.specs.Text.{Solution, Record, File, IsRecord, IsFile, header_text, record_text, text_of}
-use Rattle.tws_file.specs.Fault.{BeginsNoRecord, IsRecordCut, HasBadSize, HasFault, IsLasting}
+use Rattle.tws_moves.specs.Bytes.{IsBytes}
+use Rattle.tws_moves.specs.Spelling.{IsCutAt}
+use Rattle.tws_file.specs.Text.{Solution, Record, pad, set, bare, solution, File, IsLevel, IsSet, IsRecord, HasFields, IsFile, body_of, header_text, record_text, text_of}
+use Rattle.tws_file.specs.Fault.{BeginsNoRecord, IsRecordCut, HasBadSize, HasCutMoves, HasFault, IsLasting}
 
 -- the bytes are a header of these fields, and then the rest
 pub record BeginsWithHeader (bytes : List ℕ) (kind : Ruleset) (word extra rest : List ℕ) : Type 0 where
@@ -22,10 +23,47 @@ pub record BeginsWithHeader (bytes : List ℕ) (kind : Ruleset) (word extra rest
 abbrev pub IsSize : ℕ → Type 0
 IsSize n = (n ≡ 0) ⊎ (n ≡ 6) ⊎ (16 ≤ n)
 
+-- a record in all but whether its moves are whole
+abbrev pub IsShaped : Record → Type 0
+IsShaped pad = Unit {0}
+IsShaped (set rest) = IsSet rest
+IsShaped (bare key) = IsLevel key
+IsShaped (solution s) = HasFields s
+
+-- the body of a solution but for its moves, which are cut; they begin at the offset
+pub record IsCutSolution (body : List ℕ) (offset place : ℕ) : Type 0 where
+  pub solved : Solution
+  pub at : ℕ
+  pub fields : HasFields solved
+  pub body_is : body_of (solution solved) ≡ body
+  pub cut : IsCutAt solved.moves at
+  pub place_is : place ≡ offset + at
+
+-- no solution was read from this body, whose moves begin at the offset
+abbrev pub SolutionFails : List ℕ → ℕ → FileFault → Type 0
+SolutionFails body offset (ShortHeader n) = ⊥
+SolutionFails body offset BadSignature = ⊥
+SolutionFails body offset (BadRuleset code) = ⊥
+SolutionFails body offset (ShortRecord o) = ⊥
+SolutionFails body offset (BadSize o) = ⊥
+SolutionFails body offset (MoveCut place) = IsCutSolution body offset place
+SolutionFails body offset Memory = Unit {0}
+
+-- moves were not kept, which begin at the offset
+abbrev pub MovesFail : List ℕ → ℕ → FileFault → Type 0
+MovesFail moves offset (ShortHeader n) = ⊥
+MovesFail moves offset BadSignature = ⊥
+MovesFail moves offset (BadRuleset code) = ⊥
+MovesFail moves offset (ShortRecord o) = ⊥
+MovesFail moves offset (BadSize o) = ⊥
+MovesFail moves offset (MoveCut place) = (at : ℕ) × IsCutAt moves at × (place ≡ offset + at)
+MovesFail moves offset Memory = Unit {0}
+
 -- no record was read from these bytes, which begin at this offset
 abbrev pub RecordFails : List ℕ → ℕ → FileFault → Type 0
 RecordFails bytes offset (ShortRecord o) = ⊥
 RecordFails bytes offset (BadSize o) = (o ≡ offset) × HasBadSize bytes
+RecordFails bytes offset (MoveCut place) = (at : ℕ) × HasCutMoves bytes at × (place ≡ offset + 20 + at)
 RecordFails bytes offset Memory = Unit {0}
 RecordFails bytes offset (ShortHeader n) = ⊥
 RecordFails bytes offset BadSignature = ⊥
@@ -43,11 +81,19 @@ pub record StopsAfter (bytes : List ℕ) (start offset : ℕ) (rest : List ℕ) 
 -- the bytes, which begin at the offset start, are no texts of records
 abbrev pub RecordsFail : List ℕ → ℕ → FileFault → Type 0
 RecordsFail bytes start (ShortRecord o) = ⊥
+RecordsFail bytes start (MoveCut place) = (o : ℕ) × (rest : List ℕ) × (at : ℕ) × StopsAfter bytes start o rest × HasCutMoves rest at × (place ≡ o + 20 + at)
 RecordsFail bytes start (BadSize o) = (rest : List ℕ) × StopsAfter bytes start o rest × HasBadSize rest
 RecordsFail bytes start Memory = Unit {0}
 RecordsFail bytes start (ShortHeader n) = ⊥
 RecordsFail bytes start BadSignature = ⊥
 RecordsFail bytes start (BadRuleset code) = ⊥
+
+-- what of a record may be long: all behind its key, or a solution's moves
+abbrev pub tail_of : Record → List ℕ
+tail_of pad = []
+tail_of (set rest) = rest
+tail_of (bare key) = []
+tail_of (solution s) = s.moves
 
 -- a solution's body behind its key
 abbrev pub solved_after_key : Solution → List ℕ

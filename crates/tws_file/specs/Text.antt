@@ -5,7 +5,9 @@ use Rattle.std.specs.List.{flat_map, AllByRecursion}
 use Rattle.byteorder.specs.Endian.{little_bytes}
 use Rattle.tws_file.specs.declared.key.Key.{Key}
 use Rattle.tws_file.specs.declared.«ruleset».Ruleset.{Ruleset}
-use Rattle.tws_file.specs.Fields.{IsBytes, IsKey, signature, ruleset_code, set_key, key_bytes}
+use Rattle.tws_moves.specs.Bytes.{IsBytes}
+use Rattle.tws_moves.specs.Spelling.{IsSpelling}
+use Rattle.tws_file.specs.Fields.{IsKey, signature, ruleset_code, set_key, key_bytes}
 
 -- how a level was solved
 pub record Solution : Type 0 where
@@ -57,15 +59,21 @@ pub record IsLevel (key : Key) : Type 0 where
   pub fits : IsKey key
   pub named : key ≢ set_key
 
-pub record IsSolution (s : Solution) : Type 0 where
+-- the fields of a solution fit, whatever its moves are
+pub record HasFields (s : Solution) : Type 0 where
   pub key : IsLevel s.key
   pub flags : s.flags < 2 ^ 8
   pub start : s.start < 2 ^ 8
   pub seed : s.seed < 2 ^ 32
   pub ticks : s.ticks < 2 ^ 32
-  pub moves : IsBytes s.moves
+  pub bytes : IsBytes s.moves
   -- the body has at least 16 bytes, and its size fits four
   pub size : 16 + length s.moves < 2 ^ 32
+
+pub record IsSolution (s : Solution) : Type 0 where
+  pub fields : HasFields s
+  -- no move is cut
+  pub whole : IsSpelling s.moves
 
 -- a record of the set has the key alone, or at least ten bytes more
 pub record IsSet (rest : List ℕ) : Type 0 where

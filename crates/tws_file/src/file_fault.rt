@@ -24,6 +24,9 @@ pub enum FileFault {
     /// No record has the size that stands here. The offset of that size field.
     #[error("BadSize({0})")]
     BadSize(u64),
+    /// A solution's moves end inside a move, or inside three of them. The offset of that move's first byte.
+    #[error("MoveCut({0})")]
+    MoveCut(u64),
     /// Memory ran out, which says nothing of the bytes.
     #[error("Memory")]
     Memory,

@@ -1,8 +1,11 @@
 //! What holds of every file's text and of every fault, whoever reads. These functions do nothing: each contract is a theorem.
 
-ghost use Rattle.std.specs.Prelude.{◌≡◌, ℕ, List};
+ghost use Rattle.std.specs.Prelude.{◌≡◌, ◌≤◌, ℕ, List, length};
+ghost use Rattle.tws_moves.specs.Spelling.{moves_in};
+ghost use Rattle.tws_moves.specs.Shortest.{IsShortest};
 ghost use Rattle.tws_file.specs.declared.file_fault.FileFault as fault;
-ghost use Rattle.tws_file.specs.Text.{File, IsText};
+ghost use Rattle.tws_file.specs.Text.{File, Solution, IsSolution, IsFile, IsText, text_of};
+ghost use Rattle.tws_file.specs.Packing.{packed_solution, packed_file};
 ghost use Rattle.tws_file.specs.Fault.{HasFault};
 
 /// Bytes are the text of at most one file.
@@ -18,4 +21,13 @@ pub fn one_fault()
 /// The text of a file has no fault.
 pub fn text_without_fault()
     ensures { (bytes : List ℕ) (f : File) (e : fault.FileFault) → IsText bytes f → HasFault bytes e → ⊥ }
+{}
+
+/// A packed file has a text, whose solutions' moves are those of the file, each in the fewest bytes.
+pub fn packed_files()
+    ensures fits { (f : File) → IsFile f → IsFile (packed_file f) }
+    ensures same { (s : Solution) → IsSolution s → moves_in (packed_solution s).moves ≡ moves_in s.moves }
+    ensures shortest { (s : Solution) → IsSolution s → IsShortest (packed_solution s).moves (moves_in s.moves) }
+    ensures no_longer { (f : File) → IsFile f → length (text_of (packed_file f)) ≤ length (text_of f) }
+    ensures once { (f : File) → IsFile f → packed_file (packed_file f) ≡ packed_file f }
 {}

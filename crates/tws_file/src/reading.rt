@@ -1,11 +1,12 @@
 //! How the bytes of records are read.
 
-ghost use Rattle.std.specs.Prelude.{◌≡◌, ◌+◌, ◌<◌, ◌≤◌, ◌^◌, ◌++◌, ◌↔◌, length, take, drop, IsTrue, IfOk, IfErr, IfSome, IfNone};
+ghost use Rattle.std.specs.Prelude.{◌≡◌, ◌+◌, ◌<◌, ◌≤◌, ◌^◌, ◌++◌, ◌↔◌, length, take, drop, IsTrue, OnOk, IfOk, IfErr, IfSome, IfNone};
 ghost use Rattle.std.specs.List.{flat_map, AllByRecursion};
+ghost use Rattle.tws_moves.specs.Spelling.{IsSpelling};
 ghost use Rattle.tws_file.specs.Fields.{key_bytes, IsKey};
 ghost use Rattle.tws_file.specs.Text.{IsRecord, IsLevel, body_of, record_text, solution};
 ghost use Rattle.tws_file.specs.Fault.{IsRecordCut};
-ghost use Rattle.tws_file.specs.Steps.{IsSize, RecordFails, RecordsFail, solved_after_key};
+ghost use Rattle.tws_file.specs.Steps.{IsSize, MovesFail, SolutionFails, RecordFails, RecordsFail, solved_after_key};
 ghost use Rattle.tws_file.specs.Record.{record_of, records_of};
 
 use crate::bytes::Bytes;
@@ -14,7 +15,8 @@ use crate::key::Key;
 use crate::record::Record;
 use crate::solution::Solution;
 use byteorder::{ByteOrder, LittleEndian};
-use std::alloc::{AllocError, Allocator};
+use std::alloc::Allocator;
+use tws_moves::{MovesFault, check_moves};
 
 // The key that a body begins with.
 fn read_key(body: &[u8]) -> Key
@@ -28,32 +30,58 @@ fn read_key(body: &[u8]) -> Key
     }
 }
 
-// A solution from what follows its key.
-fn read_solution<A: Allocator>(alloc: A, key: Key, rest: &[u8]) -> Result<Solution<A>, AllocError>
+// The bytes of moves, which stand at the offset, if no move is cut.
+fn keep_moves<A: Allocator>(alloc: A, offset: u64, bytes: &[u8]) -> Result<Bytes<A>, FileFault>
+    requires short { length bytes.now < 2 ^ 32 }
+    requires room { offset + length bytes.now < 2 ^ 64 }
+    ensures bytes { IfOk result (λ moves. moves ≡ bytes.now) }
+    ensures whole { OnOk result (IsSpelling bytes.now) }
+    ensures fault { IfErr result (MovesFail bytes.now offset) }
+{
+    match check_moves(bytes) {
+        Ok(_) => Ok(Bytes::of(Vec::from_slice(alloc, bytes)?)),
+        Err(MovesFault::Cut { at }) => Err(FileFault::MoveCut(offset + at)),
+        Err(MovesFault::Memory) => Err(FileFault::Memory),
+    }
+}
+
+// A solution from what follows its key, which stands at the offset.
+fn read_solution<A: Allocator>(
+    alloc: A,
+    key: Key,
+    offset: u64,
+    rest: &[u8],
+) -> Result<Solution<A>, FileFault>
     requires key { IsLevel key }
     requires long { 10 ≤ length rest.now }
     requires size { 6 + length rest.now < 2 ^ 32 }
+    requires room { offset + length rest.now < 2 ^ 64 }
     ensures key { IfOk result (λ s. s.key ≡ key) }
     ensures bytes { IfOk result (λ s. solved_after_key s ≡ rest.now) }
     ensures fits { IfOk result (λ s. IsRecord (solution s)) }
+    ensures fault { IfErr result (SolutionFails (key_bytes key ++ rest.now) (offset + 10)) }
 {
-    let moves = Bytes::of(Vec::from_slice(alloc, &rest[10..])?);
+    let seed = LittleEndian::read_u32(&rest[2..]);
+    let ticks = LittleEndian::read_u32(&rest[6..]);
+    let moves = keep_moves(alloc, offset + 10, &rest[10..])?;
     Ok(Solution {
         key,
         flags: rest[0],
         start: rest[1],
-        seed: LittleEndian::read_u32(&rest[2..]),
-        ticks: LittleEndian::read_u32(&rest[6..]),
+        seed,
+        ticks,
         moves,
     })
 }
 
-// The record with this body.
-fn read_body<A: Allocator>(alloc: A, body: &[u8]) -> Result<Record<A>, AllocError>
+// The record with this body, which stands at the offset.
+fn read_body<A: Allocator>(alloc: A, offset: u64, body: &[u8]) -> Result<Record<A>, FileFault>
     requires size { IsSize (length body.now) }
     requires fits { length body.now < 2 ^ 32 }
+    requires room { offset + length body.now < 2 ^ 64 }
     ensures record { IfOk result (λ r. IsRecord (record_of r)) }
     ensures bytes { IfOk result (λ r. body_of (record_of r) ≡ body.now) }
+    ensures fault { IfErr result (SolutionFails body.now (offset + 16)) }
 {
     if body.is_empty() {
         return Ok(Record::Pad);
@@ -67,7 +95,7 @@ fn read_body<A: Allocator>(alloc: A, body: &[u8]) -> Result<Record<A>, AllocErro
     if rest.is_empty() {
         return Ok(Record::Bare { key });
     }
-    Ok(Record::Solution(read_solution(alloc, key, rest)?))
+    Ok(Record::Solution(read_solution(alloc, key, offset + 6, rest)?))
 }
 
 // Whether a record can have this size.
@@ -83,6 +111,7 @@ fn read_record<A: Allocator>(
     offset: u64,
     bytes: &[u8],
 ) -> Result<Option<(Record<A>, &[u8])>, FileFault>
+    requires { offset + length bytes.now < 2 ^ 64 }
     ensures record { IfOk result (λ r. IfSome r (λ one. IsRecord (record_of one.0))) }
     ensures bytes { IfOk result (λ r. IfSome r (λ one. bytes.now ≡ record_text (record_of one.0) ++ one.1.now)) }
     ensures cut { IfOk result (λ r. IfNone r (IsRecordCut bytes.now)) }
@@ -100,7 +129,7 @@ fn read_record<A: Allocator>(
         return Ok(None);
     }
     let (body, rest) = rest.split_at(size);
-    Ok(Some((read_body(alloc, body)?, rest)))
+    Ok(Some((read_body(alloc, offset + 4, body)?, rest)))
 }
 
 // The records that stand from the offset on, up to one that is cut, and the bytes from there.

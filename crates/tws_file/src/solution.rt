@@ -1,11 +1,16 @@
+ghost use Rattle.std.specs.Prelude.{◌≡◌, ◌++◌, length, IfOk};
+ghost use Rattle.tws_file.specs.Text.{solution, body_of};
+
+use crate::buffer::Buffer;
 use crate::bytes::Bytes;
 use crate::key::Key;
-use std::alloc::{Allocator, Global};
+use std::alloc::{AllocError, Allocator, Global};
 use std::marker::Model;
 
 /// How a level was solved.
 ///
-/// Each value has a text: the key is not the one of the set of levels, and the body's size fits four bytes.
+/// Each value has a text: the key is not the one of the set of levels, the moves are whole, and the body's size fits
+/// four bytes.
 #[derive(Drop)]
 #[derive_where(Debug)]
 pub struct Solution<A: Allocator = Global> {
@@ -33,4 +38,40 @@ impl<A: Allocator> Model for Solution<A> {
     ghost view = { solution_of };
 
     ghost invariant = { λ s. IsSolution (solution_of s) };
+}
+
+impl<A: Allocator> Solution<A> {
+    /// The body up to the moves.
+    pub(crate) fn fields(&self) -> Buffer<16>
+        ensures bytes { result ++ self.now.moves ≡ body_of (solution self.now) }
+        ensures size { length result ≡ 16 }
+    {
+        let mut fields = Buffer::new();
+        fields.push_key(self.key);
+        fields.push(&[self.flags, self.start]);
+        fields.push_u32(self.seed);
+        fields.push_u32(self.ticks);
+        fields
+    }
+
+    /// How many bytes the body has, which the record's size field says.
+    pub fn body_len(&self) -> u32
+        ensures { result ≡ length (body_of (solution self.now)) }
+    {
+        16 + self.moves.len() as u32
+    }
+
+    /// The body of the record, which is all behind its size field.
+    ///
+    /// # Errors
+    ///
+    /// Where a growth was refused.
+    pub fn body<B: Allocator>(&self, alloc: B) -> Result<Vec<u8, B>, AllocError>
+        ensures { IfOk result (λ body. body.items ≡ body_of (solution self.now)) }
+    {
+        let mut body = Vec::with_capacity(alloc, self.body_len() as usize)?;
+        body.extend_from_slice(self.fields().as_slice())?;
+        body.extend_from_slice(self.moves.as_slice())?;
+        Ok(body)
+    }
 }

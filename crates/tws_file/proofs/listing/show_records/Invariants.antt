@@ -1,9 +1,8 @@
-use Rattle.std.proofs.Common.{◌++◌, take, flat_map, string_bytes}
-use Rattle.tws_file.specs.Record.{records_of}
-use Rattle.tws_file.specs.Listing.{record_line}
+use Rattle.std.proofs.Common.{◌++◌, take, string_bytes}
 use Rattle.tws_file.specs.Steps.{Sends}
+use Rattle.tws_file.proofs.Gathering.{of_records}
 use Rattle.tws_file.proofs.listing.show_records.Given as goal
 
 abbrev pub invariant-loop-record : goal.invariant-loop-record
 invariant-loop-record g l =
-    Sends (g.W.Write.contents l.fn.out) (g.W.Write.contents l.out) (string_bytes l.fn.text ++ flat_map record_line (records_of (take l.record-index l.records))) (string_bytes l.text)
+    Sends (g.W.Write.contents l.fn.out) (g.W.Write.contents l.out) (string_bytes l.fn.text ++ of_records l.fn.with_moves (take l.record-index l.records)) (string_bytes l.text)
