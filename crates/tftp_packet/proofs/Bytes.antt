@@ -1,0 +1,31 @@
+-- Parts of bytes, and numbers of two bytes.
+use Rattle.std.proofs.Common.{◌≡◌, ℕ, ◌+◌, ◌^◌, ◌<◌, ◌≤◌, List, ◌++◌, length, take, drop, sym, ap, ◌∙◌, arith, inl, inr, get_or-drop, get_or-take, length-take, take-append-drop}
+use Rattle.std.proofs.lemmas.Bool.{cases_lt}
+use Rattle.std.proofs.lemmas.List.{get_or_past}
+use Rattle.std.proofs.lemmas.Nat.{be_bytes_2}
+use Rattle.byteorder.specs.Endian.{big_bytes, big_number}
+use Rattle.byteorder.specs.Numbers.{big_from-take, big_from-lt}
+use Rattle.tftp_packet.specs.Packet.{IsBytes}
+
+pub IsBytes-drop : (n : ℕ) (bytes : List ℕ) → IsBytes bytes → IsBytes (drop n bytes)
+IsBytes-drop n bytes fits i = rw get_or-drop (fits (n + i))
+
+pub IsBytes-take : (n : ℕ) (bytes : List ℕ) → IsBytes bytes → IsBytes (take n bytes)
+IsBytes-take n bytes fits i =
+    elim (cases_lt i n) [
+      | inl lt ↦ rw (get_or-take n bytes i 0 lt) (fits i)
+      | inr le ↦ rw (get_or_past (take n bytes) i 0 (omega (arith, length-take n bytes))) (omega arith)
+    ]
+
+-- the bytes of a number are those that it was read from
+pub big_bytes-big_number : (bytes : List ℕ) → 2 ≤ length bytes → IsBytes bytes → big_bytes 2 (big_number 2 bytes) ≡ take 2 bytes
+big_bytes-big_number bytes long fits =
+    be_bytes_2 (take 2 bytes) (big_number 2 bytes) (omega (arith, length-take 2 bytes)) (IsBytes-take 2 bytes fits) (omega (arith, big_from-take 0 2 2 bytes (omega arith)))
+
+-- bytes are the bytes of the number that they begin with, and what follows
+pub number_first : (bytes : List ℕ) → 2 ≤ length bytes → IsBytes bytes → bytes ≡ big_bytes 2 (big_number 2 bytes) ++ drop 2 bytes
+number_first bytes long fits =
+    sym (ap (λ (front : List ℕ). front ++ drop 2 bytes) (big_bytes-big_number bytes long fits) ∙ take-append-drop 2 bytes)
+
+pub big_number-fits : (bytes : List ℕ) → IsBytes bytes → big_number 2 bytes < 2 ^ 16
+big_number-fits bytes fits = big_from-lt 0 2 bytes fits

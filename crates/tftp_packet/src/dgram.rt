@@ -1,0 +1,71 @@
+ghost use Rattle.std.specs.Prelude.{◌≡◌, ◌+◌, ◌≤◌, [], ◌∷◌, ◌++◌, length};
+ghost use Rattle.byteorder.specs.Endian.{big_bytes};
+
+use byteorder::{BigEndian, ByteOrder};
+use std::marker::Model;
+
+/// The bytes of a datagram, at most 516 of them: a list, which only the `encode` functions make. It lies in a fixed
+/// buffer and takes no memory.
+#[derive(Debug, Drop)]
+pub struct Dgram {
+    buffer: [u8; 516],
+    len: usize,
+}
+
+impl Model for Dgram {
+    ghost use Rattle.std.specs.Prelude.{ℕ, ◌≤◌, List, take};
+
+    ghost Value = { List ℕ };
+
+    ghost view = { λ d. take d.len d.buffer };
+
+    ghost invariant = { λ d. d.len ≤ 516 };
+}
+
+impl Dgram {
+    /// A datagram that has just the opcode yet.
+    pub(crate) fn of_opcode(opcode: u16) -> Self
+        ensures { result ≡ big_bytes 2 opcode }
+    {
+        let mut buffer = [0; 516];
+        BigEndian::write_u16(&mut buffer, opcode);
+        Dgram { buffer, len: 2 }
+    }
+
+    /// Adds bytes at the end.
+    pub(crate) fn push_bytes(&mut self, bytes: &[u8])
+        requires { length self.old + length bytes.now ≤ 516 }
+        ensures { self.new ≡ self.old ++ bytes.now }
+    {
+        let end = self.len + bytes.len();
+        self.buffer[self.len..end].copy_from_slice(bytes);
+        self.len = end;
+    }
+
+    /// Adds a number of two bytes at the end.
+    pub(crate) fn push_number(&mut self, number: u16)
+        requires { length self.old + 2 ≤ 516 }
+        ensures { self.new ≡ self.old ++ big_bytes 2 number }
+    {
+        let mut bytes = [0; 2];
+        BigEndian::write_u16(&mut bytes, number);
+        self.push_bytes(&bytes);
+    }
+
+    /// Adds a text at the end, and the zero byte that ends it.
+    pub(crate) fn push_text(&mut self, text: &[u8])
+        requires { length self.old + length text.now + 1 ≤ 516 }
+        ensures { self.new ≡ self.old ++ (text.now ++ 0 ∷ []) }
+    {
+        self.push_bytes(text);
+        self.push_bytes(&[0]);
+    }
+
+    /// The bytes, in their order.
+    pub fn bytes(&self) -> &[u8]
+        ensures list { result.now ≡ self.now }
+        ensures size { length self.now ≤ 516 }
+    {
+        &self.buffer[..self.len]
+    }
+}

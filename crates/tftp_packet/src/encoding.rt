@@ -1,0 +1,81 @@
+//! How packets are written.
+
+ghost use Rattle.std.specs.Prelude.{◌≡◌, ◌≤◌, [], length};
+ghost use Rattle.tftp_packet.specs.Packet.{read, write, data_block, ack, error, octet, HasNoZero, IsPacket, encode, request_bytes};
+
+use crate::dgram::Dgram;
+use crate::opcode::{ACK, DATA, ERROR, READ, WRITE};
+
+// A request in mode octet.
+fn encode_request(opcode: u16, name: &[u8]) -> Dgram
+    requires { length name.now ≤ 507 }
+    ensures { result ≡ request_bytes opcode name.now octet [] }
+{
+    let mut dgram = Dgram::of_opcode(opcode);
+    dgram.push_text(name);
+    dgram.push_text(b"octet");
+    dgram
+}
+
+/// A request to read the file of this name, in mode octet: RRQ of RFC 1350 section 5, with no options. The name has no
+/// zero byte, and at most 507 bytes, so that the request fits a datagram.
+#[tactic(auto, unfolding(crate::specs::Packet::encode))]
+pub fn encode_read(name: &[u8]) -> Dgram
+    requires short { length name.now ≤ 507 }
+    requires no_zero { HasNoZero name.now }
+    ensures bytes { result ≡ encode (read name.now octet) }
+    ensures packet { IsPacket (read name.now octet) result }
+{
+    encode_request(READ, name)
+}
+
+/// A request to write a file, with this name for it, in mode octet: WRQ of RFC 1350 section 5, with no options. The name
+/// has no zero byte, and at most 507 bytes.
+#[tactic(auto, unfolding(crate::specs::Packet::encode))]
+pub fn encode_write(name: &[u8]) -> Dgram
+    requires short { length name.now ≤ 507 }
+    requires no_zero { HasNoZero name.now }
+    ensures bytes { result ≡ encode (write name.now octet) }
+    ensures packet { IsPacket (write name.now octet) result }
+{
+    encode_request(WRITE, name)
+}
+
+/// The block of a file with this number: DATA of RFC 1350 section 5. The body has at most 512 bytes.
+#[tactic(auto, unfolding(crate::specs::Packet::encode))]
+pub fn encode_data(block: u16, body: &[u8]) -> Dgram
+    requires { length body.now ≤ 512 }
+    ensures bytes { result ≡ encode (data_block block body.now) }
+    ensures packet { IsPacket (data_block block body.now) result }
+{
+    let mut dgram = Dgram::of_opcode(DATA);
+    dgram.push_number(block);
+    dgram.push_bytes(body);
+    dgram
+}
+
+/// That the block of this number has come: ACK of RFC 1350 section 5. Number 0 answers a request to write.
+#[tactic(auto, unfolding(crate::specs::Packet::encode))]
+pub fn encode_ack(block: u16) -> Dgram
+    ensures bytes { result ≡ encode (ack block) }
+    ensures packet { IsPacket (ack block) result }
+{
+    let mut dgram = Dgram::of_opcode(ACK);
+    dgram.push_number(block);
+    dgram
+}
+
+/// That something went wrong: ERROR of RFC 1350 section 5, with nothing behind its text. The text has no zero byte, and
+/// at most 511 bytes.
+#[tactic(auto, unfolding(crate::specs::Packet::encode))]
+pub fn encode_error(code: u16, text: &[u8]) -> Dgram
+    requires short { length text.now ≤ 511 }
+    requires no_zero { HasNoZero text.now }
+    ensures bytes { result ≡ encode (error code text.now) }
+    ensures packet { IsPacket (error code text.now) result }
+{
+    let mut dgram = Dgram::of_opcode(ERROR);
+    dgram.push_number(code);
+    dgram.push_text(text);
+    dgram
+}

@@ -1,0 +1,76 @@
+//! What holds of every datagram and of every file in blocks, whoever sends. These functions do nothing: each contract
+//! is a theorem.
+
+ghost use Rattle.std.specs.Prelude.{◌≡◌, ◌⊎◌, ◌↔◌, ℕ, ◌+◌, ◌^◌, ◌<◌, ◌≤◌, List, ◌++◌, length, Ok, Err};
+ghost use Rattle.std.specs.List.{concat};
+ghost use Rattle.tftp_packet.specs.declared.packet_fault.PacketFault as fault;
+ghost use Rattle.tftp_packet.specs.Packet.{Packet, IsBytes, IsPacket, HasFields, packet_size, encode};
+ghost use Rattle.tftp_packet.specs.Fault.{HasFault, IsFirstFault};
+ghost use Rattle.tftp_packet.specs.Decode.{decode_bytes};
+ghost use Rattle.tftp_packet.specs.Blocks.{block_count, block_of, first_blocks, blocks_to, blocks_of};
+
+/// Bytes are at most one packet.
+pub fn one_packet()
+    ensures { (bytes : List ℕ) (p q : Packet) → IsPacket p bytes → IsPacket q bytes → p ≡ q }
+{}
+
+/// Bytes have at most one fault.
+pub fn one_fault()
+    ensures { (bytes : List ℕ) (d e : fault.PacketFault) → HasFault bytes d → HasFault bytes e → d ≡ e }
+{}
+
+/// The fault of bytes is the first, in the order of `PacketFault`, of all the ways in which they fail.
+pub fn first_fault()
+    ensures { (bytes : List ℕ) (e : fault.PacketFault) → HasFault bytes e ↔ IsFirstFault bytes e }
+{}
+
+/// The bytes of a packet have no fault.
+pub fn packet_without_fault()
+    ensures { (bytes : List ℕ) (p : Packet) (e : fault.PacketFault) → IsPacket p bytes → HasFault bytes e → ⊥ }
+{}
+
+/// Bytes are a packet, or have a fault.
+pub fn packet_or_fault()
+    ensures { (bytes : List ℕ) → IsBytes bytes →
+        ((p : Packet) × IsPacket p bytes) ⊎ ((e : fault.PacketFault) × HasFault bytes e) }
+{}
+
+/// The function that decodes answers the packet that bytes are, or the fault that they have.
+pub fn function_and_relations()
+    ensures packet { (bytes : List ℕ) (p : Packet) → IsBytes bytes →
+        ((decode_bytes bytes ≡ Ok p) ↔ IsPacket p bytes) }
+    ensures fault { (bytes : List ℕ) (e : fault.PacketFault) → IsBytes bytes →
+        ((decode_bytes bytes ≡ Err e) ↔ HasFault bytes e) }
+{}
+
+/// What is sent of a packet that fits a datagram is that packet, and is decoded as it.
+pub fn sent_packet()
+    ensures packet { (p : Packet) → HasFields p → packet_size p ≤ 516 → IsPacket p (encode p) }
+    ensures decoded { (p : Packet) → HasFields p → packet_size p ≤ 516 → decode_bytes (encode p) ≡ Ok p }
+    ensures size { (p : Packet) → length (encode p) ≡ packet_size p }
+{}
+
+/// The first blocks of a file and the next one are the first blocks, one more of them.
+pub fn next_block()
+    ensures { (file : List ℕ) (r : ℕ) → first_blocks file r ++ block_of file (r + 1) ≡ first_blocks file (r + 1) }
+{}
+
+/// Blocks 1 to the last but one have 512 bytes, and the last has fewer.
+pub fn block_sizes()
+    ensures full { (file : List ℕ) (k : ℕ) → 1 ≤ k → ((length (block_of file k) ≡ 512) ↔ (k < block_count file)) }
+    ensures short { (file : List ℕ) (k : ℕ) → 1 ≤ k → ((length (block_of file k) < 512) ↔ (block_count file ≤ k)) }
+    ensures most { (file : List ℕ) (k : ℕ) → length (block_of file k) ≤ 512 }
+{}
+
+/// A short block ends the file.
+pub fn file_end()
+    ensures { (file : List ℕ) (k : ℕ) → 1 ≤ k → length (block_of file k) < 512 → first_blocks file k ≡ file }
+{}
+
+/// Blocks 1 to r joined are the first 512 bytes of the file r times over, and all blocks joined are the file. The blocks
+/// of a file of at most 33,553,919 bytes have numbers of two bytes.
+pub fn joined_blocks()
+    ensures first { (file : List ℕ) (r : ℕ) → concat (blocks_to file r) ≡ first_blocks file r }
+    ensures joined { (file : List ℕ) → concat (blocks_of file) ≡ file }
+    ensures numbers { (file : List ℕ) → length file ≤ 33553919 → block_count file < 2 ^ 16 }
+{}

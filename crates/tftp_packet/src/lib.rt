@@ -1,0 +1,38 @@
+//! TFTP: what a datagram is, exactly, and how a file is cut into blocks. The protocol is that of RFC 1350; what follows
+//! a request's mode, as the options of RFC 2347, is not read. Nothing here takes memory.
+//!
+//! `specs/Packet.antt` is the file to read first: the packets, and the bytes that are each.
+#![tactic(auto)]
+
+mod blocks;
+mod decoding;
+mod dgram;
+mod encoding;
+mod endpoint;
+mod laws;
+mod mode;
+mod opcode;
+mod out;
+mod owned;
+mod packet;
+mod packet_fault;
+mod refusal;
+
+pub use blocks::Blocks;
+pub use decoding::decode;
+pub use dgram::Dgram;
+pub use encoding::{encode_ack, encode_data, encode_error, encode_read, encode_write};
+pub use endpoint::Endpoint;
+pub use laws::{
+    block_sizes, file_end, first_fault, function_and_relations, joined_blocks, next_block,
+    one_fault, one_packet, packet_or_fault, packet_without_fault, sent_packet,
+};
+pub use mode::is_octet;
+pub use out::Out;
+pub use owned::Owned;
+pub use packet::Packet;
+pub use packet_fault::PacketFault;
+pub use refusal::Refusal;
+
+#[cfg(test)]
+mod tests;

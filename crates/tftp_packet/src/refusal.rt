@@ -1,0 +1,64 @@
+ghost use Rattle.std.specs.Prelude.{◌≡◌};
+ghost use Rattle.tftp_packet.specs.Packet.{IsPacket, encode};
+ghost use Rattle.tftp_packet.specs.Refusal.{refusal_code, refusal_text, refusal_packet};
+
+use crate::dgram::Dgram;
+use crate::encoding::encode_error;
+
+/// The errors that this product sends, each with its code, of RFC 1350 section 5, and its words. They stand here alone,
+/// so that all who send and read them mean the same bytes.
+#[derive(Clone, Copy, Debug, PartialEq, Eq)]
+pub enum Refusal {
+    /// A request in another mode than octet.
+    OctetOnly,
+    /// A request to read a file that is not offered.
+    NoSuchFile,
+    /// A request while no more transfers can be opened.
+    ServerBusy,
+    /// A request to read a collection that has more bytes than blocks can number.
+    CollectionTooLong,
+    /// Memory ran out, at a request or at a block.
+    OutOfMemory,
+    /// A block past the last one that a file can have.
+    FileTooLong,
+    /// A datagram from a port that is not the transfer's.
+    UnknownTransfer,
+}
+
+impl Refusal {
+    /// The error code of RFC 1350 section 5: 0 not defined, 1 file not found, 3 disk full or allocation exceeded, 5 unknown
+    /// transfer ID.
+    pub fn code(self) -> u16
+        ensures { result ≡ refusal_code self }
+    {
+        match self {
+            Refusal::OctetOnly | Refusal::ServerBusy | Refusal::CollectionTooLong => 0,
+            Refusal::NoSuchFile => 1,
+            Refusal::OutOfMemory | Refusal::FileTooLong => 3,
+            Refusal::UnknownTransfer => 5,
+        }
+    }
+
+    /// The words for people, without a zero byte.
+    pub fn text(self) -> &'static [u8]
+        ensures { result.now ≡ refusal_text self }
+    {
+        match self {
+            Refusal::OctetOnly => b"octet only",
+            Refusal::NoSuchFile => b"no such file",
+            Refusal::ServerBusy => b"server busy",
+            Refusal::CollectionTooLong => b"collection too long",
+            Refusal::OutOfMemory => b"out of memory",
+            Refusal::FileTooLong => b"file too long",
+            Refusal::UnknownTransfer => b"unknown transfer",
+        }
+    }
+
+    /// The ERROR that says so, with this code and these words and nothing behind them.
+    pub fn dgram(self) -> Dgram
+        ensures bytes { result ≡ encode (refusal_packet self) }
+        ensures packet { IsPacket (refusal_packet self) result }
+    {
+        encode_error(self.code(), self.text())
+    }
+}
