@@ -1,0 +1,12 @@
+pub mod Members
+pub mod Orders
+pub mod Rising
+pub mod Bests
+pub mod Joined
+pub mod Searches
+pub mod Picking
+pub mod Merges
+pub mod Writing
+pub mod Texts
+pub mod Sets
+pub mod Choices

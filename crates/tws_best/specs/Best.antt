@@ -1,0 +1,116 @@
+-- What is kept of all solutions: of each level number and password the best one, in whatever order the files came.
+use Rattle.std.specs.Prelude.{◌≡◌, ℕ, List, [], ◌∷◌, ◌++◌, length, Contains}
+use Rattle.std.specs.declared.cmp.Ordering.{Ordering}
+use Rattle.std.specs.declared.cmp.Ordering.TheVariants.{Less}
+use Rattle.std.specs.Ordering.{nat_cmp, on, then_cmp}
+use Rattle.std.specs.Cmp.Lexicographic.{slice_cmp}
+use Rattle.std.specs.List.{flat_map, AllByRecursion}
+use Rattle.byteorder.specs.Endian.{little_bytes}
+use Rattle.tws_file.specs.declared.key.Key.{Key}
+use Rattle.tws_file.specs.declared.«ruleset».Ruleset.{Ruleset}
+use Rattle.tws_file.specs.declared.«ruleset».Ruleset.TheVariants.{Lynx, Ms}
+use Rattle.tws_file.specs.Text.{Solution, Record, pad, set, bare, solution, File, IsSolution, IsText, body_of, header_text}
+use Rattle.tws_best.specs.Rank.{rank_of, IsBelow}
+
+-- a solution: the key of its level, and the body of its record
+pub record Entry : Type 0 where
+  pub key : Key
+  pub body : List ℕ
+
+abbrev pub entry_of : Solution → Entry
+entry_of s = record { key = s.key; body = body_of (solution s) }
+
+-- some solution has this key and this body
+pub record IsEntry (e : Entry) : Type 0 where
+  pub solved : Solution
+  pub fits : IsSolution solved
+  pub is : e ≡ entry_of solved
+
+-- ---- the solutions of files
+
+-- the solutions among records: no pad, no record of the set and no bare one
+abbrev pub solved_in : List Record → List Entry
+solved_in [] = []
+solved_in (pad ∷ rs) = solved_in rs
+solved_in (set rest ∷ rs) = solved_in rs
+solved_in (bare key ∷ rs) = solved_in rs
+solved_in (solution s ∷ rs) = entry_of s ∷ solved_in rs
+
+-- the solutions of a file, if it is of these rules
+abbrev pub solved_by : Ruleset → Ruleset → List Record → List Entry
+solved_by Lynx Lynx rs = solved_in rs
+solved_by Lynx Ms rs = []
+solved_by Ms Lynx rs = []
+solved_by Ms Ms rs = solved_in rs
+
+-- the solutions of all files of these rules
+abbrev pub solutions_of : Ruleset → List File → List Entry
+solutions_of kind files = flat_map (λ (file : File). solved_by kind file.ruleset file.records) files
+
+-- a solution of these rules in a file that has its text among these. Bytes that are no file's text have no solutions.
+pub record IsSolutionIn (kind : Ruleset) (texts : List (List ℕ)) (e : Entry) : Type 0 where
+  pub text : List ℕ
+  pub among : Contains texts text
+  pub file : File
+  pub is_text : IsText text file
+  pub stands : Contains (solutions_of kind (file ∷ [])) e
+
+-- ---- what is best
+
+-- of a set of solutions, one that no other for the same level and password has a lower rank than
+pub record IsBest (IsMember : Entry → Type 0) (e : Entry) : Type 0 where
+  pub member : IsMember e
+  pub least : (f : Entry) → IsMember f → f.key ≡ e.key → IsBelow (rank_of f.body) (rank_of e.body) → ⊥
+
+-- by number, and then by the bytes of the password
+abbrev pub key_cmp : Key → Key → Ordering
+key_cmp = then_cmp (on (λ k. k.number) nat_cmp) (on (λ k. k.password) (slice_cmp nat_cmp))
+
+-- each key is below those after it, so none stands twice
+abbrev pub IsRising : List Entry → Type 0
+IsRising [] = Unit {0}
+IsRising (e ∷ es) = AllByRecursion (λ (f : Entry). key_cmp e.key f.key ≡ Less) es × IsRising es
+
+-- some entry has this key
+pub record HasKey (entries : List Entry) (key : Key) : Type 0 where
+  pub entry : Entry
+  pub stands : Contains entries entry
+  pub key_is : entry.key ≡ key
+
+-- a finite map, as its entries in the order of their keys: it has the keys that the set has, and at each key a best solution
+pub record IsBestOf (IsMember : Entry → Type 0) (entries : List Entry) : Type 0 where
+  pub rising : IsRising entries
+  pub best : (e : Entry) → Contains entries e → IsBest IsMember e
+  pub every : (f : Entry) → IsMember f → HasKey entries f.key
+
+-- ---- collections
+
+-- the best solutions so far, in the order of their keys
+pub record Collected : Type 0 where
+  pub «ruleset» : Ruleset
+  pub entries : List Entry
+
+-- what entries can be kept: solutions, each key once
+pub record IsKept (entries : List Entry) : Type 0 where
+  pub rising : IsRising entries
+  pub solved : AllByRecursion IsEntry entries
+
+abbrev pub IsCollected : Collected → Type 0
+IsCollected c = IsKept c.entries
+
+-- four bytes of size, and the body
+abbrev pub entry_text : Entry → List ℕ
+entry_text e = little_bytes 4 (length e.body) ++ e.body
+
+-- a header without further bytes, and a record for each solution, by rising number and then by the bytes of the password
+abbrev pub collection_text : Collected → List ℕ
+collection_text c = header_text c.ruleset (0 ∷ 0 ∷ []) [] ++ flat_map entry_text c.entries
+
+-- the collection over all files of these rules that have their text among these
+pub record IsCollectionOf (kind : Ruleset) (texts : List (List ℕ)) (c : Collected) : Type 0 where
+  pub kind_is : c.ruleset ≡ kind
+  pub best : IsBestOf (IsSolutionIn kind texts) c.entries
+
+-- the map has this body at this key
+abbrev pub HasBody : List Entry → Key → List ℕ → Type 0
+HasBody entries key body = Contains entries (record { key = key; body = body })

@@ -1,0 +1,25 @@
+-- What is best as a function of a list, for those who state steps. That it is the best is a law.
+use Rattle.std.specs.Prelude.{List, [], ◌∷◌, if◌then◌else◌}
+use Rattle.std.specs.declared.cmp.Ordering.{Ordering}
+use Rattle.std.specs.declared.cmp.Ordering.TheVariants.{Less, Equal, Greater}
+use Rattle.std.specs.Ordering.{is_lt}
+use Rattle.tws_best.specs.Rank.{rank_of, rank_cmp}
+use Rattle.tws_best.specs.Best.{Entry, key_cmp}
+
+-- the one with the lower rank
+abbrev pub better_of : Entry → Entry → Entry
+better_of x e = if is_lt (rank_cmp (rank_of x.body) (rank_of e.body)) then x else e
+
+-- x with the entries e and then es, by how its key compares with that of e
+abbrev pub placed : Ordering → (x e : Entry) (es rest : List Entry) → List Entry
+placed Less x e es rest = x ∷ (e ∷ es)
+placed Equal x e es rest = better_of x e ∷ es
+placed Greater x e es rest = e ∷ rest
+
+abbrev pub put_in : Entry → List Entry → List Entry
+put_in x [] = x ∷ []
+put_in x (e ∷ es) = placed (key_cmp x.key e.key) x e es (put_in x es)
+
+abbrev pub best_of : List Entry → List Entry
+best_of [] = []
+best_of (x ∷ xs) = put_in x (best_of xs)

@@ -1,0 +1,75 @@
+//! What holds of every set of solutions and of every collection, whoever keeps it. These functions do nothing: each
+//! contract is a theorem.
+
+ghost use Rattle.std.specs.Prelude.{◌≡◌, ◌↔◌, ℕ, List, [], ◌∷◌, ◌++◌, Contains};
+ghost use Rattle.std.specs.Cmp.{IsTotalOrder};
+ghost use Rattle.std.specs.declared.cmp.Ordering.TheVariants.{Equal};
+ghost use Rattle.tws_file.specs.declared.«ruleset».Ruleset.{Ruleset as Rules};
+ghost use Rattle.tws_file.specs.Text.{File, IsText, IsReadable};
+ghost use Rattle.tws_best.specs.Rank.{rank_of, rank_cmp};
+ghost use Rattle.tws_best.specs.Choice.{best_of};
+ghost use Rattle.tws_best.specs.Best.{Entry, IsBest, IsBestOf, IsSolutionIn, IsCollectionOf, Collected, IsCollected, solutions_of, collection_text};
+
+/// The order of ranks is total.
+pub fn ranks_in_order()
+    ensures { IsTotalOrder rank_cmp }
+{}
+
+/// Ranks are equal only for equal bodies.
+pub fn one_rank()
+    ensures { (a b : List ℕ) → rank_cmp (rank_of a) (rank_of b) ≡ Equal → a ≡ b }
+{}
+
+/// A set of solutions has at most one map of what is best.
+pub fn one_best()
+    ensures { (xs ds es : List Entry) → IsBestOf (Contains xs) ds → IsBestOf (Contains xs) es → ds ≡ es }
+{}
+
+/// A solution stands in the map exactly if it is best: of its key, no other of the set has a lower rank.
+pub fn exactly_the_best()
+    ensures { (xs es : List Entry) (e : Entry) → IsBestOf (Contains xs) es → (Contains es e ↔ IsBest (Contains xs) e) }
+{}
+
+/// Each list of solutions has a map of what is best, and a function gives it.
+pub fn some_best()
+    ensures { (xs : List Entry) → IsBestOf (Contains xs) (best_of xs) }
+{}
+
+/// What is best of the best of some and of others is best of all together, and the other way round.
+pub fn best_of_best()
+    ensures together { (xs ys ms ns : List Entry) → IsBestOf (Contains xs) ms → IsBestOf (Contains (ms ++ ys)) ns → IsBestOf (Contains (xs ++ ys)) ns }
+    ensures apart { (xs ys ms ns : List Entry) → IsBestOf (Contains xs) ms → IsBestOf (Contains (xs ++ ys)) ns → IsBestOf (Contains (ms ++ ys)) ns }
+{}
+
+/// Files are used as a set: their order and repeats have no effect on what is best.
+pub fn files_as_a_set()
+    ensures { (kind : Rules) (files more : List File) (es : List Entry) → ((f : File) → Contains files f ↔ Contains more f) → IsBestOf (Contains (solutions_of kind files)) es → IsBestOf (Contains (solutions_of kind more)) es }
+{}
+
+/// Texts are used as a set: their order and repeats have no effect on the collection over them.
+pub fn texts_as_a_set()
+    ensures { (kind : Rules) (texts more : List (List ℕ)) (c : Collected) → ((t : List ℕ) → Contains texts t ↔ Contains more t) → IsCollectionOf kind texts c → IsCollectionOf kind more c }
+{}
+
+/// At most one collection is the one over these texts.
+pub fn one_collection()
+    ensures { (kind : Rules) (texts : List (List ℕ)) (c d : Collected) → IsCollectionOf kind texts c → IsCollectionOf kind texts d → c ≡ d }
+{}
+
+/// The collection over no texts is empty.
+pub fn collection_of_none()
+    ensures { (kind : Rules) (c : Collected) → c.ruleset ≡ kind → c.entries ≡ [] → IsCollectionOf kind [] c }
+{}
+
+/// A merge of a file makes the collection over one text more. Bytes that are no file's text change nothing.
+pub fn one_more_text()
+    ensures readable { (kind : Rules) (texts : List (List ℕ)) (text : List ℕ) (f : File) (c d : Collected) → IsCollectionOf kind texts c → IsText text f → d.ruleset ≡ c.ruleset → IsBestOf (Contains (c.entries ++ solutions_of c.ruleset (f ∷ []))) d.entries → IsCollectionOf kind (texts ++ text ∷ []) d }
+    ensures unreadable { (kind : Rules) (texts : List (List ℕ)) (text : List ℕ) (c : Collected) → IsCollectionOf kind texts c → (IsReadable text → ⊥) → IsCollectionOf kind (texts ++ text ∷ []) c }
+{}
+
+/// A collection's text is a file's, and the best of that file is the collection again.
+pub fn read_back()
+    ensures readable { (c : Collected) → IsCollected c → IsReadable (collection_text c) }
+    ensures loaded { (c d : Collected) (f : File) → IsCollected c → IsText (collection_text c) f → d.ruleset ≡ f.ruleset → IsBestOf (Contains (solutions_of f.ruleset (f ∷ []))) d.entries → d ≡ c }
+    ensures itself { (c : Collected) → IsCollected c → IsCollectionOf c.ruleset (collection_text c ∷ []) c }
+{}

@@ -1,0 +1,88 @@
+//! How the solutions of a file join those that are kept.
+
+ghost use Rattle.std.specs.Prelude.{◌≡◌, ◌≢◌, ◌++◌, Contains, IfOk, OnOk, OnErr, MatchBool};
+ghost use Rattle.std.specs.List.{AllByRecursion};
+ghost use Rattle.tws_file.specs.Record.{records_of};
+ghost use Rattle.tws_file.specs.Text.{IsRecord};
+ghost use Rattle.tws_best.specs.Best.{IsRising, IsKept, IsBestOf, solved_in, solved_by};
+ghost use Rattle.tws_best.specs.Steps.{Joins, Picks, same_key};
+
+use crate::finding::is_better;
+use crate::kept::Kept;
+use std::alloc::{AllocError, Allocator};
+use tws_file::{Record, Ruleset, TwsFile};
+
+// The solutions among the records that are better than what is kept for their keys.
+pub(crate) fn pick<A: Allocator + Copy, B: Allocator>(
+    alloc: A,
+    kept: &[Kept<A>],
+    records: &[Record<B>],
+) -> Result<Vec<Kept<A>, A>, AllocError>
+    requires { IsRising kept.now }
+    ensures { IfOk result (λ better. Picks kept.now (solved_in (records_of records.now)) better.items) }
+{
+    let mut better = Vec::new(alloc);
+    for record in records {
+        if let Record::Solution(solution) = record {
+            let one = Kept::of(alloc, solution)?;
+            if is_better(kept, &one) {
+                better.push(one)?;
+            }
+        }
+    }
+    Ok(better)
+}
+
+// Puts all in order, and keeps the first of each key. After an error the old ones stay as they were.
+pub(crate) fn join<A: Allocator>(
+    kept: &mut Vec<Kept<A>, A>,
+    more: Vec<Kept<A>, A>,
+) -> Result<(), AllocError>
+    ensures ok { OnOk result (Joins kept.old.items more.items kept.new.items) }
+    ensures err { OnErr result (kept.new.items ≡ kept.old.items) }
+{
+    let count = kept.len();
+    let mut more = more;
+    kept.append(&mut more)?;
+    if let Err(fault) = kept.sort_by(|a, b| a.order(b)) {
+        kept.truncate(count);
+        return Err(fault);
+    }
+    let same = |a: &mut Kept<A>, b: &mut Kept<A>| -> bool
+        ensures { (result ≡ same_key a.entry.now b.entry.now) × ((a.exit.now ≡ a.entry.now) × (b.exit.now ≡ b.entry.now)) }
+    { a.key().cmp(&b.key()).is_eq() };
+    kept.dedup_by(same);
+    Ok(())
+}
+
+// Adds the solutions among the records, so that the best of all are kept. Whether anything changed.
+pub(crate) fn add<A: Allocator + Copy, B: Allocator>(
+    alloc: A,
+    kept: &mut Vec<Kept<A>, A>,
+    records: &[Record<B>],
+) -> Result<bool, AllocError>
+    requires kept { IsKept kept.old.items }
+    requires records { AllByRecursion IsRecord (records_of records.now) }
+    ensures best { OnOk result (IsBestOf (Contains (kept.old.items ++ solved_in (records_of records.now))) kept.new.items) }
+    ensures changed { IfOk result (λ changed. MatchBool changed (kept.new.items ≢ kept.old.items) (kept.new.items ≡ kept.old.items)) }
+    ensures err { OnErr result (kept.new.items ≡ kept.old.items) }
+    ensures fits { IsKept kept.new.items }
+{
+    let better = pick(alloc, kept.as_slice(), records)?;
+    if better.is_empty() {
+        return Ok(false);
+    }
+    join(kept, better)?;
+    Ok(true)
+}
+
+// The records of a file, if it is of these rules.
+pub(crate) fn records_under<B: Allocator>(rules: Ruleset, file: &TwsFile<B>) -> &[Record<B>]
+    ensures solved { solved_in (records_of result.now) ≡ solved_by rules file.now.ruleset file.now.records }
+    ensures fits { AllByRecursion IsRecord (records_of result.now) }
+{
+    match (rules, file.ruleset) {
+        (Ruleset::Lynx, Ruleset::Lynx) | (Ruleset::Ms, Ruleset::Ms) => file.records.as_slice(),
+        _ => &[],
+    }
+}
