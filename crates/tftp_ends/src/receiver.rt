@@ -1,0 +1,162 @@
+//! The end that receives.
+
+ghost use Rattle.std.specs.Prelude.{◌≡◌, ◌≤◌, ◌==◌, ◌+◌, length, Ok, OnErr, IfSome};
+ghost use Rattle.tftp_ends.specs.Ends.{dgram_of, answer_of, verdict_of, is_last_come, is_past, receiver_start, receiver_next, receiver_again, receiver_data, receiver_timeout, receiver_take};
+
+use crate::limits::{DALLY, MAX_BLOCKS, MAX_FILE, MISSES};
+use crate::received::Received;
+use crate::recv_fault::RecvFault;
+use crate::recv_state::RecvState;
+use std::alloc::{Allocator, Global};
+use std::marker::Model;
+use tftp_packet::{Dgram, encode_ack};
+
+#[cfg(test)]
+mod pairs;
+
+/// The end of a transfer that receives a file.
+///
+/// It acknowledges each block, RFC 1350 section 2, and waits behind the last one, section 6. Only `on_data` takes memory.
+#[derive(Drop)]
+#[derive_where(Debug)]
+pub struct Receiver<A: Allocator + Copy = Global> {
+    /// How many blocks have come: blocks 1 to this one.
+    count: u16,
+    /// Their bytes; none once the file was taken out.
+    file: Option<Vec<u8, A>>,
+    /// Time-outs in a row without a new block.
+    misses: u8,
+    state: RecvState,
+}
+
+impl<A: Allocator + Copy> Model for Receiver<A> {
+    ghost use Rattle.tftp_ends.specs.Ends.{Receiver as Receiving, IsReceiver};
+
+    ghost Value = { Receiving };
+
+    ghost use Rattle.tftp_ends.specs.Kept.{receiver_of};
+
+    ghost view = { receiver_of };
+
+    ghost invariant = { λ r. IsReceiver (receiver_of r) };
+}
+
+impl<A: Allocator + Copy> Receiver<A> {
+    /// A receiver to which nothing has come. It takes no memory yet.
+    pub fn new(alloc: A) -> Self
+        ensures { result ≡ receiver_start }
+    {
+        Receiver {
+            count: 0,
+            file: Some(Vec::new(alloc)),
+            misses: 0,
+            state: RecvState::Running,
+        }
+    }
+
+    /// Block `n` with this body has come.
+    ///
+    /// The next block is taken and acknowledged; one of fewer than 512 bytes ends the file. The last block that came
+    /// is acknowledged again, also behind the end. Any other changes nothing and sends nothing.
+    ///
+    /// # Errors
+    ///
+    /// `Memory` where a growth was refused, and `TooLong` where the file goes on behind block `MAX_BLOCKS`. The receiver
+    /// is then as it was before, so the same block may be given again.
+    pub fn on_data(&mut self, n: u16, body: &[u8]) -> Result<Option<Dgram>, RecvFault>
+        requires { length body.now ≤ 512 }
+        ensures receiver { self.new ≡ (receiver_data (verdict_of result) n body.now self.old).receiver }
+        ensures sent { result ≡ answer_of (receiver_data (verdict_of result) n body.now self.old).result }
+        ensures unchanged { OnErr result (self.new ≡ self.old) }
+    {
+        match self.state {
+            RecvState::Running if n == self.count + 1 => self.on_next(n, body),
+            RecvState::Running | RecvState::Complete => Ok(self.again(n)),
+            RecvState::TimedOut | RecvState::Over => Ok(None),
+        }
+    }
+
+    // The ACK of the last block that came, if this is its number.
+    fn again(&self, n: u16) -> Option<Dgram>
+        ensures { Ok result ≡ answer_of (receiver_again (is_last_come n self.now) self.now).result }
+    {
+        if n > 0 && n == self.count {
+            Some(encode_ack(n))
+        } else {
+            None
+        }
+    }
+
+    // Takes the next block.
+    fn on_next(&mut self, n: u16, body: &[u8]) -> Result<Option<Dgram>, RecvFault>
+        requires running { self.old.state ≡ RecvState.Running }
+        requires next { n ≡ self.old.count + 1 }
+        requires short { length body.now ≤ 512 }
+        ensures receiver { self.new ≡ (receiver_next (is_past n body.now) (verdict_of result) body.now self.old).receiver }
+        ensures sent { result ≡ answer_of (receiver_next (is_past n body.now) (verdict_of result) body.now self.old).result }
+    {
+        let full = body.len() == 512;
+        if full && n == MAX_BLOCKS {
+            return Err(RecvFault::TooLong);
+        }
+        let Some(file) = &mut self.file else {
+            unreachable!();
+        };
+        file.extend_from_slice(body)?;
+        self.count = n;
+        self.misses = 0;
+        if !full {
+            self.state = RecvState::Complete;
+        }
+        Ok(Some(encode_ack(n)))
+    }
+
+    /// Nothing has come for a while. While blocks are missing, the last ACK is sent again, ACK 0 before the first block;
+    /// time-out number `MISSES` in a row sends nothing and ends the transfer. Behind the last block nothing is sent, and
+    /// the receiver is over at time-out number `DALLY`. After either end nothing changes any more.
+    pub fn on_timeout(&mut self) -> Option<Dgram>
+        ensures receiver { self.new ≡ (receiver_timeout self.old).receiver }
+        ensures sent { result ≡ dgram_of (receiver_timeout self.old).out }
+    {
+        match self.state {
+            RecvState::Running => {
+                if self.misses + 1 == MISSES {
+                    self.state = RecvState::TimedOut;
+                    return None;
+                }
+                self.misses += 1;
+                Some(encode_ack(self.count))
+            }
+            RecvState::Complete => {
+                if self.misses + 1 == DALLY {
+                    self.state = RecvState::Over;
+                } else {
+                    self.misses += 1;
+                }
+                None
+            }
+            RecvState::TimedOut | RecvState::Over => None,
+        }
+    }
+
+    /// How far it is.
+    pub fn state(&self) -> RecvState
+        ensures { result ≡ self.now.state }
+    {
+        self.state
+    }
+
+    /// The file, once: where all of it has come and it was not taken out before. Nothing else changes, so the last block
+    /// is still acknowledged where it comes again.
+    pub fn take_file(&mut self) -> Option<Received<A>>
+        ensures receiver { self.new ≡ (receiver_take self.old).receiver }
+        ensures file { result ≡ (receiver_take self.old).file }
+        // It is no longer than a file may be.
+        ensures size { IfSome result (λ f. length f ≤ MAX_FILE) }
+    {
+        match self.state {
+            RecvState::Complete | RecvState::Over => self.file.take().map(Received::of),
+            RecvState::Running | RecvState::TimedOut => None,
+        }
+    }
+}

@@ -1,0 +1,10 @@
+/// How far a sender is.
+#[derive(Clone, Copy, Debug, PartialEq, Eq)]
+pub enum SendState {
+    /// It waits for the ACK of its current block.
+    Running,
+    /// The ACK of the last block has come.
+    Finished,
+    /// It gave up, after `MISSES` time-outs in a row.
+    TimedOut,
+}

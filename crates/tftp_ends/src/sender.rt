@@ -1,0 +1,114 @@
+//! The end that sends.
+
+ghost use Rattle.std.specs.Prelude.{◌≡◌, ◌≤◌, ◌==◌, length};
+ghost use Rattle.tftp_packet.specs.Packet.{encode};
+ghost use Rattle.tftp_packet.specs.Blocks.{block_count};
+ghost use Rattle.tftp_ends.specs.Ends.{data_packet, dgram_of, sender_start, sender_ack, sender_timeout};
+
+use crate::limits::{MAX_FILE, MISSES};
+use crate::send_state::SendState;
+use std::marker::Model;
+use tftp_packet::{Blocks, Dgram, encode_data};
+
+/// The end of a transfer that sends a file: one block, then its ACK, then the next block, RFC 1350 section 2.
+///
+/// None of its calls takes memory.
+#[derive(Debug, Drop)]
+pub struct Sender<B: Blocks> {
+    blocks: B,
+    /// The number of the block that was sent last.
+    current: u16,
+    /// Time-outs in a row without progress.
+    misses: u8,
+    state: SendState,
+}
+
+impl<B: Blocks> Model for Sender<B> {
+    ghost use Rattle.tftp_ends.specs.Ends.{Sender as Sending, IsSender};
+
+    ghost Value = { Sending };
+
+    ghost use Rattle.tftp_ends.specs.Kept.{sender_of};
+
+    ghost view = { sender_of B.file };
+
+    ghost invariant = { λ s. IsSender (sender_of B.file s) };
+}
+
+// DATA of a block.
+fn data<B: Blocks>(blocks: &B, block: u16) -> Dgram
+    requires first { 1 ≤ block }
+    requires last { block ≤ block_count (B.file blocks.now) }
+    ensures { result ≡ encode (data_packet (B.file blocks.now) block) }
+{
+    let mut body = [0; 512];
+    let count = blocks.block(block, &mut body);
+    encode_data(block, &body[..count])
+}
+
+impl<B: Blocks> Sender<B> {
+    /// A sender of this file, which has at most `MAX_FILE` bytes, and DATA 1, which it sends first.
+    pub fn start(blocks: B) -> (Self, Dgram)
+        requires { length (B.file blocks) ≤ MAX_FILE }
+        ensures sender { result.0 ≡ sender_start (B.file blocks) }
+        ensures sent { result.1 ≡ encode (data_packet (B.file blocks) 1) }
+    {
+        let first = data(&blocks, 1);
+        let sender = Sender {
+            blocks,
+            current: 1,
+            misses: 0,
+            state: SendState::Running,
+        };
+        (sender, first)
+    }
+
+    // Whether the current block is the last one.
+    fn is_last(&self) -> bool
+        ensures { result ≡ (self.now.current == block_count self.now.file) }
+    {
+        u64::from(self.current) == self.blocks.file_len() / 512 + 1
+    }
+
+    /// ACK `n` has come. That of the current block is answered with the next DATA; that of the last block ends the
+    /// transfer. Any other changes nothing and sends nothing, also one that comes again: RFC 1123 section 4.2.3.1.
+    pub fn on_ack(&mut self, n: u16) -> Option<Dgram>
+        ensures sender { self.new ≡ (sender_ack n self.old).sender }
+        ensures sent { result ≡ dgram_of (sender_ack n self.old).out }
+    {
+        if self.state != SendState::Running || n != self.current {
+            return None;
+        }
+        if self.is_last() {
+            self.state = SendState::Finished;
+            return None;
+        }
+        self.current += 1;
+        self.misses = 0;
+        Some(data(&self.blocks, self.current))
+    }
+
+    /// Nothing has come for a while. The current DATA is sent again; time-out number `MISSES` in a row sends nothing and
+    /// ends the transfer. Where the sender has finished or given up, nothing changes and nothing is sent.
+    pub fn on_timeout(&mut self) -> Option<Dgram>
+        ensures sender { self.new ≡ (sender_timeout self.old).sender }
+        ensures sent { result ≡ dgram_of (sender_timeout self.old).out }
+    {
+        if self.state != SendState::Running {
+            return None;
+        }
+        if self.misses + 1 == MISSES {
+            self.state = SendState::TimedOut;
+            return None;
+        }
+        self.misses += 1;
+        Some(data(&self.blocks, self.current))
+    }
+
+    /// How far it is.
+    pub fn state(&self) -> SendState
+        ensures { result ≡ self.now.state }
+    {
+        self.state
+    }
+}
