@@ -17,14 +17,14 @@ const EVERY_KIND: [u8; 66] = [
 ];
 
 const LISTING: &str =
-    "ruleset ms word 0000 extra 2\nset 10\nlevel 2 ABCD\npad\nlevel 1 BDHP ticks 100 flags 00 start 00 seed 0 bytes 2\nrecords 4\n";
+    "ruleset ms word 0000 extra 2\nset 10\nlevel 2 ABCD\npad\nlevel 1 BDHP ticks 100 flags 00 start 00 seed 0 bytes 2\n at 3 step 0\n at 7 step 0\n at 11 step 0\n at 15 step 0\nrecords 4\n";
 
 // No run makes so many requests.
 const MANY: u64 = 100;
 
 fn is_listed<A: Allocator>(global: Global, file: &TwsFile<A>) -> bool {
     let mut out = Vec::new(global);
-    show(global, file, &mut out).is_ok() && out.as_slice() == LISTING.as_bytes()
+    show(global, file, true, &mut out).is_ok() && out.as_slice() == LISTING.as_bytes()
 }
 
 #[test]
@@ -52,7 +52,7 @@ fn listing(rt: HostRuntime) -> Result<(), Fail> {
     for nth in 1..MANY {
         let refusing = Refusing::new(rt.alloc(), nth);
         let mut out = Vec::new(rt.alloc());
-        match show(&refusing, &file, &mut out) {
+        match show(&refusing, &file, true, &mut out) {
             Ok(()) => assert_eq!(rt; out.as_slice(), LISTING.as_bytes()),
             Err(fault) => {
                 assert_eq!(rt; fault, OutFault::Memory);
@@ -60,7 +60,7 @@ fn listing(rt: HostRuntime) -> Result<(), Fail> {
             }
         }
         if !refusing.has_refused() {
-            assert!(rt; nth > 1);
+            assert!(rt; nth > 2);
             return Ok(());
         }
     }

@@ -4,4 +4,12 @@
 #![tactic(auto)]
 
 #[cfg(test)]
+mod collections;
+#[cfg(test)]
+mod ends;
+#[cfg(test)]
 mod files;
+#[cfg(test)]
+mod moves;
+#[cfg(test)]
+mod packing;
