@@ -1,8 +1,8 @@
 -- A piece more of an input is taken.
-use Rattle.std.proofs.Common.{◌≢◌, ℕ, List, ◌++◌, Option, Some, None, Result, Ok, Err, refl, ap, ◌∙◌, sym, append_assoc}
+use Rattle.std.proofs.Common.{◌≡◌, OnOk, subst, ◌≢◌, ℕ, List, ◌++◌, Option, Some, None, Result, Ok, Err, refl, ap, ◌∙◌, sym, append_assoc}
 use Rattle.std.specs.Io.KnownBytes.{Consumes}
 use Rattle.tws_file.specs.declared.file_fault.FileFault.{FileFault}
-use Rattle.tws_file.specs.declared.file_fault.FileFault.TheVariants.{ShortHeader, BadSignature, BadRuleset, ShortRecord, BadSize, Memory}
+use Rattle.tws_file.specs.declared.file_fault.FileFault.TheVariants.{ShortHeader, BadSignature, BadRuleset, ShortRecord, BadSize, MoveCut, Memory}
 use Rattle.tws_file.specs.Reader.{Reading, HasTaken, TakesPiece}
 
 pub Consumes-then : (old mid new : Option (List ℕ)) (x y : List ℕ) → Consumes old mid x → Consumes mid new y → Consumes old new (x ++ y)
@@ -19,4 +19,9 @@ was_taken (Err BadSignature) bytes new enough taken = taken
 was_taken (Err (BadRuleset code)) bytes new enough taken = taken
 was_taken (Err (ShortRecord offset)) bytes new enough taken = taken
 was_taken (Err (BadSize offset)) bytes new enough taken = taken
+was_taken (Err (MoveCut place)) bytes new enough taken = taken
 was_taken (Err Memory) bytes new enough taken = absurd (enough refl)
+
+-- what is known of a result that is no error
+pub at_ok : {T E P : Type 0} (r : Result T E) (x : T) → r ≡ Ok x → OnOk r P → P
+at_ok {T} {E} {P} r x e p = subst (λ (q : Result T E). OnOk q P) e p

@@ -1,3 +1,4 @@
 pub mod Inputs
 pub mod Faults
-pub mod Show
+pub mod Written
+pub mod Collecting

@@ -1,7 +1,8 @@
 ghost use Rattle.std.specs.Prelude.{◌≡◌, OnOk, IfErr};
 ghost use Rattle.std.specs.Io.KnownBytes.{IsAtEnd};
+ghost use Rattle.tws_file.specs.Listing.{listing_of};
 ghost use Rattle.tws_tool.specs.Faults.{IsBeforeOutput};
-ghost use Rattle.tws_tool.specs.Show.{Shows, ShowFails};
+ghost use Rattle.tws_tool.specs.Written.{Writes, WriteFails};
 
 use crate::input::read_input;
 use crate::tool_fault::ToolFault;
@@ -9,7 +10,7 @@ use std::alloc::Global;
 use std::io::{Read, Write};
 use tws_file::show;
 
-/// Reads a solution file to its end, and writes its listing.
+/// Reads a solution file to its end, and writes its listing, with a line for each move if `moves` says so.
 ///
 /// # Errors
 ///
@@ -18,16 +19,17 @@ use tws_file::show;
 /// written. `Memory` where memory ran out, and nothing or a front of the listing was written.
 pub fn run_show<R: Read, W: Write>(
     alloc: Global,
+    moves: bool,
     input: &mut R,
     out: &mut W,
 ) -> Result<(), ToolFault>
     ensures end { OnOk result (IsAtEnd (R.remaining input.new)) }
-    ensures listed { OnOk result (Shows (R.remaining input.old) (W.contents out.old) (W.contents out.new)) }
-    ensures fails { IfErr result (ShowFails (R.remaining input.old) (W.contents out.old) (W.contents out.new)) }
+    ensures listed { OnOk result (Writes (listing_of moves) (R.remaining input.old) (W.contents out.old) (W.contents out.new)) }
+    ensures fails { IfErr result (WriteFails (listing_of moves) (R.remaining input.old) (W.contents out.old) (W.contents out.new)) }
     // Also of a writer that does not tell what it holds.
     ensures unwritten { IfErr result (λ e. IsBeforeOutput e → out.new ≡ out.old) }
 {
     let file = read_input(alloc, 0, input)?;
-    show(alloc, &file, out)?;
+    show(alloc, &file, moves, out)?;
     Ok(())
 }

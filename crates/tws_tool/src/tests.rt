@@ -2,11 +2,23 @@
 use super::*;
 use std::io;
 use std::test::Fail;
-use tws_file::FileFault;
+use tws_file::{FileFault, Ruleset};
 
 const SOLUTION: [u8; 28] = [
     0x35, 0x33, 0x9B, 0x99, 0x01, 0x00, 0x00, 0x00, 0x10, 0x00, 0x00, 0x00, 0x01, 0x00, 0x42, 0x44,
     0x48, 0x50, 0x00, 0x00, 0x00, 0x00, 0x00, 0x00, 0x64, 0x00, 0x00, 0x00,
+];
+
+// The same with two bytes of moves, the second of which begins a move that is cut.
+const CUT: [u8; 30] = [
+    0x35, 0x33, 0x9B, 0x99, 0x01, 0x00, 0x00, 0x00, 0x12, 0x00, 0x00, 0x00, 0x01, 0x00, 0x42, 0x44,
+    0x48, 0x50, 0x00, 0x00, 0x00, 0x00, 0x00, 0x00, 0x64, 0x00, 0x00, 0x00, 0x01, 0xFE,
+];
+
+// The same with four moves in two bytes.
+const MOVED: [u8; 30] = [
+    0x35, 0x33, 0x9B, 0x99, 0x01, 0x00, 0x00, 0x00, 0x12, 0x00, 0x00, 0x00, 0x01, 0x00, 0x42, 0x44,
+    0x48, 0x50, 0x00, 0x00, 0x00, 0x00, 0x00, 0x00, 0x64, 0x00, 0x00, 0x00, 0x00, 0x61,
 ];
 
 // What a run of the program printed and answered.
@@ -45,8 +57,89 @@ fn show_lists_a_file(rt: HostRuntime) -> Result<(), Fail> {
 }
 
 #[test]
+fn show_lists_moves(rt: HostRuntime) -> Result<(), Fail> {
+    let with_moves = run(&rt, &["tws", "show", "--moves"], &MOVED)?;
+    assert_eq!(rt; with_moves.status, 0);
+    let listing =
+        "ruleset lynx word 0000 extra 0\nlevel 1 BDHP ticks 100 flags 00 start 00 seed 0 bytes 2\n at 3 step 0\n at 7 step 0\n at 11 step 0\n at 15 step 0\nrecords 1\n";
+    assert_eq!(rt; with_moves.out.as_slice(), listing.as_bytes());
+    let without = run(&rt, &["tws", "show"], &MOVED)?;
+    let listing =
+        "ruleset lynx word 0000 extra 0\nlevel 1 BDHP ticks 100 flags 00 start 00 seed 0 bytes 2\nrecords 1\n";
+    assert_eq!(rt; without.out.as_slice(), listing.as_bytes());
+    Ok(())
+}
+
+#[test]
+fn pack_writes_the_fewest_bytes(rt: HostRuntime) -> Result<(), Fail> {
+    let mut bytes = Vec::from_slice(rt.alloc(), &SOLUTION)?;
+    bytes.extend_from_slice(&[0x61, 0x61, 0x61, 0x61])?;
+    bytes[8] = 0x14;
+    let outcome = run(&rt, &["tws", "pack"], &bytes)?;
+    assert_eq!(rt; outcome.status, 0);
+    assert_eq!(rt; outcome.out.len(), 30);
+    assert_eq!(rt; outcome.out.get(8).copied(), Some(0x12));
+    assert_eq!(rt; outcome.out.get(28..), Some([0x00, 0x61].as_slice()));
+
+    let outcome = run(&rt, &["tws", "pack"], &SOLUTION)?;
+    assert_eq!(rt; outcome.out.as_slice(), SOLUTION.as_slice());
+
+    let outcome = run(&rt, &["tws", "pack"], &[0x35, 0x33, 0x9B, 0x98, 2, 0, 0, 0])?;
+    assert_eq!(rt; outcome.status, 3);
+    assert!(rt; outcome.out.is_empty());
+    assert_eq!(rt;
+        outcome.errors.as_slice(),
+        b"tws: standard input: unreadable: BadSignature\n".as_slice()
+    );
+    Ok(())
+}
+
+// The same solution in 90 ticks.
+const FASTER: [u8; 28] = [
+    0x35, 0x33, 0x9B, 0x99, 0x01, 0x00, 0x00, 0x00, 0x10, 0x00, 0x00, 0x00, 0x01, 0x00, 0x42, 0x44,
+    0x48, 0x50, 0x00, 0x00, 0x00, 0x00, 0x00, 0x00, 0x5A, 0x00, 0x00, 0x00,
+];
+
+#[test]
+fn best_keeps_the_faster_solution(rt: HostRuntime) -> Result<(), Fail> {
+    let mut files = [SOLUTION.as_slice(), FASTER.as_slice(), SOLUTION.as_slice()];
+    let mut out = Vec::new(rt.alloc());
+    run_best(rt.alloc(), Ruleset::Lynx, &mut files, &mut out)?;
+    assert_eq!(rt; out.as_slice(), FASTER.as_slice());
+
+    let mut files = [SOLUTION.as_slice(), FASTER.as_slice()];
+    let mut out = Vec::new(rt.alloc());
+    run_best(rt.alloc(), Ruleset::Ms, &mut files, &mut out)?;
+    assert_eq!(rt;
+        out.as_slice(),
+        [0x35, 0x33, 0x9B, 0x99, 2, 0, 0, 0].as_slice()
+    );
+    Ok(())
+}
+
+#[test]
+fn best_names_the_first_unreadable_input(rt: HostRuntime) -> Result<(), Fail> {
+    let mut files = [
+        SOLUTION.as_slice(),
+        CUT.as_slice(),
+        SOLUTION.get(..7).unwrap_or(&[]),
+    ];
+    let mut out = Vec::new(rt.alloc());
+    let fault = ToolFault::Unreadable {
+        index: 1,
+        fault: FileFault::MoveCut(29),
+    };
+    assert_eq!(rt;
+        run_best(rt.alloc(), Ruleset::Lynx, &mut files, &mut out),
+        Err(fault)
+    );
+    assert!(rt; out.is_empty());
+    Ok(())
+}
+
+#[test]
 fn show_refuses_what_is_no_file(rt: HostRuntime) -> Result<(), Fail> {
-    let faults: [(&[u8], &str); 3] = [
+    let faults: [(&[u8], &str); 4] = [
         (&[], "tws: standard input: unreadable: ShortHeader(0)\n"),
         (
             &SOLUTION[..27],
@@ -56,6 +149,7 @@ fn show_refuses_what_is_no_file(rt: HostRuntime) -> Result<(), Fail> {
             &[0x35, 0x33, 0x9B, 0x98, 2, 0, 0, 0],
             "tws: standard input: unreadable: BadSignature\n",
         ),
+        (&CUT, "tws: standard input: unreadable: MoveCut(29)\n"),
     ];
     for (bytes, line) in faults {
         let outcome = run(&rt, &["tws", "show"], bytes)?;
@@ -68,7 +162,10 @@ fn show_refuses_what_is_no_file(rt: HostRuntime) -> Result<(), Fail> {
 
 #[test]
 fn words_that_ask_for_nothing(rt: HostRuntime) -> Result<(), Fail> {
-    let wrong: [&[&str]; 4] = [
+    let wrong: [&[&str]; 7] = [
+        &["tws", "best"],
+        &["tws", "best", "lynx"],
+        &["tws", "best", "atari", "x"],
         &["tws"],
         &["tws", "list"],
         &["tws", "show", "x"],
@@ -144,7 +241,7 @@ fn show_answers_its_faults(rt: HostRuntime) {
     let mut out = room.as_mut_slice();
     let mut input = SOLUTION.as_slice();
     assert_eq!(rt;
-        run_show(rt.alloc(), &mut input, &mut out),
+        run_show(rt.alloc(), false, &mut input, &mut out),
         Err(ToolFault::Write)
     );
     assert_eq!(rt; room, *b"ruleset ly");
@@ -155,7 +252,10 @@ fn show_answers_its_faults(rt: HostRuntime) {
         index: 0,
         fault: FileFault::ShortRecord(8),
     };
-    assert_eq!(rt; run_show(rt.alloc(), &mut input, &mut out), Err(fault));
+    assert_eq!(rt;
+        run_show(rt.alloc(), false, &mut input, &mut out),
+        Err(fault)
+    );
 }
 
 // Gives a byte at each read, and ends after so many.
@@ -180,7 +280,7 @@ fn an_input_that_does_not_end(rt: HostRuntime) {
     let mut out = Vec::new(rt.alloc());
     let mut input = Drops { left: u32::MAX };
     assert_eq!(rt;
-        run_show(rt.alloc(), &mut input, &mut out),
+        run_show(rt.alloc(), false, &mut input, &mut out),
         Err(ToolFault::Read)
     );
     assert_eq!(rt; input.left, u32::MAX - INPUT_READS);
@@ -193,6 +293,9 @@ fn an_input_that_does_not_end(rt: HostRuntime) {
         index: 0,
         fault: FileFault::BadSignature,
     };
-    assert_eq!(rt; run_show(rt.alloc(), &mut input, &mut out), Err(fault));
+    assert_eq!(rt;
+        run_show(rt.alloc(), false, &mut input, &mut out),
+        Err(fault)
+    );
     assert!(rt; out.is_empty());
 }

@@ -2,7 +2,7 @@ ghost use Rattle.std.specs.Prelude.{◌≡◌};
 ghost use Rattle.tws_tool.specs.Faults.{written_fault, input_fault, status_of};
 ghost use Rattle.tws_tool.specs.declared.tool_fault.ToolFault.TheVariants.{Memory};
 
-use std::alloc::AllocError;
+use std::alloc::{AllocError, AllocFailed};
 use thiserror::Error;
 use tws_file::{FileFault, OutFault};
 
@@ -53,6 +53,14 @@ impl From<AllocError> for ToolFault {
     ghost from_gives = { λ _ e. e ≡ Memory };
 
     fn from(_error: AllocError) -> Self {
+        ToolFault::Memory
+    }
+}
+
+impl<T: Drop> From<AllocFailed<T>> for ToolFault {
+    ghost from_gives = { λ _ e. e ≡ Memory };
+
+    fn from(_error: AllocFailed<T>) -> Self {
         ToolFault::Memory
     }
 }

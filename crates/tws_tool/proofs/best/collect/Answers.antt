@@ -1,0 +1,31 @@
+use Rattle.std.proofs.Common.{◌≡◌, ℕ, ◌+◌, List, Option, arith, length, ◌∙◌, sym, subst, map, take, IfSome}
+use Rattle.std.proofs.lemmas.Result.{err_from_is_err_and}
+use Rattle.tws_file.specs.Text.{IsText}
+use Rattle.tws_tool.specs.Faults.{ReadFails}
+use Rattle.tws_tool.proofs.Told.{collects_more, known_more, input_fails, all_collected, one_more_ended, others_stay, set_count}
+use Rattle.tws_tool.proofs.best.collect.Goals as goal
+
+pub returns-in_err-file-clause-fails : goal.returns-in_err-file-clause-fails
+returns-in_err-file-clause-fails g c =
+    let p = err_from_is_err_and c.from_residual.result c.from_residual.ensures.1 in
+    let before = c.loop-index in
+    let fault = subst (λ file. ReadFails before.index (g.R.Read.remaining file) c.in_err-file.field-0.0) (sym c.index-files-index.is) c.in_err-file.ensures.fault in
+    rw (p.1, p.2) (input_fails (λ file. g.R.Read.remaining file) before.files c.args.files.now before.index c.index-files-index.result before.invariant.others c.loop-index-test.true c.index-files-index.is c.args.rules before.collection _ before.invariant.so_far fault)
+
+pub loop-index-preserved : goal.loop-index-preserved
+loop-index-preserved g c =
+    let before = c.loop-index in
+    let inside = c.loop-index-test.true in
+    let told : g.row.R.Denot → Option (List ℕ) = λ file. g.R.Read.remaining file in
+    let text = subst (λ file. IfSome (g.R.Read.remaining file) (λ bytes. IsText bytes c.in_ok-file.file)) (sym c.index-files-index.is) c.in_ok-file.ensures.file.text in
+    record {
+      count = set_count before.files c.args.files.now before.index c.read_input.new.input before.invariant.count;
+      others = others_stay before.files c.args.files.now before.index c.read_input.new.input before.invariant.others;
+      ended = one_more_ended told before.files before.index c.read_input.new.input (omega (arith, inside, before.invariant.count)) before.invariant.ended c.in_ok-file.ensures.file.ended;
+      kind = c.merge.ensures.rules ∙ before.invariant.kind;
+      so_far = rw (known_more told before.files c.args.files.now before.index c.index-files-index.result before.invariant.others inside c.index-files-index.is) (collects_more c.args.rules (map told (take before.index c.args.files.now)) (told c.index-files-index.result) c.in_ok-file.file before.collection c.merge.new.self before.invariant.so_far text c.merge.ensures.rules c.in_ok-merge.ensures.best);
+    }
+
+pub returns-clause-collected : goal.returns-clause-collected
+returns-clause-collected g c =
+    all_collected _ (λ file. g.R.Read.remaining file) c.args.files.now c.loop-index.index c.args.rules c.loop-index.collection (omega (arith, c.loop-index.invariant.count)) c.loop-index.invariant.so_far

@@ -1,0 +1,53 @@
+//! The best solutions of several files.
+
+ghost use Rattle.std.specs.Prelude.{◌≡◌, ◌≢◌, map, OnOk, IfOk, IfErr};
+ghost use Rattle.std.specs.List.{AllByRecursion};
+ghost use Rattle.std.specs.Io.KnownBytes.{IsAtEnd};
+ghost use Rattle.tws_tool.specs.Collecting.{Collects, CollectFails, BestWrites, BestFails};
+
+use crate::input::read_input;
+use crate::tool_fault::ToolFault;
+use std::alloc::Global;
+use std::io::{Read, Write};
+use tws_best::Collection;
+use tws_file::Ruleset;
+
+// The collection over all inputs, each of which is read to its end.
+fn collect<R: Read>(alloc: Global, rules: Ruleset, files: &mut [R]) -> Result<Collection, ToolFault>
+    ensures end { OnOk result (AllByRecursion (λ file. IsAtEnd (R.remaining file)) files.new) }
+    ensures collected { IfOk result (Collects rules (map (λ file. R.remaining file) files.old)) }
+    ensures fails { IfErr result (CollectFails (map (λ file. R.remaining file) files.old)) }
+{
+    let mut collection = Collection::new(alloc, rules);
+    for index in 0..files.len() {
+        let file = read_input(alloc, index, &mut files[index])?;
+        collection.merge(&file)?;
+    }
+    Ok(collection)
+}
+
+/// Reads solution files to their ends, in order, and writes the collection of the best solutions of all that were
+/// played by these rules.
+///
+/// # Errors
+///
+/// The first input that fails decides. `Read` where it fails or does not end within `INPUT_READS` reads, and
+/// `Unreadable` with its number, counted from 0, and the fault of its bytes: then nothing was written. `Write` where the
+/// writer fails: then a front of the collection's text was written. `Memory` where memory ran out, and nothing was
+/// written.
+pub fn run_best<R: Read, W: Write>(
+    alloc: Global,
+    rules: Ruleset,
+    files: &mut [R],
+    out: &mut W,
+) -> Result<(), ToolFault>
+    ensures end { OnOk result (AllByRecursion (λ file. IsAtEnd (R.remaining file)) files.new) }
+    ensures collected { OnOk result (BestWrites rules (map (λ file. R.remaining file) files.old) (W.contents out.old) (W.contents out.new)) }
+    ensures fails { IfErr result (BestFails rules (map (λ file. R.remaining file) files.old) (W.contents out.old) (W.contents out.new)) }
+    // Also of a writer that does not tell what it holds.
+    ensures unwritten { IfErr result (λ e. e ≢ ToolFault.Write → out.new ≡ out.old) }
+{
+    let collection = collect(alloc, rules, files)?;
+    collection.write_text(out)?;
+    Ok(())
+}
