@@ -1,24 +1,9 @@
 /* A plain reader and printer of Tile World solution files, to time `tws show` against: the whole of standard input is
-   read into one block, and each record is printed by stdio. Its output is that of `tws show` for readable files. */
+   read into one block, its moves are checked, and each record is printed by stdio; with the word --moves each move too.
+   Its output is that of `tws show` for readable files. With the word copy the file is written back as it was read, to
+   time `tws pack` against. */
+#include "common.h"
 #include <ctype.h>
-#include <stdint.h>
-#include <stdio.h>
-#include <stdlib.h>
-#include <string.h>
-
-static uint32_t number(const uint8_t *p, int bytes)
-{
-    uint32_t n = 0;
-    for (int i = bytes - 1; i >= 0; i--)
-        n = n << 8 | p[i];
-    return n;
-}
-
-static void die(const char *why)
-{
-    fprintf(stderr, "baseline: %s\n", why);
-    exit(1);
-}
 
 static uint8_t *read_all(size_t *size)
 {
@@ -49,7 +34,58 @@ static void print_key(const uint8_t *body)
         printf("x%02x%02x%02x%02x", p[0], p[1], p[2], p[3]);
 }
 
-static void print_record(const uint8_t *body, uint32_t size)
+/* The number of bytes in the piece of moves that begins with this byte. */
+static size_t piece_length(uint8_t first)
+{
+    switch (first & 3) {
+    case 0:
+    case 1:
+        return 1;
+    case 2:
+        return 2;
+    default:
+        return first & 16 ? 2 + (first >> 2 & 3) : 4;
+    }
+}
+
+static void check_moves(const uint8_t *moves, size_t size)
+{
+    size_t at = 0;
+    while (at < size)
+        at += piece_length(moves[at]);
+    if (at != size)
+        die("no solution file");
+}
+
+static unsigned long long print_move(unsigned long long tick, const char *kind, unsigned value)
+{
+    printf(" at %llu %s %u\n", tick, kind, value);
+    return tick + 1;
+}
+
+static void print_moves(const uint8_t *moves, size_t size)
+{
+    unsigned long long next = 0;
+    for (size_t at = 0; at < size;) {
+        uint8_t first = moves[at];
+        size_t length = piece_length(first);
+        uint64_t n = 0;
+        for (size_t i = length; i > 0; i--)
+            n = n << 8 | moves[at + i - 1];
+        if ((first & 3) == 0)
+            for (int i = 2; i < 8; i += 2)
+                next = print_move(next + 3, "step", n >> i & 3);
+        else if ((first & 3) < 3)
+            next = print_move(next + (n >> 5), "step", n >> 2 & 7);
+        else if (first & 16)
+            next = print_move(next + (n >> 14), "code", n >> 5 & 511);
+        else
+            next = print_move(next + (n >> 5), "step", n >> 2 & 3);
+        at += length;
+    }
+}
+
+static void print_record(const uint8_t *body, uint32_t size, int moves)
 {
     static const uint8_t set[6];
     if (size == 0) {
@@ -62,14 +98,22 @@ static void print_record(const uint8_t *body, uint32_t size)
             printf(" ticks %u flags %02x start %02x seed %u bytes %u", number(body + 12, 4), body[6], body[7],
                    number(body + 8, 4), size - 16);
         putchar('\n');
+        if (size > 6) {
+            check_moves(body + 16, size - 16);
+            if (moves)
+                print_moves(body + 16, size - 16);
+        }
     }
 }
 
-int main(void)
+int main(int argc, char **argv)
 {
+    int moves = argc > 1 && strcmp(argv[1], "--moves") == 0;
     size_t size, at;
     unsigned long records = 0;
     uint8_t *bytes = read_all(&size);
+    if (argc > 1 && strcmp(argv[1], "copy") == 0)
+        return fwrite(bytes, 1, size, stdout) != size;
     if (size < 8 || memcmp(bytes, "\x35\x33\x9B\x99", 4) != 0 || bytes[4] < 1 || bytes[4] > 2
         || size < 8 + (size_t)bytes[7])
         die("no solution file");
@@ -81,7 +125,7 @@ int main(void)
         n = number(bytes + at, 4);
         if ((n > 0 && n < 6) || (n > 6 && n < 16) || n > size - at - 4)
             die("no solution file");
-        print_record(bytes + at + 4, n);
+        print_record(bytes + at + 4, n, moves);
         at += 4 + (size_t)n;
     }
     printf("records %lu\n", records);
