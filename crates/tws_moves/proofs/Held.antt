@@ -50,7 +50,7 @@ pub little_length : (count n : ℕ) → length (little_bytes count n) ≡ count
 little_length zero n = refl
 little_length (suc count) n = omega (arith, little_length count (n / 256))
 
-one_is_bytes : (n : ℕ) → n < 256 → IsBytes (n ∷ [])
+pub one_is_bytes : (n : ℕ) → n < 256 → IsBytes (n ∷ [])
 one_is_bytes n small zero = small
 one_is_bytes n small (suc i) = omega arith
 

@@ -25,11 +25,11 @@ alone_first a [] p = sym (append-nil (alone a))
 alone_first a (b ∷ []) p = refl
 alone_first a (b ∷ c ∷ rest) p = rw p
 
-alone_second : (a b : Wait) (rest : List Wait) → is_plain b ≡ false → waits_bytes (a ∷ b ∷ rest) ≡ alone a ++ waits_bytes (b ∷ rest)
+pub alone_second : (a b : Wait) (rest : List Wait) → is_plain b ≡ false → waits_bytes (a ∷ b ∷ rest) ≡ alone a ++ waits_bytes (b ∷ rest)
 alone_second a b [] p = refl
 alone_second a b (c ∷ rest) p = elim (cases_Bool (is_plain a)) [ inl plain ↦ rw (plain, p) | inr other ↦ rw other ]
 
-alone_third : (a b c : Wait) (rest : List Wait) → is_plain c ≡ false → waits_bytes (a ∷ b ∷ c ∷ rest) ≡ alone a ++ waits_bytes (b ∷ c ∷ rest)
+pub alone_third : (a b c : Wait) (rest : List Wait) → is_plain c ≡ false → waits_bytes (a ∷ b ∷ c ∷ rest) ≡ alone a ++ waits_bytes (b ∷ c ∷ rest)
 alone_third a b c rest p = elim (cases_Bool (is_plain a)) [
   | inl plain ↦ elim (cases_Bool (is_plain b)) [ inl too ↦ rw (plain, too, p) | inr other ↦ rw (plain, other) ]
   | inr other ↦ rw other

@@ -11,3 +11,4 @@ pub mod Least
 pub mod PackedBytes
 pub mod NextPieces
 pub mod LateMoves
+pub mod Repacking

@@ -1,8 +1,10 @@
 -- What the private steps of reading and writing say. Callers need none of it.
-use Rattle.std.specs.Prelude.{◌≡◌, ℕ, ◌+◌, ◌<◌, ◌≤◌, ◌^◌, nat_lt, List, [], ◌∷◌, ◌++◌, length, take, drop, if◌then◌else◌}
+use Rattle.std.specs.Prelude.{◌≡◌, ℕ, ◌+◌, ◌/◌, ◌%◌, ◌<◌, ◌≤◌, ◌^◌, nat_lt, List, [], ◌∷◌, ◌++◌, length, take, drop, if◌then◌else◌}
 use Rattle.std.specs.List.{flat_map, AllByRecursion}
 use Rattle.tws_moves.specs.declared.act.Act.{Act}
 use Rattle.tws_moves.specs.declared.act.Act.TheVariants.{Step, Code}
+use Rattle.tws_moves.specs.declared.kept.Kept.{Kept}
+use Rattle.tws_moves.specs.declared.kept.Kept.TheVariants as kept
 use Rattle.tws_moves.specs.Bytes.{little_bytes}
 use Rattle.tws_moves.specs.Move.{Move, Wait, IsAct, moves_from, tick_after}
 use Rattle.tws_moves.specs.Spelling.{IsPiece, piece_length, waits_of, join}
@@ -60,3 +62,36 @@ pub record WritesSoFar (waits : List Wait) (bytes : List ℕ) (index : ℕ) : Ty
   pub within : index ≤ length waits
   pub held : AllByRecursion IsHeld (take index waits)
   pub split : waits_bytes waits ≡ bytes ++ waits_bytes (drop index waits)
+
+-- ---- packing
+
+-- a step behind three ticks
+abbrev pub plain_step : ℕ → Wait
+plain_step direction = record { ticks = 3; act = Step direction }
+
+-- the steps that are kept back
+abbrev pub kept_waits : Kept → List Wait
+kept_waits kept.None = []
+kept_waits (kept.One a) = plain_step a ∷ []
+kept_waits (kept.Two a b) = plain_step a ∷ plain_step b ∷ []
+
+abbrev pub IsKept : Kept → Type 0
+IsKept kept.None = Unit {0}
+IsKept (kept.One a) = a < 4
+IsKept (kept.Two a b) = (a < 4) × (b < 4)
+
+-- The waits were added: the spelling of what was kept back and of them goes on with what is kept back now.
+pub record Packs (old : List ℕ) (before : Kept) (waits : List Wait) (new : List ℕ) (after : Kept) : Type 0 where
+  pub fits : IsKept after
+  pub bytes : (rest : List Wait) → old ++ waits_bytes (kept_waits before ++ (waits ++ rest)) ≡ new ++ waits_bytes (kept_waits after ++ rest)
+
+-- the same, of the moves in the pieces that the bytes are up to a rest
+pub record PacksPieces (bytes rest old : List ℕ) (before : Kept) (new : List ℕ) (after : Kept) : Type 0 where
+  pub pieces : List (List ℕ)
+  pub so_far : ArePieces bytes rest pieces
+  pub packs : Packs old before (flat_map waits_of pieces) new after
+
+-- a byte that is the piece of a step 0 to 3 behind three ticks
+pub record PlainByte (b : ℕ) : Type 0 where
+  pub piece : IsPiece (b ∷ [])
+  pub made : waits_of (b ∷ []) ≡ plain_step (b / 4 % 4) ∷ []

@@ -3,9 +3,12 @@
 
 mod act;
 mod laws;
+mod kept;
 mod layout;
 mod moves;
 mod moves_fault;
+mod number;
+mod pack;
 mod piece;
 mod reading;
 mod spell_fault;

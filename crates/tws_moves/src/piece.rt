@@ -56,8 +56,8 @@ impl Piece {
         }
     }
 
-    // The wait alone, in the shortest layout that holds it; none where no layout does.
-    fn alone(wait: Wait) -> Option<Self>
+    /// The wait alone, in the shortest layout that holds it; none where no layout does.
+    pub(crate) fn alone(wait: Wait) -> Option<Self>
         ensures held { IfSome result (λ _. IsHeld wait) }
         ensures bytes { IfSome result (λ p. little_bytes p.length p.number ≡ alone wait) }
         ensures moves { IfSome result (λ p. p.moves ≡ 1) }

@@ -3,7 +3,6 @@
 ghost use Rattle.std.specs.Prelude.{◌≡◌, ℕ, ◌+◌, ◌-◌, ◌*◌, ◌<◌, ◌≤◌, ◌^◌, List, [], ◌∷◌, ◌++◌, length, Ok, OnOk, IfOk, IfErr, IfSome, IfNone, MatchResult};
 ghost use Rattle.tws_moves.specs.declared.moves_fault.MovesFault.TheVariants as fault;
 ghost use Rattle.tws_moves.specs.declared.layout.Layout.TheVariants as layout;
-ghost use Rattle.tws_moves.specs.Bytes.{number_of, bits};
 ghost use Rattle.tws_moves.specs.Move.{Move as Plain, IsMove, IsTimed, moves_from, tick_after};
 ghost use Rattle.tws_moves.specs.Spelling.{IsPiece, waits_of, layout_waits, Spells, IsCount, IsCut, MovesFail};
 ghost use Rattle.tws_moves.specs.Steps.{IsPieceCut};
@@ -12,10 +11,12 @@ use crate::act::Act;
 use crate::layout::Layout;
 use crate::moves::Move;
 use crate::moves_fault::MovesFault;
+use crate::number::{bits, number_of};
+use crate::wait::Wait;
 use std::alloc::{AllocError, Allocator};
 
 // The piece that the bytes begin with, and the bytes behind it; none where it is cut.
-fn split_piece(bytes: &[u8]) -> Option<(&[u8], &[u8])>
+pub(crate) fn split_piece(bytes: &[u8]) -> Option<(&[u8], &[u8])>
     ensures piece { IfSome result (λ r. IsPiece r.0.now) }
     ensures split { IfSome result (λ r. bytes.now ≡ r.0.now ++ r.1.now) }
     ensures cut { IfNone result (IsPieceCut bytes.now) }
@@ -28,26 +29,6 @@ fn split_piece(bytes: &[u8]) -> Option<(&[u8], &[u8])>
         return None;
     }
     Some(bytes.split_at(length))
-}
-
-// The bytes as one number, the first the lowest.
-fn number_of(bytes: &[u8]) -> u64
-    requires { length bytes.now ≤ 5 }
-    ensures number { result ≡ number_of bytes.now }
-    ensures bound { result < 2 ^ 40 }
-{
-    match bytes {
-        [] => 0,
-        [first, rest @ ..] => u64::from(*first) + 256 * number_of(rest),
-    }
-}
-
-// Of a number, so many bits from the bit `low` on.
-fn bits(low: u32, count: u32, number: u64) -> u64
-    requires { low + count < 64 }
-    ensures { result ≡ bits low count number }
-{
-    (number >> low) % (1 << count)
 }
 
 // Adds a move, and answers the tick from which on a later one can be made.
@@ -90,29 +71,14 @@ fn push_piece<A: Allocator>(
     ensures bound { IfOk result (λ n. n ≤ next + length piece.now * 2 ^ 27) }
 {
     let number = number_of(piece);
-    match Layout::of(piece[0]) {
-        Layout::ThreeSteps => push_three(moves, next, number),
-        Layout::ShortStep => {
-            let step = Act::Step(bits(2, 3, number) as u8);
-            push(moves, next + bits(5, 3, number), step)
-        }
-        Layout::MiddleStep => {
-            let step = Act::Step(bits(2, 3, number) as u8);
-            push(moves, next + bits(5, 11, number), step)
-        }
-        Layout::LongStep => {
-            let step = Act::Step(bits(2, 2, number) as u8);
-            push(moves, next + bits(5, 27, number), step)
-        }
-        Layout::Code => {
-            let code = Act::Code(bits(5, 9, number) as u16);
-            push(moves, next + (number >> 14), code)
-        }
+    match Wait::in_layout(Layout::of(piece[0]), number) {
+        Some(wait) => push(moves, next + wait.ticks, wait.act),
+        None => push_three(moves, next, number),
     }
 }
 
 // The bytes are cut where what is left of them begins.
-fn cut_before(bytes: &[u8], rest: &[u8]) -> MovesFault
+pub(crate) fn cut_before(bytes: &[u8], rest: &[u8]) -> MovesFault
     requires within { length rest.now ≤ length bytes.now }
     requires short { length bytes.now < 2 ^ 32 }
     ensures { result ≡ fault.Cut (length bytes.now - length rest.now) }

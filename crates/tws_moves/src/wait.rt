@@ -1,9 +1,14 @@
-ghost use Rattle.std.specs.Prelude.{◌≡◌, ℕ, ◌<◌, length, slice_index_or};
+ghost use Rattle.std.specs.Prelude.{◌≡◌, ℕ, ◌+◌, ◌<◌, ◌≤◌, ◌^◌, [], ◌∷◌, length, slice_index_or, IfSome, IfNone};
+ghost use Rattle.tws_moves.specs.declared.layout.Layout.TheVariants as layouts;
+ghost use Rattle.tws_moves.specs.Bytes.{bits};
 ghost use Rattle.tws_moves.specs.Move.{IsTimed, waits_from};
+ghost use Rattle.tws_moves.specs.Spelling.{layout_waits};
 ghost use Rattle.tws_moves.specs.Shortest.{is_plain, direction_of};
 
 use crate::act::Act;
+use crate::layout::Layout;
 use crate::moves::Move;
+use crate::number::bits;
 use std::marker::Model;
 
 /// An act, and how many ticks go by before it, counted from the first one that it could be made at.
@@ -26,6 +31,22 @@ impl Model for Wait {
 }
 
 impl Wait {
+    /// The wait that stands alone in a piece of this layout, which is this number; none where three steps stand in it.
+    pub(crate) fn in_layout(layout: Layout, number: u64) -> Option<Self>
+        requires { number < 2 ^ 40 }
+        ensures one { IfSome result (λ w. layout_waits layout number ≡ w ∷ []) }
+        ensures three { IfNone result (layout ≡ layouts.ThreeSteps) }
+    {
+        let (ticks, act) = match layout {
+            Layout::ThreeSteps => return None,
+            Layout::ShortStep => (bits(5, 3, number), step(2, 3, number)),
+            Layout::MiddleStep => (bits(5, 11, number), step(2, 3, number)),
+            Layout::LongStep => (bits(5, 27, number), step(2, 2, number)),
+            Layout::Code => (number >> 14, Act::Code(bits(5, 9, number) as u16)),
+        };
+        Some(Wait { ticks, act })
+    }
+
     /// The wait of the move with this number, counted from 0.
     pub(crate) fn of(moves: &[Move], index: usize) -> Self
         requires timed { IsTimed moves.now }
@@ -66,4 +87,12 @@ impl Wait {
             Act::Code(_) => 0,
         }
     }
+}
+
+// The step whose direction these bits are.
+fn step(low: u32, count: u32, number: u64) -> Act
+    requires { (low + count < 64) × (count ≤ 3) }
+    ensures { result ≡ Act.Step (bits low count number) }
+{
+    Act::Step(bits(low, count, number) as u8)
 }

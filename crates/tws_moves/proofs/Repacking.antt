@@ -1,0 +1,147 @@
+-- Bytes to the shortest bytes, piece by piece, with the plain steps that are kept back.
+use Rattle.std.proofs.Common.{◌≡◌, ℕ, ◌+◌, ◌-◌, ◌*◌, ◌/◌, ◌%◌, ◌<◌, ◌≤◌, true, false, List, [], ◌∷◌, ◌++◌, length, take, drop, slice_index_or, refl, ap, sym, subst, ◌∙◌, arith, flat_map, append_assoc, append-nil}
+use Rattle.std.proofs.lemmas.List.Concat.{flat_map-append}
+use Rattle.std.proofs.lemmas.List.{take_rest}
+use Rattle.std.proofs.lemmas.Bool.{lt-ltb}
+use Rattle.tws_moves.specs.declared.act.Act.TheVariants.{Step}
+use Rattle.tws_moves.specs.declared.kept.Kept.{Kept}
+use Rattle.tws_moves.specs.declared.kept.Kept.TheVariants as kept
+use Rattle.tws_moves.specs.declared.layout.Layout.{Layout}
+use Rattle.tws_moves.specs.declared.layout.Layout.TheVariants as layout
+use Rattle.tws_moves.specs.Bytes.{number_of, bits}
+use Rattle.tws_moves.specs.Move.{Wait, moves_from}
+use Rattle.tws_moves.specs.Spelling.{IsPiece, IsSpelling, Spells, layout_length, waits_of, join}
+use Rattle.tws_moves.specs.Shortest.{alone, is_plain, packed_bytes, waits_bytes}
+use Rattle.tws_moves.specs.Steps.{ArePieces, Packs, PacksPieces, PlainByte, kept_waits, plain_step}
+use Rattle.tws_moves.proofs.Parts.{all_append}
+use Rattle.tws_moves.proofs.Pieces.{itself}
+use Rattle.tws_moves.proofs.PackedBytes.{packed_are}
+use Rattle.tws_moves.proofs.Spellings.{spells_so_far}
+use Rattle.tws_moves.proofs.Waits.{waits_back}
+use Rattle.tws_moves.proofs.Held.{short_first, waits_in, one_is_bytes}
+use Rattle.tws_moves.proofs.Least.{three_step, alone_first, alone_second, alone_third}
+
+-- what is kept back stands alone before a wait that is no plain step
+kept_apart : (k : Kept) (w : Wait) (rest : List Wait) → is_plain w ≡ false → waits_bytes (kept_waits k ++ (w ∷ rest)) ≡ waits_bytes (kept_waits k) ++ (alone w ++ waits_bytes rest)
+kept_apart kept.None w rest other = alone_first w rest other
+kept_apart (kept.One a) w rest other =
+    alone_second (plain_step a) w rest other ∙ ap (λ (xs : List ℕ). alone (plain_step a) ++ xs) (alone_first w rest other)
+kept_apart (kept.Two a b) w rest other =
+    alone_third (plain_step a) (plain_step b) w rest other
+    ∙ ap (λ (xs : List ℕ). alone (plain_step a) ++ xs) (alone_second (plain_step b) w rest other ∙ ap (λ (xs : List ℕ). alone (plain_step b) ++ xs) (alone_first w rest other))
+
+pub packs_apart : (old more bytes new : List ℕ) (before : Kept) (w : Wait) → is_plain w ≡ false → more ≡ old ++ waits_bytes (kept_waits before) → bytes ≡ alone w → new ≡ more ++ bytes → Packs old before (w ∷ []) new kept.None
+packs_apart old more bytes new before w other more-is bytes-is new-is = record {
+  fits = tt;
+  bytes = λ rest.
+      ap (λ (xs : List ℕ). old ++ xs) (kept_apart before w rest other)
+      ∙ sym (append_assoc old (waits_bytes (kept_waits before)) (alone w ++ waits_bytes rest))
+      ∙ ap (λ (xs : List ℕ). xs ++ (alone w ++ waits_bytes rest)) (sym more-is)
+      ∙ sym (append_assoc more (alone w) (waits_bytes rest))
+      ∙ ap (λ (xs : List ℕ). (more ++ xs) ++ waits_bytes rest) (sym bytes-is)
+      ∙ ap (λ (xs : List ℕ). xs ++ waits_bytes rest) (sym new-is);
+}
+
+-- one after the other
+pub packs_join : (old mid new : List ℕ) (before between after : Kept) (v w : List Wait) → Packs old before v mid between → Packs mid between w new after → Packs old before (v ++ w) new after
+packs_join old mid new before between after v w first second = record {
+  fits = second.fits;
+  bytes = λ rest.
+      ap (λ (ws : List Wait). old ++ waits_bytes (kept_waits before ++ ws)) (append_assoc v w rest)
+      ∙ first.bytes (w ++ rest)
+      ∙ second.bytes rest;
+}
+
+-- ---- three plain steps in a byte each
+
+pub plain_byte : (b : ℕ) → b < 256 → b % 4 ≡ 1 → b / 16 % 2 ≡ 0 → b / 32 ≡ 3 → PlainByte b
+plain_byte b small low high wait =
+    let first = short_first b low in
+    let make : ℕ → ℕ → List Wait = λ t d. record { ticks = t; act = Step d } ∷ [] in
+    let ticks : bits 5 3 (number_of (b ∷ [])) ≡ 3 = omega arith in
+    let direction : bits 2 3 (number_of (b ∷ [])) ≡ b / 4 % 4 = omega arith in
+    let whole : make (bits 5 3 (number_of (b ∷ []))) (bits 2 3 (number_of (b ∷ []))) ≡ make 3 (b / 4 % 4) = cc in
+    record {
+      piece = record { bytes = one_is_bytes b small; whole = sym (ap (λ (l : Layout). layout_length l b) first) };
+      made = waits_in layout.ShortStep (number_of (b ∷ [])) b [] first refl ∙ whole;
+    }
+
+step_is_plain : (d : ℕ) → d < 4 → is_plain (plain_step d) ≡ true
+step_is_plain d small = let e = lt-ltb d 4 small in rw e
+
+three_steps : (old new : List ℕ) (d e f byte : ℕ) → d < 4 → e < 4 → f < 4 → byte ≡ 4 * d + 16 * e + 64 * f → new ≡ old ++ byte ∷ [] → Packs old kept.None (plain_step d ∷ plain_step e ∷ plain_step f ∷ []) new kept.None
+three_steps old new d e f byte first second third byte-is new-is = record {
+  fits = tt;
+  bytes = λ rest.
+      ap (λ (xs : List ℕ). old ++ xs) (three_step (plain_step d) (plain_step e) (plain_step f) rest (step_is_plain d first) (step_is_plain e second) (step_is_plain f third))
+      ∙ ap (λ (n : ℕ). old ++ (n ∷ waits_bytes rest)) (sym byte-is)
+      ∙ sym (append_assoc old (byte ∷ []) (waits_bytes rest))
+      ∙ ap (λ (xs : List ℕ). xs ++ waits_bytes rest) (sym new-is);
+}
+
+pub three_plain : (bytes after old new : List ℕ) (a b c byte : ℕ) → bytes ≡ a ∷ b ∷ c ∷ after → PlainByte a → PlainByte b → PlainByte c → byte ≡ 4 * (a / 4 % 4) + 16 * (b / 4 % 4) + 64 * (c / 4 % 4) → new ≡ old ++ byte ∷ [] → PacksPieces bytes after old kept.None new kept.None
+three_plain bytes after old new a b c byte split first second third byte-is new-is =
+    let waits : waits_of (a ∷ []) ++ (waits_of (b ∷ []) ++ (waits_of (c ∷ []) ++ [])) ≡ plain_step (a / 4 % 4) ∷ plain_step (b / 4 % 4) ∷ plain_step (c / 4 % 4) ∷ [] =
+    ap (λ (ws : List Wait). ws ++ (waits_of (b ∷ []) ++ (waits_of (c ∷ []) ++ []))) first.made
+    ∙ ap (λ (ws : List Wait). plain_step (a / 4 % 4) ∷ (ws ++ (waits_of (c ∷ []) ++ []))) second.made
+    ∙ ap (λ (ws : List Wait). plain_step (a / 4 % 4) ∷ plain_step (b / 4 % 4) ∷ (ws ++ [])) third.made in
+    record {
+      pieces = (a ∷ []) ∷ (b ∷ []) ∷ (c ∷ []) ∷ [];
+      so_far = record { fits = (first.piece, (second.piece, (third.piece, tt))); split = split };
+      packs = subst (λ (ws : List Wait). Packs old kept.None ws new kept.None) (sym waits) (three_steps old new (a / 4 % 4) (b / 4 % 4) (c / 4 % 4) byte (omega arith) (omega arith) (omega arith) byte-is new-is);
+    }
+
+pub three_front : (bytes old : List ℕ) → 3 ≤ length bytes → PlainByte (slice_index_or bytes 0 0) → PlainByte (slice_index_or bytes 1 0) → PlainByte (slice_index_or bytes 2 0) → PacksPieces bytes (take (length bytes - 3) (drop 3 bytes)) old kept.None (old ++ (4 * (slice_index_or bytes 0 0 / 4 % 4) + 16 * (slice_index_or bytes 1 0 / 4 % 4) + 64 * (slice_index_or bytes 2 0 / 4 % 4)) ∷ []) kept.None
+three_front [] old enough first second third = absurd (omega arith)
+three_front (a ∷ []) old enough first second third = absurd (omega arith)
+three_front (a ∷ b ∷ []) old enough first second third = absurd (omega arith)
+three_front (a ∷ b ∷ c ∷ after) old enough first second third =
+    three_plain (a ∷ b ∷ c ∷ after) _ old _ a b c _ (ap (λ (xs : List ℕ). a ∷ b ∷ c ∷ xs) (sym (take_rest (a ∷ b ∷ c ∷ after) 3))) first second third refl refl
+
+-- ---- pieces
+
+pub packs_piece : (bytes piece after old new : List ℕ) (before next : Kept) → IsPiece piece → bytes ≡ piece ++ after → Packs old before (waits_of piece) new next → PacksPieces bytes after old before new next
+packs_piece bytes piece after old new before next one split packs = record {
+  pieces = piece ∷ [];
+  so_far = record { fits = (one, tt); split = split ∙ ap (λ (xs : List ℕ). xs ++ after) (sym (append-nil piece)) };
+  packs = subst (λ (ws : List Wait). Packs old before ws new next) (sym (append-nil (waits_of piece))) packs;
+}
+
+pub packs_none : (bytes : List ℕ) → PacksPieces bytes bytes [] kept.None [] kept.None
+packs_none bytes = record { pieces = []; so_far = record { fits = tt; split = refl }; packs = record { fits = tt; bytes = λ rest. refl } }
+
+module _ (bytes rest after : List ℕ) where
+  pub are_more : (front more : List (List ℕ)) → ArePieces bytes rest front → ArePieces rest after more → ArePieces bytes after (front ++ more)
+  are_more front more first second = record {
+    fits = all_append IsPiece front more first.fits second.fits;
+    split =
+        first.split
+        ∙ ap (λ (xs : List ℕ). join front ++ xs) second.split
+        ∙ sym (append_assoc (join front) (join more) after)
+        ∙ ap (λ (xs : List ℕ). xs ++ after) (sym (flat_map-append itself front more));
+  }
+
+  pub packs_more : (old mid new : List ℕ) (before between next : Kept) → PacksPieces bytes rest old before mid between → PacksPieces rest after mid between new next → PacksPieces bytes after old before new next
+  packs_more old mid new before between next first second = record {
+    pieces = first.pieces ++ second.pieces;
+    so_far = are_more first.pieces second.pieces first.so_far second.so_far;
+    packs = subst (λ (ws : List Wait). Packs old before ws new next) (sym (flat_map-append waits_of first.pieces second.pieces)) (packs_join old mid new before between next (flat_map waits_of first.pieces) (flat_map waits_of second.pieces) first.packs second.packs);
+  }
+
+-- ---- all pieces
+
+module _ (bytes rest packed whole : List ℕ) (left : Kept) (all : PacksPieces bytes rest [] kept.None packed left) (none : length rest < 1) where
+  spells : Spells bytes (moves_from 0 (flat_map waits_of all.pieces))
+  spells = spells_so_far bytes rest all.pieces all.so_far none
+
+  pub packs_spelling : IsSpelling bytes
+  packs_spelling = (moves_from 0 (flat_map waits_of all.pieces), spells)
+
+  pub packs_all : whole ≡ packed ++ waits_bytes (kept_waits left) → whole ≡ packed_bytes bytes
+  packs_all whole-is =
+      let waits = flat_map waits_of all.pieces in
+      whole-is
+      ∙ ap (λ (ws : List Wait). packed ++ waits_bytes ws) (sym (append-nil (kept_waits left)))
+      ∙ sym (all.packs.bytes [])
+      ∙ ap waits_bytes (append-nil waits ∙ sym (waits_back 0 waits))
+      ∙ sym (packed_are bytes (moves_from 0 waits) spells)

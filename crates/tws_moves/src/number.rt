@@ -1,0 +1,27 @@
+//! The numbers that pieces are.
+
+ghost use Rattle.std.specs.Prelude.{◌≡◌, ◌+◌, ◌<◌, ◌≤◌, ◌^◌, length};
+ghost use Rattle.tws_moves.specs.Bytes.{number_of, bits};
+
+// The bytes as one number, the first the lowest.
+pub(crate) fn number_of(bytes: &[u8]) -> u64
+    requires { length bytes.now ≤ 5 }
+    ensures number { result ≡ number_of bytes.now }
+    ensures bound { result < 2 ^ 40 }
+{
+    let mut number = 0;
+    let mut index = bytes.len();
+    while index > 0 {
+        index -= 1;
+        number = 256 * number + u64::from(bytes[index]);
+    }
+    number
+}
+
+// Of a number, so many bits from the bit `low` on.
+pub(crate) fn bits(low: u32, count: u32, number: u64) -> u64
+    requires { low + count < 64 }
+    ensures { result ≡ bits low count number }
+{
+    (number >> low) % (1 << count)
+}
