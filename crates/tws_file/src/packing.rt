@@ -12,7 +12,6 @@ use crate::records::Records;
 use crate::solution::Solution;
 use crate::tws_file::TwsFile;
 use std::alloc::{AllocError, Allocator};
-use tws_moves::{read_moves, write_moves};
 
 // The shortest bytes that spell the same moves.
 fn pack_moves<A: Allocator + Copy>(alloc: A, bytes: &[u8]) -> Result<Bytes<A>, AllocError>
@@ -20,11 +19,8 @@ fn pack_moves<A: Allocator + Copy>(alloc: A, bytes: &[u8]) -> Result<Bytes<A>, A
     requires short { length bytes.now < 2 ^ 32 }
     ensures { IfOk result (λ packed. packed ≡ packed_bytes bytes.now) }
 {
-    // The moves are whole, and bytes spell them: only memory can run out.
-    let Ok(moves) = read_moves(alloc, bytes) else {
-        return Err(AllocError);
-    };
-    let Ok(packed) = write_moves(alloc, &moves) else {
+    // The moves are whole: only memory can run out.
+    let Ok(packed) = tws_moves::pack_moves(alloc, bytes) else {
         return Err(AllocError);
     };
     Ok(Bytes::of(packed))

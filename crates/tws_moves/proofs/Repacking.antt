@@ -10,13 +10,11 @@ use Rattle.tws_moves.specs.declared.layout.Layout.{Layout}
 use Rattle.tws_moves.specs.declared.layout.Layout.TheVariants as layout
 use Rattle.tws_moves.specs.Bytes.{number_of, bits}
 use Rattle.tws_moves.specs.Move.{Wait, moves_from}
-use Rattle.tws_moves.specs.Spelling.{IsPiece, IsSpelling, Spells, layout_length, waits_of, join}
+use Rattle.tws_moves.specs.Spelling.{IsPiece, IsSpelling, Spells, layout_length, waits_of}
 use Rattle.tws_moves.specs.Shortest.{alone, is_plain, packed_bytes, waits_bytes}
-use Rattle.tws_moves.specs.Steps.{ArePieces, Packs, PacksPieces, PlainByte, kept_waits, plain_step}
-use Rattle.tws_moves.proofs.Parts.{all_append}
-use Rattle.tws_moves.proofs.Pieces.{itself}
+use Rattle.tws_moves.specs.Steps.{Packs, PacksPieces, PlainByte, kept_waits, plain_step}
 use Rattle.tws_moves.proofs.PackedBytes.{packed_are}
-use Rattle.tws_moves.proofs.Spellings.{spells_so_far}
+use Rattle.tws_moves.proofs.Spellings.{spells_so_far, are_more}
 use Rattle.tws_moves.proofs.Waits.{waits_back}
 use Rattle.tws_moves.proofs.Held.{short_first, waits_in, one_is_bytes}
 use Rattle.tws_moves.proofs.Least.{three_step, alone_first, alone_second, alone_third}
@@ -111,36 +109,27 @@ pub packs_none : (bytes : List ℕ) → PacksPieces bytes bytes [] kept.None [] 
 packs_none bytes = record { pieces = []; so_far = record { fits = tt; split = refl }; packs = record { fits = tt; bytes = λ rest. refl } }
 
 module _ (bytes rest after : List ℕ) where
-  pub are_more : (front more : List (List ℕ)) → ArePieces bytes rest front → ArePieces rest after more → ArePieces bytes after (front ++ more)
-  are_more front more first second = record {
-    fits = all_append IsPiece front more first.fits second.fits;
-    split =
-        first.split
-        ∙ ap (λ (xs : List ℕ). join front ++ xs) second.split
-        ∙ sym (append_assoc (join front) (join more) after)
-        ∙ ap (λ (xs : List ℕ). xs ++ after) (sym (flat_map-append itself front more));
-  }
-
   pub packs_more : (old mid new : List ℕ) (before between next : Kept) → PacksPieces bytes rest old before mid between → PacksPieces rest after mid between new next → PacksPieces bytes after old before new next
   packs_more old mid new before between next first second = record {
     pieces = first.pieces ++ second.pieces;
-    so_far = are_more first.pieces second.pieces first.so_far second.so_far;
+    so_far = are_more bytes rest after first.pieces second.pieces first.so_far second.so_far;
     packs = subst (λ (ws : List Wait). Packs old before ws new next) (sym (flat_map-append waits_of first.pieces second.pieces)) (packs_join old mid new before between next (flat_map waits_of first.pieces) (flat_map waits_of second.pieces) first.packs second.packs);
   }
 
 -- ---- all pieces
 
-module _ (bytes rest packed whole : List ℕ) (left : Kept) (all : PacksPieces bytes rest [] kept.None packed left) (none : length rest < 1) where
+module _ (bytes rest packed more whole : List ℕ) (left : Kept) (all : PacksPieces bytes rest [] kept.None packed left) (none : length rest < 1) where
   spells : Spells bytes (moves_from 0 (flat_map waits_of all.pieces))
   spells = spells_so_far bytes rest all.pieces all.so_far none
 
   pub packs_spelling : IsSpelling bytes
   packs_spelling = (moves_from 0 (flat_map waits_of all.pieces), spells)
 
-  pub packs_all : whole ≡ packed ++ waits_bytes (kept_waits left) → whole ≡ packed_bytes bytes
-  packs_all whole-is =
+  pub packs_all : more ≡ packed → whole ≡ more ++ waits_bytes (kept_waits left) → whole ≡ packed_bytes bytes
+  packs_all same whole-is =
       let waits = flat_map waits_of all.pieces in
       whole-is
+      ∙ ap (λ (xs : List ℕ). xs ++ waits_bytes (kept_waits left)) same
       ∙ ap (λ (ws : List Wait). packed ++ waits_bytes ws) (sym (append-nil (kept_waits left)))
       ∙ sym (all.packs.bytes [])
       ∙ ap waits_bytes (append-nil waits ∙ sym (waits_back 0 waits))

@@ -1,8 +1,8 @@
 -- Which moves bytes spell, and where they are cut.
-use Rattle.std.proofs.Common.{◌≡◌, ◌⊎◌, ℕ, zero, suc, ◌+◌, ◌-◌, ◌<◌, ◌≤◌, List, [], ◌∷◌, ◌++◌, length, take, drop, refl, ap, sym, subst, ◌∙◌, arith, inl, inr, ⊎_elim, append_assoc, append-nil, take-append-drop, length-append, length-take, length-drop}
+use Rattle.std.proofs.Common.{◌≡◌, ◌⊎◌, ℕ, zero, suc, ◌+◌, ◌-◌, ◌<◌, ◌≤◌, List, [], ◌∷◌, ◌++◌, length, take, drop, slice_index_or, refl, ap, sym, subst, ◌∙◌, arith, inl, inr, ⊎_elim, append_assoc, append-nil, take-append-drop, length-append, length-take, length-drop}
 use Rattle.std.specs.List.{flat_map, AllByRecursion}
 use Rattle.std.proofs.Math.Seq.{take-append_seam, drop-append_seam, take-length}
-use Rattle.std.proofs.lemmas.List.{nil_from_length}
+use Rattle.std.proofs.lemmas.List.{nil_from_length, map_more}
 use Rattle.std.proofs.lemmas.List.Concat.{flat_map-append}
 use Rattle.tws_moves.specs.declared.moves_fault.MovesFault.{MovesFault}
 use Rattle.tws_moves.specs.declared.moves_fault.MovesFault.TheVariants.{Cut, Memory}
@@ -10,8 +10,8 @@ use Rattle.tws_moves.specs.Move.{Move, Wait, moves_from, tick_after}
 use Rattle.std.proofs.lemmas.Bool.{cases_lt}
 use Rattle.tws_moves.specs.Bytes.{IsBytes}
 use Rattle.tws_moves.specs.Spelling.{IsPiece, piece_length, waits_of, pieces_in, moves_in, join, Spells, IsSpelling, IsCutAt, IsCut, MovesFail}
-use Rattle.tws_moves.specs.Steps.{IsPieceCut, ArePieces, ReadsSoFar, CountsSoFar}
-use Rattle.tws_moves.proofs.Parts.{IsBytes-take, IsBytes-drop}
+use Rattle.tws_moves.specs.Steps.{IsPieceCut, ArePieces, ReadsSoFar, CountsSoFar, singles}
+use Rattle.tws_moves.proofs.Parts.{IsBytes-take, IsBytes-drop, all_append}
 use Rattle.tws_moves.proofs.Codes.{one_cut, longest_cut}
 use Rattle.tws_moves.proofs.Pieces.{itself, pieces_are_code, none_begins_none, cut_begins_none, piece_some}
 use Rattle.tws_moves.proofs.Ticks.{moves_of_waits, moves_alone, moves_from-append, tick_after-append}
@@ -134,13 +134,50 @@ module _ (bytes rest piece after : List ℕ) (one : IsPiece piece) (split : rest
         tick_is = next-is ∙ ap (λ (t : ℕ). tick_after t (waits_of piece)) reads.tick_is ∙ sym (tick_after-append 0 waits (waits_of piece)) ∙ ap (tick_after 0) (sym (more_waits reads.pieces piece));
       }
 
-  pub counts_more : (count next : ℕ) → CountsSoFar bytes rest count → next ≡ count + length (waits_of piece) → CountsSoFar bytes after next
-  counts_more count next counts next-is =
-      record {
-        pieces = counts.pieces ++ piece ∷ [];
-        so_far = pieces_more counts.pieces counts.so_far;
-        count_is = omega (arith, next-is, counts.count_is, ap length (more_waits counts.pieces piece), length-append (flat_map waits_of counts.pieces) (waits_of piece));
-      }
+pub counts_piece : (bytes piece after : List ℕ) (count : ℕ) → IsPiece piece → bytes ≡ piece ++ after → count ≡ length (waits_of piece) → CountsSoFar bytes after count
+counts_piece bytes piece after count one split count-is = record {
+  pieces = piece ∷ [];
+  so_far = record { fits = (one, tt); split = split ∙ ap (λ (xs : List ℕ). xs ++ after) (sym (append-nil piece)) };
+  count_is = count-is ∙ ap length (sym (append-nil (waits_of piece)));
+}
+
+-- ---- bytes that are a piece each
+
+pub single_piece : (bytes : List ℕ) (i d : ℕ) → i < length bytes → AllByRecursion IsPiece (singles bytes) → IsPiece (slice_index_or bytes i d ∷ [])
+single_piece [] i d inside all = absurd (omega arith)
+single_piece (b ∷ bytes) zero d inside all = all.0
+single_piece (b ∷ bytes) (suc i) d inside all = single_piece bytes i d (omega arith) all.1
+
+join_singles : (bytes : List ℕ) → join (singles bytes) ≡ bytes
+join_singles [] = refl
+join_singles (b ∷ bytes) = ap (λ (xs : List ℕ). b ∷ xs) (join_singles bytes)
+
+pub counts_singles : (bytes front rest : List ℕ) (count : ℕ) → AllByRecursion IsPiece (singles front) → bytes ≡ front ++ rest → count ≡ length (flat_map waits_of (singles front)) → CountsSoFar bytes rest count
+counts_singles bytes front rest count fits split count-is = record {
+  pieces = singles front;
+  so_far = record { fits = fits; split = split ∙ ap (λ (xs : List ℕ). xs ++ rest) (sym (join_singles front)) };
+  count_is = count-is;
+}
+
+-- ---- pieces and then more pieces
+
+module _ (bytes rest after : List ℕ) where
+  pub are_more : (front more : List (List ℕ)) → ArePieces bytes rest front → ArePieces rest after more → ArePieces bytes after (front ++ more)
+  are_more front more first second = record {
+    fits = all_append IsPiece front more first.fits second.fits;
+    split =
+        first.split
+        ∙ ap (λ (xs : List ℕ). join front ++ xs) second.split
+        ∙ sym (append_assoc (join front) (join more) after)
+        ∙ ap (λ (xs : List ℕ). xs ++ after) (sym (flat_map-append itself front more));
+  }
+
+  pub counts_more : (count more next : ℕ) → CountsSoFar bytes rest count → CountsSoFar rest after more → next ≡ count + more → CountsSoFar bytes after next
+  counts_more count more next first second next-is = record {
+    pieces = first.pieces ++ second.pieces;
+    so_far = are_more first.pieces second.pieces first.so_far second.so_far;
+    count_is = omega (arith, next-is, first.count_is, second.count_is, ap length (flat_map-append waits_of first.pieces second.pieces), length-append (flat_map waits_of first.pieces) (flat_map waits_of second.pieces));
+  }
 
 -- ---- every list of bytes
 

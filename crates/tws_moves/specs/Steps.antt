@@ -1,5 +1,5 @@
 -- What the private steps of reading and writing say. Callers need none of it.
-use Rattle.std.specs.Prelude.{◌≡◌, ℕ, ◌+◌, ◌/◌, ◌%◌, ◌<◌, ◌≤◌, ◌^◌, nat_lt, List, [], ◌∷◌, ◌++◌, length, take, drop, if◌then◌else◌}
+use Rattle.std.specs.Prelude.{◌≡◌, ℕ, ◌+◌, ◌/◌, ◌%◌, ◌<◌, ◌≤◌, ◌^◌, nat_lt, List, [], ◌∷◌, ◌++◌, length, map, take, drop, if◌then◌else◌}
 use Rattle.std.specs.List.{flat_map, AllByRecursion}
 use Rattle.tws_moves.specs.declared.act.Act.{Act}
 use Rattle.tws_moves.specs.declared.act.Act.TheVariants.{Step, Code}
@@ -14,6 +14,10 @@ use Rattle.tws_moves.specs.Shortest.{alone, waits_bytes}
 abbrev pub IsPieceCut : List ℕ → Type 0
 IsPieceCut [] = Unit {0}
 IsPieceCut (first ∷ rest) = 1 + length rest < piece_length first
+
+-- bytes that are a piece each
+abbrev pub singles : List ℕ → List (List ℕ)
+singles bytes = map (λ (b : ℕ). b ∷ []) bytes
 
 -- so far the bytes are these pieces, and a rest
 pub record ArePieces (bytes rest : List ℕ) (pieces : List (List ℕ)) : Type 0 where

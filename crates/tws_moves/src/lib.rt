@@ -2,8 +2,8 @@
 #![tactic(auto)]
 
 mod act;
-mod laws;
 mod kept;
+mod laws;
 mod layout;
 mod moves;
 mod moves_fault;
@@ -22,6 +22,7 @@ pub use laws::{
 };
 pub use moves::{Move, is_timed};
 pub use moves_fault::MovesFault;
+pub use pack::pack_moves;
 pub use reading::{check_moves, read_moves};
 pub use spell_fault::SpellFault;
 pub use writing::write_moves;

@@ -135,8 +135,13 @@ fn moves_that_come_too_late(rt: HostRuntime) -> Result<(), Fail> {
 
 #[test]
 fn bytes_spelled_anew(rt: HostRuntime) -> Result<(), Fail> {
-    let rows: [(&[u8], &[u8]); 5] = [
+    let rows: [(&[u8], &[u8]); 8] = [
+        (&[], &[]),
         (&[0x61, 0x61, 0x61, 0x61], &[0x00, 0x61]),
+        // two plain steps and then one that waits a tick
+        (&[0x65, 0x61, 0x21], &[0x65, 0x61, 0x21]),
+        // a plain step, three in a byte, and a plain step of another direction
+        (&[0x61, 0xE4, 0x69], &[0x90, 0x6D, 0x69]),
         (&[0x02, 0x00], &[0x01]),
         (&[0x1F, 0x00, 0x00, 0x00, 0x00], &[0x13, 0x00]),
         (&[0x61, 0x00, 0x00], &[0x00, 0x00, 0x61]),
@@ -146,7 +151,12 @@ fn bytes_spelled_anew(rt: HostRuntime) -> Result<(), Fail> {
         let moves = read_moves(rt.alloc(), bytes)?;
         let written = write_moves(rt.alloc(), &moves)?;
         assert_eq!(rt; written.as_slice(), packed);
+        assert_eq!(rt; pack_moves(rt.alloc(), bytes)?.as_slice(), packed);
     }
+    assert_eq!(rt;
+        pack_moves(rt.alloc(), &[0x61, 0x61, 0x02]).err(),
+        Some(MovesFault::Cut { at: 2 })
+    );
     Ok(())
 }
 

@@ -1,7 +1,6 @@
-use Rattle.std.proofs.Common.{rules, arith, sym, ap, inl, ◌∙◌, ◌++◌, List, ℕ, []}
+use Rattle.std.proofs.Common.{rules, inl, ◌∙◌, []}
 use Rattle.tws_moves.specs.declared.kept.Kept.TheVariants as kept
-use Rattle.tws_moves.specs.Shortest.{waits_bytes}
-use Rattle.tws_moves.specs.Steps.{PacksPieces, kept_waits}
+use Rattle.tws_moves.specs.Steps.{PacksPieces}
 use Rattle.tws_moves.proofs.Parts.{at_some, at_none}
 use Rattle.tws_moves.proofs.PackedBytes.{packed_are}
 use Rattle.tws_moves.proofs.Repacking.{packs_more, packs_all, packs_spelling}
@@ -26,13 +25,12 @@ returns-then-not-is_empty-clause-accepts g c = λ moves spells. spelled_fails c.
 
 pub returns-clause-spelled : goal.returns-clause-spelled
 returns-clause-spelled g c =
-    packs_spelling c.args.bytes.now c.loop-packed.rest.now c.loop-packed.packed.items c.push_to.new.packed.items c.loop-packed.kept c.loop-packed.invariant (search rules)
+    packs_spelling c.args.bytes.now c.loop-packed.rest.now c.loop-packed.packed.items c.pack_next.new.packed.items c.push_to.new.packed.items c.loop-packed.kept c.loop-packed.invariant (search rules)
 
 pub returns-clause-packed : goal.returns-clause-packed
 returns-clause-packed g c =
     let none = at_none c.in_ok-next.field-0 c.in_default.is c.in_ok-next.ensures.none in
-    let left = waits_bytes (kept_waits c.loop-packed.kept) in
-    packs_all c.args.bytes.now c.loop-packed.rest.now c.loop-packed.packed.items c.push_to.new.packed.items c.loop-packed.kept c.loop-packed.invariant (search rules) (c.in_ok-push_to.ensures ∙ ap (λ (xs : List ℕ). xs ++ left) none.1)
+    packs_all c.args.bytes.now c.loop-packed.rest.now c.loop-packed.packed.items c.pack_next.new.packed.items c.push_to.new.packed.items c.loop-packed.kept c.loop-packed.invariant (search rules) none.1 c.in_ok-push_to.ensures
 
 pub returns-clause-accepts : goal.returns-clause-accepts
 returns-clause-accepts g c = λ moves spells. returns-clause-packed g c ∙ packed_are c.args.bytes.now moves spells

@@ -1,4 +1,4 @@
-use Rattle.std.proofs.Common.{rules, List, ℕ}
+use Rattle.std.proofs.Common.{rules}
 use Rattle.tws_moves.proofs.Repacking.{three_front}
 use Rattle.tws_moves.proofs.pack.split_plain.Goals as goal
 
