@@ -1,7 +1,7 @@
 -- Bytes to the shortest bytes, piece by piece, with the plain steps that are kept back.
-use Rattle.std.proofs.Common.{◌≡◌, ℕ, ◌+◌, ◌-◌, ◌*◌, ◌/◌, ◌%◌, ◌<◌, ◌≤◌, true, false, List, [], ◌∷◌, ◌++◌, length, take, drop, slice_index_or, refl, ap, sym, subst, ◌∙◌, arith, flat_map, append_assoc, append-nil}
+use Rattle.std.proofs.Common.{◌≡◌, ℕ, ◌+◌, ◌-◌, ◌*◌, ◌^◌, ◌/◌, ◌%◌, ◌<◌, ◌≤◌, true, false, List, [], ◌∷◌, ◌++◌, length, take, drop, slice_index_or, refl, ap, sym, subst, ◌∙◌, arith, flat_map, append_assoc, append-nil}
 use Rattle.std.proofs.lemmas.List.Concat.{flat_map-append}
-use Rattle.std.proofs.lemmas.List.{take_rest}
+use Rattle.std.proofs.lemmas.List.{take_rest, nil_from_length}
 use Rattle.std.proofs.lemmas.Bool.{lt-ltb}
 use Rattle.tws_moves.specs.declared.act.Act.TheVariants.{Step}
 use Rattle.tws_moves.specs.declared.kept.Kept.{Kept}
@@ -16,7 +16,7 @@ use Rattle.tws_moves.specs.Steps.{Packs, PacksPieces, PlainByte, kept_waits, pla
 use Rattle.tws_moves.proofs.PackedBytes.{packed_are}
 use Rattle.tws_moves.proofs.Spellings.{spells_so_far, are_more}
 use Rattle.tws_moves.proofs.Waits.{waits_back}
-use Rattle.tws_moves.proofs.Held.{short_first, waits_in, one_is_bytes}
+use Rattle.tws_moves.proofs.Held.{short_first, step_short, waits_in, one_is_bytes}
 use Rattle.tws_moves.proofs.Least.{three_step, alone_first, alone_second, alone_third}
 
 -- what is kept back stands alone before a wait that is no plain step
@@ -52,6 +52,13 @@ packs_join old mid new before between after v w first second = record {
 
 -- ---- three plain steps in a byte each
 
+-- such a piece is its first byte
+pub short_piece : (piece : List ℕ) → IsPiece piece → slice_index_or piece 0 0 % 4 ≡ 1 → piece ≡ slice_index_or piece 0 0 ∷ []
+short_piece [] one low = absurd one.whole
+short_piece (b ∷ rest) one low =
+    let long : 1 + length rest ≡ 1 = one.whole ∙ ap (λ (l : Layout). layout_length l b) (short_first b low) in
+    ap (λ (xs : List ℕ). b ∷ xs) (nil_from_length rest (omega (arith, long)))
+
 pub plain_byte : (b : ℕ) → b < 256 → b % 4 ≡ 1 → b / 16 % 2 ≡ 0 → b / 32 ≡ 3 → PlainByte b
 plain_byte b small low high wait =
     let first = short_first b low in
@@ -63,6 +70,22 @@ plain_byte b small low high wait =
       piece = record { bytes = one_is_bytes b small; whole = sym (ap (λ (l : Layout). layout_length l b) first) };
       made = waits_in layout.ShortStep (number_of (b ∷ [])) b [] first refl ∙ whole;
     }
+
+-- ---- a step in one byte
+
+module _ (b t : ℕ) (t-is : t ≡ b / 32) (low : b % 4 ≡ 1) (small : b < 256) where
+  pub short_waits : waits_of (b ∷ []) ≡ record { ticks = t; act = Step (b / 4 % 8) } ∷ []
+  short_waits =
+      let make : ℕ → ℕ → List Wait = λ t d. record { ticks = t; act = Step d } ∷ [] in
+      let ticks : bits 5 3 (number_of (b ∷ [])) ≡ t = omega (arith, t-is) in
+      let direction : bits 2 3 (number_of (b ∷ [])) ≡ b / 4 % 8 = omega arith in
+      let whole : make (bits 5 3 (number_of (b ∷ []))) (bits 2 3 (number_of (b ∷ []))) ≡ make t (b / 4 % 8) = cc in
+      waits_in layout.ShortStep (number_of (b ∷ [])) b [] (short_first b low) refl ∙ whole
+
+  pub short_alone : b ∷ [] ≡ alone (record { ticks = t; act = Step (b / 4 % 8) })
+  short_alone =
+      let byte : b ≡ (1 + 4 * (b / 4 % 8) + 2 ^ 5 * t) % 256 = omega (arith, low, t-is) in
+      ap (λ (n : ℕ). n ∷ []) byte ∙ sym (step_short t (b / 4 % 8) (omega (arith, t-is)))
 
 step_is_plain : (d : ℕ) → d < 4 → is_plain (plain_step d) ≡ true
 step_is_plain d small = let e = lt-ltb d 4 small in rw e
@@ -134,3 +157,10 @@ module _ (bytes rest packed more whole : List ℕ) (left : Kept) (all : PacksPie
       ∙ sym (all.packs.bytes [])
       ∙ ap waits_bytes (append-nil waits ∙ sym (waits_back 0 waits))
       ∙ sym (packed_are bytes (moves_from 0 waits) spells)
+
+-- ---- twelve plain steps
+
+pub packs_twice : (bytes rest after : List ℕ) (old first second : List ℕ) → PacksPieces bytes rest old kept.None (old ++ first) kept.None → ((mid : List ℕ) → PacksPieces rest after mid kept.None (mid ++ second) kept.None) → PacksPieces bytes after old kept.None (old ++ (first ++ second)) kept.None
+packs_twice bytes rest after old first second one two =
+    subst (λ (xs : List ℕ). PacksPieces bytes after old kept.None xs kept.None) (append_assoc old first second)
+    (packs_more bytes rest after old (old ++ first) ((old ++ first) ++ second) kept.None kept.None kept.None one (two (old ++ first)))

@@ -1,6 +1,6 @@
 //! Bytes that spell moves to the shortest that spell the same, without a list of the moves.
 
-ghost use Rattle.std.specs.Prelude.{◌≡◌, ℕ, ◌+◌, ◌*◌, ◌<◌, ◌^◌, List, [], ◌∷◌, length, ◌++◌, IsTrue, IfOk, IfErr, OnOk, IfSome, IfNone, MatchResult};
+ghost use Rattle.std.specs.Prelude.{◌≡◌, ℕ, ◌+◌, ◌*◌, ◌<◌, ◌%◌, ◌^◌, List, [], ◌∷◌, length, ◌++◌, IsTrue, IfOk, IfErr, OnOk, IfSome, IfNone, MatchResult};
 ghost use Rattle.tws_moves.specs.declared.moves_fault.MovesFault.TheVariants as fault;
 ghost use Rattle.tws_moves.specs.declared.layout.Layout.TheVariants as layout;
 ghost use Rattle.tws_moves.specs.declared.kept.Kept.TheVariants as kept;
@@ -9,6 +9,7 @@ ghost use Rattle.tws_moves.specs.Spelling.{IsPiece, IsSpelling, Spells, MovesFai
 ghost use Rattle.tws_moves.specs.Shortest.{packed_bytes, shortest_of};
 ghost use Rattle.tws_moves.specs.Steps.{IsHeld, IsKept, IsPieceCut, Packs, PacksPieces, PlainByte};
 
+use crate::act::Act;
 use crate::kept::Kept;
 use crate::layout::Layout;
 use crate::moves_fault::MovesFault;
@@ -52,6 +53,35 @@ fn pack_three<A: Allocator>(
     kept.add(packed, bits(6, 2, number) as u8)
 }
 
+// Whether the byte is the piece of a step 0 to 3 behind three ticks.
+fn is_plain(byte: u8) -> bool
+    ensures { IsTrue result → PlainByte byte }
+{
+    byte % 4 == 1 && byte / 16 % 2 == 0 && byte / 32 == 3
+}
+
+// Adds a step that is a piece of one byte: alone it is that byte again.
+fn pack_short<A: Allocator>(
+    packed: &mut Vec<u8, A>,
+    kept: Kept,
+    byte: u8,
+) -> Result<Kept, AllocError>
+    requires kept { IsKept kept }
+    requires short { byte % 4 ≡ 1 }
+    ensures { IfOk result (Packs packed.old.items kept (waits_of (byte ∷ [])) packed.new.items) }
+{
+    let wait = Wait {
+        ticks: u64::from(byte / 32),
+        act: Act::Step(byte / 4 % 8),
+    };
+    if wait.is_plain() {
+        return kept.add(packed, wait.direction());
+    }
+    kept.push_to(packed)?;
+    packed.push(byte)?;
+    Ok(Kept::None)
+}
+
 // Adds the moves in a piece.
 fn pack_piece<A: Allocator>(
     packed: &mut Vec<u8, A>,
@@ -62,6 +92,9 @@ fn pack_piece<A: Allocator>(
     requires kept { IsKept kept }
     ensures { IfOk result (Packs packed.old.items kept (waits_of piece.now) packed.new.items) }
 {
+    if piece[0] % 4 == 1 {
+        return pack_short(packed, kept, piece[0]);
+    }
     let number = number_of(piece);
     match Wait::in_layout(Layout::of(piece[0]), number) {
         Some(wait) => pack_wait(packed, kept, wait),
@@ -69,16 +102,9 @@ fn pack_piece<A: Allocator>(
     }
 }
 
-// Whether the byte is the piece of a step 0 to 3 behind three ticks.
-fn is_plain(byte: u8) -> bool
-    ensures { IsTrue result → PlainByte byte }
-{
-    byte % 4 == 1 && byte / 16 % 2 == 0 && byte / 32 == 3
-}
-
 // The byte that holds the three steps that the bytes begin with, each in a byte of its own behind three ticks; and the
 // bytes behind them.
-fn split_plain(bytes: &[u8]) -> Option<(u8, &[u8])>
+fn split_three(bytes: &[u8]) -> Option<(u8, &[u8])>
     ensures packs { IfSome result (λ r. (old : List ℕ) → PacksPieces bytes.now r.1.now old kept.None (old ++ r.0 ∷ []) kept.None) }
     ensures shorter { IfSome result (λ r. length r.1.now < length bytes.now) }
 {
@@ -91,6 +117,18 @@ fn split_plain(bytes: &[u8]) -> Option<(u8, &[u8])>
     }
     let byte = 4 * (first / 4 % 4) + 16 * (second / 4 % 4) + 64 * (third / 4 % 4);
     Some((byte, rest))
+}
+
+// The same of twelve such steps.
+fn split_twelve(bytes: &[u8]) -> Option<([u8; 4], &[u8])>
+    ensures packs { IfSome result (λ r. (old : List ℕ) → PacksPieces bytes.now r.1.now old kept.None (old ++ r.0) kept.None) }
+    ensures shorter { IfSome result (λ r. length r.1.now < length bytes.now) }
+{
+    let (first, rest) = split_three(bytes)?;
+    let (second, rest) = split_three(rest)?;
+    let (third, rest) = split_three(rest)?;
+    let (fourth, rest) = split_three(rest)?;
+    Some(([first, second, third, fourth], rest))
 }
 
 // Adds the moves that the bytes begin with, and answers what is kept back and the bytes behind them; none where their
@@ -106,9 +144,10 @@ fn pack_next<'a, A: Allocator>(
     ensures none { IfOk result (λ next. IfNone next (IsPieceCut bytes.now × (packed.new.items ≡ packed.old.items))) }
 {
     if let Kept::None = kept {
-        if let Some((byte, rest)) = split_plain(bytes) {
-            packed.push(byte)?;
-            return Ok(Some((Kept::None, rest)));
+        if let Some(found) = split_twelve(bytes) {
+            let four = found.0;
+            packed.extend_from_slice(&four)?;
+            return Ok(Some((Kept::None, found.1)));
         }
     }
     let Some((piece, rest)) = split_piece(bytes) else {

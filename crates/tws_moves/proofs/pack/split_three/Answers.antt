@@ -1,6 +1,6 @@
 use Rattle.std.proofs.Common.{rules}
 use Rattle.tws_moves.proofs.Repacking.{three_front}
-use Rattle.tws_moves.proofs.pack.split_plain.Goals as goal
+use Rattle.tws_moves.proofs.pack.split_three.Goals as goal
 
 pub returns-clause-packs : goal.returns-clause-packs
 returns-clause-packs c = λ old.
