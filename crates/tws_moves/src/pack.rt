@@ -82,7 +82,8 @@ fn pack_short<A: Allocator>(
     Ok(Kept::None)
 }
 
-// Adds the moves in a piece.
+// Adds the moves in a piece. Apart from the loop over runs of plain steps, which is faster so.
+#[inline(never)]
 fn pack_piece<A: Allocator>(
     packed: &mut Vec<u8, A>,
     kept: Kept,
@@ -163,6 +164,7 @@ fn pack_next<'a, A: Allocator>(
 /// # Errors
 ///
 /// `Cut` where the bytes end inside a move, or `Memory` where a growth was refused.
+#[inline(never)]
 pub fn pack_moves<A: Allocator>(alloc: A, bytes: &[u8]) -> Result<Vec<u8, A>, MovesFault>
     requires { length bytes.now < 2 ^ 32 }
     ensures packed { IfOk result (λ packed. packed.items ≡ packed_bytes bytes.now) }
