@@ -1,7 +1,7 @@
-// Moves are read and written.
+// Moves are read and written, and bytes packed.
 use refusing::Refusing;
 use std::test::Fail;
-use tws_moves::{MovesFault, SpellFault, check_moves, read_moves, write_moves};
+use tws_moves::{MovesFault, SpellFault, check_moves, pack_moves, read_moves, write_moves};
 
 // Ten moves, in each of the five layouts.
 const SPELLED: [u8; 11] = [
@@ -42,6 +42,25 @@ fn writing(rt: HostRuntime) -> Result<(), Fail> {
             Ok(bytes) => assert_eq!(rt; bytes.as_slice(), SPELLED.as_slice()),
             Err(fault) => {
                 assert_eq!(rt; fault, SpellFault::Memory);
+                assert!(rt; refusing.has_refused());
+            }
+        }
+        if !refusing.has_refused() {
+            assert!(rt; nth > 1);
+            return Ok(());
+        }
+    }
+    Err(Fail::new("a request was refused in each run"))
+}
+
+#[test]
+fn packing(rt: HostRuntime) -> Result<(), Fail> {
+    for nth in 1..MANY {
+        let refusing = Refusing::new(rt.alloc(), nth);
+        match pack_moves(&refusing, &SPELLED) {
+            Ok(bytes) => assert_eq!(rt; bytes.as_slice(), SPELLED.as_slice()),
+            Err(fault) => {
+                assert_eq!(rt; fault, MovesFault::Memory);
                 assert!(rt; refusing.has_refused());
             }
         }
