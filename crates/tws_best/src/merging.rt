@@ -5,14 +5,32 @@ ghost use Rattle.std.specs.List.{AllByRecursion};
 ghost use Rattle.tws_file.specs.Record.{records_of};
 ghost use Rattle.tws_file.specs.Text.{IsRecord};
 ghost use Rattle.tws_best.specs.Best.{IsRising, IsKept, IsBestOf, solved_in, solved_by};
-ghost use Rattle.tws_best.specs.Steps.{Joins, Picks, same_key};
+ghost use Rattle.tws_best.specs.Steps.{IsBetter, IsHeld, Joins, Picks, same_key};
 
 use crate::finding::is_better;
 use crate::kept::Kept;
 use std::alloc::{AllocError, Allocator};
 use tws_file::{Record, Ruleset, TwsFile};
 
-// The solutions among the records that are better than what is kept for their keys.
+// The solutions among the records, in their order.
+fn solutions_among<A: Allocator + Copy, B: Allocator>(
+    alloc: A,
+    records: &[Record<B>],
+) -> Result<Vec<Kept<A>, A>, AllocError>
+    ensures { IfOk result (λ all. all.items ≡ solved_in (records_of records.now)) }
+{
+    let mut all = Vec::new(alloc);
+    for record in records {
+        if let Record::Solution(solution) = record {
+            let one = Kept::of(alloc, solution)?;
+            all.push(one)?;
+        }
+    }
+    Ok(all)
+}
+
+// The solutions among the records that are better than what is kept for their keys. They are put in order first, so that
+// one search after the other goes to a place near the last one.
 pub(crate) fn pick<A: Allocator + Copy, B: Allocator>(
     alloc: A,
     kept: &[Kept<A>],
@@ -21,16 +39,14 @@ pub(crate) fn pick<A: Allocator + Copy, B: Allocator>(
     requires { IsRising kept.now }
     ensures { IfOk result (λ better. Picks kept.now (solved_in (records_of records.now)) better.items) }
 {
-    let mut better = Vec::new(alloc);
-    for record in records {
-        if let Record::Solution(solution) = record {
-            let one = Kept::of(alloc, solution)?;
-            if is_better(kept, &one) {
-                better.push(one)?;
-            }
-        }
-    }
-    Ok(better)
+    let mut fresh = solutions_among(alloc, records)?;
+    fresh.sort_by(|a, b| a.order(b))?;
+    let better = |one: &Kept<A>| -> bool
+        requires { IsRising kept.now }
+        ensures { MatchBool result (IsBetter kept.entry.now one.now) (IsHeld (Contains kept.entry.now) one.now) }
+    { is_better(kept, one) };
+    fresh.retain(better);
+    Ok(fresh)
 }
 
 // Puts all in order, and keeps the first of each key. After an error the old ones stay as they were.
