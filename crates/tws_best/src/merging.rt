@@ -71,6 +71,21 @@ pub(crate) fn join<A: Allocator>(
     Ok(())
 }
 
+// Adds what others keep, so that the best of all are kept.
+pub(crate) fn unite<A: Allocator>(
+    kept: &mut Vec<Kept<A>, A>,
+    more: Vec<Kept<A>, A>,
+) -> Result<(), AllocError>
+    requires kept { IsKept kept.old.items }
+    requires more { IsKept more.items }
+    ensures best { OnOk result (IsBestOf (Contains (kept.old.items ++ more.items)) kept.new.items) }
+    ensures err { OnErr result (kept.new.items ≡ kept.old.items) }
+    ensures fits { IsKept kept.new.items }
+{
+    join(kept, more)?;
+    Ok(())
+}
+
 // Adds the solutions among the records, so that the best of all are kept. Whether anything changed.
 pub(crate) fn add<A: Allocator + Copy, B: Allocator>(
     alloc: A,
