@@ -1,4 +1,4 @@
-// Files are merged into a collection, loaded, and copied.
+// Files are merged into a collection and loaded, and collections joined and copied.
 use refusing::Refusing;
 use std::alloc::{Allocator, Global};
 use std::test::Fail;
@@ -58,6 +58,35 @@ fn merging(rt: HostRuntime) -> Result<(), Fail> {
                 assert!(rt; changed);
                 assert!(rt; is_text(rt.alloc(), &collection, &ALL)?);
             }
+            Err(_) => {
+                assert!(rt; refusing.has_refused());
+                assert!(rt; is_text(rt.alloc(), &collection, &THREE)?);
+            }
+        }
+        if !refusing.has_refused() {
+            assert!(rt; nth > 5);
+            return Ok(());
+        }
+    }
+    Err(Fail::new("a request was refused in each run"))
+}
+
+#[test]
+fn joining(rt: HostRuntime) -> Result<(), Fail> {
+    let three = file_of(rt.alloc(), &THREE)?;
+    let two = file_of(rt.alloc(), &TWO)?;
+    for nth in 1..MANY {
+        let refusing = Refusing::new(rt.alloc(), nth);
+        let mut collection = Collection::new(&refusing, Ruleset::Lynx);
+        let mut other = Collection::new(&refusing, Ruleset::Lynx);
+        if collection.merge(&three).is_err() {
+            continue;
+        }
+        if other.merge(&two).is_err() {
+            continue;
+        }
+        match collection.join(other) {
+            Ok(()) => assert!(rt; is_text(rt.alloc(), &collection, &ALL)?),
             Err(_) => {
                 assert!(rt; refusing.has_refused());
                 assert!(rt; is_text(rt.alloc(), &collection, &THREE)?);

@@ -59,15 +59,15 @@ solved_entries (set rest ∷ rs) fits = solved_entries rs fits.1
 solved_entries (bare key ∷ rs) fits = solved_entries rs fits.1
 solved_entries (solution s ∷ rs) fits = (record { solved = s; fits = fits.0; is = refl }, solved_entries rs fits.1)
 
--- the best of what is kept and of the solutions among records can be kept
-pub best_kept : (old : List Entry) (rs : List Record) (new : List Entry) → IsKept old → AllByRecursion IsRecord rs → IsBestOf (Contains (old ++ solved_in rs)) new → IsKept new
-best_kept old rs new kept fits of = record {
+-- the best of two lists of what can be kept can be kept
+pub best_kept : (old more new : List Entry) → IsKept old → AllByRecursion IsEntry more → IsBestOf (Contains (old ++ more)) new → IsKept new
+best_kept old more new kept fits of = record {
   rising = of.rising;
-  solved = all_from IsEntry new (λ e has. elim (Contains-append_cases old (solved_in rs) e (of.best e has).member) [
+  solved = all_from IsEntry new (λ e has. elim (Contains-append_cases old more e (of.best e has).member) [
     | inl first ↦ all_at IsEntry old e kept.solved first
-    | inr second ↦ all_at IsEntry (solved_in rs) e (solved_entries rs fits) second
+    | inr second ↦ all_at IsEntry more e fits second
   ]);
 }
 
 pub merged_kept : (old : List Entry) (rs : List Record) (better new : List Entry) → IsKept old → AllByRecursion IsRecord rs → Picks old (solved_in rs) better → Joins old better new → IsKept new
-merged_kept old rs better new kept fits p j = best_kept old rs new kept fits (merged_best old (solved_in rs) better new p j)
+merged_kept old rs better new kept fits p j = best_kept old (solved_in rs) new kept (solved_entries rs fits) (merged_best old (solved_in rs) better new p j)

@@ -1,5 +1,5 @@
 -- Files and texts as sets: order and repeats have no effect, and files may come one after the other.
-use Rattle.std.proofs.Common.{◌≡◌, ◌⊎◌, ℕ, List, [], ◌∷◌, ◌++◌, refl, ap, sym, ◌∙◌, subst, inl, inr, append-nil}
+use Rattle.std.proofs.Common.{◌≡◌, ◌⊎◌, ℕ, List, [], ◌∷◌, ◌++◌, refl, ap, sym, ◌∙◌, subst, inl, inr, append_assoc, append-nil}
 use Rattle.std.specs.List.{Contains}
 use Rattle.std.proofs.lemmas.List.Elements.{Contains-append_left, Contains-append_right, Contains-append_cases, Contains-push, Contains-push_cases}
 use Rattle.tws_file.specs.declared.«ruleset».Ruleset.{Ruleset}
@@ -166,3 +166,20 @@ own_collection c fits =
             | inr none ↦ absurd (Contains-none s.text none)
           ]);
     }
+
+-- ---- collections beside one another
+
+swapped : (xs ys es : List Entry) → IsBestOf (Contains (xs ++ ys)) es → IsBestOf (Contains (ys ++ xs)) es
+swapped xs ys es of =
+    let turn : (v w : List Entry) (e : Entry) → Contains (v ++ w) e → Contains (w ++ v) e = λ v w e has. elim (Contains-append_cases v w e has) [
+      | inl first ↦ Contains-append_right w v e first
+      | inr second ↦ Contains-append_left w v e second
+    ] in
+    same_best (Contains (xs ++ ys)) (Contains (ys ++ xs)) es of (turn xs ys) (turn ys xs)
+
+-- What is best of one and of the best of two others is best of all three, in the order that a merge has them.
+pub best_of_three : (cs rs ss rs2 ds es : List Entry) → IsBestOf (Contains (cs ++ rs)) ds → IsBestOf (Contains (rs ++ ss)) rs2 → IsBestOf (Contains (cs ++ rs2)) es → IsBestOf (Contains (ds ++ ss)) es
+best_of_three cs rs ss rs2 ds es first second all =
+    let spread : IsBestOf (Contains ((rs ++ ss) ++ cs)) es = best_of_best (rs ++ ss) cs rs2 es second (swapped cs rs2 es all) in
+    let together : IsBestOf (Contains ((cs ++ rs) ++ ss)) es = subst (λ (xs : List Entry). IsBestOf (Contains xs) es) (sym (append_assoc cs rs ss)) (swapped (rs ++ ss) cs es spread) in
+    best_of_all (cs ++ rs) ss ds es first together

@@ -5,7 +5,7 @@ ghost use Rattle.tws_best.specs.Best.{IsBestOf, IsCollected, HasBody, HasKey, so
 
 use crate::finding::find;
 use crate::kept::Kept;
-use crate::merging::{add, records_under};
+use crate::merging::{add, records_under, unite};
 use crate::text::{copies, entries_len, write_parts};
 use std::alloc::{AllocError, Allocator, Global};
 use std::io::Write;
@@ -76,6 +76,22 @@ impl<A: Allocator + Copy> Collection<A> {
     {
         let records = records_under(self.ruleset, file);
         add(self.alloc, &mut self.kept, records)
+    }
+
+    /// Adds what another collection of the same rules has: the best of both are kept.
+    ///
+    /// # Errors
+    ///
+    /// Memory ran out. The collection is as it was, and the other one is gone.
+    pub fn join(&mut self, other: Self) -> Result<(), AllocError>
+        requires { other.ruleset ≡ self.old.ruleset }
+        ensures best { OnOk result (IsBestOf (Contains (self.old.entries ++ other.entries)) self.new.entries) }
+        ensures rules { self.new.ruleset ≡ self.old.ruleset }
+        ensures err { OnErr result (self.new ≡ self.old) }
+        ensures fits { IsCollected self.new }
+    {
+        let Collection { kept, .. } = other;
+        unite(&mut self.kept, kept)
     }
 }
 

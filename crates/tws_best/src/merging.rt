@@ -5,14 +5,32 @@ ghost use Rattle.std.specs.List.{AllByRecursion};
 ghost use Rattle.tws_file.specs.Record.{records_of};
 ghost use Rattle.tws_file.specs.Text.{IsRecord};
 ghost use Rattle.tws_best.specs.Best.{IsRising, IsKept, IsBestOf, solved_in, solved_by};
-ghost use Rattle.tws_best.specs.Steps.{Joins, Picks, same_key};
+ghost use Rattle.tws_best.specs.Steps.{IsBetter, IsHeld, Joins, Picks, same_key};
 
 use crate::finding::is_better;
 use crate::kept::Kept;
 use std::alloc::{AllocError, Allocator};
 use tws_file::{Record, Ruleset, TwsFile};
 
-// The solutions among the records that are better than what is kept for their keys.
+// The solutions among the records, in their order.
+fn solutions_among<A: Allocator + Copy, B: Allocator>(
+    alloc: A,
+    records: &[Record<B>],
+) -> Result<Vec<Kept<A>, A>, AllocError>
+    ensures { IfOk result (λ all. all.items ≡ solved_in (records_of records.now)) }
+{
+    let mut all = Vec::new(alloc);
+    for record in records {
+        if let Record::Solution(solution) = record {
+            let one = Kept::of(alloc, solution)?;
+            all.push(one)?;
+        }
+    }
+    Ok(all)
+}
+
+// The solutions among the records that are better than what is kept for their keys. They are put in order first, so that
+// one search after the other goes to a place near the last one.
 pub(crate) fn pick<A: Allocator + Copy, B: Allocator>(
     alloc: A,
     kept: &[Kept<A>],
@@ -21,16 +39,14 @@ pub(crate) fn pick<A: Allocator + Copy, B: Allocator>(
     requires { IsRising kept.now }
     ensures { IfOk result (λ better. Picks kept.now (solved_in (records_of records.now)) better.items) }
 {
-    let mut better = Vec::new(alloc);
-    for record in records {
-        if let Record::Solution(solution) = record {
-            let one = Kept::of(alloc, solution)?;
-            if is_better(kept, &one) {
-                better.push(one)?;
-            }
-        }
-    }
-    Ok(better)
+    let mut fresh = solutions_among(alloc, records)?;
+    fresh.sort_by(|a, b| a.order(b))?;
+    let better = |one: &Kept<A>| -> bool
+        requires { IsRising kept.now }
+        ensures { MatchBool result (IsBetter kept.entry.now one.now) (IsHeld (Contains kept.entry.now) one.now) }
+    { is_better(kept, one) };
+    fresh.retain(better);
+    Ok(fresh)
 }
 
 // Puts all in order, and keeps the first of each key. After an error the old ones stay as they were.
@@ -52,6 +68,21 @@ pub(crate) fn join<A: Allocator>(
         ensures { (result ≡ same_key a.entry.now b.entry.now) × ((a.exit.now ≡ a.entry.now) × (b.exit.now ≡ b.entry.now)) }
     { a.key().cmp(&b.key()).is_eq() };
     kept.dedup_by(same);
+    Ok(())
+}
+
+// Adds what others keep, so that the best of all are kept.
+pub(crate) fn unite<A: Allocator>(
+    kept: &mut Vec<Kept<A>, A>,
+    more: Vec<Kept<A>, A>,
+) -> Result<(), AllocError>
+    requires kept { IsKept kept.old.items }
+    requires more { IsKept more.items }
+    ensures best { OnOk result (IsBestOf (Contains (kept.old.items ++ more.items)) kept.new.items) }
+    ensures err { OnErr result (kept.new.items ≡ kept.old.items) }
+    ensures fits { IsKept kept.new.items }
+{
+    join(kept, more)?;
     Ok(())
 }
 

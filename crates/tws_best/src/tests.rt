@@ -375,3 +375,21 @@ fn writers_that_fail(rt: HostRuntime) -> Result<(), Fail> {
     assert_eq!(rt; out.taken.as_slice(), ORDERED.as_slice());
     Ok(())
 }
+
+#[test]
+fn collections_joined(rt: HostRuntime) -> Result<(), Fail> {
+    let alloc = rt.alloc();
+    let mut first = Collection::new(alloc, Ruleset::Lynx);
+    first.merge(&read_file(alloc, &HUNDRED)?)?;
+    let mut second = Collection::new(alloc, Ruleset::Lynx);
+    second.merge(&read_file(alloc, &UNORDERED)?)?;
+    second.merge(&read_file(alloc, &NINETY)?)?;
+    first.join(second)?;
+    first.join(Collection::new(alloc, Ruleset::Lynx))?;
+    let ninety = record(alloc, 1, b"BDHP", 0, 90, &[])?;
+    let ten = record(alloc, 1, b"CCCC", 0, 10, &[])?;
+    let twenty = record(alloc, 2, b"BBBB", 0, 20, &[])?;
+    let wanted = file(alloc, &LYNX, &[&ninety, &ten, &twenty])?;
+    assert_eq!(rt; text_of(alloc, &first)?.as_slice(), wanted.as_slice());
+    Ok(())
+}
