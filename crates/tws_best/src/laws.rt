@@ -38,6 +38,8 @@ pub fn some_best()
 /// What is best of the best of some and of others is best of all together, and the other way round.
 pub fn best_of_best()
     ensures together { (xs ys ms ns : List Entry) → IsBestOf (Contains xs) ms → IsBestOf (Contains (ms ++ ys)) ns → IsBestOf (Contains (xs ++ ys)) ns }
+    // More is merged into the second of two, or into the best of both.
+    ensures beside { (cs rs ss ms ds es : List Entry) → IsBestOf (Contains (cs ++ rs)) ds → IsBestOf (Contains (rs ++ ss)) ms → IsBestOf (Contains (cs ++ ms)) es → IsBestOf (Contains (ds ++ ss)) es }
     ensures apart { (xs ys ms ns : List Entry) → IsBestOf (Contains xs) ms → IsBestOf (Contains (xs ++ ys)) ns → IsBestOf (Contains (ms ++ ys)) ns }
 {}
 
