@@ -139,7 +139,7 @@ fn split_short(bytes: &[u8]) -> Option<(&[u8], &[u8])>
     let [a, b, c, d, e, f, g, h, ..] = bytes else {
         return None;
     };
-    // No branch between the bytes: most files have long runs of them.
+    // No branch between the bytes.
     let left = is_short(*a) & is_short(*b) & is_short(*c) & is_short(*d);
     let right = is_short(*e) & is_short(*f) & is_short(*g) & is_short(*h);
     if !(left & right) {
