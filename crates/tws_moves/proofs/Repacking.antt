@@ -1,8 +1,8 @@
 -- Bytes to the shortest bytes, piece by piece, with the plain steps that are kept back.
-use Rattle.std.proofs.Common.{◌≡◌, ℕ, ◌+◌, ◌-◌, ◌*◌, ◌^◌, ◌/◌, ◌%◌, ◌<◌, ◌≤◌, true, false, List, [], ◌∷◌, ◌++◌, length, take, drop, slice_index_or, refl, ap, sym, subst, ◌∙◌, arith, flat_map, append_assoc, append-nil}
+use Rattle.std.proofs.Common.{◌≡◌, ℕ, zero, suc, eqb, ltb, inl, inr, ◌&&◌, ◌+◌, ◌*◌, ◌^◌, ◌/◌, ◌%◌, ◌<◌, ◌≤◌, true, false, List, [], ◌∷◌, ◌++◌, length, drop, slice_index_or, refl, ap, sym, subst, ◌∙◌, arith, flat_map, append_assoc, append-nil, length-append}
 use Rattle.std.proofs.lemmas.List.Concat.{flat_map-append}
-use Rattle.std.proofs.lemmas.List.{take_rest, nil_from_length}
-use Rattle.std.proofs.lemmas.Bool.{lt-ltb}
+use Rattle.std.proofs.lemmas.List.{nil_from_length}
+use Rattle.std.proofs.lemmas.Bool.{lt-ltb, le-ltb, and_parts, and_cases, and_left, and_right, eqb-true, eqb-false}
 use Rattle.tws_moves.specs.declared.act.Act.TheVariants.{Step}
 use Rattle.tws_moves.specs.declared.kept.Kept.{Kept}
 use Rattle.tws_moves.specs.declared.kept.Kept.TheVariants as kept
@@ -10,9 +10,9 @@ use Rattle.tws_moves.specs.declared.layout.Layout.{Layout}
 use Rattle.tws_moves.specs.declared.layout.Layout.TheVariants as layout
 use Rattle.tws_moves.specs.Bytes.{number_of, bits}
 use Rattle.tws_moves.specs.Move.{Wait, moves_from}
-use Rattle.tws_moves.specs.Spelling.{IsPiece, IsSpelling, Spells, layout_length, waits_of}
+use Rattle.tws_moves.specs.Spelling.{IsPiece, IsSpelling, Spells, join, layout_length, waits_of}
 use Rattle.tws_moves.specs.Shortest.{alone, is_plain, packed_bytes, waits_bytes}
-use Rattle.tws_moves.specs.Steps.{Packs, PacksPieces, PlainByte, kept_waits, plain_step}
+use Rattle.tws_moves.specs.Steps.{Packs, PacksPieces, PlainByte, is_plain_byte, kept_waits, plain_step, plain_three}
 use Rattle.tws_moves.proofs.PackedBytes.{packed_are}
 use Rattle.tws_moves.proofs.Spellings.{spells_so_far, are_more}
 use Rattle.tws_moves.proofs.Waits.{waits_back}
@@ -59,8 +59,18 @@ short_piece (b ∷ rest) one low =
     let long : 1 + length rest ≡ 1 = one.whole ∙ ap (λ (l : Layout). layout_length l b) (short_first b low) in
     ap (λ (xs : List ℕ). b ∷ xs) (nil_from_length rest (omega (arith, long)))
 
-pub plain_byte : (b : ℕ) → b < 256 → b % 4 ≡ 1 → b / 16 % 2 ≡ 0 → b / 32 ≡ 3 → PlainByte b
-plain_byte b small low high wait =
+plain_parts : (b : ℕ) → is_plain_byte b ≡ true → (b % 4 ≡ 1) × (b / 16 % 2 ≡ 0) × (b / 32 ≡ 3)
+plain_parts b plain =
+    let parts = and_parts (eqb (b % 4) 1 && eqb (b / 16 % 2) 0) (eqb (b / 32) 3) plain in
+    let others = and_parts (eqb (b % 4) 1) (eqb (b / 16 % 2) 0) parts.0 in
+    (eqb-true _ _ others.0, eqb-true _ _ others.1, eqb-true _ _ parts.1)
+
+pub plain_byte : (b : ℕ) → b < 256 → is_plain_byte b ≡ true → PlainByte b
+plain_byte b small plain =
+    let parts = plain_parts b plain in
+    let low = parts.0 in
+    let high = parts.1 in
+    let wait = parts.2 in
     let first = short_first b low in
     let make : ℕ → ℕ → List Wait = λ t d. record { ticks = t; act = Step d } ∷ [] in
     let ticks : bits 5 3 (number_of (b ∷ [])) ≡ 3 = omega arith in
@@ -87,7 +97,24 @@ module _ (b t : ℕ) (t-is : t ≡ b / 32) (low : b % 4 ≡ 1) (small : b < 256)
       let byte : b ≡ (1 + 4 * (b / 4 % 8) + 2 ^ 5 * t) % 256 = omega (arith, low, t-is) in
       ap (λ (n : ℕ). n ∷ []) byte ∙ sym (step_short t (b / 4 % 8) (omega (arith, t-is)))
 
-step_is_plain : (d : ℕ) → d < 4 → is_plain (plain_step d) ≡ true
+  -- a step in another byte is not plain
+  pub short_other : is_plain_byte b ≡ false → is_plain (record { ticks = t; act = Step (b / 4 % 8) }) ≡ false
+  short_other other = elim (and_cases (eqb (b % 4) 1 && eqb (b / 16 % 2) 0) (eqb (b / 32) 3) other) [
+    | inl step ↦ elim (and_cases (eqb (b % 4) 1) (eqb (b / 16 % 2) 0) step) [
+      | inl never ↦ absurd (eqb-false _ _ never low)
+      | inr high ↦ and_left (ltb (b / 4 % 8) 4) (eqb t 3) (le-ltb (b / 4 % 8) 4 (omega (arith, eqb-false _ _ high)))
+    ]
+    | inr wait ↦ and_right (ltb (b / 4 % 8) 4) (eqb t 3) (ap (λ (n : ℕ). eqb n 3) t-is ∙ wait)
+  ]
+
+-- alone such a step is that byte again
+pub plain_alone : (b : ℕ) → b < 256 → is_plain_byte b ≡ true → alone (plain_step (b / 4 % 4)) ≡ b ∷ []
+plain_alone b small plain =
+    let parts = plain_parts b plain in
+    let same : b / 4 % 4 ≡ b / 4 % 8 = omega (arith, parts.1) in
+    ap (λ (d : ℕ). alone (plain_step d)) same ∙ sym (short_alone b 3 (sym parts.2) parts.0 small)
+
+pub step_is_plain : (d : ℕ) → d < 4 → is_plain (plain_step d) ≡ true
 step_is_plain d small = let e = lt-ltb d 4 small in rw e
 
 three_steps : (old new : List ℕ) (d e f byte : ℕ) → d < 4 → e < 4 → f < 4 → byte ≡ 4 * d + 16 * e + 64 * f → new ≡ old ++ byte ∷ [] → Packs old kept.None (plain_step d ∷ plain_step e ∷ plain_step f ∷ []) new kept.None
@@ -112,12 +139,13 @@ three_plain bytes after old new a b c byte split first second third byte-is new-
       packs = subst (λ (ws : List Wait). Packs old kept.None ws new kept.None) (sym waits) (three_steps old new (a / 4 % 4) (b / 4 % 4) (c / 4 % 4) byte (omega arith) (omega arith) (omega arith) byte-is new-is);
     }
 
-pub three_front : (bytes old : List ℕ) → 3 ≤ length bytes → PlainByte (slice_index_or bytes 0 0) → PlainByte (slice_index_or bytes 1 0) → PlainByte (slice_index_or bytes 2 0) → PacksPieces bytes (take (length bytes - 3) (drop 3 bytes)) old kept.None (old ++ (4 * (slice_index_or bytes 0 0 / 4 % 4) + 16 * (slice_index_or bytes 1 0 / 4 % 4) + 64 * (slice_index_or bytes 2 0 / 4 % 4)) ∷ []) kept.None
-three_front [] old enough first second third = absurd (omega arith)
-three_front (a ∷ []) old enough first second third = absurd (omega arith)
-three_front (a ∷ b ∷ []) old enough first second third = absurd (omega arith)
-three_front (a ∷ b ∷ c ∷ after) old enough first second third =
-    three_plain (a ∷ b ∷ c ∷ after) _ old _ a b c _ (ap (λ (xs : List ℕ). a ∷ b ∷ c ∷ xs) (sym (take_rest (a ∷ b ∷ c ∷ after) 3))) first second third refl refl
+-- the same from a place on
+pub three_at : (k : ℕ) (bytes old : List ℕ) → k + 3 ≤ length bytes → PlainByte (slice_index_or bytes k 0) → PlainByte (slice_index_or bytes (suc k) 0) → PlainByte (slice_index_or bytes (suc (suc k)) 0) → PacksPieces (drop k bytes) (drop (suc (suc (suc k))) bytes) old kept.None (old ++ plain_three (slice_index_or bytes k 0) (slice_index_or bytes (suc k) 0) (slice_index_or bytes (suc (suc k)) 0) ∷ []) kept.None
+three_at k [] old enough first second third = absurd (omega arith)
+three_at zero (a ∷ []) old enough first second third = absurd (omega arith)
+three_at zero (a ∷ b ∷ []) old enough first second third = absurd (omega arith)
+three_at zero (a ∷ b ∷ c ∷ after) old enough first second third = three_plain (a ∷ b ∷ c ∷ after) after old _ a b c _ refl first second third refl refl
+three_at (suc k) (a ∷ bytes) old enough first second third = three_at k bytes old (omega (arith, enough)) first second third
 
 -- ---- pieces
 
@@ -128,8 +156,8 @@ packs_piece bytes piece after old new before next one split packs = record {
   packs = subst (λ (ws : List Wait). Packs old before ws new next) (sym (append-nil (waits_of piece))) packs;
 }
 
-pub packs_none : (bytes : List ℕ) → PacksPieces bytes bytes [] kept.None [] kept.None
-packs_none bytes = record { pieces = []; so_far = record { fits = tt; split = refl }; packs = record { fits = tt; bytes = λ rest. refl } }
+pub packs_none : (bytes old : List ℕ) → PacksPieces bytes bytes old kept.None old kept.None
+packs_none bytes old = record { pieces = []; so_far = record { fits = tt; split = refl }; packs = record { fits = tt; bytes = λ rest. refl } }
 
 module _ (bytes rest after : List ℕ) where
   pub packs_more : (old mid new : List ℕ) (before between next : Kept) → PacksPieces bytes rest old before mid between → PacksPieces rest after mid between new next → PacksPieces bytes after old before new next
@@ -164,3 +192,24 @@ pub packs_twice : (bytes rest after : List ℕ) (old first second : List ℕ) �
 packs_twice bytes rest after old first second one two =
     subst (λ (xs : List ℕ). PacksPieces bytes after old kept.None xs kept.None) (append_assoc old first second)
     (packs_more bytes rest after old (old ++ first) ((old ++ first) ++ second) kept.None kept.None kept.None one (two (old ++ first)))
+
+module _ (bytes : List ℕ) (enough : 12 ≤ length bytes) where
+  -- three plain steps, from a place on
+  abbrev pub ArePlain : ℕ → Type 0
+  ArePlain k = PlainByte (slice_index_or bytes k 0) × PlainByte (slice_index_or bytes (suc k) 0) × PlainByte (slice_index_or bytes (suc (suc k)) 0)
+
+  abbrev pub three_of : ℕ → ℕ
+  three_of k = plain_three (slice_index_or bytes k 0) (slice_index_or bytes (suc k) 0) (slice_index_or bytes (suc (suc k)) 0)
+
+  pub twelve_plain : ArePlain 0 → ArePlain 3 → ArePlain 6 → ArePlain 9 → (old : List ℕ) → PacksPieces bytes (drop 12 bytes) old kept.None (old ++ three_of 0 ∷ three_of 3 ∷ three_of 6 ∷ three_of 9 ∷ []) kept.None
+  twelve_plain p q r s old =
+      packs_twice bytes (drop 3 bytes) (drop 12 bytes) old (three_of 0 ∷ []) (three_of 3 ∷ three_of 6 ∷ three_of 9 ∷ []) (three_at 0 bytes old (omega (arith, enough)) p.0 p.1 p.2) (λ one.
+      packs_twice (drop 3 bytes) (drop 6 bytes) (drop 12 bytes) one (three_of 3 ∷ []) (three_of 6 ∷ three_of 9 ∷ []) (three_at 3 bytes one (omega (arith, enough)) q.0 q.1 q.2) (λ two.
+      packs_twice (drop 6 bytes) (drop 9 bytes) (drop 12 bytes) two (three_of 6 ∷ []) (three_of 9 ∷ []) (three_at 6 bytes two (omega (arith, enough)) r.0 r.1 r.2) (λ three.
+      three_at 9 bytes three (omega (arith, enough)) s.0 s.1 s.2)))
+
+-- ---- the rest is no longer
+
+pub packs_within : (bytes rest old new : List ℕ) (before after : Kept) → PacksPieces bytes rest old before new after → length rest ≤ length bytes
+packs_within bytes rest old new before after packs =
+    omega (arith, ap length packs.so_far.split, length-append (join packs.pieces) rest)

@@ -1,5 +1,5 @@
 -- What the private steps of reading and writing say. Callers need none of it.
-use Rattle.std.specs.Prelude.{◌≡◌, ℕ, ◌+◌, ◌/◌, ◌%◌, ◌<◌, ◌≤◌, ◌^◌, nat_lt, List, [], ◌∷◌, ◌++◌, length, map, take, drop, if◌then◌else◌}
+use Rattle.std.specs.Prelude.{◌≡◌, ℕ, ◌+◌, ◌*◌, ◌/◌, ◌%◌, ◌<◌, ◌≤◌, ◌^◌, ◌==◌, nat_lt, Bool, ◌&&◌, List, [], ◌∷◌, ◌++◌, length, map, take, drop, if◌then◌else◌}
 use Rattle.std.specs.List.{flat_map, AllByRecursion}
 use Rattle.tws_moves.specs.declared.act.Act.{Act}
 use Rattle.tws_moves.specs.declared.act.Act.TheVariants.{Step, Code}
@@ -94,6 +94,24 @@ pub record PacksPieces (bytes rest old : List ℕ) (before : Kept) (new : List �
   pub pieces : List (List ℕ)
   pub so_far : ArePieces bytes rest pieces
   pub packs : Packs old before (flat_map waits_of pieces) new after
+
+-- Whatever follows its moves, their spelling begins with the piece as it stands.
+abbrev pub Stands : List ℕ → Type 0
+Stands piece = (rest : List Wait) → waits_bytes (waits_of piece ++ rest) ≡ piece ++ waits_bytes rest
+
+-- the bytes before the rest are pieces, and the spelling of their moves
+pub record StandsTo (bytes rest : List ℕ) : Type 0 where
+  pub front : List ℕ
+  pub split : bytes ≡ front ++ rest
+  pub packs : (old : List ℕ) → PacksPieces bytes rest old kept.None (old ++ front) kept.None
+
+-- whether a byte is the piece of a step 0 to 3 behind three ticks
+abbrev pub is_plain_byte : ℕ → Bool
+is_plain_byte b = b % 4 == 1 && b / 16 % 2 == 0 && b / 32 == 3
+
+-- the byte that holds three of them
+abbrev pub plain_three : (a b c : ℕ) → ℕ
+plain_three a b c = 4 * (a / 4 % 4) + 16 * (b / 4 % 4) + 64 * (c / 4 % 4)
 
 -- a byte that is the piece of a step 0 to 3 behind three ticks
 pub record PlainByte (b : ℕ) : Type 0 where

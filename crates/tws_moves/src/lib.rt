@@ -12,6 +12,7 @@ mod pack;
 mod piece;
 mod reading;
 mod spell_fault;
+mod standing;
 mod wait;
 mod writing;
 

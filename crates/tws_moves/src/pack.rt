@@ -7,7 +7,7 @@ ghost use Rattle.tws_moves.specs.declared.kept.Kept.TheVariants as kept;
 ghost use Rattle.tws_moves.specs.Move.{Move as Plain};
 ghost use Rattle.tws_moves.specs.Spelling.{IsPiece, IsSpelling, Spells, MovesFail, layout_waits, waits_of};
 ghost use Rattle.tws_moves.specs.Shortest.{packed_bytes, shortest_of};
-ghost use Rattle.tws_moves.specs.Steps.{IsHeld, IsKept, IsPieceCut, Packs, PacksPieces, PlainByte};
+ghost use Rattle.tws_moves.specs.Steps.{IsHeld, IsKept, IsPieceCut, Packs, PacksPieces, PlainByte, plain_three};
 
 use crate::act::Act;
 use crate::kept::Kept;
@@ -16,6 +16,7 @@ use crate::moves_fault::MovesFault;
 use crate::number::{bits, number_of};
 use crate::piece::Piece;
 use crate::reading::{cut_before, split_piece};
+use crate::standing::{is_plain, skip_all_standing};
 use crate::wait::Wait;
 use std::alloc::{AllocError, Allocator};
 
@@ -51,13 +52,6 @@ fn pack_three<A: Allocator>(
     let kept = kept.add(packed, bits(2, 2, number) as u8)?;
     let kept = kept.add(packed, bits(4, 2, number) as u8)?;
     kept.add(packed, bits(6, 2, number) as u8)
-}
-
-// Whether the byte is the piece of a step 0 to 3 behind three ticks.
-fn is_plain(byte: u8) -> bool
-    ensures { IsTrue result → PlainByte byte }
-{
-    byte % 4 == 1 && byte / 16 % 2 == 0 && byte / 32 == 3
 }
 
 // Adds a step that is a piece of one byte: alone it is that byte again.
@@ -103,33 +97,70 @@ fn pack_piece<A: Allocator>(
     }
 }
 
-// The byte that holds the three steps that the bytes begin with, each in a byte of its own behind three ticks; and the
-// bytes behind them.
-fn split_three(bytes: &[u8]) -> Option<(u8, &[u8])>
-    ensures packs { IfSome result (λ r. (old : List ℕ) → PacksPieces bytes.now r.1.now old kept.None (old ++ r.0 ∷ []) kept.None) }
-    ensures shorter { IfSome result (λ r. length r.1.now < length bytes.now) }
+// The byte that holds three plain steps, each of which is one of these bytes.
+fn three_byte(first: u8, second: u8, third: u8) -> u8
+    ensures { result ≡ plain_three first second third }
 {
-    let [first, second, third, rest @ ..] = bytes else {
-        return None;
-    };
-    // No branch between the three.
-    if !(is_plain(*first) & is_plain(*second) & is_plain(*third)) {
-        return None;
-    }
-    let byte = 4 * (first / 4 % 4) + 16 * (second / 4 % 4) + 64 * (third / 4 % 4);
-    Some((byte, rest))
+    4 * (first / 4 % 4) + 16 * (second / 4 % 4) + 64 * (third / 4 % 4)
 }
 
-// The same of twelve such steps.
+// Whether each of the three bytes is the piece of a plain step. There is no branch between them.
+fn are_plain(first: u8, second: u8, third: u8) -> bool
+    ensures { IsTrue result → PlainByte first × PlainByte second × PlainByte third }
+{
+    is_plain(first) & is_plain(second) & is_plain(third)
+}
+
+// The four bytes that hold the twelve steps that the bytes begin with, each in a byte of its own behind three ticks; and
+// the bytes behind them.
 fn split_twelve(bytes: &[u8]) -> Option<([u8; 4], &[u8])>
     ensures packs { IfSome result (λ r. (old : List ℕ) → PacksPieces bytes.now r.1.now old kept.None (old ++ r.0) kept.None) }
     ensures shorter { IfSome result (λ r. length r.1.now < length bytes.now) }
 {
-    let (first, rest) = split_three(bytes)?;
-    let (second, rest) = split_three(rest)?;
-    let (third, rest) = split_three(rest)?;
-    let (fourth, rest) = split_three(rest)?;
+    let [a, b, c, d, e, f, g, h, i, j, k, l, rest @ ..] = bytes else {
+        return None;
+    };
+    let left = are_plain(*a, *b, *c) & are_plain(*d, *e, *f);
+    let right = are_plain(*g, *h, *i) & are_plain(*j, *k, *l);
+    if !(left & right) {
+        return None;
+    }
+    let first = three_byte(*a, *b, *c);
+    let second = three_byte(*d, *e, *f);
+    let third = three_byte(*g, *h, *i);
+    let fourth = three_byte(*j, *k, *l);
     Some(([first, second, third, fourth], rest))
+}
+
+// Adds the plain steps that the bytes begin with, twelve by twelve, and answers the bytes behind them.
+fn pack_plain<'a, A: Allocator>(
+    packed: &mut Vec<u8, A>,
+    bytes: &'a [u8],
+) -> Result<&'a [u8], AllocError>
+    ensures { IfOk result (λ rest. PacksPieces bytes.now rest.now packed.old.items kept.None packed.new.items kept.None) }
+{
+    let mut rest = bytes;
+    while let Some(found) = split_twelve(rest) {
+        let four = found.0;
+        packed.extend_from_slice(&four)?;
+        rest = found.1;
+    }
+    Ok(rest)
+}
+
+// Adds the moves that the bytes begin with, as long as nothing is kept back, and answers the bytes behind them. Runs of
+// plain steps, and of pieces that stay as they are, are fast so.
+fn pack_run<'a, A: Allocator>(
+    packed: &mut Vec<u8, A>,
+    bytes: &'a [u8],
+) -> Result<&'a [u8], AllocError>
+    ensures { IfOk result (λ rest. PacksPieces bytes.now rest.now packed.old.items kept.None packed.new.items kept.None) }
+{
+    let standing = pack_plain(packed, bytes)?;
+    let rest = skip_all_standing(standing);
+    let front = standing.len() - rest.len();
+    packed.extend_from_slice(&standing[..front])?;
+    Ok(rest)
 }
 
 // Adds the moves that the bytes begin with, and answers what is kept back and the bytes behind them; none where their
@@ -144,17 +175,14 @@ fn pack_next<'a, A: Allocator>(
     ensures shorter { IfOk result (λ next. IfSome next (λ r. length r.1.now < length bytes.now)) }
     ensures none { IfOk result (λ next. IfNone next (IsPieceCut bytes.now × (packed.new.items ≡ packed.old.items))) }
 {
-    if let Kept::None = kept {
-        if let Some(found) = split_twelve(bytes) {
-            let four = found.0;
-            packed.extend_from_slice(&four)?;
-            return Ok(Some((Kept::None, found.1)));
-        }
-    }
     let Some((piece, rest)) = split_piece(bytes) else {
         return Ok(None);
     };
     let kept = pack_piece(packed, kept, piece)?;
+    if let Kept::None = kept {
+        let rest = pack_run(packed, rest)?;
+        return Ok(Some((Kept::None, rest)));
+    }
     Ok(Some((kept, rest)))
 }
 
