@@ -12,7 +12,7 @@ use Rattle.tws_moves.specs.Bytes.{number_of, bits}
 use Rattle.tws_moves.specs.Move.{Wait, moves_from}
 use Rattle.tws_moves.specs.Spelling.{IsPiece, IsSpelling, Spells, join, layout_length, waits_of}
 use Rattle.tws_moves.specs.Shortest.{alone, is_plain, packed_bytes, waits_bytes}
-use Rattle.tws_moves.specs.Steps.{Packs, PacksPieces, PlainByte, is_plain_byte, kept_waits, plain_step, plain_three}
+use Rattle.tws_moves.specs.Steps.{ArePlain, Packs, PacksPieces, PlainByte, is_plain_byte, kept_waits, plain_step, plain_three}
 use Rattle.tws_moves.proofs.PackedBytes.{packed_are}
 use Rattle.tws_moves.proofs.Spellings.{spells_so_far, are_more}
 use Rattle.tws_moves.proofs.Waits.{waits_back}
@@ -167,6 +167,9 @@ module _ (bytes rest after : List ℕ) where
     packs = subst (λ (ws : List Wait). Packs old before ws new next) (sym (flat_map-append waits_of first.pieces second.pieces)) (packs_join old mid new before between next (flat_map waits_of first.pieces) (flat_map waits_of second.pieces) first.packs second.packs);
   }
 
+pub packs_same : (bytes rest old mid new : List ℕ) → new ≡ mid → PacksPieces bytes rest old kept.None mid kept.None → PacksPieces bytes rest old kept.None new kept.None
+packs_same bytes rest old mid new same packs = subst (λ (xs : List ℕ). PacksPieces bytes rest old kept.None xs kept.None) (sym same) packs
+
 -- ---- all pieces
 
 module _ (bytes rest packed more whole : List ℕ) (left : Kept) (all : PacksPieces bytes rest [] kept.None packed left) (none : length rest < 1) where
@@ -194,14 +197,13 @@ packs_twice bytes rest after old first second one two =
     (packs_more bytes rest after old (old ++ first) ((old ++ first) ++ second) kept.None kept.None kept.None one (two (old ++ first)))
 
 module _ (bytes : List ℕ) (enough : 12 ≤ length bytes) where
-  -- three plain steps, from a place on
-  abbrev pub ArePlain : ℕ → Type 0
-  ArePlain k = PlainByte (slice_index_or bytes k 0) × PlainByte (slice_index_or bytes (suc k) 0) × PlainByte (slice_index_or bytes (suc (suc k)) 0)
+  abbrev pub PlainFrom : ℕ → Type 0
+  PlainFrom k = ArePlain (slice_index_or bytes k 0) (slice_index_or bytes (suc k) 0) (slice_index_or bytes (suc (suc k)) 0)
 
   abbrev pub three_of : ℕ → ℕ
   three_of k = plain_three (slice_index_or bytes k 0) (slice_index_or bytes (suc k) 0) (slice_index_or bytes (suc (suc k)) 0)
 
-  pub twelve_plain : ArePlain 0 → ArePlain 3 → ArePlain 6 → ArePlain 9 → (old : List ℕ) → PacksPieces bytes (drop 12 bytes) old kept.None (old ++ three_of 0 ∷ three_of 3 ∷ three_of 6 ∷ three_of 9 ∷ []) kept.None
+  pub twelve_plain : PlainFrom 0 → PlainFrom 3 → PlainFrom 6 → PlainFrom 9 → (old : List ℕ) → PacksPieces bytes (drop 12 bytes) old kept.None (old ++ three_of 0 ∷ three_of 3 ∷ three_of 6 ∷ three_of 9 ∷ []) kept.None
   twelve_plain p q r s old =
       packs_twice bytes (drop 3 bytes) (drop 12 bytes) old (three_of 0 ∷ []) (three_of 3 ∷ three_of 6 ∷ three_of 9 ∷ []) (three_at 0 bytes old (omega (arith, enough)) p.0 p.1 p.2) (λ one.
       packs_twice (drop 3 bytes) (drop 6 bytes) (drop 12 bytes) one (three_of 3 ∷ []) (three_of 6 ∷ three_of 9 ∷ []) (three_at 3 bytes one (omega (arith, enough)) q.0 q.1 q.2) (λ two.

@@ -117,3 +117,6 @@ plain_three a b c = 4 * (a / 4 % 4) + 16 * (b / 4 % 4) + 64 * (c / 4 % 4)
 pub record PlainByte (b : ℕ) : Type 0 where
   pub piece : IsPiece (b ∷ [])
   pub made : waits_of (b ∷ []) ≡ plain_step (b / 4 % 4) ∷ []
+
+abbrev pub ArePlain : (a b c : ℕ) → Type 0
+ArePlain a b c = PlainByte a × PlainByte b × PlainByte c

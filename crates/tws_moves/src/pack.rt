@@ -1,13 +1,13 @@
 //! Bytes that spell moves to the shortest that spell the same, without a list of the moves.
 
-ghost use Rattle.std.specs.Prelude.{◌≡◌, ℕ, ◌+◌, ◌*◌, ◌<◌, ◌%◌, ◌^◌, List, [], ◌∷◌, length, ◌++◌, IsTrue, IfOk, IfErr, OnOk, IfSome, IfNone, MatchResult};
+ghost use Rattle.std.specs.Prelude.{◌≡◌, ℕ, ◌<◌, ◌%◌, ◌^◌, List, [], ◌∷◌, length, ◌++◌, IsTrue, IfOk, IfErr, OnOk, IfSome, IfNone, MatchResult};
 ghost use Rattle.tws_moves.specs.declared.moves_fault.MovesFault.TheVariants as fault;
 ghost use Rattle.tws_moves.specs.declared.layout.Layout.TheVariants as layout;
 ghost use Rattle.tws_moves.specs.declared.kept.Kept.TheVariants as kept;
 ghost use Rattle.tws_moves.specs.Move.{Move as Plain};
 ghost use Rattle.tws_moves.specs.Spelling.{IsPiece, IsSpelling, Spells, MovesFail, layout_waits, waits_of};
 ghost use Rattle.tws_moves.specs.Shortest.{packed_bytes, shortest_of};
-ghost use Rattle.tws_moves.specs.Steps.{IsHeld, IsKept, IsPieceCut, Packs, PacksPieces, PlainByte, plain_three};
+ghost use Rattle.tws_moves.specs.Steps.{IsHeld, IsKept, IsPieceCut, Packs, PacksPieces, ArePlain, plain_three};
 
 use crate::act::Act;
 use crate::kept::Kept;
@@ -106,7 +106,7 @@ fn three_byte(first: u8, second: u8, third: u8) -> u8
 
 // Whether each of the three bytes is the piece of a plain step. There is no branch between them.
 fn are_plain(first: u8, second: u8, third: u8) -> bool
-    ensures { IsTrue result → PlainByte first × PlainByte second × PlainByte third }
+    ensures { IsTrue result → ArePlain first second third }
 {
     is_plain(first) & is_plain(second) & is_plain(third)
 }

@@ -1,6 +1,6 @@
 //! Pieces that are the shortest for their moves as they stand.
 
-ghost use Rattle.std.specs.Prelude.{◌≡◌, ◌<◌, [], ◌∷◌, ◌++◌, IsTrue, IfSome, length};
+ghost use Rattle.std.specs.Prelude.{◌≡◌, ◌<◌, length, IsTrue, IfSome};
 ghost use Rattle.tws_moves.specs.Spelling.{IsPiece};
 ghost use Rattle.tws_moves.specs.Steps.{Stands, StandsTo, is_plain_byte};
 
