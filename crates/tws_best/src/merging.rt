@@ -10,19 +10,19 @@ ghost use Rattle.tws_best.specs.Steps.{Joins, Picks, same_key};
 use crate::finding::is_better;
 use crate::kept::Kept;
 use std::alloc::{AllocError, Allocator};
-use tws_file::{Record, Ruleset, Solution, TwsFile};
+use tws_file::{Key, Record, Ruleset, Solution, TwsFile};
 
-// The solutions among the records, in their order.
+// The solutions among the records, in their order. The key stands beside each, so that a sort by it looks up none of them.
 fn solutions_among<A: Allocator, B: Allocator>(
     alloc: A,
     records: &[Record<B>],
-) -> Result<Vec<&Solution<B>, A>, AllocError>
-    ensures { IfOk result (λ all. map (λ s. entry_of s.now) all.items ≡ solved_in (records_of records.now)) }
+) -> Result<Vec<(Key, &Solution<B>), A>, AllocError>
+    ensures { IfOk result (λ all. map (λ s. entry_of s.1.now) all.items ≡ solved_in (records_of records.now)) }
 {
     let mut all = Vec::new(alloc);
     for record in records {
         if let Record::Solution(solution) = record {
-            all.push(solution)?;
+            all.push((solution.key, solution))?;
         }
     }
     Ok(all)
@@ -32,13 +32,13 @@ fn solutions_among<A: Allocator, B: Allocator>(
 fn better_among<A: Allocator + Copy, B: Allocator>(
     alloc: A,
     kept: &[Kept<A>],
-    solutions: &[&Solution<B>],
+    solutions: &[(Key, &Solution<B>)],
 ) -> Result<Vec<Kept<A>, A>, AllocError>
     requires { IsRising kept.now }
-    ensures { IfOk result (λ better. Picks kept.now (map (λ s. entry_of s.now) solutions.now) better.items) }
+    ensures { IfOk result (λ better. Picks kept.now (map (λ s. entry_of s.1.now) solutions.now) better.items) }
 {
     let mut better = Vec::new(alloc);
-    for solution in solutions {
+    for (_, solution) in solutions {
         let one = Kept::of(alloc, solution)?;
         if is_better(kept, &one) {
             better.push(one)?;
@@ -59,7 +59,7 @@ pub(crate) fn pick<A: Allocator + Copy, B: Allocator>(
     ensures { IfOk result (λ better. Picks kept.now (solved_in (records_of records.now)) better.items) }
 {
     let mut all = solutions_among(alloc, records)?;
-    all.sort_by(|a, b| a.key.cmp(&b.key))?;
+    all.sort_by_key(|one| one.0)?;
     better_among(alloc, kept, all.as_slice())
 }
 

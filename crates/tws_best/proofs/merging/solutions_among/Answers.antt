@@ -11,12 +11,12 @@ loop-record-preserved g c =
     let records = c.args.records.now in
     let so_far = solved_in (records_of (take i records)) in
     let all = solved_in (records_of (take (i + 1) records)) in
-    let before = map (λ s. entry_of s.now) c.loop-record.all.items in
-    let items = map (λ s. entry_of s.now) c.match-record.all.items in
+    let before = map (λ s. entry_of s.1.now) c.loop-record.all.items in
+    let items = map (λ s. entry_of s.1.now) c.match-record.all.items in
     let item = c.record-item.result in
     let more = solved_more records i item c.loop-record-test.true c.record-item.is in
     elim c.match-record.branch [
       | in-Solution+in_ok-push w ↦ step_solution so_far before all items item more c.loop-record.invariant w.in-Solution.solution w.in-Solution.is
-          (mapped_push (λ s. entry_of s.now) c.loop-record.all.items c.match-record.all.items _ (ap (λ v. v.items) w.all-is ∙ w.in_ok-push.ensures.items))
-      | in_default w ↦ step_other so_far before all items item more c.loop-record.invariant w.in_default.not-Solution (ap (λ v. map (λ s. entry_of s.now) v.items) w.all-is)
+          (mapped_push (λ s. entry_of s.1.now) c.loop-record.all.items c.match-record.all.items _ (ap (λ v. v.items) w.all-is ∙ w.in_ok-push.ensures.items))
+      | in_default w ↦ step_other so_far before all items item more c.loop-record.invariant w.in_default.not-Solution (ap (λ v. map (λ s. entry_of s.1.now) v.items) w.all-is)
     ]
