@@ -1,36 +1,55 @@
 //! How the solutions of a file join those that are kept.
 
-ghost use Rattle.std.specs.Prelude.{◌≡◌, ◌≢◌, ◌++◌, Contains, IfOk, OnOk, OnErr, MatchBool};
+ghost use Rattle.std.specs.Prelude.{◌≡◌, ◌≢◌, ◌++◌, map, Contains, IfOk, OnOk, OnErr, MatchBool};
 ghost use Rattle.std.specs.List.{AllByRecursion};
 ghost use Rattle.tws_file.specs.Record.{records_of};
 ghost use Rattle.tws_file.specs.Text.{IsRecord};
-ghost use Rattle.tws_best.specs.Best.{IsRising, IsKept, IsBestOf, solved_in, solved_by};
-ghost use Rattle.tws_best.specs.Steps.{IsBetter, IsHeld, Joins, Picks, same_key};
+ghost use Rattle.tws_best.specs.Best.{IsRising, IsKept, IsBestOf, entry_of, solved_in, solved_by};
+ghost use Rattle.tws_best.specs.Steps.{Joins, Picks, same_key};
 
 use crate::finding::is_better;
 use crate::kept::Kept;
 use std::alloc::{AllocError, Allocator};
-use tws_file::{Record, Ruleset, TwsFile};
+use tws_file::{Key, Record, Ruleset, Solution, TwsFile};
 
-// The solutions among the records, in their order.
-fn solutions_among<A: Allocator + Copy, B: Allocator>(
+// The solutions among the records, in their order. The key stands beside each, so that a sort by it looks up none of them.
+fn solutions_among<A: Allocator, B: Allocator>(
     alloc: A,
     records: &[Record<B>],
-) -> Result<Vec<Kept<A>, A>, AllocError>
-    ensures { IfOk result (λ all. all.items ≡ solved_in (records_of records.now)) }
+) -> Result<Vec<(Key, &Solution<B>), A>, AllocError>
+    ensures { IfOk result (λ all. map (λ s. entry_of s.1.now) all.items ≡ solved_in (records_of records.now)) }
 {
     let mut all = Vec::new(alloc);
     for record in records {
         if let Record::Solution(solution) = record {
-            let one = Kept::of(alloc, solution)?;
-            all.push(one)?;
+            all.push((solution.key, solution))?;
         }
     }
     Ok(all)
 }
 
+// Those of the solutions that are better than what is kept for their keys, in their order.
+fn better_among<A: Allocator + Copy, B: Allocator>(
+    alloc: A,
+    kept: &[Kept<A>],
+    solutions: &[(Key, &Solution<B>)],
+) -> Result<Vec<Kept<A>, A>, AllocError>
+    requires { IsRising kept.now }
+    ensures { IfOk result (λ better. Picks kept.now (map (λ s. entry_of s.1.now) solutions.now) better.items) }
+{
+    let mut better = Vec::new(alloc);
+    for (_, solution) in solutions {
+        let one = Kept::of(alloc, solution)?;
+        if is_better(kept, &one) {
+            better.push(one)?;
+        }
+    }
+    Ok(better)
+}
+
 // The solutions among the records that are better than what is kept for their keys. They are put in order first, so that
-// one search after the other goes to a place near the last one.
+// one search after the other goes to a place near the last one, and so that the bodies lie in memory in the order in
+// which they are compared, written and given back later.
 pub(crate) fn pick<A: Allocator + Copy, B: Allocator>(
     alloc: A,
     kept: &[Kept<A>],
@@ -39,14 +58,9 @@ pub(crate) fn pick<A: Allocator + Copy, B: Allocator>(
     requires { IsRising kept.now }
     ensures { IfOk result (λ better. Picks kept.now (solved_in (records_of records.now)) better.items) }
 {
-    let mut fresh = solutions_among(alloc, records)?;
-    fresh.sort_by(|a, b| a.order(b))?;
-    let better = |one: &Kept<A>| -> bool
-        requires { IsRising kept.now }
-        ensures { MatchBool result (IsBetter kept.entry.now one.now) (IsHeld (Contains kept.entry.now) one.now) }
-    { is_better(kept, one) };
-    fresh.retain(better);
-    Ok(fresh)
+    let mut all = solutions_among(alloc, records)?;
+    all.sort_by_key(|one| one.0)?;
+    better_among(alloc, kept, all.as_slice())
 }
 
 // Puts all in order, and keeps the first of each key. After an error the old ones stay as they were.
