@@ -163,8 +163,8 @@ fn pack_run<'a, A: Allocator>(
     Ok(rest)
 }
 
-// Adds the moves that the bytes begin with, and answers what is kept back and the bytes behind them; none where their
-// first piece is cut.
+// Adds the moves of the piece that the bytes begin with, and of a run behind it if nothing is kept back then. Answers
+// what is kept back, and the bytes behind; none where the first piece is cut.
 fn pack_next<'a, A: Allocator>(
     packed: &mut Vec<u8, A>,
     kept: Kept,
