@@ -12,7 +12,7 @@ use Rattle.tws_moves.specs.Bytes.{number_of, bits}
 use Rattle.tws_moves.specs.Move.{Wait, moves_from}
 use Rattle.tws_moves.specs.Spelling.{IsPiece, IsSpelling, Spells, join, layout_length, waits_of}
 use Rattle.tws_moves.specs.Shortest.{alone, is_plain, packed_bytes, waits_bytes}
-use Rattle.tws_moves.specs.Steps.{ArePlain, Packs, PacksPieces, PlainByte, is_plain_byte, kept_waits, plain_step, plain_three}
+use Rattle.tws_moves.specs.Steps.{HasDirections, Packs, PacksPieces, PlainByte, twelve_in, is_plain_byte, kept_waits, plain_step, plain_three}
 use Rattle.tws_moves.proofs.PackedBytes.{packed_are}
 use Rattle.tws_moves.proofs.Spellings.{spells_so_far, are_more}
 use Rattle.tws_moves.proofs.Waits.{waits_back}
@@ -197,18 +197,20 @@ packs_twice bytes rest after old first second one two =
     (packs_more bytes rest after old (old ++ first) ((old ++ first) ++ second) kept.None kept.None kept.None one (two (old ++ first)))
 
 module _ (bytes : List ℕ) (enough : 12 ≤ length bytes) where
-  abbrev pub PlainFrom : ℕ → Type 0
-  PlainFrom k = ArePlain (slice_index_or bytes k 0) (slice_index_or bytes (suc k) 0) (slice_index_or bytes (suc (suc k)) 0)
+  abbrev pub byte_at : ℕ → ℕ
+  byte_at k = slice_index_or bytes k 0
 
   abbrev pub three_of : ℕ → ℕ
-  three_of k = plain_three (slice_index_or bytes k 0) (slice_index_or bytes (suc k) 0) (slice_index_or bytes (suc (suc k)) 0)
+  three_of k = plain_three (byte_at k) (byte_at (suc k)) (byte_at (suc (suc k)))
 
-  pub twelve_plain : PlainFrom 0 → PlainFrom 3 → PlainFrom 6 → PlainFrom 9 → (old : List ℕ) → PacksPieces bytes (drop 12 bytes) old kept.None (old ++ three_of 0 ∷ three_of 3 ∷ three_of 6 ∷ three_of 9 ∷ []) kept.None
-  twelve_plain p q r s old =
-      packs_twice bytes (drop 3 bytes) (drop 12 bytes) old (three_of 0 ∷ []) (three_of 3 ∷ three_of 6 ∷ three_of 9 ∷ []) (three_at 0 bytes old (omega (arith, enough)) p.0 p.1 p.2) (λ one.
-      packs_twice (drop 3 bytes) (drop 6 bytes) (drop 12 bytes) one (three_of 3 ∷ []) (three_of 6 ∷ three_of 9 ∷ []) (three_at 3 bytes one (omega (arith, enough)) q.0 q.1 q.2) (λ two.
-      packs_twice (drop 6 bytes) (drop 9 bytes) (drop 12 bytes) two (three_of 6 ∷ []) (three_of 9 ∷ []) (three_at 6 bytes two (omega (arith, enough)) r.0 r.1 r.2) (λ three.
-      three_at 9 bytes three (omega (arith, enough)) s.0 s.1 s.2)))
+  pub twelve_plain : (x y z : ℕ) → HasDirections x (byte_at 0) (byte_at 1) (byte_at 2) (byte_at 3) → HasDirections y (byte_at 4) (byte_at 5) (byte_at 6) (byte_at 7) → HasDirections z (byte_at 8) (byte_at 9) (byte_at 10) (byte_at 11) → (old : List ℕ) → PacksPieces bytes (drop 12 bytes) old kept.None (old ++ twelve_in x y z) kept.None
+  twelve_plain x y z p q r old =
+      let whole : three_of 0 ∷ three_of 3 ∷ three_of 6 ∷ three_of 9 ∷ [] ≡ twelve_in x y z = rw (p.first, p.second, p.third, p.fourth, q.first, q.second, q.third, q.fourth, r.first, r.second, r.third, r.fourth) in
+      subst (λ (xs : List ℕ). PacksPieces bytes (drop 12 bytes) old kept.None (old ++ xs) kept.None) whole
+      (packs_twice bytes (drop 3 bytes) (drop 12 bytes) old (three_of 0 ∷ []) (three_of 3 ∷ three_of 6 ∷ three_of 9 ∷ []) (three_at 0 bytes old (omega (arith, enough)) p.plain.0 p.plain.1 p.plain.2) (λ one.
+      packs_twice (drop 3 bytes) (drop 6 bytes) (drop 12 bytes) one (three_of 3 ∷ []) (three_of 6 ∷ three_of 9 ∷ []) (three_at 3 bytes one (omega (arith, enough)) p.plain.3 q.plain.0 q.plain.1) (λ two.
+      packs_twice (drop 6 bytes) (drop 9 bytes) (drop 12 bytes) two (three_of 6 ∷ []) (three_of 9 ∷ []) (three_at 6 bytes two (omega (arith, enough)) q.plain.2 q.plain.3 r.plain.0) (λ three.
+      three_at 9 bytes three (omega (arith, enough)) r.plain.1 r.plain.2 r.plain.3))))
 
 -- ---- the rest is no longer
 

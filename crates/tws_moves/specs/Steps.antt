@@ -118,5 +118,26 @@ pub record PlainByte (b : ℕ) : Type 0 where
   pub piece : IsPiece (b ∷ [])
   pub made : waits_of (b ∷ []) ≡ plain_step (b / 4 % 4) ∷ []
 
-abbrev pub ArePlain : (a b c : ℕ) → Type 0
-ArePlain a b c = PlainByte a × PlainByte b × PlainByte c
+-- four directions, the first in bits 2 and 3, each other eight bits further, and no other bit
+pub record IsDirections (n : ℕ) : Type 0 where
+  pub first : n % 4 ≡ 0
+  pub second : n / 16 % 64 ≡ 0
+  pub third : n / 4096 % 64 ≡ 0
+  pub fourth : n / 1048576 % 64 ≡ 0
+  pub high : n / 268435456 ≡ 0
+
+-- the bytes are the pieces of plain steps in these directions
+pub record HasDirections (n a b c d : ℕ) : Type 0 where
+  pub plain : PlainByte a × PlainByte b × PlainByte c × PlainByte d
+  pub first : a / 4 % 4 ≡ n / 4 % 4
+  pub second : b / 4 % 4 ≡ n / 1024 % 4
+  pub third : c / 4 % 4 ≡ n / 262144 % 4
+  pub fourth : d / 4 % 4 ≡ n / 67108864 % 4
+
+-- the four bytes that hold twelve steps in these directions
+abbrev pub twelve_in : (x y z : ℕ) → List ℕ
+twelve_in x y z =
+    (4 * (x / 4 % 4) + 16 * (x / 1024 % 4) + 64 * (x / 262144 % 4))
+    ∷ (4 * (x / 67108864 % 4) + 16 * (y / 4 % 4) + 64 * (y / 1024 % 4))
+    ∷ (4 * (y / 262144 % 4) + 16 * (y / 67108864 % 4) + 64 * (z / 4 % 4))
+    ∷ (4 * (z / 1024 % 4) + 16 * (z / 262144 % 4) + 64 * (z / 67108864 % 4)) ∷ []

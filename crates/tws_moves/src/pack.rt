@@ -1,13 +1,13 @@
 //! Bytes that spell moves to the shortest that spell the same, without a list of the moves.
 
-ghost use Rattle.std.specs.Prelude.{◌≡◌, ℕ, ◌<◌, ◌%◌, ◌^◌, List, [], ◌∷◌, length, ◌++◌, IsTrue, IfOk, IfErr, OnOk, IfSome, IfNone, MatchResult};
+ghost use Rattle.std.specs.Prelude.{◌≡◌, ℕ, ◌+◌, ◌*◌, ◌<◌, ◌%◌, ◌^◌, List, [], ◌∷◌, length, ◌++◌, IsTrue, IfOk, IfErr, OnOk, IfSome, IfNone, MatchResult};
 ghost use Rattle.tws_moves.specs.declared.moves_fault.MovesFault.TheVariants as fault;
 ghost use Rattle.tws_moves.specs.declared.layout.Layout.TheVariants as layout;
 ghost use Rattle.tws_moves.specs.declared.kept.Kept.TheVariants as kept;
 ghost use Rattle.tws_moves.specs.Move.{Move as Plain};
 ghost use Rattle.tws_moves.specs.Spelling.{IsPiece, IsSpelling, Spells, MovesFail, layout_waits, waits_of};
 ghost use Rattle.tws_moves.specs.Shortest.{packed_bytes, shortest_of};
-ghost use Rattle.tws_moves.specs.Steps.{IsHeld, IsKept, IsPieceCut, Packs, PacksPieces, ArePlain, plain_three};
+ghost use Rattle.tws_moves.specs.Steps.{IsHeld, IsKept, IsPieceCut, Packs, PacksPieces, HasDirections, IsDirections, twelve_in};
 
 use crate::act::Act;
 use crate::kept::Kept;
@@ -16,7 +16,7 @@ use crate::moves_fault::MovesFault;
 use crate::number::{bits, number_of};
 use crate::piece::Piece;
 use crate::reading::{cut_before, split_piece};
-use crate::standing::{is_plain, skip_all_standing};
+use crate::standing::skip_all_standing;
 use crate::wait::Wait;
 use std::alloc::{AllocError, Allocator};
 
@@ -97,18 +97,41 @@ fn pack_piece<A: Allocator>(
     }
 }
 
-// The byte that holds three plain steps, each of which is one of these bytes.
-fn three_byte(first: u8, second: u8, third: u8) -> u8
-    ensures { result ≡ plain_three first second third }
+// Four bytes as one number, less that of four steps 0 behind three ticks. Where each byte is the piece of a plain step,
+// it has their directions and no other bit. A number of four bytes is one load and a few operations.
+fn directions(first: u8, second: u8, third: u8, fourth: u8) -> u32
+    ensures { IsDirections result → HasDirections result first second third fourth }
 {
-    4 * (first / 4 % 4) + 16 * (second / 4 % 4) + 64 * (third / 4 % 4)
+    let low = u32::from(first) + 256 * u32::from(second);
+    let high = u32::from(third) + 256 * u32::from(fourth);
+    (low + 65_536 * high).wrapping_sub(0x6161_6161)
 }
 
-// Whether each of the three bytes is the piece of a plain step. There is no branch between them.
-fn are_plain(first: u8, second: u8, third: u8) -> bool
-    ensures { IsTrue result → ArePlain first second third }
+// Whether the number has four directions and no other bit. There is no branch between the tests.
+fn are_directions(number: u32) -> bool
+    ensures { IsTrue result → IsDirections number }
 {
-    is_plain(first) & is_plain(second) & is_plain(third)
+    let low = (number % 4 == 0) & (number / 16 % 64 == 0) & (number / 4_096 % 64 == 0);
+    let high = (number / 1_048_576 % 64 == 0) & (number / 268_435_456 == 0);
+    low & high
+}
+
+// The byte that holds three steps whose directions are the low bits of these numbers.
+fn three_byte(first: u32, second: u32, third: u32) -> u8
+    ensures { result ≡ 4 * (first % 4) + 16 * (second % 4) + 64 * (third % 4) }
+{
+    (4 * (first % 4) + 16 * (second % 4) + 64 * (third % 4)) as u8
+}
+
+// The four bytes that hold the twelve steps in these directions.
+fn four_bytes(x: u32, y: u32, z: u32) -> [u8; 4]
+    ensures { result ≡ twelve_in x y z }
+{
+    let first = three_byte(x / 4, x / 1_024, x / 262_144);
+    let second = three_byte(x / 67_108_864, y / 4, y / 1_024);
+    let third = three_byte(y / 262_144, y / 67_108_864, z / 4);
+    let fourth = three_byte(z / 1_024, z / 262_144, z / 67_108_864);
+    [first, second, third, fourth]
 }
 
 // The four bytes that hold the twelve steps that the bytes begin with, each in a byte of its own behind three ticks; and
@@ -120,16 +143,13 @@ fn split_twelve(bytes: &[u8]) -> Option<([u8; 4], &[u8])>
     let [a, b, c, d, e, f, g, h, i, j, k, l, rest @ ..] = bytes else {
         return None;
     };
-    let left = are_plain(*a, *b, *c) & are_plain(*d, *e, *f);
-    let right = are_plain(*g, *h, *i) & are_plain(*j, *k, *l);
-    if !(left & right) {
+    let x = directions(*a, *b, *c, *d);
+    let y = directions(*e, *f, *g, *h);
+    let z = directions(*i, *j, *k, *l);
+    if !(are_directions(x) & are_directions(y) & are_directions(z)) {
         return None;
     }
-    let first = three_byte(*a, *b, *c);
-    let second = three_byte(*d, *e, *f);
-    let third = three_byte(*g, *h, *i);
-    let fourth = three_byte(*j, *k, *l);
-    Some(([first, second, third, fourth], rest))
+    Some((four_bytes(x, y, z), rest))
 }
 
 // Adds the plain steps that the bytes begin with, twelve by twelve, and answers the bytes behind them.

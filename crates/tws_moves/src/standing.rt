@@ -8,7 +8,7 @@ use crate::layout::Layout;
 use crate::reading::split_piece;
 
 // Whether the byte is the piece of a step 0 to 3 behind three ticks.
-pub(crate) fn is_plain(byte: u8) -> bool
+fn is_plain(byte: u8) -> bool
     ensures { result ≡ is_plain_byte byte }
 {
     byte % 4 == 1 && byte / 16 % 2 == 0 && byte / 32 == 3
