@@ -3,8 +3,8 @@
 
 A Lynx header, then RECORDS solutions with MOVES bytes of moves each. The fields vary from record to record. KIND says
 which moves: `plain`, steps 0 to 3 behind three ticks, in turn, as without it; `short`, any steps in one byte; `mixed`,
-moves of all layouts, each as often as in a few files that Tile World wrote; `even`, each layout as often as any other.
-Moves that are drawn are spelled as shortly as can be, but for plain steps alone, and the same for the same words.
+each layout as often as in a few files that Tile World wrote, which have no codes; `even`, each layout as often as any
+other. Moves that are drawn are spelled as shortly as can be, but for plain steps alone, and the same for the same words.
 """
 import random
 import struct
@@ -12,7 +12,7 @@ import sys
 
 # How often each layout is drawn: a plain step, another step in one byte, three steps, a step in two bytes, one in four,
 # and a code.
-SHARES = {"mixed": (16, 149, 7, 29, 5, 1), "even": (0, 1, 1, 1, 1, 1)}
+SHARES = {"mixed": (5, 142, 1, 17, 1, 0), "even": (0, 1, 1, 1, 1, 1)}
 # So many solutions have moves of their own. Those of the others are as many times the same.
 DRAWN = 8
 

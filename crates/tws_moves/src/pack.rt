@@ -98,7 +98,7 @@ fn pack_piece<A: Allocator>(
 }
 
 // Four bytes as one number, less that of four steps 0 behind three ticks. Where each byte is the piece of a plain step,
-// it has their directions and no other bit. A number of four bytes is one load and a few operations.
+// it has their directions and no other bit. One number is told by fewer operations than four bytes.
 fn directions(first: u8, second: u8, third: u8, fourth: u8) -> u32
     ensures { IsDirections result → HasDirections result first second third fourth }
 {
