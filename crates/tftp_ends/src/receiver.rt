@@ -1,15 +1,16 @@
 //! The end that receives.
 
-ghost use Rattle.std.specs.Prelude.{◌≡◌, ◌≤◌, ◌==◌, ◌+◌, length, Ok, OnErr, IfSome};
-ghost use Rattle.tftp_ends.specs.Ends.{dgram_of, answer_of, verdict_of, is_last_come, is_past, receiver_start, receiver_next, receiver_again, receiver_data, receiver_timeout, receiver_take};
+ghost use Rattle.std.specs.Prelude.{◌≡◌, ◌≤◌, ◌==◌, ◌+◌, length, Ok, OnErr, IfErr, IfSome};
+ghost use Rattle.tftp_ends.specs.Ends.{dgram_of, answer_of, verdict_of, is_last_come, is_past, receiver_start, receiver_next, receiver_again, receiver_data, receiver_timeout, receiver_take, receiver_running, IsReceiver};
 
+use crate::chunks::Chunks;
 use crate::limits::{DALLY, MAX_BLOCKS, MAX_FILE, MISSES};
 use crate::received::Received;
 use crate::recv_fault::RecvFault;
 use crate::recv_state::RecvState;
 use std::alloc::{Allocator, Global};
 use std::marker::Model;
-use tftp_packet::{Dgram, encode_ack};
+use tftp_packet::{BLOCK_SIZE, Dgram, encode_ack};
 
 #[cfg(test)]
 mod pairs;
@@ -23,7 +24,7 @@ pub struct Receiver<A: Allocator + Copy = Global> {
     /// How many blocks have come: blocks 1 to this one.
     count: u16,
     /// Their bytes; none once the file was taken out.
-    file: Option<Vec<u8, A>>,
+    file: Option<Chunks<A>>,
     /// Time-outs in a row without a new block.
     misses: u8,
     state: RecvState,
@@ -44,11 +45,12 @@ impl<A: Allocator + Copy> Model for Receiver<A> {
 impl<A: Allocator + Copy> Receiver<A> {
     /// A receiver to which nothing has come. It takes no memory yet.
     pub fn new(alloc: A) -> Self
-        ensures { result ≡ receiver_start }
+        ensures receiver { result ≡ receiver_start }
+        ensures fits { IsReceiver result }
     {
         Receiver {
             count: 0,
-            file: Some(Vec::new(alloc)),
+            file: Some(Chunks::new(alloc)),
             misses: 0,
             state: RecvState::Running,
         }
@@ -64,15 +66,33 @@ impl<A: Allocator + Copy> Receiver<A> {
     /// `Memory` where a growth was refused, and `TooLong` where the file goes on behind block `MAX_BLOCKS`. The receiver
     /// is then as it was before, so the same block may be given again.
     pub fn on_data(&mut self, n: u16, body: &[u8]) -> Result<Option<Dgram>, RecvFault>
-        requires { length body.now ≤ 512 }
+        requires { length body.now ≤ BLOCK_SIZE }
         ensures receiver { self.new ≡ (receiver_data (verdict_of result) n body.now self.old).receiver }
         ensures sent { result ≡ answer_of (receiver_data (verdict_of result) n body.now self.old).result }
         ensures unchanged { OnErr result (self.new ≡ self.old) }
+        // A block without bytes takes no memory.
+        ensures grows { IfErr result (λ e. e ≡ RecvFault.Memory → 1 ≤ length body.now) }
+        ensures fits { IsReceiver self.new }
     {
         match self.state {
-            RecvState::Running if n == self.count + 1 => self.on_next(n, body),
-            RecvState::Running | RecvState::Complete => Ok(self.again(n)),
+            RecvState::Running => self.on_running(n, body),
+            RecvState::Complete => Ok(self.again(n)),
             RecvState::TimedOut | RecvState::Over => Ok(None),
+        }
+    }
+
+    // A block has come while some are missing, so there is a number behind that of the last one.
+    fn on_running(&mut self, n: u16, body: &[u8]) -> Result<Option<Dgram>, RecvFault>
+        requires running { self.old.state ≡ RecvState.Running }
+        requires short { length body.now ≤ BLOCK_SIZE }
+        ensures receiver { self.new ≡ (receiver_running (n == self.old.count + 1) (verdict_of result) n body.now self.old).receiver }
+        ensures sent { result ≡ answer_of (receiver_running (n == self.old.count + 1) (verdict_of result) n body.now self.old).result }
+        ensures grows { IfErr result (λ e. e ≡ RecvFault.Memory → 1 ≤ length body.now) }
+    {
+        if n == self.count + 1 {
+            self.on_next(n, body)
+        } else {
+            Ok(self.again(n))
         }
     }
 
@@ -91,18 +111,19 @@ impl<A: Allocator + Copy> Receiver<A> {
     fn on_next(&mut self, n: u16, body: &[u8]) -> Result<Option<Dgram>, RecvFault>
         requires running { self.old.state ≡ RecvState.Running }
         requires next { n ≡ self.old.count + 1 }
-        requires short { length body.now ≤ 512 }
+        requires short { length body.now ≤ BLOCK_SIZE }
         ensures receiver { self.new ≡ (receiver_next (is_past n body.now) (verdict_of result) body.now self.old).receiver }
         ensures sent { result ≡ answer_of (receiver_next (is_past n body.now) (verdict_of result) body.now self.old).result }
+        ensures grows { IfErr result (λ e. e ≡ RecvFault.Memory → 1 ≤ length body.now) }
     {
-        let full = body.len() == 512;
+        let full = body.len() == BLOCK_SIZE;
         if full && n == MAX_BLOCKS {
             return Err(RecvFault::TooLong);
         }
         let Some(file) = &mut self.file else {
             unreachable!();
         };
-        file.extend_from_slice(body)?;
+        file.push_block(body)?;
         self.count = n;
         self.misses = 0;
         if !full {
@@ -117,6 +138,7 @@ impl<A: Allocator + Copy> Receiver<A> {
     pub fn on_timeout(&mut self) -> Option<Dgram>
         ensures receiver { self.new ≡ (receiver_timeout self.old).receiver }
         ensures sent { result ≡ dgram_of (receiver_timeout self.old).out }
+        ensures fits { IsReceiver self.new }
     {
         match self.state {
             RecvState::Running => {
@@ -151,6 +173,7 @@ impl<A: Allocator + Copy> Receiver<A> {
     pub fn take_file(&mut self) -> Option<Received<A>>
         ensures receiver { self.new ≡ (receiver_take self.old).receiver }
         ensures file { result ≡ (receiver_take self.old).file }
+        ensures fits { IsReceiver self.new }
         // It is no longer than a file may be.
         ensures size { IfSome result (λ f. length f ≤ MAX_FILE) }
     {

@@ -5,8 +5,8 @@ ghost use Rattle.tftp_packet.specs.Refusal.{refusal_code, refusal_text, refusal_
 use crate::dgram::Dgram;
 use crate::encoding::encode_error;
 
-/// The errors that this product sends, each with its code, of RFC 1350 section 5, and its words. They stand here alone,
-/// so that all who send and read them mean the same bytes.
+/// The errors that this product sends, each with its code, of RFC 1350 section 5, and its words. All who send and read
+/// them take them from here.
 #[derive(Clone, Copy, Debug, PartialEq, Eq)]
 pub enum Refusal {
     /// A request in another mode than octet.
@@ -23,6 +23,8 @@ pub enum Refusal {
     FileTooLong,
     /// A datagram from a port that is not the transfer's.
     UnknownTransfer,
+    /// A file whose collection could not be kept.
+    NotKept,
 }
 
 impl Refusal {
@@ -32,7 +34,10 @@ impl Refusal {
         ensures { result ≡ refusal_code self }
     {
         match self {
-            Refusal::OctetOnly | Refusal::ServerBusy | Refusal::CollectionTooLong => 0,
+            Refusal::OctetOnly
+            | Refusal::ServerBusy
+            | Refusal::CollectionTooLong
+            | Refusal::NotKept => 0,
             Refusal::NoSuchFile => 1,
             Refusal::OutOfMemory | Refusal::FileTooLong => 3,
             Refusal::UnknownTransfer => 5,
@@ -51,10 +56,11 @@ impl Refusal {
             Refusal::OutOfMemory => b"out of memory",
             Refusal::FileTooLong => b"file too long",
             Refusal::UnknownTransfer => b"unknown transfer",
+            Refusal::NotKept => b"not kept",
         }
     }
 
-    /// The ERROR that says so, with this code and these words and nothing behind them.
+    /// The ERROR that says so, with this code and these words, and nothing after them.
     pub fn dgram(self) -> Dgram
         ensures bytes { result ≡ encode (refusal_packet self) }
         ensures packet { IsPacket (refusal_packet self) result }
