@@ -9,7 +9,7 @@ use Rattle.tws_moves.specs.Bytes.{IsBytes, number_of, bits, little_bytes}
 use Rattle.tws_moves.specs.Move.{Wait, IsAct}
 use Rattle.tws_moves.specs.Spelling.{IsPiece, layout_of, layout_length, layout_waits, waits_of}
 use Rattle.tws_moves.specs.Shortest.{act_bytes, alone}
-use Rattle.tws_moves.specs.Steps.{IsHeld, ticks_limit}
+use Rattle.tws_moves.specs.Steps.{HasLayout, ticks_limit}
 
 -- ---- the layout of a first byte
 
@@ -162,7 +162,7 @@ act_holds t (Code c) small limit =
       ]
     ]
 
-pub alone_holds : (w : Wait) → IsHeld w → Holds (alone w) (w ∷ [])
+pub alone_holds : (w : Wait) → HasLayout w → Holds (alone w) (w ∷ [])
 alone_holds w held = act_holds w.ticks w.act held.act held.ticks
 
 -- ---- three plain steps

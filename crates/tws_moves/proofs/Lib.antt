@@ -12,4 +12,3 @@ pub mod PackedBytes
 pub mod NextPieces
 pub mod LateMoves
 pub mod Repacking
-pub mod StandingPieces

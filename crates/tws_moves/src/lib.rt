@@ -2,17 +2,16 @@
 #![tactic(auto)]
 
 mod act;
-mod kept;
 mod laws;
 mod layout;
 mod moves;
 mod moves_fault;
 mod number;
 mod pack;
+mod pending;
 mod piece;
 mod reading;
 mod spell_fault;
-mod standing;
 mod wait;
 mod writing;
 
