@@ -29,14 +29,14 @@ long_first first e f = rw (e, f)
 code_first : (first : ℕ) → first % 4 ≡ 3 → first / 16 % 2 ≡ 1 → layout_of first ≡ layout.Code
 code_first first e f = rw (e, f)
 
--- what stands in a piece of this layout, which is this number
+-- what a piece of this layout holds, which is this number
 pub waits_in : (l : Layout) (n first : ℕ) (rest : List ℕ) → layout_of first ≡ l → number_of (first ∷ rest) ≡ n → waits_of (first ∷ rest) ≡ layout_waits l n
 waits_in l n first rest e f = ap (λ (k : Layout). layout_waits k (number_of (first ∷ rest))) e ∙ ap (layout_waits l) f
 
 wait_made : (t s : ℕ) (a b : Act) → t ≡ s → a ≡ b → (let w : Wait = record { ticks = t; act = a } in w) ∷ [] ≡ record { ticks = s; act = b } ∷ []
 wait_made t s a b e f = let make : ℕ → Act → List Wait = λ x y. record { ticks = x; act = y } ∷ [] in let whole : make t a ≡ make s b = cc in whole
 
--- a piece and what stands in it
+-- a piece and what it holds
 pub record Holds (bytes : List ℕ) (waits : List Wait) : Type 0 where
   pub piece : IsPiece bytes
   pub made : waits_of bytes ≡ waits

@@ -19,7 +19,7 @@ use Rattle.tws_moves.proofs.PieceKinds.{One, Three, piece_kind, step_limit}
 pub three_step : (a b c : Wait) (rest : List Wait) → is_plain a ≡ true → is_plain b ≡ true → is_plain c ≡ true → waits_bytes (a ∷ b ∷ c ∷ rest) ≡ three_byte a b c ∷ waits_bytes rest
 three_step a b c rest pa pb pc = rw (pa, pb, pc)
 
--- where one of the next three is not plain, the next one stands alone
+-- where one of the next three is not plain, the next one is alone in its piece
 pub alone_first : (a : Wait) (rest : List Wait) → is_plain a ≡ false → waits_bytes (a ∷ rest) ≡ alone a ++ waits_bytes rest
 alone_first a [] p = sym (append-nil (alone a))
 alone_first a (b ∷ []) p = refl
@@ -35,7 +35,7 @@ alone_third a b c rest p = elim (cases_Bool (is_plain a)) [
   | inr other ↦ rw other
 ]
 
--- The next three are plain steps, or the next one stands alone.
+-- The next three are plain steps, or the next one is alone in its piece.
 pub next_step : (a b c : Wait) (rest : List Wait) → ((is_plain a ≡ true) × (is_plain b ≡ true) × (is_plain c ≡ true)) ⊎ (waits_bytes (a ∷ b ∷ c ∷ rest) ≡ alone a ++ waits_bytes (b ∷ c ∷ rest))
 next_step a b c rest =
     elim (cases_Bool (is_plain a)) [
@@ -80,7 +80,7 @@ size waits = length (waits_bytes waits)
 alone_size : (w : Wait) (ws : List Wait) → waits_bytes (w ∷ ws) ≡ alone w ++ waits_bytes ws → size (w ∷ ws) ≡ length (alone w) + size ws
 alone_size w ws e = omega (arith, ap length e, length-append (alone w) (waits_bytes ws))
 
--- Behind two plain steps there is a third, or all else is spelled by itself.
+-- After two plain steps there is a third, or all else is spelled by itself.
 two_more : (b c d : Wait) (rest : List Wait) → is_plain b ≡ true → is_plain c ≡ true → size (d ∷ rest) ≤ length (alone d) + size rest → size (d ∷ rest) ≤ size (b ∷ c ∷ d ∷ rest)
 two_more b c d rest pb pc later =
     elim (cases_Bool (is_plain d)) [

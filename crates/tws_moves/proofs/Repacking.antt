@@ -16,7 +16,7 @@ use Rattle.tws_moves.proofs.Waits.{waits_back}
 use Rattle.tws_moves.proofs.Held.{short_first, step_short, waits_in}
 use Rattle.tws_moves.proofs.Least.{three_step, alone_first, alone_second, alone_third, step_is_plain}
 
--- what is pending stands alone before a wait that is no plain step
+-- each pending step is alone before a wait that is no plain step
 pending_apart : (k : Pending) (w : Wait) (rest : List Wait) → is_plain w ≡ false → waits_bytes (pending_waits k ++ (w ∷ rest)) ≡ waits_bytes (pending_waits k) ++ (alone w ++ waits_bytes rest)
 pending_apart pending.None w rest other = alone_first w rest other
 pending_apart (pending.One a) w rest other =

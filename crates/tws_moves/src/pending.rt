@@ -35,7 +35,8 @@ impl Pending {
         })
     }
 
-    /// Writes each of the steps alone.
+    /// Writes each of the steps alone. Mostly there is none, so that it takes no call.
+    #[inline(always)]
     pub(crate) fn push_to<A: Allocator>(self, packed: &mut Vec<u8, A>) -> Result<(), AllocError>
         requires { IsPending self }
         ensures { OnOk result (packed.new.items ≡ packed.old.items ++ waits_bytes (pending_waits self)) }

@@ -141,7 +141,7 @@ impl Piece {
     }
 }
 
-// How many bytes a code's piece has behind its first two.
+// How many bytes a code's piece has after its first two.
 fn code_more(ticks: u64) -> usize
     ensures { result ≡ code_more ticks }
 {
@@ -156,7 +156,7 @@ fn code_more(ticks: u64) -> usize
     }
 }
 
-// Whether a byte holds the three: each is a step 0 to 3 behind three ticks.
+// Whether one byte holds the three.
 fn are_plain(first: Wait, second: Wait, third: Wait) -> bool
     ensures { result ≡ (is_plain first && is_plain second && is_plain third) }
 {

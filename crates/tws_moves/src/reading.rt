@@ -16,7 +16,7 @@ use crate::number::{bits, number_of};
 use crate::wait::Wait;
 use std::alloc::{AllocError, Allocator};
 
-// The piece that the bytes begin with, and the bytes behind it; none where it is cut.
+// The piece that the bytes begin with, and the bytes after it; none where it is cut.
 pub(crate) fn split_piece(bytes: &[u8]) -> Option<(&[u8], &[u8])>
     ensures piece { IfSome result (λ r. IsPiece r.0.now) }
     ensures split { IfSome result (λ r. bytes.now ≡ r.0.now ++ r.1.now) }
@@ -78,7 +78,7 @@ fn push_piece<A: Allocator>(
     }
 }
 
-// The bytes are cut where what is left of them begins.
+// The fault of bytes that are cut where the rest begins.
 pub(crate) fn cut_before(bytes: &[u8], rest: &[u8]) -> MovesFault
     requires within { length rest.now ≤ length bytes.now }
     requires short { length bytes.now < 2 ^ 32 }
@@ -88,7 +88,7 @@ pub(crate) fn cut_before(bytes: &[u8], rest: &[u8]) -> MovesFault
     MovesFault::Cut { at }
 }
 
-/// The moves that the bytes spell, at most 4,294,967,295 of them.
+/// The moves that the bytes spell. The bytes are at most 4,294,967,295.
 ///
 /// # Errors
 ///
@@ -114,7 +114,7 @@ pub fn read_moves<A: Allocator>(alloc: A, bytes: &[u8]) -> Result<Vec<Move, A>, 
     Ok(moves)
 }
 
-// How many moves stand in a piece.
+// How many moves a piece holds.
 fn count_piece(piece: &[u8]) -> u64
     requires { IsPiece piece.now }
     ensures count { result ≡ length (waits_of piece.now) }
@@ -178,7 +178,7 @@ fn count_next(bytes: &[u8]) -> Option<(u64, &[u8])>
     Some((count_piece(piece), rest))
 }
 
-/// How many moves the bytes spell, at most 4,294,967,295 of them. It agrees with `read_moves`, and takes no memory.
+/// How many moves the bytes spell, which are at most 4,294,967,295. It agrees with `read_moves`, and takes no memory.
 ///
 /// # Errors
 ///
