@@ -14,7 +14,7 @@ use Rattle.tws_moves.specs.Steps.{HasLayout, ticks_limit}
 
 -- ---- the layout of a first byte
 
-three_first : (first : ℕ) → first % 4 ≡ 0 → layout_of first ≡ layout.ThreeSteps
+pub three_first : (first : ℕ) → first % 4 ≡ 0 → layout_of first ≡ layout.ThreeSteps
 three_first first e = rw e
 
 pub short_first : (first : ℕ) → first % 4 ≡ 1 → layout_of first ≡ layout.ShortStep

@@ -4,6 +4,7 @@ pub mod Pieces
 pub mod Ticks
 pub mod Spellings
 pub mod Held
+pub mod Lanes
 pub mod PieceKinds
 pub mod Waits
 pub mod Least

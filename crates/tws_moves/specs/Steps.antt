@@ -1,6 +1,7 @@
 -- What the private steps of reading and writing say. Callers need none of it.
-use Rattle.std.specs.Prelude.{◌≡◌, ℕ, ◌+◌, ◌<◌, ◌≤◌, ◌^◌, nat_lt, List, [], ◌∷◌, ◌++◌, length, map, take, drop, if◌then◌else◌}
+use Rattle.std.specs.Prelude.{◌≡◌, ◌==◌, ℕ, ◌+◌, ◌<◌, ◌≤◌, ◌^◌, nat_lt, List, [], ◌∷◌, ◌++◌, length, map, take, drop, if◌then◌else◌}
 use Rattle.std.specs.List.{flat_map, AllByRecursion}
+use Rattle.std.specs.Int.{w64, trailing_zeros}
 use Rattle.tws_moves.specs.declared.act.Act.{Act}
 use Rattle.tws_moves.specs.declared.act.Act.TheVariants.{Step, Code}
 use Rattle.tws_moves.specs.declared.pending.Pending.{Pending}
@@ -18,6 +19,10 @@ IsPieceCut (first ∷ rest) = 1 + length rest < piece_length first
 -- bytes that are a piece each
 abbrev pub singles : List ℕ → List (List ℕ)
 singles bytes = map (λ (b : ℕ). b ∷ []) bytes
+
+-- the place of the lowest bit that is set, or n
+abbrev pub first_set : (mask n : ℕ) → ℕ
+first_set mask n = if mask == 0 then n else trailing_zeros w64 mask
 
 -- so far the bytes are these pieces, and a rest
 pub record ArePieces (bytes rest : List ℕ) (pieces : List (List ℕ)) : Type 0 where

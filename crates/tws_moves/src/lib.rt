@@ -2,6 +2,7 @@
 #![tactic(auto)]
 
 mod act;
+mod counting;
 mod laws;
 mod layout;
 mod moves;
@@ -16,6 +17,7 @@ mod wait;
 mod writing;
 
 pub use act::Act;
+pub use counting::check_moves;
 pub use laws::{
     cut_or_spelled, moves_by_function, one_reading, packing, shortest_by_function,
     spelled_moves_are_timed, spelled_or_too_late, ticks_of_waits,
@@ -23,7 +25,7 @@ pub use laws::{
 pub use moves::{Move, is_timed};
 pub use moves_fault::MovesFault;
 pub use pack::pack_moves;
-pub use reading::{check_moves, read_moves};
+pub use reading::read_moves;
 pub use spell_fault::SpellFault;
 pub use writing::write_moves;
 

@@ -1,6 +1,6 @@
 use Rattle.std.proofs.Common.{◌+◌, ◌*◌, ◌≤◌, length}
 use Rattle.tws_moves.specs.Steps.{CountsSoFar}
-use Rattle.tws_moves.proofs.reading.check_moves.Given as goal
+use Rattle.tws_moves.proofs.counting.check_moves.Given as goal
 
 abbrev pub invariant-loop-more : goal.invariant-loop-more
 invariant-loop-more l = record {

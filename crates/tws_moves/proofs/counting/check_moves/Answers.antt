@@ -2,7 +2,7 @@ use Rattle.std.proofs.Common.{length, arith, rules, ap, refl, Ok, sym, flat_map,
 use Rattle.tws_moves.specs.Spelling.{waits_of}
 use Rattle.tws_moves.proofs.Ticks.{count_from}
 use Rattle.tws_moves.proofs.Spellings.{one_reading, spells_so_far, cut_at, cut_is_no_spelling, counts_more}
-use Rattle.tws_moves.proofs.reading.check_moves.Goals as goal
+use Rattle.tws_moves.proofs.counting.check_moves.Goals as goal
 
 pub loop-more-preserved : goal.loop-more-preserved
 loop-more-preserved c =
