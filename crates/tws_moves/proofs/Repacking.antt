@@ -84,9 +84,6 @@ packs_piece bytes piece after old new before next one split packs = record {
   packs = subst (λ (ws : List Wait). Packs old before ws new next) (sym (append-nil (waits_of piece))) packs;
 }
 
-pub packs_none : (bytes old : List ℕ) → PacksPieces bytes bytes old pending.None old pending.None
-packs_none bytes old = record { pieces = []; so_far = record { fits = tt; split = refl }; packs = record { fits = tt; bytes = λ rest. refl } }
-
 module _ (bytes rest after : List ℕ) where
   pub packs_more : (old mid new : List ℕ) (before between next : Pending) → PacksPieces bytes rest old before mid between → PacksPieces rest after mid between new next → PacksPieces bytes after old before new next
   packs_more old mid new before between next first second = record {

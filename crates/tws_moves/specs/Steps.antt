@@ -62,9 +62,9 @@ pub record IsNextPiece (waits : List Wait) (length_of number count : ℕ) : Type
   pub bytes : waits_bytes waits ≡ little_bytes length_of number ++ waits_bytes (drop count waits)
 
 -- the spelling begins with the first wait alone
-abbrev pub StandsAlone : List Wait → Type 0
-StandsAlone [] = ⊥
-StandsAlone (w ∷ ws) = waits_bytes (w ∷ ws) ≡ alone w ++ waits_bytes ws
+abbrev pub BeginsAlone : List Wait → Type 0
+BeginsAlone [] = ⊥
+BeginsAlone (w ∷ ws) = waits_bytes (w ∷ ws) ≡ alone w ++ waits_bytes ws
 
 -- the bytes so far are the spelling up to the wait with this number
 pub record WritesSoFar (waits : List Wait) (bytes : List ℕ) (index : ℕ) : Type 0 where

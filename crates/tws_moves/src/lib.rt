@@ -1,4 +1,24 @@
 //! The moves of a Tile World solution, and how bytes spell them.
+//!
+//! Read `specs/Spelling.antt` first: it defines what bytes spell (`Spells`). `specs/Shortest.antt` defines which
+//! spellings are the shortest and which moves have none, `specs/Move.antt` moves and their ticks. `specs/Steps.antt` has
+//! words of private functions alone.
+//!
+//! How it is called, by a crate that lists `tws_moves`; this needs no proof file:
+//!
+//! ```text
+//! ghost use Rattle.std.specs.Prelude.{◌≡◌, ◌<◌, ◌^◌, length, IfOk, IsTrue};
+//! ghost use Rattle.tws_moves.specs.Shortest.{packed_bytes};
+//!
+//! /// Whether the bytes are the shortest that spell their moves.
+//! fn is_packed(alloc: Global, bytes: &[u8]) -> Result<bool, MovesFault>
+//!     requires { length bytes.now < 2 ^ 32 }
+//!     ensures { IfOk result (λ same. IsTrue same → packed_bytes bytes.now ≡ bytes.now) }
+//! {
+//!     let packed = pack_moves(alloc, bytes)?;
+//!     Ok(packed.as_slice() == bytes)
+//! }
+//! ```
 #![tactic(auto)]
 
 mod act;

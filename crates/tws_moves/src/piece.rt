@@ -2,7 +2,7 @@ ghost use Rattle.std.specs.Prelude.{◌≡◌, ℕ, ◌+◌, ◌*◌, ◌<◌, �
 ghost use Rattle.tws_moves.specs.Bytes.{little_bytes};
 ghost use Rattle.tws_moves.specs.Move.{Wait as PlainWait, IsTimed, waits_from};
 ghost use Rattle.tws_moves.specs.Shortest.{act_bytes, alone, code_more, is_plain};
-ghost use Rattle.tws_moves.specs.Steps.{HasLayout, IsNextPiece, StandsAlone, plain_step};
+ghost use Rattle.tws_moves.specs.Steps.{HasLayout, IsNextPiece, BeginsAlone, plain_step};
 
 use crate::act::Act;
 use crate::moves::Move;
@@ -97,7 +97,7 @@ impl Piece {
         requires timed { IsTimed moves.now }
         requires within { index < length moves.now }
         ensures next { IfSome result (λ p. IsNextPiece (drop index (waits_from 0 moves.now)) p.length p.number p.moves) }
-        ensures apart { IfNone result (StandsAlone (drop index (waits_from 0 moves.now))) }
+        ensures apart { IfNone result (BeginsAlone (drop index (waits_from 0 moves.now))) }
     {
         if moves.len() - index < 3 {
             return None;
