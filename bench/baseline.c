@@ -1,7 +1,7 @@
 /* A plain reader and printer of Tile World solution files, to time `tws show` against: the whole of standard input is
    read into one block, its moves are checked, and each record is printed by stdio; with the word --moves each move too.
-   Its output is that of `tws show` for readable files. With the word copy the file is written back as it was read, to
-   time `tws pack` against. */
+   Its output is that of `tws show` for readable files. With the word pack the file is written back with the moves of
+   each solution in the shortest layouts, as `tws pack` writes it. */
 #include "common.h"
 #include <ctype.h>
 
@@ -106,18 +106,108 @@ static void print_record(const uint8_t *body, uint32_t size, int moves)
     }
 }
 
+/* Bytes that are packed, and up to two steps 0 to 3 of three ticks that are kept back: one byte holds three. */
+struct packed {
+    uint8_t *bytes;
+    size_t size;
+    unsigned kept[2];
+    int count;
+};
+
+static void put_number(struct packed *out, uint64_t n, int length)
+{
+    for (int i = 0; i < length; i++, n >>= 8)
+        out->bytes[out->size++] = n;
+}
+
+static void put_kept(struct packed *out)
+{
+    for (int i = 0; i < out->count; i++)
+        out->bytes[out->size++] = 0x61 | out->kept[i] << 2;
+    out->count = 0;
+}
+
+static void put_step(struct packed *out, uint64_t ticks, unsigned direction)
+{
+    if (ticks == 3 && direction < 4) {
+        if (out->count < 2) {
+            out->kept[out->count++] = direction;
+            return;
+        }
+        out->bytes[out->size++] = out->kept[0] << 2 | out->kept[1] << 4 | direction << 6;
+        out->count = 0;
+        return;
+    }
+    put_kept(out);
+    if (ticks < 1 << 3)
+        put_number(out, 1 | direction << 2 | ticks << 5, 1);
+    else if (ticks < 1 << 11)
+        put_number(out, 2 | direction << 2 | ticks << 5, 2);
+    else
+        put_number(out, 3 | direction << 2 | ticks << 5, 4);
+}
+
+static void put_code(struct packed *out, uint64_t ticks, unsigned code)
+{
+    int more = ticks < 1 << 2 ? 0 : ticks < 1 << 10 ? 1 : ticks < 1 << 18 ? 2 : 3;
+    put_kept(out);
+    put_number(out, 19 | more << 2 | (uint64_t)code << 5 | ticks << 14, 2 + more);
+}
+
+static void pack_moves(struct packed *out, const uint8_t *moves, size_t size)
+{
+    for (size_t at = 0; at < size;) {
+        uint8_t first = moves[at];
+        size_t length = piece_length(first);
+        uint64_t n = 0;
+        if (length > size - at)
+            die("no solution file");
+        for (size_t i = length; i > 0; i--)
+            n = n << 8 | moves[at + i - 1];
+        if ((first & 3) == 0)
+            for (int i = 2; i < 8; i += 2)
+                put_step(out, 3, n >> i & 3);
+        else if ((first & 3) < 3)
+            put_step(out, n >> 5, n >> 2 & 7);
+        else if (first & 16)
+            put_code(out, n >> 14, n >> 5 & 511);
+        else
+            put_step(out, n >> 5, n >> 2 & 3);
+        at += length;
+    }
+    put_kept(out);
+}
+
+/* Adds a record, its size field too. */
+static void pack_record(struct packed *out, const uint8_t *body, uint32_t size)
+{
+    static const uint8_t set[6];
+    size_t at = out->size, fixed = size < 16 || memcmp(body, set, 6) == 0 ? size : 16;
+    memcpy(out->bytes + at + 4, body, fixed);
+    out->size += 4 + fixed;
+    pack_moves(out, body + fixed, size - fixed);
+    size = out->size - at - 4;
+    for (int i = 0; i < 4; i++)
+        out->bytes[at + i] = size >> 8 * i;
+}
+
 int main(int argc, char **argv)
 {
     int moves = argc > 1 && strcmp(argv[1], "--moves") == 0;
+    int pack = argc > 1 && strcmp(argv[1], "pack") == 0;
     size_t size, at;
     unsigned long records = 0;
     uint8_t *bytes = read_all(&size);
-    if (argc > 1 && strcmp(argv[1], "copy") == 0)
-        return fwrite(bytes, 1, size, stdout) != size;
+    struct packed out = { pack ? malloc(size) : NULL, 0, { 0 }, 0 };
+    if (pack && size > 0 && !out.bytes)
+        die("out of memory");
     if (size < 8 || memcmp(bytes, "\x35\x33\x9B\x99", 4) != 0 || bytes[4] < 1 || bytes[4] > 2
         || size < 8 + (size_t)bytes[7])
         die("no solution file");
-    printf("ruleset %s word %02x%02x extra %u\n", bytes[4] == 1 ? "lynx" : "ms", bytes[5], bytes[6], bytes[7]);
+    if (!pack)
+        printf("ruleset %s word %02x%02x extra %u\n", bytes[4] == 1 ? "lynx" : "ms", bytes[5], bytes[6], bytes[7]);
+    else
+        memcpy(out.bytes, bytes, out.size = 8 + (size_t)bytes[7]);
     for (at = 8 + (size_t)bytes[7]; at < size; records++) {
         uint32_t n;
         if (size - at < 4)
@@ -125,10 +215,17 @@ int main(int argc, char **argv)
         n = number(bytes + at, 4);
         if ((n > 0 && n < 6) || (n > 6 && n < 16) || n > size - at - 4)
             die("no solution file");
-        print_record(bytes + at + 4, n, moves);
+        if (pack)
+            pack_record(&out, bytes + at + 4, n);
+        else
+            print_record(bytes + at + 4, n, moves);
         at += 4 + (size_t)n;
     }
-    printf("records %lu\n", records);
+    if (!pack)
+        printf("records %lu\n", records);
+    else if (fwrite(out.bytes, 1, out.size, stdout) != out.size)
+        die("write fault");
+    free(out.bytes);
     free(bytes);
     return 0;
 }

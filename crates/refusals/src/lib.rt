@@ -6,6 +6,8 @@
 #[cfg(test)]
 mod collections;
 #[cfg(test)]
+mod each_request;
+#[cfg(test)]
 mod ends;
 #[cfg(test)]
 mod files;

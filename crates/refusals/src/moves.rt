@@ -1,73 +1,85 @@
 // Moves are read and written, and bytes packed.
-use refusing::Refusing;
+use crate::each_request::{Outcome, refuse_each};
 use std::test::Fail;
-use tws_moves::{MovesFault, SpellFault, check_moves, pack_moves, read_moves, write_moves};
+use tws_moves::{Act, Move, MovesFault, SpellFault, pack_moves, read_moves, write_moves};
 
 // Ten moves, in each of the five layouts.
 const SPELLED: [u8; 11] = [
     0x00, 0x61, 0xFE, 0xFF, 0x00, 0xEF, 0xFF, 0x01, 0x00, 0xF3, 0xFF,
 ];
 
-const COUNT: u64 = 10;
-
-// No run makes so many requests.
-const MANY: u64 = 100;
+// The ten, by hand from the table of layouts.
+fn spelled_moves() -> [Move; 10] {
+    let zero = Act::Step(0);
+    [
+        Move { at: 3, act: zero },
+        Move { at: 7, act: zero },
+        Move { at: 11, act: zero },
+        Move { at: 15, act: zero },
+        Move {
+            at: 2_063,
+            act: Act::Step(7),
+        },
+        Move {
+            at: 2_067,
+            act: zero,
+        },
+        Move {
+            at: 2_071,
+            act: zero,
+        },
+        Move {
+            at: 2_075,
+            act: zero,
+        },
+        Move {
+            at: 6_171,
+            act: Act::Step(3),
+        },
+        Move {
+            at: 6_175,
+            act: Act::Code(511),
+        },
+    ]
+}
 
 #[test]
 fn reading(rt: HostRuntime) -> Result<(), Fail> {
-    assert_eq!(rt; check_moves(&SPELLED), Ok(COUNT));
-    for nth in 1..MANY {
-        let refusing = Refusing::new(rt.alloc(), nth);
-        match read_moves(&refusing, &SPELLED) {
-            Ok(moves) => assert_eq!(rt; moves.len() as u64, COUNT),
-            Err(fault) => {
-                assert_eq!(rt; fault, MovesFault::Memory);
-                assert!(rt; refusing.has_refused());
-            }
-        }
-        if !refusing.has_refused() {
-            assert!(rt; nth > 1);
-            return Ok(());
-        }
-    }
-    Err(Fail::new("a request was refused in each run"))
+    let whole = spelled_moves();
+    refuse_each(
+        rt.alloc(),
+        1,
+        |refusing| match read_moves(refusing, &SPELLED) {
+            Ok(moves) => Outcome::of(moves.as_slice() == whole.as_slice()),
+            Err(MovesFault::Memory) => Outcome::OutOfMemory,
+            Err(MovesFault::Cut { .. }) => Outcome::Wrong,
+        },
+    )
 }
 
 #[test]
 fn writing(rt: HostRuntime) -> Result<(), Fail> {
     let moves = read_moves(rt.alloc(), &SPELLED)?;
-    for nth in 1..MANY {
-        let refusing = Refusing::new(rt.alloc(), nth);
-        match write_moves(&refusing, &moves) {
-            Ok(bytes) => assert_eq!(rt; bytes.as_slice(), SPELLED.as_slice()),
-            Err(fault) => {
-                assert_eq!(rt; fault, SpellFault::Memory);
-                assert!(rt; refusing.has_refused());
-            }
-        }
-        if !refusing.has_refused() {
-            assert!(rt; nth > 1);
-            return Ok(());
-        }
-    }
-    Err(Fail::new("a request was refused in each run"))
+    refuse_each(
+        rt.alloc(),
+        1,
+        |refusing| match write_moves(refusing, &moves) {
+            Ok(bytes) => Outcome::of(bytes.as_slice() == SPELLED.as_slice()),
+            Err(SpellFault::Memory) => Outcome::OutOfMemory,
+            Err(SpellFault::TooLate { .. }) => Outcome::Wrong,
+        },
+    )
 }
 
 #[test]
 fn packing(rt: HostRuntime) -> Result<(), Fail> {
-    for nth in 1..MANY {
-        let refusing = Refusing::new(rt.alloc(), nth);
-        match pack_moves(&refusing, &SPELLED) {
-            Ok(bytes) => assert_eq!(rt; bytes.as_slice(), SPELLED.as_slice()),
-            Err(fault) => {
-                assert_eq!(rt; fault, MovesFault::Memory);
-                assert!(rt; refusing.has_refused());
-            }
-        }
-        if !refusing.has_refused() {
-            assert!(rt; nth > 1);
-            return Ok(());
-        }
-    }
-    Err(Fail::new("a request was refused in each run"))
+    refuse_each(
+        rt.alloc(),
+        1,
+        |refusing| match pack_moves(refusing, &SPELLED) {
+            Ok(bytes) => Outcome::of(bytes.as_slice() == SPELLED.as_slice()),
+            Err(MovesFault::Memory) => Outcome::OutOfMemory,
+            Err(MovesFault::Cut { .. }) => Outcome::Wrong,
+        },
+    )
 }

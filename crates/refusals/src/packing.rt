@@ -1,5 +1,5 @@
 // A solution file is packed, and a body is taken out.
-use refusing::Refusing;
+use crate::each_request::{Outcome, refuse_each};
 use std::alloc::{Allocator, Global};
 use std::test::Fail;
 use tws_file::{Record, TwsFile, pack, read_file, write_file};
@@ -11,9 +11,6 @@ const LOOSE: [u8; 53] = [
     0x00, 0x01, 0x00, 0x42, 0x44, 0x48, 0x50, 0x00, 0x00, 0x00, 0x00, 0x00, 0x00, 0x64, 0x00, 0x00,
     0x00, 0x61, 0x61, 0x61, 0x61,
 ];
-
-// No run makes so many requests.
-const MANY: u64 = 100;
 
 // The same with the moves in two bytes.
 fn is_packed<A: Allocator>(global: Global, file: &TwsFile<A>) -> bool {
@@ -31,18 +28,10 @@ fn is_packed<A: Allocator>(global: Global, file: &TwsFile<A>) -> bool {
 #[test]
 fn packing(rt: HostRuntime) -> Result<(), Fail> {
     let file = read_file(rt.alloc(), &LOOSE)?;
-    for nth in 1..MANY {
-        let refusing = Refusing::new(rt.alloc(), nth);
-        match pack(&refusing, &file) {
-            Ok(packed) => assert!(rt; is_packed(rt.alloc(), &packed)),
-            Err(_) => assert!(rt; refusing.has_refused()),
-        }
-        if !refusing.has_refused() {
-            assert!(rt; nth > 4);
-            return Ok(());
-        }
-    }
-    Err(Fail::new("a request was refused in each run"))
+    refuse_each(rt.alloc(), 4, |refusing| match pack(refusing, &file) {
+        Ok(packed) => Outcome::of(is_packed(rt.alloc(), &packed)),
+        Err(_) => Outcome::OutOfMemory,
+    })
 }
 
 #[test]
@@ -51,16 +40,8 @@ fn the_body_of_a_solution(rt: HostRuntime) -> Result<(), Fail> {
     let [_, Record::Solution(solution)] = file.records.as_slice() else {
         return Err(Fail::new("no solution"));
     };
-    for nth in 1..MANY {
-        let refusing = Refusing::new(rt.alloc(), nth);
-        match solution.body(&refusing) {
-            Ok(body) => assert_eq!(rt; body.as_slice(), &LOOSE[33..]),
-            Err(_) => assert!(rt; refusing.has_refused()),
-        }
-        if !refusing.has_refused() {
-            assert!(rt; nth > 1);
-            return Ok(());
-        }
-    }
-    Err(Fail::new("a request was refused in each run"))
+    refuse_each(rt.alloc(), 1, |refusing| match solution.body(refusing) {
+        Ok(body) => Outcome::of(body.as_slice() == &LOOSE[33..]),
+        Err(_) => Outcome::OutOfMemory,
+    })
 }

@@ -7,7 +7,7 @@ module _ {X : Type 0} (IsWord : X → Type 0) (word : X → List ℕ) where
   abbrev pub IsCode : Type 0
   IsCode = (u v : X) (x y : List ℕ) → IsWord u → IsWord v → word u ++ x ≡ word v ++ y → (u ≡ v) × (x ≡ y)
 
-  -- no front of the list is a word
+  -- no prefix of the list is a word
   abbrev pub BeginsNoWord : List ℕ → Type 0
   BeginsNoWord xs = (u : X) (more : List ℕ) → IsWord u → xs ≢ word u ++ more
 

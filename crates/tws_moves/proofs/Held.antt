@@ -10,11 +10,11 @@ use Rattle.tws_moves.specs.Bytes.{number_of, bits, little_bytes}
 use Rattle.tws_moves.specs.Move.{Wait, IsAct}
 use Rattle.tws_moves.specs.Spelling.{IsPiece, layout_of, layout_length, layout_waits, waits_of}
 use Rattle.tws_moves.specs.Shortest.{act_bytes, alone}
-use Rattle.tws_moves.specs.Steps.{IsHeld, ticks_limit}
+use Rattle.tws_moves.specs.Steps.{HasLayout, ticks_limit}
 
 -- ---- the layout of a first byte
 
-three_first : (first : ℕ) → first % 4 ≡ 0 → layout_of first ≡ layout.ThreeSteps
+pub three_first : (first : ℕ) → first % 4 ≡ 0 → layout_of first ≡ layout.ThreeSteps
 three_first first e = rw e
 
 pub short_first : (first : ℕ) → first % 4 ≡ 1 → layout_of first ≡ layout.ShortStep
@@ -29,14 +29,14 @@ long_first first e f = rw (e, f)
 code_first : (first : ℕ) → first % 4 ≡ 3 → first / 16 % 2 ≡ 1 → layout_of first ≡ layout.Code
 code_first first e f = rw (e, f)
 
--- what stands in a piece of this layout, which is this number
+-- what a piece of this layout holds, which is this number
 pub waits_in : (l : Layout) (n first : ℕ) (rest : List ℕ) → layout_of first ≡ l → number_of (first ∷ rest) ≡ n → waits_of (first ∷ rest) ≡ layout_waits l n
 waits_in l n first rest e f = ap (λ (k : Layout). layout_waits k (number_of (first ∷ rest))) e ∙ ap (layout_waits l) f
 
 wait_made : (t s : ℕ) (a b : Act) → t ≡ s → a ≡ b → (let w : Wait = record { ticks = t; act = a } in w) ∷ [] ≡ record { ticks = s; act = b } ∷ []
 wait_made t s a b e f = let make : ℕ → Act → List Wait = λ x y. record { ticks = x; act = y } ∷ [] in let whole : make t a ≡ make s b = cc in whole
 
--- a piece and what stands in it
+-- a piece and what it holds
 pub record Holds (bytes : List ℕ) (waits : List Wait) : Type 0 where
   pub piece : IsPiece bytes
   pub made : waits_of bytes ≡ waits
@@ -163,7 +163,7 @@ act_holds t (Code c) small limit =
       ]
     ]
 
-pub alone_holds : (w : Wait) → IsHeld w → Holds (alone w) (w ∷ [])
+pub alone_holds : (w : Wait) → HasLayout w → Holds (alone w) (w ∷ [])
 alone_holds w held = act_holds w.ticks w.act held.act held.ticks
 
 -- ---- three plain steps

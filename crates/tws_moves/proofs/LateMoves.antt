@@ -5,7 +5,7 @@ use Rattle.std.proofs.lemmas.Bool.{cases_lt, cases_order}
 use Rattle.tws_moves.specs.declared.act.Act.TheVariants.{Step}
 use Rattle.tws_moves.specs.Move.{Move, Wait, IsAct, IsTimed, waits_from}
 use Rattle.tws_moves.specs.Shortest.{IsSpelled, IsTooLateAt, shortest_of}
-use Rattle.tws_moves.specs.Steps.{IsHeld, ticks_limit}
+use Rattle.tws_moves.specs.Steps.{HasLayout, ticks_limit}
 use Rattle.byte_output.proofs.Lists.{all_at, all_take_fewer}
 use Rattle.tws_moves.proofs.Waits.{waits_length, waits_take, timed_take}
 use Rattle.tws_moves.proofs.Least.{held_spells, spelled_held}
@@ -13,21 +13,21 @@ use Rattle.tws_moves.proofs.Least.{held_spells, spelled_held}
 any_wait : Wait
 any_wait = record { ticks = 0; act = Step 0 }
 
-module _ (moves : List Move) (timed : IsTimed moves) (index : ℕ) (inside : index < length moves) (held : AllByRecursion IsHeld (take index (waits_from 0 moves))) (unheld : (w : Wait) → IsHeld (slice_index_or (waits_from 0 moves) index w) → ⊥) where
+module _ (moves : List Move) (timed : IsTimed moves) (index : ℕ) (inside : index < length moves) (held : AllByRecursion HasLayout (take index (waits_from 0 moves))) (unheld : (w : Wait) → HasLayout (slice_index_or (waits_from 0 moves) index w) → ⊥) where
   fronts_spelled : (n : ℕ) → n ≤ index → IsSpelled (take n moves)
   fronts_spelled n before =
-      let fewer = subst (AllByRecursion IsHeld) (sym (waits_take 0 n moves)) (all_take_fewer IsHeld n index (waits_from 0 moves) before held) in
+      let fewer = subst (AllByRecursion HasLayout) (sym (waits_take 0 n moves)) (all_take_fewer HasLayout n index (waits_from 0 moves) before held) in
       (shortest_of (take n moves), held_spells (take n moves) (timed_take n moves timed) fewer)
 
   with_it : IsSpelled (take (index + 1) moves) → ⊥
   with_it spelled =
-      let all = subst (AllByRecursion IsHeld) (waits_take 0 (index + 1) moves) (spelled_held spelled.0 (take (index + 1) moves) spelled.1) in
+      let all = subst (AllByRecursion HasLayout) (waits_take 0 (index + 1) moves) (spelled_held spelled.0 (take (index + 1) moves) spelled.1) in
       let within : index < index + 1 = omega arith in
-      let at = all_at IsHeld (take (index + 1) (waits_from 0 moves)) index any_wait (omega (arith, length-take (index + 1) (waits_from 0 moves), waits_length 0 moves)) all in
-      unheld any_wait (subst IsHeld (get_or-take (index + 1) (waits_from 0 moves) index any_wait within) at)
+      let at = all_at HasLayout (take (index + 1) (waits_from 0 moves)) index any_wait (omega (arith, length-take (index + 1) (waits_from 0 moves), waits_length 0 moves)) all in
+      unheld any_wait (subst HasLayout (get_or-take (index + 1) (waits_from 0 moves) index any_wait within) at)
 
   never : IsSpelled moves → ⊥
-  never spelled = unheld any_wait (all_at IsHeld (waits_from 0 moves) index any_wait (omega (arith, waits_length 0 moves)) (spelled_held spelled.0 moves spelled.1))
+  never spelled = unheld any_wait (all_at HasLayout (waits_from 0 moves) index any_wait (omega (arith, waits_length 0 moves)) (spelled_held spelled.0 moves spelled.1))
 
   pub too_late : IsTooLateAt moves index
   too_late = record { within = inside; before = fronts_spelled; first = with_it; none = never }
@@ -47,10 +47,10 @@ one_index moves m n first second =
 pub record FirstUnheld (waits : List Wait) : Type 0 where
   pub index : ℕ
   pub inside : index < length waits
-  pub held : AllByRecursion IsHeld (take index waits)
-  pub unheld : (d : Wait) → IsHeld (slice_index_or waits index d) → ⊥
+  pub held : AllByRecursion HasLayout (take index waits)
+  pub unheld : (d : Wait) → HasLayout (slice_index_or waits index d) → ⊥
 
-first_unheld : (waits : List Wait) → AllByRecursion (λ (w : Wait). IsAct w.act) waits → AllByRecursion IsHeld waits ⊎ FirstUnheld waits
+first_unheld : (waits : List Wait) → AllByRecursion (λ (w : Wait). IsAct w.act) waits → AllByRecursion HasLayout waits ⊎ FirstUnheld waits
 first_unheld [] acts = inl tt
 first_unheld (w ∷ ws) acts =
     elim (cases_lt w.ticks (ticks_limit w.act)) [

@@ -7,7 +7,7 @@ use Rattle.tws_moves.specs.declared.act.Act.TheVariants.{Step, Code}
 use Rattle.tws_moves.specs.Move.{Move, Wait, IsTimed, moves_from, waits_from}
 use Rattle.tws_moves.specs.Spelling.{IsPiece, waits_of, join, Spells}
 use Rattle.tws_moves.specs.Shortest.{IsShortest, shortest_of, alone, is_plain, is_plain_act, waits_bytes, direction_of, three_byte}
-use Rattle.tws_moves.specs.Steps.{IsHeld}
+use Rattle.tws_moves.specs.Steps.{HasLayout, plain_step}
 use Rattle.tws_moves.proofs.Held.{Holds, alone_holds, three_holds}
 use Rattle.tws_moves.proofs.Spellings.{spells_pieces}
 use Rattle.tws_moves.proofs.Ticks.{moves_alone}
@@ -19,7 +19,7 @@ use Rattle.tws_moves.proofs.PieceKinds.{One, Three, piece_kind, step_limit}
 pub three_step : (a b c : Wait) (rest : List Wait) → is_plain a ≡ true → is_plain b ≡ true → is_plain c ≡ true → waits_bytes (a ∷ b ∷ c ∷ rest) ≡ three_byte a b c ∷ waits_bytes rest
 three_step a b c rest pa pb pc = rw (pa, pb, pc)
 
--- where one of the next three is not plain, the next one stands alone
+-- where one of the next three is not plain, the next one is alone in its piece
 pub alone_first : (a : Wait) (rest : List Wait) → is_plain a ≡ false → waits_bytes (a ∷ rest) ≡ alone a ++ waits_bytes rest
 alone_first a [] p = sym (append-nil (alone a))
 alone_first a (b ∷ []) p = refl
@@ -35,7 +35,7 @@ alone_third a b c rest p = elim (cases_Bool (is_plain a)) [
   | inr other ↦ rw other
 ]
 
--- The next three are plain steps, or the next one stands alone.
+-- The next three are plain steps, or the next one is alone in its piece.
 pub next_step : (a b c : Wait) (rest : List Wait) → ((is_plain a ≡ true) × (is_plain b ≡ true) × (is_plain c ≡ true)) ⊎ (waits_bytes (a ∷ b ∷ c ∷ rest) ≡ alone a ++ waits_bytes (b ∷ c ∷ rest))
 next_step a b c rest =
     elim (cases_Bool (is_plain a)) [
@@ -80,7 +80,7 @@ size waits = length (waits_bytes waits)
 alone_size : (w : Wait) (ws : List Wait) → waits_bytes (w ∷ ws) ≡ alone w ++ waits_bytes ws → size (w ∷ ws) ≡ length (alone w) + size ws
 alone_size w ws e = omega (arith, ap length e, length-append (alone w) (waits_bytes ws))
 
--- Behind two plain steps there is a third, or all else is spelled by itself.
+-- After two plain steps there is a third, or all else is spelled by itself.
 two_more : (b c d : Wait) (rest : List Wait) → is_plain b ≡ true → is_plain c ≡ true → size (d ∷ rest) ≤ length (alone d) + size rest → size (d ∷ rest) ≤ size (b ∷ c ∷ d ∷ rest)
 two_more b c d rest pb pc later =
     elim (cases_Bool (is_plain d)) [
@@ -106,24 +106,21 @@ one_more a (b ∷ c ∷ d ∷ rest) =
 
 -- ---- no pieces are shorter
 
-abbrev plain_step : ℕ → Wait
-plain_step d = record { ticks = 3; act = Step d }
-
-plain_held : (d : ℕ) → d < 4 → IsHeld (plain_step d)
+plain_held : (d : ℕ) → d < 4 → HasLayout (plain_step d)
 plain_held d small = record { act = omega arith; ticks = omega (arith, step_limit d) }
 
-pub held_if_plain : (w : Wait) → is_plain w ≡ true → IsHeld w
-held_if_plain w p = let plain = plain_is w p in subst IsHeld (sym plain.whole) (plain_held plain.direction plain.small)
+pub held_if_plain : (w : Wait) → is_plain w ≡ true → HasLayout w
+held_if_plain w p = let plain = plain_is w p in subst HasLayout (sym plain.whole) (plain_held plain.direction plain.small)
 
 pub direction_if_plain : (w : Wait) → is_plain w ≡ true → direction_of w.act < 4
 direction_if_plain w p = let plain = plain_is w p in omega (arith, plain.small, ap (λ (v : Wait). direction_of v.act) plain.whole)
 
-step_is_plain : (d : ℕ) → d < 4 → is_plain (plain_step d) ≡ true
+pub step_is_plain : (d : ℕ) → d < 4 → is_plain (plain_step d) ≡ true
 step_is_plain d small = let e = lt-ltb d 4 small in rw e
 
 -- some layout holds each wait, and their spelling is no longer than so many bytes
 record Within (most : ℕ) (waits : List Wait) : Type 0 where
-  held : AllByRecursion IsHeld waits
+  held : AllByRecursion HasLayout waits
   least : size waits ≤ most
 
 within_one : (piece : List ℕ) (rest : List Wait) (most : ℕ) → One piece → Within most rest → Within (length piece + most) (waits_of piece ++ rest)
@@ -185,7 +182,7 @@ three_spelled : (a b c : Wait) (rest : List Wait) → is_plain a ≡ true → is
 three_spelled a b c rest pa pb pc later =
     spelled_more (three_byte a b c ∷ []) (a ∷ b ∷ c ∷ []) rest (three_hold a b c (plain_is a pa) (plain_is b pb) (plain_is c pc)) (three_step a b c rest pa pb pc) later
 
-pub waits_spelled : (waits : List Wait) → AllByRecursion IsHeld waits → Spelled waits
+pub waits_spelled : (waits : List Wait) → AllByRecursion HasLayout waits → Spelled waits
 waits_spelled [] held = record { pieces = []; fits = tt; joined = refl; made = refl }
 waits_spelled (a ∷ []) held = spelled_more (alone a) (a ∷ []) [] (alone_holds a held.0) (sym (append-nil (alone a))) (waits_spelled [] tt)
 waits_spelled (a ∷ b ∷ []) held = spelled_more (alone a) (a ∷ []) (b ∷ []) (alone_holds a held.0) refl (waits_spelled (b ∷ []) held.1)
@@ -209,19 +206,19 @@ module _ (bytes : List ℕ) (moves : List Move) (spells : Spells bytes moves) wh
   pub spelled_timed : IsTimed moves
   spelled_timed = subst IsTimed (sym (moves_alone (flat_map waits_of spells.pieces) moves spells.made)) (timed_moves 0 (flat_map waits_of spells.pieces))
 
-  pub spelled_held : AllByRecursion IsHeld (waits_from 0 moves)
-  spelled_held = subst (AllByRecursion IsHeld) (sym waits_are) (pieces_within spells.pieces spells.fits).held
+  pub spelled_held : AllByRecursion HasLayout (waits_from 0 moves)
+  spelled_held = subst (AllByRecursion HasLayout) (sym waits_are) (pieces_within spells.pieces spells.fits).held
 
   pub spelled_least : length (shortest_of moves) ≤ length bytes
   spelled_least = omega (arith, (pieces_within spells.pieces spells.fits).least, ap size waits_are, ap length spells.joined)
 
-pub held_spells : (moves : List Move) → IsTimed moves → AllByRecursion IsHeld (waits_from 0 moves) → Spells (shortest_of moves) moves
+pub held_spells : (moves : List Move) → IsTimed moves → AllByRecursion HasLayout (waits_from 0 moves) → Spells (shortest_of moves) moves
 held_spells moves timed held =
     let spelled = waits_spelled (waits_from 0 moves) held in
     let all = spells_pieces (shortest_of moves) spelled.pieces spelled.fits spelled.joined in
     subst (Spells (shortest_of moves)) (ap (moves_from 0) spelled.made ∙ moves_of_their_waits moves timed) all
 
-pub held_shortest : (moves : List Move) → IsTimed moves → AllByRecursion IsHeld (waits_from 0 moves) → IsShortest (shortest_of moves) moves
+pub held_shortest : (moves : List Move) → IsTimed moves → AllByRecursion HasLayout (waits_from 0 moves) → IsShortest (shortest_of moves) moves
 held_shortest moves timed held = record {
   spells = held_spells moves timed held;
   least = λ others fits spells. spelled_least others moves spells;

@@ -4,6 +4,7 @@ pub mod Pieces
 pub mod Ticks
 pub mod Spellings
 pub mod Held
+pub mod Lanes
 pub mod PieceKinds
 pub mod Waits
 pub mod Least
@@ -11,4 +12,3 @@ pub mod PackedBytes
 pub mod NextPieces
 pub mod LateMoves
 pub mod Repacking
-pub mod StandingPieces

@@ -7,7 +7,7 @@ use Rattle.std.proofs.Math.Seq.{take-length}
 use Rattle.tws_moves.specs.Bytes.{little_bytes}
 use Rattle.tws_moves.specs.Move.{Wait}
 use Rattle.tws_moves.specs.Shortest.{alone, is_plain, three_byte, waits_bytes}
-use Rattle.tws_moves.specs.Steps.{IsHeld, IsNextPiece, StandsAlone, WritesSoFar}
+use Rattle.tws_moves.specs.Steps.{HasLayout, IsNextPiece, BeginsAlone, WritesSoFar}
 use Rattle.byte_output.proofs.Lists.{all_take_more}
 use Rattle.tws_moves.proofs.Least.{alone_first, held_if_plain, direction_if_plain}
 
@@ -31,11 +31,11 @@ pushed_all bytes whole count n so_far none =
 
 -- ---- three waits
 
--- fewer than three stand alone
-pub few_apart : (waits : List Wait) (i : ℕ) → i < length waits → length waits - i < 3 → StandsAlone (drop i waits)
+-- of fewer than three each is alone
+pub few_apart : (waits : List Wait) (i : ℕ) → i < length waits → length waits - i < 3 → BeginsAlone (drop i waits)
 few_apart waits i inside few = few_alone (drop i waits) (omega (arith, length-drop i waits)) (omega (arith, length-drop i waits))
   where
-    few_alone : (ws : List Wait) → 1 ≤ length ws → length ws < 3 → StandsAlone ws
+    few_alone : (ws : List Wait) → 1 ≤ length ws → length ws < 3 → BeginsAlone ws
     few_alone [] some few = absurd (omega arith)
     few_alone (a ∷ []) some few = sym (append-nil (alone a))
     few_alone (a ∷ b ∷ []) some few = refl
@@ -56,13 +56,13 @@ module _ (waits : List Wait) (i : ℕ) (a b c : Wait) (inside : i + 3 ≤ length
       ∙ ap (λ (ws : List Wait). a ∷ b ∷ ws) (three ∙ ap (λ (w : Wait). w ∷ drop (i + 2 + 1) waits) (sym c-is))
       ∙ ap (λ (k : ℕ). a ∷ b ∷ c ∷ drop k waits) last
 
-  pub three_apart : (is_plain a && is_plain b && is_plain c) ≡ false → StandsAlone (drop i waits)
+  pub three_apart : (is_plain a && is_plain b && is_plain c) ≡ false → BeginsAlone (drop i waits)
   three_apart e =
-      let first : StandsAlone (a ∷ b ∷ c ∷ drop (i + 3) waits) = rw e in
-      subst StandsAlone (sym cells) first
+      let first : BeginsAlone (a ∷ b ∷ c ∷ drop (i + 3) waits) = rw e in
+      subst BeginsAlone (sym cells) first
 
-  pub three_next : (number : ℕ) → number ≡ three_byte a b c → (is_plain a && is_plain b && is_plain c) ≡ true → IsNextPiece (drop i waits) 1 number 3
-  three_next number number-is e =
+  pub three_next : (size number count : ℕ) → size ≡ 1 → number ≡ three_byte a b c → count ≡ 3 → (is_plain a && is_plain b && is_plain c) ≡ true → IsNextPiece (drop i waits) size number count
+  three_next size number count size-is number-is count-is e =
       let rest = drop (i + 3) waits in
       let outer = and_parts (is_plain a && is_plain b) (is_plain c) e in
       let inner = and_parts (is_plain a) (is_plain b) outer.0 in
@@ -74,15 +74,16 @@ module _ (waits : List Wait) (i : ℕ) (a b c : Wait) (inside : i + 3 ≤ length
         held = (held_if_plain a inner.0, (held_if_plain b inner.1, (held_if_plain c outer.1, tt)));
         bytes = bytes ∙ ap (λ (n : ℕ). n ∷ waits_bytes rest) (sym byte);
       } in
-      subst (λ (ws : List Wait). IsNextPiece ws 1 number 3) (sym cells) found
+      let here = subst (λ (ws : List Wait). IsNextPiece ws 1 number 3) (sym cells) found in
+      subst (λ (k : ℕ). IsNextPiece (drop i waits) size number k) (sym count-is) (subst (λ (k : ℕ). IsNextPiece (drop i waits) k number 3) (sym size-is) here)
 
 -- ---- one wait
 
-pub alone_next : (waits : List Wait) (i : ℕ) (w : Wait) (size number count : ℕ) → i < length waits → w ≡ slice_index_or waits i w → StandsAlone (drop i waits) → IsHeld w → little_bytes size number ≡ alone w → count ≡ 1 → IsNextPiece (drop i waits) size number count
+pub alone_next : (waits : List Wait) (i : ℕ) (w : Wait) (size number count : ℕ) → i < length waits → w ≡ slice_index_or waits i w → BeginsAlone (drop i waits) → HasLayout w → little_bytes size number ≡ alone w → count ≡ 1 → IsNextPiece (drop i waits) size number count
 alone_next waits i w size number count inside w-is apart held bytes count-is =
     let rest = drop (i + 1) waits in
     let cells : drop i waits ≡ w ∷ rest = drop_more waits i w inside ∙ ap (λ (v : Wait). v ∷ rest) (sym w-is) in
-    let first : waits_bytes (w ∷ rest) ≡ alone w ++ waits_bytes rest = subst StandsAlone cells apart in
+    let first : waits_bytes (w ∷ rest) ≡ alone w ++ waits_bytes rest = subst BeginsAlone cells apart in
     let found : IsNextPiece (w ∷ rest) size number 1 = record {
       some = omega arith;
       within = omega arith;
@@ -91,34 +92,31 @@ alone_next waits i w size number count inside w-is apart held bytes count-is =
     } in
     subst (λ (n : ℕ). IsNextPiece (drop i waits) size number n) (sym count-is) (subst (λ (ws : List Wait). IsNextPiece ws size number 1) (sym cells) found)
 
--- a wait that is no plain step stands alone, if some layout holds it
+-- a wait that is no plain step is alone, if some layout holds it
 module _ (waits : List Wait) (i : ℕ) (w : Wait) (inside : i < length waits) (w-is : w ≡ slice_index_or waits i w) where
-  plain_apart : is_plain w ≡ false → StandsAlone (drop i waits)
+  plain_apart : is_plain w ≡ false → BeginsAlone (drop i waits)
   plain_apart other =
       let cells : drop i waits ≡ w ∷ drop (i + 1) waits = drop_more waits i w inside ∙ ap (λ (v : Wait). v ∷ drop (i + 1) waits) (sym w-is) in
-      subst StandsAlone (sym cells) (alone_first w (drop (i + 1) waits) other)
+      subst BeginsAlone (sym cells) (alone_first w (drop (i + 1) waits) other)
 
-  pub other_next : {X : Type 0} (piece : Option X) (size number count : X → ℕ) → is_plain w ≡ false → IfSome piece (λ p. IsHeld w) → IfSome piece (λ p. little_bytes (size p) (number p) ≡ alone w) → IfSome piece (λ p. count p ≡ 1) → IfSome piece (λ p. IsNextPiece (drop i waits) (size p) (number p) (count p))
+  pub other_next : {X : Type 0} (piece : Option X) (size number count : X → ℕ) → is_plain w ≡ false → IfSome piece (λ p. HasLayout w) → IfSome piece (λ p. little_bytes (size p) (number p) ≡ alone w) → IfSome piece (λ p. count p ≡ 1) → IfSome piece (λ p. IsNextPiece (drop i waits) (size p) (number p) (count p))
   other_next None size number count other held bytes one = tt
   other_next (Some p) size number count other held bytes one = alone_next waits i w (size p) (number p) (count p) inside w-is (plain_apart other) held bytes one
 
-  pub other_none : {X : Type 0} (piece : Option X) → IfNone piece (IsHeld w → ⊥) → IfNone piece ((v : Wait) → IsHeld (slice_index_or waits i v) → ⊥)
+  pub other_none : {X : Type 0} (piece : Option X) → IfNone piece (HasLayout w → ⊥) → IfNone piece ((v : Wait) → HasLayout (slice_index_or waits i v) → ⊥)
   other_none None unheld = λ v held.
       let first = drop_more waits i v inside in
       let again = drop_more waits i w inside in
       let same : slice_index_or waits i v ≡ slice_index_or waits i w = cc in
-      unheld (subst IsHeld (same ∙ sym w-is) held)
+      unheld (subst HasLayout (same ∙ sym w-is) held)
   other_none (Some p) unheld = tt
 
 -- ---- all pieces
 
-pub writes_none : (waits : List Wait) → WritesSoFar waits [] 0
-writes_none waits = record { within = omega arith; held = tt; split = refl }
-
 pub writes_more : (waits : List Wait) (bytes more : List ℕ) (i size number count : ℕ) → WritesSoFar waits bytes i → IsNextPiece (drop i waits) size number count → more ≡ bytes ++ little_bytes size number → WritesSoFar waits more (i + count)
 writes_more waits bytes more i size number count so_far next more-is = record {
   within = omega (arith, so_far.within, next.within, length-drop i waits);
-  held = all_take_more IsHeld i count waits so_far.held next.held;
+  held = all_take_more HasLayout i count waits so_far.held next.held;
   split =
       so_far.split
       ∙ ap (λ (xs : List ℕ). bytes ++ xs) (next.bytes ∙ ap (λ (ws : List Wait). little_bytes size number ++ waits_bytes ws) (drop-drop count i waits))
@@ -127,10 +125,10 @@ writes_more waits bytes more i size number count so_far next more-is = record {
 }
 
 module _ (waits : List Wait) (bytes : List ℕ) (i : ℕ) (so_far : WritesSoFar waits bytes i) (over : length waits ≤ i) where
-  pub all_held : AllByRecursion IsHeld waits
+  pub all_held : AllByRecursion HasLayout waits
   all_held =
       let whole : take i waits ≡ waits = ap (λ (n : ℕ). take n waits) (let e : i ≡ length waits = omega (arith, so_far.within) in e) ∙ take-length waits in
-      subst (AllByRecursion IsHeld) whole so_far.held
+      subst (AllByRecursion HasLayout) whole so_far.held
 
   pub all_written : bytes ≡ waits_bytes waits
   all_written =

@@ -9,13 +9,13 @@ use Rattle.tws_moves.specs.Bytes.{number_of, bits}
 use Rattle.tws_moves.specs.Move.{Wait}
 use Rattle.tws_moves.specs.Spelling.{IsPiece, layout_of, layout_length, waits_of}
 use Rattle.tws_moves.specs.Shortest.{act_bytes, alone, code_more}
-use Rattle.tws_moves.specs.Steps.{IsHeld, ticks_limit}
+use Rattle.tws_moves.specs.Steps.{HasLayout, ticks_limit}
 use Rattle.tws_moves.proofs.Held.{waits_in, step_short, step_middle, step_long, little_length}
 
 pub record One (piece : List ℕ) : Type 0 where
   pub wait : Wait
   pub made : waits_of piece ≡ wait ∷ []
-  pub held : IsHeld wait
+  pub held : HasLayout wait
   pub short : length (alone wait) ≤ length piece
 
 pub record Three (piece : List ℕ) : Type 0 where

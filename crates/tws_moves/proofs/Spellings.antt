@@ -144,11 +144,6 @@ counts_piece bytes piece after count one split count-is = record {
 
 -- ---- bytes that are a piece each
 
-pub single_piece : (bytes : List ℕ) (i d : ℕ) → i < length bytes → AllByRecursion IsPiece (singles bytes) → IsPiece (slice_index_or bytes i d ∷ [])
-single_piece [] i d inside all = absurd (omega arith)
-single_piece (b ∷ bytes) zero d inside all = all.0
-single_piece (b ∷ bytes) (suc i) d inside all = single_piece bytes i d (omega arith) all.1
-
 join_singles : (bytes : List ℕ) → join (singles bytes) ≡ bytes
 join_singles [] = refl
 join_singles (b ∷ bytes) = ap (λ (xs : List ℕ). b ∷ xs) (join_singles bytes)

@@ -1,4 +1,4 @@
--- The running tick: moves that follow one another stand at the sum of the waits and of the moves before them.
+-- The running tick: moves that follow one another are at the sum of the waits and of the moves before them.
 use Rattle.std.proofs.Common.{◌≡◌, ℕ, zero, suc, ◌+◌, ◌<◌, List, [], ◌∷◌, ◌++◌, length, take, slice_index_or, refl, ap, ◌∙◌, arith}
 use Rattle.std.specs.List.{sum_by}
 use Rattle.std.proofs.lemmas.List.Sums.{sum_by-cons}

@@ -12,7 +12,7 @@ waits_back tick (w ∷ ws) =
     let whole : make (tick + w.ticks - tick) (waits_from (tick + w.ticks + 1) (moves_from (tick + w.ticks + 1) ws)) ≡ make w.ticks ws = cc in
     whole
 
--- the first move, if there is one, stands at this tick or later
+-- the first move, if there is one, is at this tick or later
 abbrev pub IsFrom : ℕ → List Move → Type 0
 IsFrom tick moves = (m : Move) → 0 < length moves → tick ≤ (slice_index_or moves 0 m).at
 
@@ -65,7 +65,7 @@ later_wait tick (m ∷ []) i d e w inside = absurd (omega arith)
 later_wait tick (m ∷ n ∷ ms) zero d e w inside = refl
 later_wait tick (m ∷ n ∷ ms) (suc i) d e w inside = later_wait (m.at + 1) (n ∷ ms) i d e w (omega arith)
 
--- the wait of the move with this number, counted from 0, behind the tick of the one before it
+-- the wait of the move with this number, counted from 0, counted from the tick after the one before it
 wait_at : (moves : List Move) (i : ℕ) (d e : Move) (w : Wait) → 1 ≤ i → i < length moves → slice_index_or (waits_from 0 moves) i w ≡ record { ticks = (slice_index_or moves i d).at - ((slice_index_or moves (i - 1) e).at + 1); act = (slice_index_or moves i d).act }
 wait_at moves zero d e w later inside = absurd (omega arith)
 wait_at moves (suc i) d e w later inside =

@@ -30,7 +30,7 @@ pub record AreMoves (waits : List Wait) (moves : List Move) : Type 0 where
   pub act : (i : ℕ) (m : Move) (w : Wait) → i < length waits → (slice_index_or moves i m).act ≡ (slice_index_or waits i w).act
   pub at : (i : ℕ) (m : Move) → i < length waits → (slice_index_or moves i m).at ≡ sum_by (λ (w : Wait). w.ticks) (take (i + 1) waits) + i
 
--- each move but the first stands at a greater tick than the one before
+-- each move but the first is at a greater tick than the one before
 abbrev pub IsTimed : List Move → Type 0
 IsTimed moves = (i : ℕ) (m : Move) → i + 1 < length moves → (slice_index_or moves i m).at < (slice_index_or moves (i + 1) m).at
 

@@ -18,8 +18,8 @@ pub record IsShortest (bytes : List ℕ) (moves : List Move) : Type 0 where
 abbrev pub IsSpelled : List Move → Type 0
 IsSpelled moves = (bytes : List ℕ) × Spells bytes moves
 
--- No bytes spell the moves: they spell each front that ends before the move with this number, counted from 0, and none
--- that has it. So it stands too long after the one before it.
+-- No bytes spell the moves: they spell each prefix that ends before the move with this number, counted from 0, and none
+-- that has it. So it comes too long after the one before it.
 pub record IsTooLateAt (moves : List Move) (index : ℕ) : Type 0 where
   pub within : index < length moves
   pub before : (n : ℕ) → n ≤ index → IsSpelled (take n moves)
@@ -37,14 +37,14 @@ SpellFails moves e = IsTooLate moves e ⊎ (e ≡ Memory)
 
 -- ---- the spelling that is written, from the left
 
--- how many bytes a code's piece has behind its first two: the shortest that hold these ticks
+-- how many bytes a code's piece has after its first two: the shortest that hold these ticks
 abbrev pub code_more : ℕ → ℕ
 code_more ticks =
     if nat_lt ticks (2 ^ 2) then 0 else
     if nat_lt ticks (2 ^ 10) then 1 else
     if nat_lt ticks (2 ^ 18) then 2 else 3
 
--- an act alone, in the shortest layout that holds it behind so many ticks
+-- an act alone, in the shortest layout that holds it after so many ticks
 abbrev pub act_bytes : (ticks : ℕ) → Act → List ℕ
 act_bytes ticks (Step direction) =
     if nat_lt ticks (2 ^ 3) then little_bytes 1 (1 + 4 * direction + 2 ^ 5 * ticks) else
@@ -56,7 +56,7 @@ act_bytes ticks (Code code) =
 abbrev pub alone : Wait → List ℕ
 alone w = act_bytes w.ticks w.act
 
--- a step 0 to 3 behind three ticks: a byte holds three of them
+-- a step 0 to 3 that waits three ticks: one byte holds three of them
 abbrev pub is_plain_act : (ticks : ℕ) → Act → Bool
 is_plain_act ticks (Step direction) = nat_lt direction 4 && (ticks == 3)
 is_plain_act ticks (Code code) = false

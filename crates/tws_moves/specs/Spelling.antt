@@ -32,7 +32,7 @@ layout_length layout.Code first = 2 + bits 2 2 first
 abbrev pub piece_length : ℕ → ℕ
 piece_length first = layout_length (layout_of first) first
 
--- the waits and acts that stand in a piece, which is this number
+-- the waits and acts that a piece holds, which is this number
 abbrev pub layout_waits : Layout → ℕ → List Wait
 layout_waits layout.ThreeSteps n =
     record { ticks = 3; act = Step (bits 2 2 n) } ∷ record { ticks = 3; act = Step (bits 4 2 n) } ∷ record { ticks = 3; act = Step (bits 6 2 n) } ∷ []
@@ -84,7 +84,7 @@ pub record Spells (bytes : List ℕ) (moves : List Move) : Type 0 where
 abbrev pub IsSpelling : List ℕ → Type 0
 IsSpelling bytes = (moves : List Move) × Spells bytes moves
 
--- the bytes spell none, and this is the length of their longest front that spells some
+-- the bytes spell none, and this is the length of their longest prefix that spells some
 pub record IsCutAt (bytes : List ℕ) (at : ℕ) : Type 0 where
   pub within : at < length bytes
   pub spelled : IsSpelling (take at bytes)

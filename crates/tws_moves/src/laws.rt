@@ -24,8 +24,8 @@ pub fn cut_or_spelled()
     ensures one_place { (bytes : List ℕ) (m n : ℕ) → IsCutAt bytes m → IsCutAt bytes n → m ≡ n }
 {}
 
-/// Waits make one list of moves, which a running tick gives: each move stands its wait behind the tick after the one
-/// before.
+/// Waits make one list of moves, which a running tick gives: each move comes its wait after the tick that follows
+/// the move before.
 pub fn ticks_of_waits()
     ensures made { (waits : List Wait) → AreMoves waits (moves_from 0 waits) }
     ensures alone { (waits : List Wait) (moves : List Move) → AreMoves waits moves → moves ≡ moves_from 0 waits }

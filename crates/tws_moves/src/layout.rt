@@ -1,7 +1,7 @@
 ghost use Rattle.std.specs.Prelude.{◌≡◌, ◌≤◌, ℕ, length};
 ghost use Rattle.tws_moves.specs.Spelling.{layout_of, layout_length, layout_waits};
 
-/// How moves stand in a piece of bytes. Tile World's comments have five formats.
+/// How a piece of bytes holds moves. Tile World's comments have five formats.
 #[derive(Clone, Copy)]
 pub(crate) enum Layout {
     /// One byte with three steps, which wait three ticks each.
@@ -41,7 +41,8 @@ impl Layout {
             Layout::Code => 2 + usize::from(first / 4 % 4),
         }
     }
-    /// How many moves stand in such a piece.
+
+    /// How many moves such a piece holds.
     pub(crate) fn moves(self) -> u64
         ensures count { (n : ℕ) → result ≡ length (layout_waits self n) }
         ensures bound { result ≤ 3 }

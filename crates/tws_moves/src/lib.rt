@@ -1,22 +1,43 @@
 //! The moves of a Tile World solution, and how bytes spell them.
+//!
+//! Read `specs/Spelling.antt` first: it defines what bytes spell (`Spells`). `specs/Shortest.antt` defines which
+//! spellings are the shortest and which moves have none, `specs/Move.antt` moves and their ticks. `specs/Steps.antt` has
+//! words of private functions alone.
+//!
+//! How it is called, by a crate that lists `tws_moves`; this needs no proof file:
+//!
+//! ```text
+//! ghost use Rattle.std.specs.Prelude.{◌≡◌, ◌<◌, ◌^◌, length, IfOk, IsTrue};
+//! ghost use Rattle.tws_moves.specs.Shortest.{packed_bytes};
+//!
+//! /// Whether the bytes are the shortest that spell their moves.
+//! fn is_packed(alloc: Global, bytes: &[u8]) -> Result<bool, MovesFault>
+//!     requires { length bytes.now < 2 ^ 32 }
+//!     ensures { IfOk result (λ same. IsTrue same → packed_bytes bytes.now ≡ bytes.now) }
+//! {
+//!     let packed = pack_moves(alloc, bytes)?;
+//!     Ok(packed.as_slice() == bytes)
+//! }
+//! ```
 #![tactic(auto)]
 
 mod act;
-mod kept;
+mod counting;
 mod laws;
 mod layout;
 mod moves;
 mod moves_fault;
 mod number;
 mod pack;
+mod pending;
 mod piece;
 mod reading;
 mod spell_fault;
-mod standing;
 mod wait;
 mod writing;
 
 pub use act::Act;
+pub use counting::check_moves;
 pub use laws::{
     cut_or_spelled, moves_by_function, one_reading, packing, shortest_by_function,
     spelled_moves_are_timed, spelled_or_too_late, ticks_of_waits,
@@ -24,7 +45,7 @@ pub use laws::{
 pub use moves::{Move, is_timed};
 pub use moves_fault::MovesFault;
 pub use pack::pack_moves;
-pub use reading::{check_moves, read_moves};
+pub use reading::read_moves;
 pub use spell_fault::SpellFault;
 pub use writing::write_moves;
 

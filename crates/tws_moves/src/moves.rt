@@ -24,7 +24,7 @@ impl Model for Move {
     ghost invariant = { λ m. IsMove (record { at = m.at; act = m.act }) };
 }
 
-/// Whether each move but the first stands at a greater tick than the one before.
+/// Whether each move but the first is at a greater tick than the one before.
 pub fn is_timed(moves: &[Move]) -> bool
     ensures { IsTrue result ↔ IsTimed moves.now }
 {

@@ -1,8 +1,8 @@
-ghost use Rattle.std.specs.Prelude.{◌≡◌, ℕ, ◌<◌, ◌^◌, ◌&&◌, ◌++◌, drop, length, slice_index_or, OnOk, IfSome, IfNone};
+ghost use Rattle.std.specs.Prelude.{◌≡◌, ℕ, ◌+◌, ◌*◌, ◌<◌, ◌^◌, ◌&&◌, ◌++◌, drop, length, slice_index_or, OnOk, IfSome, IfNone};
 ghost use Rattle.tws_moves.specs.Bytes.{little_bytes};
 ghost use Rattle.tws_moves.specs.Move.{Wait as PlainWait, IsTimed, waits_from};
-ghost use Rattle.tws_moves.specs.Shortest.{act_bytes, alone, code_more, is_plain, three_byte};
-ghost use Rattle.tws_moves.specs.Steps.{IsHeld, IsNextPiece, StandsAlone};
+ghost use Rattle.tws_moves.specs.Shortest.{act_bytes, alone, code_more, is_plain};
+ghost use Rattle.tws_moves.specs.Steps.{HasLayout, IsNextPiece, BeginsAlone, plain_step};
 
 use crate::act::Act;
 use crate::moves::Move;
@@ -56,12 +56,32 @@ impl Piece {
         }
     }
 
+    /// A plain step alone, in this direction.
+    pub(crate) fn plain(direction: u8) -> Self
+        ensures { little_bytes result.length result.number ≡ alone (plain_step direction) }
+    {
+        Piece::of_step(3, direction)
+    }
+
+    /// Three plain steps in these directions, in one byte.
+    pub(crate) fn of_three(first: u8, second: u8, third: u8) -> Self
+        ensures number { result.number ≡ 4 * first + 16 * second + 64 * third }
+        ensures length { result.length ≡ 1 }
+        ensures moves { result.moves ≡ 3 }
+    {
+        Piece {
+            number: 4 * u64::from(first) + 16 * u64::from(second) + 64 * u64::from(third),
+            length: 1,
+            moves: 3,
+        }
+    }
+
     /// The wait alone, in the shortest layout that holds it; none where no layout does.
     pub(crate) fn alone(wait: Wait) -> Option<Self>
-        ensures held { IfSome result (λ _. IsHeld wait) }
+        ensures held { IfSome result (λ _. HasLayout wait) }
         ensures bytes { IfSome result (λ p. little_bytes p.length p.number ≡ alone wait) }
         ensures moves { IfSome result (λ p. p.moves ≡ 1) }
-        ensures none { IfNone result (IsHeld wait → ⊥) }
+        ensures none { IfNone result (HasLayout wait → ⊥) }
     {
         if wait.ticks >= wait.act.ticks_limit() {
             return None;
@@ -77,7 +97,7 @@ impl Piece {
         requires timed { IsTimed moves.now }
         requires within { index < length moves.now }
         ensures next { IfSome result (λ p. IsNextPiece (drop index (waits_from 0 moves.now)) p.length p.number p.moves) }
-        ensures apart { IfNone result (StandsAlone (drop index (waits_from 0 moves.now))) }
+        ensures apart { IfNone result (BeginsAlone (drop index (waits_from 0 moves.now))) }
     {
         if moves.len() - index < 3 {
             return None;
@@ -88,11 +108,7 @@ impl Piece {
         if !are_plain(first, second, third) {
             return None;
         }
-        Some(Piece {
-            number: three_byte(first, second, third),
-            length: 1,
-            moves: 3,
-        })
+        Some(Piece::of_three(first.direction(), second.direction(), third.direction()))
     }
 
     /// The piece from the move with this number on; none where no layout holds its wait.
@@ -100,7 +116,7 @@ impl Piece {
         requires timed { IsTimed moves.now }
         requires within { index < length moves.now }
         ensures next { IfSome result (λ p. IsNextPiece (drop index (waits_from 0 moves.now)) p.length p.number p.moves) }
-        ensures none { IfNone result ((w : PlainWait) → IsHeld (slice_index_or (waits_from 0 moves.now) index w) → ⊥) }
+        ensures none { IfNone result ((w : PlainWait) → HasLayout (slice_index_or (waits_from 0 moves.now) index w) → ⊥) }
     {
         let wait = Wait::of(moves, index);
         if !wait.is_plain() {
@@ -125,7 +141,7 @@ impl Piece {
     }
 }
 
-// How many bytes a code's piece has behind its first two.
+// How many bytes a code's piece has after its first two.
 fn code_more(ticks: u64) -> usize
     ensures { result ≡ code_more ticks }
 {
@@ -140,18 +156,9 @@ fn code_more(ticks: u64) -> usize
     }
 }
 
-// Whether a byte holds the three: each is a step 0 to 3 behind three ticks.
+// Whether one byte holds the three.
 fn are_plain(first: Wait, second: Wait, third: Wait) -> bool
     ensures { result ≡ (is_plain first && is_plain second && is_plain third) }
 {
     first.is_plain() && second.is_plain() && third.is_plain()
-}
-
-// The byte that holds three plain steps.
-fn three_byte(first: Wait, second: Wait, third: Wait) -> u64
-    ensures { result ≡ three_byte first second third }
-{
-    4 * u64::from(first.direction())
-        + 16 * u64::from(second.direction())
-        + 64 * u64::from(third.direction())
 }

@@ -7,7 +7,7 @@ use thiserror::Error;
 /// Why moves were not written as bytes.
 #[derive(Clone, Copy, Debug, PartialEq, Eq, Error)]
 pub enum SpellFault {
-    /// A move stands too long after the one before it: no layout holds its wait. `index` counts moves from 0.
+    /// A move comes too long after the one before it: no layout holds its wait. `index` counts moves from 0.
     #[error("TooLate({index})")]
     TooLate { index: usize },
     /// Memory ran out, which says nothing of the moves.

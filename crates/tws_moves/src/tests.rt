@@ -175,7 +175,7 @@ fn slow_waits<A: Allocator + Copy>(
     Ok(Ok(all))
 }
 
-// Move number i, counted from 0, stands at the sum of the waits up to its own, plus i.
+// Move number i, counted from 0, is at the sum of the waits up to its own, plus i.
 fn slow_moves<A: Allocator>(alloc: A, waits: &[(u64, Act)]) -> Result<Vec<(u64, Act), A>, Fail> {
     let mut moves = Vec::new(alloc);
     for (i, (_, act)) in waits.iter().enumerate() {

@@ -31,7 +31,7 @@ impl Model for Wait {
 }
 
 impl Wait {
-    /// The wait that stands alone in a piece of this layout, which is this number; none where three steps stand in it.
+    /// The wait that is alone in a piece of this layout, which is this number; none where the piece holds three steps.
     pub(crate) fn in_layout(layout: Layout, number: u64) -> Option<Self>
         requires { number < 2 ^ 40 }
         ensures one { IfSome result (λ w. layout_waits layout number ≡ w ∷ []) }
@@ -68,7 +68,7 @@ impl Wait {
         }
     }
 
-    /// Whether it is a step 0 to 3 behind three ticks.
+    /// Whether it is a plain step: one 0 to 3 that waits three ticks.
     pub(crate) fn is_plain(self) -> bool
         ensures { result ≡ is_plain self }
     {

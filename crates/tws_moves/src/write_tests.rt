@@ -244,7 +244,7 @@ fn one_piece(part: &[(u64, Act)]) -> Option<usize> {
     }
 }
 
-// The bytes of the waits cut behind each one whose bit is set, and at the end.
+// The bytes of the waits cut after each one whose bit is set, and at the end.
 fn cut_by(waits: &[(u64, Act)], bits: u64) -> Option<usize> {
     let mut total = 0_usize;
     let mut from = 0;

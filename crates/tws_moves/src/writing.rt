@@ -14,7 +14,7 @@ use std::alloc::Allocator;
 /// The shortest bytes that spell the moves.
 ///
 /// From the left: where the next three moves are steps 0 to 3 that wait three ticks each, they are one byte; else the
-/// next move stands alone, in the shortest layout that holds it.
+/// next move is alone in its piece, in the shortest layout that holds it.
 ///
 /// # Errors
 ///

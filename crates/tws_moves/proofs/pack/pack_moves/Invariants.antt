@@ -1,10 +1,10 @@
 use Rattle.std.proofs.Common.{[], length}
-use Rattle.tws_moves.specs.declared.kept.Kept.TheVariants as kept
+use Rattle.tws_moves.specs.declared.pending.Pending.TheVariants as pending
 use Rattle.tws_moves.specs.Steps.{PacksPieces}
 use Rattle.tws_moves.proofs.pack.pack_moves.Given as goal
 
-abbrev pub invariant-loop-packed : goal.invariant-loop-packed
-invariant-loop-packed g l = PacksPieces l.bytes l.rest [] kept.None l.packed.items l.kept
+abbrev pub invariant-loop-piece : goal.invariant-loop-piece
+invariant-loop-piece g l = PacksPieces l.bytes l.rest [] pending.None l.packed.items l.pending
 
-abbrev pub decreases-loop-packed : goal.decreases-loop-packed
-decreases-loop-packed g l = length l.rest
+abbrev pub decreases-loop-piece : goal.decreases-loop-piece
+decreases-loop-piece g l = length l.rest
