@@ -1,0 +1,11 @@
+-- The names of the files, until a crate below has them.
+use Rattle.std.specs.Prelude.{ℕ, List, codes}
+use Rattle.tws_file.specs.declared.«ruleset».Ruleset.{Ruleset}
+use Rattle.tws_file.specs.declared.«ruleset».Ruleset.TheVariants.{Lynx, Ms}
+
+abbrev pub file_name_of : Ruleset → List ℕ
+file_name_of Lynx = codes "lynx.tws"
+file_name_of Ms = codes "ms.tws"
+
+abbrev pub upload_name : List ℕ
+upload_name = codes "upload.tws"
