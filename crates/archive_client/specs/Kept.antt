@@ -1,5 +1,5 @@
 -- The plain value of each client, without where its bytes lie in memory, and what private functions speak of.
-use Rattle.std.specs.Prelude.{ℕ, ◌≤◌, List, length}
+use Rattle.std.specs.Prelude.{ℕ, ◌≤◌, List, length, Option, None, Some}
 use Rattle.tftp_ends.specs.Ends.{Sender, Receiver}
 use Rattle.tws_file.specs.declared.«ruleset».Ruleset.{Ruleset}
 use Rattle.archive_client.specs.declared.phase.Phase as kept
@@ -19,6 +19,12 @@ abbrev pub get_phase : kept.Phase Ruleset Receiver → Phase
 get_phase (phase.Asking kind misses) = asking (get kind) misses
 get_phase (phase.Bound peer r) = receiving peer r
 get_phase (phase.Failed why) = failed why
+
+-- the port of a client that is bound, whatever it is bound with
+abbrev pub kept_peer : {W E : Type 0} → kept.Phase W E → Option ℕ
+kept_peer (phase.Asking wanted misses) = None
+kept_peer (phase.Bound peer e) = Some peer
+kept_peer (phase.Failed why) = None
 
 abbrev pub put_of : {A : Type 0} → putting.Inside A → Client
 put_of p = record { port = p.line.port; server = p.line.server; phase = put_phase p.phase }

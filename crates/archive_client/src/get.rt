@@ -1,6 +1,6 @@
 //! The client that fetches a collection.
 
-ghost use Rattle.std.specs.Prelude.{◌≡◌, ◌≤◌, length, Some, None, false, IsOk, IfErr};
+ghost use Rattle.std.specs.Prelude.{◌≡◌, ◌≤◌, length, Some, None, false, IsOk, IfOk, ◌↔◌};
 ghost use Rattle.tftp_packet.specs.Refusal.{refusal_packet};
 ghost use Rattle.archive_client.specs.Client.{get, failed, in_phase, out_to, cause_of, refusal_of as told, client_start, request_out, client_datagram, client_timeout, verdict_after, state_of, is_over, phase_peer, data_heard, file_of, IsClient};
 
@@ -12,11 +12,14 @@ use crate::phase::Phase;
 use crate::state::State;
 use std::alloc::{Allocator, Global};
 use std::marker::Model;
-use tftp_ends::{MISSES, Received, Receiver, RecvFault, RecvState};
+use tftp_ends::{MAX_FILE, MISSES, Received, Receiver, RecvFault, RecvState};
 use tftp_packet::{Endpoint, Out, Refusal, encode_read};
 use tws_file::Ruleset;
 
 /// A client that fetches the collection of a ruleset. Only `on_datagram` takes memory.
+///
+/// It asks the server for the file, binds to the port that sends the first block, and acknowledges block by block. Once it
+/// has the last block it waits `DALLY` time-outs, RFC 1350 section 6, in case its last ACK was lost.
 #[derive(Drop)]
 #[derive_where(Debug)]
 pub struct Get<A: Allocator + Copy = Global> {
@@ -49,8 +52,9 @@ fn refusal_of(fault: RecvFault) -> Refusal
 }
 
 impl<A: Allocator + Copy> Get<A> {
-    /// A client at this port of our own that asks the server for the collection of this ruleset, and the request, RRQ of
-    /// RFC 1350 section 5, which the caller sends.
+    /// A client at `port` of our own host that asks the server for the collection of this ruleset, and the request for the
+    /// caller to send: RRQ of RFC 1350 section 5. The server is at the host and the request port of `server`. What comes
+    /// is kept in memory of `alloc`.
     pub fn start(alloc: A, port: u16, server: Endpoint, kind: Ruleset) -> (Self, Out)
         ensures client { result.0 ≡ client_start port server (get kind) }
         ensures sent { result.1 ≡ request_out (get kind) result.0 }
@@ -66,16 +70,6 @@ impl<A: Allocator + Copy> Get<A> {
             },
         };
         (get, line.out(server.port, encode_read(file_name(kind))))
-    }
-
-    // The port that it is bound to.
-    fn peer(&self) -> Option<u16>
-        ensures { result ≡ phase_peer self.now.phase }
-    {
-        match self.phase {
-            Phase::Bound { peer, .. } => Some(peer),
-            Phase::Asking { .. } | Phase::Failed(_) => None,
-        }
     }
 
     // A block was not taken: the client has failed, and tells the server why.
@@ -127,7 +121,13 @@ impl<A: Allocator + Copy> Get<A> {
         }
     }
 
-    /// A datagram has come to the client's port.
+    /// A datagram of these bytes has come from `from` to the client's port. What is answered is to be sent.
+    ///
+    /// The first DATA 1 from a port of the server's host binds the client to that port. From then on a packet from another
+    /// port of that host is answered with ERROR 5, RFC 1350 section 4, and changes nothing; an ERROR from there has no
+    /// effect. An ERROR that is for the client fails it, unless the whole file has come. A block that is one too many, or
+    /// for which memory is refused, fails the client and is answered with ERROR 3, also where it is the first. Nothing has
+    /// any effect that comes from another host, that is no packet, or that comes once the client is `over`.
     pub fn on_datagram(&mut self, from: Endpoint, bytes: &[u8]) -> Option<Out>
         ensures client { self.new ≡ (client_datagram (verdict_after self.new) from bytes.now self.old).client }
         ensures sent { result ≡ (client_datagram (verdict_after self.new) from bytes.now self.old).out }
@@ -136,7 +136,7 @@ impl<A: Allocator + Copy> Get<A> {
         if self.over() {
             return None;
         }
-        match self.line.hear(self.peer(), from, bytes) {
+        match self.line.hear(self.phase.peer(), from, bytes) {
             Heard::Stray => Some(self.line.out(from.port, Refusal::UnknownTransfer.dgram())),
             Heard::Refusal(code) => {
                 if self.state() == State::Running {
@@ -149,7 +149,9 @@ impl<A: Allocator + Copy> Get<A> {
         }
     }
 
-    /// Nothing has come for a while.
+    /// Nothing has come for a while. What was sent last is sent again, the request or an ACK; time-out number `MISSES` in a
+    /// row without progress fails the client and sends nothing. Once the whole file has come nothing is sent, and the
+    /// client is over at time-out number `DALLY`. Once it is `over`, nothing changes or is sent.
     pub fn on_timeout(&mut self) -> Option<Out>
         ensures client { self.new ≡ (client_timeout self.old).client }
         ensures sent { result ≡ (client_timeout self.old).out }
@@ -175,7 +177,7 @@ impl<A: Allocator + Copy> Get<A> {
         None
     }
 
-    /// How far it is.
+    /// How far it is: never `Sent`.
     pub fn state(&self) -> State
         ensures { result ≡ state_of self.now }
     {
@@ -190,7 +192,7 @@ impl<A: Allocator + Copy> Get<A> {
         }
     }
 
-    /// Whether nothing has any effect from now on: the file has come and the dally is over, or it failed.
+    /// Whether no call has any effect from now on: it has failed, or it has the whole file and waits no more.
     pub fn over(&self) -> bool
         ensures { result ≡ is_over self.now }
     {
@@ -204,15 +206,16 @@ impl<A: Allocator + Copy> Get<A> {
         }
     }
 
-    /// The file, where all of it has come. It is moved out, not copied.
+    /// The file, where all of it has come. It is moved out of the client, not copied.
     ///
     /// # Errors
     ///
     /// The client as it was, exactly where its state is not `Got`.
     pub fn into_file(self) -> Result<Received<A>, Self>
         ensures file { result ≡ file_of self }
-        ensures got { state_of self ≡ State.Got → IsOk result }
-        ensures early { IfErr result (λ c. c ≡ self) }
+        ensures whole { IsOk result ↔ (state_of self ≡ State.Got) }
+        // It is no longer than a file may be.
+        ensures size { IfOk result (λ f. length f ≤ MAX_FILE) }
     {
         let Get { alloc, line, phase } = self;
         let Phase::Bound { peer, mut end } = phase else {

@@ -44,4 +44,6 @@ pub use state::State;
 pub use too_long::TooLong;
 
 #[cfg(test)]
+mod drawn_clients;
+#[cfg(test)]
 mod tests;

@@ -18,6 +18,9 @@ use tftp_ends::{MAX_FILE, MISSES, SendState, Sender};
 use tftp_packet::{Endpoint, Out, Owned, Refusal, encode_write};
 
 /// A client that sends a file. None of its calls takes memory.
+///
+/// It asks the server to take the file, binds to the port that acknowledges that, and sends the file there block by block.
+/// The file counts as sent once the last block is acknowledged.
 #[derive(Drop)]
 #[derive_where(Debug)]
 pub struct Put<A: Allocator + Copy = Global> {
@@ -38,8 +41,8 @@ impl<A: Allocator + Copy> Model for Put<A> {
 }
 
 impl<A: Allocator + Copy> Put<A> {
-    /// A client at this port of our own that asks the server to take this file, and the request, WRQ of RFC 1350
-    /// section 5, which the caller sends.
+    /// A client at `port` of our own host that asks the server to take this file, and the request for the caller to send:
+    /// WRQ of RFC 1350 section 5, for the name `upload.tws`. The server is at the host and the request port of `server`.
     ///
     /// # Errors
     ///
@@ -48,6 +51,7 @@ impl<A: Allocator + Copy> Put<A> {
         ensures client { IfOk result (λ r. r.0 ≡ client_start port server (put file.items)) }
         ensures sent { IfOk result (λ r. r.1 ≡ request_out (put file.items) r.0) }
         ensures short { IfOk result (λ _. length file.items ≤ MAX_FILE) }
+        ensures fits { IfOk result (λ r. IsClient r.0) }
         ensures back { IfErr result (λ e. e.file ≡ file) }
         ensures long { IfErr result (λ _. MAX_FILE < length file.items) }
     {
@@ -63,16 +67,6 @@ impl<A: Allocator + Copy> Put<A> {
             },
         };
         Ok((put, line.out(server.port, encode_write(upload_file_name()))))
-    }
-
-    // The port that it is bound to.
-    fn peer(&self) -> Option<u16>
-        ensures { result ≡ phase_peer self.now.phase }
-    {
-        match self.phase {
-            Phase::Bound { peer, .. } => Some(peer),
-            Phase::Asking { .. } | Phase::Failed(_) => None,
-        }
     }
 
     // The ACK of the request has come from a port: binds to it, and sends the first block.
@@ -109,7 +103,12 @@ impl<A: Allocator + Copy> Put<A> {
         }
     }
 
-    /// A datagram has come to the client's port.
+    /// A datagram of these bytes has come from `from` to the client's port. What is answered is to be sent.
+    ///
+    /// The first ACK 0 from a port of the server's host binds the client to that port. From then on a packet from another
+    /// port of that host is answered with ERROR 5, RFC 1350 section 4, and changes nothing; an ERROR from there has no
+    /// effect. An ERROR that is for the client fails it. Nothing has any effect that comes from another host, that is no
+    /// packet, or that comes once the client is `over`.
     pub fn on_datagram(&mut self, from: Endpoint, bytes: &[u8]) -> Option<Out>
         ensures client { self.new ≡ (client_datagram granted from bytes.now self.old).client }
         ensures sent { result ≡ (client_datagram granted from bytes.now self.old).out }
@@ -118,7 +117,7 @@ impl<A: Allocator + Copy> Put<A> {
         if self.over() {
             return None;
         }
-        match self.line.hear(self.peer(), from, bytes) {
+        match self.line.hear(self.phase.peer(), from, bytes) {
             Heard::Stray => Some(self.line.out(from.port, Refusal::UnknownTransfer.dgram())),
             Heard::Refusal(code) => {
                 self.phase = Phase::Failed(Cause::Refused(code));
@@ -129,7 +128,8 @@ impl<A: Allocator + Copy> Put<A> {
         }
     }
 
-    /// Nothing has come for a while.
+    /// Nothing has come for a while. What was sent last is sent again, the request or a DATA; time-out number `MISSES` in a
+    /// row without progress fails the client and sends nothing. Once the client is `over`, nothing changes or is sent.
     pub fn on_timeout(&mut self) -> Option<Out>
         ensures client { self.new ≡ (client_timeout self.old).client }
         ensures sent { result ≡ (client_timeout self.old).out }
@@ -154,7 +154,7 @@ impl<A: Allocator + Copy> Put<A> {
         None
     }
 
-    /// How far it is.
+    /// How far it is: never `Got`.
     pub fn state(&self) -> State
         ensures { result ≡ state_of self.now }
     {
@@ -169,7 +169,7 @@ impl<A: Allocator + Copy> Put<A> {
         }
     }
 
-    /// Whether nothing has any effect from now on: it is sent, or failed.
+    /// Whether no call has any effect from now on: its state is `Sent` or `Failed`.
     pub fn over(&self) -> bool
         ensures { result ≡ is_over self.now }
     {
