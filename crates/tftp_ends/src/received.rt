@@ -2,13 +2,13 @@
 
 ghost use Rattle.std.specs.Prelude.{◌≡◌, length, IfOk, IfErr, OnOk, OnErr};
 ghost use Rattle.std.specs.Io.KnownBytes.{Appends};
-ghost use Rattle.tws_file.specs.Output.{AppendsFront};
+ghost use Rattle.byte_output.specs.Output.{AppendsPrefix};
 
 use std::alloc::{AllocError, Allocator, Global};
 use std::io::Write;
 use std::marker::Model;
 use tftp_packet::{Blocks, Owned};
-use tws_file::{OutFault, put};
+use byte_output::{OutFault, put};
 
 /// A file that was received. It can be sent in blocks again.
 #[derive(Drop)]
@@ -67,7 +67,7 @@ impl<A: Allocator> Received<A> {
     /// `Io` where the writer answers an error, or takes none of the bytes that are left. A front of the bytes went out.
     pub fn write_to<W: Write>(&self, out: &mut W) -> Result<(), OutFault>
         ensures ok { OnOk result (Appends (W.contents out.old) (W.contents out.new) self.now) }
-        ensures err { OnErr result (AppendsFront (W.contents out.old) (W.contents out.new) self.now) }
+        ensures err { OnErr result (AppendsPrefix (W.contents out.old) (W.contents out.new) self.now) }
         ensures io { IfErr result (λ e. e ≡ OutFault.Io) }
     {
         put(out, self.bytes())

@@ -7,10 +7,12 @@ use Rattle.byteorder.specs.Endian.{big_bytes, big_number}
 use Rattle.byteorder.specs.Numbers.{big_number-reads_back}
 use Rattle.tftp_packet.specs.declared.packet_fault.PacketFault.{PacketFault}
 use Rattle.tftp_packet.specs.declared.packet_fault.PacketFault.TheVariants.{Short, TooLong, BadOpcode, BadRequest, BadBlock, BadError}
-use Rattle.tftp_packet.specs.Packet.{Packet, read, write, data_block, ack, error, IsBytes, HasNoZero, zero_count, HasForm, HasFields, IsPacket, request_bytes, packet_size, encode}
+use Rattle.byte_output.specs.Bytes.{IsBytes}
+use Rattle.tftp_packet.specs.Packet.{Packet, read, write, data_block, ack, error, HasNoZero, zero_count, HasForm, HasFields, IsPacket, request_bytes, packet_size, encode}
 use Rattle.tftp_packet.specs.Fault.{HasOpcode, IsCutRequest, HasFault}
 use Rattle.tftp_packet.specs.Decode.{before_zero, after_zero, request_of, data_of, error_of, packet_from, decode_bytes}
-use Rattle.tftp_packet.proofs.Bytes.{IsBytes-drop, number_first, big_number-fits}
+use Rattle.byte_output.proofs.Bytes.{IsBytes-drop}
+use Rattle.tftp_packet.proofs.Bytes.{number_first, big_number-fits}
 use Rattle.tftp_packet.proofs.Zeros.{zero_count-ended, before_zero-ended, after_zero-ended, zero_cases}
 
 -- ---- bytes with a fault

@@ -3,7 +3,8 @@ use Rattle.std.proofs.Common.{◌≡◌, ℕ, List, sym, ◌∙◌, ap, Result, 
 use Rattle.std.specs.Result.{IsOkAnd}
 use Rattle.tftp_packet.specs.declared.packet.Packet as borrowed
 use Rattle.tftp_packet.specs.declared.packet_fault.PacketFault.{PacketFault}
-use Rattle.tftp_packet.specs.Packet.{Packet, IsBytes, IsPacket}
+use Rattle.byte_output.specs.Bytes.{IsBytes}
+use Rattle.tftp_packet.specs.Packet.{Packet, IsPacket}
 use Rattle.tftp_packet.specs.Fault.{HasFault}
 use Rattle.tftp_packet.specs.Decode.{decode_bytes}
 use Rattle.tftp_packet.specs.View.{packet_of, answer_of}

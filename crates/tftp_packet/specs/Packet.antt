@@ -15,11 +15,7 @@ pub data Packet : Type 0 where
   ack : (block : ℕ) → Packet
   error : (code : ℕ) (text : List ℕ) → Packet
 
--- ---- bytes and texts
-
--- a list of bytes: no member is above 255
-abbrev pub IsBytes : List ℕ → Type 0
-IsBytes bytes = (i : ℕ) → slice_index bytes i < 256
+-- ---- texts
 
 abbrev pub is_zero : ℕ → Bool
 is_zero b = b == 0

@@ -4,7 +4,8 @@
 ghost use Rattle.std.specs.Prelude.{◌≡◌, ◌⊎◌, ◌↔◌, ℕ, ◌+◌, ◌^◌, ◌<◌, ◌≤◌, List, ◌++◌, length, Ok, Err};
 ghost use Rattle.std.specs.List.{concat};
 ghost use Rattle.tftp_packet.specs.declared.packet_fault.PacketFault as fault;
-ghost use Rattle.tftp_packet.specs.Packet.{Packet, IsBytes, IsPacket, HasFields, packet_size, encode};
+ghost use Rattle.byte_output.specs.Bytes.{IsBytes};
+ghost use Rattle.tftp_packet.specs.Packet.{Packet, IsPacket, HasFields, packet_size, encode};
 ghost use Rattle.tftp_packet.specs.Fault.{HasFault, IsFirstFault};
 ghost use Rattle.tftp_packet.specs.Decode.{decode_bytes};
 ghost use Rattle.tftp_packet.specs.Blocks.{block_count, block_of, first_blocks, blocks_to, blocks_of};

@@ -4,9 +4,8 @@ use Rattle.std.specs.List.{flat_map}
 use Rattle.std.specs.Io.KnownBytes.{Appends}
 use Rattle.std.proofs.lemmas.List.{take_more}
 use Rattle.std.proofs.lemmas.List.Concat.{flat_map-append}
-use Rattle.tws_file.specs.Output.{AppendsFront}
-use Rattle.tws_file.specs.Steps.{Sends}
-use Rattle.tws_file.proofs.Sending.{Appends-then, Sends-push, Sends-then, front_then, front_more}
+use Rattle.byte_output.specs.Output.{Sends, AppendsPrefix}
+use Rattle.byte_output.proofs.Sending.{Appends-then, Sends-push, Sends-then, prefix_then, prefix_more}
 use Rattle.tws_best.specs.Best.{Entry, entry_text}
 
 pub on_ok : {T E P Q : Type 0} (r : Result T E) → (P → Q) → OnOk r P → OnOk r Q
@@ -25,8 +24,8 @@ module _ (old mid new : Option (List ℕ)) (x y : List ℕ) (first : Appends old
   both_out second = record { sent = x ++ y; cut = sym (append-nil (x ++ y)); appends = Appends-then old mid new x y first second }
 
   -- the first part is out, and then a front of the second
-  pub front_after : AppendsFront mid new y → AppendsFront old new (x ++ y)
-  front_after second = front_then old mid new (x ++ y) y (record { sent = x; cut = refl; appends = first }) second
+  pub front_after : AppendsPrefix mid new y → AppendsPrefix old new (x ++ y)
+  front_after second = prefix_then old mid new (x ++ y) y (record { sent = x; cut = refl; appends = first }) second
 
 -- ---- the records of a collection's text
 
@@ -35,12 +34,12 @@ module _ (old mid new : Option (List ℕ)) (start : List ℕ) (es : List Entry) 
   so_far n = start ++ flat_map entry_text (take n es)
 
   -- a front of the records so far is one of all
-  pub front_of_all : (n : ℕ) → AppendsFront old new (so_far n) → AppendsFront old new (start ++ flat_map entry_text es)
-  front_of_all n f =
+  pub prefix_of_all : (n : ℕ) → AppendsPrefix old new (so_far n) → AppendsPrefix old new (start ++ flat_map entry_text es)
+  prefix_of_all n f =
       let whole : so_far n ++ flat_map entry_text (drop n es) ≡ start ++ flat_map entry_text es =
       append_assoc start (flat_map entry_text (take n es)) (flat_map entry_text (drop n es))
       ∙ ap (λ (x : List ℕ). start ++ x) (sym (flat_map-append entry_text (take n es) (drop n es)) ∙ ap (flat_map entry_text) (take-append-drop n es)) in
-      subst (λ (x : List ℕ). AppendsFront old new x) whole (front_more old new (so_far n) f (flat_map entry_text (drop n es)))
+      subst (λ (x : List ℕ). AppendsPrefix old new x) whole (prefix_more old new (so_far n) f (flat_map entry_text (drop n es)))
 
   one_more : (e : Entry) → i < length es → e ≡ get_or es i e → so_far i ++ entry_text e ≡ so_far (i + 1)
   one_more e inside is =
@@ -58,7 +57,7 @@ module _ (old mid new : Option (List ℕ)) (start : List ℕ) (es : List Entry) 
         (Sends-then old mid new (so_far i ++ entry_text e) (buffer ++ entry_text e) (Sends-push old mid new (so_far i) buffer s (entry_text e)) left t)
 
     -- a front of it is out
-    pub entry_front : AppendsFront mid new (buffer ++ entry_text e) → AppendsFront old new (start ++ flat_map entry_text es)
+    pub entry_front : AppendsPrefix mid new (buffer ++ entry_text e) → AppendsPrefix old new (start ++ flat_map entry_text es)
     entry_front f =
-        front_of_all (i + 1) (subst (λ (x : List ℕ). AppendsFront old new x) (one_more e inside is)
-        (front_then old mid new (so_far i ++ entry_text e) (buffer ++ entry_text e) (Sends-push old mid new (so_far i) buffer s (entry_text e)) f))
+        prefix_of_all (i + 1) (subst (λ (x : List ℕ). AppendsPrefix old new x) (one_more e inside is)
+        (prefix_then old mid new (so_far i ++ entry_text e) (buffer ++ entry_text e) (Sends-push old mid new (so_far i) buffer s (entry_text e)) f))

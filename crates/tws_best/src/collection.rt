@@ -1,6 +1,6 @@
 ghost use Rattle.std.specs.Prelude.{◌≡◌, ◌≢◌, ◌↔◌, [], ◌∷◌, ◌++◌, length, Contains, IsTrue, IfOk, IfErr, IfSome, IfNone, OnOk, OnErr, MatchBool};
 ghost use Rattle.std.specs.Io.KnownBytes.{Appends};
-ghost use Rattle.tws_file.specs.Output.{AppendsFront};
+ghost use Rattle.byte_output.specs.Output.{AppendsPrefix};
 ghost use Rattle.tws_best.specs.Best.{IsBestOf, IsCollected, HasBody, HasKey, solutions_of, collection_text};
 
 use crate::finding::find;
@@ -159,7 +159,7 @@ impl<A: Allocator> Collection<A> {
     /// `Io` where the writer fails. A front of the text went out.
     pub fn write_text<W: Write>(&self, out: &mut W) -> Result<(), OutFault>
         ensures ok { OnOk result (Appends (W.contents out.old) (W.contents out.new) (collection_text self.now)) }
-        ensures err { OnErr result (AppendsFront (W.contents out.old) (W.contents out.new) (collection_text self.now)) }
+        ensures err { OnErr result (AppendsPrefix (W.contents out.old) (W.contents out.new) (collection_text self.now)) }
         ensures io { IfErr result (λ e. e ≡ OutFault.Io) }
     {
         write_parts(self.ruleset, self.kept.as_slice(), out)

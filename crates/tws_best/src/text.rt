@@ -4,8 +4,7 @@ ghost use Rattle.std.specs.Prelude.{◌≡◌, ◌<◌, ◌^◌, ◌++◌, lengt
 ghost use Rattle.std.specs.List.{flat_map};
 ghost use Rattle.std.specs.Io.KnownBytes.{Appends};
 ghost use Rattle.byteorder.specs.Endian.{little_bytes};
-ghost use Rattle.tws_file.specs.Output.{AppendsFront};
-ghost use Rattle.tws_file.specs.Steps.{Sends};
+ghost use Rattle.byte_output.specs.Output.{Sends, AppendsPrefix};
 ghost use Rattle.tws_best.specs.Best.{entry_text, collection_text};
 ghost use Rattle.tws_best.specs.Steps.{collection_header};
 
@@ -59,7 +58,7 @@ fn size_bytes<A: Allocator>(one: &Kept<A>) -> [u8; 4]
 // Gathers bytes, and sends what was gathered before where there is no room for them.
 fn gather<W: Write>(gathered: &mut Gathered, bytes: &[u8], out: &mut W) -> Result<(), OutFault>
     ensures ok { OnOk result (Sends (W.contents out.old) (W.contents out.new) (gathered.old.items ++ bytes.now) gathered.new.items) }
-    ensures err { OnErr result (AppendsFront (W.contents out.old) (W.contents out.new) (gathered.old.items ++ bytes.now)) }
+    ensures err { OnErr result (AppendsPrefix (W.contents out.old) (W.contents out.new) (gathered.old.items ++ bytes.now)) }
     ensures io { IfErr result (λ e. e ≡ OutFault.Io) }
 {
     if let Ok(()) = gathered.try_extend_from_slice(bytes) {
@@ -80,7 +79,7 @@ fn gather_entry<A: Allocator, W: Write>(
     out: &mut W,
 ) -> Result<(), OutFault>
     ensures ok { OnOk result (Sends (W.contents out.old) (W.contents out.new) (gathered.old.items ++ entry_text one.now) gathered.new.items) }
-    ensures err { OnErr result (AppendsFront (W.contents out.old) (W.contents out.new) (gathered.old.items ++ entry_text one.now)) }
+    ensures err { OnErr result (AppendsPrefix (W.contents out.old) (W.contents out.new) (gathered.old.items ++ entry_text one.now)) }
     ensures io { IfErr result (λ e. e ≡ OutFault.Io) }
 {
     gather(gathered, &size_bytes(one), out)?;
@@ -101,7 +100,7 @@ pub(crate) fn write_parts<A: Allocator, W: Write>(
     out: &mut W,
 ) -> Result<(), OutFault>
     ensures ok { OnOk result (Appends (W.contents out.old) (W.contents out.new) (collection_header «ruleset» ++ flat_map entry_text kept.now)) }
-    ensures err { OnErr result (AppendsFront (W.contents out.old) (W.contents out.new) (collection_header «ruleset» ++ flat_map entry_text kept.now)) }
+    ensures err { OnErr result (AppendsPrefix (W.contents out.old) (W.contents out.new) (collection_header «ruleset» ++ flat_map entry_text kept.now)) }
     ensures io { IfErr result (λ e. e ≡ OutFault.Io) }
 {
     let mut gathered = Gathered::new();

@@ -3,10 +3,10 @@ use Rattle.std.proofs.Common.{◌≡◌, ℕ, ◌+◌, ◌^◌, ◌<◌, ◌≤�
 use Rattle.std.proofs.lemmas.List.{drop_more}
 use Rattle.byteorder.specs.Endian.{little_bytes, little_number}
 use Rattle.tws_file.specs.declared.key.Key.{Key}
-use Rattle.tws_moves.specs.Bytes.{IsBytes}
+use Rattle.byte_output.specs.Bytes.{IsBytes}
 use Rattle.tws_file.specs.Fields.{set_key, key_bytes}
 use Rattle.tws_moves.specs.Spelling.{IsSpelling}
-use Rattle.tws_moves.proofs.Parts.{IsBytes-drop}
+use Rattle.byte_output.proofs.Bytes.{IsBytes-drop}
 use Rattle.tws_file.specs.declared.file_fault.FileFault.{FileFault}
 use Rattle.tws_file.specs.declared.file_fault.FileFault.TheVariants.{ShortHeader, BadSignature, BadRuleset, ShortRecord, BadSize, MoveCut, Memory}
 use Rattle.tws_file.specs.Text.{Solution, IsLevel, HasFields, IsSolution}

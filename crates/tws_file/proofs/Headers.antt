@@ -2,11 +2,11 @@
 use Rattle.std.proofs.Common.{◌≡◌, ℕ, zero, suc, ◌<◌, ◌≤◌, List, [], ◌∷◌, ◌++◌, length, take, drop, slice_index, refl, sym, arith, take-append-drop, length-take}
 use Rattle.std.proofs.lemmas.List.{drop_more}
 use Rattle.tws_file.specs.declared.«ruleset».Ruleset.{Ruleset}
-use Rattle.tws_moves.specs.Bytes.{IsBytes}
+use Rattle.byte_output.specs.Bytes.{IsBytes}
 use Rattle.tws_file.specs.Fields.{signature, ruleset_code}
 use Rattle.tws_file.specs.Text.{header_text}
 use Rattle.tws_file.specs.Steps.{BeginsWithHeader}
-use Rattle.tws_moves.proofs.Parts.{IsBytes-drop, IsBytes-take}
+use Rattle.byte_output.proofs.Bytes.{IsBytes-drop, IsBytes-take}
 
 two_bytes : (a b : ℕ) → a < 256 → b < 256 → IsBytes (a ∷ b ∷ [])
 two_bytes a b fa fb zero = fa

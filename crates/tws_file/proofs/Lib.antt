@@ -5,7 +5,6 @@ pub mod FileText
 pub mod Faults
 pub mod Headers
 pub mod Bodies
-pub mod Sending
 pub mod Listings
 pub mod Gathering
 pub mod Pieces

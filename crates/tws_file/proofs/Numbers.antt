@@ -3,8 +3,8 @@ use Rattle.std.proofs.Common.{◌≡◌, ℕ, ◌^◌, ◌<◌, ◌≤◌, List,
 use Rattle.std.proofs.lemmas.Nat.{le_bytes_2, le_bytes_4}
 use Rattle.byteorder.specs.Endian.{little_bytes, little_number}
 use Rattle.byteorder.specs.Numbers.{little_number-reads_back, little_from-take}
-use Rattle.tws_moves.specs.Bytes.{IsBytes}
-use Rattle.tws_moves.proofs.Parts.{IsBytes-take}
+use Rattle.byte_output.specs.Bytes.{IsBytes}
+use Rattle.byte_output.proofs.Bytes.{IsBytes-take}
 
 pub little_bytes-little_number_2 : (bytes : List ℕ) → 2 ≤ length bytes → IsBytes bytes → little_bytes 2 (little_number 2 bytes) ≡ take 2 bytes
 little_bytes-little_number_2 bytes long fits =

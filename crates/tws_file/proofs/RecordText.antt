@@ -2,11 +2,11 @@
 use Rattle.std.proofs.Common.{◌≡◌, ◌≢◌, ◌⊎◌, ℕ, zero, suc, ◌+◌, ◌^◌, ◌<◌, ◌≤◌, List, [], ◌∷◌, ◌++◌, length, refl, ap, sym, ◌∙◌, arith, append-nil, ⊎_elim, inl, inr, length-append}
 use Rattle.byteorder.specs.Endian.{little_bytes}
 use Rattle.tws_file.specs.declared.key.Key.{Key}
-use Rattle.tws_moves.specs.Bytes.{IsBytes}
+use Rattle.byte_output.specs.Bytes.{IsBytes}
 use Rattle.tws_file.specs.Fields.{IsKey, set_key, key_bytes}
 use Rattle.tws_file.specs.Text.{Solution, Record, pad, set, bare, solution, body_of, record_text, IsLevel, HasFields, IsSet, IsRecord}
 use Rattle.tws_file.specs.Steps.{IsSize, IsShaped, solved_after_key}
-use Rattle.tws_moves.proofs.Parts.{append_parts}
+use Rattle.byte_output.proofs.Lists.{append_parts}
 use Rattle.tws_moves.proofs.Codes.{IsCode}
 use Rattle.tws_file.proofs.Numbers.{little_bytes-injective}
 

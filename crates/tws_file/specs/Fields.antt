@@ -1,7 +1,7 @@
 -- The fields of a solution file and their bytes. Every number is little-endian.
 use Rattle.std.specs.Prelude.{◌≡◌, ℕ, ◌<◌, ◌^◌, List, [], ◌∷◌, ◌++◌, length}
 use Rattle.byteorder.specs.Endian.{little_bytes}
-use Rattle.tws_moves.specs.Bytes.{IsBytes}
+use Rattle.byte_output.specs.Bytes.{IsBytes}
 use Rattle.tws_file.specs.declared.key.Key.{Key}
 use Rattle.tws_file.specs.declared.«ruleset».Ruleset.{Ruleset}
 use Rattle.tws_file.specs.declared.«ruleset».Ruleset.TheVariants.{Lynx, Ms}

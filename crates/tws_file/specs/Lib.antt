@@ -1,5 +1,6 @@
 pub mod Fields
 pub mod Text
+pub mod Names
 pub mod Fault
 pub mod Solution
 pub mod Record
@@ -7,5 +8,4 @@ pub mod TwsFile
 pub mod Steps
 pub mod Reader
 pub mod Listing
-pub mod Output
 pub mod Packing

@@ -1,12 +1,12 @@
 -- What the private steps of reading and of listing say. Callers need none of it.
 use Rattle.std.specs.Prelude.{◌≡◌, ◌≢◌, ◌⊎◌, Option, None, Some, ℕ, ◌+◌, ◌<◌, ◌≤◌, ◌^◌, List, [], ◌∷◌, ◌++◌, length, drop}
 use Rattle.std.specs.List.{flat_map, AllByRecursion}
-use Rattle.std.specs.Io.KnownBytes.{Appends}
 use Rattle.byteorder.specs.Endian.{little_bytes}
 use Rattle.tws_file.specs.declared.file_fault.FileFault.{FileFault}
 use Rattle.tws_file.specs.declared.file_fault.FileFault.TheVariants.{ShortHeader, BadSignature, BadRuleset, ShortRecord, BadSize, MoveCut, Memory}
 use Rattle.tws_file.specs.declared.«ruleset».Ruleset.{Ruleset}
-use Rattle.tws_moves.specs.Bytes.{IsBytes}
+use Rattle.byte_output.specs.Bytes.{IsBytes}
+use Rattle.byte_output.specs.Output.{Sends}
 use Rattle.tws_moves.specs.Spelling.{IsCutAt}
 use Rattle.tws_file.specs.Text.{Solution, Record, pad, set, bare, solution, File, IsLevel, IsSet, IsRecord, HasFields, IsFile, body_of, header_text, record_text, text_of}
 use Rattle.tws_file.specs.Fault.{BeginsNoRecord, IsRecordCut, HasBadSize, HasCutMoves, HasFault, IsLasting}
@@ -99,11 +99,9 @@ tail_of (solution s) = s.moves
 abbrev pub solved_after_key : Solution → List ℕ
 solved_after_key s = s.flags ∷ s.start ∷ (little_bytes 4 s.seed ++ (little_bytes 4 s.ticks ++ s.moves))
 
--- a front of the text has gone to the writer, and this rest has not
-pub record Sends (old new : Option (List ℕ)) (text rest : List ℕ) : Type 0 where
-  pub sent : List ℕ
-  pub cut : text ≡ sent ++ rest
-  pub appends : Appends old new sent
+-- a prefix of the text was written, perhaps all of it
+abbrev pub SendsSome : (old new : Option (List ℕ)) → (text : List ℕ) → Type 0
+SendsSome old new text = (rest : List ℕ) × Sends old new text rest
 
 -- ---- pieces
 

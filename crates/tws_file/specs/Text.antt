@@ -5,7 +5,7 @@ use Rattle.std.specs.List.{flat_map, AllByRecursion}
 use Rattle.byteorder.specs.Endian.{little_bytes}
 use Rattle.tws_file.specs.declared.key.Key.{Key}
 use Rattle.tws_file.specs.declared.«ruleset».Ruleset.{Ruleset}
-use Rattle.tws_moves.specs.Bytes.{IsBytes}
+use Rattle.byte_output.specs.Bytes.{IsBytes}
 use Rattle.tws_moves.specs.Spelling.{IsSpelling}
 use Rattle.tws_file.specs.Fields.{IsKey, signature, ruleset_code, set_key, key_bytes}
 

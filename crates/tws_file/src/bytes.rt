@@ -1,5 +1,5 @@
 ghost use Rattle.std.specs.Prelude.{◌≡◌, ℕ, List, [], length, IsTrue, ◌↔◌};
-ghost use Rattle.tws_moves.specs.Bytes.{IsBytes};
+ghost use Rattle.byte_output.specs.Bytes.{IsBytes};
 
 use std::alloc::{Allocator, Global};
 use std::marker::Model;

@@ -24,7 +24,7 @@ pub enum FileFault {
     /// No record has the size that stands here. The offset of that size field.
     #[error("BadSize({0})")]
     BadSize(u64),
-    /// A solution's moves end inside a move, or inside three of them. The offset of that move's first byte.
+    /// A solution's moves end inside a move. The offset of that move's first byte.
     #[error("MoveCut({0})")]
     MoveCut(u64),
     /// Memory ran out, which says nothing of the bytes.

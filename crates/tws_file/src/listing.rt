@@ -6,27 +6,23 @@ ghost use Rattle.std.specs.Io.KnownBytes.{Appends};
 ghost use Rattle.tws_file.specs.Record.{record_of, records_of};
 ghost use Rattle.tws_file.specs.Text.{solution};
 ghost use Rattle.tws_file.specs.Listing.{header_line, move_line, move_lines, record_lines, count_line, listing_of};
-ghost use Rattle.tws_file.specs.Output.{AppendsFront};
-ghost use Rattle.tws_file.specs.Steps.{Sends};
+ghost use Rattle.byte_output.specs.Output.{Sends, AppendsPrefix};
+ghost use Rattle.tws_file.specs.Steps.{SendsSome};
 
 use crate::lines::{push_count, push_header, push_move, push_record};
-use crate::out_fault::OutFault;
-use crate::output::put;
 use crate::record::Record;
 use crate::ruleset::Ruleset;
 use crate::solution::Solution;
 use crate::tws_file::TwsFile;
+use byte_output::{LARGE, OutFault, put};
 use std::alloc::Allocator;
 use std::io::Write;
-use tws_moves::{Move, read_moves};
-
-/// How many bytes are gathered before they go out together.
-const LARGE: usize = 1 << 16;
+use tws_moves::{Move, MovesFault, read_moves};
 
 // Sends the text that was gathered, once there is much of it.
 fn send_if_large<A: Allocator, W: Write>(text: &mut String<A>, out: &mut W) -> Result<(), OutFault>
     ensures ok { OnOk result (Sends (W.contents out.old) (W.contents out.new) (string_bytes text.old) (string_bytes text.new)) }
-    ensures err { OnErr result (AppendsFront (W.contents out.old) (W.contents out.new) (string_bytes text.old)) }
+    ensures err { OnErr result (AppendsPrefix (W.contents out.old) (W.contents out.new) (string_bytes text.old)) }
 {
     if text.len() >= LARGE {
         put(out, text.as_bytes())?;
@@ -43,7 +39,7 @@ fn show_moves<A: Allocator, W: Write>(
 ) -> Result<(), OutFault>
     ensures ok { OnOk result (Sends (W.contents out.old) (W.contents out.new)
         (string_bytes text.old ++ flat_map move_line moves.now) (string_bytes text.new)) }
-    ensures err { OnErr result (AppendsFront (W.contents out.old) (W.contents out.new)
+    ensures err { OnErr result (SendsSome (W.contents out.old) (W.contents out.new)
         (string_bytes text.old ++ flat_map move_line moves.now)) }
 {
     for one in moves {
@@ -62,14 +58,15 @@ fn show_solved<A: Allocator + Copy, B: Allocator, W: Write>(
 ) -> Result<(), OutFault>
     ensures ok { OnOk result (Sends (W.contents out.old) (W.contents out.new)
         (string_bytes text.old ++ move_lines true (solution s.now)) (string_bytes text.new)) }
-    ensures err { OnErr result (AppendsFront (W.contents out.old) (W.contents out.new)
+    ensures err { OnErr result (SendsSome (W.contents out.old) (W.contents out.new)
         (string_bytes text.old ++ move_lines true (solution s.now))) }
 {
-    // The moves are whole, so only memory can run out.
-    let Ok(moves) = read_moves(alloc, s.moves.as_slice()) else {
-        return Err(OutFault::Memory);
-    };
-    show_moves(text, &moves, out)
+    match read_moves(alloc, s.moves.as_slice()) {
+        Ok(moves) => show_moves(text, &moves, out),
+        Err(MovesFault::Memory) => Err(OutFault::Memory),
+        // A solution's moves are whole.
+        Err(MovesFault::Cut { .. }) => unreachable!(),
+    }
 }
 
 // Gathers the lines of a record, and sends what was gathered as it grows large.
@@ -82,7 +79,7 @@ fn show_record<A: Allocator + Copy, B: Allocator, W: Write>(
 ) -> Result<(), OutFault>
     ensures ok { OnOk result (Sends (W.contents out.old) (W.contents out.new)
         (string_bytes text.old ++ record_lines with_moves (record_of one.now)) (string_bytes text.new)) }
-    ensures err { OnErr result (AppendsFront (W.contents out.old) (W.contents out.new)
+    ensures err { OnErr result (SendsSome (W.contents out.old) (W.contents out.new)
         (string_bytes text.old ++ record_lines with_moves (record_of one.now))) }
 {
     push_record(text, one)?;
@@ -103,7 +100,7 @@ fn show_records<A: Allocator + Copy, B: Allocator, W: Write>(
 ) -> Result<(), OutFault>
     ensures ok { OnOk result (Sends (W.contents out.old) (W.contents out.new)
         (string_bytes text.old ++ flat_map (record_lines with_moves) (records_of records.now)) (string_bytes text.new)) }
-    ensures err { OnErr result (AppendsFront (W.contents out.old) (W.contents out.new)
+    ensures err { OnErr result (SendsSome (W.contents out.old) (W.contents out.new)
         (string_bytes text.old ++ flat_map (record_lines with_moves) (records_of records.now))) }
 {
     for record in records {
@@ -124,7 +121,7 @@ fn show_parts<A: Allocator + Copy, B: Allocator, W: Write>(
 ) -> Result<(), OutFault>
     ensures ok { OnOk result (Appends (W.contents out.old) (W.contents out.new)
         (header_line «ruleset» word extra.now ++ flat_map (record_lines with_moves) (records_of records.now) ++ count_line (length records.now))) }
-    ensures err { OnErr result (AppendsFront (W.contents out.old) (W.contents out.new)
+    ensures err { OnErr result (AppendsPrefix (W.contents out.old) (W.contents out.new)
         (header_line «ruleset» word extra.now ++ flat_map (record_lines with_moves) (records_of records.now) ++ count_line (length records.now))) }
 {
     let mut text = String::new(alloc);
@@ -137,11 +134,12 @@ fn show_parts<A: Allocator + Copy, B: Allocator, W: Write>(
 /// Writes the listing of a file: a line for the header, one for each record, and one for their number. With `moves`, a
 /// line for each move follows its solution's.
 ///
-/// It goes out in large pieces, each by `put`.
+/// It goes out in large pieces.
 ///
 /// # Errors
 ///
-/// `Io` where the writer fails, `Memory` where a growth was refused. A front of the listing went out.
+/// `Io` where the writer fails, `Memory` where a growth was refused. A proper prefix of the listing
+/// was written.
 pub fn show<A: Allocator + Copy, B: Allocator, W: Write>(
     alloc: A,
     file: &TwsFile<B>,
@@ -149,7 +147,7 @@ pub fn show<A: Allocator + Copy, B: Allocator, W: Write>(
     out: &mut W,
 ) -> Result<(), OutFault>
     ensures ok { OnOk result (Appends (W.contents out.old) (W.contents out.new) (listing_of moves file.now)) }
-    ensures err { OnErr result (AppendsFront (W.contents out.old) (W.contents out.new) (listing_of moves file.now)) }
+    ensures err { OnErr result (AppendsPrefix (W.contents out.old) (W.contents out.new) (listing_of moves file.now)) }
 {
     let records = file.records.as_slice();
     show_parts(

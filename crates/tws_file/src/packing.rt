@@ -12,6 +12,7 @@ use crate::records::Records;
 use crate::solution::Solution;
 use crate::tws_file::TwsFile;
 use std::alloc::{AllocError, Allocator};
+use tws_moves::MovesFault;
 
 // The shortest bytes that spell the same moves.
 fn pack_moves<A: Allocator + Copy>(alloc: A, bytes: &[u8]) -> Result<Bytes<A>, AllocError>
@@ -19,11 +20,12 @@ fn pack_moves<A: Allocator + Copy>(alloc: A, bytes: &[u8]) -> Result<Bytes<A>, A
     requires short { length bytes.now < 2 ^ 32 }
     ensures { IfOk result (λ packed. packed ≡ packed_bytes bytes.now) }
 {
-    // The moves are whole: only memory can run out.
-    let Ok(packed) = tws_moves::pack_moves(alloc, bytes) else {
-        return Err(AllocError);
-    };
-    Ok(Bytes::of(packed))
+    match tws_moves::pack_moves(alloc, bytes) {
+        Ok(packed) => Ok(Bytes::of(packed)),
+        Err(MovesFault::Memory) => Err(AllocError),
+        // The moves are whole.
+        Err(MovesFault::Cut { .. }) => unreachable!(),
+    }
 }
 
 fn pack_solution<A: Allocator + Copy, B: Allocator>(

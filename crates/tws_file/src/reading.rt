@@ -41,7 +41,8 @@ fn keep_moves<A: Allocator>(alloc: A, offset: u64, bytes: &[u8]) -> Result<Bytes
     match check_moves(bytes) {
         Ok(_) => Ok(Bytes::of(Vec::from_slice(alloc, bytes)?)),
         Err(MovesFault::Cut { at }) => Err(FileFault::MoveCut(offset + at)),
-        Err(MovesFault::Memory) => Err(FileFault::Memory),
+        // A count of moves takes no memory.
+        Err(MovesFault::Memory) => unreachable!(),
     }
 }
 

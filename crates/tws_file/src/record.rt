@@ -3,10 +3,11 @@ ghost use Rattle.tws_file.specs.Record.{record_of};
 ghost use Rattle.tws_file.specs.Text.{IsRecord, record_text};
 ghost use Rattle.tws_file.specs.Steps.{tail_of};
 
-use crate::buffer::Buffer;
 use crate::bytes::Bytes;
+use crate::fields::{push_key, push_u32};
 use crate::key::Key;
 use crate::solution::Solution;
+use byte_output::Buffer;
 use std::alloc::{Allocator, Global};
 
 /// What stands in a solution file behind its header.
@@ -31,17 +32,17 @@ impl<A: Allocator> Record<A> {
     {
         let mut head = Buffer::new();
         match self {
-            Record::Pad => head.push_u32(0),
+            Record::Pad => push_u32(&mut head, 0),
             Record::Set { rest } => {
-                head.push_u32(6 + rest.len() as u32);
-                head.push_key(Key::SET);
+                push_u32(&mut head, 6 + rest.len() as u32);
+                push_key(&mut head, Key::SET);
             }
             Record::Bare { key } => {
-                head.push_u32(6);
-                head.push_key(*key);
+                push_u32(&mut head, 6);
+                push_key(&mut head, *key);
             }
             Record::Solution(solution) => {
-                head.push_u32(solution.body_len());
+                push_u32(&mut head, solution.body_len());
                 head.push(solution.fields().as_slice());
             }
         }

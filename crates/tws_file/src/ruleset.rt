@@ -1,5 +1,6 @@
 ghost use Rattle.std.specs.Prelude.{◌≡◌, ◌≢◌, IfSome, IfNone};
 ghost use Rattle.tws_file.specs.Fields.{ruleset_code};
+ghost use Rattle.tws_file.specs.Names.{file_name_of};
 
 use std::fmt;
 
@@ -33,6 +34,30 @@ impl Ruleset {
             2 => Some(Ruleset::Ms),
             _ => None,
         }
+    }
+
+    /// The name by which the collection of these rules is fetched and kept, in ASCII.
+    pub fn file_name(self) -> &'static [u8]
+        ensures { result.now ≡ file_name_of self }
+    {
+        match self {
+            Ruleset::Lynx => b"lynx.tws",
+            Ruleset::Ms => b"ms.tws",
+        }
+    }
+
+    /// The rules whose collection has this name, in exactly these bytes, if there are any.
+    pub fn from_file_name(name: &[u8]) -> Option<Self>
+        ensures known { IfSome result (λ kind. file_name_of kind ≡ name.now) }
+        ensures unknown { IfNone result ((kind : Ruleset) → file_name_of kind ≢ name.now) }
+    {
+        if name == Ruleset::Lynx.file_name() {
+            return Some(Ruleset::Lynx);
+        }
+        if name == Ruleset::Ms.file_name() {
+            return Some(Ruleset::Ms);
+        }
+        None
     }
 }
 

@@ -1,9 +1,10 @@
 ghost use Rattle.std.specs.Prelude.{◌≡◌, ◌++◌, length, IfOk};
 ghost use Rattle.tws_file.specs.Text.{solution, body_of};
 
-use crate::buffer::Buffer;
 use crate::bytes::Bytes;
+use crate::fields::{push_key, push_u32};
 use crate::key::Key;
+use byte_output::Buffer;
 use std::alloc::{AllocError, Allocator, Global};
 use std::marker::Model;
 
@@ -47,10 +48,10 @@ impl<A: Allocator> Solution<A> {
         ensures size { length result ≡ 16 }
     {
         let mut fields = Buffer::new();
-        fields.push_key(self.key);
+        push_key(&mut fields, self.key);
         fields.push(&[self.flags, self.start]);
-        fields.push_u32(self.seed);
-        fields.push_u32(self.ticks);
+        push_u32(&mut fields, self.seed);
+        push_u32(&mut fields, self.ticks);
         fields
     }
 

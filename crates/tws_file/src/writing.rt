@@ -5,21 +5,15 @@ ghost use Rattle.std.specs.List.{flat_map, AllByRecursion};
 ghost use Rattle.std.specs.Io.KnownBytes.{Appends};
 ghost use Rattle.tws_file.specs.Record.{record_of, records_of};
 ghost use Rattle.tws_file.specs.Text.{IsRecord, header_text, record_text, text_of};
-ghost use Rattle.tws_file.specs.Output.{AppendsFront};
-ghost use Rattle.tws_file.specs.Steps.{Sends};
+ghost use Rattle.byte_output.specs.Output.{Sends, AppendsPrefix};
 
-use crate::buffer::Buffer;
 use crate::header::SIGNATURE;
-use crate::out_fault::OutFault;
-use crate::output::put;
 use crate::record::Record;
 use crate::ruleset::Ruleset;
 use crate::tws_file::TwsFile;
+use byte_output::{Buffer, LARGE, OutFault, put};
 use std::alloc::Allocator;
 use std::io::Write;
-
-/// How many bytes are gathered before they go out together.
-const LARGE: usize = 1 << 16;
 
 // The header up to its further bytes.
 fn header_head(ruleset: Ruleset, word: [u8; 2], extra: &[u8]) -> Buffer<8>
@@ -42,7 +36,7 @@ fn send_both<W: Write>(
     out: &mut W,
 ) -> Result<(), OutFault>
     ensures ok { OnOk result (Sends (W.contents out.old) (W.contents out.new) (buffer.old ++ (head.now ++ tail.now)) buffer.new) }
-    ensures err { OnErr result (AppendsFront (W.contents out.old) (W.contents out.new) (buffer.old ++ (head.now ++ tail.now))) }
+    ensures err { OnErr result (AppendsPrefix (W.contents out.old) (W.contents out.new) (buffer.old ++ (head.now ++ tail.now))) }
     ensures io { IfErr result (λ e. e ≡ OutFault.Io) }
 {
     buffer.send(head, out)?;
@@ -58,7 +52,7 @@ fn send_records<B: Allocator, W: Write>(
     requires { AllByRecursion IsRecord (records_of records.now) }
     ensures ok { OnOk result (Sends (W.contents out.old) (W.contents out.new)
         (buffer.old ++ flat_map record_text (records_of records.now)) buffer.new) }
-    ensures err { OnErr result (AppendsFront (W.contents out.old) (W.contents out.new)
+    ensures err { OnErr result (AppendsPrefix (W.contents out.old) (W.contents out.new)
         (buffer.old ++ flat_map record_text (records_of records.now))) }
     ensures io { IfErr result (λ e. e ≡ OutFault.Io) }
 {
@@ -80,7 +74,7 @@ fn write_parts<B: Allocator, W: Write>(
     requires records { AllByRecursion IsRecord (records_of records.now) }
     ensures ok { OnOk result (Appends (W.contents out.old) (W.contents out.new)
         (header_text «ruleset» word extra.now ++ flat_map record_text (records_of records.now))) }
-    ensures err { OnErr result (AppendsFront (W.contents out.old) (W.contents out.new)
+    ensures err { OnErr result (AppendsPrefix (W.contents out.old) (W.contents out.new)
         (header_text «ruleset» word extra.now ++ flat_map record_text (records_of records.now))) }
     ensures io { IfErr result (λ e. e ≡ OutFault.Io) }
 {
@@ -91,14 +85,14 @@ fn write_parts<B: Allocator, W: Write>(
     put(out, buffer.as_slice())
 }
 
-/// Writes the text of a file. It takes no memory, and goes out in large pieces, each by `put`.
+/// Writes the text of a file. It takes no memory, and goes out in large pieces.
 ///
 /// # Errors
 ///
-/// `Io` where the writer fails. A front of the text went out.
+/// `Io` where the writer fails. A proper prefix of the text was written.
 pub fn write_file<B: Allocator, W: Write>(file: &TwsFile<B>, out: &mut W) -> Result<(), OutFault>
     ensures ok { OnOk result (Appends (W.contents out.old) (W.contents out.new) (text_of file.now)) }
-    ensures err { OnErr result (AppendsFront (W.contents out.old) (W.contents out.new) (text_of file.now)) }
+    ensures err { OnErr result (AppendsPrefix (W.contents out.old) (W.contents out.new) (text_of file.now)) }
     ensures io { IfErr result (λ e. e ≡ OutFault.Io) }
 {
     let records = file.records.as_slice();

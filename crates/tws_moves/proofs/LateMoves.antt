@@ -6,7 +6,7 @@ use Rattle.tws_moves.specs.declared.act.Act.TheVariants.{Step}
 use Rattle.tws_moves.specs.Move.{Move, Wait, IsAct, IsTimed, waits_from}
 use Rattle.tws_moves.specs.Shortest.{IsSpelled, IsTooLateAt, shortest_of}
 use Rattle.tws_moves.specs.Steps.{IsHeld, ticks_limit}
-use Rattle.tws_moves.proofs.Parts.{all_at, all_take_fewer}
+use Rattle.byte_output.proofs.Lists.{all_at, all_take_fewer}
 use Rattle.tws_moves.proofs.Waits.{waits_length, waits_take, timed_take}
 use Rattle.tws_moves.proofs.Least.{held_spells, spelled_held}
 

@@ -1,4 +1,3 @@
-pub mod Parts
 pub mod Codes
 pub mod Numbers
 pub mod Pieces

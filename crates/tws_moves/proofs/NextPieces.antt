@@ -8,7 +8,7 @@ use Rattle.tws_moves.specs.Bytes.{little_bytes}
 use Rattle.tws_moves.specs.Move.{Wait}
 use Rattle.tws_moves.specs.Shortest.{alone, is_plain, three_byte, waits_bytes}
 use Rattle.tws_moves.specs.Steps.{IsHeld, IsNextPiece, StandsAlone, WritesSoFar}
-use Rattle.tws_moves.proofs.Parts.{all_take_more}
+use Rattle.byte_output.proofs.Lists.{all_take_more}
 use Rattle.tws_moves.proofs.Least.{alone_first, held_if_plain, direction_if_plain}
 
 -- ---- the bytes of a number

@@ -1,6 +1,7 @@
 -- The number of a piece.
 use Rattle.std.proofs.Common.{ℕ, zero, suc, ◌^◌, ◌<◌, ◌≤◌, List, [], ◌∷◌, length, drop, arith}
-use Rattle.tws_moves.specs.Bytes.{IsBytes, number_of}
+use Rattle.byte_output.specs.Bytes.{IsBytes}
+use Rattle.tws_moves.specs.Bytes.{number_of}
 
 number_bound : (bytes : List ℕ) → IsBytes bytes → length bytes ≤ 5 → number_of bytes < 2 ^ 40
 number_bound [] fits short = omega arith

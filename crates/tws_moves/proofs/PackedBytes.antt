@@ -1,7 +1,7 @@
 -- Bytes that spell moves, spelled anew.
 use Rattle.std.proofs.Common.{◌≡◌, ℕ, zero, suc, ◌≤◌, List, [], ◌∷◌, ◌++◌, length, ap, sym, subst, ◌∙◌, arith}
 use Rattle.std.specs.List.{AllByRecursion}
-use Rattle.tws_moves.specs.Bytes.{IsBytes}
+use Rattle.byte_output.specs.Bytes.{IsBytes}
 use Rattle.tws_moves.specs.Move.{Move}
 use Rattle.tws_moves.specs.Spelling.{IsPiece, join, Spells, moves_in}
 use Rattle.tws_moves.specs.Shortest.{IsShortest, IsSpelled, shortest_of, packed_bytes}

@@ -4,7 +4,8 @@ use Rattle.std.proofs.lemmas.Bool.{cases_lt, lt-ltb, le-ltb}
 use Rattle.tws_moves.specs.declared.act.Act.TheVariants.{Step, Code}
 use Rattle.tws_moves.specs.declared.layout.Layout.{Layout}
 use Rattle.tws_moves.specs.declared.layout.Layout.TheVariants as layout
-use Rattle.tws_moves.specs.Bytes.{IsBytes, number_of, bits}
+use Rattle.byte_output.specs.Bytes.{IsBytes}
+use Rattle.tws_moves.specs.Bytes.{number_of, bits}
 use Rattle.tws_moves.specs.Move.{Wait}
 use Rattle.tws_moves.specs.Spelling.{IsPiece, layout_of, layout_length, waits_of}
 use Rattle.tws_moves.specs.Shortest.{act_bytes, alone, code_more}

@@ -5,7 +5,7 @@ use Rattle.tws_moves.specs.declared.layout.Layout.TheVariants as layout
 use Rattle.tws_moves.specs.Spelling.{IsPiece, layout_of, layout_length, piece_length}
 use Rattle.tws_moves.specs.Steps.{IsPieceCut}
 use Rattle.tws_moves.proofs.Codes.{IsCode, BeginsNoWord}
-use Rattle.tws_moves.proofs.Parts.{append_parts}
+use Rattle.byte_output.proofs.Lists.{append_parts}
 
 -- a piece's bytes are itself
 abbrev pub itself : List ℕ → List ℕ

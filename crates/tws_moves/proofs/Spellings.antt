@@ -8,10 +8,11 @@ use Rattle.tws_moves.specs.declared.moves_fault.MovesFault.{MovesFault}
 use Rattle.tws_moves.specs.declared.moves_fault.MovesFault.TheVariants.{Cut, Memory}
 use Rattle.tws_moves.specs.Move.{Move, Wait, moves_from, tick_after}
 use Rattle.std.proofs.lemmas.Bool.{cases_lt}
-use Rattle.tws_moves.specs.Bytes.{IsBytes}
+use Rattle.byte_output.specs.Bytes.{IsBytes}
 use Rattle.tws_moves.specs.Spelling.{IsPiece, piece_length, waits_of, pieces_in, moves_in, join, Spells, IsSpelling, IsCutAt, IsCut, MovesFail}
 use Rattle.tws_moves.specs.Steps.{IsPieceCut, ArePieces, ReadsSoFar, CountsSoFar, singles}
-use Rattle.tws_moves.proofs.Parts.{IsBytes-take, IsBytes-drop, all_append}
+use Rattle.byte_output.proofs.Bytes.{IsBytes-take, IsBytes-drop}
+use Rattle.byte_output.proofs.Lists.{all_append}
 use Rattle.tws_moves.proofs.Codes.{one_cut, longest_cut}
 use Rattle.tws_moves.proofs.Pieces.{itself, pieces_are_code, none_begins_none, cut_begins_none, piece_some}
 use Rattle.tws_moves.proofs.Ticks.{moves_of_waits, moves_alone, moves_from-append, tick_after-append}

@@ -7,7 +7,8 @@ use Rattle.tws_moves.specs.declared.act.Act.TheVariants.{Step, Code}
 use Rattle.tws_moves.specs.declared.kept.Kept.TheVariants as kept
 use Rattle.tws_moves.specs.declared.layout.Layout.{Layout}
 use Rattle.tws_moves.specs.declared.layout.Layout.TheVariants as layout
-use Rattle.tws_moves.specs.Bytes.{IsBytes, number_of, bits, little_bytes}
+use Rattle.byte_output.specs.Bytes.{IsBytes}
+use Rattle.tws_moves.specs.Bytes.{number_of, bits, little_bytes}
 use Rattle.tws_moves.specs.Move.{Wait}
 use Rattle.tws_moves.specs.Spelling.{IsPiece, layout_of, layout_length, waits_of}
 use Rattle.tws_moves.specs.Shortest.{alone, code_more, is_plain, waits_bytes}

@@ -1,9 +1,5 @@
--- Bytes and the numbers that they make.
-use Rattle.std.specs.Prelude.{ℕ, zero, suc, ◌+◌, ◌*◌, ◌^◌, ◌/◌, ◌%◌, ◌<◌, List, [], ◌∷◌, slice_index}
-
--- a list of bytes: no member is above 255
-abbrev pub IsBytes : List ℕ → Type 0
-IsBytes bytes = (i : ℕ) → slice_index bytes i < 256
+-- The numbers that bytes make.
+use Rattle.std.specs.Prelude.{ℕ, zero, suc, ◌+◌, ◌*◌, ◌^◌, ◌/◌, ◌%◌, List, [], ◌∷◌}
 
 -- the bytes as one number, the first the lowest
 abbrev pub number_of : List ℕ → ℕ

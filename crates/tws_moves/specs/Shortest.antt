@@ -4,7 +4,8 @@ use Rattle.tws_moves.specs.declared.act.Act.{Act}
 use Rattle.tws_moves.specs.declared.act.Act.TheVariants.{Step, Code}
 use Rattle.tws_moves.specs.declared.spell_fault.SpellFault.{SpellFault}
 use Rattle.tws_moves.specs.declared.spell_fault.SpellFault.TheVariants.{TooLate, Memory}
-use Rattle.tws_moves.specs.Bytes.{IsBytes, little_bytes}
+use Rattle.byte_output.specs.Bytes.{IsBytes}
+use Rattle.tws_moves.specs.Bytes.{little_bytes}
 use Rattle.tws_moves.specs.Move.{Move, Wait, waits_from}
 use Rattle.tws_moves.specs.Spelling.{Spells, moves_in}
 

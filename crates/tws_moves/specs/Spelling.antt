@@ -7,7 +7,8 @@ use Rattle.tws_moves.specs.declared.layout.Layout.{Layout}
 use Rattle.tws_moves.specs.declared.layout.Layout.TheVariants as layout
 use Rattle.tws_moves.specs.declared.moves_fault.MovesFault.{MovesFault}
 use Rattle.tws_moves.specs.declared.moves_fault.MovesFault.TheVariants.{Cut, Memory}
-use Rattle.tws_moves.specs.Bytes.{IsBytes, number_of, bits}
+use Rattle.byte_output.specs.Bytes.{IsBytes}
+use Rattle.tws_moves.specs.Bytes.{number_of, bits}
 use Rattle.tws_moves.specs.Move.{Move, Wait, AreMoves, moves_from}
 
 -- ---- pieces

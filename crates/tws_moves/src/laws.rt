@@ -2,7 +2,7 @@
 
 ghost use Rattle.std.specs.Prelude.{◌≡◌, ◌≤◌, ◌⊎◌, ℕ, List, length};
 ghost use Rattle.std.specs.List.{AllByRecursion};
-ghost use Rattle.tws_moves.specs.Bytes.{IsBytes};
+ghost use Rattle.byte_output.specs.Bytes.{IsBytes};
 ghost use Rattle.tws_moves.specs.Move.{Move, Wait, IsAct, IsTimed, AreMoves, moves_from};
 ghost use Rattle.tws_moves.specs.Spelling.{Spells, IsSpelling, IsCutAt, moves_in};
 ghost use Rattle.tws_moves.specs.Shortest.{IsShortest, IsSpelled, IsTooLateAt, shortest_of, packed_bytes};

@@ -7,7 +7,7 @@ use thiserror::Error;
 /// Why bytes were not read as moves.
 #[derive(Clone, Copy, Debug, PartialEq, Eq, Error)]
 pub enum MovesFault {
-    /// The bytes end inside a move, or inside three of them. `at` is the offset of its first byte.
+    /// The bytes end inside a move. `at` is the offset of its first byte.
     #[error("Cut({at})")]
     Cut { at: u64 },
     /// Memory ran out, which says nothing of the bytes.

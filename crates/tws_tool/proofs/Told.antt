@@ -4,7 +4,7 @@ use Rattle.std.specs.List.{AllByRecursion, Contains}
 use Rattle.std.proofs.Math.Seq.{take-length}
 use Rattle.std.proofs.lemmas.List.{take_more, take_more_set, take-map, get_or-map, drop-set-lt, length-set, length-map, map-append}
 use Rattle.std.specs.Io.KnownBytes.{IsAtEnd}
-use Rattle.tws_moves.proofs.Parts.{at_some, all_append}
+use Rattle.byte_output.proofs.Lists.{at_some, all_append}
 use Rattle.tws_file.specs.declared.«ruleset».Ruleset.{Ruleset}
 use Rattle.tws_file.specs.Text.{File, IsText, IsReadable}
 use Rattle.tws_file.specs.Fault.{HasFault}

@@ -6,7 +6,7 @@ use Rattle.tws_file.specs.declared.file_fault.FileFault.{FileFault}
 use Rattle.tws_file.specs.declared.«ruleset».Ruleset.{Ruleset}
 use Rattle.tws_file.specs.Text.{IsReadable}
 use Rattle.tws_file.specs.Fault.{HasFault}
-use Rattle.tws_file.specs.Output.{AppendsFront}
+use Rattle.byte_output.specs.Output.{AppendsPrefix}
 use Rattle.tws_best.specs.Best.{Collected, IsCollectionOf, collection_text}
 use Rattle.tws_tool.specs.declared.tool_fault.ToolFault.{ToolFault}
 use Rattle.tws_tool.specs.declared.tool_fault.ToolFault.TheVariants.{Read, Write, Unreadable, Memory}
@@ -42,7 +42,7 @@ BestWrites kind knowns old new = (c : Collected) × Collects kind knowns c × Ap
 
 -- a front of it was written
 abbrev pub BestFront : Ruleset → List (Option (List ℕ)) → (old new : Option (List ℕ)) → Type 0
-BestFront kind knowns old new = (c : Collected) × Collects kind knowns c × AppendsFront old new (collection_text c)
+BestFront kind knowns old new = (c : Collected) × Collects kind knowns c × AppendsPrefix old new (collection_text c)
 
 abbrev pub BestFails : Ruleset → List (Option (List ℕ)) → (old new : Option (List ℕ)) → ToolFault → Type 0
 BestFails kind knowns old new Read = new ≡ old

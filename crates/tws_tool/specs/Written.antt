@@ -4,7 +4,7 @@ use Rattle.std.specs.Io.KnownBytes.{Appends}
 use Rattle.tws_file.specs.Text.{File, IsText}
 use Rattle.tws_file.specs.Listing.{listing_of}
 use Rattle.tws_file.specs.Packing.{packed_text}
-use Rattle.tws_file.specs.Output.{AppendsFront}
+use Rattle.byte_output.specs.Output.{AppendsPrefix}
 use Rattle.tws_tool.specs.declared.tool_fault.ToolFault.{ToolFault}
 use Rattle.tws_tool.specs.declared.tool_fault.ToolFault.TheVariants.{Read, Write, Unreadable, Memory}
 use Rattle.tws_tool.specs.Faults.{ReadFails}
@@ -24,7 +24,7 @@ Writes text known old new = IfSome known (λ (bytes : List ℕ). (file : File) �
 
 -- they are a file's text, and a front of the file's text was written
 abbrev pub WritesFront : (File → List ℕ) → (known old new : Option (List ℕ)) → Type 0
-WritesFront text known old new = IfSome known (λ (bytes : List ℕ). (file : File) × IsText bytes file × AppendsFront old new (text file))
+WritesFront text known old new = IfSome known (λ (bytes : List ℕ). (file : File) × IsText bytes file × AppendsPrefix old new (text file))
 
 abbrev pub WriteFails : (File → List ℕ) → (known old new : Option (List ℕ)) → ToolFault → Type 0
 WriteFails text known old new Read = new ≡ old

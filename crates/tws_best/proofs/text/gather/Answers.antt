@@ -1,8 +1,7 @@
 use Rattle.std.proofs.Common.{List, ℕ, ◌≡◌, [], ◌++◌, ap, subst, sym, ◌∙◌}
 use Rattle.std.specs.Io.KnownBytes.{Appends}
-use Rattle.tws_file.specs.Output.{AppendsFront}
-use Rattle.tws_file.specs.Steps.{Sends}
-use Rattle.tws_file.proofs.Sending.{front_more, at_err}
+use Rattle.byte_output.specs.Output.{Sends, AppendsPrefix}
+use Rattle.byte_output.proofs.Sending.{prefix_more, at_err}
 use Rattle.tws_best.proofs.Writing.{on_ok, on_err, both_out, front_after}
 use Rattle.tws_best.proofs.text.gather.Goals as goal
 
@@ -11,7 +10,7 @@ returns-in_err-put-clause-err g c =
     let old = g.W.Write.contents c.args.out.now in
     let new = g.W.Write.contents c.put.new.out in
     let held = c.as_slice.ensures.value ∙ ap (λ v. v.items) c.in_default.ensures.err in
-    at_err c.from_residual.result (front_more old new c.args.gathered.now.items (subst (λ (x : List ℕ). AppendsFront old new x) held c.in_err-put.ensures.err) c.args.bytes.now)
+    at_err c.from_residual.result (prefix_more old new c.args.gathered.now.items (subst (λ (x : List ℕ). AppendsPrefix old new x) held c.in_err-put.ensures.err) c.args.bytes.now)
 
 pub returns-in-Err-clause-ok : goal.returns-in-Err-clause-ok
 returns-in-Err-clause-ok g c =

@@ -1,8 +1,7 @@
 use Rattle.std.proofs.Common.{List, ℕ, ◌++◌, length, ap, subst}
 use Rattle.byteorder.specs.Endian.{little_bytes}
-use Rattle.tws_file.specs.Output.{AppendsFront}
-use Rattle.tws_file.specs.Steps.{Sends}
-use Rattle.tws_file.proofs.Sending.{first_front, both_sent, both_front, at_err}
+use Rattle.byte_output.specs.Output.{Sends, AppendsPrefix}
+use Rattle.byte_output.proofs.Sending.{first_prefix, both_sent, both_prefix, at_err}
 use Rattle.tws_best.proofs.Writing.{on_ok, on_err}
 use Rattle.tws_best.proofs.text.gather_entry.Goals as goal
 
@@ -13,7 +12,7 @@ returns-in_err-gather-clause-err g c =
     let b = c.args.gathered.now.items in
     let body = c.args.one.now.body in
     let pushed = ap (λ (x : List ℕ). b ++ x) c.size_bytes.ensures in
-    at_err c.from_residual.result (first_front old new new b (little_bytes 4 (length body)) body (b ++ c.size_bytes.result) b pushed c.in_err-gather.ensures.err)
+    at_err c.from_residual.result (first_prefix old new new b (little_bytes 4 (length body)) body (b ++ c.size_bytes.result) b pushed c.in_err-gather.ensures.err)
 
 pub returns-clause-ok : goal.returns-clause-ok
 returns-clause-ok g c =
@@ -36,4 +35,4 @@ returns-clause-err g c =
     let first = c.gather.new.gathered.items in
     let body = c.args.one.now.body in
     let pushed = ap (λ (x : List ℕ). b ++ x) c.size_bytes.ensures in
-    on_err c.gather-2.result (λ second. both_front old mid new b (little_bytes 4 (length body)) body (b ++ c.size_bytes.result) first pushed c.in_ok-gather.ensures.ok (subst (λ (x : List ℕ). AppendsFront mid new (first ++ x)) c.body.ensures second)) c.gather-2.ensures.err
+    on_err c.gather-2.result (λ second. both_prefix old mid new b (little_bytes 4 (length body)) body (b ++ c.size_bytes.result) first pushed c.in_ok-gather.ensures.ok (subst (λ (x : List ℕ). AppendsPrefix mid new (first ++ x)) c.body.ensures second)) c.gather-2.ensures.err

@@ -1,6 +1,6 @@
 use Rattle.std.proofs.Common.{◌++◌, take}
 use Rattle.std.specs.List.{flat_map}
-use Rattle.tws_file.specs.Steps.{Sends}
+use Rattle.byte_output.specs.Output.{Sends}
 use Rattle.tws_best.specs.Best.{entry_text}
 use Rattle.tws_best.specs.Steps.{collection_header}
 use Rattle.tws_best.proofs.text.write_parts.Given as goal

@@ -1,5 +1,5 @@
 use Rattle.std.proofs.Common.{◌++◌, take, string_bytes}
-use Rattle.tws_file.specs.Steps.{Sends}
+use Rattle.byte_output.specs.Output.{Sends}
 use Rattle.tws_file.proofs.Gathering.{of_records}
 use Rattle.tws_file.proofs.listing.show_records.Given as goal
 

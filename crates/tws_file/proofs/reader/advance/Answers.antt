@@ -1,7 +1,7 @@
 use Rattle.std.proofs.Common.{subst}
 use Rattle.tws_file.specs.Steps.{IsAt}
 use Rattle.tws_file.proofs.Fronts.{first_advance}
-use Rattle.tws_moves.proofs.Parts.{at_some}
+use Rattle.byte_output.proofs.Lists.{at_some}
 use Rattle.tws_file.proofs.reader.advance.Goals as goal
 
 pub returns-in-Some-2-clause-advances : goal.returns-in-Some-2-clause-advances

@@ -1,6 +1,6 @@
 use Rattle.std.proofs.Common.{inl}
 use Rattle.std.proofs.lemmas.Result.{err_from_is_err_and}
-use Rattle.tws_moves.proofs.Parts.{at_none, at_some}
+use Rattle.byte_output.proofs.Lists.{at_none, at_some}
 use Rattle.tws_file.proofs.FileText.{one_file}
 use Rattle.tws_file.proofs.Fronts.{fails_with, only_memory, read_whole, read_cut}
 use Rattle.tws_file.proofs.reader.read_file.Goals as goal

@@ -1,6 +1,6 @@
 use Rattle.std.proofs.lemmas.Result.{err_from_is_err_and}
 use Rattle.tws_file.proofs.Fronts.{front_fails}
-use Rattle.tws_moves.proofs.Parts.{at_some}
+use Rattle.byte_output.proofs.Lists.{at_some}
 use Rattle.tws_file.proofs.reader.read_front.Goals as goal
 
 pub returns-in_err-records-clause-fault : goal.returns-in_err-records-clause-fault

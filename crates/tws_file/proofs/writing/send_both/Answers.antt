@@ -1,6 +1,6 @@
 use Rattle.std.proofs.Common.{◌++◌, refl}
 use Rattle.std.proofs.lemmas.Result.{on_ok_weaker, on_err_weaker}
-use Rattle.tws_file.proofs.Sending.{at_err, first_front, both_sent, both_front}
+use Rattle.byte_output.proofs.Sending.{at_err, first_prefix, both_sent, both_prefix}
 use Rattle.tws_file.proofs.writing.send_both.Goals as goal
 
 pub returns-in_err-send-clause-err : goal.returns-in_err-send-clause-err
@@ -8,7 +8,7 @@ returns-in_err-send-clause-err g c =
     let old = g.W.Write.contents c.args.out.now in
     let new = g.W.Write.contents c.send.new.out in
     let pushed = c.args.buffer.now ++ c.args.head.now in
-    at_err c.from_residual.result (first_front old new new c.args.buffer.now c.args.head.now c.args.tail.now pushed pushed refl c.in_err-send.ensures.err)
+    at_err c.from_residual.result (first_prefix old new new c.args.buffer.now c.args.head.now c.args.tail.now pushed pushed refl c.in_err-send.ensures.err)
 
 pub returns-clause-ok : goal.returns-clause-ok
 returns-clause-ok g c =
@@ -24,4 +24,4 @@ returns-clause-err g c =
     let mid = g.W.Write.contents c.send.new.out in
     let new = g.W.Write.contents c.send-2.new.out in
     let pushed = c.args.buffer.now ++ c.args.head.now in
-    on_err_weaker c.send-2.result (λ p. both_front old mid new c.args.buffer.now c.args.head.now c.args.tail.now pushed c.send.new.self refl c.in_ok-send.ensures.ok p) c.send-2.ensures.err
+    on_err_weaker c.send-2.result (λ p. both_prefix old mid new c.args.buffer.now c.args.head.now c.args.tail.now pushed c.send.new.self refl c.in_ok-send.ensures.ok p) c.send-2.ensures.err

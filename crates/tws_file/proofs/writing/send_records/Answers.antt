@@ -1,6 +1,7 @@
 use Rattle.std.proofs.Common.{◌+◌, ◌++◌, ◌∙◌, ap, take}
-use Rattle.tws_file.proofs.Sending.{Sends-then, front_then, at_err}
-use Rattle.tws_file.proofs.Gathering.{texts, text_of_record, texts-append, texts-one, item_fits, front_of_all, line_gathered}
+use Rattle.byte_output.proofs.Sending.{Sends-then, prefix_then, at_err}
+use Rattle.byte_output.proofs.Lines.{prefix_of_all, line_gathered}
+use Rattle.tws_file.proofs.Gathering.{texts, text_of_record, texts-append, texts-one, item_fits}
 use Rattle.tws_file.proofs.writing.send_records.Goals as goal
 
 pub head-requires : goal.head-requires
@@ -18,7 +19,7 @@ returns-in_err-send_both-clause-err g c =
     let text-is = ap (λ x. x ++ c.tail.result.now) c.as_slice.ensures ∙ ap (λ x. c.head.result ++ x) c.tail.ensures ∙ c.head.ensures in
     let pushed = c.loop-record.buffer ++ (c.as_slice.result.now ++ c.tail.result.now) in
     let gathered = line_gathered texts text_of_record texts-append texts-one old mid new start records i c.loop-record.buffer pushed c.record-item.result c.loop-record.invariant c.loop-record-test.true c.record-item.is (ap (λ x. c.loop-record.buffer ++ x) text-is) in
-    at_err c.from_residual.result (front_of_all texts text_of_record texts-append texts-one old mid new start records (i + 1) (front_then old mid new (start ++ texts (take (i + 1) records)) pushed gathered c.in_err-send_both.ensures.err))
+    at_err c.from_residual.result (prefix_of_all texts text_of_record texts-append texts-one old mid new start records (i + 1) (prefix_then old mid new (start ++ texts (take (i + 1) records)) pushed gathered c.in_err-send_both.ensures.err))
 
 pub loop-record-preserved : goal.loop-record-preserved
 loop-record-preserved g c =

@@ -1,5 +1,5 @@
 use Rattle.std.proofs.Common.{◌++◌, take}
-use Rattle.tws_file.specs.Steps.{Sends}
+use Rattle.byte_output.specs.Output.{Sends}
 use Rattle.tws_file.proofs.Gathering.{texts}
 use Rattle.tws_file.proofs.writing.send_records.Given as goal
 

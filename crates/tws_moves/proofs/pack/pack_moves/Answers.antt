@@ -1,7 +1,7 @@
 use Rattle.std.proofs.Common.{rules, inl, ◌∙◌, []}
 use Rattle.tws_moves.specs.declared.kept.Kept.TheVariants as kept
 use Rattle.tws_moves.specs.Steps.{PacksPieces}
-use Rattle.tws_moves.proofs.Parts.{at_some, at_none}
+use Rattle.byte_output.proofs.Lists.{at_some, at_none}
 use Rattle.tws_moves.proofs.PackedBytes.{packed_are}
 use Rattle.tws_moves.proofs.Repacking.{packs_more, packs_all, packs_spelling}
 use Rattle.tws_moves.proofs.Spellings.{cut_at, spelled_fails}

@@ -1,5 +1,5 @@
-use Rattle.tws_file.proofs.Sending.{Sends-more}
-use Rattle.tws_file.proofs.output.put.Goals as goal
+use Rattle.byte_output.proofs.Sending.{Sends-more}
+use Rattle.byte_output.proofs.output.put.Goals as goal
 
 pub loop-rest-preserved : goal.loop-rest-preserved
 loop-rest-preserved g c =

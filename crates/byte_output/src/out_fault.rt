@@ -1,16 +1,16 @@
 ghost use Rattle.std.specs.Prelude.{◌≡◌};
-ghost use Rattle.tws_file.specs.declared.out_fault.OutFault.TheVariants.{Memory};
+ghost use Rattle.byte_output.specs.declared.out_fault.OutFault.TheVariants.{Memory};
 
 use std::alloc::AllocError;
 use thiserror::Error;
 
-/// Why a text was not written whole. A front of it went out.
+/// Why a text was not written whole. A proper prefix of it was written.
 #[derive(Clone, Copy, Debug, PartialEq, Eq, Error)]
 pub enum OutFault {
     /// The writer answered an error, or took nothing of bytes that were there.
     #[error("Io")]
     Io,
-    /// Memory ran out.
+    /// Out of memory.
     #[error("Memory")]
     Memory,
 }

@@ -1,18 +1,19 @@
 ghost use Rattle.std.specs.Prelude.{◌≡◌, OnOk, OnErr, IfErr};
 ghost use Rattle.std.specs.Io.KnownBytes.{Appends};
-ghost use Rattle.tws_file.specs.Output.{AppendsFront};
+ghost use Rattle.byte_output.specs.Output.{AppendsPrefix};
 
 use crate::out_fault::OutFault;
 use std::io::Write;
 
-/// Writes all of the bytes, by as many calls of the writer as that takes. It needs no memory.
+/// Writes all of the bytes, by as many calls of the writer as that takes. It takes no memory.
 ///
 /// # Errors
 ///
-/// `Io` where the writer answers an error, or takes none of the bytes that are left.
+/// `Io` where the writer answers an error, or takes none of the bytes that are left. A proper prefix of the bytes was
+/// written.
 pub fn put<W: Write>(out: &mut W, bytes: &[u8]) -> Result<(), OutFault>
     ensures ok { OnOk result (Appends (W.contents out.old) (W.contents out.new) bytes.now) }
-    ensures err { OnErr result (AppendsFront (W.contents out.old) (W.contents out.new) bytes.now) }
+    ensures err { OnErr result (AppendsPrefix (W.contents out.old) (W.contents out.new) bytes.now) }
     ensures io { IfErr result (λ e. e ≡ OutFault.Io) }
 {
     let mut rest = bytes;

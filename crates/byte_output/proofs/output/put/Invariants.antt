@@ -1,6 +1,6 @@
 use Rattle.std.proofs.Common.{length}
-use Rattle.tws_file.specs.Steps.{Sends}
-use Rattle.tws_file.proofs.output.put.Given as goal
+use Rattle.byte_output.specs.Output.{Sends}
+use Rattle.byte_output.proofs.output.put.Given as goal
 
 abbrev pub invariant-loop-rest : goal.invariant-loop-rest
 invariant-loop-rest g l = Sends (g.W.Write.contents l.fn.out) (g.W.Write.contents l.out) l.bytes l.rest

@@ -1,12 +1,9 @@
--- Parts of lists and of bytes.
-use Rattle.std.proofs.Common.{◌≡◌, ℕ, zero, suc, ◌+◌, ◌<◌, ◌≤◌, List, [], ◌∷◌, ◌++◌, length, take, drop, slice_index_or, Option, None, Some, IfSome, IfNone, refl, arith, inl, inr, subst, get_or-drop, get_or-take, length-take, take-take}
+-- Parts of lists, what holds of each member, and options.
+use Rattle.std.proofs.Common.{◌≡◌, ℕ, zero, suc, ◌+◌, ◌<◌, ◌≤◌, List, [], ◌∷◌, ◌++◌, length, take, drop, slice_index_or, Option, None, Some, IfSome, IfNone, refl, arith, subst, take-take}
 use Rattle.std.specs.List.{AllByRecursion}
 use Rattle.std.proofs.Math.Seq.{take-add}
-use Rattle.std.proofs.lemmas.Bool.{cases_lt}
-use Rattle.std.proofs.lemmas.List.{get_or_past}
-use Rattle.tws_moves.specs.Bytes.{IsBytes}
 
--- Fronts of one length are one, and so are the rests.
+-- Prefixes of one length are equal, and so are the rests.
 pub append_parts : {X : Type 0} (a b x y : List X) → length a ≡ length b → a ++ x ≡ b ++ y → (a ≡ b) × (x ≡ y)
 append_parts [] [] x y same e = (refl, e)
 append_parts [] (c ∷ b) x y same e = absurd (omega arith)
@@ -17,17 +14,6 @@ append_parts (c ∷ a) (d ∷ b) x y same e =
     let head : c ≡ d = cc in
     let tail = parts.0 in
     (cc, parts.1)
-
--- parts of bytes are bytes
-pub IsBytes-drop : (n : ℕ) (bytes : List ℕ) → IsBytes bytes → IsBytes (drop n bytes)
-IsBytes-drop n bytes fits i = rw get_or-drop (fits (n + i))
-
-pub IsBytes-take : (n : ℕ) (bytes : List ℕ) → IsBytes bytes → IsBytes (take n bytes)
-IsBytes-take n bytes fits i =
-    elim (cases_lt i n) [
-      | inl lt ↦ rw (get_or-take n bytes i 0 lt) (fits i)
-      | inr le ↦ rw (get_or_past (take n bytes) i 0 (omega (arith, length-take n bytes))) (omega arith)
-    ]
 
 -- ---- what holds of each member
 

@@ -1,0 +1,85 @@
+ghost use Rattle.std.specs.Prelude.{◌≡◌, ◌+◌, ◌≤◌, [], ◌++◌, length, OnOk, OnErr, IfErr};
+ghost use Rattle.byte_output.specs.Output.{Sends, AppendsPrefix};
+
+use crate::out_fault::OutFault;
+use crate::output::put;
+use arrayvec::ArrayVec;
+use std::io::Write;
+use std::marker::Model;
+
+/// How many bytes are gathered before they go out together.
+pub const LARGE: usize = 1 << 16;
+
+/// At most N bytes that belong together. They lie in the value itself and take no memory.
+#[derive(Drop)]
+pub struct Buffer<const N: usize> {
+    bytes: ArrayVec<u8, N>,
+}
+
+impl<const N: usize> Model for Buffer<N> {
+    ghost use Rattle.std.specs.Prelude.{ℕ, List};
+
+    ghost Value = { List ℕ };
+
+    ghost view = { λ b. b.bytes.items };
+}
+
+impl<const N: usize> Buffer<N> {
+    /// A buffer without bytes.
+    pub fn new() -> Self
+        ensures { result ≡ [] }
+    {
+        Buffer {
+            bytes: ArrayVec::new(),
+        }
+    }
+
+    /// Lends the bytes, in their order.
+    pub fn as_slice(&self) -> &[u8]
+        ensures { result.now ≡ self.now }
+    {
+        self.bytes.as_slice()
+    }
+
+    /// Adds bytes at the end.
+    pub fn push(&mut self, bytes: &[u8])
+        requires { length self.old + length bytes.now ≤ N }
+        ensures { self.new ≡ self.old ++ bytes.now }
+    {
+        let Ok(()) = self.bytes.try_extend_from_slice(bytes) else {
+            unreachable!();
+        };
+    }
+
+    // Gathers bytes in an empty buffer; bytes that no buffer of this size holds are written.
+    fn send_first<W: Write>(&mut self, bytes: &[u8], out: &mut W) -> Result<(), OutFault>
+        requires { self.old ≡ [] }
+        ensures ok { OnOk result (Sends (W.contents out.old) (W.contents out.new) bytes.now self.new) }
+        ensures err { OnErr result (AppendsPrefix (W.contents out.old) (W.contents out.new) bytes.now) }
+        ensures io { IfErr result (λ e. e ≡ OutFault.Io) }
+    {
+        match self.bytes.try_extend_from_slice(bytes) {
+            Ok(()) => Ok(()),
+            Err(_) => put(out, bytes),
+        }
+    }
+
+    /// Gathers bytes at the end. Where there is no room for them, all that was gathered before is written first; bytes
+    /// that no buffer of this size holds are written too.
+    ///
+    /// # Errors
+    ///
+    /// `Io` where the writer fails. A proper prefix of what was gathered and these bytes was written.
+    pub fn send<W: Write>(&mut self, bytes: &[u8], out: &mut W) -> Result<(), OutFault>
+        ensures ok { OnOk result (Sends (W.contents out.old) (W.contents out.new) (self.old ++ bytes.now) self.new) }
+        ensures err { OnErr result (AppendsPrefix (W.contents out.old) (W.contents out.new) (self.old ++ bytes.now)) }
+        ensures io { IfErr result (λ e. e ≡ OutFault.Io) }
+    {
+        if let Ok(()) = self.bytes.try_extend_from_slice(bytes) {
+            return Ok(());
+        }
+        put(out, self.bytes.as_slice())?;
+        self.bytes.clear();
+        self.send_first(bytes, out)
+    }
+}
