@@ -18,7 +18,7 @@ use Rattle.tftp_ends.specs.declared.recv_fault.RecvFault.{RecvFault}
 use Rattle.tftp_ends.specs.declared.recv_fault.RecvFault.TheVariants as fault
 use Rattle.tftp_ends.specs.Ends.{Verdict, granted, refused, Sender, SendAnswer, sender_start, sender_ack, sender_timeout, data_packet, IsSender, Receiver, RecvAnswer, DataAnswer, receiver_start, receiver_data, receiver_timeout, receiver_take, IsReceiver}
 use Rattle.tws_file.specs.declared.«ruleset».Ruleset.{Ruleset}
-use Rattle.archive_client.specs.Names.{file_name_of, upload_name}
+use Rattle.tws_file.specs.Names.{file_name_of, upload_name}
 use Rattle.archive_client.specs.declared.cause.Cause.{Cause}
 use Rattle.archive_client.specs.declared.cause.Cause.TheVariants as cause
 use Rattle.archive_client.specs.declared.state.State.{State}
@@ -378,3 +378,19 @@ IsPhase (failed why) = Unit {0}
 
 pub record IsClient (c : Client) : Type 0 where
   pub phase : IsPhase c.phase
+
+-- ---- words of the laws
+
+-- the client is bound to this port
+abbrev pub IsBoundTo : (port : ℕ) → Phase → Type 0
+IsBoundTo port (asking operation misses) = ⊥
+IsBoundTo port (sending peer s) = peer ≡ port
+IsBoundTo port (receiving peer r) = peer ≡ port
+IsBoundTo port (failed why) = ⊥
+
+-- it is bound to this port, or has failed
+abbrev pub IsBoundToStill : (port : ℕ) → Phase → Type 0
+IsBoundToStill port (asking operation misses) = ⊥
+IsBoundToStill port (sending peer s) = peer ≡ port
+IsBoundToStill port (receiving peer r) = peer ≡ port
+IsBoundToStill port (failed why) = Unit {0}

@@ -1,5 +1,5 @@
-// A thousand runs of one client, each of sixty inputs that fit or not. A plain program beside it, written from the table
-// of a client's states, says what the client sends and how far it is after each input.
+// A thousand runs of one client, each of sixty inputs that fit or not. A plain program beside it, written from the
+// table of a client's states, says what the client sends and how far it is after each input.
 use crate::{Cause, Get, Put, State};
 use std::alloc::Global;
 use std::test::Fail;
@@ -209,12 +209,18 @@ impl Plain {
 fn source(plain: &Plain, draws: &mut Draws) -> Endpoint {
     let peer = plain.peer.unwrap_or(4000);
     match draws.below(10) {
-        0 => Endpoint { host: 2, port: peer },
+        0 => Endpoint {
+            host: 2,
+            port: peer,
+        },
         1 => Endpoint {
             host: 1,
             port: peer.wrapping_add(1),
         },
-        _ => Endpoint { host: 1, port: peer },
+        _ => Endpoint {
+            host: 1,
+            port: peer,
+        },
     }
 }
 
@@ -253,9 +259,11 @@ fn fits(
                 Reply::Data(_) | Reply::Ack(_) => plain.peer.unwrap_or(0),
             };
             let bytes = reply_bytes(alloc, plain, reply)?;
-            Ok(out.from_port == 5000
-                && out.to == Endpoint { host: 1, port }
-                && out.dgram.bytes() == bytes.as_slice())
+            Ok(
+                out.from_port == 5000
+                    && out.to == Endpoint { host: 1, port }
+                    && out.dgram.bytes() == bytes.as_slice(),
+            )
         }
         _ => Ok(false),
     }

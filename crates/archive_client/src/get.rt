@@ -7,7 +7,6 @@ ghost use Rattle.archive_client.specs.Client.{get, failed, in_phase, out_to, cau
 use crate::cause::Cause;
 use crate::heard::Heard;
 use crate::line::Line;
-use crate::names::file_name;
 use crate::phase::Phase;
 use crate::state::State;
 use std::alloc::{Allocator, Global};
@@ -18,8 +17,8 @@ use tws_file::Ruleset;
 
 /// A client that fetches the collection of a ruleset. Only `on_datagram` takes memory.
 ///
-/// It asks the server for the file, binds to the port that sends the first block, and acknowledges block by block. Once it
-/// has the last block it waits `DALLY` time-outs, RFC 1350 section 6, in case its last ACK was lost.
+/// It asks the server for the file, binds to the port that sends the first block, and acknowledges block by block. Once
+/// it has the last block it waits `DALLY` time-outs, RFC 1350 section 6, in case its last ACK was lost.
 #[derive(Drop)]
 #[derive_where(Debug)]
 pub struct Get<A: Allocator + Copy = Global> {
@@ -52,9 +51,9 @@ fn refusal_of(fault: RecvFault) -> Refusal
 }
 
 impl<A: Allocator + Copy> Get<A> {
-    /// A client at `port` of our own host that asks the server for the collection of this ruleset, and the request for the
-    /// caller to send: RRQ of RFC 1350 section 5. The server is at the host and the request port of `server`. What comes
-    /// is kept in memory of `alloc`.
+    /// A client at `port` of our own host that asks the server for the collection of this ruleset, and the request for
+    /// the caller to send: RRQ of RFC 1350 section 5. The server is at the host and the request port of `server`. What
+    /// comes is kept in memory of `alloc`.
     pub fn start(alloc: A, port: u16, server: Endpoint, kind: Ruleset) -> (Self, Out)
         ensures client { result.0 ≡ client_start port server (get kind) }
         ensures sent { result.1 ≡ request_out (get kind) result.0 }
@@ -69,7 +68,7 @@ impl<A: Allocator + Copy> Get<A> {
                 misses: 0,
             },
         };
-        (get, line.out(server.port, encode_read(file_name(kind))))
+        (get, line.out(server.port, encode_read(kind.file_name())))
     }
 
     // A block was not taken: the client has failed, and tells the server why.
@@ -123,11 +122,11 @@ impl<A: Allocator + Copy> Get<A> {
 
     /// A datagram of these bytes has come from `from` to the client's port. What is answered is to be sent.
     ///
-    /// The first DATA 1 from a port of the server's host binds the client to that port. From then on a packet from another
-    /// port of that host is answered with ERROR 5, RFC 1350 section 4, and changes nothing; an ERROR from there has no
-    /// effect. An ERROR that is for the client fails it, unless the whole file has come. A block that is one too many, or
-    /// for which memory is refused, fails the client and is answered with ERROR 3, also where it is the first. Nothing has
-    /// any effect that comes from another host, that is no packet, or that comes once the client is `over`.
+    /// The first DATA 1 from a port of the server's host binds the client to that port. From then on a packet from
+    /// another port of that host is answered with ERROR 5, RFC 1350 section 4, and changes nothing; an ERROR from there
+    /// has no effect. An ERROR that is for the client fails it, unless the whole file has come. A block that is one too
+    /// many, or for which memory is refused, fails the client and is answered with ERROR 3, also where it is the first.
+    /// Nothing has any effect that comes from another host, that is no packet, or that comes once the client is `over`.
     pub fn on_datagram(&mut self, from: Endpoint, bytes: &[u8]) -> Option<Out>
         ensures client { self.new ≡ (client_datagram (verdict_after self.new) from bytes.now self.old).client }
         ensures sent { result ≡ (client_datagram (verdict_after self.new) from bytes.now self.old).out }
@@ -149,9 +148,9 @@ impl<A: Allocator + Copy> Get<A> {
         }
     }
 
-    /// Nothing has come for a while. What was sent last is sent again, the request or an ACK; time-out number `MISSES` in a
-    /// row without progress fails the client and sends nothing. Once the whole file has come nothing is sent, and the
-    /// client is over at time-out number `DALLY`. Once it is `over`, nothing changes or is sent.
+    /// Nothing has come for a while. What was sent last is sent again, the request or an ACK; time-out number `MISSES`
+    /// in a row without progress fails the client and sends nothing. Once the whole file has come nothing is sent, and
+    /// the client is over at time-out number `DALLY`. Once it is `over`, nothing changes or is sent.
     pub fn on_timeout(&mut self) -> Option<Out>
         ensures client { self.new ≡ (client_timeout self.old).client }
         ensures sent { result ≡ (client_timeout self.old).out }
@@ -161,7 +160,7 @@ impl<A: Allocator + Copy> Get<A> {
             Phase::Asking { wanted, misses } => {
                 if *misses + 1 < MISSES {
                     *misses += 1;
-                    let request = encode_read(file_name(*wanted));
+                    let request = encode_read(wanted.file_name());
                     return Some(self.line.out(self.line.server.port, request));
                 }
             }

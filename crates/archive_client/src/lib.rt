@@ -2,7 +2,8 @@
 //! RFC 1350. A client binds to one port of the server's host, counts a file as sent only at the last ACK, and hands out
 //! what it fetched only whole.
 //!
-//! `specs/Client.antt` is the file to read first: what a client is, and what each datagram and each time-out makes of it.
+//! `specs/Client.antt` is the file to read first: what a client is, and what each datagram and each time-out makes of
+//! it.
 //!
 //! How it is called: `start` gives the client and its request, which the caller sends; then each datagram that comes to
 //! the client's port goes to `on_datagram` and each time-out to `on_timeout`, and what they answer is sent, until the
@@ -30,8 +31,8 @@
 mod cause;
 mod get;
 mod heard;
+mod laws;
 mod line;
-mod names;
 mod phase;
 mod put;
 mod state;
@@ -39,6 +40,7 @@ mod too_long;
 
 pub use cause::Cause;
 pub use get::Get;
+pub use laws::{one_port, other_host, over_client};
 pub use put::Put;
 pub use state::State;
 pub use too_long::TooLong;

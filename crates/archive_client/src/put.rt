@@ -7,7 +7,6 @@ ghost use Rattle.archive_client.specs.Client.{put, client_start, request_out, cl
 use crate::cause::Cause;
 use crate::heard::Heard;
 use crate::line::Line;
-use crate::names::upload_file_name;
 use crate::phase::Phase;
 use crate::state::State;
 use crate::too_long::TooLong;
@@ -16,11 +15,12 @@ use std::marker::Model;
 use std::mem;
 use tftp_ends::{MAX_FILE, MISSES, SendState, Sender};
 use tftp_packet::{Endpoint, Out, Owned, Refusal, encode_write};
+use tws_file::upload_file_name;
 
 /// A client that sends a file. None of its calls takes memory.
 ///
-/// It asks the server to take the file, binds to the port that acknowledges that, and sends the file there block by block.
-/// The file counts as sent once the last block is acknowledged.
+/// It asks the server to take the file, binds to the port that acknowledges that, and sends the file there block by
+/// block. The file counts as sent once the last block is acknowledged.
 #[derive(Drop)]
 #[derive_where(Debug)]
 pub struct Put<A: Allocator + Copy = Global> {
@@ -41,8 +41,9 @@ impl<A: Allocator + Copy> Model for Put<A> {
 }
 
 impl<A: Allocator + Copy> Put<A> {
-    /// A client at `port` of our own host that asks the server to take this file, and the request for the caller to send:
-    /// WRQ of RFC 1350 section 5, for the name `upload.tws`. The server is at the host and the request port of `server`.
+    /// A client at `port` of our own host that asks the server to take this file, and the request for the caller to
+    /// send: WRQ of RFC 1350 section 5, for the name `upload.tws`. The server is at the host and the request port of
+    /// `server`.
     ///
     /// # Errors
     ///
@@ -77,9 +78,10 @@ impl<A: Allocator + Copy> Put<A> {
         ensures sent { result ≡ (ack_heard self.old.phase port 0 self.old).out }
         ensures fits { IsClient self.new }
     {
-        let Phase::Asking { wanted, .. } =
-            mem::replace(&mut self.phase, Phase::Failed(Cause::TimedOut))
-        else {
+        let Phase::Asking { wanted, .. } = mem::replace(
+            &mut self.phase,
+            Phase::Failed(Cause::TimedOut),
+        ) else {
             unreachable!();
         };
         let (end, data) = Sender::start(wanted);
@@ -105,10 +107,10 @@ impl<A: Allocator + Copy> Put<A> {
 
     /// A datagram of these bytes has come from `from` to the client's port. What is answered is to be sent.
     ///
-    /// The first ACK 0 from a port of the server's host binds the client to that port. From then on a packet from another
-    /// port of that host is answered with ERROR 5, RFC 1350 section 4, and changes nothing; an ERROR from there has no
-    /// effect. An ERROR that is for the client fails it. Nothing has any effect that comes from another host, that is no
-    /// packet, or that comes once the client is `over`.
+    /// The first ACK 0 from a port of the server's host binds the client to that port. From then on a packet from
+    /// another port of that host is answered with ERROR 5, RFC 1350 section 4, and changes nothing; an ERROR from there
+    /// has no effect. An ERROR that is for the client fails it. Nothing has any effect that comes from another host,
+    /// that is no packet, or that comes once the client is `over`.
     pub fn on_datagram(&mut self, from: Endpoint, bytes: &[u8]) -> Option<Out>
         ensures client { self.new ≡ (client_datagram granted from bytes.now self.old).client }
         ensures sent { result ≡ (client_datagram granted from bytes.now self.old).out }
@@ -128,8 +130,9 @@ impl<A: Allocator + Copy> Put<A> {
         }
     }
 
-    /// Nothing has come for a while. What was sent last is sent again, the request or a DATA; time-out number `MISSES` in a
-    /// row without progress fails the client and sends nothing. Once the client is `over`, nothing changes or is sent.
+    /// Nothing has come for a while. What was sent last is sent again, the request or a DATA; time-out number `MISSES`
+    /// in a row without progress fails the client and sends nothing. Once the client is `over`, nothing changes or is
+    /// sent.
     pub fn on_timeout(&mut self) -> Option<Out>
         ensures client { self.new ≡ (client_timeout self.old).client }
         ensures sent { result ≡ (client_timeout self.old).out }
@@ -139,7 +142,10 @@ impl<A: Allocator + Copy> Put<A> {
             Phase::Asking { misses, .. } => {
                 if *misses + 1 < MISSES {
                     *misses += 1;
-                    return Some(self.line.out(self.line.server.port, encode_write(upload_file_name())));
+                    return Some(
+                        self.line
+                            .out(self.line.server.port, encode_write(upload_file_name())),
+                    );
                 }
             }
             Phase::Bound { peer, end } => {
@@ -180,4 +186,3 @@ impl<A: Allocator + Copy> Put<A> {
         }
     }
 }
-

@@ -21,9 +21,7 @@ fn at(port: u16) -> Endpoint {
 
 fn goes(out: &Option<Out>, port: u16, bytes: &[u8]) -> bool {
     match out {
-        Some(out) => {
-            out.from_port == 5000 && out.to == at(port) && out.dgram.bytes() == bytes
-        }
+        Some(out) => { out.from_port == 5000 && out.to == at(port) && out.dgram.bytes() == bytes }
         None => false,
     }
 }
@@ -89,16 +87,16 @@ fn a_put_that_is_never_answered(rt: HostRuntime) -> Result<(), Fail> {
 
 #[test]
 fn the_greatest_file(rt: HostRuntime) -> Result<(), Fail> {
-    let file = filled(rt.alloc(), 4193791)?;
+    let file = filled(rt.alloc(), 33553919)?;
     let Ok((_, request)) = Put::start(5000, SERVER, file) else {
         return Err(Fail::new("too long"));
     };
     assert!(rt; goes(&Some(request), 6969, WRQ));
-    let file = filled(rt.alloc(), 4193792)?;
+    let file = filled(rt.alloc(), 33553920)?;
     match Put::start(5000, SERVER, file) {
         Ok(_) => Err(Fail::new("not too long")),
         Err(TooLong { file }) => {
-            assert_eq!(rt; file.len(), 4193792);
+            assert_eq!(rt; file.len(), 33553920);
             Ok(())
         }
     }

@@ -1,0 +1,27 @@
+//! What holds of every client, whatever comes. These functions do nothing: each contract is a theorem.
+
+ghost use Rattle.std.specs.Prelude.{◌≡◌, ◌≢◌, ℕ, List, true};
+ghost use Rattle.tftp_packet.specs.declared.endpoint.Endpoint.{Endpoint};
+ghost use Rattle.tftp_ends.specs.Ends.{Verdict};
+ghost use Rattle.archive_client.specs.Client.{Client, IsClient, IsBoundTo, IsBoundToStill, is_over, stays, client_datagram, client_timeout};
+
+/// Once a client is over, and so once it has failed, no datagram and no time-out changes it or makes it send.
+pub fn over_client()
+    ensures datagram { (verdict : Verdict) (from : Endpoint) (bytes : List ℕ) (c : Client) →
+        is_over c ≡ true → client_datagram verdict from bytes c ≡ stays c }
+    ensures timeout { (c : Client) → IsClient c → is_over c ≡ true → client_timeout c ≡ stays c }
+{}
+
+/// What comes from another host than the server's changes nothing, and is not answered.
+pub fn other_host()
+    ensures { (verdict : Verdict) (from : Endpoint) (bytes : List ℕ) (c : Client) →
+        from.host ≢ c.server.host → client_datagram verdict from bytes c ≡ stays c }
+{}
+
+/// A client binds to one port alone: once it is bound to a port, it stays so until it fails.
+pub fn one_port()
+    ensures datagram { (verdict : Verdict) (from : Endpoint) (bytes : List ℕ) (c : Client) (port : ℕ) →
+        IsBoundTo port c.phase → IsBoundToStill port (client_datagram verdict from bytes c).client.phase }
+    ensures timeout { (c : Client) (port : ℕ) →
+        IsBoundTo port c.phase → IsBoundToStill port (client_timeout c).client.phase }
+{}
