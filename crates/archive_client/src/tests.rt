@@ -88,18 +88,23 @@ fn a_put_that_is_never_answered(rt: HostRuntime) -> Result<(), Fail> {
 #[test]
 fn the_greatest_file(rt: HostRuntime) -> Result<(), Fail> {
     let file = filled(rt.alloc(), 33553919)?;
-    let Ok((_, request)) = Put::start(5000, SERVER, file) else {
+    let Ok((put, request)) = Put::start(5000, SERVER, file) else {
         return Err(Fail::new("too long"));
     };
     assert!(rt; goes(&Some(request), 6969, WRQ));
+    assert_eq!(rt; put.state(), State::Running);
+    Ok(())
+}
+
+#[test]
+fn a_file_that_is_too_long(rt: HostRuntime) -> Result<(), Fail> {
     let file = filled(rt.alloc(), 33553920)?;
-    match Put::start(5000, SERVER, file) {
-        Ok(_) => Err(Fail::new("not too long")),
-        Err(TooLong { file }) => {
-            assert_eq!(rt; file.len(), 33553920);
-            Ok(())
-        }
-    }
+    let Err(TooLong { file }) = Put::start(5000, SERVER, file) else {
+        return Err(Fail::new("not too long"));
+    };
+    assert_eq!(rt; file.len(), 33553920);
+    assert!(rt; file.iter().all(|b| *b == 7));
+    Ok(())
 }
 
 // The file is asked for before any answer, and the client that comes back goes on.
