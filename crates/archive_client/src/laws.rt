@@ -3,7 +3,8 @@
 ghost use Rattle.std.specs.Prelude.{◌≡◌, ◌≢◌, ℕ, List, true};
 ghost use Rattle.tftp_packet.specs.declared.endpoint.Endpoint.{Endpoint};
 ghost use Rattle.tftp_ends.specs.Ends.{Verdict};
-ghost use Rattle.archive_client.specs.Client.{Client, IsClient, IsBoundTo, IsBoundToStill, is_over, stays, client_datagram, client_timeout};
+ghost use Rattle.byte_output.specs.Bytes.{IsBytes};
+ghost use Rattle.archive_client.specs.Client.{Operation, Client, IsOperation, IsClient, client_start, IsBoundTo, IsBoundToStill, is_over, stays, client_datagram, client_timeout};
 
 /// Once a client is over, and so once it has failed, no datagram and no time-out changes it or makes it send.
 pub fn over_client()
@@ -24,4 +25,13 @@ pub fn one_port()
         IsBoundTo port c.phase → IsBoundToStill port (client_datagram verdict from bytes c).client.phase }
     ensures timeout { (c : Client) (port : ℕ) →
         IsBoundTo port c.phase → IsBoundToStill port (client_timeout c).client.phase }
+{}
+
+/// What always holds of a client, as the bounds of its end, holds at its start, and every step keeps it.
+pub fn client_bounds()
+    ensures start { (port : ℕ) (server : Endpoint) (operation : Operation) →
+        IsOperation operation → IsClient (client_start port server operation) }
+    ensures datagram { (verdict : Verdict) (from : Endpoint) (bytes : List ℕ) (c : Client) →
+        IsBytes bytes → IsClient c → IsClient (client_datagram verdict from bytes c).client }
+    ensures timeout { (c : Client) → IsClient c → IsClient (client_timeout c).client }
 {}
