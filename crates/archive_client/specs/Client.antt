@@ -7,6 +7,7 @@ use Rattle.tftp_packet.specs.declared.packet_fault.PacketFault.{PacketFault}
 use Rattle.tftp_packet.specs.declared.refusal.Refusal.{Refusal}
 use Rattle.tftp_packet.specs.declared.refusal.Refusal.TheVariants.{OutOfMemory, FileTooLong, UnknownTransfer}
 use Rattle.tftp_packet.specs.Packet.{Packet, read, write, data_block, ack, error, octet, encode}
+use Rattle.tftp_packet.specs.Blocks.{block_count}
 use Rattle.tftp_packet.specs.Refusal.{refusal_packet}
 use Rattle.tftp_packet.specs.Decode.{decode_bytes}
 use Rattle.tftp_ends.specs.declared.limits.TheConstants.{MAX_FILE, MISSES}
@@ -394,3 +395,10 @@ IsBoundToStill port (asking operation misses) = ⊥
 IsBoundToStill port (sending peer s) = peer ≡ port
 IsBoundToStill port (receiving peer r) = peer ≡ port
 IsBoundToStill port (failed why) = Unit {0}
+
+-- the datagram is the ACK of the last block, from the port that a put is bound to
+abbrev pub IsLastAck : Phase → (from : Endpoint) (bytes : List ℕ) → Type 0
+IsLastAck (asking operation misses) from bytes = ⊥
+IsLastAck (sending peer s) from bytes = (from.port ≡ peer) × (decode_bytes bytes ≡ Ok (ack (block_count s.file)))
+IsLastAck (receiving peer r) from bytes = ⊥
+IsLastAck (failed why) from bytes = ⊥

@@ -4,7 +4,8 @@ ghost use Rattle.std.specs.Prelude.{◌≡◌, ◌≢◌, ℕ, List, true};
 ghost use Rattle.tftp_packet.specs.declared.endpoint.Endpoint.{Endpoint};
 ghost use Rattle.tftp_ends.specs.Ends.{Verdict};
 ghost use Rattle.byte_output.specs.Bytes.{IsBytes};
-ghost use Rattle.archive_client.specs.Client.{Operation, Client, IsOperation, IsClient, client_start, IsBoundTo, IsBoundToStill, is_over, stays, client_datagram, client_timeout};
+ghost use Rattle.archive_client.specs.declared.state.State.TheVariants.{Sent};
+ghost use Rattle.archive_client.specs.Client.{Operation, Client, IsOperation, IsClient, client_start, IsBoundTo, IsBoundToStill, IsLastAck, state_of, is_over, stays, client_datagram, client_timeout};
 
 /// Once a client is over, and so once it has failed, no datagram and no time-out changes it or makes it send.
 pub fn over_client()
@@ -34,4 +35,11 @@ pub fn client_bounds()
     ensures datagram { (verdict : Verdict) (from : Endpoint) (bytes : List ℕ) (c : Client) →
         IsBytes bytes → IsClient c → IsClient (client_datagram verdict from bytes c).client }
     ensures timeout { (c : Client) → IsClient c → IsClient (client_timeout c).client }
+{}
+
+/// A put counts its file as sent only by the ACK of the last block, from the port that it is bound to.
+pub fn last_ack()
+    ensures datagram { (verdict : Verdict) (from : Endpoint) (bytes : List ℕ) (c : Client) →
+        state_of c ≢ Sent → state_of (client_datagram verdict from bytes c).client ≡ Sent → IsLastAck c.phase from bytes }
+    ensures timeout { (c : Client) → state_of c ≢ Sent → state_of (client_timeout c).client ≢ Sent }
 {}

@@ -40,7 +40,7 @@ mod too_long;
 
 pub use cause::Cause;
 pub use get::Get;
-pub use laws::{client_bounds, one_port, other_host, over_client};
+pub use laws::{client_bounds, last_ack, one_port, other_host, over_client};
 pub use put::Put;
 pub use state::State;
 pub use too_long::TooLong;
