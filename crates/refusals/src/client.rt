@@ -71,7 +71,8 @@ fn fetching_one_block(rt: HostRuntime) -> Result<(), Fail> {
 fn give_block<A: Allocator + Copy>(client: &mut Get<A>, n: u8) -> bool {
     let mut data = [n; 516];
     data[..4].copy_from_slice(&[0, 3, 0, n]);
-    let data = if n < 3 { &data[..] } else { &data[..4] };
+    let len = if n < 3 { 516 } else { 4 };
+    let data = &data[..len];
     let out = client.on_datagram(PEER, data);
     goes(&out, &[0, 4, 0, n]) || gives_up(client, &out, data)
 }
