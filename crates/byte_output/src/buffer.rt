@@ -78,7 +78,7 @@ impl<const N: usize> Buffer<N> {
         if let Ok(()) = self.bytes.try_extend_from_slice(bytes) {
             return Ok(());
         }
-        put(out, self.bytes.as_slice())?;
+        put(out, self.as_slice())?;
         self.bytes.clear();
         self.send_first(bytes, out)
     }

@@ -1,18 +1,19 @@
 -- A file that was read so far, and the bytes behind it.
-use Rattle.std.proofs.Common.{◌≡◌, ◌≢◌, ℕ, ◌+◌, ◌-◌, ◌<◌, ◌≤◌, List, [], ◌∷◌, ◌++◌, length, drop, Option, None, Some, Err, refl, ap, sym, subst, ◌∙◌, append_assoc, append-nil, arith, inl, inr, ⊎_elim, length-append}
+use Rattle.std.proofs.Common.{◌≡◌, ◌≢◌, ℕ, ◌+◌, ◌-◌, ◌<◌, ◌≤◌, List, [], ◌∷◌, ◌++◌, length, drop, Option, None, Some, Result, Ok, Err, refl, ap, sym, subst, ◌∙◌, append_assoc, append-nil, arith, inl, inr, ⊎_elim, length-append}
 use Rattle.std.specs.List.{flat_map, AllByRecursion}
-use Rattle.std.proofs.Math.Seq.{drop-append_seam}
+use Rattle.std.proofs.Math.Seq.{drop-append_seam, take-append_seam}
 use Rattle.std.proofs.lemmas.List.Concat.{flat_map-append}
 use Rattle.byte_output.proofs.Lists.{all_append}
 use Rattle.tws_file.specs.declared.file_fault.FileFault.{FileFault}
 use Rattle.tws_file.specs.declared.file_fault.FileFault.TheVariants.{ShortHeader, BadSignature, BadRuleset, ShortRecord, BadSize, MoveCut, Memory}
 use Rattle.tws_file.specs.declared.«ruleset».Ruleset.{Ruleset}
 use Rattle.tws_file.specs.Text.{File, Record, IsRecord, IsFile, IsText, header_text, text_of, record_text}
-use Rattle.tws_file.specs.Fault.{HasFault, IsLasting, StopsAt, IsRecordCut, FailsWith}
-use Rattle.tws_file.specs.Reader.{Reading, reading_from, Finishes, HasNoLasting}
+use Rattle.tws_file.specs.Fault.{HasFault, IsLasting, StopsAt, IsRecordCut, FailsWith, IsReadAs}
+use Rattle.tws_file.specs.Reader.{Reading, reading, stopped, reading_from, Pushes, Finishes, IsAnswer, HasNoLasting}
 use Rattle.tws_file.specs.Steps.{BeginsWithHeader, StopsAfter, RecordsFail, FailsForGood, IsAt, IsLeft, text_so_far, Advances}
 use Rattle.tws_file.proofs.Beginnings.{cut_begins_none}
 use Rattle.tws_file.proofs.Faults.{one_fault, text_without_fault}
+use Rattle.tws_file.proofs.FileText.{one_file}
 
 -- ---- more records
 
@@ -29,20 +30,20 @@ with_more_fits file more fits fits_more = record {
   records = all_append IsRecord file.records more fits.records fits_more;
 }
 
-with_more_text : (file : File) (more : List Record) → text_of (with_more file more) ≡ text_of file ++ flat_map record_text more
+pub with_more_text : (file : File) (more : List Record) → text_of (with_more file more) ≡ text_of file ++ flat_map record_text more
 with_more_text file more =
     ap (λ (xs : List ℕ). header_text file.ruleset file.word file.extra ++ xs) (flat_map-append record_text file.records more)
     ∙ sym (append_assoc (header_text file.ruleset file.word file.extra) (flat_map record_text file.records) (flat_map record_text more))
 
 -- a stop in the bytes behind a file is one in all bytes
-stop_behind : (file : File) (bytes stopped : List ℕ) (offset place : ℕ) → IsFile file → offset ≡ length (text_of file) → StopsAfter bytes offset place stopped → StopsAt (text_of file ++ bytes) place stopped
-stop_behind file bytes stopped offset place fits offset-is stop =
+stop_behind : (file : File) (bytes left_over : List ℕ) (offset place : ℕ) → IsFile file → offset ≡ length (text_of file) → StopsAfter bytes offset place left_over → StopsAt (text_of file ++ bytes) place left_over
+stop_behind file bytes left_over offset place fits offset-is stop =
     let texts = flat_map record_text stop.front in
     let whole = with_more_text file stop.front in
     record {
       front = with_more file stop.front;
       fits = with_more_fits file stop.front fits stop.fits;
-      split = ap (λ (xs : List ℕ). text_of file ++ xs) stop.split ∙ sym (append_assoc (text_of file) texts stopped) ∙ ap (λ (xs : List ℕ). xs ++ stopped) (sym whole);
+      split = ap (λ (xs : List ℕ). text_of file ++ xs) stop.split ∙ sym (append_assoc (text_of file) texts left_over) ∙ ap (λ (xs : List ℕ). xs ++ left_over) (sym whole);
       place = omega (arith, stop.place, offset-is, ap length whole, length-append (text_of file) texts);
       some = stop.some;
       no_record = stop.no_record;
@@ -73,10 +74,10 @@ more_fails file bytes offset Memory fits offset-is fault = inr refl
 -- ---- the header
 
 -- a header alone is a file without records
-abbrev without_records : Ruleset → List ℕ → List ℕ → File
+abbrev pub without_records : Ruleset → List ℕ → List ℕ → File
 without_records kind word extra = record { «ruleset» = kind; word = word; extra = extra; records = [] }
 
-without_records_fits : (bytes word extra rest : List ℕ) (kind : Ruleset) → BeginsWithHeader bytes kind word extra rest → IsFile (without_records kind word extra)
+pub without_records_fits : (bytes word extra rest : List ℕ) (kind : Ruleset) → BeginsWithHeader bytes kind word extra rest → IsFile (without_records kind word extra)
 without_records_fits bytes word extra rest kind header = record {
   word = header.word_bytes;
   word_length = header.word_length;
@@ -85,7 +86,7 @@ without_records_fits bytes word extra rest kind header = record {
   records = tt;
 }
 
-header_split : (bytes word extra rest : List ℕ) (kind : Ruleset) → BeginsWithHeader bytes kind word extra rest → bytes ≡ text_of (without_records kind word extra) ++ rest
+pub header_split : (bytes word extra rest : List ℕ) (kind : Ruleset) → BeginsWithHeader bytes kind word extra rest → bytes ≡ text_of (without_records kind word extra) ++ rest
 header_split bytes word extra rest kind header =
     header.split ∙ ap (λ (xs : List ℕ). xs ++ rest) (sym (append-nil (header_text kind word extra)))
 
@@ -113,6 +114,7 @@ first_advance file offset bytes rest begin fits split cut =
       text = split ∙ ap (λ (xs : List ℕ). text_of file ++ xs) (sym left);
       at = (fits, omega (arith, begin, count));
       left = subst IsRecordCut (sym left) cut;
+      undone = refl;
     }
 
 -- more records, and what is left behind them
@@ -127,6 +129,7 @@ next_advance file offset bytes rest more fits offset-is fits_more split cut =
       text = ap (λ (xs : List ℕ). text_of file ++ xs) split ∙ sym (append_assoc (text_of file) texts rest) ∙ ap (λ (xs : List ℕ). xs ++ rest) (sym whole) ∙ ap (λ (xs : List ℕ). text_of (with_more file more) ++ xs) (sym left);
       at = (with_more_fits file more fits fits_more, omega (arith, offset-is, ap length split, length-append texts rest, ap length whole, length-append (text_of file) texts));
       left = subst IsRecordCut (sym left) cut;
+      undone = ap (λ (rs : List Record). Some (record { «ruleset» = file.ruleset; word = file.word; extra = file.extra; records = rs })) (take-append_seam file.records more);
     }
 
 -- ---- the end
@@ -153,6 +156,11 @@ no_lasting None rest offset at left e lasts fault =
 no_lasting (Some file) rest offset at left e lasts fault =
     no_lasting_behind file rest offset e at.0 at.1 left lasts fault
 
+-- without a fault the reading goes on
+pub stays_on : (fault : Option FileFault) (front : Option File) (rest : List ℕ) (offset : ℕ) → fault ≡ None → IsAt front offset → (fault ≡ None → IsLeft front rest) → HasNoLasting (reading_from fault front rest)
+stays_on None front rest offset none at left = no_lasting front rest offset at (left none)
+stays_on (Some e) front rest offset none at left = absurd cc
+
 -- after a step the reading goes on
 pub goes_on : (fault : Option FileFault) (old new : Option File) (bytes rest : List ℕ) (offset count : ℕ) → fault ≡ None → Advances old new offset bytes count → rest ≡ drop count bytes → HasNoLasting (reading_from fault new rest)
 goes_on None old new bytes rest offset count none step rest-is =
@@ -172,21 +180,23 @@ finishes_cut r (Some e) front file rest offset view none is left at some = absur
 
 -- ---- a reading in one piece
 
-pub fails_with : (bytes : List ℕ) (e : FileFault) → FailsForGood bytes e → FailsWith bytes e
-fails_with bytes e fails = ⊎_elim (λ lasts. inl lasts.1) inr fails
-
 -- the reading of a file's text fails for memory alone
 pub only_memory : (bytes : List ℕ) (file : File) (e : FileFault) → FailsWith bytes e → IsText bytes file → e ≡ Memory
 only_memory bytes file e fails text = ⊎_elim (λ fault. absurd (text_without_fault bytes file e text fault)) (λ memory. memory) fails
 
--- nothing is left behind the file
-pub read_whole : (bytes rest : List ℕ) (file : File) → length rest < 1 → IsFile file → bytes ≡ text_of file ++ rest → IsText bytes file
-read_whole bytes [] file none fits split = record { fits = fits; text = split ∙ append-nil (text_of file) }
-read_whole bytes (b ∷ rest) file none fits split = absurd (omega arith)
+-- a push of all bytes into a new reader fails by their fault
+pub push_fails : (bytes : List ℕ) (r new : Reading) (e : FileFault) → r ≡ reading [] → Pushes r bytes (Err e) new → FailsWith bytes e
+push_fails bytes (reading (b ∷ xs)) new e begin fails = absurd cc
+push_fails bytes (stopped fault) new e begin fails = absurd cc
+push_fails bytes (reading []) new (ShortHeader n) begin fails = absurd fails
+push_fails bytes (reading []) new (ShortRecord offset) begin fails = absurd fails
+push_fails bytes (reading []) new BadSignature begin fails = inl fails.1
+push_fails bytes (reading []) new (BadRuleset code) begin fails = inl fails.1
+push_fails bytes (reading []) new (BadSize offset) begin fails = inl fails.1
+push_fails bytes (reading []) new (MoveCut place) begin fails = inl fails.1
+push_fails bytes (reading []) new Memory begin fails = inr refl
 
--- something is left
-pub read_cut : (bytes rest : List ℕ) (file : File) → 1 ≤ length rest → IsFile file → bytes ≡ text_of file ++ rest → IsRecordCut rest → FailsWith bytes (ShortRecord (length bytes - length rest))
-read_cut bytes rest file some fits split cut =
-    let not_empty : rest ≢ [] = λ none. omega (arith, ap length none) in
-    let place : length bytes - length rest ≡ length (text_of file) = omega (arith, ap length split, length-append (text_of file) rest) in
-    inl (subst (λ (xs : List ℕ). HasFault xs (ShortRecord (length bytes - length rest))) (sym split) (cut_behind file rest (length bytes - length rest) fits place not_empty cut))
+-- the answer to a file's text is that file
+pub reads_as : (bytes : List ℕ) (file : File) (answer : Result File FileFault) → IsAnswer bytes answer → IsText bytes file → IsReadAs file answer
+reads_as bytes file (Ok f) text is-text = one_file bytes f file text is-text
+reads_as bytes file (Err e) fault is-text = absurd (text_without_fault bytes file e is-text fault)

@@ -1,5 +1,5 @@
 -- What the private steps of reading and of listing say. Callers need none of it.
-use Rattle.std.specs.Prelude.{◌≡◌, ◌≢◌, ◌⊎◌, Option, None, Some, ℕ, ◌+◌, ◌<◌, ◌≤◌, ◌^◌, List, [], ◌∷◌, ◌++◌, length, drop}
+use Rattle.std.specs.Prelude.{◌≡◌, ◌≢◌, ◌⊎◌, Option, None, Some, ℕ, ◌+◌, ◌<◌, ◌≤◌, ◌^◌, List, [], ◌∷◌, ◌++◌, length, take, drop}
 use Rattle.std.specs.List.{flat_map, AllByRecursion}
 use Rattle.byteorder.specs.Endian.{little_bytes}
 use Rattle.tws_file.specs.declared.file_fault.FileFault.{FileFault}
@@ -128,9 +128,22 @@ abbrev pub IsLeft : Option File → List ℕ → Type 0
 IsLeft None rest = IsShort rest
 IsLeft (Some file) rest = IsRecordCut rest
 
--- of these bytes, which stand at the offset, so many were read
+-- how many records were read, if the header was
+abbrev pub record_count : Option File → Option ℕ
+record_count None = None
+record_count (Some file) = Some (length file.records)
+
+-- what was read when there were so many records
+abbrev pub taken_back : Option ℕ → Option File → Option File
+taken_back None front = None
+taken_back (Some count) None = None
+taken_back (Some count) (Some file) = Some (record { «ruleset» = file.ruleset; word = file.word; extra = file.extra; records = take count file.records })
+
+-- of these bytes, which are at the offset, so many were read
 pub record Advances (old new : Option File) (offset : ℕ) (bytes : List ℕ) (count : ℕ) : Type 0 where
   pub within : count ≤ length bytes
   pub text : text_so_far old ++ bytes ≡ text_so_far new ++ drop count bytes
   pub at : IsAt new (offset + count)
   pub left : IsLeft new (drop count bytes)
+  -- what was read can be taken back
+  pub undone : taken_back (record_count old) new ≡ old

@@ -1,7 +1,8 @@
 //! The header of a solution file.
 
 ghost use Rattle.std.specs.Prelude.{IfOk, IfErr, IfSome, IfNone};
-ghost use Rattle.tws_file.specs.Steps.{BeginsWithHeader, IsShort, FailsForGood};
+ghost use Rattle.tws_file.specs.Fault.{HasFault, IsLasting};
+ghost use Rattle.tws_file.specs.Steps.{BeginsWithHeader, IsShort};
 
 use crate::file_fault::FileFault;
 use crate::ruleset::Ruleset;
@@ -9,7 +10,7 @@ use crate::ruleset::Ruleset;
 /// What each solution file begins with.
 pub(crate) const SIGNATURE: [u8; 4] = [0x35, 0x33, 0x9B, 0x99];
 
-/// A header, and the bytes of the records behind it.
+/// A header, and the bytes of the records after it.
 #[derive(Clone, Copy)]
 pub(crate) struct Header<'a> {
     pub(crate) ruleset: Ruleset,
@@ -22,7 +23,8 @@ pub(crate) struct Header<'a> {
 pub(crate) fn read_header(bytes: &[u8]) -> Result<Option<Header<'_>>, FileFault>
     ensures header { IfOk result (λ r. IfSome r (λ h. BeginsWithHeader bytes.now h.ruleset h.word h.extra.now h.records.now)) }
     ensures short { IfOk result (λ r. IfNone r (IsShort bytes.now)) }
-    ensures fault { IfErr result (FailsForGood bytes.now) }
+    // It takes no memory.
+    ensures fault { IfErr result (λ e. IsLasting e × HasFault bytes.now e) }
 {
     let [a, b, c, d, code, low, high, count, rest @ ..] = bytes else {
         return Ok(None);

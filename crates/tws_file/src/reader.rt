@@ -1,10 +1,10 @@
 //! A solution file that comes piece by piece.
 
-ghost use Rattle.std.specs.Prelude.{◌≡◌, ◌⊎◌, ◌+◌, ◌<◌, ◌≤◌, ◌^◌, ℕ, List, [], ◌++◌, length, drop, Some, OnOk, OnErr, IfOk, IfErr, IfSome, IfNone};
+ghost use Rattle.std.specs.Prelude.{◌≡◌, ◌⊎◌, ◌+◌, ◌<◌, ◌≤◌, ◌^◌, ℕ, List, [], ◌++◌, length, drop, Some, Err, OnOk, OnErr, IfOk, IfErr, IfSome, IfNone};
 ghost use Rattle.tws_file.specs.Text.{File, IsFile, IsText, text_of};
 ghost use Rattle.tws_file.specs.Fault.{FailsWith, IsReadAs, IsRecordCut};
 ghost use Rattle.tws_file.specs.Reader.{reading, HasRoom, Pushes, HasTaken, TakesPiece, HasAtMost, HasNoLasting, Finishes, IsAnswer};
-ghost use Rattle.tws_file.specs.Steps.{IsShort, FailsForGood, IsAt, text_so_far, Advances};
+ghost use Rattle.tws_file.specs.Steps.{IsShort, FailsForGood, IsAt, text_so_far, record_count, taken_back, Advances};
 
 use crate::bytes::Bytes;
 use crate::file_fault::FileFault;
@@ -111,14 +111,116 @@ fn advance<A: Allocator + Copy>(
     }
 }
 
-// Takes so many bytes away in front.
-fn drop_front<A: Allocator>(bytes: &mut Vec<u8, A>, count: usize)
+// Drops the first bytes, so many of them.
+fn drop_first<A: Allocator>(bytes: &mut Vec<u8, A>, count: usize)
     requires { count ≤ length bytes.old.items }
     ensures { bytes.new.items ≡ drop count bytes.old.items }
 {
     if count > 0 {
         bytes.copy_within(count.., 0);
         bytes.truncate(bytes.len() - count);
+    }
+}
+
+// How many records were read, if the header was.
+fn record_count<A: Allocator>(front: &Option<TwsFile<A>>) -> Option<usize>
+    ensures { result ≡ record_count front.now }
+{
+    match front {
+        Some(file) => Some(file.records.len()),
+        None => None,
+    }
+}
+
+// Takes back what was read after there were so many records.
+fn take_back<A: Allocator>(front: &mut Option<TwsFile<A>>, count: Option<usize>)
+    ensures { front.new ≡ taken_back count front.old }
+{
+    let Some(count) = count else {
+        *front = None;
+        return;
+    };
+    if let Some(file) = front {
+        file.records.truncate(count);
+    }
+}
+
+// Reads what is whole of a piece where it lies, and keeps the rest of it; nothing was kept before.
+fn read_in_place<A: Allocator + Copy>(
+    alloc: A,
+    front: &mut Option<TwsFile<A>>,
+    offset: u64,
+    rest: &mut Vec<u8, A>,
+    piece: &[u8],
+) -> Result<usize, FileFault>
+    requires at { IsAt front.old offset }
+    requires none { rest.old.items ≡ [] }
+    requires room { offset + length piece.now < 2 ^ 64 }
+    ensures advances { IfOk result (Advances front.old front.new offset piece.now) }
+    ensures left { IfOk result (λ count. rest.new.items ≡ drop count piece.now) }
+    ensures unread { OnErr result (front.new ≡ front.old) }
+    ensures unkept { OnErr result (rest.new.items ≡ []) }
+    ensures fault { IfErr result (FailsForGood (text_so_far front.old ++ piece.now)) }
+{
+    let before = record_count(front);
+    let count = advance(alloc, front, offset, piece)?;
+    if rest.extend_from_slice(&piece[count..]).is_err() {
+        take_back(front, before);
+        return Err(FileFault::Memory);
+    }
+    Ok(count)
+}
+
+// Reads what is whole of the bytes that were kept and a piece, and keeps the rest of them.
+fn read_with_kept<A: Allocator + Copy>(
+    alloc: A,
+    front: &mut Option<TwsFile<A>>,
+    offset: u64,
+    rest: &mut Vec<u8, A>,
+    piece: &[u8],
+) -> Result<usize, FileFault>
+    requires at { IsAt front.old offset }
+    requires room { offset + length rest.old.items + length piece.now < 2 ^ 64 }
+    ensures advances { IfOk result (Advances front.old front.new offset (rest.old.items ++ piece.now)) }
+    ensures left { IfOk result (λ count. rest.new.items ≡ drop count (rest.old.items ++ piece.now)) }
+    ensures unread { OnErr result (front.new ≡ front.old) }
+    ensures unkept { OnErr result (rest.new.items ≡ rest.old.items) }
+    ensures fault { IfErr result (FailsForGood (text_so_far front.old ++ (rest.old.items ++ piece.now))) }
+{
+    let before = rest.len();
+    rest.extend_from_slice(piece)?;
+    match advance(alloc, front, offset, rest) {
+        Ok(count) => {
+            drop_first(rest, count);
+            Ok(count)
+        }
+        Err(fault) => {
+            rest.truncate(before);
+            Err(fault)
+        }
+    }
+}
+
+// Reads what is whole of the bytes that were kept and a piece, and keeps the rest of them. On error nothing has changed.
+fn read_piece<A: Allocator + Copy>(
+    alloc: A,
+    front: &mut Option<TwsFile<A>>,
+    offset: u64,
+    rest: &mut Vec<u8, A>,
+    piece: &[u8],
+) -> Result<usize, FileFault>
+    requires at { IsAt front.old offset }
+    requires room { offset + length rest.old.items + length piece.now < 2 ^ 64 }
+    ensures advances { IfOk result (Advances front.old front.new offset (rest.old.items ++ piece.now)) }
+    ensures left { IfOk result (λ count. rest.new.items ≡ drop count (rest.old.items ++ piece.now)) }
+    ensures unread { OnErr result (front.new ≡ front.old) }
+    ensures unkept { OnErr result (rest.new.items ≡ rest.old.items) }
+    ensures fault { IfErr result (FailsForGood (text_so_far front.old ++ (rest.old.items ++ piece.now))) }
+{
+    if rest.is_empty() {
+        read_in_place(alloc, front, offset, rest, piece)
+    } else {
+        read_with_kept(alloc, front, offset, rest, piece)
     }
 }
 
@@ -150,22 +252,28 @@ impl<A: Allocator + Copy> Reader<A> {
         // Where a caller counts, the next piece has room.
         ensures counted { (n : ℕ) → HasAtMost self.old n → HasAtMost self.new (n + length piece.now) }
         ensures goes_on { OnOk result (HasNoLasting self.new) }
+        // An empty piece takes no memory.
+        ensures empty { piece.now ≡ [] → result ≡ Err FileFault.Memory → ⊥ }
     {
         if let Some(fault) = self.fault {
             return Err(fault);
         }
-        let before = self.rest.len();
-        self.rest.extend_from_slice(piece)?;
-        match advance(self.alloc, &mut self.front, self.offset, &self.rest) {
+        if piece.is_empty() {
+            return Ok(());
+        }
+        match read_piece(
+            self.alloc,
+            &mut self.front,
+            self.offset,
+            &mut self.rest,
+            piece,
+        ) {
             Ok(count) => {
-                drop_front(&mut self.rest, count);
                 self.offset += count as u64;
                 Ok(())
             }
             Err(fault) => {
-                if fault == FileFault::Memory {
-                    self.rest.truncate(before);
-                } else {
+                if fault != FileFault::Memory {
                     self.fault = Some(fault);
                 }
                 Err(fault)
@@ -214,9 +322,7 @@ pub fn read_file<A: Allocator + Copy>(alloc: A, bytes: &[u8]) -> Result<TwsFile<
     // A fault is the one that the bytes have.
     ensures fault { IfErr result (FailsWith bytes.now) }
 {
-    match read_front(alloc, bytes)? {
-        None => Err(FileFault::ShortHeader(bytes.len() as u64)),
-        Some((file, [])) => Ok(file),
-        Some((_, rest)) => Err(FileFault::ShortRecord((bytes.len() - rest.len()) as u64)),
-    }
+    let mut reader = Reader::new(alloc);
+    reader.push(bytes)?;
+    reader.finish()
 }

@@ -1,4 +1,4 @@
-ghost use Rattle.std.specs.Prelude.{◌≡◌, [], ◌++◌, length, IsTrue, ◌↔◌, OnOk, OnErr};
+ghost use Rattle.std.specs.Prelude.{◌≡◌, [], ◌++◌, length, take, IsTrue, ◌↔◌, OnOk, OnErr};
 ghost use Rattle.tws_file.specs.Record.{records_of};
 
 use crate::record::Record;
@@ -30,13 +30,20 @@ impl<A: Allocator> Records<A> {
         Records { records }
     }
 
-    /// Adds records behind these. After an error these stay.
+    /// Adds records after these. On error these stay.
     pub(crate) fn append(&mut self, more: Vec<Record<A>, A>) -> Result<(), AllocError>
         ensures ok { OnOk result (self.new ≡ self.old ++ records_of more.items) }
         ensures err { OnErr result (self.new ≡ self.old) }
     {
         let mut more = more;
         self.records.append(&mut more)
+    }
+
+    /// Keeps the first records, so many of them.
+    pub(crate) fn truncate(&mut self, count: usize)
+        ensures { self.new ≡ take count self.old }
+    {
+        self.records.truncate(count);
     }
 
     /// Lends the records, in their order.
