@@ -4,6 +4,7 @@ use Rattle.std.proofs.lemmas.Bool.{eqb-false}
 use Rattle.byte_output.specs.Bytes.{IsBytes}
 use Rattle.tftp_packet.specs.declared.endpoint.Endpoint.{Endpoint}
 use Rattle.tftp_packet.specs.declared.packet_fault.PacketFault.{PacketFault}
+use Rattle.tftp_packet.specs.declared.sizes.TheConstants.{BLOCK_SIZE}
 use Rattle.tftp_packet.specs.Packet.{Packet, read, write, data_block, ack, error, HasFields}
 use Rattle.tftp_packet.specs.Decode.{decode_bytes}
 use Rattle.tftp_packet.proofs.Packets.{decoded_packet}
@@ -15,11 +16,9 @@ use Rattle.tftp_ends.specs.declared.recv_state.RecvState.TheVariants as recv
 use Rattle.tftp_ends.specs.declared.recv_fault.RecvFault.{RecvFault}
 use Rattle.tftp_ends.specs.Ends.{Verdict, granted, refused, Sender, SendAnswer, sender_start, sender_goes_on, sender_acked, sender_ack_in, sender_ack, sender_timeout, IsSender, Receiver, RecvAnswer, receiver_start, receiver_appends, state_after, receiver_takes, receiver_next, receiver_again, is_past, is_last_come, receiver_running, receiver_data_in, receiver_data, receiver_missed, receiver_dallied, receiver_timeout_in, receiver_timeout, IsReceiver}
 use Rattle.tftp_ends.proofs.Steps.{sender_ack-keeps, sender_timeout-keeps, IsSender-start, receiver_data-keeps, receiver_timeout-keeps, IsReceiver-start}
+use Rattle.archive_client.proofs.Machine.{client_at}
 use Rattle.archive_client.specs.Client.{Operation, put, get, Phase, asking, sending, receiving, failed, Client, Heard, nothing, stray, refusal, acked, block, IsOperation, IsSending, IsReceiving, IsPhase, IsClient, is_over, heard_from_peer, heard_from_other, heard_bound, heard_packet, heard_decoded, heard_at, heard, phase_peer, client_heard, client_unless_over, client_datagram, client_timeout, phase_waits, asks_again, put_answered, put_waited, get_took, get_answered, get_refused, get_waited}
 use Rattle.archive_client.specs.Kept.{IsHeard}
-
-abbrev client_at : (port : ℕ) → Endpoint → Phase → Client
-client_at port server phase = record { port = port; server = server; phase = phase }
 
 -- ---- a body that is heard is no longer than a block
 
@@ -68,7 +67,7 @@ after-alive true = λ e. cc
 after-alive false = λ e. cc
 
 takes-held : (verdict : Verdict) (body : List ℕ) (r : Receiver) → IsHeld r → IsHeld (receiver_takes verdict body r).receiver
-takes-held granted body r h = record { file = appends-held r.file body h.file; alive = after-alive (length body == 512) }
+takes-held granted body r h = record { file = appends-held r.file body h.file; alive = after-alive (length body == BLOCK_SIZE) }
 takes-held refused body r h = h
 
 next-held : (past : Bool) (verdict : Verdict) (body : List ℕ) (r : Receiver) → IsHeld r → IsHeld (receiver_next past verdict body r).receiver
@@ -124,13 +123,13 @@ answered-fits : (first : Bool) (port own : ℕ) (server : Endpoint) (file : List
 answered-fits true port own server file misses is = record { bounds = IsSender-start file is.0; alive = λ e. cc }
 answered-fits false port own server file misses is = is
 
-took-fits : (peer : ℕ) (verdict : Verdict) (n : ℕ) (body : List ℕ) (r : Receiver) (c : Client) (answer : Result (Option Packet) RecvFault) → length body ≤ 512 → IsReceiver r → IsHeld r → IsPhase (get_took peer (receiver_data verdict n body r).receiver answer c).client.phase
+took-fits : (peer : ℕ) (verdict : Verdict) (n : ℕ) (body : List ℕ) (r : Receiver) (c : Client) (answer : Result (Option Packet) RecvFault) → length body ≤ BLOCK_SIZE → IsReceiver r → IsHeld r → IsPhase (get_took peer (receiver_data verdict n body r).receiver answer c).client.phase
 took-fits peer verdict n body r c (Ok out) short fits held =
     let h : IsHeld (receiver_data verdict n body r).receiver = in-held r.state verdict n body r held in
     record { bounds = (receiver_data-keeps verdict n body r short).fits fits; whole = h.file; alive = h.alive }
 took-fits peer verdict n body r c (Err e) short fits held = tt
 
-first-fits : (first : Bool) (verdict : Verdict) (port n : ℕ) (body : List ℕ) (c : Client) → length body ≤ 512 → IsPhase c.phase → IsPhase (get_answered first verdict port n body c).client.phase
+first-fits : (first : Bool) (verdict : Verdict) (port n : ℕ) (body : List ℕ) (c : Client) → length body ≤ BLOCK_SIZE → IsPhase c.phase → IsPhase (get_answered first verdict port n body c).client.phase
 first-fits true verdict port n body c short is =
     took-fits port verdict n body receiver_start c _ short IsReceiver-start (record { file = refl; alive = λ e. cc })
 first-fits false verdict port n body c short is = is

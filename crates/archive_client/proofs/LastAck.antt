@@ -15,10 +15,8 @@ use Rattle.tftp_ends.specs.declared.recv_fault.RecvFault.{RecvFault}
 use Rattle.tftp_ends.specs.Ends.{Verdict, Sender, SendAnswer, sender_ack, sender_timeout, Receiver, RecvAnswer, receiver_start, receiver_data, receiver_timeout}
 use Rattle.tftp_ends.proofs.Steps.{sender_ack-finishes, sender_timeout-finishes}
 use Rattle.archive_client.specs.declared.state.State.TheVariants.{Sent}
+use Rattle.archive_client.proofs.Machine.{client_at}
 use Rattle.archive_client.specs.Client.{Operation, put, get, Phase, asking, sending, receiving, failed, Client, Heard, nothing, stray, refusal, acked, block, IsLastAck, state_of, phase_state, send_state, recv_state, is_over, heard_from_peer, heard_from_other, heard_bound, heard_packet, heard_decoded, heard_at, heard, phase_peer, client_heard, client_unless_over, client_datagram, client_timeout, phase_waits, asks_again, put_answered, put_waited, get_took, get_answered, get_refused, get_waited}
-
-abbrev client_at : (port : ℕ) → Endpoint → Phase → Client
-client_at port server phase = record { port = port; server = server; phase = phase }
 
 -- ---- what tells that a file is sent
 

@@ -12,7 +12,7 @@ use Rattle.tftp_ends.specs.Ends.{Verdict, Sender, SendAnswer, Receiver, RecvAnsw
 use Rattle.archive_client.specs.Client.{Phase, asking, sending, receiving, failed, Client, Answer, Heard, nothing, stray, refusal, acked, block, IsClient, IsPhase, IsBoundTo, IsBoundToStill, is_over, is_phase_over, is_send_over, is_recv_over, stays, heard, heard_at, phase_peer, client_heard, client_unless_over, client_datagram, client_timeout, phase_waits, put_sent, get_took, get_sent, get_refused, put_waited, get_waited}
 
 -- a client of these parts
-abbrev client_at : (port : ℕ) → Endpoint → Phase → Client
+abbrev pub client_at : (port : ℕ) → Endpoint → Phase → Client
 client_at port server phase = record { port = port; server = server; phase = phase }
 
 -- ---- once it is over

@@ -118,7 +118,7 @@ is_send_over send.Running = false
 is_send_over send.Finished = true
 is_send_over send.TimedOut = true
 
--- whether it has the whole file does not matter as long as it waits for a repeated last block
+-- with the whole file it still waits for a while, in case its last ACK was lost
 abbrev pub is_recv_over : RecvState → Bool
 is_recv_over recv.Running = false
 is_recv_over recv.Complete = false

@@ -1,5 +1,6 @@
 -- The plain value of each client, without where its bytes lie in memory, and what private functions speak of.
 use Rattle.std.specs.Prelude.{ℕ, ◌≤◌, List, length, Option, None, Some}
+use Rattle.tftp_packet.specs.declared.sizes.TheConstants.{BLOCK_SIZE}
 use Rattle.tftp_ends.specs.Ends.{Sender, Receiver}
 use Rattle.tws_file.specs.declared.«ruleset».Ruleset.{Ruleset}
 use Rattle.archive_client.specs.declared.phase.Phase as kept
@@ -45,4 +46,4 @@ IsHeard nothing = Unit {0}
 IsHeard stray = Unit {0}
 IsHeard (refusal code) = Unit {0}
 IsHeard (acked n) = Unit {0}
-IsHeard (block n body) = length body ≤ 512
+IsHeard (block n body) = length body ≤ BLOCK_SIZE

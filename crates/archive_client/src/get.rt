@@ -12,7 +12,7 @@ use crate::state::State;
 use std::alloc::{Allocator, Global};
 use std::marker::Model;
 use tftp_ends::{MAX_FILE, MISSES, Received, Receiver, RecvFault, RecvState};
-use tftp_packet::{Endpoint, Out, Refusal, encode_read};
+use tftp_packet::{BLOCK_SIZE, Endpoint, Out, Refusal, encode_read};
 use tws_file::Ruleset;
 
 /// A client that fetches the collection of a ruleset. Only `on_datagram` takes memory.
@@ -82,7 +82,7 @@ impl<A: Allocator + Copy> Get<A> {
 
     // Block 1 has come from a port: binds to it and takes the block.
     fn bind(&mut self, port: u16, body: &[u8]) -> Option<Out>
-        requires short { length body.now ≤ 512 }
+        requires short { length body.now ≤ BLOCK_SIZE }
         requires asking { phase_peer self.old.phase ≡ None }
         requires running { is_over self.old ≡ false }
         ensures client { self.new ≡ (data_heard self.old.phase (verdict_after self.new) port 1 body.now self.old).client }
@@ -101,7 +101,7 @@ impl<A: Allocator + Copy> Get<A> {
 
     // A DATA that is for this client has come from a port.
     fn on_data(&mut self, port: u16, n: u16, body: &[u8]) -> Option<Out>
-        requires short { length body.now ≤ 512 }
+        requires short { length body.now ≤ BLOCK_SIZE }
         requires running { is_over self.old ≡ false }
         ensures client { self.new ≡ (data_heard self.old.phase (verdict_after self.new) port n body.now self.old).client }
         ensures sent { result ≡ (data_heard self.old.phase (verdict_after self.new) port n body.now self.old).out }

@@ -9,6 +9,6 @@ pub(crate) enum Heard<'a> {
     Refusal(u16),
     /// The ACK of this number, for the client.
     Ack(u16),
-    /// The DATA of this number, for the client. The body has at most 512 bytes.
+    /// The DATA of this number, for the client. The body has at most `BLOCK_SIZE` bytes.
     Data { n: u16, body: &'a [u8] },
 }
