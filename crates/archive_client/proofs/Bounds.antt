@@ -1,5 +1,5 @@
 -- Every step of a client keeps what always holds of it.
-use Rattle.std.proofs.Common.{◌≡◌, ◌≢◌, ℕ, ◌+◌, ◌<◌, ◌≤◌, ◌==◌, Bool, true, false, List, length, Option, None, Some, IsSome, Result, Ok, Err, refl, sym, ◌∙◌, subst, arith}
+use Rattle.std.proofs.Common.{◌≡◌, ◌≢◌, ℕ, ◌+◌, ◌<◌, ◌≤◌, ◌==◌, Bool, true, false, List, length, Option, None, Some, IsSome, Result, Ok, Err, refl, sym, subst, arith}
 use Rattle.std.proofs.lemmas.Bool.{eqb-false}
 use Rattle.byte_output.specs.Bytes.{IsBytes}
 use Rattle.tftp_packet.specs.declared.endpoint.Endpoint.{Endpoint}
@@ -8,16 +8,16 @@ use Rattle.tftp_packet.specs.declared.sizes.TheConstants.{BLOCK_SIZE}
 use Rattle.tftp_packet.specs.Packet.{Packet, read, write, data_block, ack, error, HasFields}
 use Rattle.tftp_packet.specs.Decode.{decode_bytes}
 use Rattle.tftp_packet.proofs.Packets.{decoded_packet}
-use Rattle.tftp_ends.specs.declared.limits.TheConstants.{MAX_FILE, MISSES, DALLY}
+use Rattle.tftp_ends.specs.declared.limits.TheConstants.{MISSES, DALLY}
 use Rattle.tftp_ends.specs.declared.send_state.SendState.{SendState}
 use Rattle.tftp_ends.specs.declared.send_state.SendState.TheVariants as send
 use Rattle.tftp_ends.specs.declared.recv_state.RecvState.{RecvState}
 use Rattle.tftp_ends.specs.declared.recv_state.RecvState.TheVariants as recv
 use Rattle.tftp_ends.specs.declared.recv_fault.RecvFault.{RecvFault}
-use Rattle.tftp_ends.specs.Ends.{Verdict, granted, refused, Sender, SendAnswer, sender_start, sender_goes_on, sender_acked, sender_ack_in, sender_ack, sender_timeout, IsSender, Receiver, RecvAnswer, receiver_start, receiver_appends, state_after, receiver_takes, receiver_next, receiver_again, is_past, is_last_come, receiver_running, receiver_data_in, receiver_data, receiver_missed, receiver_dallied, receiver_timeout_in, receiver_timeout, IsReceiver}
+use Rattle.tftp_ends.specs.Ends.{Verdict, granted, refused, Sender, SendAnswer, sender_goes_on, sender_acked, sender_ack_in, sender_timeout, IsSender, Receiver, RecvAnswer, receiver_start, receiver_appends, state_after, receiver_takes, receiver_next, receiver_again, is_past, is_last_come, receiver_running, receiver_data_in, receiver_data, receiver_missed, receiver_dallied, receiver_timeout_in, receiver_timeout, IsReceiver}
 use Rattle.tftp_ends.proofs.Steps.{sender_ack-keeps, sender_timeout-keeps, IsSender-start, receiver_data-keeps, receiver_timeout-keeps, IsReceiver-start}
 use Rattle.archive_client.proofs.Machine.{client_at}
-use Rattle.archive_client.specs.Client.{Operation, put, get, Phase, asking, sending, receiving, failed, Client, Heard, nothing, stray, refusal, acked, block, IsOperation, IsSending, IsReceiving, IsPhase, IsClient, is_over, heard_from_peer, heard_from_other, heard_bound, heard_packet, heard_decoded, heard_at, heard, phase_peer, client_heard, client_unless_over, client_datagram, client_timeout, phase_waits, asks_again, put_answered, put_waited, get_took, get_answered, get_refused, get_waited}
+use Rattle.archive_client.specs.Client.{Operation, put, get, Phase, asking, sending, receiving, failed, Client, Heard, nothing, stray, refusal, acked, block, IsOperation, IsPhase, IsClient, is_over, heard_from_peer, heard_from_other, heard_bound, heard_packet, heard_decoded, heard_at, heard, phase_peer, client_heard, client_unless_over, client_datagram, client_timeout, asks_again, put_answered, put_waited, get_took, get_answered, get_refused, get_waited}
 use Rattle.archive_client.specs.Kept.{IsHeard}
 
 -- ---- a body that is heard is no longer than a block

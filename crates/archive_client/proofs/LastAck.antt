@@ -1,5 +1,5 @@
 -- By which step a put counts its file as sent.
-use Rattle.std.proofs.Common.{◌≡◌, ◌≢◌, ℕ, ◌+◌, ◌==◌, ◌⊎◌, Bool, true, false, List, Option, None, Some, Result, Ok, Err, inl, inr, refl, ap, ◌∙◌}
+use Rattle.std.proofs.Common.{◌≡◌, ◌≢◌, ℕ, ◌+◌, ◌==◌, ◌⊎◌, Bool, true, false, List, Option, Some, Result, Ok, Err, inl, inr, refl, ap, ◌∙◌}
 use Rattle.std.proofs.lemmas.Bool.{eqb-true}
 use Rattle.tftp_packet.specs.declared.endpoint.Endpoint.{Endpoint}
 use Rattle.tftp_packet.specs.declared.packet_fault.PacketFault.{PacketFault}
@@ -12,11 +12,11 @@ use Rattle.tftp_ends.specs.declared.send_state.SendState.TheVariants as send
 use Rattle.tftp_ends.specs.declared.recv_state.RecvState.{RecvState}
 use Rattle.tftp_ends.specs.declared.recv_state.RecvState.TheVariants as recv
 use Rattle.tftp_ends.specs.declared.recv_fault.RecvFault.{RecvFault}
-use Rattle.tftp_ends.specs.Ends.{Verdict, Sender, SendAnswer, sender_ack, sender_timeout, Receiver, RecvAnswer, receiver_start, receiver_data, receiver_timeout}
+use Rattle.tftp_ends.specs.Ends.{Verdict, Sender, SendAnswer, sender_timeout, Receiver, RecvAnswer, receiver_start, receiver_data, receiver_timeout}
 use Rattle.tftp_ends.proofs.Steps.{sender_ack-finishes, sender_timeout-finishes}
 use Rattle.archive_client.specs.declared.state.State.TheVariants.{Sent}
 use Rattle.archive_client.proofs.Machine.{client_at}
-use Rattle.archive_client.specs.Client.{Operation, put, get, Phase, asking, sending, receiving, failed, Client, Heard, nothing, stray, refusal, acked, block, IsLastAck, state_of, phase_state, send_state, recv_state, is_over, heard_from_peer, heard_from_other, heard_bound, heard_packet, heard_decoded, heard_at, heard, phase_peer, client_heard, client_unless_over, client_datagram, client_timeout, phase_waits, asks_again, put_answered, put_waited, get_took, get_answered, get_refused, get_waited}
+use Rattle.archive_client.specs.Client.{Operation, put, get, Phase, asking, sending, receiving, failed, Client, Heard, nothing, stray, refusal, acked, block, IsLastAck, state_of, phase_state, send_state, recv_state, is_over, heard_from_peer, heard_from_other, heard_bound, heard_decoded, heard_at, heard, phase_peer, client_heard, client_unless_over, client_datagram, client_timeout, asks_again, put_answered, put_waited, get_took, get_answered, get_refused, get_waited}
 
 -- ---- what tells that a file is sent
 
