@@ -1,0 +1,153 @@
+-- By which step a put counts its file as sent.
+use Rattle.std.proofs.Common.{◌≡◌, ◌≢◌, ℕ, ◌+◌, ◌==◌, ◌⊎◌, Bool, true, false, List, Option, Some, Result, Ok, Err, inl, inr, refl, ap, ◌∙◌}
+use Rattle.std.proofs.lemmas.Bool.{eqb-true}
+use Rattle.tftp_packet.specs.declared.endpoint.Endpoint.{Endpoint}
+use Rattle.tftp_packet.specs.declared.packet_fault.PacketFault.{PacketFault}
+use Rattle.tftp_packet.specs.Packet.{Packet, read, write, data_block, ack, error}
+use Rattle.tftp_packet.specs.Blocks.{block_count}
+use Rattle.tftp_packet.specs.Decode.{decode_bytes}
+use Rattle.tftp_ends.specs.declared.limits.TheConstants.{MISSES}
+use Rattle.tftp_ends.specs.declared.send_state.SendState.{SendState}
+use Rattle.tftp_ends.specs.declared.send_state.SendState.TheVariants as send
+use Rattle.tftp_ends.specs.declared.recv_state.RecvState.{RecvState}
+use Rattle.tftp_ends.specs.declared.recv_state.RecvState.TheVariants as recv
+use Rattle.tftp_ends.specs.declared.recv_fault.RecvFault.{RecvFault}
+use Rattle.tftp_ends.specs.Ends.{Verdict, Sender, SendAnswer, sender_timeout, Receiver, RecvAnswer, receiver_start, receiver_data, receiver_timeout}
+use Rattle.tftp_ends.proofs.Steps.{sender_ack-finishes, sender_timeout-finishes}
+use Rattle.archive_client.specs.declared.state.State.TheVariants.{Sent}
+use Rattle.archive_client.proofs.Machine.{client_at}
+use Rattle.archive_client.specs.Client.{Operation, put, get, Phase, asking, sending, receiving, failed, Client, Heard, nothing, stray, refusal, acked, block, IsLastAck, state_of, phase_state, send_state, recv_state, is_over, heard_from_peer, heard_from_other, heard_bound, heard_decoded, heard_at, heard, phase_peer, client_heard, client_unless_over, client_datagram, client_timeout, asks_again, put_answered, put_waited, get_took, get_answered, get_refused, get_waited}
+
+-- ---- what tells that a file is sent
+
+send-finished : (state : SendState) → send_state state ≡ Sent → state ≡ send.Finished
+send-finished send.Running sent = cc
+send-finished send.Finished sent = refl
+send-finished send.TimedOut sent = cc
+
+recv-never : (state : RecvState) → recv_state state ≢ Sent
+recv-never recv.Running = λ e. cc
+recv-never recv.Complete = λ e. cc
+recv-never recv.TimedOut = λ e. cc
+recv-never recv.Over = λ e. cc
+
+-- ---- which datagram is heard as an ACK
+
+-- from this port, and the ACK of this number
+record IsAckOf (peer n : ℕ) (from : Endpoint) (bytes : List ℕ) : Type 0 where
+  from_peer : from.port ≡ peer
+  is_ack : decode_bytes bytes ≡ Ok (ack n)
+
+from_peer-acked : (p : Packet) (n : ℕ) → heard_from_peer p ≡ acked n → p ≡ ack n
+from_peer-acked (read name mode) n e = cc
+from_peer-acked (write name mode) n e = cc
+from_peer-acked (data_block m body) n e = cc
+from_peer-acked (ack m) n e = cc
+from_peer-acked (error code text) n e = cc
+
+from_other-acked : (p : Packet) (n : ℕ) → heard_from_other p ≢ acked n
+from_other-acked (read name mode) n = λ e. cc
+from_other-acked (write name mode) n = λ e. cc
+from_other-acked (data_block m body) n = λ e. cc
+from_other-acked (ack m) n = λ e. cc
+from_other-acked (error code text) n = λ e. cc
+
+bound-acked : (same : Bool) (peer n : ℕ) (from : Endpoint) (bytes : List ℕ) (p : Packet) → (from.port == peer) ≡ same → decode_bytes bytes ≡ Ok p → heard_bound same p ≡ acked n → IsAckOf peer n from bytes
+bound-acked true peer n from bytes p is_same is e =
+    record { from_peer = eqb-true _ _ is_same; is_ack = is ∙ ap (λ (q : Packet). Ok q) (from_peer-acked p n e) }
+bound-acked false peer n from bytes p is_same is e = absurd (from_other-acked p n e)
+
+decoded-acked : (peer n : ℕ) (from : Endpoint) (bytes : List ℕ) (answer : Result Packet PacketFault) → decode_bytes bytes ≡ answer → heard_decoded (Some peer) from.port answer ≡ acked n → IsAckOf peer n from bytes
+decoded-acked peer n from bytes (Ok p) is e = bound-acked (from.port == peer) peer n from bytes p refl is e
+decoded-acked peer n from bytes (Err fault) is e = cc
+
+at-acked : (ours : Bool) (peer n : ℕ) (from : Endpoint) (bytes : List ℕ) → heard_at ours (Some peer) from.port bytes ≡ acked n → IsAckOf peer n from bytes
+at-acked true peer n from bytes e = decoded-acked peer n from bytes (decode_bytes bytes) refl e
+at-acked false peer n from bytes e = cc
+
+-- ---- a datagram
+
+answered-unsent : (first : Bool) (port own : ℕ) (server : Endpoint) (file : List ℕ) (misses : ℕ) → state_of (put_answered first port file (client_at own server (asking (put file) misses))).client ≢ Sent
+answered-unsent true port own server file misses = λ e. cc
+answered-unsent false port own server file misses = λ e. cc
+
+took-unsent : (peer : ℕ) (r : Receiver) (answer : Result (Option Packet) RecvFault) (c : Client) → state_of (get_took peer r answer c).client ≢ Sent
+took-unsent peer r (Ok out) c = recv-never r.state
+took-unsent peer r (Err e) c = λ f. cc
+
+first-unsent : (first : Bool) (verdict : Verdict) (port n : ℕ) (body : List ℕ) (c : Client) → state_of c ≢ Sent → state_of (get_answered first verdict port n body c).client ≢ Sent
+first-unsent true verdict port n body c unsent =
+    took-unsent port (receiver_data verdict n body receiver_start).receiver (receiver_data verdict n body receiver_start).result c
+first-unsent false verdict port n body c unsent = unsent
+
+refused-unsent : (state : RecvState) (code : ℕ) (c : Client) → state_of c ≢ Sent → state_of (get_refused state code c).client ≢ Sent
+refused-unsent recv.Running code c unsent = λ e. cc
+refused-unsent recv.Complete code c unsent = unsent
+refused-unsent recv.TimedOut code c unsent = unsent
+refused-unsent recv.Over code c unsent = unsent
+
+-- the last block of a file is acknowledged
+finished-by : (n : ℕ) (s : Sender) → send_state s.state ≢ Sent → (s.state ≡ send.Finished) ⊎ ((n ≡ s.current) × (n ≡ block_count s.file)) → n ≡ block_count s.file
+finished-by n s unsent = λ by. elim by [ inl was ↦ absurd (unsent (ap (λ (x : SendState). send_state x) was)) | inr now ↦ now.1 ]
+
+heard-last : (own : ℕ) (server : Endpoint) (phase : Phase) (h : Heard) (verdict : Verdict) (from : Endpoint) (bytes : List ℕ) → heard server.host (phase_peer phase) from bytes ≡ h → phase_state phase ≢ Sent → state_of (client_heard h verdict from.port (client_at own server phase)).client ≡ Sent → IsLastAck phase from bytes
+heard-last own server phase nothing verdict from bytes is unsent sent = absurd (unsent sent)
+heard-last own server phase stray verdict from bytes is unsent sent = absurd (unsent sent)
+heard-last own server (asking operation misses) (refusal code) verdict from bytes is unsent sent = absurd cc
+heard-last own server (sending peer s) (refusal code) verdict from bytes is unsent sent = absurd cc
+heard-last own server (receiving peer r) (refusal code) verdict from bytes is unsent sent =
+    absurd (refused-unsent r.state code (client_at own server (receiving peer r)) unsent sent)
+heard-last own server (failed why) (refusal code) verdict from bytes is unsent sent = absurd cc
+heard-last own server (asking (put file) misses) (acked n) verdict from bytes is unsent sent =
+    absurd (answered-unsent (n == 0) from.port own server file misses sent)
+heard-last own server (asking (get kind) misses) (acked n) verdict from bytes is unsent sent = absurd cc
+heard-last own server (sending peer s) (acked n) verdict from bytes is unsent sent =
+    let from_it : IsAckOf peer n from bytes = at-acked (from.host == server.host) peer n from bytes is in
+    let last : n ≡ block_count s.file = finished-by n s unsent (sender_ack-finishes n s (send-finished _ sent)) in
+    (from_it.from_peer, from_it.is_ack ∙ ap (λ (k : ℕ). Ok (ack k)) last)
+heard-last own server (receiving peer r) (acked n) verdict from bytes is unsent sent = absurd (unsent sent)
+heard-last own server (failed why) (acked n) verdict from bytes is unsent sent = absurd cc
+heard-last own server (asking (put file) misses) (block n body) verdict from bytes is unsent sent = absurd cc
+heard-last own server (asking (get kind) misses) (block n body) verdict from bytes is unsent sent =
+    absurd (first-unsent (n == 1) verdict from.port n body (client_at own server (asking (get kind) misses)) unsent sent)
+heard-last own server (sending peer s) (block n body) verdict from bytes is unsent sent = absurd (unsent sent)
+heard-last own server (receiving peer r) (block n body) verdict from bytes is unsent sent =
+    absurd (took-unsent peer (receiver_data verdict n body r).receiver (receiver_data verdict n body r).result (client_at own server (receiving peer r)) sent)
+heard-last own server (failed why) (block n body) verdict from bytes is unsent sent = absurd cc
+
+unless-last : (over : Bool) (verdict : Verdict) (from : Endpoint) (bytes : List ℕ) (c : Client) → state_of c ≢ Sent → state_of (client_unless_over over verdict from bytes c).client ≡ Sent → IsLastAck c.phase from bytes
+unless-last true verdict from bytes c unsent sent = absurd (unsent sent)
+unless-last false verdict from bytes c unsent sent = heard-last c.port c.server c.phase _ verdict from bytes refl unsent sent
+
+pub datagram-last : (verdict : Verdict) (from : Endpoint) (bytes : List ℕ) (c : Client) → state_of c ≢ Sent → state_of (client_datagram verdict from bytes c).client ≡ Sent → IsLastAck c.phase from bytes
+datagram-last verdict from bytes c unsent sent = unless-last (is_over c) verdict from bytes c unsent sent
+
+-- ---- a time-out
+
+asks-unsent : (last : Bool) (operation : Operation) (misses : ℕ) (c : Client) → state_of (asks_again last operation misses c).client ≢ Sent
+asks-unsent true operation misses c = λ e. cc
+asks-unsent false operation misses c = λ e. cc
+
+put-waited-unsent : (state : SendState) (peer : ℕ) (answer : SendAnswer) (c : Client) → answer.sender.state ≢ send.Finished → state_of (put_waited state peer answer c).client ≢ Sent
+put-waited-unsent send.Running peer answer c running = λ sent. running (send-finished _ sent)
+put-waited-unsent send.Finished peer answer c running = λ sent. running (send-finished _ sent)
+put-waited-unsent send.TimedOut peer answer c running = λ sent. cc
+
+get-waited-unsent : (state : RecvState) (peer : ℕ) (answer : RecvAnswer) (c : Client) → state_of (get_waited state peer answer c).client ≢ Sent
+get-waited-unsent recv.Running peer answer c = recv-never answer.receiver.state
+get-waited-unsent recv.Complete peer answer c = recv-never answer.receiver.state
+get-waited-unsent recv.TimedOut peer answer c = λ sent. cc
+get-waited-unsent recv.Over peer answer c = recv-never answer.receiver.state
+
+waits-unsent : (own : ℕ) (server : Endpoint) (phase : Phase) → phase_state phase ≢ Sent → state_of (client_timeout (client_at own server phase)).client ≢ Sent
+waits-unsent own server (asking operation misses) unsent =
+    asks-unsent (misses + 1 == MISSES) operation misses (client_at own server (asking operation misses))
+waits-unsent own server (sending peer s) unsent =
+    put-waited-unsent _ peer (sender_timeout s) (client_at own server (sending peer s))
+    (λ finished. unsent (ap (λ (x : SendState). send_state x) (sender_timeout-finishes s finished)))
+waits-unsent own server (receiving peer r) unsent =
+    get-waited-unsent _ peer (receiver_timeout r) (client_at own server (receiving peer r))
+waits-unsent own server (failed why) unsent = unsent
+
+pub timeout-unsent : (c : Client) → state_of c ≢ Sent → state_of (client_timeout c).client ≢ Sent
+timeout-unsent c unsent = waits-unsent c.port c.server c.phase unsent

@@ -1,0 +1,49 @@
+-- The plain value of each client, without where its bytes lie in memory, and what private functions speak of.
+use Rattle.std.specs.Prelude.{ℕ, ◌≤◌, List, length, Option, None, Some}
+use Rattle.tftp_packet.specs.declared.sizes.TheConstants.{BLOCK_SIZE}
+use Rattle.tftp_ends.specs.Ends.{Sender, Receiver}
+use Rattle.tws_file.specs.declared.«ruleset».Ruleset.{Ruleset}
+use Rattle.archive_client.specs.declared.phase.Phase as kept
+use Rattle.archive_client.specs.declared.phase.Phase.TheVariants as phase
+use Rattle.archive_client.specs.declared.heard.Heard as borrowed
+use Rattle.archive_client.specs.declared.heard.Heard.TheVariants as hears
+use Rattle.archive_client.specs.declared.put.Put.TheInside as putting
+use Rattle.archive_client.specs.declared.get.Get.TheInside as getting
+use Rattle.archive_client.specs.Client.{Phase, asking, sending, receiving, failed, Client, put, get, Heard, nothing, stray, refusal, acked, block}
+
+abbrev pub put_phase : kept.Phase (List ℕ) Sender → Phase
+put_phase (phase.Asking file misses) = asking (put file) misses
+put_phase (phase.Bound peer s) = sending peer s
+put_phase (phase.Failed why) = failed why
+
+abbrev pub get_phase : kept.Phase Ruleset Receiver → Phase
+get_phase (phase.Asking kind misses) = asking (get kind) misses
+get_phase (phase.Bound peer r) = receiving peer r
+get_phase (phase.Failed why) = failed why
+
+-- the port of a client that is bound, whatever it is bound with
+abbrev pub kept_peer : {W E : Type 0} → kept.Phase W E → Option ℕ
+kept_peer (phase.Asking wanted misses) = None
+kept_peer (phase.Bound peer e) = Some peer
+kept_peer (phase.Failed why) = None
+
+abbrev pub put_of : {A : Type 0} → putting.Inside A → Client
+put_of p = record { port = p.line.port; server = p.line.server; phase = put_phase p.phase }
+
+abbrev pub get_of : {A : Type 0} → getting.Inside A → Client
+get_of g = record { port = g.line.port; server = g.line.server; phase = get_phase g.phase }
+
+abbrev pub heard_of : borrowed.Heard → Heard
+heard_of hears.Nothing = nothing
+heard_of hears.Stray = stray
+heard_of (hears.Refusal code) = refusal code
+heard_of (hears.Ack n) = acked n
+heard_of (hears.Data n body) = block n body.now
+
+-- a body that was heard is no longer than a block
+abbrev pub IsHeard : Heard → Type 0
+IsHeard nothing = Unit {0}
+IsHeard stray = Unit {0}
+IsHeard (refusal code) = Unit {0}
+IsHeard (acked n) = Unit {0}
+IsHeard (block n body) = length body ≤ BLOCK_SIZE

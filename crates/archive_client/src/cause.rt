@@ -1,0 +1,34 @@
+ghost use Rattle.std.specs.Prelude.{◌≡◌};
+ghost use Rattle.archive_client.specs.Client.{cause_of};
+
+use tftp_ends::RecvFault;
+use thiserror::Error;
+
+/// Why a transfer failed.
+#[derive(Clone, Copy, Debug, PartialEq, Eq, Error)]
+pub enum Cause {
+    /// The server sent an ERROR with this code, RFC 1350 section 5.
+    #[error("refused {0}")]
+    Refused(u16),
+    /// Nothing came for `MISSES` time-outs in a row.
+    #[error("timed out")]
+    TimedOut,
+    /// The file goes on after block `MAX_BLOCKS`: of a get alone.
+    #[error("too long")]
+    TooLong,
+    /// Out of memory for a block: of a get alone.
+    #[error("out of memory")]
+    Memory,
+}
+
+impl Cause {
+    /// Why a block that the receiver refused fails its client.
+    pub(crate) fn of(fault: RecvFault) -> Self
+        ensures { result ≡ cause_of fault }
+    {
+        match fault {
+            RecvFault::Memory => Cause::Memory,
+            RecvFault::TooLong => Cause::TooLong,
+        }
+    }
+}

@@ -1,0 +1,232 @@
+//! The client that fetches a collection.
+
+ghost use Rattle.std.specs.Prelude.{◌≡◌, ◌≤◌, length, Some, None, false, IsOk, IfOk, ◌↔◌};
+ghost use Rattle.tftp_packet.specs.Refusal.{refusal_packet};
+ghost use Rattle.archive_client.specs.Client.{get, failed, in_phase, out_to, cause_of, refusal_of as told, client_start, request_out, client_datagram, client_timeout, verdict_after, state_of, is_over, phase_peer, data_heard, file_of, IsClient};
+
+use crate::cause::Cause;
+use crate::heard::Heard;
+use crate::line::Line;
+use crate::phase::Phase;
+use crate::state::State;
+use std::alloc::{Allocator, Global};
+use std::marker::Model;
+use tftp_ends::{MAX_FILE, MISSES, Received, Receiver, RecvFault, RecvState};
+use tftp_packet::{BLOCK_SIZE, Endpoint, Out, Refusal, encode_read};
+use tws_file::Ruleset;
+
+/// A client that fetches the collection of a ruleset. Only `on_datagram` takes memory.
+///
+/// It asks the server for the file, binds to the port that sends the first block, and acknowledges block by block. Once
+/// it has the last block it waits `DALLY` time-outs, RFC 1350 section 6, in case its last ACK was lost.
+#[derive(Drop)]
+#[derive_where(Debug)]
+pub struct Get<A: Allocator + Copy = Global> {
+    #[derive_where(skip(Debug))]
+    alloc: A,
+    line: Line,
+    phase: Phase<Ruleset, Receiver<A>>,
+}
+
+impl<A: Allocator + Copy> Model for Get<A> {
+    ghost use Rattle.archive_client.specs.Client.{Client, IsClient};
+
+    ghost Value = { Client };
+
+    ghost use Rattle.archive_client.specs.Kept.{get_of};
+
+    ghost view = { get_of };
+
+    ghost invariant = { λ g. IsClient (get_of g) };
+}
+
+// The error that is sent where a block was not taken.
+fn refusal_of(fault: RecvFault) -> Refusal
+    ensures { result ≡ told fault }
+{
+    match fault {
+        RecvFault::Memory => Refusal::OutOfMemory,
+        RecvFault::TooLong => Refusal::FileTooLong,
+    }
+}
+
+impl<A: Allocator + Copy> Get<A> {
+    /// A client at `port` of our own host that asks the server for the collection of this ruleset, and the request for
+    /// the caller to send: RRQ of RFC 1350 section 5. The server is at the host and the request port of `server`. What
+    /// comes is kept in memory of `alloc`.
+    pub fn start(alloc: A, port: u16, server: Endpoint, kind: Ruleset) -> (Self, Out)
+        ensures client { result.0 ≡ client_start port server (get kind) }
+        ensures sent { result.1 ≡ request_out (get kind) result.0 }
+        ensures fits { IsClient result.0 }
+    {
+        let line = Line { port, server };
+        let get = Get {
+            alloc,
+            line,
+            phase: Phase::Asking {
+                wanted: kind,
+                misses: 0,
+            },
+        };
+        (get, line.out(server.port, encode_read(kind.file_name())))
+    }
+
+    // A block was not taken: the client has failed, and tells the server why.
+    fn refuse(&mut self, port: u16, fault: RecvFault) -> Option<Out>
+        ensures client { self.new ≡ in_phase (failed (cause_of fault)) self.old }
+        ensures sent { result ≡ Some (out_to port (refusal_packet (told fault)) self.old) }
+    {
+        self.phase = Phase::Failed(Cause::of(fault));
+        Some(self.line.out(port, refusal_of(fault).dgram()))
+    }
+
+    // Block 1 has come from a port: binds to it and takes the block.
+    fn bind(&mut self, port: u16, body: &[u8]) -> Option<Out>
+        requires short { length body.now ≤ BLOCK_SIZE }
+        requires asking { phase_peer self.old.phase ≡ None }
+        requires running { is_over self.old ≡ false }
+        ensures client { self.new ≡ (data_heard self.old.phase (verdict_after self.new) port 1 body.now self.old).client }
+        ensures sent { result ≡ (data_heard self.old.phase (verdict_after self.new) port 1 body.now self.old).out }
+        ensures fits { IsClient self.new }
+    {
+        let mut end = Receiver::new(self.alloc);
+        match end.on_data(1, body) {
+            Ok(ack) => {
+                self.phase = Phase::Bound { peer: port, end };
+                Some(self.line.out(port, ack?))
+            }
+            Err(fault) => self.refuse(port, fault),
+        }
+    }
+
+    // A DATA that is for this client has come from a port.
+    fn on_data(&mut self, port: u16, n: u16, body: &[u8]) -> Option<Out>
+        requires short { length body.now ≤ BLOCK_SIZE }
+        requires running { is_over self.old ≡ false }
+        ensures client { self.new ≡ (data_heard self.old.phase (verdict_after self.new) port n body.now self.old).client }
+        ensures sent { result ≡ (data_heard self.old.phase (verdict_after self.new) port n body.now self.old).out }
+        ensures fits { IsClient self.new }
+    {
+        match &mut self.phase {
+            Phase::Asking { .. } if n == 1 => self.bind(port, body),
+            Phase::Bound { peer, end } => {
+                let peer = *peer;
+                match end.on_data(n, body) {
+                    Ok(ack) => Some(self.line.out(peer, ack?)),
+                    Err(fault) => self.refuse(peer, fault),
+                }
+            }
+            Phase::Asking { .. } | Phase::Failed(_) => None,
+        }
+    }
+
+    /// A datagram of these bytes has come from `from` to the client's port. What is answered is to be sent.
+    ///
+    /// The first DATA 1 from a port of the server's host binds the client to that port. From then on a packet from
+    /// another port of that host is answered with ERROR 5, RFC 1350 section 4, and changes nothing; an ERROR from there
+    /// has no effect. An ERROR that is for the client fails it, unless the whole file has come. A block that is one too
+    /// many, or for which memory is refused, fails the client and is answered with ERROR 3, also where it is the first.
+    /// Nothing has any effect that comes from another host, that is no packet, or that comes once the client is `over`.
+    pub fn on_datagram(&mut self, from: Endpoint, bytes: &[u8]) -> Option<Out>
+        ensures client { self.new ≡ (client_datagram (verdict_after self.new) from bytes.now self.old).client }
+        ensures sent { result ≡ (client_datagram (verdict_after self.new) from bytes.now self.old).out }
+        ensures fits { IsClient self.new }
+    {
+        if self.over() {
+            return None;
+        }
+        match self.line.hear(self.phase.peer(), from, bytes) {
+            Heard::Stray => Some(self.line.out(from.port, Refusal::UnknownTransfer.dgram())),
+            Heard::Refusal(code) => {
+                if self.state() == State::Running {
+                    self.phase = Phase::Failed(Cause::Refused(code));
+                }
+                None
+            }
+            Heard::Data { n, body } => self.on_data(from.port, n, body),
+            Heard::Nothing | Heard::Ack(_) => None,
+        }
+    }
+
+    /// Nothing has come for a while. What was sent last is sent again, the request or an ACK; time-out number `MISSES`
+    /// in a row without progress fails the client and sends nothing. Once the whole file has come nothing is sent, and
+    /// the client is over at time-out number `DALLY`. Once it is `over`, nothing changes or is sent.
+    pub fn on_timeout(&mut self) -> Option<Out>
+        ensures client { self.new ≡ (client_timeout self.old).client }
+        ensures sent { result ≡ (client_timeout self.old).out }
+        ensures fits { IsClient self.new }
+    {
+        match &mut self.phase {
+            Phase::Asking { wanted, misses } => {
+                if *misses + 1 < MISSES {
+                    *misses += 1;
+                    let request = encode_read(wanted.file_name());
+                    return Some(self.line.out(self.line.server.port, request));
+                }
+            }
+            Phase::Bound { peer, end } => {
+                let ack = end.on_timeout();
+                if end.state() != RecvState::TimedOut {
+                    return Some(self.line.out(*peer, ack?));
+                }
+            }
+            Phase::Failed(_) => return None,
+        }
+        self.phase = Phase::Failed(Cause::TimedOut);
+        None
+    }
+
+    /// How far it is: never `Sent`.
+    pub fn state(&self) -> State
+        ensures { result ≡ state_of self.now }
+    {
+        match &self.phase {
+            Phase::Asking { .. } => State::Running,
+            Phase::Bound { end, .. } => match end.state() {
+                RecvState::Running => State::Running,
+                RecvState::Complete | RecvState::Over => State::Got,
+                RecvState::TimedOut => State::Failed(Cause::TimedOut),
+            },
+            Phase::Failed(why) => State::Failed(*why),
+        }
+    }
+
+    /// Whether no call has any effect from now on: it has failed, or it has the whole file and waits no more.
+    pub fn over(&self) -> bool
+        ensures { result ≡ is_over self.now }
+    {
+        match &self.phase {
+            Phase::Asking { .. } => false,
+            Phase::Bound { end, .. } => match end.state() {
+                RecvState::Running | RecvState::Complete => false,
+                RecvState::TimedOut | RecvState::Over => true,
+            },
+            Phase::Failed(_) => true,
+        }
+    }
+
+    /// The file, where all of it has come. It is moved out of the client, not copied.
+    ///
+    /// # Errors
+    ///
+    /// The client as it was, exactly where its state is not `Got`.
+    pub fn into_file(self) -> Result<Received<A>, Self>
+        ensures file { result ≡ file_of self }
+        ensures whole { IsOk result ↔ (state_of self ≡ State.Got) }
+        // It is no longer than a file may be.
+        ensures size { IfOk result (λ f. length f ≤ MAX_FILE) }
+    {
+        let Get { alloc, line, phase } = self;
+        let Phase::Bound { peer, mut end } = phase else {
+            return Err(Get { alloc, line, phase });
+        };
+        match end.take_file() {
+            Some(file) => Ok(file),
+            None => Err(Get {
+                alloc,
+                line,
+                phase: Phase::Bound { peer, end },
+            }),
+        }
+    }
+}

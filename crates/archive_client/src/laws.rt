@@ -1,0 +1,45 @@
+//! What holds of every client, whatever comes. These functions do nothing: each contract is a theorem.
+
+ghost use Rattle.std.specs.Prelude.{◌≡◌, ◌≢◌, ℕ, List, true};
+ghost use Rattle.tftp_packet.specs.declared.endpoint.Endpoint.{Endpoint};
+ghost use Rattle.tftp_ends.specs.Ends.{Verdict};
+ghost use Rattle.byte_output.specs.Bytes.{IsBytes};
+ghost use Rattle.archive_client.specs.declared.state.State.TheVariants.{Sent};
+ghost use Rattle.archive_client.specs.Client.{Operation, Client, IsOperation, IsClient, client_start, IsBoundTo, IsBoundToStill, IsLastAck, state_of, is_over, stays, client_datagram, client_timeout};
+
+/// Once a client is over, and so once it has failed, no datagram and no time-out changes it or makes it send.
+pub fn over_client()
+    ensures datagram { (verdict : Verdict) (from : Endpoint) (bytes : List ℕ) (c : Client) →
+        is_over c ≡ true → client_datagram verdict from bytes c ≡ stays c }
+    ensures timeout { (c : Client) → IsClient c → is_over c ≡ true → client_timeout c ≡ stays c }
+{}
+
+/// What comes from another host than the server's changes nothing, and is not answered.
+pub fn other_host()
+    ensures { (verdict : Verdict) (from : Endpoint) (bytes : List ℕ) (c : Client) →
+        from.host ≢ c.server.host → client_datagram verdict from bytes c ≡ stays c }
+{}
+
+/// A client binds to one port alone: once it is bound to a port, it stays so until it fails.
+pub fn one_port()
+    ensures datagram { (verdict : Verdict) (from : Endpoint) (bytes : List ℕ) (c : Client) (port : ℕ) →
+        IsBoundTo port c.phase → IsBoundToStill port (client_datagram verdict from bytes c).client.phase }
+    ensures timeout { (c : Client) (port : ℕ) →
+        IsBoundTo port c.phase → IsBoundToStill port (client_timeout c).client.phase }
+{}
+
+/// What always holds of a client, as the bounds of its end, holds at its start, and every step keeps it.
+pub fn client_bounds()
+    ensures start { (port : ℕ) (server : Endpoint) (operation : Operation) →
+        IsOperation operation → IsClient (client_start port server operation) }
+    ensures datagram { (verdict : Verdict) (from : Endpoint) (bytes : List ℕ) (c : Client) →
+        IsBytes bytes → IsClient c → IsClient (client_datagram verdict from bytes c).client }
+    ensures timeout { (c : Client) → IsClient c → IsClient (client_timeout c).client }
+{}
+
+/// A put counts its file as sent only by the ACK of the last block, from the port that it is bound to.
+pub fn last_ack()
+    ensures datagram { (verdict : Verdict) (from : Endpoint) (bytes : List ℕ) (c : Client) →
+        state_of c ≢ Sent → state_of (client_datagram verdict from bytes c).client ≡ Sent → IsLastAck c.phase from bytes }
+    ensures timeout { (c : Client) → state_of c ≢ Sent → state_of (client_timeout c).client ≢ Sent }
+{}

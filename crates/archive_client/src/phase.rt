@@ -1,0 +1,24 @@
+ghost use Rattle.std.specs.Prelude.{◌≡◌};
+ghost use Rattle.archive_client.specs.Kept.{kept_peer};
+
+use crate::cause::Cause;
+
+/// Where a client is. `W` is what it asks for, and `E` its end of the transfer.
+#[derive(Debug, Drop)]
+pub(crate) enum Phase<W, E> {
+    Asking { wanted: W, misses: u8 },
+    Bound { peer: u16, end: E },
+    Failed(Cause),
+}
+
+impl<W, E> Phase<W, E> {
+    /// The port that the client is bound to.
+    pub(crate) fn peer(&self) -> Option<u16>
+        ensures { result ≡ kept_peer self.now }
+    {
+        match self {
+            Phase::Bound { peer, .. } => Some(*peer),
+            Phase::Asking { .. } | Phase::Failed(_) => None,
+        }
+    }
+}

@@ -1,0 +1,188 @@
+//! The client that sends a file.
+
+ghost use Rattle.std.specs.Prelude.{◌≡◌, ◌<◌, ◌≤◌, length, IfOk, IfErr, false};
+ghost use Rattle.tftp_ends.specs.Ends.{granted};
+ghost use Rattle.archive_client.specs.Client.{put, client_start, request_out, client_datagram, client_timeout, state_of, is_over, phase_peer, ack_heard, IsClient};
+
+use crate::cause::Cause;
+use crate::heard::Heard;
+use crate::line::Line;
+use crate::phase::Phase;
+use crate::state::State;
+use crate::too_long::TooLong;
+use std::alloc::{Allocator, Global};
+use std::marker::Model;
+use std::mem;
+use tftp_ends::{MAX_FILE, MISSES, SendState, Sender};
+use tftp_packet::{Endpoint, Out, Owned, Refusal, encode_write};
+use tws_file::upload_file_name;
+
+/// A client that sends a file. None of its calls takes memory.
+///
+/// It asks the server to take the file, binds to the port that acknowledges that, and sends the file there block by
+/// block. The file counts as sent once the last block is acknowledged.
+#[derive(Drop)]
+#[derive_where(Debug)]
+pub struct Put<A: Allocator + Copy = Global> {
+    line: Line,
+    phase: Phase<Owned<A>, Sender<Owned<A>>>,
+}
+
+impl<A: Allocator + Copy> Model for Put<A> {
+    ghost use Rattle.archive_client.specs.Client.{Client, IsClient};
+
+    ghost Value = { Client };
+
+    ghost use Rattle.archive_client.specs.Kept.{put_of};
+
+    ghost view = { put_of };
+
+    ghost invariant = { λ p. IsClient (put_of p) };
+}
+
+impl<A: Allocator + Copy> Put<A> {
+    /// A client at `port` of our own host that asks the server to take this file, and the request for the caller to
+    /// send: WRQ of RFC 1350 section 5, for the name `upload.tws`. The server is at the host and the request port of
+    /// `server`.
+    ///
+    /// # Errors
+    ///
+    /// `TooLong` with the file in it, exactly where it has more than `MAX_FILE` bytes.
+    pub fn start(port: u16, server: Endpoint, file: Vec<u8, A>) -> Result<(Self, Out), TooLong<A>>
+        ensures client { IfOk result (λ r. r.0 ≡ client_start port server (put file.items)) }
+        ensures sent { IfOk result (λ r. r.1 ≡ request_out (put file.items) r.0) }
+        ensures short { IfOk result (λ _. length file.items ≤ MAX_FILE) }
+        ensures fits { IfOk result (λ r. IsClient r.0) }
+        ensures back { IfErr result (λ e. e.file ≡ file) }
+        ensures long { IfErr result (λ _. MAX_FILE < length file.items) }
+    {
+        if file.len() as u64 > MAX_FILE {
+            return Err(TooLong { file });
+        }
+        let line = Line { port, server };
+        let put = Put {
+            line,
+            phase: Phase::Asking {
+                wanted: Owned::of(file),
+                misses: 0,
+            },
+        };
+        Ok((put, line.out(server.port, encode_write(upload_file_name()))))
+    }
+
+    // The ACK of the request has come from a port: binds to it, and sends the first block.
+    fn bind(&mut self, port: u16) -> Option<Out>
+        requires asking { phase_peer self.old.phase ≡ None }
+        requires running { is_over self.old ≡ false }
+        ensures client { self.new ≡ (ack_heard self.old.phase port 0 self.old).client }
+        ensures sent { result ≡ (ack_heard self.old.phase port 0 self.old).out }
+        ensures fits { IsClient self.new }
+    {
+        let Phase::Asking { wanted, .. } = mem::replace(
+            &mut self.phase,
+            Phase::Failed(Cause::TimedOut),
+        ) else {
+            unreachable!();
+        };
+        let (end, data) = Sender::start(wanted);
+        self.phase = Phase::Bound { peer: port, end };
+        Some(self.line.out(port, data))
+    }
+
+    // An ACK that is for this client has come from a port.
+    fn on_ack(&mut self, port: u16, n: u16) -> Option<Out>
+        ensures client { self.new ≡ (ack_heard self.old.phase port n self.old).client }
+        ensures sent { result ≡ (ack_heard self.old.phase port n self.old).out }
+        ensures fits { IsClient self.new }
+    {
+        match &mut self.phase {
+            Phase::Asking { .. } if n == 0 => self.bind(port),
+            Phase::Bound { peer, end } => {
+                let data = end.on_ack(n)?;
+                Some(self.line.out(*peer, data))
+            }
+            Phase::Asking { .. } | Phase::Failed(_) => None,
+        }
+    }
+
+    /// A datagram of these bytes has come from `from` to the client's port. What is answered is to be sent.
+    ///
+    /// The first ACK 0 from a port of the server's host binds the client to that port. From then on a packet from
+    /// another port of that host is answered with ERROR 5, RFC 1350 section 4, and changes nothing; an ERROR from there
+    /// has no effect. An ERROR that is for the client fails it. Nothing has any effect that comes from another host,
+    /// that is no packet, or that comes once the client is `over`.
+    pub fn on_datagram(&mut self, from: Endpoint, bytes: &[u8]) -> Option<Out>
+        ensures client { self.new ≡ (client_datagram granted from bytes.now self.old).client }
+        ensures sent { result ≡ (client_datagram granted from bytes.now self.old).out }
+        ensures fits { IsClient self.new }
+    {
+        if self.over() {
+            return None;
+        }
+        match self.line.hear(self.phase.peer(), from, bytes) {
+            Heard::Stray => Some(self.line.out(from.port, Refusal::UnknownTransfer.dgram())),
+            Heard::Refusal(code) => {
+                self.phase = Phase::Failed(Cause::Refused(code));
+                None
+            }
+            Heard::Ack(n) => self.on_ack(from.port, n),
+            Heard::Nothing | Heard::Data { .. } => None,
+        }
+    }
+
+    /// Nothing has come for a while. What was sent last is sent again, the request or a DATA; time-out number `MISSES`
+    /// in a row without progress fails the client and sends nothing. Once the client is `over`, nothing changes or is
+    /// sent.
+    pub fn on_timeout(&mut self) -> Option<Out>
+        ensures client { self.new ≡ (client_timeout self.old).client }
+        ensures sent { result ≡ (client_timeout self.old).out }
+        ensures fits { IsClient self.new }
+    {
+        match &mut self.phase {
+            Phase::Asking { misses, .. } => {
+                if *misses + 1 < MISSES {
+                    *misses += 1;
+                    return Some(
+                        self.line
+                            .out(self.line.server.port, encode_write(upload_file_name())),
+                    );
+                }
+            }
+            Phase::Bound { peer, end } => {
+                let data = end.on_timeout();
+                if end.state() != SendState::TimedOut {
+                    return Some(self.line.out(*peer, data?));
+                }
+            }
+            Phase::Failed(_) => return None,
+        }
+        self.phase = Phase::Failed(Cause::TimedOut);
+        None
+    }
+
+    /// How far it is: never `Got`.
+    pub fn state(&self) -> State
+        ensures { result ≡ state_of self.now }
+    {
+        match &self.phase {
+            Phase::Asking { .. } => State::Running,
+            Phase::Bound { end, .. } => match end.state() {
+                SendState::Running => State::Running,
+                SendState::Finished => State::Sent,
+                SendState::TimedOut => State::Failed(Cause::TimedOut),
+            },
+            Phase::Failed(why) => State::Failed(*why),
+        }
+    }
+
+    /// Whether no call has any effect from now on: its state is `Sent` or `Failed`.
+    pub fn over(&self) -> bool
+        ensures { result ≡ is_over self.now }
+    {
+        match &self.phase {
+            Phase::Asking { .. } => false,
+            Phase::Bound { end, .. } => end.state() != SendState::Running,
+            Phase::Failed(_) => true,
+        }
+    }
+}

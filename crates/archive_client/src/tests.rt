@@ -1,0 +1,144 @@
+// Transfers by hand, from the client's side: RFC 1350 sections 2, 4 and 5.
+use super::*;
+use std::alloc::Global;
+use std::test::Fail;
+use tftp_packet::{Endpoint, Out};
+use tws_file::Ruleset;
+
+const SERVER: Endpoint = Endpoint {
+    host: 1,
+    port: 6969,
+};
+
+const WRQ: &[u8; 19] = b"\0\x02upload.tws\0octet\0";
+
+// A Lynx file: level 1, BDHP, 100 ticks, no moves.
+const FILE: &[u8; 28] = b"\x35\x33\x9B\x99\x01\0\0\0\x10\0\0\0\x01\0BDHP\0\0\0\0\0\0\x64\0\0\0";
+
+fn at(port: u16) -> Endpoint {
+    Endpoint { host: 1, port }
+}
+
+fn goes(out: &Option<Out>, port: u16, bytes: &[u8]) -> bool {
+    match out {
+        Some(out) => { out.from_port == 5000 && out.to == at(port) && out.dgram.bytes() == bytes }
+        None => false,
+    }
+}
+
+fn filled(alloc: Global, len: usize) -> Result<Vec<u8>, Fail> {
+    Ok(vec![in alloc; 7; len]?)
+}
+
+#[test]
+fn a_put_of_one_whole_block(rt: HostRuntime) -> Result<(), Fail> {
+    let file = filled(rt.alloc(), 512)?;
+    let Ok((mut put, request)) = Put::start(5000, SERVER, file) else {
+        return Err(Fail::new("too long"));
+    };
+    assert!(rt; goes(&Some(request), 6969, WRQ));
+    let mut first = [7; 516];
+    first[..4].copy_from_slice(b"\0\x03\0\x01");
+    let out = put.on_datagram(at(4000), b"\0\x04\0\0");
+    assert!(rt; goes(&out, 4000, &first));
+    let out = put.on_datagram(at(4000), b"\0\x04\0\x01");
+    assert!(rt; goes(&out, 4000, b"\0\x03\0\x02"));
+    assert_eq!(rt; put.state(), State::Running);
+    assert!(rt; put.on_datagram(at(4000), b"\0\x04\0\x02").is_none());
+    assert_eq!(rt; put.state(), State::Sent);
+    assert!(rt; put.over());
+    Ok(())
+}
+
+// Two copies of the request opened two transfers: the client stays with the port that it bound to.
+#[test]
+fn a_put_that_two_ports_answer(rt: HostRuntime) -> Result<(), Fail> {
+    let file = Vec::from_slice(rt.alloc(), FILE)?;
+    let Ok((mut put, _)) = Put::start(5000, SERVER, file) else {
+        return Err(Fail::new("too long"));
+    };
+    let mut first = [0; 32];
+    first[..4].copy_from_slice(b"\0\x03\0\x01");
+    first[4..].copy_from_slice(FILE);
+    let out = put.on_datagram(at(4000), b"\0\x04\0\0");
+    assert!(rt; goes(&out, 4000, &first));
+    let out = put.on_datagram(at(4001), b"\0\x04\0\0");
+    assert!(rt; goes(&out, 4001, b"\0\x05\0\x05unknown transfer\0"));
+    assert!(rt; put.on_datagram(at(4000), b"\0\x04\0\x01").is_none());
+    assert_eq!(rt; put.state(), State::Sent);
+    Ok(())
+}
+
+#[test]
+fn a_put_that_is_never_answered(rt: HostRuntime) -> Result<(), Fail> {
+    let Ok((mut put, request)) = Put::start(5000, SERVER, filled(rt.alloc(), 1)?) else {
+        return Err(Fail::new("too long"));
+    };
+    assert!(rt; goes(&Some(request), 6969, WRQ));
+    for _ in 0..4 {
+        assert!(rt; goes(&put.on_timeout(), 6969, WRQ));
+        assert_eq!(rt; put.state(), State::Running);
+    }
+    assert!(rt; put.on_timeout().is_none());
+    assert_eq!(rt; put.state(), State::Failed(Cause::TimedOut));
+    assert!(rt; put.over());
+    Ok(())
+}
+
+#[test]
+fn the_greatest_file(rt: HostRuntime) -> Result<(), Fail> {
+    let file = filled(rt.alloc(), 33553919)?;
+    let Ok((put, request)) = Put::start(5000, SERVER, file) else {
+        return Err(Fail::new("too long"));
+    };
+    assert!(rt; goes(&Some(request), 6969, WRQ));
+    assert_eq!(rt; put.state(), State::Running);
+    Ok(())
+}
+
+#[test]
+fn a_file_that_is_too_long(rt: HostRuntime) -> Result<(), Fail> {
+    let file = filled(rt.alloc(), 33553920)?;
+    let Err(TooLong { file }) = Put::start(5000, SERVER, file) else {
+        return Err(Fail::new("not too long"));
+    };
+    assert_eq!(rt; file.len(), 33553920);
+    assert!(rt; file.iter().all(|b| *b == 7));
+    Ok(())
+}
+
+// The file is asked for before any answer, and the client that comes back goes on.
+#[test]
+fn a_get(rt: HostRuntime) -> Result<(), Fail> {
+    let (get, request) = Get::start(rt.alloc(), 5000, SERVER, Ruleset::Lynx);
+    assert!(rt; goes(&Some(request), 6969, b"\0\x01lynx.tws\0octet\0"));
+    let Err(mut get) = get.into_file() else {
+        return Err(Fail::new("a file before any answer"));
+    };
+    assert_eq!(rt; get.state(), State::Running);
+    let mut first = [0; 32];
+    first[..4].copy_from_slice(b"\0\x03\0\x01");
+    first[4..].copy_from_slice(FILE);
+    assert!(rt; goes(&get.on_datagram(at(4001), &first), 4001, b"\0\x04\0\x01"));
+    assert_eq!(rt; get.state(), State::Got);
+    assert!(rt; !get.over());
+    assert!(rt; get.on_datagram(at(4001), b"\0\x05\0\0\0").is_none());
+    let Ok(file) = get.into_file() else {
+        return Err(Fail::new("no file"));
+    };
+    assert_eq!(rt; file.to_vec(rt.alloc())?.as_slice(), FILE.as_slice());
+    Ok(())
+}
+
+#[test]
+fn causes_by_name(rt: HostRuntime) -> Result<(), Fail> {
+    for (cause, name) in [
+        (Cause::Refused(1), "refused 1"),
+        (Cause::TimedOut, "timed out"),
+        (Cause::TooLong, "too long"),
+        (Cause::Memory, "out of memory"),
+    ] {
+        assert_eq!(rt; format!(in rt.alloc(); "{cause}")?.as_str(), name);
+    }
+    Ok(())
+}
