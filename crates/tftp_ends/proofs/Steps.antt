@@ -14,7 +14,7 @@ use Rattle.tftp_ends.specs.declared.send_state.SendState.{SendState}
 use Rattle.tftp_ends.specs.declared.send_state.SendState.TheVariants as sending
 use Rattle.tftp_ends.specs.declared.recv_state.RecvState.{RecvState}
 use Rattle.tftp_ends.specs.declared.recv_state.RecvState.TheVariants as receiving
-use Rattle.tftp_ends.specs.Ends.{Verdict, granted, refused, Sender, SendAnswer, Receiver, data_packet, sender_start, sender_goes_on, sender_acked, sender_ack_in, sender_ack, sender_missed, sender_timeout_in, sender_timeout, receiver_start, receiver_appends, state_after, receiver_takes, receiver_next, receiver_again, is_last_come, is_past, receiver_running, receiver_data_in, receiver_data, receiver_missed, receiver_dallied, receiver_timeout_in, receiver_timeout, receiver_gives, receiver_take_in, receiver_take, IsEnded, HoldsFirst, Completes, sent_of, IsSender, HasSize, IsReceiver}
+use Rattle.tftp_ends.specs.Ends.{Verdict, granted, refused, Sender, SendAnswer, Receiver, data_packet, sender_start, sender_goes_on, sender_acked, sender_ack_in, sender_ack, sender_missed, sender_timeout_in, sender_timeout, receiver_start, receiver_appends, state_after, receiver_takes, receiver_next, receiver_again, is_last_come, is_past, receiver_running, receiver_data_in, receiver_data, receiver_missed, receiver_dallied, receiver_timeout_in, receiver_timeout, receiver_gives, TakeAnswer, receiver_take_in, receiver_take, IsEnded, HoldsFirst, Completes, sent_of, IsSender, HasSize, IsReceiver}
 
 -- ---- packets that read back
 
@@ -528,3 +528,70 @@ completed n body r completes =
     ∙ ap (λ next. (receiver_running next granted n body r).receiver.state) (eq-eqb n (r.count + 1) completes.next)
     ∙ ap (λ past. (receiver_next past granted body r).receiver.state) past
     ∙ ap state_after short
+
+-- ---- what a receiver's step leaves
+
+-- a DATA leaves the receiver as it was, or was the next block
+abbrev pub IsSameOrNext : (n : ℕ) → (r next : Receiver) → Type 0
+IsSameOrNext n r next = (next ≡ r) ⊎ ((n ≡ r.count + 1) × (next.count ≡ r.count + 1))
+
+again_same : (n : ℕ) (r : Receiver) (last : Bool) → IsSameOrNext n r (receiver_again last r).receiver
+again_same n r true = inl refl
+again_same n r false = inl refl
+
+takes_next : (n : ℕ) (body : List ℕ) (r : Receiver) → n ≡ r.count + 1 → (verdict : Verdict) → IsSameOrNext n r (receiver_takes verdict body r).receiver
+takes_next n body r is_next granted = inr (is_next, refl)
+takes_next n body r is_next refused = inl refl
+
+next_next : (n : ℕ) (body : List ℕ) (r : Receiver) → n ≡ r.count + 1 → (past : Bool) (verdict : Verdict) → IsSameOrNext n r (receiver_next past verdict body r).receiver
+next_next n body r is_next true verdict = inl refl
+next_next n body r is_next false verdict = takes_next n body r is_next verdict
+
+running_next : (n : ℕ) (body : List ℕ) (r : Receiver) (verdict : Verdict) (next : Bool) → (n == r.count + 1) ≡ next → IsSameOrNext n r (receiver_running next verdict n body r).receiver
+running_next n body r verdict true is = next_next n body r (eqb-true _ _ is) (is_past n body) verdict
+running_next n body r verdict false is = again_same n r (is_last_come n r)
+
+data_in_next : (state : RecvState) (verdict : Verdict) (n : ℕ) (body : List ℕ) (r : Receiver) → IsSameOrNext n r (receiver_data_in state verdict n body r).receiver
+data_in_next receiving.Running verdict n body r = running_next n body r verdict (n == r.count + 1) refl
+data_in_next receiving.Complete verdict n body r = again_same n r (is_last_come n r)
+data_in_next receiving.TimedOut verdict n body r = inl refl
+data_in_next receiving.Over verdict n body r = inl refl
+
+pub receiver_data-next : (verdict : Verdict) (n : ℕ) (body : List ℕ) (r : Receiver) → IsSameOrNext n r (receiver_data verdict n body r).receiver
+receiver_data-next verdict n body r = data_in_next r.state verdict n body r
+
+-- a time-out changes neither the count nor the file
+abbrev pub HasSameBlocks : (r next : Receiver) → Type 0
+HasSameBlocks r next = (next.count ≡ r.count) × (next.file ≡ r.file)
+
+missed_same : (last : Bool) (r : Receiver) → HasSameBlocks r (receiver_missed last r).receiver
+missed_same true r = (refl, refl)
+missed_same false r = (refl, refl)
+
+dallied_same : (last : Bool) (r : Receiver) → HasSameBlocks r (receiver_dallied last r).receiver
+dallied_same true r = (refl, refl)
+dallied_same false r = (refl, refl)
+
+timeout_in_same : (state : RecvState) (r : Receiver) → HasSameBlocks r (receiver_timeout_in state r).receiver
+timeout_in_same receiving.Running r = missed_same (r.misses + 1 == MISSES) r
+timeout_in_same receiving.Complete r = dallied_same (r.misses + 1 == DALLY) r
+timeout_in_same receiving.TimedOut r = (refl, refl)
+timeout_in_same receiving.Over r = (refl, refl)
+
+pub receiver_timeout-same : (r : Receiver) → HasSameBlocks r (receiver_timeout r).receiver
+receiver_timeout-same r = timeout_in_same r.state r
+
+-- nothing is given, or the file of a receiver that has ended, which then has none
+abbrev pub GivesOnce : Receiver → TakeAnswer → Type 0
+GivesOnce r a =
+    ((a.receiver ≡ r) × (a.file ≡ None))
+    ⊎ (IsEnded r.state × (a.receiver.count ≡ r.count) × (a.receiver.file ≡ None) × (a.file ≡ r.file))
+
+take_in_gives : (state : RecvState) (r : Receiver) → r.state ≡ state → GivesOnce r (receiver_take_in state r)
+take_in_gives receiving.Running r is = inl (refl, refl)
+take_in_gives receiving.Complete r is = inr (subst IsEnded (sym is) tt, refl, refl, refl)
+take_in_gives receiving.TimedOut r is = inl (refl, refl)
+take_in_gives receiving.Over r is = inr (subst IsEnded (sym is) tt, refl, refl, refl)
+
+pub receiver_take-gives : (r : Receiver) → GivesOnce r (receiver_take r)
+receiver_take-gives r = take_in_gives r.state r refl
