@@ -1,13 +1,13 @@
 -- What every event keeps of a pair, and what follows.
-use Rattle.std.proofs.Common.{◌≡◌, ◌⊎◌, ℕ, ◌+◌, ◌≤◌, List, [], ◌∷◌, length, slice_get, Option, None, Some, IfSome, refl, ap, sym, ◌∙◌, subst, arith, inl, inr, ⊎_elim}
-use Rattle.std.specs.List.{concat}
+use Rattle.std.proofs.Common.{◌≡◌, ◌⊎◌, ℕ, ◌≤◌, List, [], ◌∷◌, length, slice_get, Option, None, Some, IfSome, refl, ap, sym, ◌∙◌, subst, arith, inl, inr, ⊎_elim}
 use Rattle.tftp_packet.specs.Packet.{Packet, read, write, data_block, ack, error}
-use Rattle.tftp_packet.specs.Blocks.{block_count, block_of, first_blocks, blocks_to}
+use Rattle.tftp_packet.specs.Blocks.{block_count, block_of, first_blocks}
 use Rattle.tftp_packet.proofs.Cutting.{length-block_of-le, joined_first}
 use Rattle.tftp_ends.specs.declared.send_state.SendState.TheVariants as sending
-use Rattle.tftp_ends.specs.Ends.{Verdict, Sender, Receiver, SendAnswer, data_packet, sender_start, sender_ack, sender_timeout, receiver_start, receiver_data, receiver_timeout, receiver_take, sent_of, HoldsFirst, IsReceiver}
-use Rattle.tftp_ends.specs.Pair.{Pair, Event, deliver, sender_times_out, receiver_times_out, take_file, pair_start, sent_with, resent_with, taken_with, after_ack, after_data, after_sender_timeout, after_receiver_timeout, after_take, after_packet, after_event, after_events, pair_run, HasFirstBlocks, FinishesWhole, SendsOnce, IsTakenOnce, is_data}
-use Rattle.tftp_ends.proofs.Steps.{KeepsSender, sender_ack-keeps, sender_ack-sends, sender_ack-finishes, sender_timeout-keeps, sender_timeout-sends, sender_timeout-finishes, KeepsReceiver, IsReceiver-start, receiver_data-keeps, receiver_data-holds, receiver_data-next, receiver_timeout-keeps, receiver_timeout-same, receiver_take-keeps, receiver_take-gives, ended-whole, last-ended, IsSameOrNext}
+use Rattle.tftp_ends.specs.Ends.{Verdict, Receiver, SendAnswer, data_packet, sender_ack, sender_timeout, receiver_data, receiver_timeout, receiver_take, sent_of, HoldsFirst, IsReceiver}
+use Rattle.tftp_ends.specs.Pair.{Pair, Event, deliver, sender_times_out, receiver_times_out, take_file, pair_start, sent_with, taken_with, after_ack, after_data, after_sender_timeout, after_receiver_timeout, after_take, after_packet, after_event, after_events, pair_run, HasFirstBlocks, FinishesWhole, SendsOnce, IsTakenOnce}
+use Rattle.tftp_ends.proofs.Steps.{KeepsSender, sender_ack-keeps, sender_ack-sends, sender_ack-finishes, sender_timeout-keeps, sender_timeout-sends, sender_timeout-finishes, KeepsReceiver, IsReceiver-start, receiver_data-keeps, receiver_timeout-keeps, receiver_take-keeps}
+use Rattle.tftp_ends.proofs.Holding.{receiver_data-holds, receiver_data-next, receiver_timeout-same, receiver_take-gives, ended-whole, last-ended, IsSameOrNext}
 use Rattle.tftp_ends.proofs.Network.{IsHonest, AllHonest, AllHonest-data, AllHonest-ack, IsHonest-at, once_acked, once_again, count-acks}
 
 -- its bytes are the first blocks of the file, or the whole file was taken out
