@@ -3,7 +3,7 @@ use Rattle.std.proofs.Common.{◌≡◌, ℕ, zero, suc, ◌+◌, ◌-◌, ◌*�
 use Rattle.std.proofs.Math.Seq.{take-add, drop-append_seam, drop-append-add}
 use Rattle.std.proofs.lemmas.List.{take_all, take_at, take_rest, drop-take, nil_from_length}
 use Rattle.std.proofs.lemmas.List.Folds.{concat-append}
-use Rattle.std.specs.List.{concat, AllByRecursion}
+use Rattle.std.specs.List.{concat}
 use Rattle.std.specs.Io.KnownBytes.{Appends}
 use Rattle.byte_output.specs.Output.{AppendsPrefix}
 use Rattle.byte_output.proofs.Lists.{all_append}

@@ -1,4 +1,5 @@
+pub mod Steps
+pub mod Holding
 pub mod Network
 pub mod Runs
-pub mod Steps
 pub mod Chunking

@@ -1,11 +1,10 @@
 -- One sender, one receiver and the network between them, over every list of deliveries and time-outs.
-use Rattle.std.specs.Prelude.{◌≡◌, ◌⊎◌, ℕ, ◌+◌, Bool, true, false, List, [], ◌∷◌, ◌++◌, count_by, slice_get, Option, None, Some, Result, Ok, Err}
+use Rattle.std.specs.Prelude.{◌≡◌, ◌⊎◌, ℕ, ◌+◌, Bool, true, false, List, [], ◌∷◌, ◌++◌, count_by, slice_get, Option, None, Some}
 use Rattle.std.specs.List.{concat}
 use Rattle.tftp_packet.specs.Packet.{Packet, read, write, data_block, ack, error}
 use Rattle.tftp_packet.specs.Blocks.{blocks_to}
 use Rattle.tftp_ends.specs.declared.send_state.SendState.TheVariants as sending
-use Rattle.tftp_ends.specs.declared.recv_fault.RecvFault.{RecvFault}
-use Rattle.tftp_ends.specs.Ends.{Verdict, Sender, Receiver, SendAnswer, RecvAnswer, DataAnswer, TakeAnswer, data_packet, sender_start, sender_ack, sender_timeout, receiver_start, receiver_data, receiver_timeout, receiver_take}
+use Rattle.tftp_ends.specs.Ends.{Verdict, Sender, Receiver, SendAnswer, RecvAnswer, DataAnswer, TakeAnswer, data_packet, sender_start, sender_ack, sender_timeout, receiver_start, sent_of, receiver_data, receiver_timeout, receiver_take}
 
 pub record Pair : Type 0 where
   pub sender : Sender
@@ -46,17 +45,13 @@ abbrev pub taken_with : List (List ℕ) → Option (List ℕ) → List (List ℕ
 taken_with taken None = taken
 taken_with taken (Some file) = taken ++ file ∷ []
 
-abbrev pub sent_by : List Packet → Result (Option Packet) RecvFault → List Packet
-sent_by sent (Ok out) = sent_with sent out
-sent_by sent (Err fault) = sent
-
 abbrev pub after_ack : SendAnswer → Pair → Pair
 after_ack a p =
     record { sender = a.sender; receiver = p.receiver; sent = sent_with p.sent a.out; resent = p.resent; taken = p.taken }
 
 abbrev pub after_data : DataAnswer → Pair → Pair
 after_data a p =
-    record { sender = p.sender; receiver = a.receiver; sent = sent_by p.sent a.result; resent = p.resent; taken = p.taken }
+    record { sender = p.sender; receiver = a.receiver; sent = sent_with p.sent (sent_of a.result); resent = p.resent; taken = p.taken }
 
 abbrev pub after_sender_timeout : SendAnswer → Pair → Pair
 after_sender_timeout a p =

@@ -3,7 +3,8 @@
 //!
 //! `specs/Ends.antt` is the file to read first: what each end keeps, and what each call makes of it. `specs/Pair.antt`
 //! has what holds of two ends with any network between them, `specs/Chunks.antt` how a received file lies in memory.
-//! `proofs/Steps.antt` has what each step of one end keeps and sends, for crates above.
+//! `proofs/Steps.antt` has what each step of one end keeps and sends, and `proofs/Holding.antt` what a receiver knows of
+//! the file, for crates above.
 //!
 //! How it is called:
 //!

@@ -17,7 +17,7 @@ mod pairs;
 
 /// The end of a transfer that receives a file.
 ///
-/// It acknowledges each block, RFC 1350 section 2, and waits behind the last one, section 6. Only `on_data` takes memory.
+/// It acknowledges each block, RFC 1350 section 2, and waits after the last one, section 6. Only `on_data` takes memory.
 #[derive(Drop)]
 #[derive_where(Debug)]
 pub struct Receiver<A: Allocator + Copy = Global> {
@@ -58,12 +58,12 @@ impl<A: Allocator + Copy> Receiver<A> {
 
     /// Block `n` with this body has come.
     ///
-    /// The next block is taken and acknowledged; one of fewer than 512 bytes ends the file. The last block that came
-    /// is acknowledged again, also behind the end. Any other changes nothing and sends nothing.
+    /// The next block is taken and acknowledged; one of fewer than `BLOCK_SIZE` bytes ends the file. The last block that came
+    /// is acknowledged again, also after the end. Any other changes nothing and sends nothing.
     ///
     /// # Errors
     ///
-    /// `Memory` where a growth was refused, and `TooLong` where the file goes on behind block `MAX_BLOCKS`. The receiver
+    /// `Memory` where a growth was refused, and `TooLong` where the file goes on after block `MAX_BLOCKS`. The receiver
     /// is then as it was before, so the same block may be given again.
     pub fn on_data(&mut self, n: u16, body: &[u8]) -> Result<Option<Dgram>, RecvFault>
         requires { length body.now ≤ BLOCK_SIZE }
@@ -81,7 +81,7 @@ impl<A: Allocator + Copy> Receiver<A> {
         }
     }
 
-    // A block has come while some are missing, so there is a number behind that of the last one.
+    // A block has come while some are missing, so a number follows that of the last one.
     fn on_running(&mut self, n: u16, body: &[u8]) -> Result<Option<Dgram>, RecvFault>
         requires running { self.old.state ≡ RecvState.Running }
         requires short { length body.now ≤ BLOCK_SIZE }
@@ -133,7 +133,7 @@ impl<A: Allocator + Copy> Receiver<A> {
     }
 
     /// Nothing has come for a while. While blocks are missing, the last ACK is sent again, ACK 0 before the first block;
-    /// time-out number `MISSES` in a row sends nothing and ends the transfer. Behind the last block nothing is sent, and
+    /// time-out number `MISSES` in a row sends nothing and ends the transfer. After the last block nothing is sent, and
     /// the receiver is over at time-out number `DALLY`. After either end nothing changes any more.
     pub fn on_timeout(&mut self) -> Option<Dgram>
         ensures receiver { self.new ≡ (receiver_timeout self.old).receiver }

@@ -10,7 +10,7 @@ pub enum RecvFault {
     /// Memory ran out.
     #[error("Memory")]
     Memory,
-    /// Block `MAX_BLOCKS` has 512 bytes, so the file goes on behind it.
+    /// Block `MAX_BLOCKS` is full, so the file goes on after it.
     #[error("TooLong")]
     TooLong,
 }

@@ -8,7 +8,7 @@ ghost use Rattle.tftp_ends.specs.Ends.{data_packet, dgram_of, sender_start, send
 use crate::limits::{MAX_FILE, MISSES};
 use crate::send_state::SendState;
 use std::marker::Model;
-use tftp_packet::{Blocks, Dgram, encode_data};
+use tftp_packet::{BLOCK_SIZE, Blocks, Dgram, encode_data};
 
 /// The end of a transfer that sends a file: one block, then its ACK, then the next block, RFC 1350 section 2.
 ///
@@ -41,7 +41,7 @@ fn data<B: Blocks>(blocks: &B, block: u16) -> Dgram
     requires last { block ≤ block_count (B.file blocks.now) }
     ensures { result ≡ encode (data_packet (B.file blocks.now) block) }
 {
-    let mut body = [0; 512];
+    let mut body = [0; BLOCK_SIZE];
     let count = blocks.block(block, &mut body);
     encode_data(block, &body[..count])
 }
@@ -68,7 +68,7 @@ impl<B: Blocks> Sender<B> {
     fn is_last(&self) -> bool
         ensures { result ≡ (self.now.current == block_count self.now.file) }
     {
-        u64::from(self.current) == self.blocks.file_len() / 512 + 1
+        u64::from(self.current) == self.blocks.file_len() / BLOCK_SIZE as u64 + 1
     }
 
     /// ACK `n` has come. That of the current block is answered with the next DATA; that of the last block ends the

@@ -120,7 +120,7 @@ fn a_file_is_given_once(rt: HostRuntime) -> Result<(), Fail> {
 
 // The last block that comes again is acknowledged, but does not make the receiver wait longer.
 #[test]
-fn a_receiver_waits_behind_the_last_block(rt: HostRuntime) -> Result<(), Fail> {
+fn a_receiver_waits_after_the_last_block(rt: HostRuntime) -> Result<(), Fail> {
     let mut receiver = Receiver::new(rt.alloc());
     assert!(rt; sends_ack(&receiver.on_data(1, FILE)?, 1));
     assert!(rt; receiver.on_timeout().is_none());

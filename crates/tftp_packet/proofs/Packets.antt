@@ -8,8 +8,9 @@ use Rattle.byteorder.specs.Numbers.{big_number-reads_back}
 use Rattle.tftp_packet.specs.declared.packet_fault.PacketFault.{PacketFault}
 use Rattle.tftp_packet.specs.declared.packet_fault.PacketFault.TheVariants.{Short, TooLong, BadOpcode, BadRequest, BadBlock, BadError}
 use Rattle.byte_output.specs.Bytes.{IsBytes}
+use Rattle.tftp_packet.specs.declared.sizes.TheConstants.{MAX_DATAGRAM}
 use Rattle.tftp_packet.specs.Packet.{Packet, read, write, data_block, ack, error, HasNoZero, zero_count, HasForm, HasFields, IsPacket, request_bytes, packet_size, encode}
-use Rattle.tftp_packet.specs.Fault.{HasOpcode, IsCutRequest, HasFault}
+use Rattle.tftp_packet.specs.Fault.{IsCutRequest, HasFault}
 use Rattle.tftp_packet.specs.Decode.{before_zero, after_zero, request_of, data_of, error_of, packet_from, decode_bytes}
 use Rattle.byte_output.proofs.Bytes.{IsBytes-drop}
 use Rattle.tftp_packet.proofs.Bytes.{number_first, big_number-fits}
@@ -32,7 +33,7 @@ decode_bytes-fault bytes BadError fault = grind (arith, nat_tests)
 after_number : (n : ℕ) (rest : List ℕ) → n < 2 ^ 16 → big_number 2 (big_bytes 2 n ++ rest) ≡ n
 after_number n rest fits = big_number-reads_back 2 n rest fits
 
-decode_bytes-after : (opcode : ℕ) (rest : List ℕ) → opcode < 2 ^ 16 → length (big_bytes 2 opcode ++ rest) ≤ 516 → decode_bytes (big_bytes 2 opcode ++ rest) ≡ packet_from opcode rest
+decode_bytes-after : (opcode : ℕ) (rest : List ℕ) → opcode < 2 ^ 16 → length (big_bytes 2 opcode ++ rest) ≤ MAX_DATAGRAM → decode_bytes (big_bytes 2 opcode ++ rest) ≡ packet_from opcode rest
 unfolding decode_bytes
 decode_bytes-after opcode rest fits size =
     let long : 2 ≤ length (big_bytes 2 opcode ++ rest) = omega arith in
@@ -66,26 +67,26 @@ pub decode_bytes-packet : (p : Packet) (bytes : List ℕ) → IsPacket p bytes �
 decode_bytes-packet (read name mode) bytes packet =
     let form = packet.form in
     let after = name ++ 0 ∷ (mode ++ 0 ∷ form.0) in
-    ap decode_bytes form.1 ∙ decode_bytes-after 1 after (omega arith) (subst (λ xs. length xs ≤ 516) form.1 packet.size)
+    ap decode_bytes form.1 ∙ decode_bytes-after 1 after (omega arith) (subst (λ xs. length xs ≤ MAX_DATAGRAM) form.1 packet.size)
     ∙ request_of-ended read name mode form.0 packet.fields.0 packet.fields.1
 decode_bytes-packet (write name mode) bytes packet =
     let form = packet.form in
     let after = name ++ 0 ∷ (mode ++ 0 ∷ form.0) in
-    ap decode_bytes form.1 ∙ decode_bytes-after 2 after (omega arith) (subst (λ xs. length xs ≤ 516) form.1 packet.size)
+    ap decode_bytes form.1 ∙ decode_bytes-after 2 after (omega arith) (subst (λ xs. length xs ≤ MAX_DATAGRAM) form.1 packet.size)
     ∙ request_of-ended write name mode form.0 packet.fields.0 packet.fields.1
 decode_bytes-packet (data_block block body) bytes packet =
     let form = packet.form in
     let after = big_bytes 2 block ++ body in
-    ap decode_bytes form ∙ decode_bytes-after 3 after (omega arith) (subst (λ xs. length xs ≤ 516) form packet.size)
+    ap decode_bytes form ∙ decode_bytes-after 3 after (omega arith) (subst (λ xs. length xs ≤ MAX_DATAGRAM) form packet.size)
     ∙ data_of-block block body packet.fields.0
 decode_bytes-packet (ack block) bytes packet =
     let form = packet.form in
-    ap decode_bytes form ∙ decode_bytes-after 4 (big_bytes 2 block) (omega arith) (subst (λ xs. length xs ≤ 516) form packet.size)
+    ap decode_bytes form ∙ decode_bytes-after 4 (big_bytes 2 block) (omega arith) (subst (λ xs. length xs ≤ MAX_DATAGRAM) form packet.size)
     ∙ ap (λ (n : ℕ). Ok (ack n)) (after_number block [] packet.fields)
 decode_bytes-packet (error code text) bytes packet =
     let form = packet.form in
     let after = big_bytes 2 code ++ (text ++ 0 ∷ form.0) in
-    ap decode_bytes form.1 ∙ decode_bytes-after 5 after (omega arith) (subst (λ xs. length xs ≤ 516) form.1 packet.size)
+    ap decode_bytes form.1 ∙ decode_bytes-after 5 after (omega arith) (subst (λ xs. length xs ≤ MAX_DATAGRAM) form.1 packet.size)
     ∙ error_of-ended code text form.0 packet.fields.0 packet.fields.1
 
 -- ---- bytes are a packet or have a fault
@@ -94,10 +95,11 @@ abbrev IsEither : List ℕ → Type 0
 IsEither bytes = ((p : Packet) × IsPacket p bytes) ⊎ ((e : PacketFault) × HasFault bytes e)
 
 -- by the opcode
-module _ (bytes : List ℕ) (fits : IsBytes bytes) (size : length bytes ≤ 516) where
+module _ (bytes : List ℕ) (fits : IsBytes bytes) (size : length bytes ≤ MAX_DATAGRAM) where
   -- the bytes begin with an opcode
   record Begins (opcode : ℕ) : Type 0 where
-    has : HasOpcode bytes opcode
+    long : 2 ≤ length bytes
+    first : big_number 2 bytes ≡ opcode
     split : bytes ≡ big_bytes 2 opcode ++ drop 2 bytes
 
   -- a number after the opcode
@@ -124,18 +126,18 @@ module _ (bytes : List ℕ) (fits : IsBytes bytes) (size : length bytes ≤ 516)
   read_either begins =
       request_either read
       (λ name mode more name_ends mode_ends e. record { fields = (name_ends, mode_ends); size = size; form = (more, begins.split ∙ ap (λ (xs : List ℕ). big_bytes 2 1 ++ xs) e) })
-      (λ cut. (inl begins.has, cut))
+      (λ cut. ((inl begins.first, cut), (begins.long, size)))
 
   write_either : Begins 2 → IsEither bytes
   write_either begins =
       request_either write
       (λ name mode more name_ends mode_ends e. record { fields = (name_ends, mode_ends); size = size; form = (more, begins.split ∙ ap (λ (xs : List ℕ). big_bytes 2 2 ++ xs) e) })
-      (λ cut. (inr begins.has, cut))
+      (λ cut. ((inr begins.first, cut), (begins.long, size)))
 
   data_either : Begins 3 → IsEither bytes
   data_either begins =
       ⊎_elim
-      (λ short. inr (BadBlock, inl (begins.has, short)))
+      (λ short. inr (BadBlock, (inl (begins.first, short), (begins.long, size))))
       (λ long. inl (data_block (big_number 2 (drop 2 bytes)) (drop 4 bytes), record { fields = (second_fits, omega (arith, length-drop 4 bytes)); size = size; form = second_number 3 begins long }))
       (cases_lt (length bytes) 4)
 
@@ -146,13 +148,13 @@ module _ (bytes : List ℕ) (fits : IsBytes bytes) (size : length bytes ≤ 516)
       let none = nil_from_length (drop 4 bytes) (omega (arith, length-drop 4 bytes)) in
       let form = second_number 4 begins (omega arith) ∙ ap (λ (xs : List ℕ). big_bytes 2 4 ++ (big_bytes 2 (big_number 2 (drop 2 bytes)) ++ xs)) none in
       inl (ack (big_number 2 (drop 2 bytes)), record { fields = second_fits; size = size; form = form }))
-      (λ other. inr (BadBlock, inr (begins.has, other)))
+      (λ other. inr (BadBlock, (inr (begins.first, other), (begins.long, size))))
       (cases_eq (length bytes) 4)
 
   error_either : Begins 5 → IsEither bytes
   error_either begins =
       ⊎_elim
-      (λ none. inr (BadError, (begins.has, none.0)))
+      (λ none. inr (BadError, ((begins.first, none.0), (begins.long, size))))
       (λ text.
       let long : 4 ≤ length bytes = omega (arith, length-drop 4 bytes, ap length text.split, length-append text.text (0 ∷ text.rest)) in
       let form = second_number 5 begins long ∙ ap (λ (xs : List ℕ). big_bytes 2 5 ++ (big_bytes 2 (big_number 2 (drop 2 bytes)) ++ xs)) {y = text.text ++ 0 ∷ text.rest} text.split in
@@ -160,23 +162,23 @@ module _ (bytes : List ℕ) (fits : IsBytes bytes) (size : length bytes ≤ 516)
       (zero_cases (drop 4 bytes))
 
   opcode_either : (opcode : ℕ) → Begins opcode → IsEither bytes
-  opcode_either zero begins = inr (BadOpcode, (0, begins.has, inl (omega arith)))
+  opcode_either zero begins = inr (BadOpcode, (inl (omega (arith, begins.first)), (begins.long, size)))
   opcode_either (suc zero) begins = read_either begins
   opcode_either (suc (suc zero)) begins = write_either begins
   opcode_either (suc (suc (suc zero))) begins = data_either begins
   opcode_either (suc (suc (suc (suc zero)))) begins = ack_either begins
   opcode_either (suc (suc (suc (suc (suc zero))))) begins = error_either begins
-  opcode_either (suc (suc (suc (suc (suc (suc n)))))) begins = inr (BadOpcode, (suc (suc (suc (suc (suc (suc n))))), begins.has, inr (omega arith)))
+  opcode_either (suc (suc (suc (suc (suc (suc n)))))) begins = inr (BadOpcode, (inr (omega (arith, begins.first)), (begins.long, size)))
 
 pub packet_or_fault : (bytes : List ℕ) → IsBytes bytes → IsEither bytes
 packet_or_fault bytes fits =
     ⊎_elim
-    (λ short. inr (Short, short))
+    (λ short. inr (Short, (short, tt)))
     (λ long.
     ⊎_elim
-    (λ over. inr (TooLong, over))
-    (λ size. opcode_either bytes fits size (big_number 2 bytes) (record { has = record { long = long; short = size; first = refl }; split = number_first bytes long fits }))
-    (cases_lt 516 (length bytes)))
+    (λ over. inr (TooLong, (over, tt)))
+    (λ size. opcode_either bytes fits size (big_number 2 bytes) (record { long = long; first = refl; split = number_first bytes long fits }))
+    (cases_lt MAX_DATAGRAM (length bytes)))
     (cases_lt (length bytes) 2)
 
 -- ---- the relation and the function
@@ -245,10 +247,10 @@ encode-form (data_block block body) = refl
 encode-form (ack block) = refl
 encode-form (error code text) = ([], refl)
 
-pub IsPacket-encode : (p : Packet) → HasFields p → packet_size p ≤ 516 → IsPacket p (encode p)
+pub IsPacket-encode : (p : Packet) → HasFields p → packet_size p ≤ MAX_DATAGRAM → IsPacket p (encode p)
 IsPacket-encode p fields size =
     record { fields = fields; size = omega (arith, length-encode p); form = encode-form p }
 
 -- decode of what encode gives is the packet
-pub decode_bytes-encode : (p : Packet) → HasFields p → packet_size p ≤ 516 → decode_bytes (encode p) ≡ Ok p
+pub decode_bytes-encode : (p : Packet) → HasFields p → packet_size p ≤ MAX_DATAGRAM → decode_bytes (encode p) ≡ Ok p
 decode_bytes-encode p fields size = decode_bytes-packet p (encode p) (IsPacket-encode p fields size)

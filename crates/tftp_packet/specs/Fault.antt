@@ -6,12 +6,6 @@ use Rattle.tftp_packet.specs.declared.packet_fault.PacketFault.{PacketFault}
 use Rattle.tftp_packet.specs.declared.packet_fault.PacketFault.TheVariants.{Short, TooLong, BadOpcode, BadRequest, BadBlock, BadError}
 use Rattle.tftp_packet.specs.Packet.{zero_count, HasNoZero}
 
--- bytes that a packet can have so many of, and an opcode
-pub record HasOpcode (bytes : List ℕ) (opcode : ℕ) : Type 0 where
-  pub long : 2 ≤ length bytes
-  pub short : length bytes ≤ MAX_DATAGRAM
-  pub first : opcode ≡ big_number 2 bytes
-
 -- no packet begins so
 abbrev pub IsUnknown : ℕ → Type 0
 IsUnknown opcode = (opcode < 1) ⊎ (5 < opcode)
@@ -20,28 +14,33 @@ IsUnknown opcode = (opcode < 1) ⊎ (5 < opcode)
 abbrev pub IsCutRequest : List ℕ → Type 0
 IsCutRequest bytes = zero_count (drop 2 bytes) < 2
 
--- a DATA without its block's number, or an ACK that is not just that
-abbrev pub IsBadBlock : List ℕ → Type 0
-IsBadBlock bytes = (HasOpcode bytes 3 × (length bytes < 4)) ⊎ (HasOpcode bytes 4 × (length bytes ≢ 4))
-
-abbrev pub HasFault : List ℕ → PacketFault → Type 0
-HasFault bytes Short = length bytes < 2
-HasFault bytes TooLong = MAX_DATAGRAM < length bytes
-HasFault bytes BadOpcode = (opcode : ℕ) × HasOpcode bytes opcode × IsUnknown opcode
-HasFault bytes BadRequest = (HasOpcode bytes 1 ⊎ HasOpcode bytes 2) × IsCutRequest bytes
-HasFault bytes BadBlock = IsBadBlock bytes
-HasFault bytes BadError = HasOpcode bytes 5 × HasNoZero (drop 4 bytes)
-
--- ---- the order of the faults
-
--- each fault by itself, whatever else is wrong with the bytes
+-- what each fault says of the bytes, whatever else is wrong with them
 abbrev pub Fails : List ℕ → PacketFault → Type 0
 Fails bytes Short = length bytes < 2
 Fails bytes TooLong = MAX_DATAGRAM < length bytes
 Fails bytes BadOpcode = IsUnknown (big_number 2 bytes)
 Fails bytes BadRequest = ((big_number 2 bytes ≡ 1) ⊎ (big_number 2 bytes ≡ 2)) × IsCutRequest bytes
+-- a DATA without its block's number, or an ACK that is not just that
 Fails bytes BadBlock = ((big_number 2 bytes ≡ 3) × (length bytes < 4)) ⊎ ((big_number 2 bytes ≡ 4) × (length bytes ≢ 4))
 Fails bytes BadError = (big_number 2 bytes ≡ 5) × HasNoZero (drop 4 bytes)
+
+-- an opcode can be read, and the bytes fit a datagram
+abbrev pub HasSize : List ℕ → Type 0
+HasSize bytes = (2 ≤ length bytes) × (length bytes ≤ MAX_DATAGRAM)
+
+-- the other faults are looked for only in bytes of such a length
+abbrev pub IsLookedFor : List ℕ → PacketFault → Type 0
+IsLookedFor bytes Short = Unit {0}
+IsLookedFor bytes TooLong = Unit {0}
+IsLookedFor bytes BadOpcode = HasSize bytes
+IsLookedFor bytes BadRequest = HasSize bytes
+IsLookedFor bytes BadBlock = HasSize bytes
+IsLookedFor bytes BadError = HasSize bytes
+
+abbrev pub HasFault : List ℕ → PacketFault → Type 0
+HasFault bytes fault = Fails bytes fault × IsLookedFor bytes fault
+
+-- ---- the order of the faults
 
 -- the order in which they are looked for
 abbrev pub place_of : PacketFault → ℕ

@@ -1,8 +1,8 @@
-use Rattle.tftp_ends.proofs.Runs.{first_blocks, finishes_whole, sends_once, taken_once}
+use Rattle.tftp_ends.proofs.Runs.{first_blocks_held, finishes_whole, sends_once, taken_once}
 use Rattle.tftp_ends.proofs.laws.one_pair.Goals as goal
 
 pub returns-clause-blocks : goal.returns-clause-blocks
-returns-clause-blocks c = first_blocks
+returns-clause-blocks c = first_blocks_held
 
 pub returns-clause-whole : goal.returns-clause-whole
 returns-clause-whole c = finishes_whole

@@ -1,6 +1,5 @@
 use Rattle.std.proofs.Common.{◌-◌, ◌*◌, [], arith, ap, sym, refl, length}
 use Rattle.tftp_packet.specs.declared.sizes.TheConstants.{BLOCK_SIZE}
-use Rattle.tftp_packet.proofs.Cutting.{length-block_of}
 use Rattle.tftp_ends.proofs.Chunking.{block_past, offset_within, copied_chunk}
 use Rattle.tftp_ends.proofs.received.ReceivedBlocks.block.Goals as goal
 

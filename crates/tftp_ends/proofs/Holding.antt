@@ -1,0 +1,228 @@
+-- What a receiver knows of the file that is sent to it, as long as each DATA that comes is a block of that file, and what
+-- its steps leave.
+use Rattle.std.proofs.Common.{◌≡◌, ◌⊎◌, ℕ, ◌+◌, ◌*◌, ◌<◌, ◌≤◌, Bool, true, false, ◌==◌, List, ◌++◌, length, None, Some, IfSome, refl, ap, sym, ◌∙◌, subst, arith, inl, inr, length-take}
+use Rattle.std.proofs.lemmas.Bool.{eqb-true, eqb-false, eq-eqb, ne_eqb}
+use Rattle.std.proofs.lemmas.Bool.Decides.{nat_tests}
+use Rattle.std.proofs.lemmas.List.{take_all}
+use Rattle.tftp_packet.specs.declared.sizes.TheConstants.{BLOCK_SIZE}
+use Rattle.tftp_packet.specs.Blocks.{block_count, block_of, first_blocks}
+use Rattle.tftp_packet.proofs.Cutting.{first_blocks-more}
+use Rattle.tftp_ends.specs.declared.limits.TheConstants.{MISSES, DALLY}
+use Rattle.tftp_ends.specs.declared.recv_state.RecvState.{RecvState}
+use Rattle.tftp_ends.specs.declared.recv_state.RecvState.TheVariants as receiving
+use Rattle.tftp_ends.specs.Ends.{Verdict, granted, refused, Receiver, receiver_appends, state_after, receiver_takes, receiver_next, receiver_again, is_last_come, is_past, receiver_running, receiver_data_in, receiver_data, receiver_missed, receiver_dallied, receiver_timeout_in, receiver_timeout, TakeAnswer, receiver_take_in, receiver_take, IsEnded, HoldsFirst, Completes, HasSize, IsReceiver}
+
+-- ---- what a receiver knows of the file
+
+-- it holds the first blocks of this file, and the next one came
+module _ (file : List ℕ) (r : Receiver) (holds : HoldsFirst file r) where
+  again_holds : (last : Bool) → HoldsFirst file (receiver_again last r).receiver
+  again_holds true = holds
+  again_holds false = holds
+
+  takes_holds : (body : List ℕ) → body ≡ block_of file (r.count + 1) → (verdict : Verdict) → HoldsFirst file (receiver_takes verdict body r).receiver
+  takes_holds body is_block granted =
+      ap (λ o. receiver_appends o body) holds ∙ ap (λ (xs : List ℕ). Some (first_blocks file r.count ++ xs)) is_block
+      ∙ ap Some (first_blocks-more file r.count)
+  takes_holds body is_block refused = holds
+
+  next_holds : (past : Bool) (body : List ℕ) → body ≡ block_of file (r.count + 1) → (verdict : Verdict) → HoldsFirst file (receiver_next past verdict body r).receiver
+  next_holds true body is_block verdict = holds
+  next_holds false body is_block verdict = takes_holds body is_block verdict
+
+  running_holds : (n : ℕ) (body : List ℕ) → body ≡ block_of file n → (verdict : Verdict) (next : Bool) → (n == r.count + 1) ≡ next → HoldsFirst file (receiver_running next verdict n body r).receiver
+  running_holds n body is_block verdict true is_next =
+      next_holds (is_past n body) body (is_block ∙ ap (block_of file) (eqb-true _ _ is_next)) verdict
+  running_holds n body is_block verdict false is_next = again_holds (is_last_come n r)
+
+  data_in_holds : (state : RecvState) (n : ℕ) (body : List ℕ) → body ≡ block_of file n → (verdict : Verdict) → HoldsFirst file (receiver_data_in state verdict n body r).receiver
+  data_in_holds receiving.Running n body is_block verdict = running_holds n body is_block verdict (n == r.count + 1) refl
+  data_in_holds receiving.Complete n body is_block verdict = again_holds (is_last_come n r)
+  data_in_holds receiving.TimedOut n body is_block verdict = holds
+  data_in_holds receiving.Over n body is_block verdict = holds
+
+  -- a receiver that holds the first r blocks holds the first r + 1 after the next block, and goes on to hold them
+  -- after any other
+  pub receiver_data-holds : (verdict : Verdict) (n : ℕ) (body : List ℕ) → body ≡ block_of file n → HoldsFirst file (receiver_data verdict n body r).receiver
+  receiver_data-holds verdict n body is_block = data_in_holds r.state n body is_block verdict
+
+  missed_holds : (last : Bool) → HoldsFirst file (receiver_missed last r).receiver
+  missed_holds true = holds
+  missed_holds false = holds
+
+  dallied_holds : (last : Bool) → HoldsFirst file (receiver_dallied last r).receiver
+  dallied_holds true = holds
+  dallied_holds false = holds
+
+  timeout_in_holds : (state : RecvState) → HoldsFirst file (receiver_timeout_in state r).receiver
+  timeout_in_holds receiving.Running = missed_holds (r.misses + 1 == MISSES)
+  timeout_in_holds receiving.Complete = dallied_holds (r.misses + 1 == DALLY)
+  timeout_in_holds receiving.TimedOut = holds
+  timeout_in_holds receiving.Over = holds
+
+  pub receiver_timeout-holds : HoldsFirst file (receiver_timeout r).receiver
+  receiver_timeout-holds = timeout_in_holds r.state
+
+  -- ---- complete is to have the whole file
+
+  held_size : IsReceiver r → HasSize r.state r.count (first_blocks file r.count)
+  held_size fits = subst (λ o. IfSome o (HasSize r.state r.count)) holds fits.size
+
+  -- whether it has the whole file, by its state
+  abbrev IsWhole : RecvState → Type 0
+  IsWhole receiving.Running = r.count < block_count file
+  IsWhole receiving.Complete = (r.count ≡ block_count file) × (r.file ≡ Some file)
+  IsWhole receiving.TimedOut = r.count < block_count file
+  IsWhole receiving.Over = (r.count ≡ block_count file) × (r.file ≡ Some file)
+
+  part : length (first_blocks file r.count) ≡ BLOCK_SIZE * r.count → r.count < block_count file
+  part size = omega (arith, length-take (BLOCK_SIZE * r.count) file)
+
+  ended : r.count ≡ block_count (first_blocks file r.count) → (r.count ≡ block_count file) × (r.file ≡ Some file)
+  ended size =
+      let all : length file ≤ BLOCK_SIZE * r.count = omega (arith, length-take (BLOCK_SIZE * r.count) file) in
+      let whole : first_blocks file r.count ≡ file = take_all (BLOCK_SIZE * r.count) file all in
+      (size ∙ ap block_count whole, holds ∙ ap Some whole)
+
+  whole_in : (state : RecvState) → HasSize state r.count (first_blocks file r.count) → IsWhole state
+  whole_in receiving.Running size = part size
+  whole_in receiving.Complete size = ended size
+  whole_in receiving.TimedOut size = part size
+  whole_in receiving.Over size = ended size
+
+  ended_in : (state : RecvState) → IsWhole state → IsEnded state → (r.count ≡ block_count file) × (r.file ≡ Some file)
+  ended_in receiving.Running whole e = absurd e
+  ended_in receiving.Complete whole e = whole
+  ended_in receiving.TimedOut whole e = absurd e
+  ended_in receiving.Over whole e = whole
+
+  last_in : (state : RecvState) → IsWhole state → r.count ≡ block_count file → IsEnded state
+  last_in receiving.Running whole e = absurd (omega (arith, whole))
+  last_in receiving.Complete whole e = tt
+  last_in receiving.TimedOut whole e = absurd (omega (arith, whole))
+  last_in receiving.Over whole e = tt
+
+  -- it is complete or over only with the last block and the whole of the file
+  pub ended-whole : IsReceiver r → IsEnded r.state → (r.count ≡ block_count file) × (r.file ≡ Some file)
+  ended-whole fits = ended_in r.state (whole_in r.state (held_size fits))
+
+  -- and it is so once it counts the last block; so it acknowledges that one only then
+  pub last-ended : IsReceiver r → r.count ≡ block_count file → IsEnded r.state
+  last-ended fits = last_in r.state (whole_in r.state (held_size fits))
+
+-- ---- how it becomes complete
+
+-- it was complete before, or this DATA completes the file
+abbrev pub CompletesBy : Verdict → (n : ℕ) (body : List ℕ) → (r next : Receiver) → Type 0
+CompletesBy verdict n body r next =
+    next.state ≡ receiving.Complete → (r.state ≡ receiving.Complete) ⊎ ((verdict ≡ granted) × Completes n body r)
+
+again_completes : (verdict : Verdict) (n : ℕ) (body : List ℕ) (r : Receiver) (last : Bool) → CompletesBy verdict n body r (receiver_again last r).receiver
+again_completes verdict n body r true complete = inl complete
+again_completes verdict n body r false complete = inl complete
+
+module _ (n : ℕ) (body : List ℕ) (r : Receiver) (short : length body ≤ BLOCK_SIZE) (running : r.state ≡ receiving.Running) (is_next : n ≡ r.count + 1) where
+  taken_completes : (full : Bool) → (length body == BLOCK_SIZE) ≡ full → state_after full ≡ receiving.Complete → (r.state ≡ receiving.Complete) ⊎ ((granted ≡ granted) × Completes n body r)
+  taken_completes true is_full complete = absurd cc
+  taken_completes false is_full complete =
+      let other : length body ≡ BLOCK_SIZE → ⊥ = eqb-false _ _ is_full in
+      inr (refl, record { running = running; next = is_next; short = omega arith })
+
+  takes_completes : (verdict : Verdict) → CompletesBy verdict n body r (receiver_takes verdict body r).receiver
+  takes_completes granted = taken_completes (length body == BLOCK_SIZE) refl
+  takes_completes refused = λ complete. inl complete
+
+  next_completes : (past : Bool) (verdict : Verdict) → CompletesBy verdict n body r (receiver_next past verdict body r).receiver
+  next_completes true verdict = λ complete. inl complete
+  next_completes false verdict = takes_completes verdict
+
+running_completes : (n : ℕ) (body : List ℕ) (r : Receiver) → length body ≤ BLOCK_SIZE → r.state ≡ receiving.Running → (verdict : Verdict) (next : Bool) → (n == r.count + 1) ≡ next → CompletesBy verdict n body r (receiver_running next verdict n body r).receiver
+running_completes n body r short running verdict true is_next = next_completes n body r short running (eqb-true _ _ is_next) (is_past n body) verdict
+running_completes n body r short running verdict false is_next = again_completes verdict n body r (is_last_come n r)
+
+data_in_completes : (state : RecvState) (verdict : Verdict) (n : ℕ) (body : List ℕ) (r : Receiver) → length body ≤ BLOCK_SIZE → r.state ≡ state → CompletesBy verdict n body r (receiver_data_in state verdict n body r).receiver
+data_in_completes receiving.Running verdict n body r short is = running_completes n body r short is verdict (n == r.count + 1) refl
+data_in_completes receiving.Complete verdict n body r short is = again_completes verdict n body r (is_last_come n r)
+data_in_completes receiving.TimedOut verdict n body r short is = λ complete. inl complete
+data_in_completes receiving.Over verdict n body r short is = λ complete. inl complete
+
+-- a receiver is newly complete only by a DATA that completes the file, and where memory is granted
+pub receiver_data-completes : (verdict : Verdict) (n : ℕ) (body : List ℕ) (r : Receiver) → length body ≤ BLOCK_SIZE → CompletesBy verdict n body r (receiver_data verdict n body r).receiver
+receiver_data-completes verdict n body r short = data_in_completes r.state verdict n body r short refl
+
+-- and by each such DATA
+pub completed : (n : ℕ) (body : List ℕ) (r : Receiver) → Completes n body r → (receiver_data granted n body r).receiver.state ≡ receiving.Complete
+completed n body r completes =
+    let short : (length body == BLOCK_SIZE) ≡ false = ne_eqb (length body) BLOCK_SIZE (λ e. omega (arith, completes.short)) in
+    let past : is_past n body ≡ false = grind (arith, nat_tests) in
+    ap (λ s. (receiver_data_in s granted n body r).receiver.state) completes.running
+    ∙ ap (λ next. (receiver_running next granted n body r).receiver.state) (eq-eqb n (r.count + 1) completes.next)
+    ∙ ap (λ past. (receiver_next past granted body r).receiver.state) past
+    ∙ ap state_after short
+
+-- ---- what a receiver's step leaves
+
+-- a DATA leaves the receiver as it was, or was the next block
+abbrev pub IsSameOrNext : (n : ℕ) → (r next : Receiver) → Type 0
+IsSameOrNext n r next = (next ≡ r) ⊎ ((n ≡ r.count + 1) × (next.count ≡ r.count + 1))
+
+again_same : (n : ℕ) (r : Receiver) (last : Bool) → IsSameOrNext n r (receiver_again last r).receiver
+again_same n r true = inl refl
+again_same n r false = inl refl
+
+takes_next : (n : ℕ) (body : List ℕ) (r : Receiver) → n ≡ r.count + 1 → (verdict : Verdict) → IsSameOrNext n r (receiver_takes verdict body r).receiver
+takes_next n body r is_next granted = inr (is_next, refl)
+takes_next n body r is_next refused = inl refl
+
+next_next : (n : ℕ) (body : List ℕ) (r : Receiver) → n ≡ r.count + 1 → (past : Bool) (verdict : Verdict) → IsSameOrNext n r (receiver_next past verdict body r).receiver
+next_next n body r is_next true verdict = inl refl
+next_next n body r is_next false verdict = takes_next n body r is_next verdict
+
+running_next : (n : ℕ) (body : List ℕ) (r : Receiver) (verdict : Verdict) (next : Bool) → (n == r.count + 1) ≡ next → IsSameOrNext n r (receiver_running next verdict n body r).receiver
+running_next n body r verdict true is = next_next n body r (eqb-true _ _ is) (is_past n body) verdict
+running_next n body r verdict false is = again_same n r (is_last_come n r)
+
+data_in_next : (state : RecvState) (verdict : Verdict) (n : ℕ) (body : List ℕ) (r : Receiver) → IsSameOrNext n r (receiver_data_in state verdict n body r).receiver
+data_in_next receiving.Running verdict n body r = running_next n body r verdict (n == r.count + 1) refl
+data_in_next receiving.Complete verdict n body r = again_same n r (is_last_come n r)
+data_in_next receiving.TimedOut verdict n body r = inl refl
+data_in_next receiving.Over verdict n body r = inl refl
+
+pub receiver_data-next : (verdict : Verdict) (n : ℕ) (body : List ℕ) (r : Receiver) → IsSameOrNext n r (receiver_data verdict n body r).receiver
+receiver_data-next verdict n body r = data_in_next r.state verdict n body r
+
+-- a time-out changes neither the count nor the file
+abbrev pub HasSameBlocks : (r next : Receiver) → Type 0
+HasSameBlocks r next = (next.count ≡ r.count) × (next.file ≡ r.file)
+
+missed_same : (last : Bool) (r : Receiver) → HasSameBlocks r (receiver_missed last r).receiver
+missed_same true r = (refl, refl)
+missed_same false r = (refl, refl)
+
+dallied_same : (last : Bool) (r : Receiver) → HasSameBlocks r (receiver_dallied last r).receiver
+dallied_same true r = (refl, refl)
+dallied_same false r = (refl, refl)
+
+timeout_in_same : (state : RecvState) (r : Receiver) → HasSameBlocks r (receiver_timeout_in state r).receiver
+timeout_in_same receiving.Running r = missed_same (r.misses + 1 == MISSES) r
+timeout_in_same receiving.Complete r = dallied_same (r.misses + 1 == DALLY) r
+timeout_in_same receiving.TimedOut r = (refl, refl)
+timeout_in_same receiving.Over r = (refl, refl)
+
+pub receiver_timeout-same : (r : Receiver) → HasSameBlocks r (receiver_timeout r).receiver
+receiver_timeout-same r = timeout_in_same r.state r
+
+-- nothing is given, or the file of a receiver that has ended, which then has none
+abbrev pub GivesOnce : Receiver → TakeAnswer → Type 0
+GivesOnce r a =
+    ((a.receiver ≡ r) × (a.file ≡ None))
+    ⊎ (IsEnded r.state × (a.receiver.count ≡ r.count) × (a.receiver.file ≡ None) × (a.file ≡ r.file))
+
+take_in_gives : (state : RecvState) (r : Receiver) → r.state ≡ state → GivesOnce r (receiver_take_in state r)
+take_in_gives receiving.Running r is = inl (refl, refl)
+take_in_gives receiving.Complete r is = inr (subst IsEnded (sym is) tt, refl, refl, refl)
+take_in_gives receiving.TimedOut r is = inl (refl, refl)
+take_in_gives receiving.Over r is = inr (subst IsEnded (sym is) tt, refl, refl, refl)
+
+pub receiver_take-gives : (r : Receiver) → GivesOnce r (receiver_take r)
+receiver_take-gives r = take_in_gives r.state r refl
