@@ -1,9 +1,10 @@
 -- Why a command fails.
-use Rattle.std.specs.Prelude.{◌≡◌, ◌⊎◌, ℕ, List, Option, IfSome}
+use Rattle.std.specs.Prelude.{◌≡◌, ◌⊎◌, ℕ, List, Option, IfSome, Result, Ok, Err}
+use Rattle.std.specs.Io.KnownBytes.{IsAtEnd}
 use Rattle.tws_file.specs.declared.file_fault.FileFault.{FileFault}
 use Rattle.tws_file.specs.declared.file_fault.FileFault.TheVariants as file
-use Rattle.tws_file.specs.declared.out_fault.OutFault.{OutFault}
-use Rattle.tws_file.specs.declared.out_fault.OutFault.TheVariants as out
+use Rattle.byte_output.specs.declared.out_fault.OutFault.{OutFault}
+use Rattle.byte_output.specs.declared.out_fault.OutFault.TheVariants as out
 use Rattle.tws_file.specs.Fault.{HasFault}
 use Rattle.tws_tool.specs.declared.tool_fault.ToolFault.{ToolFault}
 use Rattle.tws_tool.specs.declared.tool_fault.ToolFault.TheVariants.{Read, Write, Unreadable, Memory}
@@ -21,6 +22,13 @@ input_fault index fault = Unreadable index fault
 -- an input was not read to its end
 abbrev pub IsReadFault : ToolFault → Type 0
 IsReadFault e = (e ≡ Read) ⊎ (e ≡ Memory)
+
+-- an input that is called unreadable was read to its end
+abbrev pub IsReadOut : (left : Option (List ℕ)) → ToolFault → Type 0
+IsReadOut left Read = Unit {0}
+IsReadOut left Write = Unit {0}
+IsReadOut left (Unreadable index fault) = IsAtEnd left
+IsReadOut left Memory = Unit {0}
 
 -- the fault comes before anything is written
 abbrev pub IsBeforeOutput : ToolFault → Type 0
@@ -42,3 +50,8 @@ status_of Read = 2
 status_of Write = 2
 status_of (Unreadable index fault) = 3
 status_of Memory = 2
+
+-- the exit status of a command that answered so
+abbrev pub answer_status : Result (Unit {0}) ToolFault → ℕ
+answer_status (Ok done) = 0
+answer_status (Err e) = status_of e

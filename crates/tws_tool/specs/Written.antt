@@ -22,12 +22,12 @@ text_by packed file = packed_text file
 abbrev pub Writes : (File → List ℕ) → (known old new : Option (List ℕ)) → Type 0
 Writes text known old new = IfSome known (λ (bytes : List ℕ). (file : File) × IsText bytes file × Appends old new (text file))
 
--- they are a file's text, and a front of the file's text was written
-abbrev pub WritesFront : (File → List ℕ) → (known old new : Option (List ℕ)) → Type 0
-WritesFront text known old new = IfSome known (λ (bytes : List ℕ). (file : File) × IsText bytes file × AppendsPrefix old new (text file))
+-- they are a file's text, and a proper prefix of the file's text was written
+abbrev pub WritesPrefix : (File → List ℕ) → (known old new : Option (List ℕ)) → Type 0
+WritesPrefix text known old new = IfSome known (λ (bytes : List ℕ). (file : File) × IsText bytes file × AppendsPrefix old new (text file))
 
 abbrev pub WriteFails : (File → List ℕ) → (known old new : Option (List ℕ)) → ToolFault → Type 0
 WriteFails text known old new Read = new ≡ old
-WriteFails text known old new Write = WritesFront text known old new
+WriteFails text known old new Write = WritesPrefix text known old new
 WriteFails text known old new (Unreadable index fault) = (new ≡ old) × ReadFails 0 known (Unreadable index fault)
-WriteFails text known old new Memory = (new ≡ old) ⊎ WritesFront text known old new
+WriteFails text known old new Memory = (new ≡ old) ⊎ WritesPrefix text known old new

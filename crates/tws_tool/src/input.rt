@@ -1,7 +1,7 @@
 //! A whole input, up to its end.
 
 ghost use Rattle.std.specs.Prelude.{IfOk, IfErr};
-ghost use Rattle.tws_tool.specs.Faults.{ReadFails};
+ghost use Rattle.tws_tool.specs.Faults.{ReadFails, IsReadOut};
 ghost use Rattle.tws_tool.specs.Inputs.{IsRead};
 
 use crate::tool_fault::ToolFault;
@@ -12,13 +12,14 @@ use tws_file::{FileFault, Reader, TwsFile};
 /// How often one input is read. One whose last read gave no bytes has ended, also where that read was the last allowed.
 pub const INPUT_READS: u32 = 1 << 26;
 
-// The solution file that the input of this index holds. After a fault of the bytes it is still read to its end.
+// The solution file that the input of this index holds. A fault of its bytes is answered once it was read to its end.
 pub(crate) fn read_input<R: Read>(
     alloc: Global,
     index: usize,
     input: &mut R,
 ) -> Result<TwsFile, ToolFault>
     ensures file { IfOk result (IsRead (R.remaining input.old) (R.remaining input.new)) }
+    ensures unreadable { IfErr result (IsReadOut (R.remaining input.new)) }
     ensures fault { IfErr result (ReadFails index (R.remaining input.old)) }
 {
     let mut reader = Reader::new(alloc);

@@ -2,6 +2,8 @@
 
 ghost use Rattle.std.specs.Prelude.{◌≡◌};
 ghost use Rattle.clap.specs.Values.{kind_of};
+ghost use Rattle.clap.specs.declared.error.kind.ErrorKind.TheVariants.{OutOfMemory};
+ghost use Rattle.tws_tool.specs.declared.job.JobFault.TheVariants.{Memory};
 
 use clap::builder::ValueParser;
 use clap::error::ErrorKind;
@@ -34,25 +36,32 @@ pub(crate) enum Job {
 /// Why words ask for nothing.
 #[derive(Drop)]
 pub(crate) enum JobFault {
-    /// They are wrong, or ask for help.
+    /// A usage error, or a request for help.
     Words(clap::Error),
-    /// Memory ran out.
+    /// Out of memory.
     Memory,
 }
 
 impl From<AllocError> for JobFault {
+    ghost from_gives = { λ _ e. e ≡ Memory };
+
     fn from(_error: AllocError) -> Self {
         JobFault::Memory
     }
 }
 
 impl<T: Drop> From<AllocFailed<T>> for JobFault {
+    ghost from_gives = { λ _ e. e ≡ Memory };
+
     fn from(_error: AllocFailed<T>) -> Self {
         JobFault::Memory
     }
 }
 
 impl From<clap::Error> for JobFault {
+    // An error of running out of memory is no usage error.
+    ghost from_gives = { λ error e. kind_of error ≡ OutOfMemory → e ≡ Memory };
+
     fn from(error: clap::Error) -> Self {
         match error.kind() {
             ErrorKind::OutOfMemory => JobFault::Memory,
@@ -95,28 +104,49 @@ fn command<'a>(alloc: Global) -> Result<Command<'a>, AllocError> {
         .subcommand(best)
 }
 
-// What the words behind `best` ask for.
-fn best_of(alloc: Global, words: &ArgMatches) -> Result<Job, JobFault> {
-    let rules = match words.get_str("rules") {
-        Some("lynx") => Ruleset::Lynx,
-        _ => Ruleset::Ms,
+// The rules of this name.
+fn rules_of(name: &str) -> Option<Ruleset> {
+    match name {
+        "lynx" => Some(Ruleset::Lynx),
+        "ms" => Some(Ruleset::Ms),
+        _ => None,
+    }
+}
+
+// What the words after `best` ask for; nothing if they name no rules.
+fn best_of(alloc: Global, words: &ArgMatches) -> Result<Option<Job>, JobFault> {
+    let Some(rules) = words.get_str("rules").and_then(rules_of) else {
+        return Ok(None);
     };
     let mut files = Vec::new(alloc);
     for name in words.get_raw("files").unwrap_or(&[]) {
         files.push(String::from_str(alloc, name)?)?;
     }
-    Ok(Job::Best { rules, files })
+    Ok(Some(Job::Best { rules, files }))
 }
 
+// What the words of a command ask for; nothing if there is no command of this name.
+fn job_by(alloc: Global, name: &str, words: &ArgMatches) -> Result<Option<Job>, JobFault> {
+    match name {
+        "show" => {
+            let moves = words.get_flag("moves");
+            Ok(Some(Job::Show { moves }))
+        }
+        "pack" => Ok(Some(Job::Pack)),
+        "best" => best_of(alloc, words),
+        _ => Ok(None),
+    }
+}
+
+// What the words ask for, of which the first is the program's name.
 pub(crate) fn job_of(alloc: Global, words: &[String]) -> Result<Job, JobFault> {
-    let command = command(alloc)?;
-    let matches = command.try_get_matches_from(words)?;
-    if let Some(show) = matches.subcommand_matches("show") {
-        let moves = show.get_flag("moves");
-        return Ok(Job::Show { moves });
+    let mut command = command(alloc)?;
+    let matches = command.try_get_matches_from_mut(words)?;
+    if let Some((name, words)) = matches.subcommand() {
+        if let Some(job) = job_by(alloc, name, words)? {
+            return Ok(job);
+        }
     }
-    match matches.subcommand_matches("best") {
-        Some(best) => best_of(alloc, best),
-        None => Ok(Job::Pack),
-    }
+    let error = command.error(ErrorKind::InvalidSubcommand, "no such command")?;
+    Err(JobFault::Words(error))
 }

@@ -1,6 +1,7 @@
 ghost use Rattle.std.specs.Prelude.{◌≡◌, ◌≢◌, OnOk, IfErr};
 ghost use Rattle.std.specs.Io.KnownBytes.{IsAtEnd};
 ghost use Rattle.tws_file.specs.Packing.{packed_text};
+ghost use Rattle.tws_tool.specs.Faults.{IsReadOut};
 ghost use Rattle.tws_tool.specs.Written.{Writes, WriteFails};
 
 use crate::input::read_input;
@@ -14,14 +15,15 @@ use tws_file::{pack, write_file};
 /// # Errors
 ///
 /// `Read` where the reader fails or does not end within `INPUT_READS` reads, and `Unreadable` with index 0 and the
-/// fault of the bytes: then nothing was written. `Write` where the writer fails: then a front of the packed file was
-/// written. `Memory` where memory ran out, and nothing was written.
+/// fault of the bytes: then nothing was written. `Write` where the writer fails: then a proper prefix of the packed file was
+/// written. `Memory` where a growth was refused, and nothing was written.
 pub fn run_pack<R: Read, W: Write>(
     alloc: Global,
     input: &mut R,
     out: &mut W,
 ) -> Result<(), ToolFault>
     ensures end { OnOk result (IsAtEnd (R.remaining input.new)) }
+    ensures unreadable { IfErr result (IsReadOut (R.remaining input.new)) }
     ensures packed { OnOk result (Writes packed_text (R.remaining input.old) (W.contents out.old) (W.contents out.new)) }
     ensures fails { IfErr result (WriteFails packed_text (R.remaining input.old) (W.contents out.old) (W.contents out.new)) }
     // Also of a writer that does not tell what it holds.

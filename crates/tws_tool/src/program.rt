@@ -1,8 +1,10 @@
 //! The whole program but for where its words and streams come from.
 
-ghost use Rattle.std.specs.Prelude.{◌≡◌, ◌⊎◌, ◌≤◌};
-ghost use Rattle.tws_tool.specs.Faults.{status_of};
-ghost use Rattle.tws_tool.specs.Written.{Writes, CommandText, text_by};
+ghost use Rattle.std.specs.Prelude.{◌≡◌, ◌≢◌, ◌≤◌, Result, length, OnOk, IfOk, IfErr};
+ghost use Rattle.tws_tool.specs.declared.job.Job.{Job};
+ghost use Rattle.tws_tool.specs.declared.job.JobFault.{JobFault};
+ghost use Rattle.tws_tool.specs.Faults.{status_of, answer_status};
+ghost use Rattle.tws_tool.specs.Jobs.{BestDone, BestStops, JobRuns};
 
 use crate::best::run_best;
 use crate::job::{Job, JobFault, job_of};
@@ -38,10 +40,22 @@ fn report<E: Write>(fault: ToolFault, names: &[String], errors: &mut E) -> u8
     fault.status()
 }
 
+// Says why a command failed, if it did, and answers the status.
+fn finish<E: Write>(done: Result<(), ToolFault>, names: &[String], errors: &mut E) -> u8
+    ensures status { result ≡ answer_status done }
+    ensures silent { result ≡ 0 → errors.new ≡ errors.old }
+{
+    match done {
+        Ok(()) => DONE,
+        Err(fault) => report(fault, names, errors),
+    }
+}
+
 // Shows help, or says what is wrong with the words, and answers the status.
 fn explain<W: Write, E: Write>(error: &clap::Error, out: &mut W, errors: &mut E) -> u8
     ensures status { result ≤ 2 }
     ensures usage { result ≡ 1 → out.new ≡ out.old }
+    ensures silent { result ≡ 0 → errors.new ≡ errors.old }
 {
     if error.use_stderr() {
         let _ = write!(errors, "{error}");
@@ -54,7 +68,9 @@ fn explain<W: Write, E: Write>(error: &clap::Error, out: &mut W, errors: &mut E)
 }
 
 // Opens all files, before one is read.
-fn open_all<P: Files>(rt: &P, alloc: Global, names: &[String]) -> Result<Vec<P::File>, ToolFault> {
+fn open_all<P: Files>(rt: &P, alloc: Global, names: &[String]) -> Result<Vec<P::File>, ToolFault>
+    ensures { IfOk result (λ files. length files.items ≡ length names.now) }
+{
     let mut files = Vec::new(alloc);
     for name in names {
         let Ok(file) = OpenOptions::new().read(true).open(rt, name.as_str()) else {
@@ -65,33 +81,53 @@ fn open_all<P: Files>(rt: &P, alloc: Global, names: &[String]) -> Result<Vec<P::
     Ok(files)
 }
 
-// Collects the best solutions of the files of these names, and answers the status.
-fn best<P: Files, W: Write, E: Write>(
+// Writes the collection over the files of these names.
+fn write_best<P: Files, W: Write>(
     rt: &P,
     alloc: Global,
     rules: Ruleset,
     names: &[String],
     out: &mut W,
+) -> Result<(), ToolFault>
+    ensures done { OnOk result (BestDone rules (length names.now) (W.contents out.old) (W.contents out.new)) }
+    ensures fails { IfErr result (BestStops rules (length names.now) (W.contents out.old) (W.contents out.new)) }
+    // Also of a writer that does not tell what it holds.
+    ensures unwritten { IfErr result (λ e. e ≢ ToolFault.Write → out.new ≡ out.old) }
+{
+    let mut files = open_all(rt, alloc, names)?;
+    run_best(alloc, rules, &mut files, out)
+}
+
+// Does a job, or says why there is none, and answers the status.
+fn run_job<P: Files, R: Read, W: Write, E: Write>(
+    rt: &P,
+    alloc: Global,
+    job: Result<Job, JobFault>,
+    input: &mut R,
+    out: &mut W,
     errors: &mut E,
 ) -> u8
-    ensures status { result ≤ 3 }
-    ensures usage { result ≡ 1 → out.new ≡ out.old }
+    ensures ran { JobRuns job result (R.remaining input.old) (R.remaining input.new) (W.contents out.old) (W.contents out.new) }
+    ensures usage { result ≡ 1 → (input.new ≡ input.old) × (out.new ≡ out.old) }
     ensures unreadable { result ≡ 3 → out.new ≡ out.old }
+    ensures silent { result ≡ 0 → errors.new ≡ errors.old }
 {
-    let done = match open_all(rt, alloc, names) {
-        Ok(mut files) => run_best(alloc, rules, &mut files, out),
-        Err(fault) => Err(fault),
-    };
-    match done {
-        Ok(()) => DONE,
-        Err(fault) => report(fault, names, errors),
+    match job {
+        Ok(Job::Show { moves }) => finish(run_show(alloc, input, out, moves), &[], errors),
+        Ok(Job::Pack) => finish(run_pack(alloc, input, out), &[], errors),
+        Ok(Job::Best { rules, files }) => {
+            let done = write_best(rt, alloc, rules, &files, out);
+            finish(done, &files, errors)
+        }
+        Err(JobFault::Words(error)) => explain(&error, out, errors),
+        Err(JobFault::Memory) => report(ToolFault::Memory, &[], errors),
     }
 }
 
 /// Does what the words ask for, of which the first is the program's name, and answers the exit status.
 ///
 /// A fault goes to `errors` as one line. The status is 0 where all was done, and for help, whose text goes to `out`;
-/// 1 for wrong words; 2 where reading, writing or memory failed; 3 for an unreadable solution file.
+/// 1 for a usage error; 2 where reading, writing or memory failed; 3 for an unreadable solution file.
 pub fn run_words<P: Files, R: Read, W: Write, E: Write>(
     rt: &P,
     alloc: Global,
@@ -100,22 +136,11 @@ pub fn run_words<P: Files, R: Read, W: Write, E: Write>(
     out: &mut W,
     errors: &mut E,
 ) -> u8
-    ensures status { result ≤ 3 }
-    // Where the input was read and all was done, a command's text of it was written.
-    ensures written { result ≡ 0 → (input.new ≡ input.old) ⊎ (text : CommandText) × Writes (text_by text) (R.remaining input.old) (W.contents out.old) (W.contents out.new) }
-    // Wrong words and an unreadable file leave the output as it was.
-    ensures usage { result ≡ 1 → out.new ≡ out.old }
+    ensures ran { (job : Result Job JobFault) × JobRuns job result (R.remaining input.old) (R.remaining input.new) (W.contents out.old) (W.contents out.new) }
+    // A usage error leaves input and output as they were, and an unreadable file the output.
+    ensures usage { result ≡ 1 → (input.new ≡ input.old) × (out.new ≡ out.old) }
     ensures unreadable { result ≡ 3 → out.new ≡ out.old }
+    ensures silent { result ≡ 0 → errors.new ≡ errors.old }
 {
-    let done = match job_of(alloc, words) {
-        Ok(Job::Show { moves }) => run_show(alloc, moves, input, out),
-        Ok(Job::Pack) => run_pack(alloc, input, out),
-        Ok(Job::Best { rules, files }) => return best(rt, alloc, rules, &files, out, errors),
-        Err(JobFault::Words(error)) => return explain(&error, out, errors),
-        Err(JobFault::Memory) => Err(ToolFault::Memory),
-    };
-    match done {
-        Ok(()) => DONE,
-        Err(fault) => report(fault, &[], errors),
-    }
+    run_job(rt, alloc, job_of(alloc, words), input, out, errors)
 }

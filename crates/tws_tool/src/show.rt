@@ -1,7 +1,7 @@
 ghost use Rattle.std.specs.Prelude.{◌≡◌, OnOk, IfErr};
 ghost use Rattle.std.specs.Io.KnownBytes.{IsAtEnd};
 ghost use Rattle.tws_file.specs.Listing.{listing_of};
-ghost use Rattle.tws_tool.specs.Faults.{IsBeforeOutput};
+ghost use Rattle.tws_tool.specs.Faults.{IsBeforeOutput, IsReadOut};
 ghost use Rattle.tws_tool.specs.Written.{Writes, WriteFails};
 
 use crate::input::read_input;
@@ -15,15 +15,16 @@ use tws_file::show;
 /// # Errors
 ///
 /// `Read` where the reader fails or does not end within `INPUT_READS` reads, and `Unreadable` with index 0 and the
-/// fault of the bytes: then nothing was written. `Write` where the writer fails: then a front of the listing was
-/// written. `Memory` where memory ran out, and nothing or a front of the listing was written.
+/// fault of the bytes: then nothing was written. `Write` where the writer fails: then a proper prefix of the listing
+/// was written. `Memory` where a growth was refused, and nothing or a prefix of the listing was written.
 pub fn run_show<R: Read, W: Write>(
     alloc: Global,
-    moves: bool,
     input: &mut R,
     out: &mut W,
+    moves: bool,
 ) -> Result<(), ToolFault>
     ensures end { OnOk result (IsAtEnd (R.remaining input.new)) }
+    ensures unreadable { IfErr result (IsReadOut (R.remaining input.new)) }
     ensures listed { OnOk result (Writes (listing_of moves) (R.remaining input.old) (W.contents out.old) (W.contents out.new)) }
     ensures fails { IfErr result (WriteFails (listing_of moves) (R.remaining input.old) (W.contents out.old) (W.contents out.new)) }
     // Also of a writer that does not tell what it holds.

@@ -241,7 +241,7 @@ fn show_answers_its_faults(rt: HostRuntime) {
     let mut out = room.as_mut_slice();
     let mut input = SOLUTION.as_slice();
     assert_eq!(rt;
-        run_show(rt.alloc(), false, &mut input, &mut out),
+        run_show(rt.alloc(), &mut input, &mut out, false),
         Err(ToolFault::Write)
     );
     assert_eq!(rt; room, *b"ruleset ly");
@@ -253,7 +253,7 @@ fn show_answers_its_faults(rt: HostRuntime) {
         fault: FileFault::ShortRecord(8),
     };
     assert_eq!(rt;
-        run_show(rt.alloc(), false, &mut input, &mut out),
+        run_show(rt.alloc(), &mut input, &mut out, false),
         Err(fault)
     );
 }
@@ -280,7 +280,7 @@ fn an_input_that_does_not_end(rt: HostRuntime) {
     let mut out = Vec::new(rt.alloc());
     let mut input = Drops { left: u32::MAX };
     assert_eq!(rt;
-        run_show(rt.alloc(), false, &mut input, &mut out),
+        run_show(rt.alloc(), &mut input, &mut out, false),
         Err(ToolFault::Read)
     );
     assert_eq!(rt; input.left, u32::MAX - INPUT_READS);
@@ -294,7 +294,7 @@ fn an_input_that_does_not_end(rt: HostRuntime) {
         fault: FileFault::BadSignature,
     };
     assert_eq!(rt;
-        run_show(rt.alloc(), false, &mut input, &mut out),
+        run_show(rt.alloc(), &mut input, &mut out, false),
         Err(fault)
     );
     assert!(rt; out.is_empty());
