@@ -40,12 +40,12 @@ CollectFails knowns Memory = Unit {0}
 abbrev pub BestWrites : Ruleset → List (Option (List ℕ)) → (old new : Option (List ℕ)) → Type 0
 BestWrites kind knowns old new = (c : Collected) × Collects kind knowns c × Appends old new (collection_text c)
 
--- a front of it was written
-abbrev pub BestFront : Ruleset → List (Option (List ℕ)) → (old new : Option (List ℕ)) → Type 0
-BestFront kind knowns old new = (c : Collected) × Collects kind knowns c × AppendsPrefix old new (collection_text c)
+-- a proper prefix of it was written
+abbrev pub BestPrefix : Ruleset → List (Option (List ℕ)) → (old new : Option (List ℕ)) → Type 0
+BestPrefix kind knowns old new = (c : Collected) × Collects kind knowns c × AppendsPrefix old new (collection_text c)
 
 abbrev pub BestFails : Ruleset → List (Option (List ℕ)) → (old new : Option (List ℕ)) → ToolFault → Type 0
 BestFails kind knowns old new Read = new ≡ old
-BestFails kind knowns old new Write = BestFront kind knowns old new
+BestFails kind knowns old new Write = BestPrefix kind knowns old new
 BestFails kind knowns old new (Unreadable index fault) = (new ≡ old) × CollectFails knowns (Unreadable index fault)
-BestFails kind knowns old new Memory = (new ≡ old) ⊎ BestFront kind knowns old new
+BestFails kind knowns old new Memory = (new ≡ old) ⊎ BestPrefix kind knowns old new
