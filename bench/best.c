@@ -1,6 +1,6 @@
 /* The best solution of each level number and password of several Tile World solution files, to time `tws best` against:
-   each file is read whole, its solutions are sorted by qsort, and the first of each key is written. The files hold
-   solutions without moves. */
+   each file is read whole, its solutions are sorted by qsort, and the first of each key is written. Moves are not
+   checked. */
 #include "common.h"
 
 struct solution {

@@ -1,7 +1,8 @@
-// Files are merged into a collection and loaded, and collections joined and copied.
+// Files are merged into a collection and loaded, and of collections copies and snapshots are made.
 use refusing::Refusing;
 use std::alloc::{Allocator, Global};
 use std::test::Fail;
+use tftp_packet::Blocks;
 use tws_best::Collection;
 use tws_file::{Ruleset, TwsFile, read_file};
 
@@ -72,35 +73,6 @@ fn merging(rt: HostRuntime) -> Result<(), Fail> {
 }
 
 #[test]
-fn joining(rt: HostRuntime) -> Result<(), Fail> {
-    let three = file_of(rt.alloc(), &THREE)?;
-    let two = file_of(rt.alloc(), &TWO)?;
-    for nth in 1..MANY {
-        let refusing = Refusing::new(rt.alloc(), nth);
-        let mut collection = Collection::new(&refusing, Ruleset::Lynx);
-        let mut other = Collection::new(&refusing, Ruleset::Lynx);
-        if collection.merge(&three).is_err() {
-            continue;
-        }
-        if other.merge(&two).is_err() {
-            continue;
-        }
-        match collection.join(other) {
-            Ok(()) => assert!(rt; is_text(rt.alloc(), &collection, &ALL)?),
-            Err(_) => {
-                assert!(rt; refusing.has_refused());
-                assert!(rt; is_text(rt.alloc(), &collection, &THREE)?);
-            }
-        }
-        if !refusing.has_refused() {
-            assert!(rt; nth > 5);
-            return Ok(());
-        }
-    }
-    Err(Fail::new("a request was refused in each run"))
-}
-
-#[test]
 fn loading(rt: HostRuntime) -> Result<(), Fail> {
     let file = file_of(rt.alloc(), &THREE)?;
     for nth in 1..MANY {
@@ -117,17 +89,70 @@ fn loading(rt: HostRuntime) -> Result<(), Fail> {
     Err(Fail::new("a request was refused in each run"))
 }
 
+// No request was made for the empty collection, nor is one for its copy.
+#[test]
+fn empty_collections(rt: HostRuntime) -> Result<(), Fail> {
+    let refusing = Refusing::new(rt.alloc(), 1);
+    let collection = Collection::new(&refusing, Ruleset::Lynx);
+    let copy = collection.copy()?;
+    assert!(rt; is_text(rt.alloc(), &copy, &[])?);
+    assert_eq!(rt; refusing.requests(), 0);
+    Ok(())
+}
+
 #[test]
 fn copying(rt: HostRuntime) -> Result<(), Fail> {
-    let collection = Collection::load(rt.alloc(), &file_of(rt.alloc(), &THREE)?)?;
+    let file = file_of(rt.alloc(), &THREE)?;
     for nth in 1..MANY {
         let refusing = Refusing::new(rt.alloc(), nth);
-        match collection.copy(&refusing) {
+        let Ok(collection) = Collection::load(&refusing, &file) else {
+            continue;
+        };
+        match collection.copy() {
             Ok(copy) => assert!(rt; is_text(rt.alloc(), &copy, &THREE)?),
             Err(_) => assert!(rt; refusing.has_refused()),
         }
+        assert!(rt; is_text(rt.alloc(), &collection, &THREE)?);
         if !refusing.has_refused() {
-            assert!(rt; nth > 3);
+            assert!(rt; nth > 5);
+            return Ok(());
+        }
+    }
+    Err(Fail::new("a request was refused in each run"))
+}
+
+// All blocks, one after the other.
+fn joined_blocks(global: Global, blocks: &impl Blocks) -> Result<Vec<u8>, Fail> {
+    let mut text = Vec::new(global);
+    let mut out = [0; 512];
+    let count = u16::try_from(blocks.file_len() / 512 + 1)?;
+    for before in 0..count {
+        let size = blocks.block(before + 1, &mut out);
+        text.extend_from_slice(&out[..size])?;
+    }
+    Ok(text)
+}
+
+#[test]
+fn snapshots(rt: HostRuntime) -> Result<(), Fail> {
+    let file = file_of(rt.alloc(), &THREE)?;
+    let wanted = text_of(rt.alloc(), &THREE)?;
+    for nth in 1..MANY {
+        let refusing = Refusing::new(rt.alloc(), nth);
+        let Ok(collection) = Collection::load(&refusing, &file) else {
+            continue;
+        };
+        assert!(rt; collection.text_len() <= 1_000_000);
+        match collection.snapshot() {
+            Ok(snapshot) => {
+                let text = joined_blocks(rt.alloc(), &snapshot)?;
+                assert_eq!(rt; text.as_slice(), wanted.as_slice());
+            }
+            Err(_) => assert!(rt; refusing.has_refused()),
+        }
+        assert!(rt; is_text(rt.alloc(), &collection, &THREE)?);
+        if !refusing.has_refused() {
+            assert!(rt; nth > 5);
             return Ok(());
         }
     }
