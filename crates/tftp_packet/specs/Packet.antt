@@ -1,6 +1,6 @@
 -- What a TFTP datagram is: the five packets, and the bytes that are each. RFC 1350 section 5; docs/FORMATS.md has it as
 -- tables. Every number is big-endian.
-use Rattle.std.specs.Prelude.{◌≡◌, ℕ, ◌+◌, ◌<◌, ◌≤◌, ◌^◌, Bool, ◌==◌, List, [], ◌∷◌, ◌++◌, length, map, slice_index, count_by, codes}
+use Rattle.std.specs.Prelude.{◌≡◌, ℕ, ◌+◌, ◌<◌, ◌≤◌, ◌^◌, Bool, ◌==◌, List, [], ◌∷◌, ◌++◌, length, map, count_by, codes}
 use Rattle.std.specs.Char.{to_ascii_lowercase}
 use Rattle.byteorder.specs.Endian.{big_bytes}
 use Rattle.tftp_packet.specs.declared.sizes.TheConstants.{BLOCK_SIZE, MAX_DATAGRAM}
