@@ -11,18 +11,18 @@ use Rattle.tws_tool.specs.Collecting.{BestWrites, BestFails}
 use Rattle.tws_tool.specs.Jobs.{Ran, BestRan, BestDone, BestStops}
 
 pub ran : (text : File → List ℕ) (r : Result (Unit {0}) ToolFault) (known left old new : Option (List ℕ)) → OnOk r (IsAtEnd left) → IfErr r (IsReadOut left) → OnOk r (Writes text known old new) → IfErr r (WriteFails text known old new) → Ran text (answer_status r) known left old new
-ran text (Ok done) known left old new end out writes fails = record { done = λ e. (end, writes); failed = λ e. omega (arith, e); unreadable = λ e. omega (arith, e); never = λ e. omega (arith, e) }
-ran text (Err Read) known left old new end out writes fails = record { done = λ e. omega (arith, e); failed = λ e. inl fails; unreadable = λ e. omega (arith, e); never = λ e. omega (arith, e) }
-ran text (Err Write) known left old new end out writes fails = record { done = λ e. omega (arith, e); failed = λ e. inr fails; unreadable = λ e. omega (arith, e); never = λ e. omega (arith, e) }
-ran text (Err (Unreadable index fault)) known left old new end out writes fails = record { done = λ e. omega (arith, e); failed = λ e. omega (arith, e); unreadable = λ e. (out, fails.0); never = λ e. omega (arith, e) }
-ran text (Err Memory) known left old new end out writes fails = record { done = λ e. omega (arith, e); failed = λ e. fails; unreadable = λ e. omega (arith, e); never = λ e. omega (arith, e) }
+ran text (Ok done) known left old new end out writes fails = record { done = λ e. (end, writes); failed = λ e. absurd (omega (arith, e)); unreadable = λ e. absurd (omega (arith, e)); never = λ e. omega (arith, e) }
+ran text (Err Read) known left old new end out writes fails = record { done = λ e. absurd (omega (arith, e)); failed = λ e. inl fails; unreadable = λ e. absurd (omega (arith, e)); never = λ e. omega (arith, e) }
+ran text (Err Write) known left old new end out writes fails = record { done = λ e. absurd (omega (arith, e)); failed = λ e. inr fails; unreadable = λ e. absurd (omega (arith, e)); never = λ e. omega (arith, e) }
+ran text (Err (Unreadable index fault)) known left old new end out writes fails = record { done = λ e. absurd (omega (arith, e)); failed = λ e. absurd (omega (arith, e)); unreadable = λ e. (out, fails.0); never = λ e. omega (arith, e) }
+ran text (Err Memory) known left old new end out writes fails = record { done = λ e. absurd (omega (arith, e)); failed = λ e. fails; unreadable = λ e. absurd (omega (arith, e)); never = λ e. omega (arith, e) }
 
 pub best_ran : (kind : Ruleset) (r : Result (Unit {0}) ToolFault) (files : ℕ) (old new : Option (List ℕ)) → OnOk r (BestDone kind files old new) → IfErr r (BestStops kind files old new) → BestRan kind files (answer_status r) old new
-best_ran kind (Ok done) files old new writes fails = record { done = λ e. writes; failed = λ e. omega (arith, e); unreadable = λ e. omega (arith, e); never = λ e. omega (arith, e) }
-best_ran kind (Err Read) files old new writes fails = record { done = λ e. omega (arith, e); failed = λ e. inl fails; unreadable = λ e. omega (arith, e); never = λ e. omega (arith, e) }
-best_ran kind (Err Write) files old new writes fails = record { done = λ e. omega (arith, e); failed = λ e. fails; unreadable = λ e. omega (arith, e); never = λ e. omega (arith, e) }
-best_ran kind (Err (Unreadable index fault)) files old new writes fails = record { done = λ e. omega (arith, e); failed = λ e. omega (arith, e); unreadable = λ e. fails; never = λ e. omega (arith, e) }
-best_ran kind (Err Memory) files old new writes fails = record { done = λ e. omega (arith, e); failed = λ e. fails; unreadable = λ e. omega (arith, e); never = λ e. omega (arith, e) }
+best_ran kind (Ok done) files old new writes fails = record { done = λ e. writes; failed = λ e. absurd (omega (arith, e)); unreadable = λ e. absurd (omega (arith, e)); never = λ e. omega (arith, e) }
+best_ran kind (Err Read) files old new writes fails = record { done = λ e. absurd (omega (arith, e)); failed = λ e. inl fails; unreadable = λ e. absurd (omega (arith, e)); never = λ e. omega (arith, e) }
+best_ran kind (Err Write) files old new writes fails = record { done = λ e. absurd (omega (arith, e)); failed = λ e. fails; unreadable = λ e. absurd (omega (arith, e)); never = λ e. omega (arith, e) }
+best_ran kind (Err (Unreadable index fault)) files old new writes fails = record { done = λ e. absurd (omega (arith, e)); failed = λ e. absurd (omega (arith, e)); unreadable = λ e. fails; never = λ e. omega (arith, e) }
+best_ran kind (Err Memory) files old new writes fails = record { done = λ e. absurd (omega (arith, e)); failed = λ e. fails; unreadable = λ e. absurd (omega (arith, e)); never = λ e. omega (arith, e) }
 
 -- a failed `run_best` over these inputs
 pub best_stops : (kind : Ruleset) (knowns : List (Option (List ℕ))) (files : ℕ) (old new : Option (List ℕ)) (e : ToolFault) → length knowns ≡ files → BestFails kind knowns old new e → BestStops kind files old new e
