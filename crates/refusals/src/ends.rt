@@ -1,4 +1,6 @@
 // A transfer is received and copied, each growth refused in turn.
+ghost use Rattle.std.specs.Prelude.{◌≤◌};
+
 use refusing::Refusing;
 use std::alloc::{Allocator, Global};
 use std::test::Fail;
@@ -29,10 +31,7 @@ fn size(n: u16) -> usize
 
 // Whether these are the bytes of the blocks from this one on.
 fn are_blocks(bytes: &[u8], first: usize) -> bool {
-    bytes
-        .iter()
-        .enumerate()
-        .all(|(i, b)| usize::from(*b) == (i / BLOCK_SIZE).wrapping_add(first))
+    bytes.iter().enumerate().all(|(i, b)| usize::from(*b) == (i / BLOCK_SIZE).wrapping_add(first))
 }
 
 fn is_whole(bytes: &[u8]) -> bool {
