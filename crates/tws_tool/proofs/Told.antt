@@ -12,8 +12,8 @@ use Rattle.tws_best.specs.Best.{Collected, IsBestOf, IsCollectionOf, solutions_o
 use Rattle.tws_best.proofs.Sets.{no_texts, one_more_text}
 use Rattle.tws_tool.specs.declared.tool_fault.ToolFault.{ToolFault}
 use Rattle.tws_tool.specs.declared.tool_fault.ToolFault.TheVariants.{Read, Write, Unreadable, Memory}
-use Rattle.tws_tool.specs.Faults.{ReadFails}
-use Rattle.tws_tool.specs.Collecting.{AreTold, Collects, CollectFails, IsFirstUnreadable}
+use Rattle.tws_tool.specs.Faults.{ReadFails, IsReadOut}
+use Rattle.tws_tool.specs.Collecting.{AreTold, Collects, CollectFails, IsFirstUnreadable, AreReadOut}
 
 -- ---- what is told
 
@@ -123,3 +123,11 @@ others_stay now old i y others =
 pub one_more_ended : {R : Type 0} (told : R → Option (List ℕ)) (now : List R) (i : ℕ) (y : R) → i < length now → AllByRecursion (λ (r : R). IsAtEnd (told r)) (take i now) → IsAtEnd (told y) → AllByRecursion (λ (r : R). IsAtEnd (told r)) (take (i + 1) (slice_set now i y))
 one_more_ended {R} told now i y inside ended last =
     subst (AllByRecursion (λ (r : R). IsAtEnd (told r))) (sym (take_more_set now i y inside)) (all_append (λ (r : R). IsAtEnd (told r)) (take i now) (y ∷ []) ended (last, tt))
+
+-- the inputs up to one that fails
+pub read_out : {R : Type 0} (told : R → Option (List ℕ)) (now : List R) (i : ℕ) (y : R) (known : Option (List ℕ)) (e : ToolFault) → i < length now → AllByRecursion (λ (r : R). IsAtEnd (told r)) (take i now) → ReadFails i known e → IsReadOut (told y) e → AreReadOut told (slice_set now i y) e
+read_out told now i y known Read inside ended fails out = tt
+read_out told now i y known Write inside ended fails out = tt
+read_out {R} told now i y known (Unreadable index fault) inside ended fails out =
+    subst (λ (n : ℕ). AllByRecursion (λ (r : R). IsAtEnd (told r)) (take (n + 1) (slice_set now i y))) (sym fails.0) (one_more_ended told now i y inside ended out)
+read_out told now i y known Memory inside ended fails out = tt

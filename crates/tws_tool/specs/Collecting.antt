@@ -1,7 +1,7 @@
 -- What `tws best` writes: the collection over all its inputs.
-use Rattle.std.specs.Prelude.{◌≡◌, ◌⊎◌, ℕ, ◌<◌, List, [], ◌∷◌, length, take, slice_index_or, Option, Some}
+use Rattle.std.specs.Prelude.{◌≡◌, ◌⊎◌, ℕ, ◌+◌, ◌<◌, List, [], ◌∷◌, length, take, slice_index_or, Option, Some}
 use Rattle.std.specs.List.{AllByRecursion}
-use Rattle.std.specs.Io.KnownBytes.{Appends}
+use Rattle.std.specs.Io.KnownBytes.{Appends, IsAtEnd}
 use Rattle.tws_file.specs.declared.file_fault.FileFault.{FileFault}
 use Rattle.tws_file.specs.declared.«ruleset».Ruleset.{Ruleset}
 use Rattle.tws_file.specs.Text.{IsReadable}
@@ -35,6 +35,13 @@ CollectFails knowns Read = Unit {0}
 CollectFails knowns Write = ⊥
 CollectFails knowns (Unreadable index fault) = (texts : List (List ℕ)) → AreTold knowns texts → IsFirstUnreadable texts index fault
 CollectFails knowns Memory = Unit {0}
+
+-- the inputs up to one that is called unreadable were read to their ends
+abbrev pub AreReadOut : {R : Type 0} → (R → Option (List ℕ)) → List R → ToolFault → Type 0
+AreReadOut told files Read = Unit {0}
+AreReadOut told files Write = Unit {0}
+AreReadOut told files (Unreadable index fault) = AllByRecursion (λ file. IsAtEnd (told file)) (take (index + 1) files)
+AreReadOut told files Memory = Unit {0}
 
 -- the collection over all inputs was written
 abbrev pub BestWrites : Ruleset → List (Option (List ℕ)) → (old new : Option (List ℕ)) → Type 0

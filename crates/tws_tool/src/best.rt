@@ -3,7 +3,7 @@
 ghost use Rattle.std.specs.Prelude.{◌≡◌, ◌≢◌, map, OnOk, IfOk, IfErr};
 ghost use Rattle.std.specs.List.{AllByRecursion};
 ghost use Rattle.std.specs.Io.KnownBytes.{IsAtEnd};
-ghost use Rattle.tws_tool.specs.Collecting.{Collects, CollectFails, BestWrites, BestFails};
+ghost use Rattle.tws_tool.specs.Collecting.{Collects, CollectFails, AreReadOut, BestWrites, BestFails};
 
 use crate::input::read_input;
 use crate::tool_fault::ToolFault;
@@ -17,6 +17,7 @@ fn collect<R: Read>(alloc: Global, rules: Ruleset, files: &mut [R]) -> Result<Co
     ensures end { OnOk result (AllByRecursion (λ file. IsAtEnd (R.remaining file)) files.new) }
     ensures collected { IfOk result (Collects rules (map (λ file. R.remaining file) files.old)) }
     ensures fails { IfErr result (CollectFails (map (λ file. R.remaining file) files.old)) }
+    ensures unreadable { IfErr result (AreReadOut (λ file. R.remaining file) files.new) }
 {
     let mut collection = Collection::new(alloc, rules);
     for index in 0..files.len() {
@@ -44,6 +45,7 @@ pub fn run_best<R: Read, W: Write>(
     ensures end { OnOk result (AllByRecursion (λ file. IsAtEnd (R.remaining file)) files.new) }
     ensures collected { OnOk result (BestWrites rules (map (λ file. R.remaining file) files.old) (W.contents out.old) (W.contents out.new)) }
     ensures fails { IfErr result (BestFails rules (map (λ file. R.remaining file) files.old) (W.contents out.old) (W.contents out.new)) }
+    ensures unreadable { IfErr result (AreReadOut (λ file. R.remaining file) files.new) }
     // Also of a writer that does not tell what it holds.
     ensures unwritten { IfErr result (λ e. e ≢ ToolFault.Write → out.new ≡ out.old) }
 {

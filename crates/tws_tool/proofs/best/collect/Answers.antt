@@ -3,7 +3,7 @@ use Rattle.std.proofs.lemmas.Result.{err_from_is_err_and}
 use Rattle.tws_file.specs.Text.{IsText}
 use Rattle.tws_tool.specs.Collecting.{Collects}
 use Rattle.tws_tool.specs.Faults.{ReadFails}
-use Rattle.tws_tool.proofs.Told.{collects_none, collects_more, known_more, input_fails, all_collected, one_more_ended, others_stay, set_count}
+use Rattle.tws_tool.proofs.Told.{collects_none, collects_more, known_more, input_fails, all_collected, one_more_ended, others_stay, set_count, read_out}
 use Rattle.tws_tool.proofs.best.collect.Goals as goal
 
 pub loop-index-init : goal.loop-index-init
@@ -21,6 +21,13 @@ returns-in_err-file-clause-fails g c =
     let told : g.row.R.Denot → Option (List ℕ) = λ file. g.R.Read.remaining file in
     let fault = subst (λ file. ReadFails before.index (g.R.Read.remaining file) c.in_err-file.field-0.0) (sym c.index-files-index.is) c.in_err-file.ensures.fault in
     rw (p.1, p.2) (input_fails told before.files c.args.files.now before.index c.index-files-index.result before.invariant.others c.loop-index-test.true c.index-files-index.is c.args.rules before.collection _ before.invariant.so_far fault)
+
+pub returns-in_err-file-clause-unreadable : goal.returns-in_err-file-clause-unreadable
+returns-in_err-file-clause-unreadable g c =
+    let p = err_from_is_err_and c.from_residual.result c.from_residual.ensures.1 in
+    let before = c.loop-index in
+    let told : g.row.R.Denot → Option (List ℕ) = λ file. g.R.Read.remaining file in
+    rw (p.1, p.2) (read_out told before.files before.index c.read_input.new.input _ _ (omega (arith, c.loop-index-test.true, before.invariant.count)) before.invariant.ended c.in_err-file.ensures.fault c.in_err-file.ensures.unreadable)
 
 pub loop-index-preserved : goal.loop-index-preserved
 loop-index-preserved g c =
