@@ -31,7 +31,7 @@ pub one_best : (IsMember : Entry → Type 0) (e f : Entry) → IsBest IsMember e
 one_best IsMember e f best_e best_f same =
     entry_is e f same (even e.body f.body (best_f.least e best_e.member same) (best_e.least f best_f.member (sym same)))
 
--- what is best of a set stands in the map, and nothing else
+-- what is best of a set is in the map, and nothing else
 pub best_stands : (IsMember : Entry → Type 0) (es : List Entry) (e : Entry) → IsBestOf IsMember es → IsBest IsMember e → Contains es e
 best_stands IsMember es e of best =
     let of_key = of.every e best.member in

@@ -53,7 +53,7 @@ better_stays false x e es is same rising =
     (Contains (x ∷ (e ∷ es))) (Contains-there x (e ∷ es) e (Contains-here e es)) (λ f has. Contains-there x (e ∷ es) f (Contains-there e es f has))
     (λ f has. elim (Contains-cases x (e ∷ es) f has) [ inl first ↦ inl (sym first) | inr later ↦ inr later ])
 
--- the entry goes behind the first one
+-- the entry goes after the first one
 goes_behind : (x e : Entry) (es rest : List Entry) → key_cmp x.key e.key ≡ Greater → IsRising (e ∷ es) → IsBestOf (Contains (x ∷ es)) rest → IsBestOf (Contains (x ∷ (e ∷ es))) (e ∷ rest)
 goes_behind x e es rest greater rising of =
     let up : key_cmp e.key x.key ≡ Less = key_total.antisymm e.key x.key ∙ ap ordering_reverse greater in

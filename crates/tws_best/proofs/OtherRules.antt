@@ -1,5 +1,5 @@
 -- A file of other rules has nothing for a collection.
-use Rattle.std.proofs.Common.{◌≡◌, true, false, List, [], ◌++◌, refl, ap, sym, ◌∙◌, subst, not, append-nil}
+use Rattle.std.proofs.Common.{◌≡◌, true, List, [], ◌++◌, refl, ap, sym, ◌∙◌, subst, not, append-nil}
 use Rattle.std.specs.List.{Contains}
 use denote.Enum.Bare.{sameb}
 use Rattle.tws_file.specs.contracts.«ruleset».Ruleset.{the_type}

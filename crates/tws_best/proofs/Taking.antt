@@ -1,5 +1,5 @@
 -- What is kept after one solution more is the best of all so far.
-use Rattle.std.proofs.Common.{◌≡◌, ◌≢◌, ◌⊎◌, ◌+◌, Bool, true, false, List, [], ◌∷◌, ◌++◌, Option, Some, None, refl, ap, sym, ◌∙◌, subst, inl, inr, append_assoc, append-nil, ℕ, if◌then◌else◌, arith, Result, Ok, Err, OnOk}
+use Rattle.std.proofs.Common.{◌≡◌, ◌≢◌, ◌⊎◌, ◌+◌, List, [], ◌∷◌, ◌++◌, Some, None, refl, ap, sym, ◌∙◌, subst, inl, inr, append_assoc, append-nil, ℕ, if◌then◌else◌, arith, Result, Ok, Err, OnOk}
 use Rattle.std.specs.declared.cmp.Ordering.{Ordering}
 use Rattle.std.specs.declared.cmp.Ordering.TheVariants.{Less, Equal, Greater}
 use Rattle.std.specs.Ordering.{is_lt, match_ordering}
@@ -7,13 +7,13 @@ use Rattle.std.specs.List.{Contains, AllByRecursion}
 use Rattle.std.specs.Map.{lookup, keys_of}
 use Rattle.std.specs.List.Sorted.{IsStrictlySortedBy}
 use Rattle.std.specs.BTreeMap.{is_at, insert_entry}
-use Rattle.std.proofs.lemmas.List.Elements.{Contains-append_left, Contains-append_right, Contains-append_cases, Contains-push, Contains-push_cases}
+use Rattle.std.proofs.lemmas.List.Elements.{Contains-append_left, Contains-append_right, Contains-append_cases}
 use Rattle.tws_file.specs.declared.key.Key.{Key}
 use Rattle.tws_file.specs.declared.record.Record as stored
 use Rattle.tws_file.specs.declared.record.Record.TheVariants.{Solution as Solved}
 use Rattle.tws_file.specs.Record.{record_of}
 use Rattle.tws_file.specs.Text.{Solution, Record, pad, set, bare, solution, IsRecord, body_of}
-use Rattle.tws_best.specs.Rank.{rank_of, rank_cmp, IsBelow}
+use Rattle.tws_best.specs.Rank.{rank_of, IsBelow}
 use Rattle.tws_best.specs.Best.{Entry, IsEntry, IsBestOf, IsRising, IsKept, key_cmp, entry_of, solved_in}
 use Rattle.tws_best.specs.Bodies.{Pair, entries_of}
 use Rattle.tws_best.specs.Choice.{placed, better_of, put_in}

@@ -72,7 +72,7 @@ pub record IsBest (IsMember : Entry → Type 0) (e : Entry) : Type 0 where
 abbrev pub key_cmp : Key → Key → Ordering
 key_cmp = then_cmp (on (λ k. k.number) nat_cmp) (on (λ k. k.password) (slice_cmp nat_cmp))
 
--- each key is below those after it, so none stands twice
+-- each key is below those after it, so no key occurs twice
 abbrev pub IsRising : List Entry → Type 0
 IsRising [] = Unit {0}
 IsRising (e ∷ es) = AllByRecursion (λ (f : Entry). key_cmp e.key f.key ≡ Less) es × IsRising es

@@ -13,7 +13,7 @@ pub record Ranking : Type 0 where
   pub size : ℕ
   pub bytes : List ℕ
 
--- the time stands behind number, password, flags, start and seed
+-- the time follows number, password, flags, start and seed
 abbrev pub ticks_of : List ℕ → ℕ
 ticks_of body = little_number 4 (drop 12 body)
 

@@ -30,7 +30,7 @@ pub fn one_best()
     ensures { (xs ds es : List Entry) → IsBestOf (Contains xs) ds → IsBestOf (Contains xs) es → ds ≡ es }
 {}
 
-/// A solution stands in the map exactly if it is best: of its key, no other of the set has a lower rank.
+/// A solution is in the map exactly if it is best: of its key, no other of the set has a lower rank.
 pub fn exactly_the_best()
     ensures { (xs es : List Entry) (e : Entry) → IsBestOf (Contains xs) es → (Contains es e ↔ IsBest (Contains xs) e) }
 {}

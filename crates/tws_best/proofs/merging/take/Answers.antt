@@ -1,6 +1,5 @@
 use Rattle.std.proofs.Common.{◌≡◌, ap, sym, ◌∙◌, subst, length, List, ℕ, OnOk, inl, refl}
 use Rattle.std.specs.Ordering.{is_lt}
-use Rattle.tws_file.specs.declared.key.Key.{Key}
 use Rattle.tws_best.specs.Rank.{Ranking, rank_of, rank_cmp}
 use Rattle.tws_best.specs.Best.{Entry}
 use Rattle.tws_best.specs.Steps.{Takes}

@@ -1,4 +1,4 @@
-use Rattle.std.proofs.Common.{◌+◌, take, ap, sym, subst, refl, length, rules, inl, inr}
+use Rattle.std.proofs.Common.{◌+◌, take, ap, sym, subst, refl, length, inl, inr}
 use Rattle.tws_file.specs.Record.{records_of}
 use Rattle.tws_best.specs.Best.{solved_in}
 use Rattle.tws_best.specs.Steps.{Undoes}

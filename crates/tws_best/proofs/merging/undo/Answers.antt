@@ -1,5 +1,4 @@
-use Rattle.std.proofs.Common.{◌≡◌, List, subst, ap, sym}
-use Rattle.tws_best.specs.Bodies.{Pair}
+use Rattle.std.proofs.Common.{subst}
 use Rattle.tws_best.specs.Steps.{Undoes}
 use Rattle.tws_best.proofs.Changes.{last_back}
 use Rattle.tws_best.proofs.merging.undo.Goals as goal

@@ -1,4 +1,4 @@
-use Rattle.std.proofs.Common.{◌≡◌, List, length}
+use Rattle.std.proofs.Common.{List, length}
 use Rattle.tws_best.specs.Bodies.{Pair}
 use Rattle.tws_best.specs.Steps.{Undoes}
 use Rattle.tws_best.proofs.merging.undo.Given as goal

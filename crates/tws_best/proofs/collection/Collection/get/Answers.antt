@@ -1,4 +1,4 @@
-use Rattle.std.proofs.Common.{List, sym, ap, subst, ◌∙◌}
+use Rattle.std.proofs.Common.{List, sym, ap, subst}
 use Rattle.std.specs.List.{Contains}
 use Rattle.tws_best.specs.Best.{Entry, HasBody}
 use Rattle.tws_best.proofs.Found.{found, not_found}
