@@ -299,3 +299,76 @@ fn an_input_that_does_not_end(rt: HostRuntime) {
     );
     assert!(rt; out.is_empty());
 }
+
+// Gives bytes, or fails.
+#[derive(Drop)]
+enum Input<'a> {
+    Whole(&'a [u8]),
+    Failing,
+}
+
+impl io::Read for Input<'_> {
+    fn read(&mut self, buf: &mut [u8]) -> io::Result<usize> {
+        match self {
+            Input::Whole(bytes) => bytes.read(buf),
+            Input::Failing => Err(io::Error::from(io::ErrorKind::Other)),
+        }
+    }
+}
+
+#[test]
+fn best_answers_the_first_input_that_fails(rt: HostRuntime) {
+    let mut out = Vec::new(rt.alloc());
+    let unsigned = [0x35, 0x33, 0x9B, 0x98, 2, 0, 0, 0];
+    let fault = ToolFault::Unreadable {
+        index: 0,
+        fault: FileFault::BadSignature,
+    };
+    let mut files = [Input::Whole(&unsigned), Input::Failing];
+    assert_eq!(rt;
+        run_best(rt.alloc(), Ruleset::Lynx, &mut files, &mut out),
+        Err(fault)
+    );
+    let mut files = [Input::Whole(&SOLUTION), Input::Failing];
+    assert_eq!(rt;
+        run_best(rt.alloc(), Ruleset::Lynx, &mut files, &mut out),
+        Err(ToolFault::Read)
+    );
+    assert!(rt; out.is_empty());
+}
+
+#[test]
+fn show_to_a_writer_that_fails_late(rt: HostRuntime) -> Result<(), Fail> {
+    let mut bytes = Vec::from_slice(rt.alloc(), &SOLUTION[..8])?;
+    let mut listing = Vec::from_slice(rt.alloc(), b"ruleset lynx word 0000 extra 0\n")?;
+    for _ in 0..6000 {
+        bytes.extend_from_slice(&[6, 0, 0, 0, 1, 0, 0x42, 0x44, 0x48, 0x50])?;
+        listing.extend_from_slice(b"level 1 BDHP\n")?;
+    }
+    let mut room = [0u8; 70_000];
+    let mut out = room.as_mut_slice();
+    let mut input = bytes.as_slice();
+    assert_eq!(rt;
+        run_show(rt.alloc(), &mut input, &mut out, false),
+        Err(ToolFault::Write)
+    );
+    assert_eq!(rt; Some(room.as_slice()), listing.get(..70_000));
+    Ok(())
+}
+
+#[test]
+fn help_to_a_full_writer(rt: HostRuntime) -> Result<(), Fail> {
+    let words = vec![in rt.alloc();
+        String::from_str(rt.alloc(), "tws")?,
+        String::from_str(rt.alloc(), "--help")?,
+    ]?;
+    let mut room = [0u8; 10];
+    let mut out = room.as_mut_slice();
+    let mut input = SOLUTION.as_slice();
+    let mut errors = Vec::new(rt.alloc());
+    let status = run_words(&rt, rt.alloc(), &words, &mut input, &mut out, &mut errors);
+    assert_eq!(rt; status, 2);
+    assert_eq!(rt; room, *b"Lists, pac");
+    assert_eq!(rt; errors.as_slice(), b"tws: write fault\n".as_slice());
+    Ok(())
+}
