@@ -9,16 +9,9 @@ use Rattle.tftp_ends.specs.declared.send_state.SendState.{SendState}
 use Rattle.tftp_ends.specs.declared.send_state.SendState.TheVariants as sending
 use Rattle.tftp_ends.specs.declared.recv_state.RecvState.{RecvState}
 use Rattle.tftp_ends.specs.declared.recv_state.RecvState.TheVariants as receiving
-use Rattle.tftp_ends.specs.Ends.{Verdict, granted, refused, Sender, Receiver, sender_goes_on, sender_acked, sender_ack_in, sender_missed, sender_timeout_in, receiver_appends, state_after, receiver_takes, receiver_next, receiver_again, receiver_running, receiver_data_in, is_past, is_last_come, receiver_missed, receiver_dallied, receiver_timeout_in, receiver_take_in, receiver_gives}
+use Rattle.tftp_ends.specs.Ends.{Verdict, granted, refused, Sender, Receiver, sender_goes_on, sender_acked, sender_ack_in, sender_missed, sender_timeout_in, receiver_appends, state_after, receiver_takes, receiver_next, receiver_again, receiver_running, receiver_data_in, is_past, is_last_come, receiver_missed, receiver_dallied, receiver_timeout_in, receiver_take_in, receiver_gives, IsEnded}
 use Rattle.tftp_ends.specs.Pair.{Pair, Event, deliver, sender_times_out, receiver_times_out, take_file, pair_start, taken_with, after_ack, after_data, after_sender_timeout, after_receiver_timeout, after_take, after_packet, after_event, after_events, pair_run, HasFirstBlocks, FinishesWhole, SendsOnce, IsTakenOnce}
 use Rattle.tftp_ends.proofs.Network.{IsHonest, AllHonest, AllHonest-more, IsHonest-at, count-data, count-ack, blocks_to-more}
-
--- the receiver has the whole file
-abbrev pub IsEnded : RecvState → Type 0
-IsEnded receiving.Running = ⊥
-IsEnded receiving.Complete = Unit {0}
-IsEnded receiving.TimedOut = ⊥
-IsEnded receiving.Over = Unit {0}
 
 -- its bytes are the blocks that it counts, or the whole file was taken out
 abbrev pub HasBytes : (file : List ℕ) → Receiver → (taken : List (List ℕ)) → Type 0

@@ -3,7 +3,7 @@
 use Rattle.std.specs.Prelude.{◌≡◌, ℕ, ◌+◌, ◌*◌, ◌<◌, ◌≤◌, Bool, true, false, ◌==◌, ◌&&◌, nat_lt, List, [], ◌++◌, length, Option, None, Some, IsSome, IfSome, Result, Ok, Err}
 use Rattle.std.specs.Option.{option_map}
 use Rattle.tftp_packet.specs.Packet.{Packet, data_block, ack, encode}
-use Rattle.tftp_packet.specs.Blocks.{block_count, block_of}
+use Rattle.tftp_packet.specs.Blocks.{block_count, block_of, first_blocks}
 use Rattle.tftp_ends.specs.declared.limits.TheConstants.{MAX_BLOCKS, MAX_FILE, MISSES, DALLY}
 use Rattle.tftp_ends.specs.declared.send_state.SendState.{SendState}
 use Rattle.tftp_ends.specs.declared.send_state.SendState.TheVariants as sending
@@ -161,6 +161,12 @@ receiver_data_in receiving.Over verdict n body r = record { receiver = r; result
 abbrev pub receiver_data : Verdict → (n : ℕ) (body : List ℕ) → Receiver → DataAnswer
 receiver_data verdict n body r = receiver_data_in r.state verdict n body r
 
+-- this DATA completes the file, if memory is granted: the next block, and a short one
+pub record Completes (n : ℕ) (body : List ℕ) (r : Receiver) : Type 0 where
+  pub running : r.state ≡ receiving.Running
+  pub next : n ≡ r.count + 1
+  pub short : length body < 512
+
 -- ---- time-outs
 
 abbrev pub receiver_waits : (misses : ℕ) → RecvState → Option Packet → Receiver → RecvAnswer
@@ -208,7 +214,25 @@ receiver_take_in receiving.Over r = receiver_gives r
 abbrev pub receiver_take : Receiver → TakeAnswer
 receiver_take r = receiver_take_in r.state r
 
+-- ---- what a receiver has of a file
+
+-- it has the whole file
+abbrev pub IsEnded : RecvState → Type 0
+IsEnded receiving.Running = ⊥
+IsEnded receiving.Complete = Unit {0}
+IsEnded receiving.TimedOut = ⊥
+IsEnded receiving.Over = Unit {0}
+
+-- its bytes are the first blocks of this file, as many as it counts
+abbrev pub HoldsFirst : (file : List ℕ) → Receiver → Type 0
+HoldsFirst file r = r.file ≡ Some (first_blocks file r.count)
+
 -- ---- answers as the calls give them
+
+-- what a DATA makes the receiver send; nothing where it answers a fault
+abbrev pub sent_of : Result (Option Packet) RecvFault → Option Packet
+sent_of (Ok out) = out
+sent_of (Err e) = None
 
 abbrev pub answer_of : Result (Option Packet) RecvFault → Result (Option (List ℕ)) RecvFault
 answer_of (Ok out) = Ok (dgram_of out)

@@ -1,7 +1,7 @@
 //! The end that receives.
 
 ghost use Rattle.std.specs.Prelude.{◌≡◌, ◌≤◌, ◌==◌, ◌+◌, length, Ok, OnErr, IfSome};
-ghost use Rattle.tftp_ends.specs.Ends.{dgram_of, answer_of, verdict_of, is_last_come, is_past, receiver_start, receiver_next, receiver_again, receiver_data, receiver_timeout, receiver_take};
+ghost use Rattle.tftp_ends.specs.Ends.{dgram_of, answer_of, verdict_of, is_last_come, is_past, receiver_start, receiver_next, receiver_again, receiver_data, receiver_timeout, receiver_take, receiver_running, IsReceiver};
 
 use crate::limits::{DALLY, MAX_BLOCKS, MAX_FILE, MISSES};
 use crate::received::Received;
@@ -44,7 +44,8 @@ impl<A: Allocator + Copy> Model for Receiver<A> {
 impl<A: Allocator + Copy> Receiver<A> {
     /// A receiver to which nothing has come. It takes no memory yet.
     pub fn new(alloc: A) -> Self
-        ensures { result ≡ receiver_start }
+        ensures receiver { result ≡ receiver_start }
+        ensures fits { IsReceiver result }
     {
         Receiver {
             count: 0,
@@ -68,11 +69,26 @@ impl<A: Allocator + Copy> Receiver<A> {
         ensures receiver { self.new ≡ (receiver_data (verdict_of result) n body.now self.old).receiver }
         ensures sent { result ≡ answer_of (receiver_data (verdict_of result) n body.now self.old).result }
         ensures unchanged { OnErr result (self.new ≡ self.old) }
+        ensures fits { IsReceiver self.new }
     {
         match self.state {
-            RecvState::Running if n == self.count + 1 => self.on_next(n, body),
-            RecvState::Running | RecvState::Complete => Ok(self.again(n)),
+            RecvState::Running => self.on_running(n, body),
+            RecvState::Complete => Ok(self.again(n)),
             RecvState::TimedOut | RecvState::Over => Ok(None),
+        }
+    }
+
+    // A block has come while some are missing, so there is a number behind that of the last one.
+    fn on_running(&mut self, n: u16, body: &[u8]) -> Result<Option<Dgram>, RecvFault>
+        requires running { self.old.state ≡ RecvState.Running }
+        requires short { length body.now ≤ 512 }
+        ensures receiver { self.new ≡ (receiver_running (n == self.old.count + 1) (verdict_of result) n body.now self.old).receiver }
+        ensures sent { result ≡ answer_of (receiver_running (n == self.old.count + 1) (verdict_of result) n body.now self.old).result }
+    {
+        if n == self.count + 1 {
+            self.on_next(n, body)
+        } else {
+            Ok(self.again(n))
         }
     }
 
@@ -117,6 +133,7 @@ impl<A: Allocator + Copy> Receiver<A> {
     pub fn on_timeout(&mut self) -> Option<Dgram>
         ensures receiver { self.new ≡ (receiver_timeout self.old).receiver }
         ensures sent { result ≡ dgram_of (receiver_timeout self.old).out }
+        ensures fits { IsReceiver self.new }
     {
         match self.state {
             RecvState::Running => {
@@ -151,6 +168,7 @@ impl<A: Allocator + Copy> Receiver<A> {
     pub fn take_file(&mut self) -> Option<Received<A>>
         ensures receiver { self.new ≡ (receiver_take self.old).receiver }
         ensures file { result ≡ (receiver_take self.old).file }
+        ensures fits { IsReceiver self.new }
         // It is no longer than a file may be.
         ensures size { IfSome result (λ f. length f ≤ MAX_FILE) }
     {

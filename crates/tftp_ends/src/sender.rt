@@ -3,7 +3,7 @@
 ghost use Rattle.std.specs.Prelude.{◌≡◌, ◌≤◌, ◌==◌, length};
 ghost use Rattle.tftp_packet.specs.Packet.{encode};
 ghost use Rattle.tftp_packet.specs.Blocks.{block_count};
-ghost use Rattle.tftp_ends.specs.Ends.{data_packet, dgram_of, sender_start, sender_ack, sender_timeout};
+ghost use Rattle.tftp_ends.specs.Ends.{data_packet, dgram_of, sender_start, sender_ack, sender_timeout, IsSender};
 
 use crate::limits::{MAX_FILE, MISSES};
 use crate::send_state::SendState;
@@ -52,6 +52,7 @@ impl<B: Blocks> Sender<B> {
         requires { length (B.file blocks) ≤ MAX_FILE }
         ensures sender { result.0 ≡ sender_start (B.file blocks) }
         ensures sent { result.1 ≡ encode (data_packet (B.file blocks) 1) }
+        ensures fits { IsSender result.0 }
     {
         let first = data(&blocks, 1);
         let sender = Sender {
@@ -75,6 +76,7 @@ impl<B: Blocks> Sender<B> {
     pub fn on_ack(&mut self, n: u16) -> Option<Dgram>
         ensures sender { self.new ≡ (sender_ack n self.old).sender }
         ensures sent { result ≡ dgram_of (sender_ack n self.old).out }
+        ensures fits { IsSender self.new }
     {
         if self.state != SendState::Running || n != self.current {
             return None;
@@ -93,6 +95,7 @@ impl<B: Blocks> Sender<B> {
     pub fn on_timeout(&mut self) -> Option<Dgram>
         ensures sender { self.new ≡ (sender_timeout self.old).sender }
         ensures sent { result ≡ dgram_of (sender_timeout self.old).out }
+        ensures fits { IsSender self.new }
     {
         if self.state != SendState::Running {
             return None;

@@ -13,7 +13,7 @@ fn start(alloc: Global, blocks: &[&[u8]]) -> Result<(Sender<Owned>, Dgram), Fail
     for block in blocks {
         file.extend_from_slice(block)?;
     }
-    if file.len() > 4193791 {
+    if file.len() > 33_553_919 {
         return Err(Fail::new("too long"));
     }
     Ok(Sender::start(Owned::of(file)))
@@ -157,22 +157,27 @@ fn a_receiver_gives_up(rt: HostRuntime) -> Result<(), Fail> {
     Ok(())
 }
 
+// 65,534 full blocks and one of 511 bytes; one byte more cannot be numbered.
 #[test]
 fn the_greatest_file(rt: HostRuntime) -> Result<(), Fail> {
     let mut receiver = Receiver::new(rt.alloc());
-    for n in 1..8191 {
+    for n in 1..65_535 {
         assert!(rt; sends_ack(&receiver.on_data(n, &[n.to_be_bytes()[1]; 512])?, n));
+        assert_eq!(rt; receiver.state(), RecvState::Running);
     }
-    let fault = receiver.on_data(8191, &[255; 512]).err();
+    let fault = receiver.on_data(65_535, &[255; 512]).err();
     assert_eq!(rt; fault, Some(RecvFault::TooLong));
     assert_eq!(rt; receiver.state(), RecvState::Running);
-    assert!(rt; sends_ack(&receiver.on_data(8191, &[255; 511])?, 8191));
+    assert!(rt; sends_ack(&receiver.on_data(65_535, &[255; 511])?, 65_535));
     assert_eq!(rt; receiver.state(), RecvState::Complete);
+    // No number follows that of the last block.
+    assert!(rt; sends_ack(&receiver.on_data(65_535, &[255; 511])?, 65_535));
+    assert!(rt; receiver.on_data(0, &[1; 512])?.is_none());
+    assert!(rt; receiver.on_data(1, &[1; 512])?.is_none());
     let received = receiver.take_file().ok_or("no file")?;
-    assert_eq!(rt; received.len(), 4193791);
-    assert_eq!(rt; MAX_FILE, 4193791);
+    assert_eq!(rt; received.len(), 33_553_919);
     let bytes = received.to_vec(rt.alloc())?;
-    assert_eq!(rt; bytes.len(), 4193791);
+    assert_eq!(rt; bytes.len(), 33_553_919);
     let is_right = bytes
         .iter()
         .enumerate()

@@ -1,7 +1,8 @@
-ghost use Rattle.std.specs.Prelude.{◌≡◌, ◌+◌, ◌≤◌, [], ◌∷◌, ◌++◌, length};
+ghost use Rattle.std.specs.Prelude.{◌≡◌, ◌+◌, ◌≤◌, [], ◌∷◌, ◌++◌, length, ⊤};
 ghost use Rattle.byteorder.specs.Endian.{big_bytes};
 
 use byteorder::{BigEndian, ByteOrder};
+use std::alloc::AllocError;
 use std::marker::Model;
 
 /// The bytes of a datagram, at most 516 of them: a list, which only the `encode` functions make. It lies in a fixed
@@ -67,5 +68,19 @@ impl Dgram {
         ensures size { length self.now ≤ 516 }
     {
         &self.buffer[..self.len]
+    }
+}
+
+// A copy takes no memory, so it never fails.
+impl Clone for Dgram {
+    ghost is_clone = { λ x y. y ≡ x };
+
+    ghost is_infallible = { λ _. ⊤ };
+
+    fn clone(&self) -> Result<Self, AllocError> {
+        Ok(Dgram {
+            buffer: self.buffer,
+            len: self.len,
+        })
     }
 }

@@ -23,6 +23,8 @@ pub enum Refusal {
     FileTooLong,
     /// A datagram from a port that is not the transfer's.
     UnknownTransfer,
+    /// A file whose collection could not be kept.
+    NotKept,
 }
 
 impl Refusal {
@@ -32,7 +34,10 @@ impl Refusal {
         ensures { result ≡ refusal_code self }
     {
         match self {
-            Refusal::OctetOnly | Refusal::ServerBusy | Refusal::CollectionTooLong => 0,
+            Refusal::OctetOnly
+            | Refusal::ServerBusy
+            | Refusal::CollectionTooLong
+            | Refusal::NotKept => 0,
             Refusal::NoSuchFile => 1,
             Refusal::OutOfMemory | Refusal::FileTooLong => 3,
             Refusal::UnknownTransfer => 5,
@@ -51,6 +56,7 @@ impl Refusal {
             Refusal::OutOfMemory => b"out of memory",
             Refusal::FileTooLong => b"file too long",
             Refusal::UnknownTransfer => b"unknown transfer",
+            Refusal::NotKept => b"not kept",
         }
     }
 

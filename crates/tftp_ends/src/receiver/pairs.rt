@@ -102,7 +102,7 @@ fn holds(pair: &Pair, file: &[u8]) -> bool {
 
 fn run(alloc: Global, draws: &mut Draws, file: &[u8]) -> Result<Pair, Fail> {
     let bytes = Vec::from_slice(alloc, file)?;
-    if bytes.len() > 4193791 {
+    if bytes.len() > 33_553_919 {
         return Err(Fail::new("too long"));
     }
     let (sender, first) = Sender::start(Owned::of(bytes));

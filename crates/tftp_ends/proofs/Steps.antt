@@ -1,0 +1,529 @@
+-- What each step of one end keeps, what it sends, and what it knows of the file. Nothing here speaks of two ends.
+use Rattle.std.proofs.Common.{◌≡◌, ◌⊎◌, ℕ, ◌+◌, ◌*◌, ◌^◌, ◌<◌, ◌≤◌, Bool, true, false, ◌==◌, List, ◌++◌, length, Option, None, Some, IsSome, IfSome, Ok, refl, ap, sym, ◌∙◌, subst, arith, inl, inr, length-take, length-append}
+use Rattle.std.proofs.lemmas.Bool.{eqb-true, eqb-false, eq-eqb, ne_eqb}
+use Rattle.std.proofs.lemmas.Bool.Decides.{nat_tests}
+use Rattle.std.proofs.lemmas.List.{take_all}
+use Rattle.tftp_packet.specs.Packet.{Packet, ack, HasFields, encode}
+use Rattle.tftp_packet.specs.Blocks.{block_count, block_of, first_blocks}
+use Rattle.tftp_packet.specs.Decode.{decode_bytes}
+use Rattle.tftp_packet.proofs.Cutting.{length-block_of-le, first_blocks-more}
+use Rattle.tftp_packet.proofs.Packets.{decode_bytes-encode}
+use Rattle.tftp_ends.specs.declared.limits.TheConstants.{MAX_BLOCKS, MAX_FILE, MISSES, DALLY}
+use Rattle.tftp_ends.specs.declared.send_state.SendState.{SendState}
+use Rattle.tftp_ends.specs.declared.send_state.SendState.TheVariants as sending
+use Rattle.tftp_ends.specs.declared.recv_state.RecvState.{RecvState}
+use Rattle.tftp_ends.specs.declared.recv_state.RecvState.TheVariants as receiving
+use Rattle.tftp_ends.specs.Ends.{Verdict, granted, refused, Sender, SendAnswer, Receiver, data_packet, sender_start, sender_goes_on, sender_acked, sender_ack_in, sender_ack, sender_missed, sender_timeout_in, sender_timeout, receiver_start, receiver_appends, state_after, receiver_takes, receiver_next, receiver_again, is_last_come, is_past, receiver_running, receiver_data_in, receiver_data, receiver_missed, receiver_dallied, receiver_timeout_in, receiver_timeout, receiver_gives, receiver_take_in, receiver_take, IsEnded, HoldsFirst, Completes, sent_of, IsSender, HasSize, IsReceiver}
+
+-- ---- packets that read back
+
+-- the fields are in range, so the bytes are decoded as this packet
+pub record ReadsBack (p : Packet) : Type 0 where
+  pub fields : HasFields p
+  pub decoded : decode_bytes (encode p) ≡ Ok p
+
+pub data-reads_back : (file : List ℕ) (k : ℕ) → k < 2 ^ 16 → ReadsBack (data_packet file k)
+data-reads_back file k fits =
+    let fields : HasFields (data_packet file k) = (fits, length-block_of-le file k) in
+    record { fields = fields; decoded = decode_bytes-encode (data_packet file k) fields (omega (arith, length-block_of-le file k)) }
+
+pub ack-reads_back : (n : ℕ) → n < 2 ^ 16 → ReadsBack (ack n)
+ack-reads_back n fits = record { fields = fits; decoded = decode_bytes-encode (ack n) fits (omega arith) }
+
+-- ---- the sender
+
+-- what an ACK makes of the sender's number, and what is sent: nothing, or the next block
+abbrev pub GoesOn : Sender → SendAnswer → Type 0
+GoesOn s a =
+    ((a.out ≡ None) × (a.sender.current ≡ s.current))
+    ⊎ ((a.out ≡ Some (data_packet s.file (s.current + 1))) × (a.sender.current ≡ s.current + 1))
+
+-- what a time-out does: nothing is sent, or the current block again
+abbrev pub SendsAgain : Sender → SendAnswer → Type 0
+SendsAgain s a = (a.sender.current ≡ s.current) × ((a.out ≡ None) ⊎ (a.out ≡ Some (data_packet s.file s.current)))
+
+-- what each step of a sender keeps
+pub record KeepsSender (s : Sender) (a : SendAnswer) : Type 0 where
+  pub file : a.sender.file ≡ s.file
+  pub onward : s.current ≤ a.sender.current
+  pub within : s.current ≤ block_count s.file → a.sender.current ≤ block_count s.file
+  -- what it sends is the block of its file with its current number
+  pub sends : IfSome a.out (λ p. p ≡ data_packet s.file a.sender.current)
+  pub fits : IsSender s → IsSender a.sender
+
+stays_keeps : (s : Sender) → KeepsSender s (record { sender = s; out = None })
+stays_keeps s = record { file = refl; onward = omega arith; within = λ w. w; sends = tt; fits = λ h. h }
+
+goes_on_keeps : (last : Bool) (s : Sender) → (s.current == block_count s.file) ≡ last → KeepsSender s (sender_goes_on last s)
+goes_on_keeps true s is_last =
+    record {
+      file = refl;
+      onward = omega arith;
+      within = λ w. w;
+      sends = tt;
+      fits = λ h. record { size = h.size; counted = h.counted; within = h.within; patient = h.patient };
+    }
+goes_on_keeps false s is_last =
+    let other : s.current ≡ block_count s.file → ⊥ = eqb-false _ _ is_last in
+    let next : s.current ≤ block_count s.file → s.current + 1 ≤ block_count s.file = λ w. omega arith in
+    record {
+      file = refl;
+      onward = omega arith;
+      within = next;
+      sends = refl;
+      fits = λ h. record { size = h.size; counted = omega arith; within = next h.within; patient = omega arith };
+    }
+
+acked_keeps : (current : Bool) (s : Sender) → KeepsSender s (sender_acked current s)
+acked_keeps true s = goes_on_keeps (s.current == block_count s.file) s refl
+acked_keeps false s = stays_keeps s
+
+ack_in_keeps : (state : SendState) (n : ℕ) (s : Sender) → KeepsSender s (sender_ack_in state n s)
+ack_in_keeps sending.Running n s = acked_keeps (n == s.current) s
+ack_in_keeps sending.Finished n s = stays_keeps s
+ack_in_keeps sending.TimedOut n s = stays_keeps s
+
+pub sender_ack-keeps : (n : ℕ) (s : Sender) → KeepsSender s (sender_ack n s)
+sender_ack-keeps n s = ack_in_keeps s.state n s
+
+missed_keeps : (last : Bool) (s : Sender) → (s.misses + 1 == MISSES) ≡ last → KeepsSender s (sender_missed last s)
+missed_keeps true s is_last =
+    record {
+      file = refl;
+      onward = omega arith;
+      within = λ w. w;
+      sends = tt;
+      fits = λ h. record { size = h.size; counted = h.counted; within = h.within; patient = h.patient };
+    }
+missed_keeps false s is_last =
+    let other : s.misses + 1 ≡ MISSES → ⊥ = eqb-false _ _ is_last in
+    record {
+      file = refl;
+      onward = omega arith;
+      within = λ w. w;
+      sends = refl;
+      fits = λ h. record { size = h.size; counted = h.counted; within = h.within; patient = omega (arith, h.patient) };
+    }
+
+timeout_in_keeps : (state : SendState) (s : Sender) → KeepsSender s (sender_timeout_in state s)
+timeout_in_keeps sending.Running s = missed_keeps (s.misses + 1 == MISSES) s refl
+timeout_in_keeps sending.Finished s = stays_keeps s
+timeout_in_keeps sending.TimedOut s = stays_keeps s
+
+pub sender_timeout-keeps : (s : Sender) → KeepsSender s (sender_timeout s)
+sender_timeout-keeps s = timeout_in_keeps s.state s
+
+pub IsSender-start : (file : List ℕ) → length file ≤ MAX_FILE → IsSender (sender_start file)
+IsSender-start file short =
+    record { size = short; counted = omega arith; within = omega arith; patient = omega arith }
+
+-- the numbers of a file's blocks fit two bytes
+pub current-fits : (s : Sender) → IsSender s → s.current < 2 ^ 16
+current-fits s fits = omega (arith, fits.size, fits.within)
+
+start-reads_back : (file : List ℕ) → length file ≤ MAX_FILE → ReadsBack (data_packet file 1)
+start-reads_back file short = data-reads_back file 1 (omega arith)
+
+reads_back_from : (file : List ℕ) (k : ℕ) (out : Option Packet) → k < 2 ^ 16 → IfSome out (λ p. p ≡ data_packet file k) → IfSome out ReadsBack
+reads_back_from file k None fits sends = tt
+reads_back_from file k (Some p) fits sends = subst ReadsBack (sym sends) (data-reads_back file k fits)
+
+-- whatever a sender within its bounds sends is read back
+pub sends-reads_back : (s : Sender) (a : SendAnswer) → KeepsSender s a → IsSender s → IfSome a.out ReadsBack
+sends-reads_back s a k fits = reads_back_from s.file a.sender.current a.out (current-fits a.sender (k.fits fits)) k.sends
+
+-- ---- exactly what is sent
+
+goes_on_sends : (last : Bool) (s : Sender) → GoesOn s (sender_goes_on last s)
+goes_on_sends true s = inl (refl, refl)
+goes_on_sends false s = inr (refl, refl)
+
+acked_sends : (current : Bool) (s : Sender) → GoesOn s (sender_acked current s)
+acked_sends true s = goes_on_sends (s.current == block_count s.file) s
+acked_sends false s = inl (refl, refl)
+
+ack_in_sends : (state : SendState) (n : ℕ) (s : Sender) → GoesOn s (sender_ack_in state n s)
+ack_in_sends sending.Running n s = acked_sends (n == s.current) s
+ack_in_sends sending.Finished n s = inl (refl, refl)
+ack_in_sends sending.TimedOut n s = inl (refl, refl)
+
+pub sender_ack-sends : (n : ℕ) (s : Sender) → GoesOn s (sender_ack n s)
+sender_ack-sends n s = ack_in_sends s.state n s
+
+missed_sends : (last : Bool) (s : Sender) → SendsAgain s (sender_missed last s)
+missed_sends true s = (refl, inl refl)
+missed_sends false s = (refl, inr refl)
+
+timeout_in_sends : (state : SendState) (s : Sender) → SendsAgain s (sender_timeout_in state s)
+timeout_in_sends sending.Running s = missed_sends (s.misses + 1 == MISSES) s
+timeout_in_sends sending.Finished s = (refl, inl refl)
+timeout_in_sends sending.TimedOut s = (refl, inl refl)
+
+pub sender_timeout-sends : (s : Sender) → SendsAgain s (sender_timeout s)
+sender_timeout-sends s = timeout_in_sends s.state s
+
+-- ---- how it finishes
+
+-- it was finished before, or this is the ACK of the last block
+abbrev pub FinishesBy : (n : ℕ) → Sender → SendAnswer → Type 0
+FinishesBy n s a =
+    a.sender.state ≡ sending.Finished → (s.state ≡ sending.Finished) ⊎ ((n ≡ s.current) × (n ≡ block_count s.file))
+
+goes_on_finishes : (n : ℕ) (last : Bool) (s : Sender) → n ≡ s.current → (s.current == block_count s.file) ≡ last → FinishesBy n s (sender_goes_on last s)
+goes_on_finishes n true s same is_last finished = inr (same, same ∙ eqb-true _ _ is_last)
+goes_on_finishes n false s same is_last finished = absurd cc
+
+acked_finishes : (n : ℕ) (current : Bool) (s : Sender) → (n == s.current) ≡ current → FinishesBy n s (sender_acked current s)
+acked_finishes n true s is_current = goes_on_finishes n (s.current == block_count s.file) s (eqb-true _ _ is_current) refl
+acked_finishes n false s is_current = λ finished. inl finished
+
+ack_in_finishes : (state : SendState) (n : ℕ) (s : Sender) → FinishesBy n s (sender_ack_in state n s)
+ack_in_finishes sending.Running n s = acked_finishes n (n == s.current) s refl
+ack_in_finishes sending.Finished n s = λ finished. inl finished
+ack_in_finishes sending.TimedOut n s = λ finished. inl finished
+
+-- a sender is newly finished only by the ACK of the last block
+pub sender_ack-finishes : (n : ℕ) (s : Sender) → FinishesBy n s (sender_ack n s)
+sender_ack-finishes n s = ack_in_finishes s.state n s
+
+missed_finishes : (last : Bool) (s : Sender) → (sender_missed last s).sender.state ≡ sending.Finished → s.state ≡ sending.Finished
+missed_finishes true s finished = absurd cc
+missed_finishes false s finished = absurd cc
+
+timeout_in_finishes : (state : SendState) (s : Sender) → (sender_timeout_in state s).sender.state ≡ sending.Finished → s.state ≡ sending.Finished
+timeout_in_finishes sending.Running s = missed_finishes (s.misses + 1 == MISSES) s
+timeout_in_finishes sending.Finished s = λ finished. finished
+timeout_in_finishes sending.TimedOut s = λ finished. finished
+
+-- no time-out finishes a sender
+pub sender_timeout-finishes : (s : Sender) → (sender_timeout s).sender.state ≡ sending.Finished → s.state ≡ sending.Finished
+sender_timeout-finishes s = timeout_in_finishes s.state s
+
+-- ---- the receiver
+
+-- what each step of a receiver keeps
+pub record KeepsReceiver (r next : Receiver) (out : Option Packet) : Type 0 where
+  pub onward : r.count ≤ next.count
+  -- what it sends is the ACK of the last block that came, or ACK 0
+  pub sends : IfSome out (λ p. p ≡ ack next.count)
+  pub fits : IsReceiver r → IsReceiver next
+
+same_keeps : (r : Receiver) → KeepsReceiver r r None
+same_keeps r = record { onward = omega arith; sends = tt; fits = λ h. h }
+
+again_keeps : (last : Bool) (r : Receiver) → KeepsReceiver r (receiver_again last r).receiver (sent_of (receiver_again last r).result)
+again_keeps true r = record { onward = omega arith; sends = refl; fits = λ h. h }
+again_keeps false r = same_keeps r
+
+-- the next block is not one too many
+before_last : (n : ℕ) (body : List ℕ) → is_past n body ≡ false → length body ≡ 512 → n ≡ MAX_BLOCKS → ⊥
+before_last n body before full last = grind (arith, nat_tests)
+
+-- the bounds after a block that was taken, by whether it is full
+module _ (n : ℕ) (body : List ℕ) (r : Receiver) (h : IsReceiver r) (short : length body ≤ 512) (running : r.state ≡ receiving.Running) (is_next : n ≡ r.count + 1) (before : is_past n body ≡ false) where
+  taken_size : (full : Bool) → (length body == 512) ≡ full → (file : Option (List ℕ)) → IfSome file (HasSize r.state r.count) → IfSome (receiver_appends file body) (HasSize (state_after full) (r.count + 1))
+  taken_size full is_full None size = tt
+  taken_size true is_full (Some bytes) size =
+      let old : length bytes ≡ 512 * r.count = subst (λ s. HasSize s r.count bytes) running size in
+      let whole : length body ≡ 512 = eqb-true _ _ is_full in
+      omega (arith, length-append bytes body)
+  taken_size false is_full (Some bytes) size =
+      let old : length bytes ≡ 512 * r.count = subst (λ s. HasSize s r.count bytes) running size in
+      let other : length body ≡ 512 → ⊥ = eqb-false _ _ is_full in
+      omega (arith, length-append bytes body)
+
+  taken_held : (file : Option (List ℕ)) → IsSome file → IsSome (receiver_appends file body)
+  taken_held None held = held
+  taken_held (Some bytes) held = refl
+
+  taken_room : (full : Bool) → (length body == 512) ≡ full → state_after full ≡ receiving.Running → r.count + 1 < MAX_BLOCKS
+  taken_room true is_full goes_on =
+      let other : n ≡ MAX_BLOCKS → ⊥ = before_last n body before (eqb-true _ _ is_full) in
+      omega (arith, h.room running)
+  taken_room false is_full goes_on = absurd cc
+
+  taken_fits : IsReceiver (receiver_takes granted body r).receiver
+  taken_fits =
+      record {
+        size = taken_size (length body == 512) refl r.file h.size;
+        held = λ _. taken_held r.file (h.held running);
+        room = taken_room (length body == 512) refl;
+        within = omega (arith, h.room running);
+        patient = omega arith;
+        dally = λ _. omega arith;
+      }
+
+takes_keeps : (n : ℕ) (body : List ℕ) (r : Receiver) → length body ≤ 512 → r.state ≡ receiving.Running → n ≡ r.count + 1 → is_past n body ≡ false → (verdict : Verdict) → KeepsReceiver r (receiver_takes verdict body r).receiver (sent_of (receiver_takes verdict body r).result)
+takes_keeps n body r short running is_next before granted =
+    record { onward = omega arith; sends = refl; fits = λ h. taken_fits n body r h short running is_next before }
+takes_keeps n body r short running is_next before refused = same_keeps r
+
+next_keeps : (n : ℕ) (body : List ℕ) (r : Receiver) → length body ≤ 512 → r.state ≡ receiving.Running → n ≡ r.count + 1 → (past : Bool) → is_past n body ≡ past → (verdict : Verdict) → KeepsReceiver r (receiver_next past verdict body r).receiver (sent_of (receiver_next past verdict body r).result)
+next_keeps n body r short running is_next true is verdict = same_keeps r
+next_keeps n body r short running is_next false is verdict = takes_keeps n body r short running is_next is verdict
+
+running_keeps : (n : ℕ) (body : List ℕ) (r : Receiver) → length body ≤ 512 → r.state ≡ receiving.Running → (verdict : Verdict) (next : Bool) → (n == r.count + 1) ≡ next → KeepsReceiver r (receiver_running next verdict n body r).receiver (sent_of (receiver_running next verdict n body r).result)
+running_keeps n body r short running verdict true is_next = next_keeps n body r short running (eqb-true _ _ is_next) (is_past n body) refl verdict
+running_keeps n body r short running verdict false is_next = again_keeps (is_last_come n r) r
+
+data_in_keeps : (state : RecvState) (n : ℕ) (body : List ℕ) (r : Receiver) → length body ≤ 512 → r.state ≡ state → (verdict : Verdict) → KeepsReceiver r (receiver_data_in state verdict n body r).receiver (sent_of (receiver_data_in state verdict n body r).result)
+data_in_keeps receiving.Running n body r short is verdict = running_keeps n body r short is verdict (n == r.count + 1) refl
+data_in_keeps receiving.Complete n body r short is verdict = again_keeps (is_last_come n r) r
+data_in_keeps receiving.TimedOut n body r short is verdict = same_keeps r
+data_in_keeps receiving.Over n body r short is verdict = same_keeps r
+
+pub receiver_data-keeps : (verdict : Verdict) (n : ℕ) (body : List ℕ) (r : Receiver) → length body ≤ 512 → KeepsReceiver r (receiver_data verdict n body r).receiver (sent_of (receiver_data verdict n body r).result)
+receiver_data-keeps verdict n body r short = data_in_keeps r.state n body r short refl verdict
+
+missed_receiver : (last : Bool) (r : Receiver) → r.state ≡ receiving.Running → (r.misses + 1 == MISSES) ≡ last → KeepsReceiver r (receiver_missed last r).receiver (receiver_missed last r).out
+missed_receiver true r running is_last =
+    record {
+      onward = omega arith;
+      sends = tt;
+      fits = λ h. record {
+        size = subst (λ s. IfSome r.file (HasSize s r.count)) running h.size;
+        held = λ e. absurd cc;
+        room = λ e. absurd cc;
+        within = h.within;
+        patient = h.patient;
+        dally = λ e. absurd cc;
+      };
+    }
+missed_receiver false r running is_last =
+    let other : r.misses + 1 ≡ MISSES → ⊥ = eqb-false _ _ is_last in
+    record {
+      onward = omega arith;
+      sends = refl;
+      fits = λ h. record {
+        size = subst (λ s. IfSome r.file (HasSize s r.count)) running h.size;
+        held = λ _. h.held running;
+        room = λ _. h.room running;
+        within = h.within;
+        patient = omega (arith, h.patient);
+        dally = λ e. absurd cc;
+      };
+    }
+
+dallied_receiver : (last : Bool) (r : Receiver) → r.state ≡ receiving.Complete → (r.misses + 1 == DALLY) ≡ last → KeepsReceiver r (receiver_dallied last r).receiver (receiver_dallied last r).out
+dallied_receiver true r complete is_last =
+    record {
+      onward = omega arith;
+      sends = tt;
+      fits = λ h. record {
+        size = subst (λ s. IfSome r.file (HasSize s r.count)) complete h.size;
+        held = λ e. absurd cc;
+        room = λ e. absurd cc;
+        within = h.within;
+        patient = h.patient;
+        dally = λ e. absurd cc;
+      };
+    }
+dallied_receiver false r complete is_last =
+    let other : r.misses + 1 ≡ DALLY → ⊥ = eqb-false _ _ is_last in
+    record {
+      onward = omega arith;
+      sends = tt;
+      fits = λ h. record {
+        size = subst (λ s. IfSome r.file (HasSize s r.count)) complete h.size;
+        held = λ e. absurd cc;
+        room = λ e. absurd cc;
+        within = h.within;
+        patient = omega (arith, h.dally complete);
+        dally = λ _. omega (arith, h.dally complete);
+      };
+    }
+
+timeout_in_receiver : (state : RecvState) (r : Receiver) → r.state ≡ state → KeepsReceiver r (receiver_timeout_in state r).receiver (receiver_timeout_in state r).out
+timeout_in_receiver receiving.Running r is = missed_receiver (r.misses + 1 == MISSES) r is refl
+timeout_in_receiver receiving.Complete r is = dallied_receiver (r.misses + 1 == DALLY) r is refl
+timeout_in_receiver receiving.TimedOut r is = same_keeps r
+timeout_in_receiver receiving.Over r is = same_keeps r
+
+pub receiver_timeout-keeps : (r : Receiver) → KeepsReceiver r (receiver_timeout r).receiver (receiver_timeout r).out
+receiver_timeout-keeps r = timeout_in_receiver r.state r refl
+
+gives_keeps : (r : Receiver) → (r.state ≡ receiving.Running → ⊥) → KeepsReceiver r (receiver_gives r).receiver None
+gives_keeps r ended =
+    record {
+      onward = omega arith;
+      sends = tt;
+      fits = λ h. record {
+        size = tt;
+        held = λ e. absurd (ended e);
+        room = λ e. absurd (ended e);
+        within = h.within;
+        patient = h.patient;
+        dally = h.dally;
+      };
+    }
+
+take_in_keeps : (state : RecvState) (r : Receiver) → r.state ≡ state → KeepsReceiver r (receiver_take_in state r).receiver None
+take_in_keeps receiving.Running r is = same_keeps r
+take_in_keeps receiving.Complete r is = gives_keeps r (λ e. cc)
+take_in_keeps receiving.TimedOut r is = same_keeps r
+take_in_keeps receiving.Over r is = gives_keeps r (λ e. cc)
+
+pub receiver_take-keeps : (r : Receiver) → KeepsReceiver r (receiver_take r).receiver None
+receiver_take-keeps r = take_in_keeps r.state r refl
+
+pub IsReceiver-start : IsReceiver receiver_start
+IsReceiver-start =
+    record { size = refl; held = λ _. refl; room = λ _. omega arith; within = omega arith; patient = omega arith; dally = λ e. absurd cc }
+
+-- an ACK, whatever a receiver within its bounds sends, is read back
+acks_back_from : (n : ℕ) (out : Option Packet) → n < 2 ^ 16 → IfSome out (λ p. p ≡ ack n) → IfSome out ReadsBack
+acks_back_from n None fits sends = tt
+acks_back_from n (Some p) fits sends = subst ReadsBack (sym sends) (ack-reads_back n fits)
+
+pub acks-reads_back : (r next : Receiver) (out : Option Packet) → KeepsReceiver r next out → IsReceiver r → IfSome out ReadsBack
+acks-reads_back r next out k fits =
+    let after = k.fits fits in
+    acks_back_from next.count out (omega (arith, after.within)) k.sends
+
+-- ---- what a receiver knows of the file
+
+-- it holds the first blocks of this file, and the next one came
+module _ (file : List ℕ) (r : Receiver) (holds : HoldsFirst file r) where
+  again_holds : (last : Bool) → HoldsFirst file (receiver_again last r).receiver
+  again_holds true = holds
+  again_holds false = holds
+
+  takes_holds : (body : List ℕ) → body ≡ block_of file (r.count + 1) → (verdict : Verdict) → HoldsFirst file (receiver_takes verdict body r).receiver
+  takes_holds body is_block granted =
+      ap (λ o. receiver_appends o body) holds ∙ ap (λ (xs : List ℕ). Some (first_blocks file r.count ++ xs)) is_block
+      ∙ ap Some (first_blocks-more file r.count)
+  takes_holds body is_block refused = holds
+
+  next_holds : (past : Bool) (body : List ℕ) → body ≡ block_of file (r.count + 1) → (verdict : Verdict) → HoldsFirst file (receiver_next past verdict body r).receiver
+  next_holds true body is_block verdict = holds
+  next_holds false body is_block verdict = takes_holds body is_block verdict
+
+  running_holds : (n : ℕ) (body : List ℕ) → body ≡ block_of file n → (verdict : Verdict) (next : Bool) → (n == r.count + 1) ≡ next → HoldsFirst file (receiver_running next verdict n body r).receiver
+  running_holds n body is_block verdict true is_next =
+      next_holds (is_past n body) body (is_block ∙ ap (block_of file) (eqb-true _ _ is_next)) verdict
+  running_holds n body is_block verdict false is_next = again_holds (is_last_come n r)
+
+  data_in_holds : (state : RecvState) (n : ℕ) (body : List ℕ) → body ≡ block_of file n → (verdict : Verdict) → HoldsFirst file (receiver_data_in state verdict n body r).receiver
+  data_in_holds receiving.Running n body is_block verdict = running_holds n body is_block verdict (n == r.count + 1) refl
+  data_in_holds receiving.Complete n body is_block verdict = again_holds (is_last_come n r)
+  data_in_holds receiving.TimedOut n body is_block verdict = holds
+  data_in_holds receiving.Over n body is_block verdict = holds
+
+  -- a receiver that holds the first r blocks holds the first r + 1 after the next block, and goes on to hold them
+  -- after any other
+  pub receiver_data-holds : (verdict : Verdict) (n : ℕ) (body : List ℕ) → body ≡ block_of file n → HoldsFirst file (receiver_data verdict n body r).receiver
+  receiver_data-holds verdict n body is_block = data_in_holds r.state n body is_block verdict
+
+  missed_holds : (last : Bool) → HoldsFirst file (receiver_missed last r).receiver
+  missed_holds true = holds
+  missed_holds false = holds
+
+  dallied_holds : (last : Bool) → HoldsFirst file (receiver_dallied last r).receiver
+  dallied_holds true = holds
+  dallied_holds false = holds
+
+  timeout_in_holds : (state : RecvState) → HoldsFirst file (receiver_timeout_in state r).receiver
+  timeout_in_holds receiving.Running = missed_holds (r.misses + 1 == MISSES)
+  timeout_in_holds receiving.Complete = dallied_holds (r.misses + 1 == DALLY)
+  timeout_in_holds receiving.TimedOut = holds
+  timeout_in_holds receiving.Over = holds
+
+  pub receiver_timeout-holds : HoldsFirst file (receiver_timeout r).receiver
+  receiver_timeout-holds = timeout_in_holds r.state
+
+  -- ---- complete is to have the whole file
+
+  held_size : IsReceiver r → HasSize r.state r.count (first_blocks file r.count)
+  held_size fits = subst (λ o. IfSome o (HasSize r.state r.count)) holds fits.size
+
+  -- whether it has the whole file, by its state
+  abbrev IsWhole : RecvState → Type 0
+  IsWhole receiving.Running = r.count < block_count file
+  IsWhole receiving.Complete = (r.count ≡ block_count file) × (r.file ≡ Some file)
+  IsWhole receiving.TimedOut = r.count < block_count file
+  IsWhole receiving.Over = (r.count ≡ block_count file) × (r.file ≡ Some file)
+
+  part : length (first_blocks file r.count) ≡ 512 * r.count → r.count < block_count file
+  part size = omega (arith, length-take (512 * r.count) file)
+
+  ended : r.count ≡ block_count (first_blocks file r.count) → (r.count ≡ block_count file) × (r.file ≡ Some file)
+  ended size =
+      let all : length file ≤ 512 * r.count = omega (arith, length-take (512 * r.count) file) in
+      let whole : first_blocks file r.count ≡ file = take_all (512 * r.count) file all in
+      (size ∙ ap block_count whole, holds ∙ ap Some whole)
+
+  whole_in : (state : RecvState) → HasSize state r.count (first_blocks file r.count) → IsWhole state
+  whole_in receiving.Running size = part size
+  whole_in receiving.Complete size = ended size
+  whole_in receiving.TimedOut size = part size
+  whole_in receiving.Over size = ended size
+
+  ended_in : (state : RecvState) → IsWhole state → IsEnded state → (r.count ≡ block_count file) × (r.file ≡ Some file)
+  ended_in receiving.Running whole e = absurd e
+  ended_in receiving.Complete whole e = whole
+  ended_in receiving.TimedOut whole e = absurd e
+  ended_in receiving.Over whole e = whole
+
+  last_in : (state : RecvState) → IsWhole state → r.count ≡ block_count file → IsEnded state
+  last_in receiving.Running whole e = absurd (omega (arith, whole))
+  last_in receiving.Complete whole e = tt
+  last_in receiving.TimedOut whole e = absurd (omega (arith, whole))
+  last_in receiving.Over whole e = tt
+
+  -- it is complete or over only with the last block and the whole of the file
+  pub ended-whole : IsReceiver r → IsEnded r.state → (r.count ≡ block_count file) × (r.file ≡ Some file)
+  ended-whole fits = ended_in r.state (whole_in r.state (held_size fits))
+
+  -- and it is so once it counts the last block; so it acknowledges that one only then
+  pub last-ended : IsReceiver r → r.count ≡ block_count file → IsEnded r.state
+  last-ended fits = last_in r.state (whole_in r.state (held_size fits))
+
+-- ---- how it becomes complete
+
+-- it was complete before, or this DATA completes the file
+abbrev pub CompletesBy : Verdict → (n : ℕ) (body : List ℕ) → (r next : Receiver) → Type 0
+CompletesBy verdict n body r next =
+    next.state ≡ receiving.Complete → (r.state ≡ receiving.Complete) ⊎ ((verdict ≡ granted) × Completes n body r)
+
+again_completes : (verdict : Verdict) (n : ℕ) (body : List ℕ) (r : Receiver) (last : Bool) → CompletesBy verdict n body r (receiver_again last r).receiver
+again_completes verdict n body r true complete = inl complete
+again_completes verdict n body r false complete = inl complete
+
+module _ (n : ℕ) (body : List ℕ) (r : Receiver) (short : length body ≤ 512) (running : r.state ≡ receiving.Running) (is_next : n ≡ r.count + 1) where
+  taken_completes : (full : Bool) → (length body == 512) ≡ full → state_after full ≡ receiving.Complete → (r.state ≡ receiving.Complete) ⊎ ((granted ≡ granted) × Completes n body r)
+  taken_completes true is_full complete = absurd cc
+  taken_completes false is_full complete =
+      let other : length body ≡ 512 → ⊥ = eqb-false _ _ is_full in
+      inr (refl, record { running = running; next = is_next; short = omega arith })
+
+  takes_completes : (verdict : Verdict) → CompletesBy verdict n body r (receiver_takes verdict body r).receiver
+  takes_completes granted = taken_completes (length body == 512) refl
+  takes_completes refused = λ complete. inl complete
+
+  next_completes : (past : Bool) (verdict : Verdict) → CompletesBy verdict n body r (receiver_next past verdict body r).receiver
+  next_completes true verdict = λ complete. inl complete
+  next_completes false verdict = takes_completes verdict
+
+running_completes : (n : ℕ) (body : List ℕ) (r : Receiver) → length body ≤ 512 → r.state ≡ receiving.Running → (verdict : Verdict) (next : Bool) → (n == r.count + 1) ≡ next → CompletesBy verdict n body r (receiver_running next verdict n body r).receiver
+running_completes n body r short running verdict true is_next = next_completes n body r short running (eqb-true _ _ is_next) (is_past n body) verdict
+running_completes n body r short running verdict false is_next = again_completes verdict n body r (is_last_come n r)
+
+data_in_completes : (state : RecvState) (verdict : Verdict) (n : ℕ) (body : List ℕ) (r : Receiver) → length body ≤ 512 → r.state ≡ state → CompletesBy verdict n body r (receiver_data_in state verdict n body r).receiver
+data_in_completes receiving.Running verdict n body r short is = running_completes n body r short is verdict (n == r.count + 1) refl
+data_in_completes receiving.Complete verdict n body r short is = again_completes verdict n body r (is_last_come n r)
+data_in_completes receiving.TimedOut verdict n body r short is = λ complete. inl complete
+data_in_completes receiving.Over verdict n body r short is = λ complete. inl complete
+
+-- a receiver is newly complete only by a DATA that completes the file, and where memory is granted
+pub receiver_data-completes : (verdict : Verdict) (n : ℕ) (body : List ℕ) (r : Receiver) → length body ≤ 512 → CompletesBy verdict n body r (receiver_data verdict n body r).receiver
+receiver_data-completes verdict n body r short = data_in_completes r.state verdict n body r short refl
+
+-- and by each such DATA
+pub completed : (n : ℕ) (body : List ℕ) (r : Receiver) → Completes n body r → (receiver_data granted n body r).receiver.state ≡ receiving.Complete
+completed n body r completes =
+    let short : (length body == 512) ≡ false = ne_eqb (length body) 512 (λ e. omega (arith, completes.short)) in
+    let past : is_past n body ≡ false = grind (arith, nat_tests) in
+    ap (λ s. (receiver_data_in s granted n body r).receiver.state) completes.running
+    ∙ ap (λ next. (receiver_running next granted n body r).receiver.state) (eq-eqb n (r.count + 1) completes.next)
+    ∙ ap (λ past. (receiver_next past granted body r).receiver.state) past
+    ∙ ap state_after short
