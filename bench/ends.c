@@ -4,8 +4,8 @@
 #include <stdlib.h>
 #include <string.h>
 
-#define SIZE 4193791
-#define TIMES 50
+#define SIZE 33553919
+#define TIMES 6
 
 struct sender {
     const unsigned char *file;
@@ -49,7 +49,7 @@ static size_t on_ack(struct sender *s, unsigned block, unsigned char *dgram)
 
 static size_t on_data(struct receiver *r, unsigned block, const unsigned char *body, size_t size, unsigned char *dgram)
 {
-    if (r->complete || block != r->count + 1 || (size == 512 && block == 8191))
+    if (r->complete || block != r->count + 1 || (size == 512 && block == 65535))
         return 0;
     if (r->length + size > r->room) {
         r->room = r->room * 2 > r->length + size ? r->room * 2 : r->length + size;

@@ -3,14 +3,14 @@
 
 use std::alloc::{AllocError, Global};
 use std::io;
-use tftp_ends::{Receiver, Sender};
-use tftp_packet::{Dgram, Owned, Packet, decode};
+use tftp_ends::{MAX_BLOCKS, MAX_FILE, Receiver, Sender};
+use tftp_packet::{BLOCK_SIZE, Dgram, Owned, Packet, decode};
 
 /// The greatest length of a file.
-const SIZE: usize = 4_193_791;
+const SIZE: usize = MAX_FILE as usize;
 
 /// How often it is sent.
-const TIMES: usize = 50;
+const TIMES: usize = 6;
 
 fn file(alloc: Global) -> Result<Vec<u8>, AllocError> {
     let mut bytes = vec![in alloc; 0; SIZE]?;
@@ -23,7 +23,7 @@ fn file(alloc: Global) -> Result<Vec<u8>, AllocError> {
 // Gives a DATA to the receiver, and its ACK to the sender.
 fn turn(sender: &mut Sender<Owned>, receiver: &mut Receiver, dgram: &Dgram) -> Option<Dgram> {
     let out = match decode(dgram.bytes()) {
-        Ok(Packet::Data { block, body }) if body.len() <= 512 => receiver.on_data(block, body),
+        Ok(Packet::Data { block, body }) if body.len() <= BLOCK_SIZE => receiver.on_data(block, body),
         _ => return None,
     };
     let Ok(Some(ack)) = out else {
@@ -42,7 +42,7 @@ fn transfer(alloc: Global, bytes: Vec<u8>) -> u64 {
     }
     let (mut sender, mut dgram) = Sender::start(Owned::of(bytes));
     let mut receiver = Receiver::new(alloc);
-    for _ in 0..8_192 {
+    for _ in 0..MAX_BLOCKS {
         match turn(&mut sender, &mut receiver, &dgram) {
             Some(next) => dgram = next,
             None => break,

@@ -2,6 +2,7 @@
 use Rattle.std.proofs.Common.{◌≡◌, ◌⊎◌, ℕ, ◌+◌, ◌<◌, ◌≤◌, Bool, true, false, ◌==◌, List, [], ◌∷◌, ◌++◌, length, slice_get, Option, None, Some, IfSome, refl, ap, sym, ◌∙◌, subst, arith, inl, inr, ⊎_elim}
 use Rattle.std.proofs.lemmas.Bool.{eqb-true, eqb-false}
 use Rattle.std.specs.List.{concat}
+use Rattle.tftp_packet.specs.declared.sizes.TheConstants.{BLOCK_SIZE}
 use Rattle.tftp_packet.specs.Packet.{Packet, read, write, data_block, ack, error}
 use Rattle.tftp_packet.specs.Blocks.{block_count, block_of, blocks_to}
 use Rattle.tftp_packet.proofs.Cutting.{length-block_of-le, short_block, joined}
@@ -110,12 +111,12 @@ module _ (p : Pair) (k : Keeps p) where
   again_keeps false = k
 
   module _ (body : List ℕ) (came : p.receiver.count + 1 ≤ p.sender.current) (is_next : body ≡ block_of p.sender.file (p.receiver.count + 1)) where
-    ended_by : (full : Bool) → (length body == 512) ≡ full → IsEnded (state_after full) → p.receiver.count + 1 ≡ block_count p.sender.file
+    ended_by : (full : Bool) → (length body == BLOCK_SIZE) ≡ full → IsEnded (state_after full) → p.receiver.count + 1 ≡ block_count p.sender.file
     ended_by true is_full ended = absurd ended
     ended_by false is_full ended =
-        let other : length body ≡ 512 → ⊥ = eqb-false _ _ is_full in
+        let other : length body ≡ BLOCK_SIZE → ⊥ = eqb-false _ _ is_full in
         let size : length body ≡ length (block_of p.sender.file (p.receiver.count + 1)) = ap length is_next in
-        let short : length (block_of p.sender.file (p.receiver.count + 1)) < 512 = omega (arith, length-block_of-le p.sender.file (p.receiver.count + 1)) in
+        let short : length (block_of p.sender.file (p.receiver.count + 1)) < BLOCK_SIZE = omega (arith, length-block_of-le p.sender.file (p.receiver.count + 1)) in
         omega (arith, k.within, short_block p.sender.file (p.receiver.count + 1) (omega arith) short)
 
     takes_keeps : (verdict : Verdict) → Keeps (after_data (receiver_takes verdict body p.receiver) p)
@@ -128,7 +129,7 @@ module _ (p : Pair) (k : Keeps p) where
               (λ held. inl (held.0, ap (λ o. receiver_appends o body) held.1 ∙ ap (λ (xs : List ℕ). Some (concat (blocks_to p.sender.file p.receiver.count) ++ xs)) is_next ∙ ap Some (blocks_to-more p.sender.file p.receiver.count)))
               (λ gone. absurd (omega (arith, gone.2, k.within)))
               k.bytes;
-          ended = ended_by (length body == 512) refl;
+          ended = ended_by (length body == BLOCK_SIZE) refl;
           finished = λ e. absurd (omega (arith, k.finished e, k.within));
           once = count-ack p.sent (p.receiver.count + 1) ∙ k.once;
         }

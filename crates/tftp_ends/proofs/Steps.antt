@@ -3,6 +3,7 @@ use Rattle.std.proofs.Common.{◌≡◌, ◌⊎◌, ℕ, ◌+◌, ◌*◌, ◌^�
 use Rattle.std.proofs.lemmas.Bool.{eqb-true, eqb-false, eq-eqb, ne_eqb}
 use Rattle.std.proofs.lemmas.Bool.Decides.{nat_tests}
 use Rattle.std.proofs.lemmas.List.{take_all}
+use Rattle.tftp_packet.specs.declared.sizes.TheConstants.{BLOCK_SIZE}
 use Rattle.tftp_packet.specs.Packet.{Packet, ack, HasFields, encode}
 use Rattle.tftp_packet.specs.Blocks.{block_count, block_of, first_blocks}
 use Rattle.tftp_packet.specs.Decode.{decode_bytes}
@@ -216,27 +217,27 @@ again_keeps true r = record { onward = omega arith; sends = refl; fits = λ h. h
 again_keeps false r = same_keeps r
 
 -- the next block is not one too many
-before_last : (n : ℕ) (body : List ℕ) → is_past n body ≡ false → length body ≡ 512 → n ≡ MAX_BLOCKS → ⊥
+before_last : (n : ℕ) (body : List ℕ) → is_past n body ≡ false → length body ≡ BLOCK_SIZE → n ≡ MAX_BLOCKS → ⊥
 before_last n body before full last = grind (arith, nat_tests)
 
 -- the bounds after a block that was taken, by whether it is full
-module _ (n : ℕ) (body : List ℕ) (r : Receiver) (h : IsReceiver r) (short : length body ≤ 512) (running : r.state ≡ receiving.Running) (is_next : n ≡ r.count + 1) (before : is_past n body ≡ false) where
-  taken_size : (full : Bool) → (length body == 512) ≡ full → (file : Option (List ℕ)) → IfSome file (HasSize r.state r.count) → IfSome (receiver_appends file body) (HasSize (state_after full) (r.count + 1))
+module _ (n : ℕ) (body : List ℕ) (r : Receiver) (h : IsReceiver r) (short : length body ≤ BLOCK_SIZE) (running : r.state ≡ receiving.Running) (is_next : n ≡ r.count + 1) (before : is_past n body ≡ false) where
+  taken_size : (full : Bool) → (length body == BLOCK_SIZE) ≡ full → (file : Option (List ℕ)) → IfSome file (HasSize r.state r.count) → IfSome (receiver_appends file body) (HasSize (state_after full) (r.count + 1))
   taken_size full is_full None size = tt
   taken_size true is_full (Some bytes) size =
-      let old : length bytes ≡ 512 * r.count = subst (λ s. HasSize s r.count bytes) running size in
-      let whole : length body ≡ 512 = eqb-true _ _ is_full in
+      let old : length bytes ≡ BLOCK_SIZE * r.count = subst (λ s. HasSize s r.count bytes) running size in
+      let whole : length body ≡ BLOCK_SIZE = eqb-true _ _ is_full in
       omega (arith, length-append bytes body)
   taken_size false is_full (Some bytes) size =
-      let old : length bytes ≡ 512 * r.count = subst (λ s. HasSize s r.count bytes) running size in
-      let other : length body ≡ 512 → ⊥ = eqb-false _ _ is_full in
+      let old : length bytes ≡ BLOCK_SIZE * r.count = subst (λ s. HasSize s r.count bytes) running size in
+      let other : length body ≡ BLOCK_SIZE → ⊥ = eqb-false _ _ is_full in
       omega (arith, length-append bytes body)
 
   taken_held : (file : Option (List ℕ)) → IsSome file → IsSome (receiver_appends file body)
   taken_held None held = held
   taken_held (Some bytes) held = refl
 
-  taken_room : (full : Bool) → (length body == 512) ≡ full → state_after full ≡ receiving.Running → r.count + 1 < MAX_BLOCKS
+  taken_room : (full : Bool) → (length body == BLOCK_SIZE) ≡ full → state_after full ≡ receiving.Running → r.count + 1 < MAX_BLOCKS
   taken_room true is_full goes_on =
       let other : n ≡ MAX_BLOCKS → ⊥ = before_last n body before (eqb-true _ _ is_full) in
       omega (arith, h.room running)
@@ -245,34 +246,34 @@ module _ (n : ℕ) (body : List ℕ) (r : Receiver) (h : IsReceiver r) (short : 
   taken_fits : IsReceiver (receiver_takes granted body r).receiver
   taken_fits =
       record {
-        size = taken_size (length body == 512) refl r.file h.size;
+        size = taken_size (length body == BLOCK_SIZE) refl r.file h.size;
         held = λ _. taken_held r.file (h.held running);
-        room = taken_room (length body == 512) refl;
+        room = taken_room (length body == BLOCK_SIZE) refl;
         within = omega (arith, h.room running);
         patient = omega arith;
         dally = λ _. omega arith;
       }
 
-takes_keeps : (n : ℕ) (body : List ℕ) (r : Receiver) → length body ≤ 512 → r.state ≡ receiving.Running → n ≡ r.count + 1 → is_past n body ≡ false → (verdict : Verdict) → KeepsReceiver r (receiver_takes verdict body r).receiver (sent_of (receiver_takes verdict body r).result)
+takes_keeps : (n : ℕ) (body : List ℕ) (r : Receiver) → length body ≤ BLOCK_SIZE → r.state ≡ receiving.Running → n ≡ r.count + 1 → is_past n body ≡ false → (verdict : Verdict) → KeepsReceiver r (receiver_takes verdict body r).receiver (sent_of (receiver_takes verdict body r).result)
 takes_keeps n body r short running is_next before granted =
     record { onward = omega arith; sends = refl; fits = λ h. taken_fits n body r h short running is_next before }
 takes_keeps n body r short running is_next before refused = same_keeps r
 
-next_keeps : (n : ℕ) (body : List ℕ) (r : Receiver) → length body ≤ 512 → r.state ≡ receiving.Running → n ≡ r.count + 1 → (past : Bool) → is_past n body ≡ past → (verdict : Verdict) → KeepsReceiver r (receiver_next past verdict body r).receiver (sent_of (receiver_next past verdict body r).result)
+next_keeps : (n : ℕ) (body : List ℕ) (r : Receiver) → length body ≤ BLOCK_SIZE → r.state ≡ receiving.Running → n ≡ r.count + 1 → (past : Bool) → is_past n body ≡ past → (verdict : Verdict) → KeepsReceiver r (receiver_next past verdict body r).receiver (sent_of (receiver_next past verdict body r).result)
 next_keeps n body r short running is_next true is verdict = same_keeps r
 next_keeps n body r short running is_next false is verdict = takes_keeps n body r short running is_next is verdict
 
-running_keeps : (n : ℕ) (body : List ℕ) (r : Receiver) → length body ≤ 512 → r.state ≡ receiving.Running → (verdict : Verdict) (next : Bool) → (n == r.count + 1) ≡ next → KeepsReceiver r (receiver_running next verdict n body r).receiver (sent_of (receiver_running next verdict n body r).result)
+running_keeps : (n : ℕ) (body : List ℕ) (r : Receiver) → length body ≤ BLOCK_SIZE → r.state ≡ receiving.Running → (verdict : Verdict) (next : Bool) → (n == r.count + 1) ≡ next → KeepsReceiver r (receiver_running next verdict n body r).receiver (sent_of (receiver_running next verdict n body r).result)
 running_keeps n body r short running verdict true is_next = next_keeps n body r short running (eqb-true _ _ is_next) (is_past n body) refl verdict
 running_keeps n body r short running verdict false is_next = again_keeps (is_last_come n r) r
 
-data_in_keeps : (state : RecvState) (n : ℕ) (body : List ℕ) (r : Receiver) → length body ≤ 512 → r.state ≡ state → (verdict : Verdict) → KeepsReceiver r (receiver_data_in state verdict n body r).receiver (sent_of (receiver_data_in state verdict n body r).result)
+data_in_keeps : (state : RecvState) (n : ℕ) (body : List ℕ) (r : Receiver) → length body ≤ BLOCK_SIZE → r.state ≡ state → (verdict : Verdict) → KeepsReceiver r (receiver_data_in state verdict n body r).receiver (sent_of (receiver_data_in state verdict n body r).result)
 data_in_keeps receiving.Running n body r short is verdict = running_keeps n body r short is verdict (n == r.count + 1) refl
 data_in_keeps receiving.Complete n body r short is verdict = again_keeps (is_last_come n r) r
 data_in_keeps receiving.TimedOut n body r short is verdict = same_keeps r
 data_in_keeps receiving.Over n body r short is verdict = same_keeps r
 
-pub receiver_data-keeps : (verdict : Verdict) (n : ℕ) (body : List ℕ) (r : Receiver) → length body ≤ 512 → KeepsReceiver r (receiver_data verdict n body r).receiver (sent_of (receiver_data verdict n body r).result)
+pub receiver_data-keeps : (verdict : Verdict) (n : ℕ) (body : List ℕ) (r : Receiver) → length body ≤ BLOCK_SIZE → KeepsReceiver r (receiver_data verdict n body r).receiver (sent_of (receiver_data verdict n body r).result)
 receiver_data-keeps verdict n body r short = data_in_keeps r.state n body r short refl verdict
 
 missed_receiver : (last : Bool) (r : Receiver) → r.state ≡ receiving.Running → (r.misses + 1 == MISSES) ≡ last → KeepsReceiver r (receiver_missed last r).receiver (receiver_missed last r).out
@@ -443,13 +444,13 @@ module _ (file : List ℕ) (r : Receiver) (holds : HoldsFirst file r) where
   IsWhole receiving.TimedOut = r.count < block_count file
   IsWhole receiving.Over = (r.count ≡ block_count file) × (r.file ≡ Some file)
 
-  part : length (first_blocks file r.count) ≡ 512 * r.count → r.count < block_count file
-  part size = omega (arith, length-take (512 * r.count) file)
+  part : length (first_blocks file r.count) ≡ BLOCK_SIZE * r.count → r.count < block_count file
+  part size = omega (arith, length-take (BLOCK_SIZE * r.count) file)
 
   ended : r.count ≡ block_count (first_blocks file r.count) → (r.count ≡ block_count file) × (r.file ≡ Some file)
   ended size =
-      let all : length file ≤ 512 * r.count = omega (arith, length-take (512 * r.count) file) in
-      let whole : first_blocks file r.count ≡ file = take_all (512 * r.count) file all in
+      let all : length file ≤ BLOCK_SIZE * r.count = omega (arith, length-take (BLOCK_SIZE * r.count) file) in
+      let whole : first_blocks file r.count ≡ file = take_all (BLOCK_SIZE * r.count) file all in
       (size ∙ ap block_count whole, holds ∙ ap Some whole)
 
   whole_in : (state : RecvState) → HasSize state r.count (first_blocks file r.count) → IsWhole state
@@ -489,39 +490,39 @@ again_completes : (verdict : Verdict) (n : ℕ) (body : List ℕ) (r : Receiver)
 again_completes verdict n body r true complete = inl complete
 again_completes verdict n body r false complete = inl complete
 
-module _ (n : ℕ) (body : List ℕ) (r : Receiver) (short : length body ≤ 512) (running : r.state ≡ receiving.Running) (is_next : n ≡ r.count + 1) where
-  taken_completes : (full : Bool) → (length body == 512) ≡ full → state_after full ≡ receiving.Complete → (r.state ≡ receiving.Complete) ⊎ ((granted ≡ granted) × Completes n body r)
+module _ (n : ℕ) (body : List ℕ) (r : Receiver) (short : length body ≤ BLOCK_SIZE) (running : r.state ≡ receiving.Running) (is_next : n ≡ r.count + 1) where
+  taken_completes : (full : Bool) → (length body == BLOCK_SIZE) ≡ full → state_after full ≡ receiving.Complete → (r.state ≡ receiving.Complete) ⊎ ((granted ≡ granted) × Completes n body r)
   taken_completes true is_full complete = absurd cc
   taken_completes false is_full complete =
-      let other : length body ≡ 512 → ⊥ = eqb-false _ _ is_full in
+      let other : length body ≡ BLOCK_SIZE → ⊥ = eqb-false _ _ is_full in
       inr (refl, record { running = running; next = is_next; short = omega arith })
 
   takes_completes : (verdict : Verdict) → CompletesBy verdict n body r (receiver_takes verdict body r).receiver
-  takes_completes granted = taken_completes (length body == 512) refl
+  takes_completes granted = taken_completes (length body == BLOCK_SIZE) refl
   takes_completes refused = λ complete. inl complete
 
   next_completes : (past : Bool) (verdict : Verdict) → CompletesBy verdict n body r (receiver_next past verdict body r).receiver
   next_completes true verdict = λ complete. inl complete
   next_completes false verdict = takes_completes verdict
 
-running_completes : (n : ℕ) (body : List ℕ) (r : Receiver) → length body ≤ 512 → r.state ≡ receiving.Running → (verdict : Verdict) (next : Bool) → (n == r.count + 1) ≡ next → CompletesBy verdict n body r (receiver_running next verdict n body r).receiver
+running_completes : (n : ℕ) (body : List ℕ) (r : Receiver) → length body ≤ BLOCK_SIZE → r.state ≡ receiving.Running → (verdict : Verdict) (next : Bool) → (n == r.count + 1) ≡ next → CompletesBy verdict n body r (receiver_running next verdict n body r).receiver
 running_completes n body r short running verdict true is_next = next_completes n body r short running (eqb-true _ _ is_next) (is_past n body) verdict
 running_completes n body r short running verdict false is_next = again_completes verdict n body r (is_last_come n r)
 
-data_in_completes : (state : RecvState) (verdict : Verdict) (n : ℕ) (body : List ℕ) (r : Receiver) → length body ≤ 512 → r.state ≡ state → CompletesBy verdict n body r (receiver_data_in state verdict n body r).receiver
+data_in_completes : (state : RecvState) (verdict : Verdict) (n : ℕ) (body : List ℕ) (r : Receiver) → length body ≤ BLOCK_SIZE → r.state ≡ state → CompletesBy verdict n body r (receiver_data_in state verdict n body r).receiver
 data_in_completes receiving.Running verdict n body r short is = running_completes n body r short is verdict (n == r.count + 1) refl
 data_in_completes receiving.Complete verdict n body r short is = again_completes verdict n body r (is_last_come n r)
 data_in_completes receiving.TimedOut verdict n body r short is = λ complete. inl complete
 data_in_completes receiving.Over verdict n body r short is = λ complete. inl complete
 
 -- a receiver is newly complete only by a DATA that completes the file, and where memory is granted
-pub receiver_data-completes : (verdict : Verdict) (n : ℕ) (body : List ℕ) (r : Receiver) → length body ≤ 512 → CompletesBy verdict n body r (receiver_data verdict n body r).receiver
+pub receiver_data-completes : (verdict : Verdict) (n : ℕ) (body : List ℕ) (r : Receiver) → length body ≤ BLOCK_SIZE → CompletesBy verdict n body r (receiver_data verdict n body r).receiver
 receiver_data-completes verdict n body r short = data_in_completes r.state verdict n body r short refl
 
 -- and by each such DATA
 pub completed : (n : ℕ) (body : List ℕ) (r : Receiver) → Completes n body r → (receiver_data granted n body r).receiver.state ≡ receiving.Complete
 completed n body r completes =
-    let short : (length body == 512) ≡ false = ne_eqb (length body) 512 (λ e. omega (arith, completes.short)) in
+    let short : (length body == BLOCK_SIZE) ≡ false = ne_eqb (length body) BLOCK_SIZE (λ e. omega (arith, completes.short)) in
     let past : is_past n body ≡ false = grind (arith, nat_tests) in
     ap (λ s. (receiver_data_in s granted n body r).receiver.state) completes.running
     ∙ ap (λ next. (receiver_running next granted n body r).receiver.state) (eq-eqb n (r.count + 1) completes.next)

@@ -2,6 +2,7 @@
 -- section 4.2.3.1: a repeated ACK never makes the sender send its current DATA again. docs/FORMATS.md has it as tables.
 use Rattle.std.specs.Prelude.{◌≡◌, ℕ, ◌+◌, ◌*◌, ◌<◌, ◌≤◌, Bool, true, false, ◌==◌, ◌&&◌, nat_lt, List, [], ◌++◌, length, Option, None, Some, IsSome, IfSome, Result, Ok, Err}
 use Rattle.std.specs.Option.{option_map}
+use Rattle.tftp_packet.specs.declared.sizes.TheConstants.{BLOCK_SIZE}
 use Rattle.tftp_packet.specs.Packet.{Packet, data_block, ack, encode}
 use Rattle.tftp_packet.specs.Blocks.{block_count, block_of, first_blocks}
 use Rattle.tftp_ends.specs.declared.limits.TheConstants.{MAX_BLOCKS, MAX_FILE, MISSES, DALLY}
@@ -115,7 +116,7 @@ abbrev pub receiver_appends : Option (List ℕ) → (body : List ℕ) → Option
 receiver_appends None body = None
 receiver_appends (Some bytes) body = Some (bytes ++ body)
 
--- a block of 512 bytes is not the last one
+-- a full block is not the last one
 abbrev pub state_after : (full : Bool) → RecvState
 state_after true = receiving.Running
 state_after false = receiving.Complete
@@ -124,7 +125,7 @@ state_after false = receiving.Complete
 abbrev pub receiver_takes : Verdict → (body : List ℕ) → Receiver → DataAnswer
 receiver_takes granted body r =
     record {
-      receiver = record { count = r.count + 1; file = receiver_appends r.file body; misses = 0; state = state_after (length body == 512) };
+      receiver = record { count = r.count + 1; file = receiver_appends r.file body; misses = 0; state = state_after (length body == BLOCK_SIZE) };
       result = Ok (Some (ack (r.count + 1)));
     }
 receiver_takes refused body r = record { receiver = r; result = Err fault.Memory }
@@ -143,9 +144,9 @@ receiver_again false r = record { receiver = r; result = Ok None }
 abbrev pub is_last_come : (n : ℕ) → Receiver → Bool
 is_last_come n r = nat_lt 0 n && (n == r.count)
 
--- a file cannot go on behind block MAX_BLOCKS
+-- a file cannot go on after block MAX_BLOCKS
 abbrev pub is_past : (n : ℕ) (body : List ℕ) → Bool
-is_past n body = (n == MAX_BLOCKS) && (length body == 512)
+is_past n body = (n == MAX_BLOCKS) && (length body == BLOCK_SIZE)
 
 abbrev pub receiver_running : (next : Bool) → Verdict → (n : ℕ) (body : List ℕ) → Receiver → DataAnswer
 receiver_running true verdict n body r = receiver_next (is_past n body) verdict body r
@@ -165,7 +166,7 @@ receiver_data verdict n body r = receiver_data_in r.state verdict n body r
 pub record Completes (n : ℕ) (body : List ℕ) (r : Receiver) : Type 0 where
   pub running : r.state ≡ receiving.Running
   pub next : n ≡ r.count + 1
-  pub short : length body < 512
+  pub short : length body < BLOCK_SIZE
 
 -- ---- time-outs
 
@@ -178,7 +179,7 @@ abbrev pub receiver_missed : (last : Bool) → Receiver → RecvAnswer
 receiver_missed true r = receiver_waits r.misses receiving.TimedOut None r
 receiver_missed false r = receiver_waits (r.misses + 1) receiving.Running (Some (ack r.count)) r
 
--- behind the last block: whether it has waited long enough for a repeated one
+-- after the last block: whether it has waited long enough for a repeated one
 abbrev pub receiver_dallied : (last : Bool) → Receiver → RecvAnswer
 receiver_dallied true r = receiver_waits r.misses receiving.Over None r
 receiver_dallied false r = receiver_waits (r.misses + 1) receiving.Complete None r
@@ -258,9 +259,9 @@ pub record IsSender (s : Sender) : Type 0 where
 
 -- how long the bytes are, by the state
 abbrev pub HasSize : RecvState → (count : ℕ) (bytes : List ℕ) → Type 0
-HasSize receiving.Running count bytes = length bytes ≡ 512 * count
+HasSize receiving.Running count bytes = length bytes ≡ BLOCK_SIZE * count
 HasSize receiving.Complete count bytes = count ≡ block_count bytes
-HasSize receiving.TimedOut count bytes = length bytes ≡ 512 * count
+HasSize receiving.TimedOut count bytes = length bytes ≡ BLOCK_SIZE * count
 HasSize receiving.Over count bytes = count ≡ block_count bytes
 
 pub record IsReceiver (r : Receiver) : Type 0 where

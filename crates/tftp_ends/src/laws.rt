@@ -1,8 +1,13 @@
-//! What holds of a sender and a receiver, whatever the network between them does. This function does nothing: its
-//! contract is a theorem.
+//! What holds of a sender and a receiver, whatever the network between them does, and of the chunks of any file. These
+//! functions do nothing: each contract is a theorem.
 
-ghost use Rattle.std.specs.Prelude.{ℕ, List};
+ghost use Rattle.std.specs.Prelude.{◌≡◌, ℕ, ◌+◌, ◌<◌, ◌≤◌, List, length};
+ghost use Rattle.std.specs.List.{concat};
+ghost use Rattle.tftp_ends.specs.Chunks.{chunk_count, chunk_of, chunks_of};
 ghost use Rattle.tftp_ends.specs.Pair.{Event, pair_run, HasFirstBlocks, FinishesWhole, SendsOnce, IsTakenOnce};
+
+use crate::chunks::CHUNK_SIZE;
+use crate::limits::{DALLY, MAX_BLOCKS, MAX_FILE, MISSES};
 
 /// Of a sender of any file and a new receiver, after any list of deliveries, each of any DATA or ACK that was ever sent,
 /// of time-outs, of growths refused and of requests for the file.
@@ -16,4 +21,21 @@ pub fn one_pair()
     ensures once { (file : List ℕ) (events : List Event) → SendsOnce (pair_run file events) }
     // What is taken out is the sender's file, at most once.
     ensures taken { (file : List ℕ) (events : List Event) → IsTakenOnce file (pair_run file events) }
+{}
+
+/// The chunks of a file joined are the file. Each has `CHUNK_SIZE` bytes but the last, which has 1 to as many.
+pub fn joined_chunks()
+    ensures joined { (file : List ℕ) → concat (chunks_of file) ≡ file }
+    ensures full { (file : List ℕ) (i : ℕ) → i + 1 < chunk_count file → length (chunk_of file i) ≡ CHUNK_SIZE }
+    ensures some { (file : List ℕ) (i : ℕ) → i < chunk_count file → 1 ≤ length (chunk_of file i) }
+    ensures most { (file : List ℕ) (i : ℕ) → length (chunk_of file i) ≤ CHUNK_SIZE }
+{}
+
+/// The limits as numbers. The definitions name them.
+pub fn limit_values()
+    ensures blocks { MAX_BLOCKS ≡ 65535 }
+    ensures file { MAX_FILE ≡ 33553919 }
+    ensures misses { MISSES ≡ 5 }
+    ensures dally { DALLY ≡ 2 }
+    ensures chunk { CHUNK_SIZE ≡ 16384 }
 {}

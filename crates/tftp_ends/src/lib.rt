@@ -1,7 +1,30 @@
 //! The two ends of a TFTP transfer: who sends a file block by block, and who receives it. RFC 1350 section 2, with
-//! RFC 1123 section 4.2.3.1. What each call does stands in `specs/Ends.antt`, what holds of two ends in `specs/Pair.antt`.
+//! RFC 1123 section 4.2.3.1.
+//!
+//! `specs/Ends.antt` is the file to read first: what each end keeps, and what each call makes of it. `specs/Pair.antt`
+//! has what holds of two ends with any network between them, `specs/Chunks.antt` how a received file lies in memory.
+//! `proofs/Steps.antt` has what each step of one end keeps and sends, for crates above.
+//!
+//! How it is called:
+//!
+//! ```text
+//! // What a DATA makes the receiver send, and the file once all of it has come.
+//! fn receive(
+//!     receiver: &mut Receiver,
+//!     datagram: &[u8],
+//! ) -> Result<(Option<Dgram>, Option<Received>), RecvFault> {
+//!     match decode(datagram) {
+//!         Ok(Packet::Data { block, body }) if body.len() <= BLOCK_SIZE => {
+//!             let ack = receiver.on_data(block, body)?;
+//!             Ok((ack, receiver.take_file()))
+//!         }
+//!         _ => Ok((None, None)),
+//!     }
+//! }
+//! ```
 #![tactic(auto)]
 
+mod chunks;
 mod laws;
 mod limits;
 mod received;
@@ -11,7 +34,8 @@ mod recv_state;
 mod send_state;
 mod sender;
 
-pub use laws::one_pair;
+pub use chunks::CHUNK_SIZE;
+pub use laws::{joined_chunks, limit_values, one_pair};
 pub use limits::{DALLY, MAX_BLOCKS, MAX_FILE, MISSES};
 pub use received::Received;
 pub use receiver::Receiver;

@@ -1,20 +1,24 @@
 //! A file that was received.
 
-ghost use Rattle.std.specs.Prelude.{◌≡◌, length, IfOk, IfErr, OnOk, OnErr};
+ghost use Rattle.std.specs.Prelude.{◌≡◌, ◌<◌, ◌≤◌, length, IfOk, IfErr, OnOk, OnErr};
 ghost use Rattle.std.specs.Io.KnownBytes.{Appends};
 ghost use Rattle.byte_output.specs.Output.{AppendsPrefix};
+ghost use Rattle.tftp_ends.specs.Chunks.{chunk_count, chunk_of};
 
+use crate::chunks::{CHUNK_SIZE, Chunks};
+use crate::limits::MAX_FILE;
+use byte_output::{OutFault, put};
 use std::alloc::{AllocError, Allocator, Global};
 use std::io::Write;
 use std::marker::Model;
-use tftp_packet::{Blocks, Owned};
-use byte_output::{OutFault, put};
+use tftp_packet::{BLOCK_SIZE, Blocks};
 
-/// A file that was received. It can be sent in blocks again.
+/// A file that was received, seen as the list of its bytes. They lie in chunks of `CHUNK_SIZE` bytes, the last of 1 to as
+/// many; an empty file has no chunk. It can be sent in blocks again.
 #[derive(Drop)]
 #[derive_where(Debug)]
 pub struct Received<A: Allocator = Global> {
-    file: Owned<A>,
+    chunks: Chunks<A>,
 }
 
 impl<A: Allocator> Model for Received<A> {
@@ -22,31 +26,38 @@ impl<A: Allocator> Model for Received<A> {
 
     ghost Value = { List ℕ };
 
-    ghost view = { λ r. r.file };
+    ghost view = { λ r. r.chunks };
 }
 
 impl<A: Allocator> Received<A> {
-    // The bytes of a vector.
-    pub(crate) fn of(bytes: Vec<u8, A>) -> Self
-        ensures { result ≡ bytes.items }
+    // The bytes of chunks.
+    pub(crate) fn of(chunks: Chunks<A>) -> Self
+        ensures { result ≡ chunks }
     {
-        Received {
-            file: Owned::of(bytes),
-        }
+        Received { chunks }
     }
 
-    /// How many bytes it has.
+    /// How many bytes it has, at most `MAX_FILE`.
     pub fn len(&self) -> u64
-        ensures { result ≡ length self.now }
+        ensures count { result ≡ length self.now }
+        ensures most { result ≤ MAX_FILE }
     {
-        self.file.file_len()
+        self.chunks.len() as u64
     }
 
-    /// Lends the bytes, in their order.
-    pub fn bytes(&self) -> &[u8]
-        ensures { result.now ≡ self.now }
+    /// How many chunks it has.
+    pub fn chunk_count(&self) -> usize
+        ensures { result ≡ chunk_count self.now }
     {
-        self.file.as_slice()
+        self.chunks.chunk_count()
+    }
+
+    /// Lends chunk `i`, counted from 0: the bytes from `CHUNK_SIZE * i` up to `CHUNK_SIZE * (i + 1)` or the end.
+    pub fn chunk(&self, i: usize) -> &[u8]
+        requires { i < chunk_count self.now }
+        ensures { result.now ≡ chunk_of self.now i }
+    {
+        self.chunks.chunk(i)
     }
 
     /// The bytes in a vector of their own.
@@ -57,20 +68,28 @@ impl<A: Allocator> Received<A> {
     pub fn to_vec<C: Allocator>(&self, alloc: C) -> Result<Vec<u8, C>, AllocError>
         ensures { IfOk result (λ v. v.items ≡ self.now) }
     {
-        Vec::from_slice(alloc, self.bytes())
+        let mut bytes = Vec::with_capacity(alloc, self.chunks.len())?;
+        for i in 0..self.chunk_count() {
+            bytes.extend_from_slice(self.chunk(i))?;
+        }
+        Ok(bytes)
     }
 
     /// Writes the bytes. It takes no memory.
     ///
     /// # Errors
     ///
-    /// `Io` where the writer answers an error, or takes none of the bytes that are left. A front of the bytes went out.
+    /// `Io` where the writer answers an error, or takes none of the bytes that are left. A proper prefix of the bytes was
+    /// written.
     pub fn write_to<W: Write>(&self, out: &mut W) -> Result<(), OutFault>
         ensures ok { OnOk result (Appends (W.contents out.old) (W.contents out.new) self.now) }
         ensures err { OnErr result (AppendsPrefix (W.contents out.old) (W.contents out.new) self.now) }
         ensures io { IfErr result (λ e. e ≡ OutFault.Io) }
     {
-        put(out, self.bytes())
+        for i in 0..self.chunk_count() {
+            put(out, self.chunk(i))?;
+        }
+        Ok(())
     }
 }
 
@@ -78,10 +97,20 @@ impl<A: Allocator> Blocks for Received<A> {
     ghost file = { λ r. r };
 
     fn file_len(&self) -> u64 {
-        self.file.file_len()
+        self.len()
     }
 
-    fn block(&self, k: u16, out: &mut [u8; 512]) -> usize {
-        self.file.block(k, out)
+    // No block lies in two chunks.
+    fn block(&self, k: u16, out: &mut [u8; BLOCK_SIZE]) -> usize {
+        let start = BLOCK_SIZE * (usize::from(k) - 1);
+        let i = start / CHUNK_SIZE;
+        if i >= self.chunk_count() {
+            return 0;
+        }
+        let chunk = self.chunk(i);
+        let rest = &chunk[start % CHUNK_SIZE..];
+        let count = rest.len().min(BLOCK_SIZE);
+        out[..count].copy_from_slice(&rest[..count]);
+        count
     }
 }

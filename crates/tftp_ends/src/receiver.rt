@@ -1,15 +1,16 @@
 //! The end that receives.
 
-ghost use Rattle.std.specs.Prelude.{◌≡◌, ◌≤◌, ◌==◌, ◌+◌, length, Ok, OnErr, IfSome};
+ghost use Rattle.std.specs.Prelude.{◌≡◌, ◌≤◌, ◌==◌, ◌+◌, length, Ok, OnErr, IfErr, IfSome};
 ghost use Rattle.tftp_ends.specs.Ends.{dgram_of, answer_of, verdict_of, is_last_come, is_past, receiver_start, receiver_next, receiver_again, receiver_data, receiver_timeout, receiver_take, receiver_running, IsReceiver};
 
+use crate::chunks::Chunks;
 use crate::limits::{DALLY, MAX_BLOCKS, MAX_FILE, MISSES};
 use crate::received::Received;
 use crate::recv_fault::RecvFault;
 use crate::recv_state::RecvState;
 use std::alloc::{Allocator, Global};
 use std::marker::Model;
-use tftp_packet::{Dgram, encode_ack};
+use tftp_packet::{BLOCK_SIZE, Dgram, encode_ack};
 
 #[cfg(test)]
 mod pairs;
@@ -23,7 +24,7 @@ pub struct Receiver<A: Allocator + Copy = Global> {
     /// How many blocks have come: blocks 1 to this one.
     count: u16,
     /// Their bytes; none once the file was taken out.
-    file: Option<Vec<u8, A>>,
+    file: Option<Chunks<A>>,
     /// Time-outs in a row without a new block.
     misses: u8,
     state: RecvState,
@@ -49,7 +50,7 @@ impl<A: Allocator + Copy> Receiver<A> {
     {
         Receiver {
             count: 0,
-            file: Some(Vec::new(alloc)),
+            file: Some(Chunks::new(alloc)),
             misses: 0,
             state: RecvState::Running,
         }
@@ -65,10 +66,12 @@ impl<A: Allocator + Copy> Receiver<A> {
     /// `Memory` where a growth was refused, and `TooLong` where the file goes on behind block `MAX_BLOCKS`. The receiver
     /// is then as it was before, so the same block may be given again.
     pub fn on_data(&mut self, n: u16, body: &[u8]) -> Result<Option<Dgram>, RecvFault>
-        requires { length body.now ≤ 512 }
+        requires { length body.now ≤ BLOCK_SIZE }
         ensures receiver { self.new ≡ (receiver_data (verdict_of result) n body.now self.old).receiver }
         ensures sent { result ≡ answer_of (receiver_data (verdict_of result) n body.now self.old).result }
         ensures unchanged { OnErr result (self.new ≡ self.old) }
+        // A block without bytes takes no memory.
+        ensures grows { IfErr result (λ e. e ≡ RecvFault.Memory → 1 ≤ length body.now) }
         ensures fits { IsReceiver self.new }
     {
         match self.state {
@@ -81,9 +84,10 @@ impl<A: Allocator + Copy> Receiver<A> {
     // A block has come while some are missing, so there is a number behind that of the last one.
     fn on_running(&mut self, n: u16, body: &[u8]) -> Result<Option<Dgram>, RecvFault>
         requires running { self.old.state ≡ RecvState.Running }
-        requires short { length body.now ≤ 512 }
+        requires short { length body.now ≤ BLOCK_SIZE }
         ensures receiver { self.new ≡ (receiver_running (n == self.old.count + 1) (verdict_of result) n body.now self.old).receiver }
         ensures sent { result ≡ answer_of (receiver_running (n == self.old.count + 1) (verdict_of result) n body.now self.old).result }
+        ensures grows { IfErr result (λ e. e ≡ RecvFault.Memory → 1 ≤ length body.now) }
     {
         if n == self.count + 1 {
             self.on_next(n, body)
@@ -107,18 +111,19 @@ impl<A: Allocator + Copy> Receiver<A> {
     fn on_next(&mut self, n: u16, body: &[u8]) -> Result<Option<Dgram>, RecvFault>
         requires running { self.old.state ≡ RecvState.Running }
         requires next { n ≡ self.old.count + 1 }
-        requires short { length body.now ≤ 512 }
+        requires short { length body.now ≤ BLOCK_SIZE }
         ensures receiver { self.new ≡ (receiver_next (is_past n body.now) (verdict_of result) body.now self.old).receiver }
         ensures sent { result ≡ answer_of (receiver_next (is_past n body.now) (verdict_of result) body.now self.old).result }
+        ensures grows { IfErr result (λ e. e ≡ RecvFault.Memory → 1 ≤ length body.now) }
     {
-        let full = body.len() == 512;
+        let full = body.len() == BLOCK_SIZE;
         if full && n == MAX_BLOCKS {
             return Err(RecvFault::TooLong);
         }
         let Some(file) = &mut self.file else {
             unreachable!();
         };
-        file.extend_from_slice(body)?;
+        file.push_block(body)?;
         self.count = n;
         self.misses = 0;
         if !full {

@@ -110,7 +110,7 @@ fn a_file_is_given_once(rt: HostRuntime) -> Result<(), Fail> {
     let received = receiver.take_file().ok_or("no file")?;
     assert!(rt; receiver.take_file().is_none());
     assert_eq!(rt; received.len(), 28);
-    assert_eq!(rt; received.bytes(), FILE.as_slice());
+    assert_eq!(rt; received.chunk_count(), 1);
     assert_eq!(rt; received.to_vec(rt.alloc())?.as_slice(), FILE.as_slice());
     let mut out = Vec::new(rt.alloc());
     received.write_to(&mut out)?;
@@ -132,7 +132,7 @@ fn a_receiver_waits_behind_the_last_block(rt: HostRuntime) -> Result<(), Fail> {
     assert!(rt; receiver.on_data(1, FILE)?.is_none());
     assert!(rt; receiver.on_timeout().is_none());
     let received = receiver.take_file().ok_or("no file")?;
-    assert_eq!(rt; received.bytes(), FILE.as_slice());
+    assert_eq!(rt; received.to_vec(rt.alloc())?.as_slice(), FILE.as_slice());
     Ok(())
 }
 
@@ -183,6 +183,56 @@ fn the_greatest_file(rt: HostRuntime) -> Result<(), Fail> {
         .enumerate()
         .all(|(i, b)| usize::from(*b) == (i / 512 + 1) % 256);
     assert!(rt; is_right);
+    let mut out = Vec::new(rt.alloc());
+    received.write_to(&mut out)?;
+    assert!(rt; out == bytes);
+    Ok(())
+}
+
+// What is received of as many blocks as this, full but for the last.
+fn received(alloc: Global, blocks: u16, last: usize) -> Result<Received, Fail> {
+    let mut receiver = Receiver::new(alloc);
+    for n in 1..blocks {
+        let _ = receiver.on_data(n, &[n.to_be_bytes()[1]; 512])?;
+    }
+    let body = [blocks.to_be_bytes()[1]; 512];
+    let _ = receiver.on_data(blocks, &body[..last.min(511)])?;
+    Ok(receiver.take_file().ok_or("no file")?)
+}
+
+// The bytes of a file, from one of them on, are the numbers of their blocks.
+fn are_numbers(bytes: &[u8], from: usize) -> bool {
+    bytes.iter().enumerate().all(|(i, b)| usize::from(*b) == i.wrapping_add(from) / 512 % 256 + 1)
+}
+
+// A chunk has 16,384 bytes, and the last one at least 1.
+#[test]
+fn files_in_chunks(rt: HostRuntime) -> Result<(), Fail> {
+    let rows = [
+        (1, 0, 0, 0),
+        (1, 511, 1, 511),
+        (2, 0, 1, 512),
+        (2, 1, 1, 513),
+        (33, 0, 1, 16_384),
+        (33, 1, 2, 1),
+    ];
+    for (blocks, last, count, last_chunk) in rows {
+        let received = received(rt.alloc(), blocks, last)?;
+        let length = (usize::from(blocks).wrapping_sub(1))
+            .wrapping_mul(512)
+            .wrapping_add(last);
+        let bytes = received.to_vec(rt.alloc())?;
+        assert_eq!(rt; bytes.len(), length);
+        assert!(rt; are_numbers(&bytes, 0), "at {length}");
+        assert_eq!(rt; received.chunk_count(), count, "at {length}");
+        for i in 0..received.chunk_count() {
+            let chunk = received.chunk(i);
+            assert!(rt; are_numbers(chunk, i.wrapping_mul(16_384)), "at {length}");
+            if i.wrapping_add(1) == count {
+                assert_eq!(rt; chunk.len(), last_chunk);
+            }
+        }
+    }
     Ok(())
 }
 

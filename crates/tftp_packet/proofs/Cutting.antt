@@ -5,44 +5,45 @@ use Rattle.std.proofs.Math.Seq.{take-add}
 use Rattle.std.proofs.lemmas.List.{take_all, take_at, take_rest}
 use Rattle.std.proofs.lemmas.List.Folds.{concat-append}
 use Rattle.std.specs.List.{concat}
+use Rattle.tftp_packet.specs.declared.sizes.TheConstants.{BLOCK_SIZE}
 use Rattle.tftp_packet.specs.Blocks.{block_count, block_of, first_blocks, blocks_to, blocks_of}
 
-pub length-block_of : (file : List ℕ) (k : ℕ) → length (block_of file k) ≡ min 512 (length file - 512 * (k - 1))
+pub length-block_of : (file : List ℕ) (k : ℕ) → length (block_of file k) ≡ min BLOCK_SIZE (length file - BLOCK_SIZE * (k - 1))
 unfolding block_of
 length-block_of file k =
-    length-take 512 (drop (512 * (k - 1)) file) ∙ ap (min 512) (length-drop (512 * (k - 1)) file)
+    length-take BLOCK_SIZE (drop (BLOCK_SIZE * (k - 1)) file) ∙ ap (min BLOCK_SIZE) (length-drop (BLOCK_SIZE * (k - 1)) file)
 
 -- no block has more bytes
-pub length-block_of-le : (file : List ℕ) (k : ℕ) → length (block_of file k) ≤ 512
+pub length-block_of-le : (file : List ℕ) (k : ℕ) → length (block_of file k) ≤ BLOCK_SIZE
 length-block_of-le file k = omega (arith, length-block_of file k)
 
 -- the first r blocks, and the next one
 pub first_blocks-more : (file : List ℕ) (r : ℕ) → first_blocks file r ++ block_of file (r + 1) ≡ first_blocks file (r + 1)
 unfolding block_of
 first_blocks-more file r =
-    ap (λ (n : ℕ). first_blocks file r ++ take 512 (drop n file)) (omega arith)
-    ∙ sym (take-add (512 * r) 512 file)
+    ap (λ (n : ℕ). first_blocks file r ++ take BLOCK_SIZE (drop n file)) (omega arith)
+    ∙ sym (take-add (BLOCK_SIZE * r) BLOCK_SIZE file)
     ∙ ap (λ (n : ℕ). take n file) (omega arith)
 
 -- ---- full and short blocks
 
--- behind a full block comes another one
-pub full_block : (file : List ℕ) (k : ℕ) → 1 ≤ k → length (block_of file k) ≡ 512 → k < block_count file
+-- another block follows a full one
+pub full_block : (file : List ℕ) (k : ℕ) → 1 ≤ k → length (block_of file k) ≡ BLOCK_SIZE → k < block_count file
 full_block file k counted full = omega (arith, length-block_of file k)
 
-pub block_before : (file : List ℕ) (k : ℕ) → 1 ≤ k → k < block_count file → length (block_of file k) ≡ 512
+pub block_before : (file : List ℕ) (k : ℕ) → 1 ≤ k → k < block_count file → length (block_of file k) ≡ BLOCK_SIZE
 block_before file k counted before = omega (arith, length-block_of file k)
 
 -- only the last block is short
-pub short_block : (file : List ℕ) (k : ℕ) → 1 ≤ k → length (block_of file k) < 512 → block_count file ≤ k
+pub short_block : (file : List ℕ) (k : ℕ) → 1 ≤ k → length (block_of file k) < BLOCK_SIZE → block_count file ≤ k
 short_block file k counted short = omega (arith, length-block_of file k)
 
-pub last_block : (file : List ℕ) (k : ℕ) → block_count file ≤ k → length (block_of file k) < 512
+pub last_block : (file : List ℕ) (k : ℕ) → block_count file ≤ k → length (block_of file k) < BLOCK_SIZE
 last_block file k last = omega (arith, length-block_of file k)
 
 -- a short block ends the file
-pub file_end : (file : List ℕ) (k : ℕ) → 1 ≤ k → length (block_of file k) < 512 → first_blocks file k ≡ file
-file_end file k counted short = take_all (512 * k) file (omega (arith, length-block_of file k))
+pub file_end : (file : List ℕ) (k : ℕ) → 1 ≤ k → length (block_of file k) < BLOCK_SIZE → first_blocks file k ≡ file
+file_end file k counted short = take_all (BLOCK_SIZE * k) file (omega (arith, length-block_of file k))
 
 -- ---- all blocks
 
@@ -59,15 +60,15 @@ joined_first file (suc r) =
     ∙ ap (first_blocks file) (sym next)
 
 pub joined : (file : List ℕ) → concat (blocks_of file) ≡ file
-joined file = joined_first file (block_count file) ∙ take_all (512 * block_count file) file (omega arith)
+joined file = joined_first file (block_count file) ∙ take_all (BLOCK_SIZE * block_count file) file (omega arith)
 
 pub numbered : (file : List ℕ) → length file ≤ 33553919 → block_count file < 2 ^ 16
 numbered file fits = omega arith
 
 -- ---- a block from a file that lies in one piece
 
--- a front that is cut where the list ends
-take-min : (n : ℕ) (xs : List ℕ) → take (min (length xs) n) xs ≡ take n xs
+-- a prefix that is cut where the list ends
+pub take-min : (n : ℕ) (xs : List ℕ) → take (min (length xs) n) xs ≡ take n xs
 take-min n xs =
     elim (cases_lt (length xs) n) [
       | inl lt ↦ take_all (min (length xs) n) xs (omega arith) ∙ sym (take_all n xs (omega arith))
@@ -76,15 +77,20 @@ take-min n xs =
           ap (λ (m : ℕ). take m xs) whole
     ]
 
-pub block_of-rest : (file rest : List ℕ) (start k : ℕ) → start ≡ 512 * (k - 1) → rest ≡ drop start file → take (min (length rest) 512) rest ≡ block_of file k
+block_of-rest : (file rest : List ℕ) (k number : ℕ) → number ≡ k → rest ≡ drop (BLOCK_SIZE * (number - 1)) file → take BLOCK_SIZE rest ≡ block_of file k
 unfolding block_of
-block_of-rest file rest start k start-is rest-is =
-    take-min 512 rest ∙ ap (take 512) rest-is ∙ ap (λ (n : ℕ). take 512 (drop n file)) start-is
+block_of-rest file rest k number number-is rest-is =
+    ap (take BLOCK_SIZE) rest-is ∙ ap (λ (n : ℕ). take BLOCK_SIZE (drop (BLOCK_SIZE * (n - 1)) file)) number-is
 
--- count bytes of the rest were copied to the front of what was there
-pub copied_block : (file held rest out copied : List ℕ) (k number count : ℕ) → held ≡ file → number ≡ k → rest ≡ take (length held - 512 * (number - 1)) (drop (512 * (number - 1)) held) → count ≡ min (length rest) 512 → copied ≡ take count rest → (count ≡ length (block_of file k)) × (take count (copied ++ out) ≡ block_of file k)
-copied_block file held rest out copied k number count held-is number-is rest-is count-is copied-is =
-    let behind = rest-is ∙ take_rest held (512 * (number - 1)) ∙ ap (drop (512 * (number - 1))) held-is in
-    let block = ap (λ (n : ℕ). take n rest) count-is ∙ block_of-rest file rest (512 * (number - 1)) k (ap (λ (n : ℕ). 512 * (n - 1)) number-is) behind in
+-- count bytes of a rest that begins with the block were copied to the start of what was there
+pub copied_prefix : (file rest out copied : List ℕ) (k count : ℕ) → count ≡ min (length rest) BLOCK_SIZE → copied ≡ take count rest → take BLOCK_SIZE rest ≡ block_of file k → (count ≡ length (block_of file k)) × (take count (copied ++ out) ≡ block_of file k)
+copied_prefix file rest out copied k count count-is copied-is is_block =
+    let block = ap (λ n. take n rest) count-is ∙ take-min BLOCK_SIZE rest ∙ is_block in
     let size : count ≡ length (take count rest) = omega (arith, length-take count rest) in
     (size ∙ ap length block, take_at copied out count (ap length copied-is ∙ sym size) ∙ copied-is ∙ block)
+
+-- the same of a file that lies in one piece
+pub copied_block : (file held rest out copied : List ℕ) (k number count : ℕ) → held ≡ file → number ≡ k → rest ≡ take (length held - BLOCK_SIZE * (number - 1)) (drop (BLOCK_SIZE * (number - 1)) held) → count ≡ min (length rest) BLOCK_SIZE → copied ≡ take count rest → (count ≡ length (block_of file k)) × (take count (copied ++ out) ≡ block_of file k)
+copied_block file held rest out copied k number count held-is number-is rest-is count-is copied-is =
+    let after = rest-is ∙ take_rest held (BLOCK_SIZE * (number - 1)) ∙ ap (drop (BLOCK_SIZE * (number - 1))) held-is in
+    copied_prefix file rest out copied k count count-is copied-is (block_of-rest file rest k number number-is after)

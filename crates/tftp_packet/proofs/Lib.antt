@@ -4,3 +4,4 @@ pub mod Packets
 pub mod Results
 pub mod Cutting
 pub mod Order
+pub mod Sent

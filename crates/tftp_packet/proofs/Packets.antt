@@ -28,7 +28,7 @@ decode_bytes-fault bytes BadError fault = grind (arith, nat_tests)
 
 -- ---- the bytes of a packet
 
--- a number of two bytes in front, and what follows it
+-- a number of two bytes, and what follows it
 after_number : (n : ℕ) (rest : List ℕ) → n < 2 ^ 16 → big_number 2 (big_bytes 2 n ++ rest) ≡ n
 after_number n rest fits = big_number-reads_back 2 n rest fits
 
@@ -100,7 +100,7 @@ module _ (bytes : List ℕ) (fits : IsBytes bytes) (size : length bytes ≤ 516)
     has : HasOpcode bytes opcode
     split : bytes ≡ big_bytes 2 opcode ++ drop 2 bytes
 
-  -- a number behind the opcode
+  -- a number after the opcode
   second_number : (opcode : ℕ) → Begins opcode → 4 ≤ length bytes → bytes ≡ big_bytes 2 opcode ++ (big_bytes 2 (big_number 2 (drop 2 bytes)) ++ drop 4 bytes)
   second_number opcode begins long =
       begins.split ∙ ap (λ (xs : List ℕ). big_bytes 2 opcode ++ xs) (number_first (drop 2 bytes) (omega (arith, length-drop 2 bytes)) (IsBytes-drop 2 bytes fits))

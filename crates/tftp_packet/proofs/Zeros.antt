@@ -61,7 +61,7 @@ zero_cases (suc n ∷ bytes) =
     (λ e. inr (record { text = suc n ∷ e.text; rest = e.rest; none = zero_count-suc n e.text ∙ e.none; split = ap (λ xs. suc n ∷ xs) e.split }))
     (zero_cases bytes)
 
--- ---- where it stands
+-- ---- where it is
 
 -- the zero byte of a text's end is found
 ended_position : (bytes : List ℕ) → IsEnded bytes → position_or_len is_zero bytes < length bytes

@@ -2,18 +2,19 @@
 use Rattle.std.specs.Prelude.{ℕ, ◌==◌, nat_lt, List, length, drop, Result, Ok, Err, if◌then◌else◌}
 use Rattle.std.specs.List.{before_first, after_first}
 use Rattle.byteorder.specs.Endian.{big_number}
+use Rattle.tftp_packet.specs.declared.sizes.TheConstants.{MAX_DATAGRAM}
 use Rattle.tftp_packet.specs.declared.packet_fault.PacketFault.{PacketFault}
 use Rattle.tftp_packet.specs.declared.packet_fault.PacketFault.TheVariants.{Short, TooLong, BadOpcode, BadRequest, BadBlock, BadError}
 use Rattle.tftp_packet.specs.Packet.{Packet, read, write, data_block, ack, error, is_zero, zero_count}
 
--- up to the first zero byte, and behind it
+-- up to the first zero byte, and after it
 abbrev pub before_zero : List ℕ → List ℕ
 before_zero bytes = before_first is_zero bytes
 
 abbrev pub after_zero : List ℕ → List ℕ
 after_zero bytes = after_first is_zero bytes
 
--- what stands behind the opcode: of a request, a DATA, an ACK, an ERROR
+-- what follows the opcode: of a request, a DATA, an ACK, an ERROR
 abbrev pub request_of : (List ℕ → List ℕ → Packet) → List ℕ → Result Packet PacketFault
 request_of make rest = if nat_lt (zero_count rest) 2 then Err BadRequest else Ok (make (before_zero rest) (before_zero (after_zero rest)))
 
@@ -37,5 +38,5 @@ packet_from opcode rest =
 unfoldable pub decode_bytes : List ℕ → Result Packet PacketFault
 decode_bytes bytes =
     if nat_lt (length bytes) 2 then Err Short else (
-    if nat_lt 516 (length bytes) then Err TooLong else
+    if nat_lt MAX_DATAGRAM (length bytes) then Err TooLong else
     packet_from (big_number 2 bytes) (drop 2 bytes))

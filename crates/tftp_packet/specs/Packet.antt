@@ -3,6 +3,7 @@
 use Rattle.std.specs.Prelude.{◌≡◌, ℕ, ◌+◌, ◌<◌, ◌≤◌, ◌^◌, Bool, ◌==◌, List, [], ◌∷◌, ◌++◌, length, map, slice_index, count_by, codes}
 use Rattle.std.specs.Char.{to_ascii_lowercase}
 use Rattle.byteorder.specs.Endian.{big_bytes}
+use Rattle.tftp_packet.specs.declared.sizes.TheConstants.{BLOCK_SIZE, MAX_DATAGRAM}
 
 pub data Packet : Type 0 where
   -- a request to read a file, RRQ
@@ -61,14 +62,14 @@ HasForm (error code text) bytes = (rest : List ℕ) × (bytes ≡ error_bytes co
 abbrev pub HasFields : Packet → Type 0
 HasFields (read name mode) = HasNoZero name × HasNoZero mode
 HasFields (write name mode) = HasNoZero name × HasNoZero mode
-HasFields (data_block block body) = (block < 2 ^ 16) × (length body ≤ 512)
+HasFields (data_block block body) = (block < 2 ^ 16) × (length body ≤ BLOCK_SIZE)
 HasFields (ack block) = block < 2 ^ 16
 HasFields (error code text) = (code < 2 ^ 16) × HasNoZero text
 
 -- the bytes are this packet
 pub record IsPacket (packet : Packet) (bytes : List ℕ) : Type 0 where
   pub fields : HasFields packet
-  pub size : length bytes ≤ 516
+  pub size : length bytes ≤ MAX_DATAGRAM
   pub form : HasForm packet bytes
 
 -- ---- what is sent
@@ -81,7 +82,7 @@ packet_size (data_block block body) = 4 + length body
 packet_size (ack block) = 4
 packet_size (error code text) = 5 + length text
 
--- the packet's bytes, with nothing behind them
+-- the packet's bytes, with nothing after them
 unfoldable pub encode : Packet → List ℕ
 encode (read name mode) = request_bytes 1 name mode []
 encode (write name mode) = request_bytes 2 name mode []

@@ -11,16 +11,17 @@ ghost use Rattle.tftp_packet.specs.declared.packet_fault.PacketFault as fault;
 use crate::opcode::{ACK, DATA, ERROR, READ, WRITE};
 use crate::packet::Packet;
 use crate::packet_fault::PacketFault;
+use crate::sizes::MAX_DATAGRAM;
 use byteorder::{BigEndian, ByteOrder};
 
-// Where the first zero byte stands.
+// Where the first zero byte is.
 fn first_zero(bytes: &[u8]) -> Option<usize>
     ensures { result ≡ position is_zero bytes.now }
 {
     bytes.iter().position(|b| *b == 0)
 }
 
-// What stands before the first zero byte, and what stands behind it.
+// What precedes the first zero byte, and what follows it.
 #[tactic(auto, using(crate::proofs::Zeros::no_position, crate::proofs::Zeros::some_position))]
 fn split_zero(bytes: &[u8]) -> Option<(&[u8], &[u8])>
     ensures before { IfSome result (λ p. p.0.now ≡ before_zero bytes.now) }
@@ -32,7 +33,7 @@ fn split_zero(bytes: &[u8]) -> Option<(&[u8], &[u8])>
     Some((&bytes[..end], &bytes[end + 1..]))
 }
 
-// The name and the mode of a request, from what stands behind its opcode.
+// The name and the mode of a request, from what follows its opcode.
 fn read_request(rest: &[u8]) -> Result<(&[u8], &[u8]), PacketFault>
     ensures whole { IfOk result (λ r. 2 ≤ zero_count rest.now) }
     ensures name { IfOk result (λ r. r.0.now ≡ before_zero rest.now) }
@@ -95,7 +96,7 @@ fn read_packet(bytes: &[u8]) -> Result<Packet<'_>, PacketFault>
     if bytes.len() < 2 {
         return Err(PacketFault::Short);
     }
-    if bytes.len() > 516 {
+    if bytes.len() > MAX_DATAGRAM {
         return Err(PacketFault::TooLong);
     }
     let rest = &bytes[2..];
@@ -115,8 +116,8 @@ fn read_packet(bytes: &[u8]) -> Result<Packet<'_>, PacketFault>
     }
 }
 
-/// The packet that a datagram is, RFC 1350 section 5. Its texts and its body are slices of the datagram, in place. Bytes
-/// behind a request's mode, as the options of RFC 2347, and behind an ERROR's text are of any value and are not read.
+/// The packet that a datagram is, RFC 1350 section 5. Its texts and its body are slices of the datagram, in place. What
+/// follows a request's mode, as the options of RFC 2347, or an ERROR's text, is any bytes and is not read.
 ///
 /// # Errors
 ///

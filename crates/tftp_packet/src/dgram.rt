@@ -1,15 +1,16 @@
 ghost use Rattle.std.specs.Prelude.{◌≡◌, ◌+◌, ◌≤◌, [], ◌∷◌, ◌++◌, length, ⊤};
 ghost use Rattle.byteorder.specs.Endian.{big_bytes};
 
+use crate::sizes::MAX_DATAGRAM;
 use byteorder::{BigEndian, ByteOrder};
 use std::alloc::AllocError;
 use std::marker::Model;
 
-/// The bytes of a datagram, at most 516 of them: a list, which only the `encode` functions make. It lies in a fixed
+/// The bytes of a datagram, at most `MAX_DATAGRAM` of them: a list, which only the `encode` functions make. It lies in a fixed
 /// buffer and takes no memory.
 #[derive(Debug, Drop)]
 pub struct Dgram {
-    buffer: [u8; 516],
+    buffer: [u8; MAX_DATAGRAM],
     len: usize,
 }
 
@@ -20,7 +21,9 @@ impl Model for Dgram {
 
     ghost view = { λ d. take d.len d.buffer };
 
-    ghost invariant = { λ d. d.len ≤ 516 };
+    ghost use Rattle.tftp_packet.specs.declared.sizes.TheConstants.{MAX_DATAGRAM};
+
+    ghost invariant = { λ d. d.len ≤ MAX_DATAGRAM };
 }
 
 impl Dgram {
@@ -28,14 +31,14 @@ impl Dgram {
     pub(crate) fn of_opcode(opcode: u16) -> Self
         ensures { result ≡ big_bytes 2 opcode }
     {
-        let mut buffer = [0; 516];
+        let mut buffer = [0; MAX_DATAGRAM];
         BigEndian::write_u16(&mut buffer, opcode);
         Dgram { buffer, len: 2 }
     }
 
     /// Adds bytes at the end.
     pub(crate) fn push_bytes(&mut self, bytes: &[u8])
-        requires { length self.old + length bytes.now ≤ 516 }
+        requires { length self.old + length bytes.now ≤ MAX_DATAGRAM }
         ensures { self.new ≡ self.old ++ bytes.now }
     {
         let end = self.len + bytes.len();
@@ -45,7 +48,7 @@ impl Dgram {
 
     /// Adds a number of two bytes at the end.
     pub(crate) fn push_number(&mut self, number: u16)
-        requires { length self.old + 2 ≤ 516 }
+        requires { length self.old + 2 ≤ MAX_DATAGRAM }
         ensures { self.new ≡ self.old ++ big_bytes 2 number }
     {
         let mut bytes = [0; 2];
@@ -55,7 +58,7 @@ impl Dgram {
 
     /// Adds a text at the end, and the zero byte that ends it.
     pub(crate) fn push_text(&mut self, text: &[u8])
-        requires { length self.old + length text.now + 1 ≤ 516 }
+        requires { length self.old + length text.now + 1 ≤ MAX_DATAGRAM }
         ensures { self.new ≡ self.old ++ (text.now ++ 0 ∷ []) }
     {
         self.push_bytes(text);
@@ -65,7 +68,7 @@ impl Dgram {
     /// The bytes, in their order.
     pub fn bytes(&self) -> &[u8]
         ensures list { result.now ≡ self.now }
-        ensures size { length self.now ≤ 516 }
+        ensures size { length self.now ≤ MAX_DATAGRAM }
     {
         &self.buffer[..self.len]
     }

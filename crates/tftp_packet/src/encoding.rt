@@ -5,6 +5,7 @@ ghost use Rattle.tftp_packet.specs.Packet.{read, write, data_block, ack, error, 
 
 use crate::dgram::Dgram;
 use crate::opcode::{ACK, DATA, ERROR, READ, WRITE};
+use crate::sizes::BLOCK_SIZE;
 
 // A request in mode octet.
 fn encode_request(opcode: u16, name: &[u8]) -> Dgram
@@ -41,10 +42,10 @@ pub fn encode_write(name: &[u8]) -> Dgram
     encode_request(WRITE, name)
 }
 
-/// The block of a file with this number: DATA of RFC 1350 section 5. The body has at most 512 bytes.
+/// The block of a file with this number: DATA of RFC 1350 section 5. The body has at most `BLOCK_SIZE` bytes.
 #[tactic(auto, unfolding(crate::specs::Packet::encode))]
 pub fn encode_data(block: u16, body: &[u8]) -> Dgram
-    requires { length body.now ≤ 512 }
+    requires { length body.now ≤ BLOCK_SIZE }
     ensures bytes { result ≡ encode (data_block block body.now) }
     ensures packet { IsPacket (data_block block body.now) result }
 {
@@ -65,7 +66,7 @@ pub fn encode_ack(block: u16) -> Dgram
     dgram
 }
 
-/// That something went wrong: ERROR of RFC 1350 section 5, with nothing behind its text. The text has no zero byte, and
+/// That something went wrong: ERROR of RFC 1350 section 5, with nothing after its text. The text has no zero byte, and
 /// at most 511 bytes.
 #[tactic(auto, unfolding(crate::specs::Packet::encode))]
 pub fn encode_error(code: u16, text: &[u8]) -> Dgram

@@ -5,10 +5,14 @@ ghost use Rattle.std.specs.Prelude.{◌≡◌, ◌⊎◌, ◌↔◌, ℕ, ◌+�
 ghost use Rattle.std.specs.List.{concat};
 ghost use Rattle.tftp_packet.specs.declared.packet_fault.PacketFault as fault;
 ghost use Rattle.byte_output.specs.Bytes.{IsBytes};
-ghost use Rattle.tftp_packet.specs.Packet.{Packet, IsPacket, HasFields, packet_size, encode};
+ghost use Rattle.tftp_packet.specs.declared.refusal.Refusal.{Refusal as Refused};
+ghost use Rattle.tftp_packet.specs.Refusal.{refusal_packet};
+ghost use Rattle.tftp_packet.specs.Packet.{Packet, data_block, IsPacket, HasFields, packet_size, encode};
 ghost use Rattle.tftp_packet.specs.Fault.{HasFault, IsFirstFault};
 ghost use Rattle.tftp_packet.specs.Decode.{decode_bytes};
 ghost use Rattle.tftp_packet.specs.Blocks.{block_count, block_of, first_blocks, blocks_to, blocks_of};
+
+use crate::sizes::{BLOCK_SIZE, MAX_DATAGRAM};
 
 /// Bytes are at most one packet.
 pub fn one_packet()
@@ -46,9 +50,25 @@ pub fn function_and_relations()
 
 /// What is sent of a packet that fits a datagram is that packet, and is decoded as it.
 pub fn sent_packet()
-    ensures packet { (p : Packet) → HasFields p → packet_size p ≤ 516 → IsPacket p (encode p) }
-    ensures decoded { (p : Packet) → HasFields p → packet_size p ≤ 516 → decode_bytes (encode p) ≡ Ok p }
+    ensures packet { (p : Packet) → HasFields p → packet_size p ≤ MAX_DATAGRAM → IsPacket p (encode p) }
+    ensures decoded { (p : Packet) → HasFields p → packet_size p ≤ MAX_DATAGRAM → decode_bytes (encode p) ≡ Ok p }
     ensures size { (p : Packet) → length (encode p) ≡ packet_size p }
+{}
+
+/// A DATA has at most a block of bytes, whatever numbers are decoded.
+pub fn data_size()
+    ensures { (bytes : List ℕ) (n : ℕ) (body : List ℕ) → decode_bytes bytes ≡ Ok (data_block n body) → length body ≤ BLOCK_SIZE }
+{}
+
+/// Each ERROR that this product sends is decoded as it.
+pub fn sent_refusal()
+    ensures { (refusal : Refused) → decode_bytes (encode (refusal_packet refusal)) ≡ Ok (refusal_packet refusal) }
+{}
+
+/// The sizes as numbers. The definitions name them.
+pub fn size_values()
+    ensures block { BLOCK_SIZE ≡ 512 }
+    ensures datagram { MAX_DATAGRAM ≡ 516 }
 {}
 
 /// The first blocks of a file and the next one are the first blocks, one more of them.
@@ -56,19 +76,19 @@ pub fn next_block()
     ensures { (file : List ℕ) (r : ℕ) → first_blocks file r ++ block_of file (r + 1) ≡ first_blocks file (r + 1) }
 {}
 
-/// Blocks 1 to the last but one have 512 bytes, and the last has fewer.
+/// Blocks 1 to the last but one have `BLOCK_SIZE` bytes, and the last has fewer.
 pub fn block_sizes()
-    ensures full { (file : List ℕ) (k : ℕ) → 1 ≤ k → ((length (block_of file k) ≡ 512) ↔ (k < block_count file)) }
-    ensures short { (file : List ℕ) (k : ℕ) → 1 ≤ k → ((length (block_of file k) < 512) ↔ (block_count file ≤ k)) }
-    ensures most { (file : List ℕ) (k : ℕ) → length (block_of file k) ≤ 512 }
+    ensures full { (file : List ℕ) (k : ℕ) → 1 ≤ k → ((length (block_of file k) ≡ BLOCK_SIZE) ↔ (k < block_count file)) }
+    ensures short { (file : List ℕ) (k : ℕ) → 1 ≤ k → ((length (block_of file k) < BLOCK_SIZE) ↔ (block_count file ≤ k)) }
+    ensures most { (file : List ℕ) (k : ℕ) → length (block_of file k) ≤ BLOCK_SIZE }
 {}
 
 /// A short block ends the file.
 pub fn file_end()
-    ensures { (file : List ℕ) (k : ℕ) → 1 ≤ k → length (block_of file k) < 512 → first_blocks file k ≡ file }
+    ensures { (file : List ℕ) (k : ℕ) → 1 ≤ k → length (block_of file k) < BLOCK_SIZE → first_blocks file k ≡ file }
 {}
 
-/// Blocks 1 to r joined are the first 512 bytes of the file r times over, and all blocks joined are the file. The blocks
+/// Blocks 1 to r joined are the first r times `BLOCK_SIZE` bytes of the file, and all blocks joined are the file. The blocks
 /// of a file of at most 33,553,919 bytes have numbers of two bytes.
 pub fn joined_blocks()
     ensures first { (file : List ℕ) (r : ℕ) → concat (blocks_to file r) ≡ first_blocks file r }

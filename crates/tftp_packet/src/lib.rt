@@ -1,7 +1,20 @@
 //! TFTP: what a datagram is, exactly, and how a file is cut into blocks. The protocol is that of RFC 1350; what follows
 //! a request's mode, as the options of RFC 2347, is not read. Nothing here takes memory.
 //!
-//! `specs/Packet.antt` is the file to read first: the packets, and the bytes that are each.
+//! `specs/Packet.antt` is the file to read first: the packets, and the bytes that are each. `specs/Blocks.antt` has the
+//! blocks of a file. `laws` has what holds of every datagram and every file.
+//!
+//! How it is called:
+//!
+//! ```text
+//! // The ACK of a DATA; nothing for any other datagram.
+//! fn acknowledge(datagram: &[u8]) -> Option<Dgram> {
+//!     match decode(datagram) {
+//!         Ok(Packet::Data { block, .. }) => Some(encode_ack(block)),
+//!         _ => None,
+//!     }
+//! }
+//! ```
 #![tactic(auto)]
 
 mod blocks;
@@ -17,6 +30,7 @@ mod owned;
 mod packet;
 mod packet_fault;
 mod refusal;
+mod sizes;
 
 pub use blocks::Blocks;
 pub use decoding::decode;
@@ -24,8 +38,9 @@ pub use dgram::Dgram;
 pub use encoding::{encode_ack, encode_data, encode_error, encode_read, encode_write};
 pub use endpoint::Endpoint;
 pub use laws::{
-    block_sizes, file_end, first_fault, function_and_relations, joined_blocks, next_block,
-    one_fault, one_packet, packet_or_fault, packet_without_fault, sent_packet,
+    block_sizes, data_size, file_end, first_fault, function_and_relations, joined_blocks,
+    next_block, one_fault, one_packet, packet_or_fault, packet_without_fault, sent_packet,
+    sent_refusal, size_values,
 };
 pub use mode::is_octet;
 pub use out::Out;
@@ -33,6 +48,7 @@ pub use owned::Owned;
 pub use packet::Packet;
 pub use packet_fault::PacketFault;
 pub use refusal::Refusal;
+pub use sizes::{BLOCK_SIZE, MAX_DATAGRAM};
 
 #[cfg(test)]
 mod tests;

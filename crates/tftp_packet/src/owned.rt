@@ -1,6 +1,7 @@
 ghost use Rattle.std.specs.Prelude.{◌≡◌};
 
 use crate::blocks::Blocks;
+use crate::sizes::BLOCK_SIZE;
 use std::alloc::{Allocator, Global};
 use std::marker::Model;
 
@@ -47,10 +48,10 @@ impl<A: Allocator> Blocks for Owned<A> {
         self.0.len() as u64
     }
 
-    fn block(&self, k: u16, out: &mut [u8; 512]) -> usize {
-        let start = 512 * (usize::from(k) - 1);
+    fn block(&self, k: u16, out: &mut [u8; BLOCK_SIZE]) -> usize {
+        let start = BLOCK_SIZE * (usize::from(k) - 1);
         let rest = &self.0[start..];
-        let count = rest.len().min(512);
+        let count = rest.len().min(BLOCK_SIZE);
         out[..count].copy_from_slice(&rest[..count]);
         count
     }

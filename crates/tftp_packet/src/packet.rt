@@ -10,7 +10,7 @@ pub enum Packet<'a> {
     Write { name: &'a [u8], mode: &'a [u8] },
     /// A block of a file, DATA: its number, counted from 1, and its bytes, at most 512. Fewer than 512 end the file.
     Data { block: u16, body: &'a [u8] },
-    /// That the block of this number has come, ACK. Block 0 stands for a request to write.
+    /// That the block of this number has come, ACK. ACK 0 answers a request to write.
     Ack { block: u16 },
     /// That something went wrong, ERROR: a code of RFC 1350, of which any is read, and words for people.
     Error { code: u16, text: &'a [u8] },

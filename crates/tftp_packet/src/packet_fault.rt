@@ -13,13 +13,13 @@ pub enum PacketFault {
     /// The opcode is none of 1 to 5.
     #[error("BadOpcode")]
     BadOpcode,
-    /// A request has fewer than two zero bytes behind its opcode: its name or its mode has no end.
+    /// A request has fewer than two zero bytes after its opcode: its name or its mode has no end.
     #[error("BadRequest")]
     BadRequest,
     /// A DATA has fewer than four bytes, so no block's number; or an ACK has fewer or more than four.
     #[error("BadBlock")]
     BadBlock,
-    /// An ERROR has no zero byte behind its code: its text has no end.
+    /// An ERROR has no zero byte after its code: its text has no end.
     #[error("BadError")]
     BadError,
 }

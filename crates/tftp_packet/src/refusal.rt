@@ -5,8 +5,8 @@ ghost use Rattle.tftp_packet.specs.Refusal.{refusal_code, refusal_text, refusal_
 use crate::dgram::Dgram;
 use crate::encoding::encode_error;
 
-/// The errors that this product sends, each with its code, of RFC 1350 section 5, and its words. They stand here alone,
-/// so that all who send and read them mean the same bytes.
+/// The errors that this product sends, each with its code, of RFC 1350 section 5, and its words. All who send and read
+/// them take them from here.
 #[derive(Clone, Copy, Debug, PartialEq, Eq)]
 pub enum Refusal {
     /// A request in another mode than octet.
@@ -60,7 +60,7 @@ impl Refusal {
         }
     }
 
-    /// The ERROR that says so, with this code and these words and nothing behind them.
+    /// The ERROR that says so, with this code and these words, and nothing after them.
     pub fn dgram(self) -> Dgram
         ensures bytes { result ≡ encode (refusal_packet self) }
         ensures packet { IsPacket (refusal_packet self) result }

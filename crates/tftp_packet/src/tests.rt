@@ -136,7 +136,7 @@ fn requests_of_real_clients(rt: HostRuntime) {
     }
 }
 
-// A request of 28 bytes with its mode in capitals, and each front of it: the mode ends at the 15th byte, and an option
+// A request of 28 bytes with its mode in capitals, and each prefix of it: the mode ends at the 15th byte, and an option
 // follows.
 #[test]
 fn a_request_that_is_cut(rt: HostRuntime) {
@@ -225,7 +225,7 @@ fn datagrams_that_are_sent(rt: HostRuntime) {
 }
 
 // The codes of RFC 1350 section 5, and the words of this product.
-const REFUSALS: [(Refusal, u16, &[u8], &[u8]); 7] = [
+const REFUSALS: [(Refusal, u16, &[u8], &[u8]); 8] = [
     (
         Refusal::OctetOnly,
         0,
@@ -268,6 +268,7 @@ const REFUSALS: [(Refusal, u16, &[u8], &[u8]); 7] = [
         b"unknown transfer",
         b"\0\x05\0\x05unknown transfer\0",
     ),
+    (Refusal::NotKept, 0, b"not kept", b"\0\x05\0\0not kept\0"),
 ];
 
 #[test]

@@ -35,10 +35,10 @@ solved_from rest a b moves seed ticks fits long a-is b-is seed-is ticks-is moves
 -- ---- a solution from its fields
 
 module _ (key : Key) (rest a b moves : List ℕ) (seed ticks : ℕ) (level : IsLevel key) (fits : IsBytes rest) (long : 10 ≤ length rest) (size : 6 + length rest < 2 ^ 32) (seed_fits : seed < 2 ^ 32) (ticks_fit : ticks < 2 ^ 32) (moves-is : moves ≡ drop 10 rest) where
-  abbrev solved : Solution
+  abbrev pub solved : Solution
   solved = record { key = key; flags = slice_index rest 0; start = slice_index rest 1; seed = seed; ticks = ticks; moves = moves }
 
-  fields_fit : HasFields solved
+  pub fields_fit : HasFields solved
   fields_fit = record {
     key = level;
     flags = omega (arith, fits 0);

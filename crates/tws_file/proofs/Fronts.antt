@@ -30,7 +30,7 @@ with_more_fits file more fits fits_more = record {
   records = all_append IsRecord file.records more fits.records fits_more;
 }
 
-with_more_text : (file : File) (more : List Record) → text_of (with_more file more) ≡ text_of file ++ flat_map record_text more
+pub with_more_text : (file : File) (more : List Record) → text_of (with_more file more) ≡ text_of file ++ flat_map record_text more
 with_more_text file more =
     ap (λ (xs : List ℕ). header_text file.ruleset file.word file.extra ++ xs) (flat_map-append record_text file.records more)
     ∙ sym (append_assoc (header_text file.ruleset file.word file.extra) (flat_map record_text file.records) (flat_map record_text more))
@@ -74,10 +74,10 @@ more_fails file bytes offset Memory fits offset-is fault = inr refl
 -- ---- the header
 
 -- a header alone is a file without records
-abbrev without_records : Ruleset → List ℕ → List ℕ → File
+abbrev pub without_records : Ruleset → List ℕ → List ℕ → File
 without_records kind word extra = record { «ruleset» = kind; word = word; extra = extra; records = [] }
 
-without_records_fits : (bytes word extra rest : List ℕ) (kind : Ruleset) → BeginsWithHeader bytes kind word extra rest → IsFile (without_records kind word extra)
+pub without_records_fits : (bytes word extra rest : List ℕ) (kind : Ruleset) → BeginsWithHeader bytes kind word extra rest → IsFile (without_records kind word extra)
 without_records_fits bytes word extra rest kind header = record {
   word = header.word_bytes;
   word_length = header.word_length;
@@ -86,7 +86,7 @@ without_records_fits bytes word extra rest kind header = record {
   records = tt;
 }
 
-header_split : (bytes word extra rest : List ℕ) (kind : Ruleset) → BeginsWithHeader bytes kind word extra rest → bytes ≡ text_of (without_records kind word extra) ++ rest
+pub header_split : (bytes word extra rest : List ℕ) (kind : Ruleset) → BeginsWithHeader bytes kind word extra rest → bytes ≡ text_of (without_records kind word extra) ++ rest
 header_split bytes word extra rest kind header =
     header.split ∙ ap (λ (xs : List ℕ). xs ++ rest) (sym (append-nil (header_text kind word extra)))
 

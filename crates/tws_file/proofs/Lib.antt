@@ -11,3 +11,4 @@ pub mod Pieces
 pub mod Fronts
 pub mod Lasting
 pub mod Packs
+pub mod Readable

@@ -1,10 +1,11 @@
 //! What holds of every file's text and of every fault, whoever reads. These functions do nothing: each contract is a theorem.
 
-ghost use Rattle.std.specs.Prelude.{◌≡◌, ◌≤◌, ℕ, List, length};
+ghost use Rattle.std.specs.Prelude.{◌≡◌, ◌⊎◌, ◌≤◌, ℕ, List, length};
+ghost use Rattle.byte_output.specs.Bytes.{IsBytes};
 ghost use Rattle.tws_moves.specs.Spelling.{moves_in};
 ghost use Rattle.tws_moves.specs.Shortest.{IsShortest};
 ghost use Rattle.tws_file.specs.declared.file_fault.FileFault as fault;
-ghost use Rattle.tws_file.specs.Text.{File, Solution, IsSolution, IsFile, IsText, text_of};
+ghost use Rattle.tws_file.specs.Text.{File, Solution, IsSolution, IsFile, IsText, IsReadable, text_of};
 ghost use Rattle.tws_file.specs.Packing.{packed_solution, packed_file};
 ghost use Rattle.tws_file.specs.Fault.{HasFault};
 
@@ -16,6 +17,11 @@ pub fn one_file()
 /// Bytes have at most one fault.
 pub fn one_fault()
     ensures { (bytes : List ℕ) (d e : fault.FileFault) → HasFault bytes d → HasFault bytes e → d ≡ e }
+{}
+
+/// Bytes are a file's text or have a fault.
+pub fn text_or_fault()
+    ensures { (bytes : List ℕ) → IsBytes bytes → IsReadable bytes ⊎ ((e : fault.FileFault) × HasFault bytes e) }
 {}
 
 /// The text of a file has no fault.

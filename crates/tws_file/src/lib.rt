@@ -25,7 +25,7 @@ pub use byte_output::OutFault;
 pub use bytes::Bytes;
 pub use file_fault::FileFault;
 pub use key::Key;
-pub use laws::{one_fault, one_file, packed_files, text_without_fault};
+pub use laws::{one_fault, one_file, packed_files, text_or_fault, text_without_fault};
 pub use listing::show;
 pub use packing::pack;
 pub use reader::{Reader, read_file};

@@ -90,12 +90,17 @@ fn holds(pair: &Pair, file: &[u8]) -> bool {
             _ => return false,
         }
     }
-    let Some(bytes) = &pair.receiver.file else {
+    let Some(chunks) = &pair.receiver.file else {
         return false;
     };
-    let bytes = bytes.as_slice();
-    let front = file.len().min(usize::from(count).wrapping_mul(512));
-    bytes == &file[..front]
+    // No file here has more than one chunk.
+    let bytes = if chunks.chunk_count() == 0 {
+        b"".as_slice()
+    } else {
+        chunks.chunk(0)
+    };
+    let prefix = file.len().min(usize::from(count).wrapping_mul(512));
+    bytes == &file[..prefix]
         && (pair.sender.state() != SendState::Finished || bytes == file)
         && data == u64::from(current).wrapping_add(pair.resent)
 }
@@ -141,7 +146,7 @@ fn pairs(rt: HostRuntime) -> Result<(), Fail> {
             given_up = given_up.wrapping_add(1);
         }
         if let Some(received) = pair.receiver.take_file() {
-            assert_eq!(rt; received.bytes(), file);
+            assert_eq!(rt; received.to_vec(rt.alloc())?.as_slice(), file);
             assert!(rt; pair.receiver.take_file().is_none());
         }
     }
