@@ -22,7 +22,8 @@ rises_instead : (x e : Entry) (es : List Entry) → x.key ≡ e.key → IsRising
 rises_instead x e es same rising =
     (all_from _ es (λ f has. subst (λ k. key_cmp k f.key ≡ Less) (sym same) (all_at _ es f rising.0 has)), rising.1)
 
-is_less : (o : Ordering) → is_lt o ≡ true → o ≡ Less
+-- what a test by `<` says
+pub is_less : (o : Ordering) → is_lt o ≡ true → o ≡ Less
 is_less Less e = refl
 is_less Equal e = absurd cc
 is_less Greater e = absurd cc
@@ -97,7 +98,8 @@ placed_best Less x e es rest is rising of = own_best (x ∷ (e ∷ es)) (rises_b
 placed_best Equal x e es rest is rising of = better_stays (is_lt (rank_cmp (rank_of x.body) (rank_of e.body))) x e es refl (key_tie x.key e.key (sym is)) rising
 placed_best Greater x e es rest is rising of = goes_behind x e es rest (sym is) rising of
 
-put_best : (x : Entry) (es : List Entry) → IsRising es → IsBestOf (Contains (x ∷ es)) (put_in x es)
+-- the list with one entry more
+pub put_best : (x : Entry) (es : List Entry) → IsRising es → IsBestOf (Contains (x ∷ es)) (put_in x es)
 put_best x [] rising = own_best (x ∷ []) (tt, tt)
 put_best x (e ∷ es) rising = placed_best (key_cmp x.key e.key) x e es (put_in x es) refl rising (put_best x es rising.1)
 

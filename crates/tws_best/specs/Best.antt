@@ -26,6 +26,12 @@ pub record IsEntry (e : Entry) : Type 0 where
   pub fits : IsSolution solved
   pub is : e ≡ entry_of solved
 
+-- some solution has this body
+pub record IsBody (body : List ℕ) : Type 0 where
+  pub solved : Solution
+  pub fits : IsSolution solved
+  pub is : body ≡ body_of (solution solved)
+
 -- ---- the solutions of files
 
 -- the solutions among records: no pad, no record of the set and no bare one
@@ -99,12 +105,18 @@ abbrev pub IsCollected : Collected → Type 0
 IsCollected c = IsKept c.entries
 
 -- four bytes of size, and the body
+abbrev pub body_text : List ℕ → List ℕ
+body_text body = little_bytes 4 (length body) ++ body
+
 abbrev pub entry_text : Entry → List ℕ
-entry_text e = little_bytes 4 (length e.body) ++ e.body
+entry_text e = body_text e.body
+
+abbrev pub collection_header : Ruleset → List ℕ
+collection_header kind = header_text kind (0 ∷ 0 ∷ []) []
 
 -- a header without further bytes, and a record for each solution, by rising number and then by the bytes of the password
 abbrev pub collection_text : Collected → List ℕ
-collection_text c = header_text c.ruleset (0 ∷ 0 ∷ []) [] ++ flat_map entry_text c.entries
+collection_text c = collection_header c.ruleset ++ flat_map entry_text c.entries
 
 -- the collection over all files of these rules that have their text among these
 pub record IsCollectionOf (kind : Ruleset) (texts : List (List ℕ)) (c : Collected) : Type 0 where

@@ -1,6 +1,7 @@
 -- A collection as contracts see it, without how it lies in memory.
 use Rattle.tws_best.specs.declared.collection.Collection.TheInside.{Inside}
 use Rattle.tws_best.specs.Best.{Collected}
+use Rattle.tws_best.specs.Bodies.{entries_of}
 
 abbrev pub collected : {A : Type 0} → Inside A → Collected
-collected c = record { «ruleset» = c.ruleset; entries = c.kept.items }
+collected c = record { «ruleset» = c.ruleset; entries = entries_of c.kept.entries }

@@ -3,6 +3,8 @@ pub mod Rankings
 pub mod RankOrder
 pub mod Best
 pub mod Choice
-pub mod Kept
+pub mod Bodies
 pub mod Collection
+pub mod Frozen
+pub mod Snapshot
 pub mod Steps

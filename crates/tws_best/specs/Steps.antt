@@ -1,31 +1,11 @@
 -- What the private steps of a merge say. Callers need none of it.
-use Rattle.std.specs.Prelude.{◌≡◌, ℕ, Bool, List, [], ◌∷◌, ◌++◌, Contains}
-use Rattle.std.specs.declared.cmp.Ordering.{Ordering}
-use Rattle.std.specs.Ordering.{is_eq, on, then_cmp}
-use Rattle.std.specs.List.{dedup}
-use Rattle.std.specs.List.Sorted.{IsPermutation, IsSorted}
-use Rattle.tws_file.specs.declared.«ruleset».Ruleset.{Ruleset}
-use Rattle.tws_file.specs.Text.{header_text}
-use Rattle.tws_best.specs.Rank.{rank_of, rank_cmp, IsBelow}
+use Rattle.std.specs.Prelude.{◌≡◌, ◌⊎◌, ℕ, List, [], ◌∷◌, ◌++◌, length, Contains, Option, None, Some, IsSome}
+use Rattle.std.specs.Map.{lookup, remove_entry}
+use Rattle.std.specs.BTreeMap.{is_at, insert_entry}
+use Rattle.tws_file.specs.declared.key.Key.{Key}
+use Rattle.tws_best.specs.Rank.{rank_of, IsBelow}
 use Rattle.tws_best.specs.Best.{Entry, key_cmp}
-
--- the eight bytes that a collection's text begins with
-abbrev pub collection_header : Ruleset → List ℕ
-collection_header kind = header_text kind (0 ∷ 0 ∷ []) []
-
--- by key, and then by rank
-abbrev pub entry_cmp : Entry → Entry → Ordering
-entry_cmp = then_cmp (on (λ e. e.key) key_cmp) (on (λ e. rank_of e.body) rank_cmp)
-
-abbrev pub same_key : Entry → Entry → Bool
-same_key e f = is_eq (key_cmp e.key f.key)
-
--- all entries were put in order, and the first of each key was kept
-pub record Joins (old more new : List Entry) : Type 0 where
-  pub sorted : List Entry
-  pub moved : IsPermutation (old ++ more) sorted
-  pub in_order : IsSorted entry_cmp sorted
-  pub firsts : new ≡ dedup same_key sorted
+use Rattle.tws_best.specs.Bodies.{Pair, entries_of}
 
 -- a member of the set has the entry's key and is no worse
 pub record IsHeld (IsMember : Entry → Type 0) (f : Entry) : Type 0 where
@@ -38,8 +18,36 @@ pub record IsHeld (IsMember : Entry → Type 0) (f : Entry) : Type 0 where
 abbrev pub IsBetter : List Entry → Entry → Type 0
 IsBetter old f = (e : Entry) → Contains old e → e.key ≡ f.key → IsBelow (rank_of f.body) (rank_of e.body)
 
--- of the solutions, those that are better than what is kept
-pub record Picks (old solved better : List Entry) : Type 0 where
-  pub solves : (e : Entry) → Contains better e → Contains solved e
-  pub betters : (e : Entry) → Contains better e → IsBetter old e
-  pub others : (f : Entry) → Contains solved f → IsHeld (Contains (old ++ better)) f
+-- ---- one solution
+
+-- what is kept for its key is no worse, and nothing changes
+pub record Stays (x : Entry) (old new : List Pair) (was is : ℕ) : Type 0 where
+  pub held : IsHeld (Contains (entries_of old)) x
+  pub same : new ≡ old
+  pub count : is ≡ was
+
+-- it is better than what is kept for its key, and comes in its place
+pub record Enters (x : Entry) (old new : List Pair) (is : ℕ) : Type 0 where
+  pub better : IsBetter (entries_of old) x
+  pub inserted : new ≡ insert_entry key_cmp old x.key x.body
+  pub some : is ≡ 0 → ⊥
+
+abbrev pub Takes : Entry → (old new : List Pair) → (was is : ℕ) → Type 0
+Takes x old new was is = Stays x old new was is ⊎ Enters x old new is
+
+-- ---- changes that can be taken back
+
+-- what there is once a key has again what it had
+abbrev pub back_to : Key → Option (List ℕ) → List Pair → List Pair
+back_to key None now = remove_entry (is_at (key_cmp key)) now
+back_to key (Some body) now = insert_entry key_cmp now key body
+
+-- nothing has to grow for it
+abbrev pub CanGoBack : Key → Option (List ℕ) → List Pair → Type 0
+CanGoBack key None now = Unit {0}
+CanGoBack key (Some body) now = IsSome (lookup (is_at (key_cmp key)) now)
+
+-- taken back one after the other, the last one first, the changes lead to what there was at first
+abbrev pub Undoes : List Pair → List (Key × Option (List ℕ)) → List Pair → Type 0
+Undoes first [] now = now ≡ first
+Undoes first (d ∷ ds) now = (mid : List Pair) × Undoes mid ds now × CanGoBack d.0 d.1 mid × (back_to d.0 d.1 mid ≡ first)

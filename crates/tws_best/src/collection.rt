@@ -1,23 +1,26 @@
-ghost use Rattle.std.specs.Prelude.{◌≡◌, ◌≢◌, ◌↔◌, [], ◌∷◌, ◌++◌, length, Contains, IsTrue, IfOk, IfErr, IfSome, IfNone, OnOk, OnErr, MatchBool};
+ghost use Rattle.std.specs.Prelude.{◌≡◌, ◌≢◌, ◌↔◌, [], ◌∷◌, ◌++◌, ◌<◌, ◌^◌, length, false, Ok, IsOk, Contains, IsTrue, IfOk, IfErr, IfSome, IfNone, OnOk, OnErr, MatchBool};
 ghost use Rattle.std.specs.Io.KnownBytes.{Appends};
 ghost use Rattle.byte_output.specs.Output.{AppendsPrefix};
 ghost use Rattle.tws_best.specs.Best.{IsBestOf, IsCollected, HasBody, HasKey, solutions_of, collection_text};
+ghost use Rattle.tws_best.specs.Frozen.{frozen, frozen_text};
 
-use crate::finding::find;
-use crate::kept::Kept;
-use crate::merging::{add, records_under, unite};
-use crate::text::{copies, entries_len, write_parts};
+use crate::merging::{Bodies, add};
+use crate::snapshot::Snapshot;
+use crate::text::{bodies_len, write_parts};
+use byte_output::OutFault;
 use std::alloc::{AllocError, Allocator, Global};
+use std::clone::Clone;
+use std::collections::BTreeMap;
 use std::io::Write;
 use std::marker::Model;
-use tws_file::{Key, OutFault, Ruleset, TwsFile};
+use tws_file::{Key, Ruleset, TwsFile};
 
 /// The best solution of each level number and password, of all files that were merged.
 #[derive(Drop)]
 pub struct Collection<A: Allocator = Global> {
     alloc: A,
     ruleset: Ruleset,
-    kept: Vec<Kept<A>, A>,
+    kept: Bodies<A>,
 }
 
 impl<A: Allocator> Model for Collection<A> {
@@ -42,7 +45,7 @@ impl<A: Allocator + Copy> Collection<A> {
         Collection {
             alloc,
             ruleset: rules,
-            kept: Vec::new(alloc),
+            kept: BTreeMap::new(alloc),
         }
     }
 
@@ -50,7 +53,7 @@ impl<A: Allocator + Copy> Collection<A> {
     ///
     /// # Errors
     ///
-    /// Memory ran out.
+    /// Out of memory.
     pub fn load<B: Allocator>(alloc: A, file: &TwsFile<B>) -> Result<Self, AllocError>
         ensures best { IfOk result (λ c. IsBestOf (Contains (solutions_of file.now.ruleset (file.now ∷ []))) c.entries) }
         ensures rules { IfOk result (λ c. c.ruleset ≡ file.now.ruleset) }
@@ -62,36 +65,58 @@ impl<A: Allocator + Copy> Collection<A> {
     }
 
     /// Adds the solutions of a file: what was best so far and what the file has are compared, and the best of both are
-    /// kept. Whether anything changed. A file of other rules changes nothing.
+    /// kept. Whether anything changed. A file of other rules changes nothing, and takes no memory.
     ///
     /// # Errors
     ///
-    /// Memory ran out. The collection is as it was.
+    /// Out of memory. The collection is as it was.
     pub fn merge<B: Allocator>(&mut self, file: &TwsFile<B>) -> Result<bool, AllocError>
         ensures best { OnOk result (IsBestOf (Contains (self.old.entries ++ solutions_of self.old.ruleset (file.now ∷ []))) self.new.entries) }
         ensures rules { self.new.ruleset ≡ self.old.ruleset }
         ensures changed { IfOk result (λ changed. MatchBool changed (self.new ≢ self.old) (self.new ≡ self.old)) }
         ensures err { OnErr result (self.new ≡ self.old) }
         ensures fits { IsCollected self.new }
+        ensures other { file.now.ruleset ≢ self.old.ruleset → result ≡ Ok false }
     {
-        let records = records_under(self.ruleset, file);
-        add(self.alloc, &mut self.kept, records)
+        if self.ruleset != file.ruleset {
+            return Ok(false);
+        }
+        add(self.alloc, &mut self.kept, file.records.as_slice())
     }
 
-    /// Adds what another collection of the same rules has: the best of both are kept.
+    /// An equal collection. The bodies are shared, not copied.
     ///
     /// # Errors
     ///
-    /// Memory ran out. The collection is as it was, and the other one is gone.
-    pub fn join(&mut self, other: Self) -> Result<(), AllocError>
-        requires { other.ruleset ≡ self.old.ruleset }
-        ensures best { OnOk result (IsBestOf (Contains (self.old.entries ++ other.entries)) self.new.entries) }
-        ensures rules { self.new.ruleset ≡ self.old.ruleset }
-        ensures err { OnErr result (self.new ≡ self.old) }
-        ensures fits { IsCollected self.new }
+    /// Out of memory. Of an empty collection there is always a copy.
+    pub fn copy(&self) -> Result<Self, AllocError>
+        ensures equal { IfOk result (λ copy. copy ≡ self.now) }
+        ensures empty { self.now.entries ≡ [] → IsOk result }
     {
-        let Collection { kept, .. } = other;
-        unite(&mut self.kept, kept)
+        if self.kept.is_empty() {
+            return Ok(Collection::new(self.alloc, self.ruleset));
+        }
+        let kept = self.kept.clone()?;
+        Ok(Collection {
+            alloc: self.alloc,
+            ruleset: self.ruleset,
+            kept,
+        })
+    }
+}
+
+impl<A: Allocator + Copy> Collection<A> {
+    /// The text as it is now, whatever is merged later. The bodies are shared, not copied.
+    ///
+    /// # Errors
+    ///
+    /// Out of memory.
+    pub fn snapshot(&self) -> Result<Snapshot<A>, AllocError>
+        requires { length (collection_text self.now) < 2 ^ 64 }
+        ensures value { IfOk result (λ s. s ≡ frozen self.now) }
+        ensures text { IfOk result (λ s. frozen_text s ≡ collection_text self.now) }
+    {
+        Snapshot::of(self.alloc, self.ruleset, &self.kept)
     }
 }
 
@@ -122,33 +147,17 @@ impl<A: Allocator> Collection<A> {
         ensures found { IfSome result (λ body. HasBody self.now.entries key body.now) }
         ensures absent { IfNone result (HasKey self.now.entries key → ⊥) }
     {
-        match find(self.kept.as_slice(), key) {
-            Some(kept) => Some(kept.body()),
+        match self.kept.get(&key) {
+            Some(body) => Some(body.as_slice()),
             None => None,
         }
     }
 
-    /// How long its text is.
+    /// How many bytes its text has.
     pub fn text_len(&self) -> u128
         ensures { result ≡ length (collection_text self.now) }
     {
-        8 + entries_len(self.kept.as_slice())
-    }
-
-    /// An equal collection, in memory of its own.
-    ///
-    /// # Errors
-    ///
-    /// Memory ran out.
-    pub fn copy<B: Allocator + Copy>(&self, alloc: B) -> Result<Collection<B>, AllocError>
-        ensures { IfOk result (λ copy. copy ≡ self.now) }
-    {
-        let kept = copies(alloc, self.kept.as_slice())?;
-        Ok(Collection {
-            alloc,
-            ruleset: self.ruleset,
-            kept,
-        })
+        8 + bodies_len(&self.kept)
     }
 
     /// Writes the text: a header without further bytes, and then a record for each solution, by rising number and then
@@ -156,12 +165,12 @@ impl<A: Allocator> Collection<A> {
     ///
     /// # Errors
     ///
-    /// `Io` where the writer fails. A front of the text went out.
+    /// `Io` where the writer fails. A proper prefix of the text was written.
     pub fn write_text<W: Write>(&self, out: &mut W) -> Result<(), OutFault>
         ensures ok { OnOk result (Appends (W.contents out.old) (W.contents out.new) (collection_text self.now)) }
         ensures err { OnErr result (AppendsPrefix (W.contents out.old) (W.contents out.new) (collection_text self.now)) }
         ensures io { IfErr result (λ e. e ≡ OutFault.Io) }
     {
-        write_parts(self.ruleset, self.kept.as_slice(), out)
+        write_parts(self.ruleset, &self.kept, out)
     }
 }

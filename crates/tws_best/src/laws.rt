@@ -5,8 +5,8 @@ ghost use Rattle.std.specs.Prelude.{◌≡◌, ◌↔◌, ℕ, List, [], ◌∷�
 ghost use Rattle.std.specs.Cmp.{IsTotalOrder};
 ghost use Rattle.std.specs.declared.cmp.Ordering.TheVariants.{Equal};
 ghost use Rattle.tws_file.specs.declared.«ruleset».Ruleset.{Ruleset as Rules};
-ghost use Rattle.tws_file.specs.Text.{File, IsText, IsReadable};
-ghost use Rattle.tws_best.specs.Rank.{rank_of, rank_cmp};
+ghost use Rattle.tws_file.specs.Text.{Solution, solution, body_of, IsSolution, File, IsText, IsReadable};
+ghost use Rattle.tws_best.specs.Rank.{ticks_of, rank_of, rank_cmp};
 ghost use Rattle.tws_best.specs.Choice.{best_of};
 ghost use Rattle.tws_best.specs.Best.{Entry, IsBest, IsBestOf, IsSolutionIn, IsCollectionOf, Collected, IsCollected, solutions_of, collection_text};
 
@@ -18,6 +18,11 @@ pub fn ranks_in_order()
 /// Ranks are equal only for equal bodies.
 pub fn one_rank()
     ensures { (a b : List ℕ) → rank_cmp (rank_of a) (rank_of b) ≡ Equal → a ≡ b }
+{}
+
+/// The ticks in the body of a solution's record, where a rank reads them, are the solution's.
+pub fn ticks_in_body()
+    ensures { (s : Solution) → IsSolution s → ticks_of (body_of (solution s)) ≡ s.ticks }
 {}
 
 /// A set of solutions has at most one map of what is best.

@@ -1,133 +1,141 @@
-//! How the solutions of a file join those that are kept.
+//! How the solutions of a file come into a map of bodies: all that are better than what is kept, or none.
 
-ghost use Rattle.std.specs.Prelude.{◌≡◌, ◌≢◌, ◌++◌, map, Contains, IfOk, OnOk, OnErr, MatchBool};
+ghost use Rattle.std.specs.Prelude.{◌≡◌, ◌≢◌, ◌⊎◌, ◌∷◌, [], ◌+◌, ◌++◌, List, length, Contains, Option, IfOk, OnOk, OnErr, MatchBool};
 ghost use Rattle.std.specs.List.{AllByRecursion};
+ghost use Rattle.std.specs.BTreeMap.{get, insert_entry, IsOrdered};
 ghost use Rattle.tws_file.specs.Record.{records_of};
 ghost use Rattle.tws_file.specs.Text.{IsRecord};
-ghost use Rattle.tws_best.specs.Best.{IsRising, IsKept, IsBestOf, entry_of, solved_in, solved_by};
-ghost use Rattle.tws_best.specs.Steps.{Joins, Picks, same_key};
+ghost use Rattle.tws_best.specs.Best.{IsKept, IsBestOf, entry_of, key_cmp, solved_in};
+ghost use Rattle.tws_best.specs.Bodies.{Pair, entries_of};
+ghost use Rattle.tws_best.specs.Steps.{Takes, Undoes, CanGoBack, back_to};
 
-use crate::finding::is_better;
-use crate::kept::Kept;
+use crate::body::Body;
+use crate::rank::Rank;
 use std::alloc::{AllocError, Allocator};
-use tws_file::{Key, Record, Ruleset, Solution, TwsFile};
+use std::collections::BTreeMap;
+use tws_file::{Key, Record, Solution};
 
-// The solutions among the records, in their order. The key stands beside each, so that a sort by it looks up none of them.
-fn solutions_among<A: Allocator, B: Allocator>(
-    alloc: A,
-    records: &[Record<B>],
-) -> Result<Vec<(Key, &Solution<B>), A>, AllocError>
-    ensures { IfOk result (λ all. map (λ s. entry_of s.1.now) all.items ≡ solved_in (records_of records.now)) }
+// The body that is kept for each key.
+pub(crate) type Bodies<A> = BTreeMap<Key, Body<A>, A>;
+
+// Each key that was changed, with what it had before.
+type Changes<A> = Vec<(Key, Option<Body<A>>), A>;
+
+// Puts a body in the place of what a key has, and notes the change before it is made.
+fn replace<A: Allocator + Copy>(
+    kept: &mut Bodies<A>,
+    done: &mut Changes<A>,
+    key: Key,
+    old: Option<Body<A>>,
+    body: Body<A>,
+) -> Result<(), AllocError>
+    requires { old ≡ get key_cmp kept.old key }
+    ensures ok { OnOk result (kept.new.entries ≡ insert_entry key_cmp kept.old.entries key body) }
+    ensures noted { OnOk result (length done.new.items ≡ length done.old.items + 1) }
+    ensures ordered { OnOk result (IsOrdered key_cmp kept.old) }
+    ensures undo { (first : List Pair) → Undoes first done.old.items kept.old.entries → Undoes first done.new.items kept.new.entries }
 {
-    let mut all = Vec::new(alloc);
+    done.push((key, old))?;
+    match kept.insert(key, body) {
+        Ok(_) => Ok(()),
+        Err(_) => {
+            done.pop();
+            Err(AllocError)
+        }
+    }
+}
+
+// Takes a solution in, if it is better than what is kept for its key.
+fn take<A: Allocator + Copy, B: Allocator>(
+    alloc: A,
+    kept: &mut Bodies<A>,
+    done: &mut Changes<A>,
+    solution: &Solution<B>,
+) -> Result<(), AllocError>
+    ensures ok { OnOk result (Takes (entry_of solution.now) kept.old.entries kept.new.entries (length done.old.items) (length done.new.items)) }
+    ensures undo { (first : List Pair) → Undoes first done.old.items kept.old.entries → Undoes first done.new.items kept.new.entries }
+{
+    let key = solution.key;
+    let bytes = solution.body(alloc)?;
+    match kept.get(&key) {
+        Some(old) => {
+            if Rank::of(bytes.as_slice()) < old.rank() {
+                let old = old.clone()?;
+                replace(kept, done, key, Some(old), Body::of(bytes)?)
+            } else {
+                Ok(())
+            }
+        }
+        None => replace(kept, done, key, None, Body::of(bytes)?),
+    }
+}
+
+// Takes in those of the records' solutions that are better than what is kept.
+fn take_all<A: Allocator + Copy, B: Allocator>(
+    alloc: A,
+    kept: &mut Bodies<A>,
+    done: &mut Changes<A>,
+    records: &[Record<B>],
+) -> Result<(), AllocError>
+    requires kept { IsKept (entries_of kept.old.entries) }
+    requires none { done.old.items ≡ [] }
+    ensures best { OnOk result (IsBestOf (Contains (entries_of kept.old.entries ++ solved_in (records_of records.now))) (entries_of kept.new.entries)) }
+    ensures changed { OnOk result ((done.new.items ≡ []) ⊎ (entries_of kept.new.entries ≢ entries_of kept.old.entries)) }
+    ensures undo { Undoes kept.old.entries done.new.items kept.new.entries }
+{
     for record in records {
         if let Record::Solution(solution) = record {
-            all.push((solution.key, solution))?;
+            take(alloc, kept, done, solution)?;
         }
     }
-    Ok(all)
-}
-
-// Those of the solutions that are better than what is kept for their keys, in their order.
-fn better_among<A: Allocator + Copy, B: Allocator>(
-    alloc: A,
-    kept: &[Kept<A>],
-    solutions: &[(Key, &Solution<B>)],
-) -> Result<Vec<Kept<A>, A>, AllocError>
-    requires { IsRising kept.now }
-    ensures { IfOk result (λ better. Picks kept.now (map (λ s. entry_of s.1.now) solutions.now) better.items) }
-{
-    let mut better = Vec::new(alloc);
-    for (_, solution) in solutions {
-        let one = Kept::of(alloc, solution)?;
-        if is_better(kept, &one) {
-            better.push(one)?;
-        }
-    }
-    Ok(better)
-}
-
-// The solutions among the records that are better than what is kept for their keys. They are put in order first, so that
-// one search after the other goes to a place near the last one, and so that the bodies lie in memory in the order in
-// which they are compared, written and given back later.
-pub(crate) fn pick<A: Allocator + Copy, B: Allocator>(
-    alloc: A,
-    kept: &[Kept<A>],
-    records: &[Record<B>],
-) -> Result<Vec<Kept<A>, A>, AllocError>
-    requires { IsRising kept.now }
-    ensures { IfOk result (λ better. Picks kept.now (solved_in (records_of records.now)) better.items) }
-{
-    let mut all = solutions_among(alloc, records)?;
-    all.sort_by_key(|one| one.0)?;
-    better_among(alloc, kept, all.as_slice())
-}
-
-// Puts all in order, and keeps the first of each key. After an error the old ones stay as they were.
-pub(crate) fn join<A: Allocator>(
-    kept: &mut Vec<Kept<A>, A>,
-    more: Vec<Kept<A>, A>,
-) -> Result<(), AllocError>
-    ensures ok { OnOk result (Joins kept.old.items more.items kept.new.items) }
-    ensures err { OnErr result (kept.new.items ≡ kept.old.items) }
-{
-    let count = kept.len();
-    let mut more = more;
-    kept.append(&mut more)?;
-    if let Err(fault) = kept.sort_by(|a, b| a.order(b)) {
-        kept.truncate(count);
-        return Err(fault);
-    }
-    let same = |a: &mut Kept<A>, b: &mut Kept<A>| -> bool
-        ensures { (result ≡ same_key a.entry.now b.entry.now) × ((a.exit.now ≡ a.entry.now) × (b.exit.now ≡ b.entry.now)) }
-    { a.key().cmp(&b.key()).is_eq() };
-    kept.dedup_by(same);
     Ok(())
 }
 
-// Adds what others keep, so that the best of all are kept.
-pub(crate) fn unite<A: Allocator>(
-    kept: &mut Vec<Kept<A>, A>,
-    more: Vec<Kept<A>, A>,
-) -> Result<(), AllocError>
-    requires kept { IsKept kept.old.items }
-    requires more { IsKept more.items }
-    ensures best { OnOk result (IsBestOf (Contains (kept.old.items ++ more.items)) kept.new.items) }
-    ensures err { OnErr result (kept.new.items ≡ kept.old.items) }
-    ensures fits { IsKept kept.new.items }
+// Gives a key again what it had. Where it had a body it has one now, so that nothing grows.
+fn go_back<A: Allocator + Copy>(kept: &mut Bodies<A>, key: Key, old: Option<Body<A>>)
+    requires { CanGoBack key old kept.old.entries }
+    ensures { kept.new.entries ≡ back_to key old kept.old.entries }
 {
-    join(kept, more)?;
-    Ok(())
+    match old {
+        Some(body) => {
+            let _ = kept.insert(key, body);
+        }
+        None => {
+            kept.remove(&key);
+        }
+    }
+}
+
+// Takes the changes back, the last one first. It needs no memory.
+fn undo<A: Allocator + Copy>(kept: &mut Bodies<A>, done: Changes<A>)
+    requires { (first : List Pair) × Undoes first done.items kept.old.entries }
+    ensures { (first : List Pair) → Undoes first done.items kept.old.entries → kept.new.entries ≡ first }
+{
+    let mut done = done;
+    while let Some((key, old)) = done.pop() {
+        go_back(kept, key, old);
+    }
 }
 
 // Adds the solutions among the records, so that the best of all are kept. Whether anything changed.
 pub(crate) fn add<A: Allocator + Copy, B: Allocator>(
     alloc: A,
-    kept: &mut Vec<Kept<A>, A>,
+    kept: &mut Bodies<A>,
     records: &[Record<B>],
 ) -> Result<bool, AllocError>
-    requires kept { IsKept kept.old.items }
+    requires kept { IsKept (entries_of kept.old.entries) }
     requires records { AllByRecursion IsRecord (records_of records.now) }
-    ensures best { OnOk result (IsBestOf (Contains (kept.old.items ++ solved_in (records_of records.now))) kept.new.items) }
-    ensures changed { IfOk result (λ changed. MatchBool changed (kept.new.items ≢ kept.old.items) (kept.new.items ≡ kept.old.items)) }
-    ensures err { OnErr result (kept.new.items ≡ kept.old.items) }
-    ensures fits { IsKept kept.new.items }
+    ensures best { OnOk result (IsBestOf (Contains (entries_of kept.old.entries ++ solved_in (records_of records.now))) (entries_of kept.new.entries)) }
+    ensures changed { IfOk result (λ changed. MatchBool changed (entries_of kept.new.entries ≢ entries_of kept.old.entries) (entries_of kept.new.entries ≡ entries_of kept.old.entries)) }
+    ensures err { OnErr result (kept.new.entries ≡ kept.old.entries) }
+    ensures fits { IsKept (entries_of kept.new.entries) }
 {
-    let better = pick(alloc, kept.as_slice(), records)?;
-    if better.is_empty() {
-        return Ok(false);
-    }
-    join(kept, better)?;
-    Ok(true)
-}
-
-// The records of a file, if it is of these rules.
-pub(crate) fn records_under<B: Allocator>(rules: Ruleset, file: &TwsFile<B>) -> &[Record<B>]
-    ensures solved { solved_in (records_of result.now) ≡ solved_by rules file.now.ruleset file.now.records }
-    ensures fits { AllByRecursion IsRecord (records_of result.now) }
-{
-    match (rules, file.ruleset) {
-        (Ruleset::Lynx, Ruleset::Lynx) | (Ruleset::Ms, Ruleset::Ms) => file.records.as_slice(),
-        _ => &[],
+    let mut done = Vec::new(alloc);
+    match take_all(alloc, kept, &mut done, records) {
+        Ok(()) => Ok(!done.is_empty()),
+        Err(fault) => {
+            undo(kept, done);
+            Err(fault)
+        }
     }
 }

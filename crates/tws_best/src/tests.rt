@@ -1,11 +1,13 @@
 // Files from outside, and what is kept of them. The texts that are wanted are written out by hand.
 use super::*;
+use byte_output::OutFault;
 use std::alloc::Global;
 use std::io;
 use std::io::Write;
 use std::process::Abort;
 use std::test::Fail;
-use tws_file::{Key, OutFault, Ruleset, read_file};
+use tftp_packet::Blocks;
+use tws_file::{Key, Ruleset, read_file};
 
 const LYNX: [u8; 8] = [0x35, 0x33, 0x9B, 0x99, 1, 0, 0, 0];
 
@@ -100,7 +102,7 @@ fn answers_of_merges(rt: HostRuntime) -> Result<(), Fail> {
     assert!(rt; collection.is_empty());
     assert_eq!(rt; text_of(alloc, &collection)?.as_slice(), LYNX.as_slice());
     assert!(rt; merge(alloc, &mut collection, &HUNDRED)?);
-    let early = collection.copy(alloc)?;
+    let early = collection.copy()?;
     assert!(rt; !merge(alloc, &mut collection, &HUNDRED)?);
     assert!(rt; merge(alloc, &mut collection, &NINETY)?);
     assert!(rt; !merge(alloc, &mut collection, &HUNDRED)?);
@@ -153,8 +155,26 @@ fn records_in_order(rt: HostRuntime) -> Result<(), Fail> {
     Ok(())
 }
 
+// The snapshot of a collection whose text is not too long.
+fn snapshot_of(rt: &impl Abort, collection: &Collection) -> Result<Snapshot, Fail> {
+    assert!(rt; collection.text_len() <= 1_000_000);
+    Ok(collection.snapshot()?)
+}
+
+// All blocks, one after the other.
+fn joined_blocks(alloc: Global, snapshot: &Snapshot) -> Result<Vec<u8>, Fail> {
+    let mut text = Vec::new(alloc);
+    let mut out = [0; 512];
+    let count = u16::try_from(snapshot.file_len() / 512 + 1)?;
+    for before in 0..count {
+        let size = snapshot.block(before + 1, &mut out);
+        text.extend_from_slice(&out[..size])?;
+    }
+    Ok(text)
+}
+
 #[test]
-fn sizes_of_texts(rt: HostRuntime) -> Result<(), Fail> {
+fn blocks_of_two_records(rt: HostRuntime) -> Result<(), Fail> {
     let alloc = rt.alloc();
     let first = record(alloc, 1, b"AAAA", 0, 0, &moves(alloc, 482)?)?;
     let second = record(alloc, 2, b"BBBB", 0, 0, &[])?;
@@ -162,25 +182,76 @@ fn sizes_of_texts(rt: HostRuntime) -> Result<(), Fail> {
     let wanted = file(alloc, &LYNX, &[first.as_slice(), second.as_slice()])?;
     let collection = Collection::load(alloc, &read_file(alloc, &text)?)?;
     assert_eq!(rt; collection.text_len(), 530);
+    let written = text_of(alloc, &collection)?;
+    assert_eq!(rt; written.as_slice(), wanted.as_slice());
+    assert_eq!(rt; written.len(), 530);
+    assert_eq!(rt; &written[8..12], [0xF2, 1, 0, 0].as_slice());
+    assert_eq!(rt; &written[510..514], [0x10, 0, 0, 0].as_slice());
+    let snapshot = snapshot_of(&rt, &collection)?;
+    assert_eq!(rt; snapshot.record_count(), 2);
+    assert_eq!(rt; snapshot.start(0), 8);
+    assert_eq!(rt; snapshot.start(1), 510);
+    assert_eq!(rt; snapshot.body(0).len(), 498);
+    assert_eq!(rt; snapshot.body(1).len(), 16);
+    assert_eq!(rt; snapshot.file_len(), 530);
+    let mut out = [0; 512];
+    assert_eq!(rt; snapshot.block(1, &mut out), 512);
+    assert_eq!(rt; &out[510..], [0x10, 0].as_slice());
+    assert_eq!(rt; snapshot.block(2, &mut out), 18);
+    assert_eq!(rt; &out[..8], [0, 0, 2, 0, 0x42, 0x42, 0x42, 0x42].as_slice());
+    Ok(())
+}
+
+#[test]
+fn snapshots_stay(rt: HostRuntime) -> Result<(), Fail> {
+    let alloc = rt.alloc();
+    let mut collection = Collection::load(alloc, &read_file(alloc, &HUNDRED)?)?;
+    let early = snapshot_of(&rt, &collection)?;
+    assert!(rt; merge(alloc, &mut collection, &NINETY)?);
+    assert!(rt; merge(alloc, &mut collection, &UNORDERED)?);
+    assert_eq!(rt;
+        joined_blocks(alloc, &early)?.as_slice(),
+        HUNDRED.as_slice()
+    );
+    let late = snapshot_of(&rt, &collection)?;
+    let text = text_of(alloc, &collection)?;
+    assert_eq!(rt; joined_blocks(alloc, &late)?.as_slice(), text.as_slice());
+    let empty = snapshot_of(&rt, &Collection::new(alloc, Ruleset::Ms))?;
+    assert_eq!(rt; joined_blocks(alloc, &empty)?.as_slice(), MS.as_slice());
+    Ok(())
+}
+
+#[test]
+fn two_thousand_records(rt: HostRuntime) -> Result<(), Fail> {
+    let alloc = rt.alloc();
+    let mut wanted = Vec::from_slice(alloc, &LYNX)?;
+    for number in 1..2001u16 {
+        wanted.extend_from_slice(&record(alloc, number, b"BDHP", 0, 500, &[1, 1])?)?;
+    }
+    let mut collection = Collection::new(alloc, Ruleset::Lynx);
+    assert!(rt; merge(alloc, &mut collection, &wanted)?);
+    assert!(rt; !merge(alloc, &mut collection, &wanted)?);
+    assert_eq!(rt; collection.len(), 2000);
     assert_eq!(rt; text_of(alloc, &collection)?.as_slice(), wanted.as_slice());
+    let copy = collection.copy()?;
+    assert_eq!(rt; text_of(alloc, &copy)?.as_slice(), wanted.as_slice());
+    let snapshot = snapshot_of(&rt, &copy)?;
+    assert_eq!(rt;
+        joined_blocks(alloc, &snapshot)?.as_slice(),
+        wanted.as_slice()
+    );
     Ok(())
 }
 
 #[test]
 fn long_texts(rt: HostRuntime) -> Result<(), Fail> {
     let alloc = rt.alloc();
-    // Two that fill what is gathered before it goes out, and one that does not fit into it.
-    let first = record(alloc, 1, b"AAAA", 0, 0, &moves(alloc, 2000)?)?;
-    let second = record(alloc, 2, b"AAAA", 0, 0, &moves(alloc, 2100)?)?;
-    let third = record(alloc, 3, b"AAAA", 0, 0, &moves(alloc, 9000)?)?;
-    let fourth = record(alloc, 4, b"AAAA", 0, 0, &[])?;
-    let records = [
-        first.as_slice(),
-        second.as_slice(),
-        third.as_slice(),
-        fourth.as_slice(),
-    ];
-    let text = file(alloc, &LYNX, &records)?;
+    // More bytes than are gathered before some are written.
+    let mut text = Vec::from_slice(alloc, &LYNX)?;
+    for number in 1..10u16 {
+        let moves = moves(alloc, 9000)?;
+        text.extend_from_slice(&record(alloc, number, b"AAAA", 0, 0, &moves)?)?;
+    }
     assert_eq!(rt;
         best_of(alloc, Ruleset::Lynx, &[&text])?.as_slice(),
         text.as_slice()
@@ -373,23 +444,5 @@ fn writers_that_fail(rt: HostRuntime) -> Result<(), Fail> {
     let mut out = Narrow { taken, limit: 48 };
     assert_eq!(rt; collection.write_text(&mut out), Ok(()));
     assert_eq!(rt; out.taken.as_slice(), ORDERED.as_slice());
-    Ok(())
-}
-
-#[test]
-fn collections_joined(rt: HostRuntime) -> Result<(), Fail> {
-    let alloc = rt.alloc();
-    let mut first = Collection::new(alloc, Ruleset::Lynx);
-    first.merge(&read_file(alloc, &HUNDRED)?)?;
-    let mut second = Collection::new(alloc, Ruleset::Lynx);
-    second.merge(&read_file(alloc, &UNORDERED)?)?;
-    second.merge(&read_file(alloc, &NINETY)?)?;
-    first.join(second)?;
-    first.join(Collection::new(alloc, Ruleset::Lynx))?;
-    let ninety = record(alloc, 1, b"BDHP", 0, 90, &[])?;
-    let ten = record(alloc, 1, b"CCCC", 0, 10, &[])?;
-    let twenty = record(alloc, 2, b"BBBB", 0, 20, &[])?;
-    let wanted = file(alloc, &LYNX, &[&ninety, &ten, &twenty])?;
-    assert_eq!(rt; text_of(alloc, &first)?.as_slice(), wanted.as_slice());
     Ok(())
 }

@@ -8,11 +8,8 @@ use Rattle.byte_output.proofs.Lists.{at_some, all_append}
 use Rattle.tws_file.specs.declared.«ruleset».Ruleset.{Ruleset}
 use Rattle.tws_file.specs.Text.{File, IsText, IsReadable}
 use Rattle.tws_file.specs.Fault.{HasFault}
-use Rattle.tws_best.specs.Best.{Entry, Collected, IsBestOf, IsCollectionOf, solutions_of}
-use Rattle.tws_best.specs.Choice.{best_of}
-use Rattle.tws_best.proofs.Bests.{one_map, own_best}
-use Rattle.tws_best.proofs.Choices.{best_of_is}
-use Rattle.tws_best.proofs.Sets.{best_of_best, best_of_three, no_texts, one_more_text}
+use Rattle.tws_best.specs.Best.{Collected, IsBestOf, IsCollectionOf, solutions_of}
+use Rattle.tws_best.proofs.Sets.{no_texts, one_more_text}
 use Rattle.tws_tool.specs.declared.tool_fault.ToolFault.{ToolFault}
 use Rattle.tws_tool.specs.declared.tool_fault.ToolFault.TheVariants.{Read, Write, Unreadable, Memory}
 use Rattle.tws_tool.specs.Faults.{ReadFails}
@@ -78,58 +75,6 @@ collects_more kind knowns known file c d so_far text rules best = record {
       let last = at_some (λ (bytes : List ℕ). IsText bytes file) known parts.1 parts.4 text in
       subst (λ (ts : List (List ℕ)). IsCollectionOf kind ts d) (sym parts.2) (one_more_text kind parts.0 parts.1 file c d (so_far.best parts.0 parts.3) last rules best);
 }
-
--- ---- two collections, one beside the other
-
--- What is best of the two together is the collection over all inputs.
-pub record CollectsWith (kind : Ruleset) (knowns : List (Option (List ℕ))) (c recent : Collected) : Type 0 where
-  pub rules : c.ruleset ≡ kind
-  pub recent_rules : recent.ruleset ≡ kind
-  pub best : (d : Collected) → d.ruleset ≡ kind → IsBestOf (Contains (c.entries ++ recent.entries)) d.entries → Collects kind knowns d
-
-pub with_none : (kind : Ruleset) (c recent : Collected) → c.ruleset ≡ kind → recent.ruleset ≡ kind → c.entries ≡ [] → recent.entries ≡ [] → CollectsWith kind [] c recent
-with_none kind c recent rules recent-rules none too =
-    let empty : c.entries ++ recent.entries ≡ [] = ap (λ (es : List Entry). es ++ recent.entries) none ∙ too in
-    record {
-      rules = rules;
-      recent_rules = recent-rules;
-      best = λ d kind-is best. collects_none kind d kind-is (one_map (Contains []) d.entries [] (subst (λ (es : List Entry). IsBestOf (Contains es) d.entries) empty best) (own_best [] tt));
-    }
-
-module _ (kind : Ruleset) (knowns : List (Option (List ℕ))) (c recent : Collected) (so_far : CollectsWith kind knowns c recent) where
-  -- a collection of the best of the two
-  together : Collected
-  together = record { «ruleset» = kind; entries = best_of (c.entries ++ recent.entries) }
-
-  together_best : IsBestOf (Contains (c.entries ++ recent.entries)) (best_of (c.entries ++ recent.entries))
-  together_best = best_of_is (c.entries ++ recent.entries)
-
-  pub with_more : (known : Option (List ℕ)) (file : File) (merged : Collected) → IfSome known (λ (bytes : List ℕ). IsText bytes file)
-      → merged.ruleset ≡ recent.ruleset → IsBestOf (Contains (recent.entries ++ solutions_of recent.ruleset (file ∷ []))) merged.entries → CollectsWith kind (knowns ++ known ∷ []) c merged
-  unfolding together
-  with_more known file merged text rules best = record {
-    rules = so_far.rules;
-    recent_rules = rules ∙ so_far.recent_rules;
-    best = λ e kind-is all.
-        let second = subst (λ (k : Ruleset). IsBestOf (Contains (recent.entries ++ solutions_of k (file ∷ []))) merged.entries) so_far.recent_rules best in
-        collects_more kind knowns known file together e (so_far.best together refl together_best) text kind-is
-        (best_of_three c.entries recent.entries (solutions_of kind (file ∷ [])) merged.entries together.entries e.entries together_best second all);
-  }
-
-  pub with_joined : (joined empty : Collected) → joined.ruleset ≡ c.ruleset → empty.ruleset ≡ kind → IsBestOf (Contains (c.entries ++ recent.entries)) joined.entries → empty.entries ≡ [] → CollectsWith kind knowns joined empty
-  with_joined joined empty rules empty-rules best none = record {
-    rules = rules ∙ so_far.rules;
-    recent_rules = empty-rules;
-    best = λ d kind-is all.
-        let alone = subst (λ (es : List Entry). IsBestOf (Contains (joined.entries ++ es)) d.entries) none all in
-        let both = best_of_best (c.entries ++ recent.entries) [] joined.entries d.entries best alone in
-        so_far.best d kind-is (subst (λ (es : List Entry). IsBestOf (Contains es) d.entries) (append-nil (c.entries ++ recent.entries)) both);
-  }
-
-  -- some collection is the one over the inputs so far
-  pub with_some : (d : Collected) × Collects kind knowns d
-  unfolding together
-  with_some = (together, so_far.best together refl together_best)
 
 -- ---- lists of inputs
 

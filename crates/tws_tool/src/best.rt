@@ -19,17 +19,10 @@ fn collect<R: Read>(alloc: Global, rules: Ruleset, files: &mut [R]) -> Result<Co
     ensures fails { IfErr result (CollectFails (map (λ file. R.remaining file) files.old)) }
 {
     let mut collection = Collection::new(alloc, rules);
-    // What came last. It stays small beside the rest, so that the rest is gone through a few times only.
-    let mut recent = Collection::new(alloc, rules);
     for index in 0..files.len() {
         let file = read_input(alloc, index, &mut files[index])?;
-        recent.merge(&file)?;
-        if recent.len() >= collection.len() / 4 {
-            collection.join(recent)?;
-            recent = Collection::new(alloc, rules);
-        }
+        collection.merge(&file)?;
     }
-    collection.join(recent)?;
     Ok(collection)
 }
 

@@ -1,18 +1,17 @@
-use Rattle.std.proofs.Common.{ℕ, ◌+◌, List, Option, arith, refl, ◌∙◌, sym, subst, map, take, IfSome}
+use Rattle.std.proofs.Common.{ℕ, ◌+◌, List, Option, arith, refl, sym, subst, map, take, IfSome}
 use Rattle.std.proofs.lemmas.Result.{err_from_is_err_and}
 use Rattle.tws_file.specs.Text.{IsText}
-use Rattle.tws_best.specs.Best.{Collected}
+use Rattle.tws_tool.specs.Collecting.{Collects}
 use Rattle.tws_tool.specs.Faults.{ReadFails}
-use Rattle.tws_tool.proofs.Told.{CollectsWith, with_none, with_more, with_joined, with_some, known_more, input_fails, all_collected, one_more_ended, others_stay, set_count}
+use Rattle.tws_tool.proofs.Told.{collects_none, collects_more, known_more, input_fails, all_collected, one_more_ended, others_stay, set_count}
 use Rattle.tws_tool.proofs.best.collect.Goals as goal
-use Rattle.tws_tool.proofs.best.collect.Goals.{then-len+in_ok-join, else-len}
 
 pub loop-index-init : goal.loop-index-init
 loop-index-init g c = record {
   count = refl;
   others = refl;
   ended = tt;
-  so_far = with_none c.args.rules c.new-collection.result c.new-recent.result c.new-collection.ensures.rules c.new-recent.ensures.rules c.new-collection.ensures.empty c.new-recent.ensures.empty;
+  so_far = collects_none c.args.rules c.new-collection.result c.new-collection.ensures.rules c.new-collection.ensures.empty;
 }
 
 pub returns-in_err-file-clause-fails : goal.returns-in_err-file-clause-fails
@@ -21,8 +20,7 @@ returns-in_err-file-clause-fails g c =
     let before = c.loop-index in
     let told : g.row.R.Denot → Option (List ℕ) = λ file. g.R.Read.remaining file in
     let fault = subst (λ file. ReadFails before.index (g.R.Read.remaining file) c.in_err-file.field-0.0) (sym c.index-files-index.is) c.in_err-file.ensures.fault in
-    let some = with_some c.args.rules (map told (take before.index c.args.files.now)) before.collection before.recent before.invariant.so_far in
-    rw (p.1, p.2) (input_fails told before.files c.args.files.now before.index c.index-files-index.result before.invariant.others c.loop-index-test.true c.index-files-index.is c.args.rules some.0 _ some.1 fault)
+    rw (p.1, p.2) (input_fails told before.files c.args.files.now before.index c.index-files-index.result before.invariant.others c.loop-index-test.true c.index-files-index.is c.args.rules before.collection _ before.invariant.so_far fault)
 
 pub loop-index-preserved : goal.loop-index-preserved
 loop-index-preserved g c =
@@ -32,27 +30,15 @@ loop-index-preserved g c =
     let knowns = map told (take before.index c.args.files.now) in
     let text = subst (λ file. IfSome (g.R.Read.remaining file) (λ bytes. IsText bytes c.in_ok-file.file)) (sym c.index-files-index.is) c.in_ok-file.ensures.file.text in
     let merged = c.merge.new.self in
-    let more = with_more c.args.rules knowns before.collection before.recent before.invariant.so_far (told c.index-files-index.result) c.in_ok-file.file merged text c.merge.ensures.rules c.in_ok-merge.ensures.best in
-    let all = map told (take (before.index + 1) c.args.files.now) in
-    let so_far : CollectsWith c.args.rules all before.collection merged =
-    rw (known_more told before.files c.args.files.now before.index c.index-files-index.result before.invariant.others inside c.index-files-index.is) more in
+    let more = collects_more c.args.rules knowns (told c.index-files-index.result) c.in_ok-file.file before.collection merged before.invariant.so_far text c.merge.ensures.rules c.in_ok-merge.ensures.best in
     record {
       count = set_count before.files c.args.files.now before.index c.read_input.new.input before.invariant.count;
       others = others_stay before.files c.args.files.now before.index c.read_input.new.input before.invariant.others;
       ended = one_more_ended told before.files before.index c.read_input.new.input (omega (arith, inside, before.invariant.count)) before.invariant.ended c.in_ok-file.ensures.file.ended;
-      so_far = elim c.if-len.branch [
-        | then-len+in_ok-join w ↦
-            (let joined = w.join.new.self in
-            let empty = w.new-recent-then-len.result in
-            let parts = with_joined c.args.rules all before.collection merged so_far joined empty w.join.ensures.rules w.new-recent-then-len.ensures.rules w.in_ok-join.ensures.best w.new-recent-then-len.ensures.empty in
-            subst (λ (x : Collected). CollectsWith c.args.rules all x c.if-len.recent) (sym w.collection-is) (subst (λ (x : Collected). CollectsWith c.args.rules all joined x) (sym w.recent-is) parts))
-        | else-len w ↦ subst (λ (x : Collected). CollectsWith c.args.rules all x c.if-len.recent) (sym w.collection-is) (subst (λ (x : Collected). CollectsWith c.args.rules all before.collection x) (sym w.recent-is) so_far)
-      ];
+      so_far = rw (known_more told before.files c.args.files.now before.index c.index-files-index.result before.invariant.others inside c.index-files-index.is) more;
     }
 
 pub returns-clause-collected : goal.returns-clause-collected
 returns-clause-collected g c =
     let before = c.loop-index in
-    let joined = c.join-2.new.self in
-    all_collected _ (λ file. g.R.Read.remaining file) c.args.files.now before.index c.args.rules joined (omega (arith, before.invariant.count))
-    (before.invariant.so_far.best joined (c.join-2.ensures.rules ∙ before.invariant.so_far.rules) c.in_ok-join-2.ensures.best)
+    all_collected _ (λ file. g.R.Read.remaining file) c.args.files.now before.index c.args.rules before.collection (omega (arith, before.invariant.count)) before.invariant.so_far

@@ -1,0 +1,20 @@
+-- The ticks in the body of a record.
+use Rattle.std.proofs.Common.{◌≡◌, ℕ, ◌+◌, ◌/◌, ◌%◌, List, ◌∷◌, ◌++◌, length, drop, ap, ◌∙◌, arith}
+use Rattle.std.proofs.Math.Seq.{drop-append-add}
+use Rattle.byteorder.specs.Endian.{little_bytes, little_number}
+use Rattle.byteorder.specs.Numbers.{little_number-reads_back}
+use Rattle.tws_file.specs.Text.{Solution, solution, body_of, IsSolution}
+use Rattle.tws_best.specs.Rank.{ticks_of}
+
+-- what comes before the ticks has twelve bytes: here over any parts of these lengths
+after_twelve : (password moves ticks : List ℕ) (a b flags start p q r s : ℕ) → length password ≡ 4
+    → drop 12 ((a ∷ b ∷ password) ++ (flags ∷ start ∷ (p ∷ q ∷ r ∷ s ∷ (ticks ++ moves)))) ≡ ticks ++ moves
+after_twelve password moves ticks a b flags start p q r s four =
+    let rest : List ℕ = flags ∷ start ∷ (p ∷ q ∷ r ∷ s ∷ (ticks ++ moves)) in
+    let size : 12 ≡ length (a ∷ b ∷ password) + 6 = omega (arith, four) in
+    ap (λ n. drop n ((a ∷ b ∷ password) ++ rest)) size ∙ drop-append-add (a ∷ b ∷ password) rest 6
+
+pub ticks_in : (s : Solution) → IsSolution s → ticks_of (body_of (solution s)) ≡ s.ticks
+ticks_in s fits =
+    ap (little_number 4) (after_twelve s.key.password s.moves (little_bytes 4 s.ticks) (s.key.number % 256) (s.key.number / 256 % 256) s.flags s.start _ _ _ _ fits.fields.key.fits.password_length)
+    ∙ little_number-reads_back 4 s.ticks s.moves fits.fields.ticks

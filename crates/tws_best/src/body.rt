@@ -1,0 +1,70 @@
+ghost use Rattle.std.specs.Prelude.{◌≡◌, ◌≤◌, length, IfOk};
+ghost use Rattle.tws_best.specs.Rank.{rank_of};
+ghost use Rattle.tws_best.specs.Best.{IsBody};
+
+use crate::rank::Rank;
+use std::alloc::{AllocError, Allocator};
+use std::clone::Clone;
+use std::marker::Model;
+use std::rc::RcSlice;
+
+// The body of a solution's record. Collections and snapshots share its bytes: a clone takes no memory.
+#[derive(Drop)]
+pub(crate) struct Body<A: Allocator> {
+    bytes: RcSlice<u8, A>,
+}
+
+impl<A: Allocator> Model for Body<A> {
+    ghost use Rattle.std.specs.Prelude.{ℕ, List};
+
+    ghost Value = { List ℕ };
+
+    ghost use Rattle.std.specs.Rc.{rc_slice_items};
+    ghost use Rattle.tws_best.specs.Best.{IsBody};
+
+    ghost view = { λ b. rc_slice_items b.bytes };
+
+    ghost invariant = { λ b. IsBody (rc_slice_items b.bytes) };
+}
+
+impl<A: Allocator + Copy> Body<A> {
+    // Shares the bytes of a vector.
+    pub(crate) fn of(bytes: Vec<u8, A>) -> Result<Self, AllocError>
+        requires { IsBody bytes.items }
+        ensures { IfOk result (λ body. body ≡ bytes.items) }
+    {
+        let bytes = RcSlice::from_vec(bytes)?;
+        Ok(Body { bytes })
+    }
+}
+
+impl<A: Allocator> Body<A> {
+    pub(crate) fn as_slice(&self) -> &[u8]
+        ensures bytes { result.now ≡ self.now }
+        ensures fits { IsBody self.now }
+    {
+        self.bytes.as_slice()
+    }
+
+    // How long the body is: it fits the four bytes of a record's size.
+    pub(crate) fn size(&self) -> u32
+        ensures { result ≡ length self.now }
+    {
+        self.bytes.len() as u32
+    }
+
+    pub(crate) fn rank(&self) -> Rank<'_>
+        ensures { result ≡ rank_of self.now }
+    {
+        Rank::of(self.bytes.as_slice())
+    }
+}
+
+impl<A: Allocator> Clone for Body<A> {
+    ghost is_clone = { λ body copy. copy ≡ body };
+
+    fn clone(&self) -> Result<Self, AllocError> {
+        let bytes = self.bytes.clone()?;
+        Ok(Body { bytes })
+    }
+}
