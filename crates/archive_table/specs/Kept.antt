@@ -7,7 +7,9 @@ use Rattle.archive_table.specs.declared.end.End as held
 use Rattle.archive_table.specs.declared.end.End.TheVariants as ends
 use Rattle.archive_table.specs.declared.transfer.Transfer.TheInside as transferring
 use Rattle.archive_table.specs.declared.table.Table.TheInside as tables
-use Rattle.archive_table.specs.Server.{End, sending, receiving, Transfer, Maps, Server, Taken, Told}
+use Rattle.archive_table.specs.declared.heard.Heard as borrowed
+use Rattle.archive_table.specs.declared.heard.Heard.TheVariants as hears
+use Rattle.archive_table.specs.Server.{End, sending, receiving, Transfer, Maps, Server, Taken, Told, Heard, nothing, stray, ended, acked, block}
 use Rattle.tftp_ends.specs.Ends.{Sender, Receiver}
 
 abbrev pub taken_of : {A : Type 0} → taking.Inside A → Taken
@@ -25,3 +27,18 @@ transfer_of t = record { peer = t.peer; end = end_of t.end }
 
 abbrev pub server_of : {A : Type 0} → tables.Inside A → Server
 server_of t = record { request = t.request; maps = record { lynx = t.lynx; ms = t.ms }; live = t.live.entries }
+
+abbrev pub heard_of : borrowed.Heard → Heard
+heard_of hears.Nothing = nothing
+heard_of hears.Stray = stray
+heard_of hears.Ended = ended
+heard_of (hears.Ack n) = acked n
+heard_of (hears.Data n body) = block n body.now
+
+-- a body that was heard is no longer than a block
+abbrev pub IsHeard : Heard → Type 0
+IsHeard nothing = Unit {0}
+IsHeard stray = Unit {0}
+IsHeard ended = Unit {0}
+IsHeard (acked n) = Unit {0}
+IsHeard (block n body) = length body ≤ 512

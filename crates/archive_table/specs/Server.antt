@@ -21,7 +21,7 @@ use Rattle.tftp_ends.specs.declared.recv_state.RecvState.{RecvState}
 use Rattle.tftp_ends.specs.declared.recv_state.RecvState.TheVariants as recv
 use Rattle.tftp_ends.specs.declared.recv_fault.RecvFault.{RecvFault}
 use Rattle.tftp_ends.specs.declared.recv_fault.RecvFault.TheVariants as fault
-use Rattle.tftp_ends.specs.Ends.{Verdict, granted, refused, dgram_of, Sender, SendAnswer, sender_start, sender_ack, sender_timeout, data_packet, IsSender, Receiver, RecvAnswer, DataAnswer, TakeAnswer, receiver_start, receiver_data, receiver_timeout, receiver_take, IsReceiver}
+use Rattle.tftp_ends.specs.Ends.{Verdict, granted, refused, dgram_of, answer_of, Sender, SendAnswer, sender_start, sender_ack, sender_timeout, data_packet, IsSender, Receiver, RecvAnswer, DataAnswer, TakeAnswer, receiver_start, receiver_data, receiver_timeout, receiver_take, IsReceiver}
 use Rattle.tws_file.specs.declared.«ruleset».Ruleset.{Ruleset}
 use Rattle.tws_file.specs.declared.«ruleset».Ruleset.TheVariants.{Lynx, Ms}
 use Rattle.tws_file.specs.Text.{File, IsText}
@@ -303,12 +303,12 @@ abbrev pub block_taken : TakeAnswer → Grant → (maps : Maps) → (port : ℕ)
 block_taken a grant maps port peer out s = file_asked a.file grant maps port peer a.receiver out s
 
 -- a block that is not taken closes the transfer, and the peer is told why
-abbrev pub block_answered : Result (Option Packet) RecvFault → Grant → (maps : Maps) → (port : ℕ) → (peer : Endpoint) → Receiver → Server → Answer
-block_answered (Ok out) grant maps port peer r s = block_taken (receiver_take r) grant maps port peer (dgram_of out) s
+abbrev pub block_answered : Result (Option (List ℕ)) RecvFault → Grant → (maps : Maps) → (port : ℕ) → (peer : Endpoint) → Receiver → Server → Answer
+block_answered (Ok out) grant maps port peer r s = block_taken (receiver_take r) grant maps port peer out s
 block_answered (Err e) grant maps port peer r s = closes port peer (Some (refusal_dgram (refusal_of e))) s
 
 abbrev pub block_heard : DataAnswer → Grant → (maps : Maps) → (port : ℕ) → (peer : Endpoint) → Server → Answer
-block_heard a grant maps port peer s = block_answered a.result grant maps port peer a.receiver s
+block_heard a grant maps port peer s = block_answered (answer_of a.result) grant maps port peer a.receiver s
 
 abbrev pub data_at : End → Grant → (maps : Maps) → (port : ℕ) → (peer : Endpoint) → (n : ℕ) (body : List ℕ) → Server → Answer
 data_at (sending r) grant maps port peer n body s = stays s

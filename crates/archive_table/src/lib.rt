@@ -4,8 +4,10 @@
 #![tactic(auto)]
 
 mod end;
+mod heard;
 mod keep_fault;
 mod keeper;
+mod keeping;
 mod limits;
 mod no_keeper;
 mod step;

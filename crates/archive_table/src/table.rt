@@ -3,17 +3,21 @@
 ghost use Rattle.std.specs.Prelude.{◌≡◌, ◌≢◌, ◌≤◌, [], None, Some, true, false, length, is_some};
 ghost use Rattle.std.specs.Str.{bytes_eq};
 ghost use Rattle.tws_file.specs.Names.{file_name_of};
-ghost use Rattle.archive_table.specs.Server.{nothing_told, refuses, opens_if, request_verdict, server_request, server_timeout, transfer_at, has_place, read_asked, read_placed, write_asked, kind_named, is_octet as octet_mode, map_of, IsServer, closes, sends_from};
+ghost use Rattle.archive_table.specs.Server.{nothing_told, refuses, opens_if, request_verdict, server_request, server_timeout, transfer_at, has_place, read_asked, read_placed, write_asked, kind_named, is_octet as octet_mode, map_of, IsServer, closes, ack_live, data_live, file_done, server_datagram, grant_of, reply_grant, all, Merges, refusal_of as refusal_told, sends_from};
 ghost use Rattle.archive_table.specs.Kept.{end_of};
 
 use crate::end::End;
+use crate::heard::{Heard, hear};
+use crate::keeper::Keeper;
+use crate::keeping::merge_file;
 use crate::limits::LIVE;
 use crate::step::Step;
+use crate::taken::Taken;
 use crate::transfer::Transfer;
 use std::alloc::{Allocator, Global};
 use std::collections::BTreeMap;
 use std::marker::Model;
-use tftp_ends::{MAX_FILE, Receiver, RecvState, SendState, Sender};
+use tftp_ends::{MAX_FILE, Received, Receiver, RecvFault, RecvState, SendState, Sender};
 use tftp_packet::{Dgram, Endpoint, Out, Packet, Refusal, decode, encode_ack, is_octet};
 use tws_best::{Collection, Snapshot};
 use tws_file::Ruleset;
@@ -57,6 +61,16 @@ fn told<A: Allocator>(port: u16, to: Endpoint, dgram: Option<Dgram>) -> Step<A>
         opened: false,
         taken: None,
         closed: false,
+    }
+}
+
+// The error that is sent where a block was not taken.
+fn refusal_of(fault: RecvFault) -> Refusal
+    ensures { result ≡ refusal_told fault }
+{
+    match fault {
+        RecvFault::Memory => Refusal::OutOfMemory,
+        RecvFault::TooLong => Refusal::FileTooLong,
     }
 }
 
@@ -244,6 +258,110 @@ impl<A: Allocator + Copy> Table<A> {
         let mut step = told(port, peer, dgram);
         step.closed = true;
         step
+    }
+
+    // ACK `n` of the peer has come to a port.
+    #[tactic(auto, using(crate::proofs::Live::remove_set, crate::proofs::Live::set_same))]
+    fn on_ack(&mut self, port: u16, n: u16) -> Step<A>
+        ensures server { self.new ≡ (ack_live (transfer_at port self.old) port n self.old).server }
+        ensures told { result ≡ (ack_live (transfer_at port self.old) port n self.old).told }
+        ensures fits { IsServer self.new }
+    {
+        let Some(transfer) = self.live.get_mut(&port) else {
+            return Step::nothing();
+        };
+        let peer = transfer.peer;
+        let End::Sending(sender) = &mut transfer.end else {
+            return Step::nothing();
+        };
+        let out = sender.on_ack(n);
+        match sender.state() {
+            SendState::Running => told(port, peer, out),
+            SendState::Finished | SendState::TimedOut => self.close(port, peer, out),
+        }
+    }
+
+    // A whole file has come: it joins the collection of its rules and is taken, or the transfer is closed.
+    fn on_file<K: Keeper>(
+        &mut self,
+        keeper: &mut K,
+        port: u16,
+        peer: Endpoint,
+        file: Received<A>,
+        ack: Option<Dgram>,
+    ) -> Step<A>
+        requires acks { reply_grant ack ≡ all }
+        ensures server { self.new ≡ (file_done (grant_of result.out) self.new.maps port peer file ack self.old).server }
+        ensures told { result ≡ (file_done (grant_of result.out) self.new.maps port peer file ack self.old).told }
+        ensures merges { Merges result.taken self.old.maps self.new.maps }
+        ensures fits { IsServer self.new }
+    {
+        match merge_file(self.alloc, &mut self.lynx, &mut self.ms, keeper, &file) {
+            Ok(()) => {
+                let mut step = told(port, peer, ack);
+                step.taken = Some(Taken { peer, file });
+                step
+            }
+            Err(why) => self.close(port, peer, Some(why.dgram())),
+        }
+    }
+
+    // DATA `n` of the peer has come to a port.
+    #[tactic(auto, using(crate::proofs::Live::remove_set, crate::proofs::Live::set_same, crate::proofs::Replies::data_reply, crate::proofs::Replies::past_grant, crate::proofs::Replies::memory_grant, crate::proofs::Replies::sent_grant, crate::proofs::Live::done_come))]
+    fn on_data<K: Keeper>(&mut self, keeper: &mut K, port: u16, n: u16, body: &[u8]) -> Step<A>
+        requires short { length body.now ≤ 512 }
+        ensures server { self.new ≡ (data_live (transfer_at port self.old) (grant_of result.out) self.new.maps port n body.now self.old).server }
+        ensures told { result ≡ (data_live (transfer_at port self.old) (grant_of result.out) self.new.maps port n body.now self.old).told }
+        ensures merges { Merges result.taken self.old.maps self.new.maps }
+        ensures fits { IsServer self.new }
+    {
+        let Some(transfer) = self.live.get_mut(&port) else {
+            return Step::nothing();
+        };
+        let peer = transfer.peer;
+        let End::Receiving(receiver) = &mut transfer.end else {
+            return Step::nothing();
+        };
+        match receiver.on_data(n, body) {
+            Err(fault) => self.close(port, peer, Some(refusal_of(fault).dgram())),
+            Ok(ack) => match receiver.take_file() {
+                None => told(port, peer, ack),
+                Some(file) => self.on_file(keeper, port, peer, file, ack),
+            },
+        }
+    }
+
+    /// A datagram of these bytes has come from `from` to a transfer's port. What is told is to be sent.
+    ///
+    /// From another source than the peer an ERROR has no effect, and any other packet is answered with ERROR 5, RFC 1350
+    /// section 4, and changes nothing. An ERROR of the peer closes the transfer. An ACK goes to a sender, a DATA to a
+    /// receiver. The DATA that completes a file joins its solutions with the collection of its ruleset, which is kept
+    /// where that changed it, before it is acknowledged; then the file is taken. Bytes that are no solution file are taken
+    /// and change nothing. A block that is one too many, memory that is refused and a collection that is not kept close
+    /// the transfer with an ERROR, and no collection changes. A port that is not live gives an empty step.
+    pub fn on_datagram<K: Keeper>(
+        &mut self,
+        keeper: &mut K,
+        port: u16,
+        from: Endpoint,
+        bytes: &[u8],
+    ) -> Step<A>
+        ensures server { self.new ≡ (server_datagram (grant_of result.out) self.new.maps port from bytes.now self.old).server }
+        ensures told { result ≡ (server_datagram (grant_of result.out) self.new.maps port from bytes.now self.old).told }
+        ensures merges { Merges result.taken self.old.maps self.new.maps }
+        ensures fits { IsServer self.new }
+    {
+        let Some(transfer) = self.live.get(&port) else {
+            return self.nothing();
+        };
+        let peer = transfer.peer;
+        match hear(peer, from, bytes) {
+            Heard::Nothing => self.nothing(),
+            Heard::Stray => told(port, from, Some(Refusal::UnknownTransfer.dgram())),
+            Heard::Ended => self.close(port, peer, None),
+            Heard::Ack(n) => self.on_ack(port, n),
+            Heard::Data { n, body } => self.on_data(keeper, port, n, body),
+        }
     }
 
     /// Nothing has come to a port for a while. What its transfer sent last is sent again; the transfer is closed where
