@@ -6,6 +6,8 @@ use Rattle.std.specs.Char.{to_ascii_lowercase}
 use Rattle.std.specs.Ordering.{nat_cmp}
 use Rattle.std.specs.Map.{lookup, remove_entry, set_value}
 use Rattle.std.specs.BTreeMap.{is_at, insert_entry}
+use Rattle.std.specs.BTreeMap.Range.{entries_between}
+use Rattle.std.specs.declared.ops.Bound.TheVariants.{Excluded, Unbounded}
 use Rattle.tftp_packet.specs.declared.endpoint.Endpoint.{Endpoint}
 use Rattle.tftp_packet.specs.declared.out.Out.{Out}
 use Rattle.tftp_packet.specs.declared.packet_fault.PacketFault.{PacketFault}
@@ -82,6 +84,15 @@ transfer_at port s = lookup (at_port port) s.live
 
 abbrev pub with_live : List (ℕ × Transfer) → Server → Server
 with_live live s = record { request = s.request; maps = s.maps; live = live }
+
+-- the first of these
+abbrev pub first_port : List (ℕ × Transfer) → Option ℕ
+first_port [] = None
+first_port (e ∷ es) = Some e.0
+
+-- the least live port above this one
+abbrev pub port_above : (after : ℕ) → Server → Option ℕ
+port_above after s = first_port (entries_between nat_cmp (Excluded after) Unbounded s.live)
 
 -- ---- answers
 

@@ -3,7 +3,7 @@
 ghost use Rattle.std.specs.Prelude.{◌≡◌, ◌≢◌, ◌≤◌, [], None, Some, true, false, length, is_some};
 ghost use Rattle.std.specs.Str.{bytes_eq};
 ghost use Rattle.tws_file.specs.Names.{file_name_of};
-ghost use Rattle.archive_table.specs.Server.{nothing_told, refuses, opens_if, request_verdict, server_request, server_timeout, transfer_at, has_place, read_asked, read_placed, write_asked, kind_named, is_octet as octet_mode, map_of, IsServer, closes, ack_live, data_live, file_done, server_datagram, grant_of, reply_grant, all, Merges, refusal_of as refusal_told, sends_from};
+ghost use Rattle.archive_table.specs.Server.{nothing_told, refuses, opens_if, request_verdict, server_request, server_timeout, transfer_at, has_place, read_asked, read_placed, write_asked, kind_named, is_octet as octet_mode, map_of, port_above, IsServer, closes, ack_live, data_live, file_done, server_datagram, grant_of, reply_grant, all, Merges, refusal_of as refusal_told, sends_from};
 ghost use Rattle.archive_table.specs.Kept.{end_of};
 
 use crate::end::End;
@@ -17,6 +17,7 @@ use crate::transfer::Transfer;
 use std::alloc::{Allocator, Global};
 use std::collections::BTreeMap;
 use std::marker::Model;
+use std::ops::Bound;
 use tftp_ends::{MAX_FILE, Received, Receiver, RecvFault, RecvState, SendState, Sender};
 use tftp_packet::{Dgram, Endpoint, Out, Packet, Refusal, decode, encode_ack, is_octet};
 use tws_best::{Collection, Snapshot};
@@ -410,6 +411,17 @@ impl<A: Allocator + Copy> Table<A> {
         ensures few { result ≤ LIVE }
     {
         self.live.len()
+    }
+
+    /// The least live port above this one.
+    pub fn next_port(&self, after: u16) -> Option<u16>
+        ensures { result ≡ port_above after self.now }
+    {
+        let mut above = self.live.range((Bound::Excluded(after), Bound::Unbounded));
+        match above.next() {
+            Some((port, _)) => Some(*port),
+            None => None,
+        }
     }
 
     /// Whether a transfer is at this port.
