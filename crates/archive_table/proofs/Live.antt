@@ -1,0 +1,53 @@
+-- What follows of a port whose transfer was written and is then taken out, or was not changed.
+use Rattle.std.specs.Prelude.{◌≡◌, ℕ, Bool, true, false, cond, List, [], ◌∷◌, Option, None, Some}
+use Rattle.std.proofs.Common.{refl, sym, ap, ◌∙◌, inl, inr}
+use Rattle.std.specs.Map.{lookup, remove_entry, set_value}
+use Rattle.tftp_packet.specs.declared.endpoint.Endpoint.{Endpoint}
+use Rattle.tftp_packet.specs.declared.refusal.Refusal.TheVariants.{OutOfMemory, NotKept}
+use Rattle.tftp_ends.specs.Ends.{Receiver}
+use Rattle.archive_table.specs.Server.{Grant, all, no_memory, unkept, Maps, Server, Transfer, Answer, receiving, at_port, with_live, file_done, file_come, sends_from, refusal_dgram}
+use Rattle.std.proofs.lemmas.Bool.{cases_Bool}
+
+if_true : {A : Type 0} {b : Bool} (x y : A) → b ≡ true → cond b x y ≡ x
+if_true x y e = ap (λ c. cond c x y) e
+
+if_false : {A : Type 0} {b : Bool} (x y : A) → b ≡ false → cond b x y ≡ y
+if_false x y e = ap (λ c. cond c x y) e
+
+abbrev value_or : {X : Type 0} → X → Option X → X
+value_or v None = v
+value_or v (Some x) = x
+
+pub remove_set : {X : Type 0} (test : ℕ → Bool) (es : List (ℕ × X)) (w : X) → remove_entry test (set_value test es w) ≡ remove_entry test es
+remove_set test [] w = refl
+remove_set {X} test (e ∷ es) w = elim (cases_Bool (test e.0)) [
+  | inl y ↦ ap (remove_entry test) (if_true ((e.0, w) ∷ es) _ y) ∙ if_true _ _ y ∙ sym (if_true _ _ y)
+  | inr n ↦ ap (remove_entry test) (if_false ((e.0, w) ∷ es) _ n) ∙ if_false _ _ n ∙ ap (λ (l : List (ℕ × X)). e ∷ l) (remove_set test es w) ∙ sym (if_false _ _ n)
+]
+
+pub set_set : {X : Type 0} (test : ℕ → Bool) (es : List (ℕ × X)) (v w : X) → set_value test (set_value test es v) w ≡ set_value test es w
+set_set test [] v w = refl
+set_set {X} test (e ∷ es) v w = elim (cases_Bool (test e.0)) [
+  | inl y ↦ ap (λ l. set_value test l w) (if_true ((e.0, v) ∷ es) _ y) ∙ if_true _ _ y ∙ sym (if_true _ _ y)
+  | inr n ↦ ap (λ l. set_value test l w) (if_false ((e.0, v) ∷ es) _ n) ∙ if_false _ _ n ∙ ap (λ (l : List (ℕ × X)). e ∷ l) (set_set test es v w) ∙ sym (if_false _ _ n)
+]
+
+pub set_same : {X : Type 0} (test : ℕ → Bool) (es : List (ℕ × X)) (v : X) → lookup test es ≡ Some v → set_value test es v ≡ es
+set_same test [] v h = refl
+set_same {X} test (e ∷ es) v h = elim (cases_Bool (test e.0)) [
+  | inl y ↦ if_true _ _ y ∙ ap (λ (x : X). (e.0, x) ∷ es) (sym (ap (value_or v) (sym (if_true _ _ y) ∙ h)))
+  | inr n ↦ if_false _ _ n ∙ ap (λ (l : List (ℕ × X)). e ∷ l) (set_same test es v (sym (if_false _ _ n) ∙ h))
+]
+
+abbrev closed_with : List (ℕ × Transfer) → (port : ℕ) → Endpoint → Option (List ℕ) → Server → Answer
+closed_with live port peer out s =
+    record {
+      server = with_live live s;
+      told = record { out = sends_from port peer out; opened = false; taken = None; closed = true };
+    }
+
+-- a file that has come at a port whose receiver was written
+pub done_come : (g : Grant) (maps : Maps) (port : ℕ) (peer : Endpoint) (file : List ℕ) (r : Receiver) (out : Option (List ℕ)) (s : Server) → file_done g maps port peer file out (with_live (set_value (at_port port) s.live (record { peer = peer; end = receiving r })) s) ≡ file_come g maps port peer file r out s
+done_come all maps port peer file r out s = refl
+done_come no_memory maps port peer file r out s = ap (λ (l : List (ℕ × Transfer)). closed_with l port peer (Some (refusal_dgram OutOfMemory)) s) (remove_set (at_port port) s.live (record { peer = peer; end = receiving r }))
+done_come unkept maps port peer file r out s = ap (λ (l : List (ℕ × Transfer)). closed_with l port peer (Some (refusal_dgram NotKept)) s) (remove_set (at_port port) s.live (record { peer = peer; end = receiving r }))

@@ -1,0 +1,44 @@
+-- The plain values of a table and of what it tells, without where their bytes lie in memory, and what private functions
+-- speak of.
+use Rattle.std.specs.Prelude.{ℕ, ◌≤◌, List, length, Option, None, Some}
+use Rattle.archive_table.specs.declared.taken.Taken.TheInside as taking
+use Rattle.archive_table.specs.declared.step.Step.TheInside as stepping
+use Rattle.archive_table.specs.declared.end.End as held
+use Rattle.archive_table.specs.declared.end.End.TheVariants as ends
+use Rattle.archive_table.specs.declared.transfer.Transfer.TheInside as transferring
+use Rattle.archive_table.specs.declared.table.Table.TheInside as tables
+use Rattle.archive_table.specs.declared.heard.Heard as borrowed
+use Rattle.archive_table.specs.declared.heard.Heard.TheVariants as hears
+use Rattle.archive_table.specs.Server.{End, sending, receiving, Transfer, Maps, Server, Taken, Told, Heard, nothing, stray, ended, acked, block}
+use Rattle.tftp_ends.specs.Ends.{Sender, Receiver}
+
+abbrev pub taken_of : {A : Type 0} → taking.Inside A → Taken
+taken_of t = record { peer = t.peer; file = t.file }
+
+abbrev pub told_of : {A : Type 0} → stepping.Inside A → Told
+told_of s = record { out = s.out; opened = s.opened; taken = s.taken; closed = s.closed }
+
+abbrev pub end_of : held.End Sender Receiver → End
+end_of (ends.Sending s) = sending s
+end_of (ends.Receiving r) = receiving r
+
+abbrev pub transfer_of : {A : Type 0} → transferring.Inside A → Transfer
+transfer_of t = record { peer = t.peer; end = end_of t.end }
+
+abbrev pub server_of : {A : Type 0} → tables.Inside A → Server
+server_of t = record { request = t.request; maps = record { lynx = t.lynx; ms = t.ms }; live = t.live.entries }
+
+abbrev pub heard_of : borrowed.Heard → Heard
+heard_of hears.Nothing = nothing
+heard_of hears.Stray = stray
+heard_of hears.Ended = ended
+heard_of (hears.Ack n) = acked n
+heard_of (hears.Data n body) = block n body.now
+
+-- a body that was heard is no longer than a block
+abbrev pub IsHeard : Heard → Type 0
+IsHeard nothing = Unit {0}
+IsHeard stray = Unit {0}
+IsHeard ended = Unit {0}
+IsHeard (acked n) = Unit {0}
+IsHeard (block n body) = length body ≤ 512

@@ -1,0 +1,446 @@
+-- The server: what it keeps, and what each datagram and each time-out makes of it. RFC 1350 sections 2, 4 and 6.
+-- What an end does is that of tftp_ends; docs/FORMATS.md has the rest as a table.
+use Rattle.std.specs.Prelude.{◌≡◌, ◌≢◌, ℕ, ◌≤◌, Bool, true, false, ◌==◌, ◌&&◌, nat_lt, List, [], ◌∷◌, ◌++◌, length, map, Contains, Option, None, Some, IsSome, Result, Ok, Err, cond, codes}
+use Rattle.std.specs.Str.{bytes_eq}
+use Rattle.std.specs.Char.{to_ascii_lowercase}
+use Rattle.std.specs.Ordering.{nat_cmp}
+use Rattle.std.specs.Map.{lookup, remove_entry, set_value}
+use Rattle.std.specs.BTreeMap.{is_at, insert_entry}
+use Rattle.std.specs.BTreeMap.Range.{entries_between}
+use Rattle.std.specs.declared.ops.Bound.TheVariants.{Excluded, Unbounded}
+use Rattle.tftp_packet.specs.declared.endpoint.Endpoint.{Endpoint}
+use Rattle.tftp_packet.specs.declared.out.Out.{Out}
+use Rattle.tftp_packet.specs.declared.packet_fault.PacketFault.{PacketFault}
+use Rattle.tftp_packet.specs.declared.refusal.Refusal.{Refusal}
+use Rattle.tftp_packet.specs.declared.refusal.Refusal.TheVariants.{OctetOnly, NoSuchFile, ServerBusy, CollectionTooLong, OutOfMemory, FileTooLong, UnknownTransfer, NotKept}
+use Rattle.tftp_packet.specs.Packet.{Packet, read, write, data_block, ack, error, octet, encode}
+use Rattle.tftp_packet.specs.Refusal.{refusal_packet}
+use Rattle.tftp_packet.specs.Decode.{decode_bytes}
+use Rattle.tftp_ends.specs.declared.limits.TheConstants.{MAX_FILE}
+use Rattle.tftp_ends.specs.declared.send_state.SendState.{SendState}
+use Rattle.tftp_ends.specs.declared.send_state.SendState.TheVariants as send
+use Rattle.tftp_ends.specs.declared.recv_state.RecvState.{RecvState}
+use Rattle.tftp_ends.specs.declared.recv_state.RecvState.TheVariants as recv
+use Rattle.tftp_ends.specs.declared.recv_fault.RecvFault.{RecvFault}
+use Rattle.tftp_ends.specs.declared.recv_fault.RecvFault.TheVariants as fault
+use Rattle.tftp_ends.specs.Ends.{Verdict, granted, refused, dgram_of, answer_of, Sender, SendAnswer, sender_start, sender_ack, sender_timeout, data_packet, IsSender, Receiver, RecvAnswer, DataAnswer, TakeAnswer, receiver_start, receiver_data, receiver_timeout, receiver_take, IsReceiver}
+use Rattle.tws_file.specs.declared.«ruleset».Ruleset.{Ruleset}
+use Rattle.tws_file.specs.declared.«ruleset».Ruleset.TheVariants.{Lynx, Ms}
+use Rattle.tws_file.specs.Text.{File, IsText}
+use Rattle.tws_file.specs.Names.{file_name_of}
+use Rattle.tws_best.specs.Best.{Collected, IsBestOf, IsCollected, solutions_of, collection_text}
+use Rattle.archive_table.specs.declared.limits.TheConstants.{LIVE}
+
+-- ---- what a server is
+
+pub data End : Type 0 where
+  -- a file is sent
+  sending : (sender : Sender) → End
+  -- A file is received. Once whole it was taken out, and its end waits for a repeated last block.
+  receiving : (receiver : Receiver) → End
+
+pub record Transfer : Type 0 where
+  -- whom it is with
+  pub peer : Endpoint
+  pub end : End
+
+-- the collection of each ruleset: a finite map from keys to bodies
+pub record Maps : Type 0 where
+  pub lynx : Collected
+  pub ms : Collected
+
+pub record Server : Type 0 where
+  -- the port that requests come to
+  pub request : ℕ
+  pub maps : Maps
+  -- the transfers, a finite map from their ports, in the order of the ports
+  pub live : List (ℕ × Transfer)
+
+-- a file that was received whole, and whom it came from
+pub record Taken : Type 0 where
+  pub peer : Endpoint
+  pub file : List ℕ
+
+-- what a call tells: at most one datagram to send, whether a transfer was opened, a file that was taken, and whether the
+-- transfer at the port was closed
+pub record Told : Type 0 where
+  pub out : Option Out
+  pub opened : Bool
+  pub taken : Option Taken
+  pub closed : Bool
+
+-- the server after a call, and what it tells
+pub record Answer : Type 0 where
+  pub server : Server
+  pub told : Told
+
+-- ---- the finite map of transfers
+
+abbrev pub at_port : (port : ℕ) → ℕ → Bool
+at_port port = is_at (nat_cmp port)
+
+abbrev pub transfer_at : (port : ℕ) → Server → Option Transfer
+transfer_at port s = lookup (at_port port) s.live
+
+abbrev pub with_live : List (ℕ × Transfer) → Server → Server
+with_live live s = record { request = s.request; maps = s.maps; live = live }
+
+-- the first of these
+abbrev pub first_port : List (ℕ × Transfer) → Option ℕ
+first_port [] = None
+first_port (e ∷ es) = Some e.0
+
+-- the least live port above this one
+abbrev pub port_above : (after : ℕ) → Server → Option ℕ
+port_above after s = first_port (entries_between nat_cmp (Excluded after) Unbounded s.live)
+
+-- ---- answers
+
+abbrev pub nothing_told : Told
+nothing_told = record { out = None; opened = false; taken = None; closed = false }
+
+abbrev pub stays : Server → Answer
+stays s = record { server = s; told = nothing_told }
+
+abbrev pub out_from : (port : ℕ) → Endpoint → Packet → Out
+out_from port to packet = record { from_port = port; to = to; dgram = encode packet }
+
+abbrev pub refusal_dgram : Refusal → List ℕ
+refusal_dgram why = encode (refusal_packet why)
+
+-- the same for what an end sends
+abbrev pub sends_from : (port : ℕ) → Endpoint → Option (List ℕ) → Option Out
+sends_from port to None = None
+sends_from port to (Some dgram) = Some (record { from_port = port; to = to; dgram = dgram })
+
+-- a datagram goes out and nothing changes
+abbrev pub replies : Out → Server → Answer
+replies out s = record { server = s; told = record { out = Some out; opened = false; taken = None; closed = false } }
+
+-- an error from the request port
+abbrev pub refuses : Refusal → (from : Endpoint) → Server → Answer
+refuses why from s = replies (out_from s.request from (refusal_packet why)) s
+
+-- a transfer is opened at a port and sends its first packet from there
+abbrev pub opens : (port : ℕ) → (from : Endpoint) → End → (first : List ℕ) → Server → Answer
+opens port from end first s =
+    record {
+      server = with_live (insert_entry nat_cmp s.live port (record { peer = from; end = end })) s;
+      told = record { out = Some (record { from_port = port; to = from; dgram = first }); opened = true; taken = None; closed = false };
+    }
+
+-- the transfer at a port goes on
+abbrev pub goes_on : (port : ℕ) → (peer : Endpoint) → End → Option (List ℕ) → Server → Answer
+goes_on port peer end out s =
+    record {
+      server = with_live (set_value (at_port port) s.live (record { peer = peer; end = end })) s;
+      told = record { out = sends_from port peer out; opened = false; taken = None; closed = false };
+    }
+
+-- the transfer at a port ends
+abbrev pub closes : (port : ℕ) → (peer : Endpoint) → Option (List ℕ) → Server → Answer
+closes port peer out s =
+    record {
+      server = with_live (remove_entry (at_port port) s.live) s;
+      told = record { out = sends_from port peer out; opened = false; taken = None; closed = true };
+    }
+
+-- ---- requests
+
+abbrev pub map_of : Ruleset → Maps → Collected
+map_of Lynx maps = maps.lynx
+map_of Ms maps = maps.ms
+
+-- the rules whose collection has this name
+abbrev pub kind_named : (name : List ℕ) → Option Ruleset
+kind_named name =
+    cond (bytes_eq name (file_name_of Lynx)) (Some Lynx) (cond (bytes_eq name (file_name_of Ms)) (Some Ms) None)
+
+abbrev pub is_octet : (mode : List ℕ) → Bool
+is_octet mode = bytes_eq (map to_ascii_lowercase mode) octet
+
+abbrev pub has_place : Server → Bool
+has_place s = nat_lt (length s.live) LIVE
+
+abbrev pub is_too_long : Collected → Bool
+is_too_long c = nat_lt MAX_FILE (length (collection_text c))
+
+-- whether there is memory for the transfer
+abbrev pub opens_if : Verdict → (spare : ℕ) → (from : Endpoint) → End → (first : List ℕ) → Server → Answer
+opens_if granted spare from end first s = opens spare from end first s
+opens_if refused spare from end first s = refuses OutOfMemory from s
+
+-- a request to read: what is sent is the collection's text as it is now
+abbrev pub read_opens : Verdict → (spare : ℕ) → (from : Endpoint) → Collected → Server → Answer
+read_opens verdict spare from c s =
+    opens_if verdict spare from (sending (sender_start (collection_text c))) (encode (data_packet (collection_text c) 1)) s
+
+-- whether the text has too many bytes
+abbrev pub read_fits : (long : Bool) → Verdict → (spare : ℕ) → (from : Endpoint) → Collected → Server → Answer
+read_fits true verdict spare from c s = refuses CollectionTooLong from s
+read_fits false verdict spare from c s = read_opens verdict spare from c s
+
+-- whether there is a place for one more transfer
+abbrev pub read_placed : (place : Bool) → Verdict → (spare : ℕ) → (from : Endpoint) → Collected → Server → Answer
+read_placed true verdict spare from c s = read_fits (is_too_long c) verdict spare from c s
+read_placed false verdict spare from c s = refuses ServerBusy from s
+
+-- which collection is meant
+abbrev pub read_named : Option Ruleset → Verdict → (spare : ℕ) → (from : Endpoint) → Server → Answer
+read_named (Some kind) verdict spare from s = read_placed (has_place s) verdict spare from (map_of kind s.maps) s
+read_named None verdict spare from s = refuses NoSuchFile from s
+
+-- whether the mode is octet
+abbrev pub read_asked : (octet : Bool) → Verdict → (spare : ℕ) → (from : Endpoint) → (name : List ℕ) → Server → Answer
+read_asked true verdict spare from name s = read_named (kind_named name) verdict spare from s
+read_asked false verdict spare from name s = refuses OctetOnly from s
+
+abbrev pub write_opens : Verdict → (spare : ℕ) → (from : Endpoint) → Server → Answer
+write_opens verdict spare from s = opens_if verdict spare from (receiving receiver_start) (encode (ack 0)) s
+
+abbrev pub write_placed : (place : Bool) → Verdict → (spare : ℕ) → (from : Endpoint) → Server → Answer
+write_placed true verdict spare from s = write_opens verdict spare from s
+write_placed false verdict spare from s = refuses ServerBusy from s
+
+-- a request to write: the name has no effect
+abbrev pub write_asked : (octet : Bool) → Verdict → (spare : ℕ) → (from : Endpoint) → Server → Answer
+write_asked true verdict spare from s = write_placed (has_place s) verdict spare from s
+write_asked false verdict spare from s = refuses OctetOnly from s
+
+abbrev pub request_packet : Verdict → (spare : ℕ) → (from : Endpoint) → Packet → Server → Answer
+request_packet verdict spare from (read name mode) s = read_asked (is_octet mode) verdict spare from name s
+request_packet verdict spare from (write name mode) s = write_asked (is_octet mode) verdict spare from s
+request_packet verdict spare from (data_block n body) s = stays s
+request_packet verdict spare from (ack n) s = stays s
+request_packet verdict spare from (error code text) s = stays s
+
+abbrev pub request_decoded : Verdict → (spare : ℕ) → (from : Endpoint) → Result Packet PacketFault → Server → Answer
+request_decoded verdict spare from (Ok packet) s = request_packet verdict spare from packet s
+request_decoded verdict spare from (Err e) s = stays s
+
+-- a datagram comes to the request port, and this port is free for a transfer
+abbrev pub server_request : Verdict → (spare : ℕ) → (from : Endpoint) → (bytes : List ℕ) → Server → Answer
+server_request verdict spare from bytes s = request_decoded verdict spare from (decode_bytes bytes) s
+
+-- What was granted, by whether a transfer was opened: where a request is refused for another cause, this has no effect.
+abbrev pub request_verdict : (opened : Bool) → Verdict
+request_verdict true = granted
+request_verdict false = refused
+
+-- ---- a datagram at a transfer's port: what it is to the transfer
+
+pub data Heard : Type 0 where
+  -- it has no effect
+  nothing : Heard
+  -- a packet, but no ERROR, from another source than the peer
+  stray : Heard
+  -- an ERROR of the peer
+  ended : Heard
+  -- ACK n of the peer
+  acked : (n : ℕ) → Heard
+  -- DATA n of the peer with this body
+  block : (n : ℕ) (body : List ℕ) → Heard
+
+abbrev pub heard_from_peer : Packet → Heard
+heard_from_peer (read name mode) = nothing
+heard_from_peer (write name mode) = nothing
+heard_from_peer (data_block n body) = block n body
+heard_from_peer (ack n) = acked n
+heard_from_peer (error code text) = ended
+
+-- An ERROR is never answered with an ERROR.
+abbrev pub heard_from_other : Packet → Heard
+heard_from_other (read name mode) = stray
+heard_from_other (write name mode) = stray
+heard_from_other (data_block n body) = stray
+heard_from_other (ack n) = stray
+heard_from_other (error code text) = nothing
+
+-- whether it comes from the peer
+abbrev pub heard_packet : (same : Bool) → Packet → Heard
+heard_packet true packet = heard_from_peer packet
+heard_packet false packet = heard_from_other packet
+
+abbrev pub is_same : Endpoint → Endpoint → Bool
+is_same a b = (a.host == b.host) && (a.port == b.port)
+
+abbrev pub heard_decoded : (peer from : Endpoint) → Result Packet PacketFault → Heard
+heard_decoded peer from (Ok packet) = heard_packet (is_same from peer) packet
+heard_decoded peer from (Err e) = nothing
+
+abbrev pub heard : (peer from : Endpoint) → (bytes : List ℕ) → Heard
+heard peer from bytes = heard_decoded peer from (decode_bytes bytes)
+
+-- ---- a datagram: the step
+
+-- What a step is granted. Where it asks for nothing, this has no effect.
+pub data Grant : Type 0 where
+  -- all memory, and a collection that has to be kept is kept
+  all : Grant
+  -- memory is refused
+  no_memory : Grant
+  -- the collection is not kept
+  unkept : Grant
+
+abbrev pub memory_of : Grant → Verdict
+memory_of all = granted
+memory_of no_memory = refused
+memory_of unkept = granted
+
+abbrev pub refusal_of : RecvFault → Refusal
+refusal_of fault.Memory = OutOfMemory
+refusal_of fault.TooLong = FileTooLong
+
+-- the file is taken: the collections are the ones that it makes, and the end waits
+abbrev pub takes : (maps : Maps) → (port : ℕ) → (peer : Endpoint) → (file : List ℕ) → Receiver → Option (List ℕ) → Server → Answer
+takes maps port peer file r out s =
+    record {
+      server = record { request = s.request; maps = maps; live = set_value (at_port port) s.live (record { peer = peer; end = receiving r }) };
+      told = record { out = sends_from port peer out; opened = false; taken = Some (record { peer = peer; file = file }); closed = false };
+    }
+
+-- the whole file has come
+abbrev pub file_come : Grant → (maps : Maps) → (port : ℕ) → (peer : Endpoint) → (file : List ℕ) → Receiver → Option (List ℕ) → Server → Answer
+file_come all maps port peer file r out s = takes maps port peer file r out s
+file_come no_memory maps port peer file r out s = closes port peer (Some (refusal_dgram OutOfMemory)) s
+file_come unkept maps port peer file r out s = closes port peer (Some (refusal_dgram NotKept)) s
+
+-- whether the whole file has come with this block
+abbrev pub file_asked : Option (List ℕ) → Grant → (maps : Maps) → (port : ℕ) → (peer : Endpoint) → Receiver → Option (List ℕ) → Server → Answer
+file_asked (Some file) grant maps port peer r out s = file_come grant maps port peer file r out s
+file_asked None grant maps port peer r out s = goes_on port peer (receiving r) out s
+
+abbrev pub block_taken : TakeAnswer → Grant → (maps : Maps) → (port : ℕ) → (peer : Endpoint) → Option (List ℕ) → Server → Answer
+block_taken a grant maps port peer out s = file_asked a.file grant maps port peer a.receiver out s
+
+-- a block that is not taken closes the transfer, and the peer is told why
+abbrev pub block_answered : Result (Option (List ℕ)) RecvFault → Grant → (maps : Maps) → (port : ℕ) → (peer : Endpoint) → Receiver → Server → Answer
+block_answered (Ok out) grant maps port peer r s = block_taken (receiver_take r) grant maps port peer out s
+block_answered (Err e) grant maps port peer r s = closes port peer (Some (refusal_dgram (refusal_of e))) s
+
+abbrev pub block_heard : DataAnswer → Grant → (maps : Maps) → (port : ℕ) → (peer : Endpoint) → Server → Answer
+block_heard a grant maps port peer s = block_answered (answer_of a.result) grant maps port peer a.receiver s
+
+abbrev pub data_at : End → Grant → (maps : Maps) → (port : ℕ) → (peer : Endpoint) → (n : ℕ) (body : List ℕ) → Server → Answer
+data_at (sending r) grant maps port peer n body s = stays s
+data_at (receiving r) grant maps port peer n body s =
+    block_heard (receiver_data (memory_of grant) n body r) grant maps port peer s
+
+-- a sender that is over closes its transfer
+abbrev pub sender_goes_on : SendState → (port : ℕ) → (peer : Endpoint) → SendAnswer → Server → Answer
+sender_goes_on send.Running port peer a s = goes_on port peer (sending a.sender) (dgram_of a.out) s
+sender_goes_on send.Finished port peer a s = closes port peer (dgram_of a.out) s
+sender_goes_on send.TimedOut port peer a s = closes port peer (dgram_of a.out) s
+
+abbrev pub sender_answered : (port : ℕ) → (peer : Endpoint) → SendAnswer → Server → Answer
+sender_answered port peer a s = sender_goes_on a.sender.state port peer a s
+
+abbrev pub ack_at : End → (port : ℕ) → (peer : Endpoint) → (n : ℕ) → Server → Answer
+ack_at (sending e) port peer n s = sender_answered port peer (sender_ack n e) s
+ack_at (receiving r) port peer n s = stays s
+
+-- the same at a port, if it is live
+abbrev pub ack_live : Option Transfer → (port : ℕ) → (n : ℕ) → Server → Answer
+ack_live (Some t) port n s = ack_at t.end port t.peer n s
+ack_live None port n s = stays s
+
+abbrev pub data_live : Option Transfer → Grant → (maps : Maps) → (port : ℕ) → (n : ℕ) (body : List ℕ) → Server → Answer
+data_live (Some t) grant maps port n body s = data_at t.end grant maps port t.peer n body s
+data_live None grant maps port n body s = stays s
+
+abbrev pub transfer_heard : Heard → Grant → (maps : Maps) → (port : ℕ) → (from : Endpoint) → Transfer → Server → Answer
+transfer_heard nothing grant maps port from t s = stays s
+transfer_heard stray grant maps port from t s = replies (out_from port from (refusal_packet UnknownTransfer)) s
+transfer_heard ended grant maps port from t s = closes port t.peer None s
+transfer_heard (acked n) grant maps port from t s = ack_at t.end port t.peer n s
+transfer_heard (block n body) grant maps port from t s = data_at t.end grant maps port t.peer n body s
+
+-- a port that is not live gives nothing
+abbrev pub datagram_at : Option Transfer → Grant → (maps : Maps) → (port : ℕ) → (from : Endpoint) → (bytes : List ℕ) → Server → Answer
+datagram_at (Some t) grant maps port from bytes s = transfer_heard (heard t.peer from bytes) grant maps port from t s
+datagram_at None grant maps port from bytes s = stays s
+
+-- A datagram comes to a port. Where a file is taken the collections become these; nothing else changes them.
+abbrev pub server_datagram : Grant → (maps : Maps) → (port : ℕ) → (from : Endpoint) → (bytes : List ℕ) → Server → Answer
+server_datagram grant maps port from bytes s = datagram_at (transfer_at port s) grant maps port from bytes s
+
+-- ---- a time-out
+
+-- a receiver that is over closes its transfer
+abbrev pub receiver_goes_on : RecvState → (port : ℕ) → (peer : Endpoint) → RecvAnswer → Server → Answer
+receiver_goes_on recv.Running port peer a s = goes_on port peer (receiving a.receiver) (dgram_of a.out) s
+receiver_goes_on recv.Complete port peer a s = goes_on port peer (receiving a.receiver) (dgram_of a.out) s
+receiver_goes_on recv.TimedOut port peer a s = closes port peer (dgram_of a.out) s
+receiver_goes_on recv.Over port peer a s = closes port peer (dgram_of a.out) s
+
+abbrev pub receiver_answered : (port : ℕ) → (peer : Endpoint) → RecvAnswer → Server → Answer
+receiver_answered port peer a s = receiver_goes_on a.receiver.state port peer a s
+
+abbrev pub waits_at : End → (port : ℕ) → (peer : Endpoint) → Server → Answer
+waits_at (sending e) port peer s = sender_answered port peer (sender_timeout e) s
+waits_at (receiving r) port peer s = receiver_answered port peer (receiver_timeout r) s
+
+abbrev pub timeout_at : Option Transfer → (port : ℕ) → Server → Answer
+timeout_at (Some t) port s = waits_at t.end port t.peer s
+timeout_at None port s = stays s
+
+-- nothing has come to a port for a while
+abbrev pub server_timeout : (port : ℕ) → Server → Answer
+server_timeout port s = timeout_at (transfer_at port s) port s
+
+-- ---- what was granted, by the datagram that is answered
+
+abbrev pub grant_by : (no_room unsaved : Bool) → Grant
+grant_by true unsaved = no_memory
+grant_by false true = unkept
+grant_by false false = all
+
+abbrev pub dgram_grant : List ℕ → Grant
+dgram_grant dgram = grant_by (bytes_eq dgram (refusal_dgram OutOfMemory)) (bytes_eq dgram (refusal_dgram NotKept))
+
+abbrev pub reply_grant : Option (List ℕ) → Grant
+reply_grant None = all
+reply_grant (Some dgram) = dgram_grant dgram
+
+abbrev pub grant_of : Option Out → Grant
+grant_of None = all
+grant_of (Some out) = dgram_grant out.dgram
+
+-- the whole file has come, and its receiver is at the port as it waits
+abbrev pub file_done : Grant → (maps : Maps) → (port : ℕ) → (peer : Endpoint) → (file : List ℕ) → Option (List ℕ) → Server → Answer
+file_done all maps port peer file out s =
+    record {
+      server = record { request = s.request; maps = maps; live = s.live };
+      told = record { out = sends_from port peer out; opened = false; taken = Some (record { peer = peer; file = file }); closed = false };
+    }
+file_done no_memory maps port peer file out s = closes port peer (Some (refusal_dgram OutOfMemory)) s
+file_done unkept maps port peer file out s = closes port peer (Some (refusal_dgram NotKept)) s
+
+-- ---- what a file makes of the collections
+
+-- the best of what was there and of this file's solutions
+pub record IsJoined (file : File) (old new : Collected) : Type 0 where
+  pub kind : new.ruleset ≡ old.ruleset
+  pub best : IsBestOf (Contains (old.entries ++ solutions_of old.ruleset (file ∷ []))) new.entries
+
+-- a file's solutions are those of its own ruleset
+abbrev pub JoinsOwn : Ruleset → File → Maps → Maps → Type 0
+JoinsOwn Lynx file old new = IsJoined file old.lynx new.lynx × (new.ms ≡ old.ms)
+JoinsOwn Ms file old new = IsJoined file old.ms new.ms × (new.lynx ≡ old.lynx)
+
+-- A readable file joins the collection of its ruleset. Bytes that are no file's text change neither.
+pub record IsMerged (bytes : List ℕ) (old new : Maps) : Type 0 where
+  pub readable : (file : File) → IsText bytes file → JoinsOwn file.ruleset file old new
+  pub unreadable : ((file : File) → IsText bytes file → ⊥) → new ≡ old
+
+-- the file that a call tells has made these collections
+abbrev pub Merges : Option Taken → Maps → Maps → Type 0
+Merges None old new = new ≡ old
+Merges (Some t) old new = IsMerged t.file old new
+
+-- ---- what always holds
+
+pub record IsServer (s : Server) : Type 0 where
+  pub lynx : s.maps.lynx.ruleset ≡ Lynx
+  pub ms : s.maps.ms.ruleset ≡ Ms
+  pub few : length s.live ≤ LIVE

@@ -1,0 +1,49 @@
+ghost use Rattle.std.specs.Prelude.{◌≡◌, ℕ, List, [], Option, Err, IfOk};
+ghost use Rattle.tws_best.specs.Best.{collection_text};
+ghost use Rattle.archive_table.specs.Keeper.{Keeping, Grows, Loads, FailsAt, kept_by, texts_of};
+
+use crate::keep_fault::KeepFault;
+use std::alloc::Allocator;
+use tws_best::Collection;
+use tws_file::Ruleset;
+
+/// Where the collections are kept, so that a server finds them again after a restart.
+pub trait Keeper {
+    /// What was given to be kept, in order, if this keeper tells it. Once it stops telling, it never tells again.
+    ghost log: { Self → Option (List Keeping) };
+
+    /// How many calls of the device failed so far, up to the greatest u64.
+    ghost failed: { Self → ℕ };
+
+    /// Keeps a collection of these rules in place of the last one.
+    ///
+    /// # Errors
+    ///
+    /// `Device` only where `failures` rose in this call or is the greatest u64; `Memory` where a growth was refused. What
+    /// can be loaded is then what it was.
+    fn keep<A: Allocator>(
+        &mut self,
+        kind: Ruleset,
+        collection: &Collection<A>,
+    ) -> Result<(), KeepFault>
+        ensures log { Grows (log self.old) (log self.new) (kept_by result kind (collection_text collection.now)) }
+        ensures failed { result ≡ Err KeepFault.Device → FailsAt (failed self.old) (failed self.new) };
+
+    /// The text that was kept last for these rules; none if none was.
+    ///
+    /// # Errors
+    ///
+    /// As for `keep`.
+    fn load<A: Allocator>(
+        &mut self,
+        alloc: A,
+        kind: Ruleset,
+    ) -> Result<Option<Vec<u8, A>>, KeepFault>
+        ensures log { Grows (log self.old) (log self.new) [] }
+        ensures text { IfOk result (λ text. Loads kind (log self.old) (texts_of text)) }
+        ensures failed { result ≡ Err KeepFault.Device → FailsAt (failed self.old) (failed self.new) };
+
+    /// How many calls of the device failed so far, up to the greatest u64.
+    fn failures(&self) -> u64
+        ensures { result ≡ failed self.now };
+}

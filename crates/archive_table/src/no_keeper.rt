@@ -1,0 +1,37 @@
+ghost use Rattle.std.specs.Prelude.{◌≡◌, None};
+
+use crate::keep_fault::KeepFault;
+use crate::keeper::Keeper;
+use std::alloc::Allocator;
+use tws_best::Collection;
+use tws_file::Ruleset;
+
+/// A keeper that keeps nothing, loads nothing and tells nothing, for a server without a folder.
+#[derive(Clone, Copy, Debug)]
+pub struct NoKeeper;
+
+impl Keeper for NoKeeper {
+    ghost log = { λ _. None };
+
+    ghost failed = { λ _. 0 };
+
+    fn keep<A: Allocator>(
+        &mut self,
+        _kind: Ruleset,
+        _collection: &Collection<A>,
+    ) -> Result<(), KeepFault> {
+        Ok(())
+    }
+
+    fn load<A: Allocator>(
+        &mut self,
+        _alloc: A,
+        _kind: Ruleset,
+    ) -> Result<Option<Vec<u8, A>>, KeepFault> {
+        Ok(None)
+    }
+
+    fn failures(&self) -> u64 {
+        0
+    }
+}

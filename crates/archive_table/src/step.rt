@@ -1,0 +1,45 @@
+ghost use Rattle.std.specs.Prelude.{◌≡◌, Some};
+ghost use Rattle.archive_table.specs.Server.{nothing_told};
+
+use crate::taken::Taken;
+use std::alloc::{Allocator, Global};
+use std::marker::Model;
+use tftp_packet::{Endpoint, Out, Refusal};
+
+/// What a call of the table tells.
+#[derive(Drop)]
+#[derive_where(Debug)]
+pub struct Step<A: Allocator = Global> {
+    /// The datagram that is to be sent.
+    pub out: Option<Out>,
+    /// Whether a transfer was opened on the spare port.
+    pub opened: bool,
+    /// A file that was received whole, if this step took one.
+    pub taken: Option<Taken<A>>,
+    /// Whether the transfer at this port ended; the port is then no longer live.
+    pub closed: bool,
+}
+
+impl<A: Allocator> Model for Step<A> {
+    ghost use Rattle.archive_table.specs.Server.{Told};
+
+    ghost Value = { Told };
+
+    ghost use Rattle.archive_table.specs.Kept.{told_of};
+
+    ghost view = { told_of };
+}
+
+impl<A: Allocator> Step<A> {
+    // Nothing was done.
+    pub(crate) fn nothing() -> Self
+        ensures { result ≡ nothing_told }
+    {
+        Step {
+            out: None,
+            opened: false,
+            taken: None,
+            closed: false,
+        }
+    }
+}

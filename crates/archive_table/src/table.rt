@@ -1,0 +1,433 @@
+//! The table of a server.
+
+ghost use Rattle.std.specs.Prelude.{◌≡◌, ◌≢◌, ◌≤◌, [], None, Some, true, false, length, is_some};
+ghost use Rattle.std.specs.Str.{bytes_eq};
+ghost use Rattle.tws_file.specs.Names.{file_name_of};
+ghost use Rattle.archive_table.specs.Server.{nothing_told, refuses, opens_if, request_verdict, server_request, server_timeout, transfer_at, has_place, read_asked, read_placed, write_asked, kind_named, is_octet as octet_mode, map_of, port_above, IsServer, closes, ack_live, data_live, file_done, server_datagram, grant_of, reply_grant, all, Merges, refusal_of as refusal_told, sends_from};
+ghost use Rattle.archive_table.specs.Kept.{end_of};
+
+use crate::end::End;
+use crate::heard::{Heard, hear};
+use crate::keeper::Keeper;
+use crate::keeping::merge_file;
+use crate::limits::LIVE;
+use crate::step::Step;
+use crate::taken::Taken;
+use crate::transfer::Transfer;
+use std::alloc::{Allocator, Global};
+use std::collections::BTreeMap;
+use std::marker::Model;
+use std::ops::Bound;
+use tftp_ends::{MAX_FILE, Received, Receiver, RecvFault, RecvState, SendState, Sender};
+use tftp_packet::{Dgram, Endpoint, Out, Packet, Refusal, decode, encode_ack, is_octet};
+use tws_best::{Collection, Snapshot};
+use tws_file::Ruleset;
+
+/// The state of a server: the collection of each ruleset, and the transfers.
+#[derive(Drop)]
+pub struct Table<A: Allocator + Copy = Global> {
+    alloc: A,
+    request: u16,
+    lynx: Collection<A>,
+    ms: Collection<A>,
+    live: BTreeMap<u16, Transfer<A>, A>,
+}
+
+impl<A: Allocator + Copy> Model for Table<A> {
+    ghost use Rattle.archive_table.specs.Server.{Server, IsServer};
+
+    ghost Value = { Server };
+
+    ghost use Rattle.archive_table.specs.Kept.{server_of};
+
+    ghost view = { server_of };
+
+    ghost invariant = { λ t. IsServer (server_of t) };
+}
+
+// What a call tells that sends a datagram, or none, and does no more.
+fn told<A: Allocator>(port: u16, to: Endpoint, dgram: Option<Dgram>) -> Step<A>
+    ensures { result ≡ record { out = sends_from port to dgram; opened = false; taken = None; closed = false } }
+{
+    let out = match dgram {
+        Some(dgram) => Some(Out {
+            from_port: port,
+            to,
+            dgram,
+        }),
+        None => None,
+    };
+    Step {
+        out,
+        opened: false,
+        taken: None,
+        closed: false,
+    }
+}
+
+// The error that is sent where a block was not taken.
+fn refusal_of(fault: RecvFault) -> Refusal
+    ensures { result ≡ refusal_told fault }
+{
+    match fault {
+        RecvFault::Memory => Refusal::OutOfMemory,
+        RecvFault::TooLong => Refusal::FileTooLong,
+    }
+}
+
+// Whether a request's mode is octet.
+fn octet(mode: &[u8]) -> bool
+    ensures { result ≡ octet_mode mode.now }
+{
+    is_octet(mode)
+}
+
+// Whether this is the name of the collection of these rules.
+fn is_name(name: &[u8], kind: Ruleset) -> bool
+    ensures { result ≡ bytes_eq name.now (file_name_of kind) }
+{
+    name == kind.file_name()
+}
+
+// The rules whose collection has this name.
+fn named(name: &[u8]) -> Option<Ruleset>
+    ensures { result ≡ kind_named name.now }
+{
+    if is_name(name, Ruleset::Lynx) {
+        Some(Ruleset::Lynx)
+    } else if is_name(name, Ruleset::Ms) {
+        Some(Ruleset::Ms)
+    } else {
+        None
+    }
+}
+
+impl<A: Allocator + Copy> Table<A> {
+    /// A server with this request port, empty collections and no transfer. It takes no memory by this.
+    pub fn new(alloc: A, request: u16) -> Self
+        ensures request { result.request ≡ request }
+        ensures lynx { result.maps.lynx ≡ record { «ruleset» = Ruleset.Lynx; entries = [] } }
+        ensures ms { result.maps.ms ≡ record { «ruleset» = Ruleset.Ms; entries = [] } }
+        ensures live { result.live ≡ [] }
+        ensures fits { IsServer result }
+    {
+        Table {
+            alloc,
+            request,
+            lynx: Collection::new(alloc, Ruleset::Lynx),
+            ms: Collection::new(alloc, Ruleset::Ms),
+            live: BTreeMap::new(alloc),
+        }
+    }
+
+    // A request is refused from the request port.
+    fn refuse(&self, from: Endpoint, why: Refusal) -> Step<A>
+        ensures told { result ≡ (refuses why from self.now).told }
+        ensures fits { IsServer self.now }
+    {
+        told(self.request, from, Some(why.dgram()))
+    }
+
+    // Opens a transfer at the spare port, which sends its first datagram from there, if there is memory for it.
+    fn open(
+        &mut self,
+        spare: u16,
+        from: Endpoint,
+        end: End<Sender<Snapshot<A>>, Receiver<A>>,
+        first: Dgram,
+    ) -> Step<A>
+        requires place { has_place self.old ≡ true }
+        requires free { transfer_at spare self.old ≡ None }
+        ensures server { self.new ≡ (opens_if (request_verdict result.opened) spare from (end_of end) first self.old).server }
+        ensures told { result ≡ (opens_if (request_verdict result.opened) spare from (end_of end) first self.old).told }
+        ensures fits { IsServer self.new }
+    {
+        match self.live.insert(spare, Transfer { peer: from, end }) {
+            Ok(_) => Step {
+                out: Some(Out {
+                    from_port: spare,
+                    to: from,
+                    dgram: first,
+                }),
+                opened: true,
+                taken: None,
+                closed: false,
+            },
+            Err(_) => self.refuse(from, Refusal::OutOfMemory),
+        }
+    }
+
+    // A request to write.
+    fn on_write(&mut self, spare: u16, from: Endpoint, mode: &[u8]) -> Step<A>
+        requires free { transfer_at spare self.old ≡ None }
+        ensures server { self.new ≡ (write_asked (octet_mode mode.now) (request_verdict result.opened) spare from self.old).server }
+        ensures told { result ≡ (write_asked (octet_mode mode.now) (request_verdict result.opened) spare from self.old).told }
+        ensures fits { IsServer self.new }
+    {
+        if !octet(mode) {
+            return self.refuse(from, Refusal::OctetOnly);
+        }
+        if !self.has_place() {
+            return self.refuse(from, Refusal::ServerBusy);
+        }
+        let receiver = Receiver::new(self.alloc);
+        self.open(spare, from, End::Receiving(receiver), encode_ack(0))
+    }
+
+    // A request to read.
+    fn on_read(&mut self, spare: u16, from: Endpoint, name: &[u8], mode: &[u8]) -> Step<A>
+        requires free { transfer_at spare self.old ≡ None }
+        ensures server { self.new ≡ (read_asked (octet_mode mode.now) (request_verdict result.opened) spare from name.now self.old).server }
+        ensures told { result ≡ (read_asked (octet_mode mode.now) (request_verdict result.opened) spare from name.now self.old).told }
+        ensures fits { IsServer self.new }
+    {
+        if !octet(mode) {
+            return self.refuse(from, Refusal::OctetOnly);
+        }
+        match named(name) {
+            Some(kind) => self.on_named(spare, from, kind),
+            None => self.refuse(from, Refusal::NoSuchFile),
+        }
+    }
+
+    // A request to read the collection of a ruleset.
+    fn on_named(&mut self, spare: u16, from: Endpoint, kind: Ruleset) -> Step<A>
+        requires free { transfer_at spare self.old ≡ None }
+        ensures server { self.new ≡ (read_placed (has_place self.old) (request_verdict result.opened) spare from (map_of kind self.old.maps) self.old).server }
+        ensures told { result ≡ (read_placed (has_place self.old) (request_verdict result.opened) spare from (map_of kind self.old.maps) self.old).told }
+        ensures fits { IsServer self.new }
+    {
+        if !self.has_place() {
+            return self.refuse(from, Refusal::ServerBusy);
+        }
+        let collection = self.collection(kind);
+        if collection.text_len() > u128::from(MAX_FILE) {
+            return self.refuse(from, Refusal::CollectionTooLong);
+        }
+        let Ok(snapshot) = collection.snapshot() else {
+            return self.refuse(from, Refusal::OutOfMemory);
+        };
+        let (sender, first) = Sender::start(snapshot);
+        self.open(spare, from, End::Sending(sender), first)
+    }
+
+    /// A datagram of these bytes has come from `from` to the request port. `spare` is the port for a transfer that is
+    /// opened. What is told is to be sent.
+    ///
+    /// A request to write in mode octet opens a receiver that answers ACK 0 from the spare port. A request to read
+    /// `lynx.tws` or `ms.tws` opens a sender of that collection's text as it is now, which begins with DATA 1. A request
+    /// that is refused changes nothing and is answered with an ERROR from the request port. The causes, in this order:
+    /// another mode, no such file, `LIVE` transfers are live, the text has more than `MAX_FILE` bytes, out of memory.
+    /// Any other datagram has no effect.
+    pub fn on_request(&mut self, spare: u16, from: Endpoint, bytes: &[u8]) -> Step<A>
+        requires other { spare ≢ self.old.request }
+        requires free { transfer_at spare self.old ≡ None }
+        ensures server { self.new ≡ (server_request (request_verdict result.opened) spare from bytes.now self.old).server }
+        ensures told { result ≡ (server_request (request_verdict result.opened) spare from bytes.now self.old).told }
+        ensures fits { IsServer self.new }
+    {
+        match decode(bytes) {
+            Ok(Packet::Read { name, mode }) => self.on_read(spare, from, name, mode),
+            Ok(Packet::Write { mode, .. }) => self.on_write(spare, from, mode),
+            Ok(_) | Err(_) => self.nothing(),
+        }
+    }
+
+    // Nothing is done.
+    fn nothing(&self) -> Step<A>
+        ensures told { result ≡ nothing_told }
+        ensures fits { IsServer self.now }
+    {
+        let _request = self.request;
+        Step::nothing()
+    }
+
+    // Whether one more transfer can be opened.
+    fn has_place(&self) -> bool
+        ensures { result ≡ has_place self.now }
+    {
+        self.live.len() < LIVE
+    }
+
+    // The transfer at a port ends.
+    fn close(&mut self, port: u16, peer: Endpoint, dgram: Option<Dgram>) -> Step<A>
+        ensures server { self.new ≡ (closes port peer dgram self.old).server }
+        ensures told { result ≡ (closes port peer dgram self.old).told }
+        ensures fits { IsServer self.new }
+    {
+        self.live.remove(&port);
+        let mut step = told(port, peer, dgram);
+        step.closed = true;
+        step
+    }
+
+    // ACK `n` of the peer has come to a port.
+    #[tactic(auto, using(crate::proofs::Live::remove_set, crate::proofs::Live::set_same))]
+    fn on_ack(&mut self, port: u16, n: u16) -> Step<A>
+        ensures server { self.new ≡ (ack_live (transfer_at port self.old) port n self.old).server }
+        ensures told { result ≡ (ack_live (transfer_at port self.old) port n self.old).told }
+        ensures fits { IsServer self.new }
+    {
+        let Some(transfer) = self.live.get_mut(&port) else {
+            return Step::nothing();
+        };
+        let peer = transfer.peer;
+        let End::Sending(sender) = &mut transfer.end else {
+            return Step::nothing();
+        };
+        let out = sender.on_ack(n);
+        match sender.state() {
+            SendState::Running => told(port, peer, out),
+            SendState::Finished | SendState::TimedOut => self.close(port, peer, out),
+        }
+    }
+
+    // A whole file has come: it joins the collection of its rules and is taken, or the transfer is closed.
+    fn on_file<K: Keeper>(
+        &mut self,
+        keeper: &mut K,
+        port: u16,
+        peer: Endpoint,
+        file: Received<A>,
+        ack: Option<Dgram>,
+    ) -> Step<A>
+        requires acks { reply_grant ack ≡ all }
+        ensures server { self.new ≡ (file_done (grant_of result.out) self.new.maps port peer file ack self.old).server }
+        ensures told { result ≡ (file_done (grant_of result.out) self.new.maps port peer file ack self.old).told }
+        ensures merges { Merges result.taken self.old.maps self.new.maps }
+        ensures fits { IsServer self.new }
+    {
+        match merge_file(self.alloc, &mut self.lynx, &mut self.ms, keeper, &file) {
+            Ok(()) => {
+                let mut step = told(port, peer, ack);
+                step.taken = Some(Taken { peer, file });
+                step
+            }
+            Err(why) => self.close(port, peer, Some(why.dgram())),
+        }
+    }
+
+    // DATA `n` of the peer has come to a port.
+    #[tactic(auto, using(crate::proofs::Live::remove_set, crate::proofs::Live::set_same, crate::proofs::Replies::data_reply, crate::proofs::Replies::past_grant, crate::proofs::Replies::memory_grant, crate::proofs::Replies::sent_grant, crate::proofs::Live::done_come))]
+    fn on_data<K: Keeper>(&mut self, keeper: &mut K, port: u16, n: u16, body: &[u8]) -> Step<A>
+        requires short { length body.now ≤ 512 }
+        ensures server { self.new ≡ (data_live (transfer_at port self.old) (grant_of result.out) self.new.maps port n body.now self.old).server }
+        ensures told { result ≡ (data_live (transfer_at port self.old) (grant_of result.out) self.new.maps port n body.now self.old).told }
+        ensures merges { Merges result.taken self.old.maps self.new.maps }
+        ensures fits { IsServer self.new }
+    {
+        let Some(transfer) = self.live.get_mut(&port) else {
+            return Step::nothing();
+        };
+        let peer = transfer.peer;
+        let End::Receiving(receiver) = &mut transfer.end else {
+            return Step::nothing();
+        };
+        match receiver.on_data(n, body) {
+            Err(fault) => self.close(port, peer, Some(refusal_of(fault).dgram())),
+            Ok(ack) => match receiver.take_file() {
+                None => told(port, peer, ack),
+                Some(file) => self.on_file(keeper, port, peer, file, ack),
+            },
+        }
+    }
+
+    /// A datagram of these bytes has come from `from` to a transfer's port. What is told is to be sent.
+    ///
+    /// From another source than the peer an ERROR has no effect, and any other packet is answered with ERROR 5, RFC 1350
+    /// section 4, and changes nothing. An ERROR of the peer closes the transfer. An ACK goes to a sender, a DATA to a
+    /// receiver. The DATA that completes a file joins its solutions with the collection of its ruleset, which is kept
+    /// where that changed it, before it is acknowledged; then the file is taken. Bytes that are no solution file are taken
+    /// and change nothing. A block that is one too many, memory that is refused and a collection that is not kept close
+    /// the transfer with an ERROR, and no collection changes. A port that is not live gives an empty step.
+    pub fn on_datagram<K: Keeper>(
+        &mut self,
+        keeper: &mut K,
+        port: u16,
+        from: Endpoint,
+        bytes: &[u8],
+    ) -> Step<A>
+        ensures server { self.new ≡ (server_datagram (grant_of result.out) self.new.maps port from bytes.now self.old).server }
+        ensures told { result ≡ (server_datagram (grant_of result.out) self.new.maps port from bytes.now self.old).told }
+        ensures merges { Merges result.taken self.old.maps self.new.maps }
+        ensures fits { IsServer self.new }
+    {
+        let Some(transfer) = self.live.get(&port) else {
+            return self.nothing();
+        };
+        let peer = transfer.peer;
+        match hear(peer, from, bytes) {
+            Heard::Nothing => self.nothing(),
+            Heard::Stray => told(port, from, Some(Refusal::UnknownTransfer.dgram())),
+            Heard::Ended => self.close(port, peer, None),
+            Heard::Ack(n) => self.on_ack(port, n),
+            Heard::Data { n, body } => self.on_data(keeper, port, n, body),
+        }
+    }
+
+    /// Nothing has come to a port for a while. What its transfer sent last is sent again; the transfer is closed where
+    /// its end gives up or has waited long enough for a repeated last block. A port that is not live gives an empty step.
+    #[tactic(auto, using(crate::proofs::Live::remove_set, crate::proofs::Live::set_same))]
+    pub fn on_timeout(&mut self, port: u16) -> Step<A>
+        ensures server { self.new ≡ (server_timeout port self.old).server }
+        ensures told { result ≡ (server_timeout port self.old).told }
+        ensures fits { IsServer self.new }
+    {
+        let Some(transfer) = self.live.get_mut(&port) else {
+            return Step::nothing();
+        };
+        let peer = transfer.peer;
+        match &mut transfer.end {
+            End::Sending(sender) => {
+                let out = sender.on_timeout();
+                match sender.state() {
+                    SendState::Running => told(port, peer, out),
+                    SendState::Finished | SendState::TimedOut => self.close(port, peer, out),
+                }
+            }
+            End::Receiving(receiver) => {
+                let out = receiver.on_timeout();
+                match receiver.state() {
+                    RecvState::Running | RecvState::Complete => told(port, peer, out),
+                    RecvState::TimedOut | RecvState::Over => self.close(port, peer, out),
+                }
+            }
+        }
+    }
+
+    /// The collection of a ruleset.
+    pub fn collection(&self, kind: Ruleset) -> &Collection<A>
+        ensures { result.now ≡ map_of kind self.now.maps }
+    {
+        match kind {
+            Ruleset::Lynx => &self.lynx,
+            Ruleset::Ms => &self.ms,
+        }
+    }
+
+    /// How many transfers there are, at most `LIVE`.
+    pub fn live(&self) -> usize
+        ensures count { result ≡ length self.now.live }
+        ensures few { result ≤ LIVE }
+    {
+        self.live.len()
+    }
+
+    /// The least live port above this one.
+    pub fn next_port(&self, after: u16) -> Option<u16>
+        ensures { result ≡ port_above after self.now }
+    {
+        let mut above = self.live.range((Bound::Excluded(after), Bound::Unbounded));
+        match above.next() {
+            Some((port, _)) => Some(*port),
+            None => None,
+        }
+    }
+
+    /// Whether a transfer is at this port.
+    pub fn is_live(&self, port: u16) -> bool
+        ensures { result ≡ is_some (transfer_at port self.now) }
+    {
+        self.live.contains_key(&port)
+    }
+}

@@ -1,0 +1,25 @@
+//! One transfer at the server.
+
+use crate::end::End;
+use std::alloc::Allocator;
+use std::marker::Model;
+use tftp_ends::{Receiver, Sender};
+use tftp_packet::Endpoint;
+use tws_best::Snapshot;
+
+/// A transfer: whom it is with, and its end.
+#[derive(Drop)]
+pub(crate) struct Transfer<A: Allocator + Copy> {
+    pub(crate) peer: Endpoint,
+    pub(crate) end: End<Sender<Snapshot<A>>, Receiver<A>>,
+}
+
+impl<A: Allocator + Copy> Model for Transfer<A> {
+    ghost use Rattle.archive_table.specs.Server.{Transfer as Transferring};
+
+    ghost Value = { Transferring };
+
+    ghost use Rattle.archive_table.specs.Kept.{transfer_of};
+
+    ghost view = { transfer_of };
+}
