@@ -23,7 +23,9 @@ fn file(alloc: Global) -> Result<Vec<u8>, AllocError> {
 // Gives a DATA to the receiver, and its ACK to the sender.
 fn turn(sender: &mut Sender<Owned>, receiver: &mut Receiver, dgram: &Dgram) -> Option<Dgram> {
     let out = match decode(dgram.bytes()) {
-        Ok(Packet::Data { block, body }) if body.len() <= BLOCK_SIZE => receiver.on_data(block, body),
+        Ok(Packet::Data { block, body }) if body.len() <= BLOCK_SIZE => receiver.on_data(
+            block, body,
+        ),
         _ => return None,
     };
     let Ok(Some(ack)) = out else {

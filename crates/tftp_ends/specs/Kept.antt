@@ -4,7 +4,7 @@ use Rattle.tftp_ends.specs.declared.sender.Sender.TheInside as sending
 use Rattle.tftp_ends.specs.declared.receiver.Receiver.TheInside as receiving
 use Rattle.tftp_ends.specs.Ends.{Sender, Receiver}
 
--- the file is what the sender's blocks stand for
+-- the file is what the sender's blocks are of
 abbrev pub sender_of : {B : Type 0} → (file : B → List ℕ) → sending.Inside B → Sender
 sender_of file s = record { file = file s.blocks; current = s.current; misses = s.misses; state = s.state }
 

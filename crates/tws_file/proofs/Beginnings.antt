@@ -81,7 +81,7 @@ cut_moves-append rest more at moves = record {
   cut = moves.cut;
 }
 
--- ---- behind records
+-- ---- after records
 
 none_is_short : (rest : List ℕ) → 4 ≤ length rest → rest ≢ []
 none_is_short rest long none = omega (arith, long, ap length none)
@@ -97,7 +97,7 @@ module _ (bytes rest : List ℕ) (start offset : ℕ) (front : List Record) (fit
     no_record = no_record;
   }
 
-  -- a record that fails behind others
+  -- a record that fails after others
   pub records_fail : (e : FileFault) → RecordFails rest offset e → RecordsFail bytes start e
   records_fail (ShortHeader n) fault = fault
   records_fail BadSignature fault = fault

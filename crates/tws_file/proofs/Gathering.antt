@@ -59,6 +59,6 @@ module _ {A : Type 0} where
   pub item_fits : (rs : List (stored.Record A)) (i : ℕ) (r : stored.Record A) → AllByRecursion IsRecord (records_of rs) → i < length rs → r ≡ get_or rs i r → IsRecord (record_of r)
   item_fits rs i r fits inside r-is = subst (λ (x : stored.Record A). IsRecord (record_of x)) (sym r-is) (record_at rs i r fits inside)
 
--- a text of two parts behind nothing
+-- a text of two parts after nothing
 pub behind_nothing : (start slice head tail text : List ℕ) → start ≡ [] → slice ≡ head → head ++ tail ≡ text → start ++ (slice ++ tail) ≡ text
 behind_nothing start slice head tail text start-is slice-is text-is = rw (start-is, slice-is) text-is

@@ -8,7 +8,7 @@ pub mod Bodies
 pub mod Listings
 pub mod Gathering
 pub mod Pieces
-pub mod Fronts
+pub mod ReadSoFar
 pub mod Lasting
 pub mod Packs
 pub mod Readable

@@ -21,7 +21,7 @@ use Rattle.tws_file.proofs.Numbers.{little_bytes-little_number_2, little_bytes-l
 use Rattle.tws_file.proofs.Headers.{header_from}
 use Rattle.tws_file.proofs.Bodies.{solved_from, solved, fields_fit}
 use Rattle.tws_file.proofs.Beginnings.{bad_begins_none, cut_moves_begin_none}
-use Rattle.tws_file.proofs.Fronts.{with_more, with_more_fits, with_more_text, without_records, without_records_fits, header_split, cut_behind}
+use Rattle.tws_file.proofs.ReadSoFar.{with_more, with_more_fits, with_more_text, without_records, without_records_fits, header_split, cut_behind}
 
 -- ---- what can be decided
 
@@ -94,8 +94,8 @@ solution_in body fits long size level =
     let fields = fields_fit (key_in body) rest (drop 2 rest) (drop 6 rest) moves seed ticks level rest_fits rest_long rest_size (little_from-lt 0 4 (drop 2 rest) (IsBytes-drop 2 rest rest_fits)) (little_from-lt 0 4 (drop 6 rest) (IsBytes-drop 6 rest rest_fits)) refl in
     let s : Solution = record { key = key_in body; flags = slice_index rest 0; start = slice_index rest 1; seed = seed; ticks = ticks; moves = moves } in
     let bytes : body_of (solution s) ≡ body =
-        ap (λ (xs : List ℕ). key_bytes (key_in body) ++ xs) (solved_from rest (drop 2 rest) (drop 6 rest) moves seed ticks rest_fits rest_long refl refl refl refl refl)
-        ∙ key_then_rest body fits (omega arith) in
+    ap (λ (xs : List ℕ). key_bytes (key_in body) ++ xs) (solved_from rest (drop 2 rest) (drop 6 rest) moves seed ticks rest_fits rest_long refl refl refl refl refl)
+    ∙ key_then_rest body fits (omega arith) in
     elim (cut_or_spelled moves (IsBytes-drop 10 rest rest_fits)) [
       | inl spelled ↦ whole_body (solution s) (record { fields = fields; whole = spelled }) bytes
       | inr cut ↦ cut_body s cut.0 fields bytes cut.1
@@ -187,13 +187,13 @@ begins rest fits =
         | good_size good sizes ↦ elim (cases_lt (length rest) (4 + n)) [
           | inl cut ↦ begins_cut (inr (long, good, cut))
           | inr room ↦
-            let len : length body ≡ n = omega (arith, length-take n (drop 4 rest), length-drop 4 rest, room) in
-            let split = body_after_size rest body more fits long len (take-append-drop n (drop 4 rest)) in
-            let small : length body < 2 ^ 32 = omega (arith, len, little_from-lt 0 4 rest fits) in
-            elim (in_body body (IsBytes-take n (drop 4 rest) (IsBytes-drop 4 rest fits)) small (subst (λ (k : ℕ). (k ≡ 0) ⊎ (k ≡ 6) ⊎ (16 ≤ k)) (sym len) sizes)) [
-              | whole_body r fine bytes ↦ begins_whole r more fine (split ∙ ap (λ (xs : List ℕ). (little_bytes 4 (length xs) ++ xs) ++ more) (sym bytes))
-              | cut_body s at fields bytes cut ↦ begins_moves at (record { solved = s; more = more; fields = fields; split = split ∙ ap (λ (xs : List ℕ). (little_bytes 4 (length xs) ++ xs) ++ more) (sym bytes); cut = cut })
-            ]
+              let len : length body ≡ n = omega (arith, length-take n (drop 4 rest), length-drop 4 rest, room) in
+              let split = body_after_size rest body more fits long len (take-append-drop n (drop 4 rest)) in
+              let small : length body < 2 ^ 32 = omega (arith, len, little_from-lt 0 4 rest fits) in
+              elim (in_body body (IsBytes-take n (drop 4 rest) (IsBytes-drop 4 rest fits)) small (subst (λ (k : ℕ). (k ≡ 0) ⊎ (k ≡ 6) ⊎ (16 ≤ k)) (sym len) sizes)) [
+                | whole_body r fine bytes ↦ begins_whole r more fine (split ∙ ap (λ (xs : List ℕ). (little_bytes 4 (length xs) ++ xs) ++ more) (sym bytes))
+                | cut_body s at fields bytes cut ↦ begins_moves at (record { solved = s; more = more; fields = fields; split = split ∙ ap (λ (xs : List ℕ). (little_bytes 4 (length xs) ++ xs) ++ more) (sym bytes); cut = cut })
+              ]
         ]
       ]
     ]
@@ -230,8 +230,8 @@ walk (suc n) file (b ∷ rest) enough fits bytes =
       | begins_bad bad ↦ inr (BadSize (length (text_of file)), (b ∷ rest, stops file (b ∷ rest) fits some (bad_begins_none (b ∷ rest) bad), bad))
       | begins_moves at moves ↦ inr (MoveCut (length (text_of file) + 20 + at), record { offset = length (text_of file); rest = b ∷ rest; at = at; stop = stops file (b ∷ rest) fits some (cut_moves_begin_none (b ∷ rest) at moves); moves = moves; place_is = refl })
       | begins_whole r more fine split ↦
-        subst Answers (one_more file (b ∷ rest) more r split)
-        (walk n (with_more file (r ∷ [])) more (shorter (b ∷ rest) more r n split enough) (with_more_fits file (r ∷ []) fits (fine, tt)) (rest_fits (record_text r) more (b ∷ rest) split bytes))
+          subst Answers (one_more file (b ∷ rest) more r split)
+          (walk n (with_more file (r ∷ [])) more (shorter (b ∷ rest) more r n split enough) (with_more_fits file (r ∷ []) fits (fine, tt)) (rest_fits (record_text r) more (b ∷ rest) split bytes))
     ]
 
 -- ---- the header
@@ -244,10 +244,10 @@ after_header bytes kind fits signed code known =
     elim (cases_lt (length bytes) (8 + count)) [
       | inl cut ↦ inr (ShortHeader (length bytes), (refl, inr (record { signed = signed; known = known; cut = cut })))
       | inr room ↦
-        let header = header_from bytes kind rest (take count rest) (drop count rest) count fits signed.long signed.signed code refl refl (omega (arith, room, length-drop 8 bytes)) refl refl in
-        let file = without_records kind word (take count rest) in
-        subst Answers (sym (header_split bytes word (take count rest) (drop count rest) kind header))
-        (walk (length (drop count rest)) file (drop count rest) (omega arith) (without_records_fits bytes word (take count rest) (drop count rest) kind header) (IsBytes-drop count rest (IsBytes-drop 8 bytes fits)))
+          let header = header_from bytes kind rest (take count rest) (drop count rest) count fits signed.long signed.signed code refl refl (omega (arith, room, length-drop 8 bytes)) refl refl in
+          let file = without_records kind word (take count rest) in
+          subst Answers (sym (header_split bytes word (take count rest) (drop count rest) kind header))
+          (walk (length (drop count rest)) file (drop count rest) (omega arith) (without_records_fits bytes word (take count rest) (drop count rest) kind header) (IsBytes-drop count rest (IsBytes-drop 8 bytes fits)))
     ]
 
 pub readable_or_fault : (bytes : List ℕ) → IsBytes bytes → IsReadable bytes ⊎ ((e : FileFault) × HasFault bytes e)
@@ -257,13 +257,13 @@ readable_or_fault bytes fits =
       | inr long ↦ elim (same_list (take 4 bytes) signature) [
         | inr other ↦ inr (BadSignature, (long, other))
         | inl signed ↦
-          let is_signed : IsSigned bytes = record { long = long; signed = signed } in
-          elim (same_or_not (slice_index bytes 4) 1) [
-            | inl lynx ↦ after_header bytes Lynx fits is_signed (sym lynx) (inl lynx)
-            | inr not_lynx ↦ elim (same_or_not (slice_index bytes 4) 2) [
-              | inl ms ↦ after_header bytes Ms fits is_signed (sym ms) (inr ms)
-              | inr not_ms ↦ inr (BadRuleset (slice_index bytes 4), (is_signed, refl, (not_lynx, not_ms)))
+            let is_signed : IsSigned bytes = record { long = long; signed = signed } in
+            elim (same_or_not (slice_index bytes 4) 1) [
+              | inl lynx ↦ after_header bytes Lynx fits is_signed (sym lynx) (inl lynx)
+              | inr not_lynx ↦ elim (same_or_not (slice_index bytes 4) 2) [
+                | inl ms ↦ after_header bytes Ms fits is_signed (sym ms) (inr ms)
+                | inr not_ms ↦ inr (BadRuleset (slice_index bytes 4), (is_signed, refl, (not_lynx, not_ms)))
+              ]
             ]
-          ]
       ]
     ]

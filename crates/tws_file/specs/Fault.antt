@@ -58,7 +58,7 @@ pub record HasCutMoves (bytes : List ℕ) (at : ℕ) : Type 0 where
   pub split : bytes ≡ record_text (solution solved) ++ more
   pub cut : IsCutAt solved.moves at
 
--- The records stop before a solution whose moves are cut, at this place in the bytes: behind four bytes of size and
+-- The records stop before a solution whose moves are cut, at this place in the bytes: after four bytes of size and
 -- sixteen of fields.
 pub record StopsInMoves (bytes : List ℕ) (place : ℕ) : Type 0 where
   pub offset : ℕ
@@ -77,7 +77,7 @@ HasFault bytes (BadRuleset code) = IsSigned bytes × (code ≡ slice_index bytes
 HasFault bytes (ShortRecord offset) = (rest : List ℕ) × StopsAt bytes offset rest × IsRecordCut rest
 HasFault bytes (BadSize offset) = (rest : List ℕ) × StopsAt bytes offset rest × HasBadSize rest
 HasFault bytes (MoveCut place) = StopsInMoves bytes place
--- want of memory is no fault of the bytes
+-- running out of memory is no fault of the bytes
 HasFault bytes Memory = ⊥
 
 -- a fault that no further bytes mend

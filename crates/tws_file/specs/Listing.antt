@@ -47,7 +47,7 @@ header_line kind word extra = line (codes "ruleset " ++ ruleset_name kind ++ cod
 abbrev pub solved_words : Key → ℕ → List ℕ
 solved_words key ticks = codes "level " ++ key_text key ++ codes " ticks " ++ decimal ticks
 
--- what a solution's line says behind the time, up to the count of bytes of moves
+-- what a solution's line says after the time, up to the count of bytes of moves
 abbrev pub details_line : (flags start seed bytes : ℕ) → List ℕ
 details_line flags start seed bytes = line (codes " flags " ++ hex (flags ∷ []) ++ codes " start " ++ hex (start ∷ []) ++ codes " seed " ++ decimal seed ++ codes " bytes " ++ decimal bytes)
 
@@ -57,7 +57,7 @@ record_line (set rest) = line (codes "set " ++ decimal (length rest))
 record_line (bare key) = line (codes "level " ++ key_text key)
 record_line (solution s) = solved_words s.key s.ticks ++ details_line s.flags s.start s.seed (length s.moves)
 
--- what a move's line says behind its tick
+-- what a move's line says after its tick
 abbrev pub act_line : Act → List ℕ
 act_line (Step direction) = line (codes " step " ++ decimal direction)
 act_line (Code code) = line (codes " code " ++ decimal code)

@@ -72,7 +72,7 @@ Finishes (stopped fault) result = result ≡ Err fault
 
 -- ---- what a reader keeps
 
--- by the fault that it keeps, what it read, and the bytes behind that
+-- by the fault that it keeps, what it read, and the bytes after that
 abbrev pub reading_from : Option FileFault → Option File → List ℕ → Reading
 reading_from (Some fault) front rest = stopped fault
 reading_from None front rest = reading (text_so_far front ++ rest)

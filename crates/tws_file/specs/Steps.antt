@@ -88,14 +88,14 @@ RecordsFail bytes start (ShortHeader n) = ⊥
 RecordsFail bytes start BadSignature = ⊥
 RecordsFail bytes start (BadRuleset code) = ⊥
 
--- what of a record may be long: all behind its key, or a solution's moves
+-- what of a record may be long: all after its key, or a solution's moves
 abbrev pub tail_of : Record → List ℕ
 tail_of pad = []
 tail_of (set rest) = rest
 tail_of (bare key) = []
 tail_of (solution s) = s.moves
 
--- a solution's body behind its key
+-- a solution's body after its key
 abbrev pub solved_after_key : Solution → List ℕ
 solved_after_key s = s.flags ∷ s.start ∷ (little_bytes 4 s.seed ++ (little_bytes 4 s.ticks ++ s.moves))
 

@@ -21,7 +21,7 @@ pub enum FileFault {
     /// The file ends in a record. The offset of the record's size field.
     #[error("ShortRecord({0})")]
     ShortRecord(u64),
-    /// No record has the size that stands here. The offset of that size field.
+    /// No record has the size that is here. The offset of that size field.
     #[error("BadSize({0})")]
     BadSize(u64),
     /// A solution's moves end inside a move. The offset of that move's first byte.

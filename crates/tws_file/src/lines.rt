@@ -1,4 +1,4 @@
-//! The lines of the listing, each behind a text that is there.
+//! The lines of the listing, each added to a text.
 
 ghost use Rattle.std.specs.Prelude.{◌≡◌, ◌++◌, string_bytes, OnOk};
 ghost use Rattle.tws_moves.specs.Move.{Move as Plain};

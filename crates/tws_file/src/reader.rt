@@ -39,7 +39,7 @@ impl<A: Allocator + Copy> Model for Reader<A> {
     ghost invariant = { IsReader };
 }
 
-// The header, the whole records behind it and the bytes behind those; none where the header is cut.
+// The header, the whole records after it and the bytes after those; none where the header is cut.
 fn read_front<A: Allocator + Copy>(
     alloc: A,
     bytes: &[u8],
@@ -65,7 +65,7 @@ fn read_front<A: Allocator + Copy>(
     Ok(Some((file, rest)))
 }
 
-// Reads the whole records that follow in these bytes, which stand at the offset, and answers how many bytes they took.
+// Reads the whole records that follow in these bytes, which are at the offset, and answers how many bytes they took.
 // After an error nothing has changed.
 fn read_on<A: Allocator + Copy>(
     alloc: A,
@@ -85,7 +85,7 @@ fn read_on<A: Allocator + Copy>(
     Ok(bytes.len() - rest.len())
 }
 
-// Reads what is whole of these bytes, which stand at the offset, and answers how many they were. After an error
+// Reads what is whole of these bytes, which are at the offset, and answers how many they were. After an error
 // nothing has changed.
 fn advance<A: Allocator + Copy>(
     alloc: A,

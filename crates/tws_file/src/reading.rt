@@ -30,7 +30,7 @@ fn read_key(body: &[u8]) -> Key
     }
 }
 
-// The bytes of moves, which stand at the offset, if no move is cut.
+// The bytes of moves, which are at the offset, if no move is cut.
 fn keep_moves<A: Allocator>(alloc: A, offset: u64, bytes: &[u8]) -> Result<Bytes<A>, FileFault>
     requires short { length bytes.now < 2 ^ 32 }
     requires room { offset + length bytes.now < 2 ^ 64 }
@@ -46,7 +46,7 @@ fn keep_moves<A: Allocator>(alloc: A, offset: u64, bytes: &[u8]) -> Result<Bytes
     }
 }
 
-// A solution from what follows its key, which stands at the offset.
+// A solution from what follows its key, which is at the offset.
 fn read_solution<A: Allocator>(
     alloc: A,
     key: Key,
@@ -75,7 +75,7 @@ fn read_solution<A: Allocator>(
     })
 }
 
-// The record with this body, which stands at the offset.
+// The record with this body, which is at the offset.
 fn read_body<A: Allocator>(alloc: A, offset: u64, body: &[u8]) -> Result<Record<A>, FileFault>
     requires size { IsSize (length body.now) }
     requires fits { length body.now < 2 ^ 32 }
@@ -106,7 +106,7 @@ fn is_size(size: usize) -> bool
     matches!(size, 0 | 6 | 16..)
 }
 
-// The record that the bytes begin with, which stand at the offset, and the bytes behind it; none if they are cut.
+// The record that the bytes begin with, which are at the offset, and the bytes after it; none if they are cut.
 fn read_record<A: Allocator>(
     alloc: A,
     offset: u64,
@@ -133,7 +133,7 @@ fn read_record<A: Allocator>(
     Ok(Some((read_body(alloc, offset + 4, body)?, rest)))
 }
 
-// The records that stand from the offset on, up to one that is cut, and the bytes from there.
+// The records from the offset on, up to one that is cut, and the bytes from there.
 pub(crate) fn read_records<A: Allocator + Copy>(
     alloc: A,
     start: u64,

@@ -10,7 +10,7 @@ use crate::solution::Solution;
 use byte_output::Buffer;
 use std::alloc::{Allocator, Global};
 
-/// What stands in a solution file behind its header.
+/// A record of a solution file: what follows the header is records.
 #[derive(Drop)]
 #[derive_where(Debug)]
 pub enum Record<A: Allocator = Global> {
@@ -49,7 +49,7 @@ impl<A: Allocator> Record<A> {
         head
     }
 
-    /// What of the text may be long: all behind the key of the set, or a solution's moves.
+    /// What of the text may be long: all after the key of the set, or a solution's moves.
     pub(crate) fn tail(&self) -> &[u8]
         ensures { result.now ≡ tail_of (record_of self.now) }
     {

@@ -14,7 +14,7 @@ pub enum Ruleset {
 }
 
 impl Ruleset {
-    /// The byte that stands for the rules.
+    /// The byte of the rules.
     pub fn code(self) -> u8
         ensures { result ≡ ruleset_code self }
     {
@@ -24,7 +24,7 @@ impl Ruleset {
         }
     }
 
-    /// The rules that a byte stands for, if it stands for any.
+    /// The rules of a byte, if it is that of any.
     pub fn from_code(code: u8) -> Option<Self>
         ensures known { IfSome result (λ kind. ruleset_code kind ≡ code) }
         ensures unknown { IfNone result ((code ≢ 1) × (code ≢ 2)) }

@@ -62,7 +62,7 @@ impl<A: Allocator> Solution<A> {
         16 + self.moves.len() as u32
     }
 
-    /// The body of the record, which is all behind its size field.
+    /// The body of the record, which is all after its size field.
     ///
     /// # Errors
     ///

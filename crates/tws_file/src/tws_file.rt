@@ -16,7 +16,7 @@ pub struct TwsFile<A: Allocator = Global> {
     pub word: [u8; 2],
     /// The further header bytes, as many as byte 7 says.
     pub extra: Bytes<A>,
-    /// What stands behind the header, up to the end of the file.
+    /// What follows the header, up to the end of the file.
     pub records: Records<A>,
 }
 

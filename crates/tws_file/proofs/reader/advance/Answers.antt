@@ -1,6 +1,6 @@
 use Rattle.std.proofs.Common.{subst}
 use Rattle.tws_file.specs.Steps.{IsAt}
-use Rattle.tws_file.proofs.Fronts.{first_advance}
+use Rattle.tws_file.proofs.ReadSoFar.{first_advance}
 use Rattle.byte_output.proofs.Lists.{at_some}
 use Rattle.tws_file.proofs.reader.advance.Goals as goal
 

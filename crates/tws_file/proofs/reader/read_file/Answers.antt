@@ -1,7 +1,7 @@
 use Rattle.std.proofs.Common.{[], refl, subst, sym}
 use Rattle.std.proofs.lemmas.Result.{err_from_is_err_and}
 use Rattle.tws_file.specs.Reader.{HasTaken}
-use Rattle.tws_file.proofs.Fronts.{only_memory, push_fails, reads_as}
+use Rattle.tws_file.proofs.ReadSoFar.{only_memory, push_fails, reads_as}
 use Rattle.tws_file.proofs.reader.read_file.Goals as goal
 
 pub returns-in_err-push-clause-accepts : goal.returns-in_err-push-clause-accepts

@@ -1,5 +1,5 @@
 use Rattle.std.proofs.lemmas.Result.{err_from_is_err_and}
-use Rattle.tws_file.proofs.Fronts.{front_fails}
+use Rattle.tws_file.proofs.ReadSoFar.{front_fails}
 use Rattle.byte_output.proofs.Lists.{at_some}
 use Rattle.tws_file.proofs.reader.read_front.Goals as goal
 

@@ -3,7 +3,7 @@ use Rattle.std.proofs.lemmas.Result.{err_from_is_err_and}
 use Rattle.tws_file.specs.Text.{File, text_of}
 use Rattle.tws_file.specs.Record.{records_of}
 use Rattle.tws_file.specs.TwsFile.{file_of}
-use Rattle.tws_file.proofs.Fronts.{more_fails, with_more_fits, next_advance}
+use Rattle.tws_file.proofs.ReadSoFar.{more_fails, with_more_fits, next_advance}
 use Rattle.tws_file.proofs.reader.read_on.Goals as goal
 
 pub returns-in_err-records-clause-fault : goal.returns-in_err-records-clause-fault

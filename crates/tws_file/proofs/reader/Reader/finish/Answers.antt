@@ -1,5 +1,5 @@
 use Rattle.std.proofs.Common.{◌∙◌, rules}
-use Rattle.tws_file.proofs.Fronts.{finishes_short, finishes_cut}
+use Rattle.tws_file.proofs.ReadSoFar.{finishes_short, finishes_cut}
 use Rattle.tws_file.proofs.Lasting.{joined_from}
 use Rattle.tws_file.proofs.reader.Reader.finish.Goals as goal
 

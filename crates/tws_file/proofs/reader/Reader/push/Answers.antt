@@ -1,6 +1,6 @@
 use Rattle.std.proofs.Common.{◌++◌, ◌∙◌, ap, sym, subst}
 use Rattle.tws_file.specs.Reader.{reading_from, HasNoLasting}
-use Rattle.tws_file.proofs.Fronts.{goes_on, stays_on}
+use Rattle.tws_file.proofs.ReadSoFar.{goes_on, stays_on}
 use Rattle.tws_file.proofs.Lasting.{takes_stopped}
 use Rattle.tws_file.proofs.reader.Reader.push.Goals as goal
 

@@ -1,4 +1,4 @@
--- A file that was read so far, and the bytes behind it.
+-- A file that was read so far, and the bytes after it.
 use Rattle.std.proofs.Common.{◌≡◌, ◌≢◌, ℕ, ◌+◌, ◌-◌, ◌<◌, ◌≤◌, List, [], ◌∷◌, ◌++◌, length, drop, Option, None, Some, Result, Ok, Err, refl, ap, sym, subst, ◌∙◌, append_assoc, append-nil, arith, inl, inr, ⊎_elim, length-append}
 use Rattle.std.specs.List.{flat_map, AllByRecursion}
 use Rattle.std.proofs.Math.Seq.{drop-append_seam, take-append_seam}
@@ -17,7 +17,7 @@ use Rattle.tws_file.proofs.FileText.{one_file}
 
 -- ---- more records
 
--- the file with more records behind its own
+-- the file with more records after its own
 abbrev pub with_more : File → List Record → File
 with_more file more = record { «ruleset» = file.ruleset; word = file.word; extra = file.extra; records = file.records ++ more }
 
@@ -35,7 +35,7 @@ with_more_text file more =
     ap (λ (xs : List ℕ). header_text file.ruleset file.word file.extra ++ xs) (flat_map-append record_text file.records more)
     ∙ sym (append_assoc (header_text file.ruleset file.word file.extra) (flat_map record_text file.records) (flat_map record_text more))
 
--- a stop in the bytes behind a file is one in all bytes
+-- a stop in the bytes after a file is one in all bytes
 stop_behind : (file : File) (bytes left_over : List ℕ) (offset place : ℕ) → IsFile file → offset ≡ length (text_of file) → StopsAfter bytes offset place left_over → StopsAt (text_of file ++ bytes) place left_over
 stop_behind file bytes left_over offset place fits offset-is stop =
     let texts = flat_map record_text stop.front in
@@ -49,7 +49,7 @@ stop_behind file bytes left_over offset place fits offset-is stop =
       no_record = stop.no_record;
     }
 
--- records that fail behind a file are a fault of all bytes
+-- records that fail after a file are a fault of all bytes
 pub more_fails : (file : File) (bytes : List ℕ) (offset : ℕ) (e : FileFault) → IsFile file → offset ≡ length (text_of file) → RecordsFail bytes offset e → FailsForGood (text_of file ++ bytes) e
 more_fails file bytes offset (ShortHeader n) fits offset-is fault = absurd fault
 more_fails file bytes offset BadSignature fits offset-is fault = absurd fault
@@ -90,7 +90,7 @@ pub header_split : (bytes word extra rest : List ℕ) (kind : Ruleset) → Begin
 header_split bytes word extra rest kind header =
     header.split ∙ ap (λ (xs : List ℕ). xs ++ rest) (sym (append-nil (header_text kind word extra)))
 
--- records that fail behind a header are a fault of all bytes
+-- records that fail after a header are a fault of all bytes
 pub front_fails : (bytes word extra rest : List ℕ) (kind : Ruleset) (e : FileFault) → BeginsWithHeader bytes kind word extra rest → RecordsFail rest (length bytes - length rest) e → FailsForGood bytes e
 front_fails bytes word extra rest kind e header fault =
     let file = without_records kind word extra in
@@ -104,7 +104,7 @@ drop_texts bytes texts rest split =
     let count : length bytes - length rest ≡ length texts = omega (arith, ap length split, length-append texts rest) in
     ap (λ (n : ℕ). drop n bytes) count ∙ ap (drop (length texts)) split ∙ drop-append_seam texts rest
 
--- the first file, and what is left behind it
+-- the first file, and what is left after it
 pub first_advance : (file : File) (offset : ℕ) (bytes rest : List ℕ) → IsAt None offset → IsFile file → bytes ≡ text_of file ++ rest → IsRecordCut rest → Advances None (Some file) offset bytes (length bytes - length rest)
 first_advance file offset bytes rest begin fits split cut =
     let left = drop_texts bytes (text_of file) rest split in
@@ -117,7 +117,7 @@ first_advance file offset bytes rest begin fits split cut =
       undone = refl;
     }
 
--- more records, and what is left behind them
+-- more records, and what is left after them
 pub next_advance : (file : File) (offset : ℕ) (bytes rest : List ℕ) (more : List Record) → IsFile file → offset ≡ length (text_of file) → AllByRecursion IsRecord more → bytes ≡ flat_map record_text more ++ rest → IsRecordCut rest
     → Advances (Some file) (Some (with_more file more)) offset bytes (length bytes - length rest)
 next_advance file offset bytes rest more fits offset-is fits_more split cut =
