@@ -67,16 +67,17 @@ fn listing(rt: HostRuntime) -> Result<(), Fail> {
     Err(Fail::new("a request was refused in each run"))
 }
 
-// A size field takes no memory before the bytes that it announces are there.
+// A size field takes no memory before the bytes that it announces are there: the one request is for the bytes that came
+// and are not read yet.
 #[test]
 fn a_cut_record_of_the_greatest_size(rt: HostRuntime) {
     let bytes = [
         0x35, 0x33, 0x9B, 0x99, 0x01, 0x00, 0x00, 0x00, 0xFF, 0xFF, 0xFF, 0xFF, 0x01, 0x00,
     ];
-    let refusing = Refusing::new(rt.alloc(), 1);
+    let refusing = Refusing::new(rt.alloc(), 2);
     let outcome = read_file(&refusing, &bytes);
     assert_eq!(rt; outcome.err(), Some(FileFault::ShortRecord(8)));
-    assert_eq!(rt; refusing.requests(), 0);
+    assert_eq!(rt; refusing.requests(), 1);
 }
 
 // Pushes a piece, and once more where memory ran out.
