@@ -6,6 +6,8 @@ ghost use Rattle.tws_moves.specs.Spelling.{moves_in};
 ghost use Rattle.tws_moves.specs.Shortest.{IsShortest};
 ghost use Rattle.tws_file.specs.declared.file_fault.FileFault as fault;
 ghost use Rattle.tws_file.specs.Text.{File, Solution, IsSolution, IsFile, IsText, IsReadable, text_of};
+ghost use Rattle.tws_file.specs.declared.«ruleset».Ruleset.{Ruleset as Rules};
+ghost use Rattle.tws_file.specs.Names.{file_name_of};
 ghost use Rattle.tws_file.specs.Packing.{packed_solution, packed_file};
 ghost use Rattle.tws_file.specs.Fault.{HasFault};
 
@@ -27,6 +29,11 @@ pub fn text_or_fault()
 /// The text of a file has no fault.
 pub fn text_without_fault()
     ensures { (bytes : List ℕ) (f : File) (e : fault.FileFault) → IsText bytes f → HasFault bytes e → ⊥ }
+{}
+
+/// No two sets of rules have one file's name.
+pub fn one_file_name()
+    ensures { (a b : Rules) → file_name_of a ≡ file_name_of b → a ≡ b }
 {}
 
 /// A packed file has a text, whose solutions' moves are those of the file, each in the fewest bytes.

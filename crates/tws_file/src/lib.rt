@@ -1,4 +1,23 @@
 //! Tile World solution files (TWS): what a file is, which fault bytes have, and the listing of a file.
+//!
+//! Read `specs/Text.antt` first: it defines which values have a text, and which text. `specs/Fault.antt` defines the fault
+//! of bytes that are no file's text, `specs/Reader.antt` what a reader in pieces has taken. `specs/Steps.antt` has words of
+//! private functions alone.
+//!
+//! How it is called, by a crate that lists `tws_file`; this needs no proof file:
+//!
+//! ```text
+//! ghost use Rattle.std.specs.Prelude.{OnOk};
+//! ghost use Rattle.tws_file.specs.Text.{IsReadable};
+//!
+//! /// How many records a solution file has.
+//! fn record_count(alloc: Global, bytes: &[u8]) -> Result<usize, FileFault>
+//!     ensures { OnOk result (IsReadable bytes.now) }
+//! {
+//!     let file = read_file(alloc, bytes)?;
+//!     Ok(file.records.len())
+//! }
+//! ```
 #![tactic(auto)]
 
 mod bytes;
@@ -25,7 +44,9 @@ pub use byte_output::OutFault;
 pub use bytes::Bytes;
 pub use file_fault::FileFault;
 pub use key::Key;
-pub use laws::{one_fault, one_file, packed_files, text_or_fault, text_without_fault};
+pub use laws::{
+    one_fault, one_file, one_file_name, packed_files, text_or_fault, text_without_fault,
+};
 pub use listing::show;
 pub use packing::pack;
 pub use reader::{Reader, read_file};

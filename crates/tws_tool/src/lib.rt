@@ -4,6 +4,7 @@
 mod best;
 mod input;
 mod job;
+mod laws;
 mod pack;
 mod program;
 mod show;
@@ -11,6 +12,7 @@ mod tool_fault;
 
 pub use best::run_best;
 pub use input::INPUT_READS;
+pub use laws::limit_values;
 pub use pack::run_pack;
 pub use program::run_words;
 pub use show::run_show;

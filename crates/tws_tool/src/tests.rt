@@ -1,7 +1,7 @@
 // The commands as the program runs them: what is printed, and the status.
 use super::*;
-use std::io;
 use std::test::Fail;
+use std::{env, fs, io, process};
 use tws_file::{FileFault, Ruleset};
 
 const SOLUTION: [u8; 28] = [
@@ -370,5 +370,43 @@ fn help_to_a_full_writer(rt: HostRuntime) -> Result<(), Fail> {
     assert_eq!(rt; status, 2);
     assert_eq!(rt; room, *b"Lists, pac");
     assert_eq!(rt; errors.as_slice(), b"tws: write fault\n".as_slice());
+    Ok(())
+}
+
+// The name of a file of these bytes among the temporary ones.
+fn file(rt: &HostRuntime, name: &str, bytes: &[u8]) -> Result<String, Fail> {
+    let process = process::id(rt.process());
+    let name = format!(in rt.alloc(); "tws-{process}-{name}")?;
+    let path = env::temp_dir(rt)?.join(rt.alloc(), name.as_str())?;
+    let path = String::from_str(rt.alloc(), path.as_str())?;
+    fs::write(rt, path.as_str(), bytes)?;
+    Ok(path)
+}
+
+#[test]
+fn best_of_files(rt: HostRuntime) -> Result<(), Fail> {
+    let slow = file(&rt, "slow", &SOLUTION)?;
+    let fast = file(&rt, "fast", &FASTER)?;
+    let short = file(&rt, "short", &[0x35, 0x33, 0x9B, 0x98, 2, 0, 0])?;
+    let lynx = run(&rt, &["tws", "best", "lynx", &slow, &fast], &[])?;
+    let ms = run(&rt, &["tws", "best", "ms", &slow, &fast], &[])?;
+    let unreadable = run(&rt, &["tws", "best", "lynx", &slow, &short], &[])?;
+    for path in [&slow, &fast, &short] {
+        fs::remove_file(&rt, path.as_str())?;
+    }
+    let missing = run(&rt, &["tws", "best", "lynx", &slow], &[])?;
+    assert_eq!(rt; lynx.status, 0);
+    assert_eq!(rt; lynx.out.as_slice(), FASTER.as_slice());
+    assert_eq!(rt; ms.status, 0);
+    assert_eq!(rt;
+        ms.out.as_slice(),
+        [0x35, 0x33, 0x9B, 0x99, 2, 0, 0, 0].as_slice()
+    );
+    assert_eq!(rt; unreadable.status, 3);
+    assert!(rt; unreadable.out.is_empty());
+    let text = format!(in rt.alloc(); "tws: {short}: unreadable: ShortHeader(7)\n")?;
+    assert_eq!(rt; unreadable.errors.as_slice(), text.as_bytes());
+    assert_eq!(rt; missing.status, 2);
+    assert_eq!(rt; missing.errors.as_slice(), b"tws: read fault\n".as_slice());
     Ok(())
 }
