@@ -28,7 +28,7 @@ pub enum ToolFault {
 }
 
 impl ToolFault {
-    /// What the fault of a file that was read is at the input of this index. Want of memory is not the file's.
+    /// What the fault of a file that was read is at the input of this index. Running out of memory is not the file's.
     pub(crate) fn of_input(index: usize, fault: FileFault) -> Self
         ensures { result ≡ input_fault index fault }
     {
