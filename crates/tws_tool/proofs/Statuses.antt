@@ -36,3 +36,11 @@ none_written kind files old Read = refl
 none_written kind files old Write = inl refl
 none_written kind files old (Unreadable index fault) = refl
 none_written kind files old Memory = inl refl
+
+-- a command that was done has written its text
+pub done_written : (text : File → List ℕ) (r : Result (Unit {0}) ToolFault) (known old new : Option (List ℕ)) → OnOk r (Writes text known old new) → answer_status r ≡ 0 → Writes text known old new
+done_written text (Ok done) known old new writes zero = writes
+done_written text (Err Read) known old new writes zero = absurd (omega (arith, zero))
+done_written text (Err Write) known old new writes zero = absurd (omega (arith, zero))
+done_written text (Err (Unreadable index fault)) known old new writes zero = absurd (omega (arith, zero))
+done_written text (Err Memory) known old new writes zero = absurd (omega (arith, zero))

@@ -1,9 +1,10 @@
 //! The whole program but for where its words and streams come from.
 
-ghost use Rattle.std.specs.Prelude.{◌≡◌, ◌≢◌, ◌≤◌, Result, length, OnOk, IfOk, IfErr};
+ghost use Rattle.std.specs.Prelude.{◌≡◌, ◌≢◌, ◌⊎◌, ◌≤◌, Result, length, OnOk, IfOk, IfErr};
 ghost use Rattle.tws_tool.specs.declared.job.Job.{Job};
 ghost use Rattle.tws_tool.specs.declared.job.JobFault.{JobFault};
 ghost use Rattle.tws_tool.specs.Faults.{status_of, answer_status};
+ghost use Rattle.tws_tool.specs.Written.{Writes, CommandText, text_by};
 ghost use Rattle.tws_tool.specs.Jobs.{BestDone, BestStops, JobRuns};
 
 use crate::best::run_best;
@@ -43,6 +44,7 @@ fn report<E: Write>(fault: ToolFault, names: &[String], errors: &mut E) -> u8
 // Says why a command failed, if it did, and answers the status.
 fn finish<E: Write>(done: Result<(), ToolFault>, names: &[String], errors: &mut E) -> u8
     ensures status { result ≡ answer_status done }
+    ensures few { result ≤ 3 }
     ensures silent { result ≡ 0 → errors.new ≡ errors.old }
 {
     match done {
@@ -109,6 +111,9 @@ fn run_job<P: Files, R: Read, W: Write, E: Write>(
 ) -> u8
     ensures ran { JobRuns job result (R.remaining input.old) (R.remaining input.new) (W.contents out.old) (W.contents out.new) }
     ensures usage { result ≡ 1 → (input.new ≡ input.old) × (out.new ≡ out.old) }
+    ensures status { result ≤ 3 }
+    // At status 0, where input was read, a command's text of it was written.
+    ensures written { result ≡ 0 → (input.new ≡ input.old) ⊎ (text : CommandText) × Writes (text_by text) (R.remaining input.old) (W.contents out.old) (W.contents out.new) }
     ensures unreadable { result ≡ 3 → out.new ≡ out.old }
     ensures silent { result ≡ 0 → errors.new ≡ errors.old }
 {
@@ -139,6 +144,9 @@ pub fn run_words<P: Files, R: Read, W: Write, E: Write>(
     ensures ran { (job : Result Job JobFault) × JobRuns job result (R.remaining input.old) (R.remaining input.new) (W.contents out.old) (W.contents out.new) }
     // A usage error leaves input and output as they were, and an unreadable file the output.
     ensures usage { result ≡ 1 → (input.new ≡ input.old) × (out.new ≡ out.old) }
+    ensures status { result ≤ 3 }
+    // At status 0, where input was read, a command's text of it was written.
+    ensures written { result ≡ 0 → (input.new ≡ input.old) ⊎ (text : CommandText) × Writes (text_by text) (R.remaining input.old) (W.contents out.old) (W.contents out.new) }
     ensures unreadable { result ≡ 3 → out.new ≡ out.old }
     ensures silent { result ≡ 0 → errors.new ≡ errors.old }
 {
