@@ -13,6 +13,6 @@ packet_of (Ack block) = ack block
 packet_of (Error code text) = error code text.now
 
 -- an answer of decode
-abbrev pub answer_of : Result borrowed.Packet PacketFault → Result Packet PacketFault
-answer_of (Ok p) = Ok (packet_of p)
-answer_of (Err e) = Err e
+abbrev pub decoded_of : Result borrowed.Packet PacketFault → Result Packet PacketFault
+decoded_of (Ok p) = Ok (packet_of p)
+decoded_of (Err e) = Err e

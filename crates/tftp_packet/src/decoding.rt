@@ -5,7 +5,7 @@ ghost use Rattle.byteorder.specs.Endian.{big_number};
 ghost use Rattle.tftp_packet.specs.Packet.{Packet as Plain, read, write, is_zero, zero_count, HasNoZero, IsPacket};
 ghost use Rattle.tftp_packet.specs.Fault.{HasFault};
 ghost use Rattle.tftp_packet.specs.Decode.{before_zero, after_zero, request_of, data_of, ack_of, error_of, decode_bytes};
-ghost use Rattle.tftp_packet.specs.View.{packet_of, answer_of};
+ghost use Rattle.tftp_packet.specs.View.{packet_of, decoded_of};
 ghost use Rattle.tftp_packet.specs.declared.packet_fault.PacketFault as fault;
 
 use crate::opcode::{ACK, DATA, ERROR, READ, WRITE};
@@ -51,7 +51,7 @@ fn read_request(rest: &[u8]) -> Result<(&[u8], &[u8]), PacketFault>
 }
 
 fn read_data(rest: &[u8]) -> Result<Packet<'_>, PacketFault>
-    ensures { answer_of result ≡ data_of rest.now }
+    ensures { decoded_of result ≡ data_of rest.now }
 {
     if rest.len() < 2 {
         return Err(PacketFault::BadBlock);
@@ -63,7 +63,7 @@ fn read_data(rest: &[u8]) -> Result<Packet<'_>, PacketFault>
 }
 
 fn read_ack(rest: &[u8]) -> Result<Packet<'_>, PacketFault>
-    ensures { answer_of result ≡ ack_of rest.now }
+    ensures { decoded_of result ≡ ack_of rest.now }
 {
     if rest.len() != 2 {
         return Err(PacketFault::BadBlock);
@@ -74,7 +74,7 @@ fn read_ack(rest: &[u8]) -> Result<Packet<'_>, PacketFault>
 }
 
 fn read_error(rest: &[u8]) -> Result<Packet<'_>, PacketFault>
-    ensures { answer_of result ≡ error_of rest.now }
+    ensures { decoded_of result ≡ error_of rest.now }
 {
     if rest.len() < 2 {
         return Err(PacketFault::BadError);
@@ -91,7 +91,7 @@ fn read_error(rest: &[u8]) -> Result<Packet<'_>, PacketFault>
 // The packet of a datagram, or its fault.
 #[tactic(auto, unfolding(crate::specs::Decode::decode_bytes))]
 fn read_packet(bytes: &[u8]) -> Result<Packet<'_>, PacketFault>
-    ensures { answer_of result ≡ decode_bytes bytes.now }
+    ensures { decoded_of result ≡ decode_bytes bytes.now }
 {
     if bytes.len() < 2 {
         return Err(PacketFault::Short);
@@ -132,7 +132,7 @@ pub fn decode(bytes: &[u8]) -> Result<Packet<'_>, PacketFault>
     // Bytes with a fault are refused with it.
     ensures refuses { (e : fault.PacketFault) → HasFault bytes.now e → result ≡ Err e }
     // All this as a function of the bytes.
-    ensures function { answer_of result ≡ decode_bytes bytes.now }
+    ensures function { decoded_of result ≡ decode_bytes bytes.now }
 {
     read_packet(bytes)
 }

@@ -86,13 +86,13 @@ cut_moves-append rest more at moves = record {
 none_is_short : (rest : List ℕ) → 4 ≤ length rest → rest ≢ []
 none_is_short rest long none = omega (arith, long, ap length none)
 
-module _ (bytes rest : List ℕ) (start offset : ℕ) (front : List Record) (fits : AllByRecursion IsRecord front) (split : bytes ≡ flat_map record_text front ++ rest) (place : offset + length rest ≡ start + length bytes) where
+module _ (bytes rest : List ℕ) (start offset : ℕ) (prefix : List Record) (fits : AllByRecursion IsRecord prefix) (split : bytes ≡ flat_map record_text prefix ++ rest) (place : offset + length rest ≡ start + length bytes) where
   stops_here : 4 ≤ length rest → BeginsNoRecord rest → StopsAfter bytes start offset rest
   stops_here long no_record = record {
-    front = front;
+    prefix = prefix;
     fits = fits;
     split = split;
-    place = omega (arith, place, ap length split, length-append (flat_map record_text front) rest);
+    place = omega (arith, place, ap length split, length-append (flat_map record_text prefix) rest);
     some = none_is_short rest long;
     no_record = no_record;
   }

@@ -10,7 +10,7 @@ use Rattle.byte_output.proofs.Bytes.{IsBytes-drop}
 use Rattle.tws_file.specs.declared.file_fault.FileFault.{FileFault}
 use Rattle.tws_file.specs.declared.file_fault.FileFault.TheVariants.{ShortHeader, BadSignature, BadRuleset, ShortRecord, BadSize, MoveCut, Memory}
 use Rattle.tws_file.specs.Text.{Solution, IsLevel, HasFields, IsSolution}
-use Rattle.tws_file.specs.Steps.{MovesFail, SolutionFails}
+use Rattle.tws_file.specs.Steps.{MovesFailAt, SolutionFails}
 use Rattle.tws_file.proofs.Numbers.{little_bytes-little_number_4}
 
 -- a number of four bytes at a place, and what follows it
@@ -53,7 +53,7 @@ module _ (key : Key) (rest a b moves : List ℕ) (seed ticks : ℕ) (level : IsL
   solution_fits whole = record { fields = fields_fit; whole = whole }
 
   -- moves that are cut are those of a solution of these fields
-  pub solution_cut : (offset : ℕ) (e : FileFault) → a ≡ drop 2 rest → b ≡ drop 6 rest → seed ≡ little_number 4 a → ticks ≡ little_number 4 b → MovesFail moves offset e → SolutionFails (key_bytes key ++ rest) offset e
+  pub solution_cut : (offset : ℕ) (e : FileFault) → a ≡ drop 2 rest → b ≡ drop 6 rest → seed ≡ little_number 4 a → ticks ≡ little_number 4 b → MovesFailAt moves offset e → SolutionFails (key_bytes key ++ rest) offset e
   solution_cut offset (ShortHeader n) a-is b-is seed-is ticks-is fault = fault
   solution_cut offset BadSignature a-is b-is seed-is ticks-is fault = fault
   solution_cut offset (BadRuleset code) a-is b-is seed-is ticks-is fault = fault

@@ -55,11 +55,11 @@ unknown_ruleset bytes code known fault = ⊎_elim (λ one. fault.2.0 (fault.1 �
 -- ---- where the records stop
 
 stop_header : (bytes : List ℕ) (offset : ℕ) (rest : List ℕ) → StopsAt bytes offset rest → HasHeader bytes
-stop_header bytes offset rest stop = subst HasHeader (sym stop.split) (header_of_text stop.front rest stop.fits)
+stop_header bytes offset rest stop = subst HasHeader (sym stop.split) (header_of_text stop.prefix rest stop.fits)
 
 one_stop : (bytes : List ℕ) (o p : ℕ) (x y : List ℕ) → StopsAt bytes o x → StopsAt bytes p y → (o ≡ p) × (x ≡ y)
 one_stop bytes o p x y s t =
-    let same = text_parts s.front t.front x y s.fits t.fits s.no_record t.no_record (sym s.split ∙ t.split) in
+    let same = text_parts s.prefix t.prefix x y s.fits t.fits s.no_record t.no_record (sym s.split ∙ t.split) in
     (s.place ∙ ap (λ (f : File). length (text_of f)) same.0 ∙ sym t.place, same.1)
 
 bad_or_cut : (rest : List ℕ) → HasBadSize rest → IsRecordCut rest → ⊥
@@ -134,7 +134,7 @@ text_header bytes f text = subst HasHeader (append-nil (text_of f) ∙ sym text.
 
 text_goes_on : (bytes : List ℕ) (f : File) (offset : ℕ) (rest : List ℕ) → IsText bytes f → StopsAt bytes offset rest → ⊥
 text_goes_on bytes f offset rest text stop =
-    stop.some (sym (text_parts f stop.front [] rest text.fits stop.fits nothing_begins stop.no_record (append-nil (text_of f) ∙ sym text.text ∙ stop.split)).1)
+    stop.some (sym (text_parts f stop.prefix [] rest text.fits stop.fits nothing_begins stop.no_record (append-nil (text_of f) ∙ sym text.text ∙ stop.split)).1)
 
 pub text_without_fault : (bytes : List ℕ) (f : File) (e : FileFault) → IsText bytes f → HasFault bytes e → ⊥
 text_without_fault bytes f (ShortHeader n) text fault = short_header bytes n (text_header bytes f text) fault

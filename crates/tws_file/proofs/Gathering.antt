@@ -60,5 +60,5 @@ module _ {A : Type 0} where
   item_fits rs i r fits inside r-is = subst (λ (x : stored.Record A). IsRecord (record_of x)) (sym r-is) (record_at rs i r fits inside)
 
 -- a text of two parts after nothing
-pub behind_nothing : (start slice head tail text : List ℕ) → start ≡ [] → slice ≡ head → head ++ tail ≡ text → start ++ (slice ++ tail) ≡ text
-behind_nothing start slice head tail text start-is slice-is text-is = rw (start-is, slice-is) text-is
+pub after_nothing : (start slice head tail text : List ℕ) → start ≡ [] → slice ≡ head → head ++ tail ≡ text → start ++ (slice ++ tail) ≡ text
+after_nothing start slice head tail text start-is slice-is text-is = rw (start-is, slice-is) text-is

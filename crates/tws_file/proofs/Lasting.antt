@@ -40,9 +40,9 @@ lasting-append bytes more (BadSize o) lasts fault =
     let some : rest ++ more ≢ [] = λ none. omega (arith, bad.0, ap length none) in (
       rest ++ more,
       record {
-        front = stop.front;
+        prefix = stop.prefix;
         fits = stop.fits;
-        split = ap (λ (xs : List ℕ). xs ++ more) stop.split ∙ append_assoc (text_of stop.front) rest more;
+        split = ap (λ (xs : List ℕ). xs ++ more) stop.split ∙ append_assoc (text_of stop.prefix) rest more;
         place = stop.place;
         some = some;
         no_record = bad_begins_none (rest ++ more) bad;
@@ -58,9 +58,9 @@ lasting-append bytes more (MoveCut place) lasts fault =
       rest = rest ++ more;
       at = fault.at;
       stop = record {
-        front = stop.front;
+        prefix = stop.prefix;
         fits = stop.fits;
-        split = ap (λ (xs : List ℕ). xs ++ more) stop.split ∙ append_assoc (text_of stop.front) rest more;
+        split = ap (λ (xs : List ℕ). xs ++ more) stop.split ∙ append_assoc (text_of stop.prefix) rest more;
         place = stop.place;
         some = still_some rest more stop.some;
         no_record = cut_moves_begin_none (rest ++ more) fault.at moves;

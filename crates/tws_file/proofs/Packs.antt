@@ -121,11 +121,11 @@ module _ {A B : Type 0} where
       → records_of pushed ≡ map packed_record (records_of (take (i + 1) records))
   packed_more packed pushed records i one p so_far inside one-is p-is pushed-is =
       let before = take i records in
-      let front = take_more records i one inside ∙ ap (λ (x : stored.Record B). before ++ x ∷ []) (sym one-is) in
+      let longer = take_more records i one inside ∙ ap (λ (x : stored.Record B). before ++ x ∷ []) (sym one-is) in
       ap records_of pushed-is
       ∙ map-append record_of packed (p ∷ [])
       ∙ ap (λ (xs : List Record). xs ++ record_of p ∷ []) so_far
       ∙ ap (λ (r : Record). map packed_record (records_of before) ++ r ∷ []) p-is
       ∙ sym (map-append packed_record (records_of before) (record_of one ∷ []))
       ∙ ap (map packed_record) (sym (map-append record_of before (one ∷ [])))
-      ∙ ap (λ (rs : List (stored.Record B)). map packed_record (records_of rs)) (sym front)
+      ∙ ap (λ (rs : List (stored.Record B)). map packed_record (records_of rs)) (sym longer)

@@ -1,5 +1,5 @@
 -- A file that was read so far, and the bytes after it.
-use Rattle.std.proofs.Common.{◌≡◌, ◌≢◌, ℕ, ◌+◌, ◌-◌, ◌<◌, ◌≤◌, List, [], ◌∷◌, ◌++◌, length, drop, Option, None, Some, Result, Ok, Err, refl, ap, sym, subst, ◌∙◌, append_assoc, append-nil, arith, inl, inr, ⊎_elim, length-append}
+use Rattle.std.proofs.Common.{◌≡◌, ◌≢◌, ℕ, ◌+◌, ◌-◌, List, [], ◌∷◌, ◌++◌, length, drop, Option, None, Some, Result, Ok, Err, refl, ap, sym, subst, ◌∙◌, append_assoc, append-nil, arith, inl, inr, ⊎_elim, length-append}
 use Rattle.std.specs.List.{flat_map, AllByRecursion}
 use Rattle.std.proofs.Math.Seq.{drop-append_seam, take-append_seam}
 use Rattle.std.proofs.lemmas.List.Concat.{flat_map-append}
@@ -36,13 +36,13 @@ with_more_text file more =
     ∙ sym (append_assoc (header_text file.ruleset file.word file.extra) (flat_map record_text file.records) (flat_map record_text more))
 
 -- a stop in the bytes after a file is one in all bytes
-stop_behind : (file : File) (bytes left_over : List ℕ) (offset place : ℕ) → IsFile file → offset ≡ length (text_of file) → StopsAfter bytes offset place left_over → StopsAt (text_of file ++ bytes) place left_over
-stop_behind file bytes left_over offset place fits offset-is stop =
-    let texts = flat_map record_text stop.front in
-    let whole = with_more_text file stop.front in
+stop_after : (file : File) (bytes left_over : List ℕ) (offset place : ℕ) → IsFile file → offset ≡ length (text_of file) → StopsAfter bytes offset place left_over → StopsAt (text_of file ++ bytes) place left_over
+stop_after file bytes left_over offset place fits offset-is stop =
+    let texts = flat_map record_text stop.prefix in
+    let whole = with_more_text file stop.prefix in
     record {
-      front = with_more file stop.front;
-      fits = with_more_fits file stop.front fits stop.fits;
+      prefix = with_more file stop.prefix;
+      fits = with_more_fits file stop.prefix fits stop.fits;
       split = ap (λ (xs : List ℕ). text_of file ++ xs) stop.split ∙ sym (append_assoc (text_of file) texts left_over) ∙ ap (λ (xs : List ℕ). xs ++ left_over) (sym whole);
       place = omega (arith, stop.place, offset-is, ap length whole, length-append (text_of file) texts);
       some = stop.some;
@@ -56,7 +56,7 @@ more_fails file bytes offset BadSignature fits offset-is fault = absurd fault
 more_fails file bytes offset (BadRuleset code) fits offset-is fault = absurd fault
 more_fails file bytes offset (ShortRecord o) fits offset-is fault = absurd fault
 more_fails file bytes offset (BadSize o) fits offset-is fault =
-    inl (tt, (fault.0, stop_behind file bytes fault.0 offset o fits offset-is fault.1, fault.2))
+    inl (tt, (fault.0, stop_after file bytes fault.0 offset o fits offset-is fault.1, fault.2))
 more_fails file bytes offset (MoveCut place) fits offset-is fault =
     inl (
       tt,
@@ -64,7 +64,7 @@ more_fails file bytes offset (MoveCut place) fits offset-is fault =
         offset = fault.0;
         rest = fault.1;
         at = fault.2;
-        stop = stop_behind file bytes fault.1 offset fault.0 fits offset-is fault.3;
+        stop = stop_after file bytes fault.1 offset fault.0 fits offset-is fault.3;
         moves = fault.4;
         place_is = fault.5;
       },
@@ -91,8 +91,8 @@ header_split bytes word extra rest kind header =
     header.split ∙ ap (λ (xs : List ℕ). xs ++ rest) (sym (append-nil (header_text kind word extra)))
 
 -- records that fail after a header are a fault of all bytes
-pub front_fails : (bytes word extra rest : List ℕ) (kind : Ruleset) (e : FileFault) → BeginsWithHeader bytes kind word extra rest → RecordsFail rest (length bytes - length rest) e → FailsForGood bytes e
-front_fails bytes word extra rest kind e header fault =
+pub start_fails : (bytes word extra rest : List ℕ) (kind : Ruleset) (e : FileFault) → BeginsWithHeader bytes kind word extra rest → RecordsFail rest (length bytes - length rest) e → FailsForGood bytes e
+start_fails bytes word extra rest kind e header fault =
     let file = without_records kind word extra in
     let split = header_split bytes word extra rest kind header in
     subst (λ (xs : List ℕ). FailsForGood xs e) (sym split) (more_fails file rest (length bytes - length rest) e (without_records_fits bytes word extra rest kind header) (omega (arith, ap length split, length-append (text_of file) rest)) fault)
@@ -135,31 +135,31 @@ next_advance file offset bytes rest more fits offset-is fits_more split cut =
 -- ---- the end
 
 -- a file, and then bytes that are cut
-pub cut_behind : (file : File) (rest : List ℕ) (offset : ℕ) → IsFile file → offset ≡ length (text_of file) → rest ≢ [] → IsRecordCut rest → HasFault (text_of file ++ rest) (ShortRecord offset)
-cut_behind file rest offset fits offset-is some cut =
-    (rest, record { front = file; fits = fits; split = refl; place = offset-is; some = some; no_record = cut_begins_none rest cut }, cut)
+pub cut_after : (file : File) (rest : List ℕ) (offset : ℕ) → IsFile file → offset ≡ length (text_of file) → rest ≢ [] → IsRecordCut rest → HasFault (text_of file ++ rest) (ShortRecord offset)
+cut_after file rest offset fits offset-is some cut =
+    (rest, record { prefix = file; fits = fits; split = refl; place = offset-is; some = some; no_record = cut_begins_none rest cut }, cut)
 
 text_alone : (file : File) → IsFile file → IsText (text_of file ++ []) file
 text_alone file fits = record { fits = fits; text = append-nil (text_of file) }
 
-no_lasting_behind : (file : File) (rest : List ℕ) (offset : ℕ) (e : FileFault) → IsFile file → offset ≡ length (text_of file) → IsRecordCut rest → IsLasting e → HasFault (text_of file ++ rest) e → ⊥
-no_lasting_behind file [] offset e fits offset-is cut lasts fault = text_without_fault (text_of file ++ []) file e (text_alone file fits) fault
-no_lasting_behind file (b ∷ rest) offset e fits offset-is cut lasts fault =
+no_lasting_after : (file : File) (rest : List ℕ) (offset : ℕ) (e : FileFault) → IsFile file → offset ≡ length (text_of file) → IsRecordCut rest → IsLasting e → HasFault (text_of file ++ rest) e → ⊥
+no_lasting_after file [] offset e fits offset-is cut lasts fault = text_without_fault (text_of file ++ []) file e (text_alone file fits) fault
+no_lasting_after file (b ∷ rest) offset e fits offset-is cut lasts fault =
     let some : b ∷ rest ≢ [] = λ none. absurd cc in
-    let same = one_fault (text_of file ++ b ∷ rest) e (ShortRecord offset) fault (cut_behind file (b ∷ rest) offset fits offset-is some cut) in
+    let same = one_fault (text_of file ++ b ∷ rest) e (ShortRecord offset) fault (cut_after file (b ∷ rest) offset fits offset-is some cut) in
     absurd (subst IsLasting same lasts)
 
 -- where nothing whole is left to read there is no fault that lasts
-no_lasting : (front : Option File) (rest : List ℕ) (offset : ℕ) → IsAt front offset → IsLeft front rest → (e : FileFault) → IsLasting e → HasFault (text_so_far front ++ rest) e → ⊥
+no_lasting : (so_far : Option File) (rest : List ℕ) (offset : ℕ) → IsAt so_far offset → IsLeft so_far rest → (e : FileFault) → IsLasting e → HasFault (text_so_far so_far ++ rest) e → ⊥
 no_lasting None rest offset at left e lasts fault =
     absurd (subst IsLasting (one_fault rest e (ShortHeader (length rest)) fault left) lasts)
 no_lasting (Some file) rest offset at left e lasts fault =
-    no_lasting_behind file rest offset e at.0 at.1 left lasts fault
+    no_lasting_after file rest offset e at.0 at.1 left lasts fault
 
 -- without a fault the reading goes on
-pub stays_on : (fault : Option FileFault) (front : Option File) (rest : List ℕ) (offset : ℕ) → fault ≡ None → IsAt front offset → (fault ≡ None → IsLeft front rest) → HasNoLasting (reading_from fault front rest)
-stays_on None front rest offset none at left = no_lasting front rest offset at (left none)
-stays_on (Some e) front rest offset none at left = absurd cc
+pub stays_on : (fault : Option FileFault) (so_far : Option File) (rest : List ℕ) (offset : ℕ) → fault ≡ None → IsAt so_far offset → (fault ≡ None → IsLeft so_far rest) → HasNoLasting (reading_from fault so_far rest)
+stays_on None so_far rest offset none at left = no_lasting so_far rest offset at (left none)
+stays_on (Some e) so_far rest offset none at left = absurd cc
 
 -- after a step the reading goes on
 pub goes_on : (fault : Option FileFault) (old new : Option File) (bytes rest : List ℕ) (offset count : ℕ) → fault ≡ None → Advances old new offset bytes count → rest ≡ drop count bytes → HasNoLasting (reading_from fault new rest)
@@ -168,15 +168,15 @@ goes_on None old new bytes rest offset count none step rest-is =
 goes_on (Some e) old new bytes rest offset count none step rest-is = absurd cc
 
 -- what a reader answers at the end
-pub finishes_short : (r : Reading) (fault : Option FileFault) (front : Option File) (rest : List ℕ) (n : ℕ) → reading_from fault front rest ≡ r → fault ≡ None → front ≡ None → (fault ≡ None → IsLeft front rest) → n ≡ length rest → Finishes r (Err (ShortHeader n))
+pub finishes_short : (r : Reading) (fault : Option FileFault) (so_far : Option File) (rest : List ℕ) (n : ℕ) → reading_from fault so_far rest ≡ r → fault ≡ None → so_far ≡ None → (fault ≡ None → IsLeft so_far rest) → n ≡ length rest → Finishes r (Err (ShortHeader n))
 finishes_short r None None rest n view none before left n-is = rw (← view, n-is) (left refl)
 finishes_short r None (Some file) rest n view none before left n-is = absurd cc
-finishes_short r (Some e) front rest n view none before left n-is = absurd cc
+finishes_short r (Some e) so_far rest n view none before left n-is = absurd cc
 
-pub finishes_cut : (r : Reading) (fault : Option FileFault) (front : Option File) (file : File) (rest : List ℕ) (offset : ℕ) → reading_from fault front rest ≡ r → fault ≡ None → front ≡ Some file → (fault ≡ None → IsLeft front rest) → IsAt front offset → rest ≢ [] → Finishes r (Err (ShortRecord offset))
+pub finishes_cut : (r : Reading) (fault : Option FileFault) (so_far : Option File) (file : File) (rest : List ℕ) (offset : ℕ) → reading_from fault so_far rest ≡ r → fault ≡ None → so_far ≡ Some file → (fault ≡ None → IsLeft so_far rest) → IsAt so_far offset → rest ≢ [] → Finishes r (Err (ShortRecord offset))
 finishes_cut r None None file rest offset view none is left at some = absurd cc
-finishes_cut r None (Some other) file rest offset view none is left at some = rw (← view) (cut_behind other rest offset at.0 at.1 some (left refl))
-finishes_cut r (Some e) front file rest offset view none is left at some = absurd cc
+finishes_cut r None (Some other) file rest offset view none is left at some = rw (← view) (cut_after other rest offset at.0 at.1 some (left refl))
+finishes_cut r (Some e) so_far file rest offset view none is left at some = absurd cc
 
 -- ---- a reading in one piece
 

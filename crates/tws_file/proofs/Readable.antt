@@ -1,13 +1,12 @@
 -- Bytes are a file's text, or have a fault.
-use Rattle.std.proofs.Common.{◌≡◌, ◌≢◌, ◌⊎◌, ℕ, zero, suc, ◌+◌, ◌*◌, ◌-◌, ◌^◌, ◌<◌, ◌≤◌, List, [], ◌∷◌, ◌++◌, length, take, drop, slice_index, refl, ap, sym, subst, ◌∙◌, append_assoc, append-nil, arith, inl, inr, ⊎_elim, length-append, length-take, length-drop, take-append-drop, drop-drop}
-use Rattle.std.specs.List.{flat_map}
+use Rattle.std.proofs.Common.{◌≡◌, ◌≢◌, ◌⊎◌, ℕ, zero, suc, ◌+◌, ◌^◌, ◌<◌, ◌≤◌, List, [], ◌∷◌, ◌++◌, length, take, drop, slice_index, refl, ap, sym, subst, ◌∙◌, append_assoc, append-nil, arith, inl, inr, ⊎_elim, length-append, length-take, length-drop, take-append-drop}
 use Rattle.std.proofs.Math.Seq.{take-add, drop-append_seam}
 use Rattle.std.proofs.lemmas.Bool.{cases_lt}
 use Rattle.byteorder.specs.Endian.{little_bytes, little_number}
 use Rattle.byteorder.specs.Numbers.{little_from-lt}
 use Rattle.byte_output.specs.Bytes.{IsBytes}
 use Rattle.byte_output.proofs.Bytes.{IsBytes-take, IsBytes-drop}
-use Rattle.tws_moves.specs.Spelling.{IsSpelling, IsCutAt}
+use Rattle.tws_moves.specs.Spelling.{IsCutAt}
 use Rattle.tws_moves.proofs.Spellings.{cut_or_spelled}
 use Rattle.tws_file.specs.declared.key.Key.{Key}
 use Rattle.tws_file.specs.declared.file_fault.FileFault.{FileFault}
@@ -15,13 +14,13 @@ use Rattle.tws_file.specs.declared.file_fault.FileFault.TheVariants.{ShortHeader
 use Rattle.tws_file.specs.declared.«ruleset».Ruleset.{Ruleset}
 use Rattle.tws_file.specs.declared.«ruleset».Ruleset.TheVariants.{Lynx, Ms}
 use Rattle.tws_file.specs.Fields.{IsKey, signature, ruleset_code, set_key, key_bytes}
-use Rattle.tws_file.specs.Text.{File, Record, Solution, pad, set, bare, solution, IsLevel, IsSet, HasFields, IsRecord, IsFile, IsReadable, body_of, record_text, text_of}
+use Rattle.tws_file.specs.Text.{File, Record, Solution, pad, set, bare, solution, IsLevel, HasFields, IsRecord, IsFile, IsReadable, body_of, record_text, text_of}
 use Rattle.tws_file.specs.Fault.{HasFault, IsSigned, IsBadSize, HasBadSize, IsRecordCut, HasCutMoves, StopsAt}
 use Rattle.tws_file.proofs.Numbers.{little_bytes-little_number_2, little_bytes-little_number_4}
 use Rattle.tws_file.proofs.Headers.{header_from}
-use Rattle.tws_file.proofs.Bodies.{solved_from, solved, fields_fit}
+use Rattle.tws_file.proofs.Bodies.{solved_from, fields_fit}
 use Rattle.tws_file.proofs.Beginnings.{bad_begins_none, cut_moves_begin_none}
-use Rattle.tws_file.proofs.ReadSoFar.{with_more, with_more_fits, with_more_text, without_records, without_records_fits, header_split, cut_behind}
+use Rattle.tws_file.proofs.ReadSoFar.{with_more, with_more_fits, with_more_text, without_records, without_records_fits, header_split, cut_after}
 
 -- ---- what can be decided
 
@@ -204,7 +203,7 @@ abbrev Answers : List ℕ → Type 0
 Answers bytes = IsReadable bytes ⊎ ((e : FileFault) × HasFault bytes e)
 
 stops : (file : File) (rest : List ℕ) → IsFile file → rest ≢ [] → ((r : Record) (more : List ℕ) → IsRecord r → rest ≢ record_text r ++ more) → StopsAt (text_of file ++ rest) (length (text_of file)) rest
-stops file rest fits some none = record { front = file; fits = fits; split = refl; place = refl; some = some; no_record = none }
+stops file rest fits some none = record { prefix = file; fits = fits; split = refl; place = refl; some = some; no_record = none }
 
 shorter : (rest more : List ℕ) (r : Record) (n : ℕ) → rest ≡ record_text r ++ more → length rest ≤ suc n → length more ≤ n
 shorter rest more r n split enough =
@@ -226,7 +225,7 @@ walk zero file (b ∷ rest) enough fits bytes = absurd (omega arith)
 walk (suc n) file (b ∷ rest) enough fits bytes =
     let some : b ∷ rest ≢ [] = λ none. absurd cc in
     elim (begins (b ∷ rest) bytes) [
-      | begins_cut cut ↦ inr (ShortRecord (length (text_of file)), cut_behind file (b ∷ rest) (length (text_of file)) fits refl some cut)
+      | begins_cut cut ↦ inr (ShortRecord (length (text_of file)), cut_after file (b ∷ rest) (length (text_of file)) fits refl some cut)
       | begins_bad bad ↦ inr (BadSize (length (text_of file)), (b ∷ rest, stops file (b ∷ rest) fits some (bad_begins_none (b ∷ rest) bad), bad))
       | begins_moves at moves ↦ inr (MoveCut (length (text_of file) + 20 + at), record { offset = length (text_of file); rest = b ∷ rest; at = at; stop = stops file (b ∷ rest) fits some (cut_moves_begin_none (b ∷ rest) at moves); moves = moves; place_is = refl })
       | begins_whole r more fine split ↦

@@ -26,16 +26,16 @@ pub record IsHeaderCut (bytes : List ℕ) : Type 0 where
 
 -- ---- the records
 
--- no front of the bytes is the text of a record
+-- no prefix of the bytes is the text of a record
 abbrev pub BeginsNoRecord : List ℕ → Type 0
 BeginsNoRecord bytes = (r : Record) (more : List ℕ) → IsRecord r → bytes ≢ record_text r ++ more
 
 -- The bytes are a header, the texts of records up to this offset, and a rest which isn't empty and begins no record.
 pub record StopsAt (bytes : List ℕ) (offset : ℕ) (rest : List ℕ) : Type 0 where
-  pub front : File
-  pub fits : IsFile front
-  pub split : bytes ≡ text_of front ++ rest
-  pub place : offset ≡ length (text_of front)
+  pub prefix : File
+  pub fits : IsFile prefix
+  pub split : bytes ≡ text_of prefix ++ rest
+  pub place : offset ≡ length (text_of prefix)
   pub some : rest ≢ []
   pub no_record : BeginsNoRecord rest
 

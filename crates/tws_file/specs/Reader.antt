@@ -74,11 +74,11 @@ Finishes (stopped fault) result = result ≡ Err fault
 
 -- by the fault that it keeps, what it read, and the bytes after that
 abbrev pub reading_from : Option FileFault → Option File → List ℕ → Reading
-reading_from (Some fault) front rest = stopped fault
-reading_from None front rest = reading (text_so_far front ++ rest)
+reading_from (Some fault) so_far rest = stopped fault
+reading_from None so_far rest = reading (text_so_far so_far ++ rest)
 
 abbrev pub reading_of : {A : Type 0} → Inside A → Reading
-reading_of r = reading_from r.fault r.front r.rest.items
+reading_of r = reading_from r.fault r.so_far r.rest.items
 
 abbrev pub KeepsLasting : Option FileFault → Type 0
 KeepsLasting None = Unit {0}
@@ -87,6 +87,6 @@ KeepsLasting (Some fault) = IsLasting fault
 -- without a fault nothing whole is left to read
 pub record IsReader {A : Type 0} (r : Inside A) : Type 0 where
   pub fault : KeepsLasting r.fault
-  pub at : IsAt r.front r.offset
-  pub left : r.fault ≡ None → IsLeft r.front r.rest.items
+  pub at : IsAt r.so_far r.offset
+  pub left : r.fault ≡ None → IsLeft r.so_far r.rest.items
   pub counted : r.fault ≡ None → r.offset + length r.rest.items < 2 ^ 64

@@ -50,14 +50,14 @@ SolutionFails body offset (MoveCut place) = IsCutSolution body offset place
 SolutionFails body offset Memory = Unit {0}
 
 -- moves were not kept, which begin at the offset
-abbrev pub MovesFail : List ℕ → ℕ → FileFault → Type 0
-MovesFail moves offset (ShortHeader n) = ⊥
-MovesFail moves offset BadSignature = ⊥
-MovesFail moves offset (BadRuleset code) = ⊥
-MovesFail moves offset (ShortRecord o) = ⊥
-MovesFail moves offset (BadSize o) = ⊥
-MovesFail moves offset (MoveCut place) = (at : ℕ) × IsCutAt moves at × (place ≡ offset + at)
-MovesFail moves offset Memory = Unit {0}
+abbrev pub MovesFailAt : List ℕ → ℕ → FileFault → Type 0
+MovesFailAt moves offset (ShortHeader n) = ⊥
+MovesFailAt moves offset BadSignature = ⊥
+MovesFailAt moves offset (BadRuleset code) = ⊥
+MovesFailAt moves offset (ShortRecord o) = ⊥
+MovesFailAt moves offset (BadSize o) = ⊥
+MovesFailAt moves offset (MoveCut place) = (at : ℕ) × IsCutAt moves at × (place ≡ offset + at)
+MovesFailAt moves offset Memory = Unit {0}
 
 -- no record was read from these bytes, which begin at this offset
 abbrev pub RecordFails : List ℕ → ℕ → FileFault → Type 0
@@ -71,10 +71,10 @@ RecordFails bytes offset (BadRuleset code) = ⊥
 
 -- the bytes are the texts of records up to this offset, counted on from start, and a rest that begins no record
 pub record StopsAfter (bytes : List ℕ) (start offset : ℕ) (rest : List ℕ) : Type 0 where
-  pub front : List Record
-  pub fits : AllByRecursion IsRecord front
-  pub split : bytes ≡ flat_map record_text front ++ rest
-  pub place : offset ≡ start + length (flat_map record_text front)
+  pub prefix : List Record
+  pub fits : AllByRecursion IsRecord prefix
+  pub split : bytes ≡ flat_map record_text prefix ++ rest
+  pub place : offset ≡ start + length (flat_map record_text prefix)
   pub some : rest ≢ []
   pub no_record : BeginsNoRecord rest
 
@@ -135,7 +135,7 @@ record_count (Some file) = Some (length file.records)
 
 -- what was read when there were so many records
 abbrev pub taken_back : Option ℕ → Option File → Option File
-taken_back None front = None
+taken_back None file = None
 taken_back (Some count) None = None
 taken_back (Some count) (Some file) = Some (record { «ruleset» = file.ruleset; word = file.word; extra = file.extra; records = take count file.records })
 

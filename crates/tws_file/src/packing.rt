@@ -12,15 +12,15 @@ use crate::records::Records;
 use crate::solution::Solution;
 use crate::tws_file::TwsFile;
 use std::alloc::{AllocError, Allocator};
-use tws_moves::MovesFault;
+use tws_moves::{MovesFault, pack_moves};
 
-// The shortest bytes that spell the same moves.
-fn pack_moves<A: Allocator + Copy>(alloc: A, bytes: &[u8]) -> Result<Bytes<A>, AllocError>
+// The shortest bytes that spell the same moves as these, which spell some.
+fn pack_spelled<A: Allocator + Copy>(alloc: A, bytes: &[u8]) -> Result<Bytes<A>, AllocError>
     requires spelled { IsSpelling bytes.now }
     requires short { length bytes.now < 2 ^ 32 }
     ensures { IfOk result (λ packed. packed ≡ packed_bytes bytes.now) }
 {
-    match tws_moves::pack_moves(alloc, bytes) {
+    match pack_moves(alloc, bytes) {
         Ok(packed) => Ok(Bytes::of(packed)),
         Err(MovesFault::Memory) => Err(AllocError),
         // The moves are whole.
@@ -34,7 +34,7 @@ fn pack_solution<A: Allocator + Copy, B: Allocator>(
 ) -> Result<Solution<A>, AllocError>
     ensures { IfOk result (λ packed. packed ≡ packed_solution s.now) }
 {
-    let moves = pack_moves(alloc, s.moves.as_slice())?;
+    let moves = pack_spelled(alloc, s.moves.as_slice())?;
     Ok(Solution {
         key: s.key,
         flags: s.flags,

@@ -22,7 +22,7 @@ pub struct Reader<A: Allocator + Copy = Global> {
     /// The fault that the bytes had, which no further ones mend.
     fault: Option<FileFault>,
     /// The header and the records that were read; none before the whole header has come.
-    front: Option<TwsFile<A>>,
+    so_far: Option<TwsFile<A>>,
     /// Where the rest begins, counted from the start of the file.
     offset: u64,
     /// The bytes that came and could not be read yet.
@@ -40,7 +40,7 @@ impl<A: Allocator + Copy> Model for Reader<A> {
 }
 
 // The header, the whole records after it and the bytes after those; none where the header is cut.
-fn read_front<A: Allocator + Copy>(
+fn read_from_start<A: Allocator + Copy>(
     alloc: A,
     bytes: &[u8],
 ) -> Result<Option<(TwsFile<A>, &[u8])>, FileFault>
@@ -89,22 +89,22 @@ fn read_on<A: Allocator + Copy>(
 // nothing has changed.
 fn advance<A: Allocator + Copy>(
     alloc: A,
-    front: &mut Option<TwsFile<A>>,
+    so_far: &mut Option<TwsFile<A>>,
     offset: u64,
     bytes: &[u8],
 ) -> Result<usize, FileFault>
-    requires at { IsAt front.old offset }
+    requires at { IsAt so_far.old offset }
     requires room { offset + length bytes.now < 2 ^ 64 }
-    ensures advances { IfOk result (Advances front.old front.new offset bytes.now) }
-    ensures unchanged { OnErr result (front.new ≡ front.old) }
-    ensures fault { IfErr result (FailsForGood (text_so_far front.old ++ bytes.now)) }
+    ensures advances { IfOk result (Advances so_far.old so_far.new offset bytes.now) }
+    ensures unchanged { OnErr result (so_far.new ≡ so_far.old) }
+    ensures fault { IfErr result (FailsForGood (text_so_far so_far.old ++ bytes.now)) }
 {
-    match front {
+    match so_far {
         None => {
-            let Some((file, rest)) = read_front(alloc, bytes)? else {
+            let Some((file, rest)) = read_from_start(alloc, bytes)? else {
                 return Ok(0);
             };
-            *front = Some(file);
+            *so_far = Some(file);
             Ok(bytes.len() - rest.len())
         }
         Some(file) => read_on(alloc, file, offset, bytes),
@@ -123,73 +123,57 @@ fn drop_first<A: Allocator>(bytes: &mut Vec<u8, A>, count: usize)
 }
 
 // How many records were read, if the header was.
-fn record_count<A: Allocator>(front: &Option<TwsFile<A>>) -> Option<usize>
-    ensures { result ≡ record_count front.now }
+fn record_count<A: Allocator>(so_far: &Option<TwsFile<A>>) -> Option<usize>
+    ensures { result ≡ record_count so_far.now }
 {
-    match front {
+    match so_far {
         Some(file) => Some(file.records.len()),
         None => None,
     }
 }
 
 // Takes back what was read after there were so many records.
-fn take_back<A: Allocator>(front: &mut Option<TwsFile<A>>, count: Option<usize>)
-    ensures { front.new ≡ taken_back count front.old }
+fn take_back<A: Allocator>(so_far: &mut Option<TwsFile<A>>, count: Option<usize>)
+    ensures { so_far.new ≡ taken_back count so_far.old }
 {
     let Some(count) = count else {
-        *front = None;
+        *so_far = None;
         return;
     };
-    if let Some(file) = front {
+    if let Some(file) = so_far {
         file.records.truncate(count);
     }
 }
 
-// Reads what is whole of a piece where it lies, and keeps the rest of it; nothing was kept before.
-fn read_in_place<A: Allocator + Copy>(
+// Reads what is whole of the bytes that were kept and a piece, and keeps the rest of them. Where none were kept the piece
+// is read where it lies. On error nothing has changed.
+fn read_piece<A: Allocator + Copy>(
     alloc: A,
-    front: &mut Option<TwsFile<A>>,
+    so_far: &mut Option<TwsFile<A>>,
     offset: u64,
     rest: &mut Vec<u8, A>,
     piece: &[u8],
 ) -> Result<usize, FileFault>
-    requires at { IsAt front.old offset }
-    requires none { rest.old.items ≡ [] }
-    requires room { offset + length piece.now < 2 ^ 64 }
-    ensures advances { IfOk result (Advances front.old front.new offset piece.now) }
-    ensures left { IfOk result (λ count. rest.new.items ≡ drop count piece.now) }
-    ensures unread { OnErr result (front.new ≡ front.old) }
-    ensures unkept { OnErr result (rest.new.items ≡ []) }
-    ensures fault { IfErr result (FailsForGood (text_so_far front.old ++ piece.now)) }
-{
-    let before = record_count(front);
-    let count = advance(alloc, front, offset, piece)?;
-    if rest.extend_from_slice(&piece[count..]).is_err() {
-        take_back(front, before);
-        return Err(FileFault::Memory);
-    }
-    Ok(count)
-}
-
-// Reads what is whole of the bytes that were kept and a piece, and keeps the rest of them.
-fn read_with_kept<A: Allocator + Copy>(
-    alloc: A,
-    front: &mut Option<TwsFile<A>>,
-    offset: u64,
-    rest: &mut Vec<u8, A>,
-    piece: &[u8],
-) -> Result<usize, FileFault>
-    requires at { IsAt front.old offset }
+    requires at { IsAt so_far.old offset }
     requires room { offset + length rest.old.items + length piece.now < 2 ^ 64 }
-    ensures advances { IfOk result (Advances front.old front.new offset (rest.old.items ++ piece.now)) }
+    ensures advances { IfOk result (Advances so_far.old so_far.new offset (rest.old.items ++ piece.now)) }
     ensures left { IfOk result (λ count. rest.new.items ≡ drop count (rest.old.items ++ piece.now)) }
-    ensures unread { OnErr result (front.new ≡ front.old) }
+    ensures unread { OnErr result (so_far.new ≡ so_far.old) }
     ensures unkept { OnErr result (rest.new.items ≡ rest.old.items) }
-    ensures fault { IfErr result (FailsForGood (text_so_far front.old ++ (rest.old.items ++ piece.now))) }
+    ensures fault { IfErr result (FailsForGood (text_so_far so_far.old ++ (rest.old.items ++ piece.now))) }
 {
+    if rest.is_empty() {
+        let records = record_count(so_far);
+        let count = advance(alloc, so_far, offset, piece)?;
+        if rest.extend_from_slice(&piece[count..]).is_err() {
+            take_back(so_far, records);
+            return Err(FileFault::Memory);
+        }
+        return Ok(count);
+    }
     let before = rest.len();
     rest.extend_from_slice(piece)?;
-    match advance(alloc, front, offset, rest) {
+    match advance(alloc, so_far, offset, rest) {
         Ok(count) => {
             drop_first(rest, count);
             Ok(count)
@@ -201,29 +185,6 @@ fn read_with_kept<A: Allocator + Copy>(
     }
 }
 
-// Reads what is whole of the bytes that were kept and a piece, and keeps the rest of them. On error nothing has changed.
-fn read_piece<A: Allocator + Copy>(
-    alloc: A,
-    front: &mut Option<TwsFile<A>>,
-    offset: u64,
-    rest: &mut Vec<u8, A>,
-    piece: &[u8],
-) -> Result<usize, FileFault>
-    requires at { IsAt front.old offset }
-    requires room { offset + length rest.old.items + length piece.now < 2 ^ 64 }
-    ensures advances { IfOk result (Advances front.old front.new offset (rest.old.items ++ piece.now)) }
-    ensures left { IfOk result (λ count. rest.new.items ≡ drop count (rest.old.items ++ piece.now)) }
-    ensures unread { OnErr result (front.new ≡ front.old) }
-    ensures unkept { OnErr result (rest.new.items ≡ rest.old.items) }
-    ensures fault { IfErr result (FailsForGood (text_so_far front.old ++ (rest.old.items ++ piece.now))) }
-{
-    if rest.is_empty() {
-        read_in_place(alloc, front, offset, rest, piece)
-    } else {
-        read_with_kept(alloc, front, offset, rest, piece)
-    }
-}
-
 impl<A: Allocator + Copy> Reader<A> {
     /// A reader to which nothing has come, which takes no memory.
     pub fn new(alloc: A) -> Self
@@ -232,7 +193,7 @@ impl<A: Allocator + Copy> Reader<A> {
         Reader {
             alloc,
             fault: None,
-            front: None,
+            so_far: None,
             offset: 0,
             rest: Vec::new(alloc),
         }
@@ -263,7 +224,7 @@ impl<A: Allocator + Copy> Reader<A> {
         }
         match read_piece(
             self.alloc,
-            &mut self.front,
+            &mut self.so_far,
             self.offset,
             &mut self.rest,
             piece,
@@ -293,7 +254,7 @@ impl<A: Allocator + Copy> Reader<A> {
     {
         let Reader {
             fault,
-            front,
+            so_far,
             offset,
             rest,
             ..
@@ -301,7 +262,7 @@ impl<A: Allocator + Copy> Reader<A> {
         if let Some(fault) = fault {
             return Err(fault);
         }
-        match front {
+        match so_far {
             None => Err(FileFault::ShortHeader(rest.len() as u64)),
             Some(file) if rest.is_empty() => Ok(file),
             Some(_) => Err(FileFault::ShortRecord(offset)),

@@ -6,7 +6,7 @@ ghost use Rattle.tws_moves.specs.Spelling.{IsSpelling};
 ghost use Rattle.tws_file.specs.Fields.{key_bytes, IsKey};
 ghost use Rattle.tws_file.specs.Text.{IsRecord, IsLevel, body_of, record_text, solution};
 ghost use Rattle.tws_file.specs.Fault.{IsRecordCut};
-ghost use Rattle.tws_file.specs.Steps.{IsSize, MovesFail, SolutionFails, RecordFails, RecordsFail, solved_after_key};
+ghost use Rattle.tws_file.specs.Steps.{IsSize, MovesFailAt, SolutionFails, RecordFails, RecordsFail, solved_after_key};
 ghost use Rattle.tws_file.specs.Record.{record_of, records_of};
 
 use crate::bytes::Bytes;
@@ -36,7 +36,7 @@ fn keep_moves<A: Allocator>(alloc: A, offset: u64, bytes: &[u8]) -> Result<Bytes
     requires room { offset + length bytes.now < 2 ^ 64 }
     ensures bytes { IfOk result (λ moves. moves ≡ bytes.now) }
     ensures whole { OnOk result (IsSpelling bytes.now) }
-    ensures fault { IfErr result (MovesFail bytes.now offset) }
+    ensures fault { IfErr result (MovesFailAt bytes.now offset) }
 {
     match check_moves(bytes) {
         Ok(_) => Ok(Bytes::of(Vec::from_slice(alloc, bytes)?)),

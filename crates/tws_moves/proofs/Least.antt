@@ -162,12 +162,12 @@ pub record Spelled (waits : List Wait) : Type 0 where
   pub joined : waits_bytes waits ≡ join pieces
   pub made : flat_map waits_of pieces ≡ waits
 
-spelled_more : (piece : List ℕ) (front rest : List Wait) → Holds piece front → waits_bytes (front ++ rest) ≡ piece ++ waits_bytes rest → Spelled rest → Spelled (front ++ rest)
-spelled_more piece front rest holds bytes later = record {
+spelled_more : (piece : List ℕ) (prefix rest : List Wait) → Holds piece prefix → waits_bytes (prefix ++ rest) ≡ piece ++ waits_bytes rest → Spelled rest → Spelled (prefix ++ rest)
+spelled_more piece prefix rest holds bytes later = record {
   pieces = piece ∷ later.pieces;
   fits = (holds.piece, later.fits);
   joined = bytes ∙ ap (λ (xs : List ℕ). piece ++ xs) later.joined;
-  made = ap (λ (ws : List Wait). ws ++ flat_map waits_of later.pieces) holds.made ∙ ap (λ (ws : List Wait). front ++ ws) later.made;
+  made = ap (λ (ws : List Wait). ws ++ flat_map waits_of later.pieces) holds.made ∙ ap (λ (ws : List Wait). prefix ++ ws) later.made;
 }
 
 three_hold : (a b c : Wait) → Plain a → Plain b → Plain c → Holds (three_byte a b c ∷ []) (a ∷ b ∷ c ∷ [])

@@ -64,13 +64,13 @@ module _ (bytes rest : List ℕ) (pieces : List (List ℕ)) (so_far : ArePieces 
 
   -- ---- what is left is cut
 
-  front_spelled : IsSpelling (take (length (join pieces)) bytes)
-  front_spelled =
-      let front : take (length (join pieces)) bytes ≡ join pieces = ap (take (length (join pieces))) so_far.split ∙ take-append_seam (join pieces) rest in
-      (moves_from 0 (flat_map waits_of pieces), spells_pieces (take (length (join pieces)) bytes) pieces so_far.fits front)
+  prefix_spelled : IsSpelling (take (length (join pieces)) bytes)
+  prefix_spelled =
+      let prefix : take (length (join pieces)) bytes ≡ join pieces = ap (take (length (join pieces))) so_far.split ∙ take-append_seam (join pieces) rest in
+      (moves_from 0 (flat_map waits_of pieces), spells_pieces (take (length (join pieces)) bytes) pieces so_far.fits prefix)
 
-  longest_front : IsPieceCut rest → (n : ℕ) → n ≤ length bytes → IsSpelling (take n bytes) → n ≤ length (join pieces)
-  longest_front cut n within spelled =
+  longest_prefix : IsPieceCut rest → (n : ℕ) → n ≤ length bytes → IsSpelling (take n bytes) → n ≤ length (join pieces)
+  longest_prefix cut n within spelled =
       let other = spelled.1 in
       let whole : join other.pieces ++ drop n bytes ≡ join pieces ++ rest = ap (λ (xs : List ℕ). xs ++ drop n bytes) (sym other.joined) ∙ take-append-drop n bytes ∙ so_far.split in
       let shorter = longest_cut IsPiece itself pieces_are_code other.pieces pieces (drop n bytes) rest other.fits so_far.fits (cut_begins_none rest cut) whole in
@@ -80,8 +80,8 @@ module _ (bytes rest : List ℕ) (pieces : List (List ℕ)) (so_far : ArePieces 
   cut_place cut some =
       rw at_join (record {
         within = omega (arith, ap length so_far.split, length-append (join pieces) rest);
-        spelled = front_spelled;
-        longest = λ n within spelled. longest_front cut n within spelled;
+        spelled = prefix_spelled;
+        longest = λ n within spelled. longest_prefix cut n within spelled;
       })
 
   pub cut_at : (e : MovesFault) → e ≡ Cut (length bytes - length rest) → IsPieceCut rest → 1 ≤ length rest → IsCut bytes e
@@ -148,24 +148,24 @@ join_singles : (bytes : List ℕ) → join (singles bytes) ≡ bytes
 join_singles [] = refl
 join_singles (b ∷ bytes) = ap (λ (xs : List ℕ). b ∷ xs) (join_singles bytes)
 
-pub counts_singles : (bytes front rest : List ℕ) (count : ℕ) → AllByRecursion IsPiece (singles front) → bytes ≡ front ++ rest → count ≡ length (flat_map waits_of (singles front)) → CountsSoFar bytes rest count
-counts_singles bytes front rest count fits split count-is = record {
-  pieces = singles front;
-  so_far = record { fits = fits; split = split ∙ ap (λ (xs : List ℕ). xs ++ rest) (sym (join_singles front)) };
+pub counts_singles : (bytes prefix rest : List ℕ) (count : ℕ) → AllByRecursion IsPiece (singles prefix) → bytes ≡ prefix ++ rest → count ≡ length (flat_map waits_of (singles prefix)) → CountsSoFar bytes rest count
+counts_singles bytes prefix rest count fits split count-is = record {
+  pieces = singles prefix;
+  so_far = record { fits = fits; split = split ∙ ap (λ (xs : List ℕ). xs ++ rest) (sym (join_singles prefix)) };
   count_is = count-is;
 }
 
 -- ---- pieces and then more pieces
 
 module _ (bytes rest after : List ℕ) where
-  pub are_more : (front more : List (List ℕ)) → ArePieces bytes rest front → ArePieces rest after more → ArePieces bytes after (front ++ more)
-  are_more front more first second = record {
-    fits = all_append IsPiece front more first.fits second.fits;
+  pub are_more : (prefix more : List (List ℕ)) → ArePieces bytes rest prefix → ArePieces rest after more → ArePieces bytes after (prefix ++ more)
+  are_more prefix more first second = record {
+    fits = all_append IsPiece prefix more first.fits second.fits;
     split =
         first.split
-        ∙ ap (λ (xs : List ℕ). join front ++ xs) second.split
-        ∙ sym (append_assoc (join front) (join more) after)
-        ∙ ap (λ (xs : List ℕ). xs ++ after) (sym (flat_map-append itself front more));
+        ∙ ap (λ (xs : List ℕ). join prefix ++ xs) second.split
+        ∙ sym (append_assoc (join prefix) (join more) after)
+        ∙ ap (λ (xs : List ℕ). xs ++ after) (sym (flat_map-append itself prefix more));
   }
 
   pub counts_more : (count more next : ℕ) → CountsSoFar bytes rest count → CountsSoFar rest after more → next ≡ count + more → CountsSoFar bytes after next
@@ -193,8 +193,8 @@ first_piece first tail fits whole =
       whole = omega (arith, length-take count tail, whole, piece_some first);
     }
 
-piece_then : (piece behind bytes : List ℕ) → IsPiece piece → bytes ≡ piece ++ behind → Pieces behind → Pieces bytes
-piece_then piece behind bytes one split later =
+piece_then : (piece after bytes : List ℕ) → IsPiece piece → bytes ≡ piece ++ after → Pieces after → Pieces bytes
+piece_then piece after bytes one split later =
     let more : ArePieces bytes later.0 (piece ∷ later.1) = record {
       fits = (one, later.2.fits);
       split = split ∙ ap (λ (xs : List ℕ). piece ++ xs) later.2.split ∙ sym (append_assoc piece (join later.1) later.0);

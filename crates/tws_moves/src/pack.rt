@@ -1,6 +1,6 @@
 //! Bytes that spell moves to the shortest that spell the same, without a list of the moves.
 
-ghost use Rattle.std.specs.Prelude.{◌≡◌, ℕ, ◌+◌, ◌*◌, ◌<◌, ◌%◌, ◌^◌, List, [], ◌∷◌, length, ◌++◌, IfOk, IfErr, OnOk, MatchResult};
+ghost use Rattle.std.specs.Prelude.{◌≡◌, ℕ, ◌+◌, ◌*◌, ◌<◌, ◌%◌, ◌^◌, List, [], ◌∷◌, length, take, ◌++◌, IfOk, IfErr, OnOk, MatchResult};
 ghost use Rattle.tws_moves.specs.declared.moves_fault.MovesFault.TheVariants as fault;
 ghost use Rattle.tws_moves.specs.declared.layout.Layout.TheVariants as layout;
 ghost use Rattle.tws_moves.specs.Move.{Move as Plain};
@@ -11,7 +11,7 @@ ghost use Rattle.tws_moves.specs.Steps.{HasLayout, IsPending, Packs};
 use crate::act::Act;
 use crate::layout::Layout;
 use crate::moves_fault::MovesFault;
-use crate::number::{bits, number_of};
+use crate::number::{bits, number_of_first};
 use crate::pending::Pending;
 use crate::piece::Piece;
 use crate::reading::{cut_before, split_piece};
@@ -74,39 +74,43 @@ fn pack_short<A: Allocator>(
     Ok(Pending::None)
 }
 
-// Adds the moves of a piece in any layout. Apart from the loop over all pieces, most of which are steps in one byte: the
-// loop is faster so.
+// Adds the moves of a piece in any layout, which the bytes begin with. Apart from the loop over all pieces, most of which
+// are steps in one byte: the loop is faster so.
 #[inline(never)]
 fn pack_any<A: Allocator>(
     packed: &mut Vec<u8, A>,
     pending: Pending,
     piece: &[u8],
+    bytes: &[u8],
 ) -> Result<Pending, AllocError>
     requires piece { IsPiece piece.now }
+    requires begins { take (length piece.now) bytes.now ≡ piece.now }
     requires pending { IsPending pending }
     ensures { IfOk result (Packs packed.old.items pending (waits_of piece.now) packed.new.items) }
 {
-    let number = number_of(piece);
+    let number = number_of_first(bytes, piece.len());
     match Wait::in_layout(Layout::of(piece[0]), number) {
         Some(wait) => pack_wait(packed, pending, wait),
         None => pack_three(packed, pending, number),
     }
 }
 
-// Adds the moves of a piece.
+// Adds the moves of a piece, which the bytes begin with.
 fn pack_piece<A: Allocator>(
     packed: &mut Vec<u8, A>,
     pending: Pending,
     piece: &[u8],
+    bytes: &[u8],
 ) -> Result<Pending, AllocError>
     requires piece { IsPiece piece.now }
+    requires begins { take (length piece.now) bytes.now ≡ piece.now }
     requires pending { IsPending pending }
     ensures { IfOk result (Packs packed.old.items pending (waits_of piece.now) packed.new.items) }
 {
     if piece[0] % 4 == 1 {
         return pack_short(packed, pending, piece[0]);
     }
-    pack_any(packed, pending, piece)
+    pack_any(packed, pending, piece, bytes)
 }
 
 /// The shortest bytes that spell the same moves as these. They are those that `write_moves` gives for the moves that
@@ -129,7 +133,7 @@ pub fn pack_moves<A: Allocator>(alloc: A, bytes: &[u8]) -> Result<Vec<u8, A>, Mo
     let mut pending = Pending::None;
     let mut rest = bytes;
     while let Some((piece, after)) = split_piece(rest) {
-        pending = pack_piece(&mut packed, pending, piece)?;
+        pending = pack_piece(&mut packed, pending, piece, rest)?;
         rest = after;
     }
     if !rest.is_empty() {

@@ -1,4 +1,4 @@
-ghost use Rattle.std.specs.Prelude.{◌≡◌, ℕ, ◌+◌, ◌*◌, ◌<◌, ◌^◌, ◌&&◌, ◌++◌, drop, length, slice_index_or, OnOk, IfSome, IfNone};
+ghost use Rattle.std.specs.Prelude.{◌≡◌, ℕ, ◌+◌, ◌*◌, ◌<◌, ◌≤◌, ◌^◌, ◌&&◌, ◌++◌, drop, length, slice_index_or, OnOk, IfSome, IfNone};
 ghost use Rattle.tws_moves.specs.Bytes.{little_bytes};
 ghost use Rattle.tws_moves.specs.Move.{Wait as PlainWait, IsTimed, waits_from};
 ghost use Rattle.tws_moves.specs.Shortest.{act_bytes, alone, code_more, is_plain};
@@ -128,10 +128,25 @@ impl Piece {
         Piece::alone(wait)
     }
 
-    /// Adds its bytes.
+    // Adds its bytes as the first of eight that are written at once.
+    fn push_first<A: Allocator>(self, bytes: &mut Vec<u8, A>) -> Result<(), AllocError>
+        requires { self.length ≤ 8 }
+        ensures { OnOk result (bytes.new.items ≡ bytes.old.items ++ little_bytes self.length self.number) }
+    {
+        let before = bytes.len();
+        bytes.extend_from_slice(&self.number.to_le_bytes())?;
+        bytes.truncate(before + self.length);
+        Ok(())
+    }
+
+    /// Adds its bytes. Where they are several and there is room for eight they are written at once: a loop over a number
+    /// of bytes that no processor foresees takes longer.
     pub(crate) fn push_to<A: Allocator>(self, bytes: &mut Vec<u8, A>) -> Result<(), AllocError>
         ensures { OnOk result (bytes.new.items ≡ bytes.old.items ++ little_bytes self.length self.number) }
     {
+        if 1 < self.length && self.length <= 8 && bytes.capacity() - bytes.len() >= 8 {
+            return self.push_first(bytes);
+        }
         let mut rest = self.number;
         for _ in 0..self.length {
             bytes.push((rest % 256) as u8)?;

@@ -8,7 +8,7 @@ ghost use Rattle.tws_moves.specs.Spelling.{IsPiece, waits_of, layout_waits, Spel
 ghost use Rattle.tws_moves.specs.Steps.{IsPieceCut};
 
 use crate::act::Act;
-use crate::layout::Layout;
+use crate::layout::{Layout, piece_length};
 use crate::moves::Move;
 use crate::moves_fault::MovesFault;
 use crate::number::{bits, number_of};
@@ -24,7 +24,7 @@ pub(crate) fn split_piece(bytes: &[u8]) -> Option<(&[u8], &[u8])>
     let [first, ..] = bytes else {
         return None;
     };
-    let length = Layout::of(*first).length(*first);
+    let length = piece_length(*first);
     if bytes.len() < length {
         return None;
     }

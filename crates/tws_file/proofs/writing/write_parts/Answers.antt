@@ -4,7 +4,7 @@ use Rattle.std.specs.Io.KnownBytes.{Appends}
 use Rattle.tws_file.specs.Text.{header_text}
 use Rattle.byte_output.specs.Output.{AppendsPrefix}
 use Rattle.byte_output.proofs.Sending.{at_err, first_prefix, both_sent, both_prefix, all_sent, prefix_then}
-use Rattle.tws_file.proofs.Gathering.{texts, behind_nothing}
+use Rattle.tws_file.proofs.Gathering.{texts, after_nothing}
 use Rattle.tws_file.proofs.writing.write_parts.Goals as goal
 
 pub returns-in_err-send_both-clause-err : goal.returns-in_err-send_both-clause-err
@@ -13,7 +13,7 @@ returns-in_err-send_both-clause-err g c =
     let mid = g.W.Write.contents c.send_both.new.out in
     let header = header_text c.args.«ruleset» c.args.word c.args.extra.now in
     let pushed = c.new-buffer.result ++ (c.as_slice.result.now ++ c.args.extra.now) in
-    let pushed-is = behind_nothing c.new-buffer.result c.as_slice.result.now c.header_head-head.result c.args.extra.now header c.new-buffer.ensures c.as_slice.ensures c.header_head-head.ensures in
+    let pushed-is = after_nothing c.new-buffer.result c.as_slice.result.now c.header_head-head.result c.args.extra.now header c.new-buffer.ensures c.as_slice.ensures c.header_head-head.ensures in
     at_err c.from_residual.result (first_prefix old mid mid [] header (texts c.args.records.now) pushed pushed pushed-is c.in_err-send_both.ensures.err)
 
 pub returns-in_err-send_records-clause-err : goal.returns-in_err-send_records-clause-err
@@ -22,7 +22,7 @@ returns-in_err-send_records-clause-err g c =
     let mid = g.W.Write.contents c.send_both.new.out in
     let header = header_text c.args.«ruleset» c.args.word c.args.extra.now in
     let pushed = c.new-buffer.result ++ (c.as_slice.result.now ++ c.args.extra.now) in
-    let pushed-is = behind_nothing c.new-buffer.result c.as_slice.result.now c.header_head-head.result c.args.extra.now header c.new-buffer.ensures c.as_slice.ensures c.header_head-head.ensures in
+    let pushed-is = after_nothing c.new-buffer.result c.as_slice.result.now c.header_head-head.result c.args.extra.now header c.new-buffer.ensures c.as_slice.ensures c.header_head-head.ensures in
     let new = g.W.Write.contents c.send_records.new.out in
     at_err c.from_residual-in_err-send_records.result (both_prefix old mid new [] header (texts c.args.records.now) pushed c.send_both.new.buffer pushed-is c.in_ok-send_both.ensures.ok c.in_err-send_records.ensures.err)
 
@@ -32,7 +32,7 @@ returns-clause-ok g c =
     let mid = g.W.Write.contents c.send_both.new.out in
     let header = header_text c.args.«ruleset» c.args.word c.args.extra.now in
     let pushed = c.new-buffer.result ++ (c.as_slice.result.now ++ c.args.extra.now) in
-    let pushed-is = behind_nothing c.new-buffer.result c.as_slice.result.now c.header_head-head.result c.args.extra.now header c.new-buffer.ensures c.as_slice.ensures c.header_head-head.ensures in
+    let pushed-is = after_nothing c.new-buffer.result c.as_slice.result.now c.header_head-head.result c.args.extra.now header c.new-buffer.ensures c.as_slice.ensures c.header_head-head.ensures in
     let then = g.W.Write.contents c.send_records.new.out in
     let new = g.W.Write.contents c.put.new.out in
     let body = texts c.args.records.now in
@@ -46,7 +46,7 @@ returns-clause-err g c =
     let mid = g.W.Write.contents c.send_both.new.out in
     let header = header_text c.args.«ruleset» c.args.word c.args.extra.now in
     let pushed = c.new-buffer.result ++ (c.as_slice.result.now ++ c.args.extra.now) in
-    let pushed-is = behind_nothing c.new-buffer.result c.as_slice.result.now c.header_head-head.result c.args.extra.now header c.new-buffer.ensures c.as_slice.ensures c.header_head-head.ensures in
+    let pushed-is = after_nothing c.new-buffer.result c.as_slice.result.now c.header_head-head.result c.args.extra.now header c.new-buffer.ensures c.as_slice.ensures c.header_head-head.ensures in
     let then = g.W.Write.contents c.send_records.new.out in
     let new = g.W.Write.contents c.put.new.out in
     let body = texts c.args.records.now in

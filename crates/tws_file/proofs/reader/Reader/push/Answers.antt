@@ -5,14 +5,14 @@ use Rattle.tws_file.proofs.Lasting.{takes_stopped}
 use Rattle.tws_file.proofs.reader.Reader.push.Goals as goal
 
 pub returns-in-Some-clause-taken : goal.returns-in-Some-clause-taken
-returns-in-Some-clause-taken g c = λ bytes taken. takes_stopped c.args.self.now c.in-Some.fault bytes c.args.piece.now (sym (ap (λ f. reading_from f c.self.inside.front c.self.inside.rest.items) c.in-Some.is) ∙ c.self.view_is) taken
+returns-in-Some-clause-taken g c = λ bytes taken. takes_stopped c.args.self.now c.in-Some.fault bytes c.args.piece.now (sym (ap (λ f. reading_from f c.self.inside.so_far c.self.inside.rest.items) c.in-Some.is) ∙ c.self.view_is) taken
 
 pub returns-then-is_empty-clause-goes_on : goal.returns-then-is_empty-clause-goes_on
 returns-then-is_empty-clause-goes_on g c =
     let r = c.self.inside in
-    subst HasNoLasting c.self.view_is (stays_on r.fault r.front r.rest.items r.offset c.in_default.is c.self.invariant.at c.self.invariant.left)
+    subst HasNoLasting c.self.view_is (stays_on r.fault r.so_far r.rest.items r.offset c.in_default.is c.self.invariant.at c.self.invariant.left)
 
 pub returns-in-Ok-clause-goes_on : goal.returns-in-Ok-clause-goes_on
 returns-in-Ok-clause-goes_on g c =
     let r = c.self.inside in
-    goes_on r.fault r.front c.read_piece.new.front (r.rest.items ++ c.args.piece.now) c.read_piece.new.rest.items r.offset c.in-Ok.count c.in_default.is c.in-Ok.ensures.advances c.in-Ok.ensures.left
+    goes_on r.fault r.so_far c.read_piece.new.so_far (r.rest.items ++ c.args.piece.now) c.read_piece.new.rest.items r.offset c.in-Ok.count c.in_default.is c.in-Ok.ensures.advances c.in-Ok.ensures.left
