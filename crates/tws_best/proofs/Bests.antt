@@ -32,15 +32,15 @@ one_best IsMember e f best_e best_f same =
     entry_is e f same (even e.body f.body (best_f.least e best_e.member same) (best_e.least f best_f.member (sym same)))
 
 -- what is best of a set is in the map, and nothing else
-pub best_stands : (IsMember : Entry → Type 0) (es : List Entry) (e : Entry) → IsBestOf IsMember es → IsBest IsMember e → Contains es e
-best_stands IsMember es e of best =
+pub best_present : (IsMember : Entry → Type 0) (es : List Entry) (e : Entry) → IsBestOf IsMember es → IsBest IsMember e → Contains es e
+best_present IsMember es e of best =
     let of_key = of.every e best.member in
-    subst (Contains es) (one_best IsMember of_key.entry e (of.best of_key.entry of_key.stands) best of_key.key_is) of_key.stands
+    subst (Contains es) (one_best IsMember of_key.entry e (of.best of_key.entry of_key.present) best of_key.key_is) of_key.present
 
 -- the map of a set is one
 pub one_map : (IsMember : Entry → Type 0) (ds es : List Entry) → IsBestOf IsMember ds → IsBestOf IsMember es → ds ≡ es
 one_map IsMember ds es of_d of_e =
-    same_entries ds es of_d.rising of_e.rising (λ f has. best_stands IsMember es f of_e (of_d.best f has)) (λ f has. best_stands IsMember ds f of_d (of_e.best f has))
+    same_entries ds es of_d.rising of_e.rising (λ f has. best_present IsMember es f of_e (of_d.best f has)) (λ f has. best_present IsMember ds f of_d (of_e.best f has))
 
 -- ---- sets that have the same best
 
@@ -57,7 +57,7 @@ widen IsFew IsMany es of more held = record {
   every = λ f many.
       let h = held f many in
       let k = of.every h.holder h.member in
-      record { entry = k.entry; stands = k.stands; key_is = k.key_is ∙ h.same };
+      record { entry = k.entry; present = k.present; key_is = k.key_is ∙ h.same };
 }
 
 -- each entry holds itself
@@ -68,7 +68,7 @@ held_itself IsMember e member = record { holder = e; member = member; same = ref
 pub held_by_best : (IsMember : Entry → Type 0) (es : List Entry) → IsBestOf IsMember es → (f : Entry) → IsMember f → IsHeld (Contains es) f
 held_by_best IsMember es of f member =
     let k = of.every f member in
-    record { holder = k.entry; member = k.stands; same = k.key_is; no_worse = (of.best k.entry k.stands).least f member (sym k.key_is) }
+    record { holder = k.entry; member = k.present; same = k.key_is; no_worse = (of.best k.entry k.present).least f member (sym k.key_is) }
 
 pub held_in : (IsFew IsMany : Entry → Type 0) → ((e : Entry) → IsFew e → IsMany e) → (f : Entry) → IsHeld IsFew f → IsHeld IsMany f
 held_in IsFew IsMany more f h = record { holder = h.holder; member = more h.holder h.member; same = h.same; no_worse = h.no_worse }
@@ -82,5 +82,5 @@ pub own_best : (es : List Entry) → IsRising es → IsBestOf (Contains es) es
 own_best es rising = record {
   rising = rising;
   best = λ e has. record { member = has; least = λ f also same below. rank_itself (rank_of e.body) (subst (λ (x : Entry). IsBelow (rank_of x.body) (rank_of e.body)) (one_entry es f e rising also has same) below) };
-  every = λ f has. record { entry = f; stands = has; key_is = refl };
+  every = λ f has. record { entry = f; present = has; key_is = refl };
 }

@@ -54,8 +54,8 @@ better_stays false x e es is same rising =
     (λ f has. elim (Contains-cases x (e ∷ es) f has) [ inl first ↦ inl (sym first) | inr later ↦ inr later ])
 
 -- the entry goes after the first one
-goes_behind : (x e : Entry) (es rest : List Entry) → key_cmp x.key e.key ≡ Greater → IsRising (e ∷ es) → IsBestOf (Contains (x ∷ es)) rest → IsBestOf (Contains (x ∷ (e ∷ es))) (e ∷ rest)
-goes_behind x e es rest greater rising of =
+goes_after : (x e : Entry) (es rest : List Entry) → key_cmp x.key e.key ≡ Greater → IsRising (e ∷ es) → IsBestOf (Contains (x ∷ es)) rest → IsBestOf (Contains (x ∷ (e ∷ es))) (e ∷ rest)
+goes_after x e es rest greater rising of =
     let up : key_cmp e.key x.key ≡ Less = key_total.antisymm e.key x.key ∙ ap ordering_reverse greater in
     let above : (f : Entry) → Contains (x ∷ es) f → key_cmp e.key f.key ≡ Less = λ f has. elim (Contains-cases x es f has) [
       | inl is ↦ subst (λ (g : Entry). key_cmp e.key g.key ≡ Less) is up
@@ -88,15 +88,15 @@ goes_behind x e es rest greater rising of =
         })
       ];
       every = λ f all. elim (cases f all) [
-        | inl it ↦ (record { entry = e; stands = Contains-here e rest; key_is = ap (λ (g : Entry). g.key) it })
-        | inr other ↦ (let k = of.every f other in record { entry = k.entry; stands = Contains-there e rest k.entry k.stands; key_is = k.key_is })
+        | inl it ↦ (record { entry = e; present = Contains-here e rest; key_is = ap (λ (g : Entry). g.key) it })
+        | inr other ↦ (let k = of.every f other in record { entry = k.entry; present = Contains-there e rest k.entry k.present; key_is = k.key_is })
       ];
     }
 
 placed_best : (o : Ordering) (x e : Entry) (es rest : List Entry) → o ≡ key_cmp x.key e.key → IsRising (e ∷ es) → IsBestOf (Contains (x ∷ es)) rest → IsBestOf (Contains (x ∷ (e ∷ es))) (placed o x e es rest)
 placed_best Less x e es rest is rising of = own_best (x ∷ (e ∷ es)) (rises_before x e es (sym is) rising)
 placed_best Equal x e es rest is rising of = better_stays (is_lt (rank_cmp (rank_of x.body) (rank_of e.body))) x e es refl (key_tie x.key e.key (sym is)) rising
-placed_best Greater x e es rest is rising of = goes_behind x e es rest (sym is) rising of
+placed_best Greater x e es rest is rising of = goes_after x e es rest (sym is) rising of
 
 -- the list with one entry more
 pub put_best : (x : Entry) (es : List Entry) → IsRising es → IsBestOf (Contains (x ∷ es)) (put_in x es)

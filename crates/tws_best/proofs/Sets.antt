@@ -8,7 +8,7 @@ use Rattle.tws_file.proofs.FileText.{one_file}
 use Rattle.tws_best.specs.Best.{Entry, IsBestOf, IsSolutionIn, IsCollectionOf, Collected, IsCollected, collection_text, solved_by, solutions_of}
 use Rattle.tws_best.proofs.Members.{Contains-none, Contains-here, Contains-there, Contains-cases}
 use Rattle.tws_best.proofs.Texts.{file_from, is_text, file_solves}
-use Rattle.tws_best.proofs.Bests.{widen, same_best, own_best, held_itself, held_in, held_by_best, best_stands, one_map}
+use Rattle.tws_best.proofs.Bests.{widen, same_best, own_best, held_itself, held_in, held_by_best, best_present, one_map}
 
 -- ---- the best of the best
 
@@ -37,7 +37,7 @@ best_of_all xs ys ms ns of best =
           let b = best.best e has in
           record {
             member = elim (Contains-append_cases xs ys e b.member) [
-              | inl first ↦ Contains-append_left ms ys e (best_stands (Contains xs) ms e of (record { member = first; least = λ f few same. b.least f (Contains-append_left xs ys f few) same }))
+              | inl first ↦ Contains-append_left ms ys e (best_present (Contains xs) ms e of (record { member = first; least = λ f few same. b.least f (Contains-append_left xs ys f few) same }))
               | inr second ↦ Contains-append_right ms ys e second
             ];
             least = λ f member same. b.least f (wider f member) same;
@@ -57,28 +57,28 @@ file_here kind file e has = subst (λ (es : List Entry). Contains es e) (sym (ap
 record IsOfFile (kind : Ruleset) (files : List File) (e : Entry) : Type 0 where
   file : File
   among : Contains files file
-  stands : Contains (solved_by kind file.ruleset file.records) e
+  present : Contains (solved_by kind file.ruleset file.records) e
 
 of_file : (kind : Ruleset) (files : List File) (e : Entry) → Contains (solutions_of kind files) e → IsOfFile kind files e
 of_file kind [] e has = absurd (Contains-none e has)
 of_file kind (file ∷ files) e has =
     let rest = of_file kind files e in
     elim (Contains-append_cases (solved_by kind file.ruleset file.records) (solutions_of kind files) e has) [
-      | inl first ↦ (record { file = file; among = Contains-here file files; stands = first })
-      | inr later ↦ (let r = rest later in record { file = r.file; among = Contains-there file files r.file r.among; stands = r.stands })
+      | inl first ↦ (record { file = file; among = Contains-here file files; present = first })
+      | inr later ↦ (let r = rest later in record { file = r.file; among = Contains-there file files r.file r.among; present = r.present })
     ]
 
 from_file : (kind : Ruleset) (files : List File) (file : File) (e : Entry) → Contains files file → Contains (solved_by kind file.ruleset file.records) e → Contains (solutions_of kind files) e
-from_file kind [] file e among stands = absurd (Contains-none file among)
-from_file kind (one ∷ files) file e among stands =
+from_file kind [] file e among present = absurd (Contains-none file among)
+from_file kind (one ∷ files) file e among present =
     let rest = from_file kind files file e in
     elim (Contains-cases one files file among) [
-      | inl same ↦ Contains-append_left (solved_by kind one.ruleset one.records) (solutions_of kind files) e (subst (λ (f : File). Contains (solved_by kind f.ruleset f.records) e) (sym same) stands)
-      | inr later ↦ Contains-append_right (solved_by kind one.ruleset one.records) (solutions_of kind files) e (rest later stands)
+      | inl same ↦ Contains-append_left (solved_by kind one.ruleset one.records) (solutions_of kind files) e (subst (λ (f : File). Contains (solved_by kind f.ruleset f.records) e) (sym same) present)
+      | inr later ↦ Contains-append_right (solved_by kind one.ruleset one.records) (solutions_of kind files) e (rest later present)
     ]
 
 files_there : (kind : Ruleset) (files more : List File) → ((f : File) → Contains files f → Contains more f) → (e : Entry) → Contains (solutions_of kind files) e → Contains (solutions_of kind more) e
-files_there kind files more there e has = let o = of_file kind files e has in from_file kind more o.file e (there o.file o.among) o.stands
+files_there kind files more there e has = let o = of_file kind files e has in from_file kind more o.file e (there o.file o.among) o.present
 
 -- order and repeats of files have no effect
 pub same_files : (kind : Ruleset) (files more : List File) (es : List Entry) → ((f : File) → Contains files f → Contains more f) → ((f : File) → Contains more f → Contains files f) → IsBestOf (Contains (solutions_of kind files)) es → IsBestOf (Contains (solutions_of kind more)) es
@@ -88,7 +88,7 @@ same_files kind files more es there back best =
 -- ---- texts
 
 texts_there : (kind : Ruleset) (texts more : List (List ℕ)) → ((t : List ℕ) → Contains texts t → Contains more t) → (e : Entry) → IsSolutionIn kind texts e → IsSolutionIn kind more e
-texts_there kind texts more there e s = record { text = s.text; among = there s.text s.among; file = s.file; is_text = s.is_text; stands = s.stands }
+texts_there kind texts more there e s = record { text = s.text; among = there s.text s.among; file = s.file; is_text = s.is_text; present = s.present }
 
 pub same_texts : (kind : Ruleset) (texts more : List (List ℕ)) (c : Collected) → ((t : List ℕ) → Contains texts t → Contains more t) → ((t : List ℕ) → Contains more t → Contains texts t) → IsCollectionOf kind texts c → IsCollectionOf kind more c
 same_texts kind texts more c there back of = record {
@@ -109,8 +109,8 @@ wider kind texts t = texts_there kind texts (texts ++ t ∷ []) (λ x among. Con
 last_text : (kind : Ruleset) (texts : List (List ℕ)) (t : List ℕ) (f : File) (e : Entry) → IsText t f → IsSolutionIn kind (texts ++ t ∷ []) e → IsSolutionIn kind texts e ⊎ Contains (solutions_of kind (f ∷ [])) e
 last_text kind texts t f e text s =
     elim (Contains-push_cases texts t s.text s.among) [
-      | inl earlier ↦ inl (record { text = s.text; among = earlier; file = s.file; is_text = s.is_text; stands = s.stands })
-      | inr same ↦ inr (subst (λ (g : File). Contains (solutions_of kind (g ∷ [])) e) (one_file t s.file f (subst (λ (x : List ℕ). IsText x s.file) (sym same) s.is_text) text) s.stands)
+      | inl earlier ↦ inl (record { text = s.text; among = earlier; file = s.file; is_text = s.is_text; present = s.present })
+      | inr same ↦ inr (subst (λ (g : File). Contains (solutions_of kind (g ∷ [])) e) (one_file t s.file f (subst (λ (x : List ℕ). IsText x s.file) (sym same) s.is_text) text) s.present)
     ]
 
 -- a merge of one file more
@@ -124,7 +124,7 @@ one_more_text kind texts t f c d of text rules best =
       best = widen few (IsSolutionIn kind (texts ++ t ∷ [])) d.entries merged
           (λ e has. elim (Contains-append_cases c.entries solved e has) [
             | inl first ↦ wider kind texts t e (of.best.best e first).member
-            | inr second ↦ (record { text = t; among = Contains-push texts t; file = f; is_text = text; stands = second })
+            | inr second ↦ (record { text = t; among = Contains-push texts t; file = f; is_text = text; present = second })
           ])
           (λ e member. elim (last_text kind texts t f e text member) [
             | inl first ↦ held_in (Contains c.entries) few (λ x has. Contains-append_left c.entries solved x has) e (held_by_best (IsSolutionIn kind texts) c.entries of.best e first)
@@ -138,7 +138,7 @@ one_more_unreadable kind texts t c of not = record {
   kind_is = of.kind_is;
   best = same_best (IsSolutionIn kind texts) (IsSolutionIn kind (texts ++ t ∷ [])) c.entries of.best (wider kind texts t)
       (λ e s. elim (Contains-push_cases texts t s.text s.among) [
-        | inl earlier ↦ (record { text = s.text; among = earlier; file = s.file; is_text = s.is_text; stands = s.stands })
+        | inl earlier ↦ (record { text = s.text; among = earlier; file = s.file; is_text = s.is_text; present = s.present })
         | inr same ↦ absurd (not (s.file, subst (λ (x : List ℕ). IsText x s.file) (sym same) s.is_text))
       ]);
 }
@@ -159,10 +159,10 @@ own_collection c fits =
     record {
       kind_is = refl;
       best = same_best (Contains c.entries) (IsSolutionIn c.ruleset (text ∷ [])) c.entries (own_best c.entries fits.rising)
-          (λ e has. record { text = text; among = Contains-here text []; file = f; is_text = is_text c fits; stands = subst (λ (es : List Entry). Contains es e) (sym (file_solves c fits)) has })
+          (λ e has. record { text = text; among = Contains-here text []; file = f; is_text = is_text c fits; present = subst (λ (es : List Entry). Contains es e) (sym (file_solves c fits)) has })
           (λ e s. elim (Contains-cases text [] s.text s.among) [
             | inl same ↦ (let one : s.file ≡ f = one_file text s.file f (subst (λ (x : List ℕ). IsText x s.file) (sym same) s.is_text) (is_text c fits) in
-                subst (λ (es : List Entry). Contains es e) (ap (λ (g : File). solutions_of c.ruleset (g ∷ [])) one ∙ file_solves c fits) s.stands)
+                subst (λ (es : List Entry). Contains es e) (ap (λ (g : File). solutions_of c.ruleset (g ∷ [])) one ∙ file_solves c fits) s.present)
             | inr none ↦ absurd (Contains-none s.text none)
           ]);
     }

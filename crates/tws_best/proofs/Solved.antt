@@ -1,11 +1,11 @@
 -- How the solutions among records are found.
-use Rattle.std.proofs.Common.{◌≡◌, ℕ, ◌+◌, ◌<◌, List, [], ◌∷◌, ◌++◌, length, take, get_or, refl, ap, sym, ◌∙◌}
-use Rattle.std.proofs.lemmas.List.{take_more, map-append}
+use Rattle.std.proofs.Common.{◌≡◌, ℕ, ◌+◌, ◌<◌, List, [], ◌∷◌, ◌++◌, length, take, map, get_or, refl, ap, sym, ◌∙◌, append-nil}
+use Rattle.std.proofs.lemmas.List.{take_more, map-append, map_push, map_more}
 use Rattle.tws_file.specs.declared.record.Record as stored
 use Rattle.tws_file.specs.declared.record.Record.TheVariants.{Pad, Set, Bare, Solution as Solved}
 use Rattle.tws_file.specs.Text.{Record, Solution, pad, set, bare, solution}
 use Rattle.tws_file.specs.Record.{record_of, records_of}
-use Rattle.tws_best.specs.Best.{solved_in}
+use Rattle.tws_best.specs.Best.{Entry, entry_of, solved_in}
 
 solved_in-append : (rs ss : List Record) → solved_in (rs ++ ss) ≡ solved_in rs ++ solved_in ss
 solved_in-append [] ss = refl
@@ -22,8 +22,29 @@ solved_more records i one inside is =
     ∙ solved_in-append (records_of (take i records)) (record_of one ∷ [])
 
 -- any other record has no solution
-pub not_solved : {A : Type 0} (one : stored.Record A) → ((s : Solution) → one ≡ Solved s → ⊥) → solved_in (record_of one ∷ []) ≡ []
+not_solved : {A : Type 0} (one : stored.Record A) → ((s : Solution) → one ≡ Solved s → ⊥) → solved_in (record_of one ∷ []) ≡ []
 not_solved Pad not = refl
 not_solved (Set rest) not = refl
 not_solved (Bare key) not = refl
 not_solved (Solved s) not = absurd (not s refl)
+
+-- one reference more
+pub mapped_push : {X : Type 0} (f : X → Entry) (xs pushed ys : List X) (y : X) → ys ≡ pushed → pushed ≡ xs ++ y ∷ [] → map f ys ≡ map f xs ++ f y ∷ []
+mapped_push f xs pushed ys y same is = ap (map f) same ∙ ap (map f) is ∙ map_push f xs y
+
+-- one solution more
+pub mapped_more : {X : Type 0} (f : X → Entry) (xs : List X) (i : ℕ) (x : X) → i < length xs → x ≡ get_or xs i x → map f (take (i + 1) xs) ≡ map f (take i xs) ++ f x ∷ []
+mapped_more f xs i x inside is = map_more f xs i x inside ∙ ap (λ y. map f (take i xs) ++ f y ∷ []) (sym is)
+
+-- one record more, if the solutions before it are found
+module _ {A : Type 0} (so_far before all items : List Entry) (item : stored.Record A) (more : all ≡ so_far ++ solved_in (record_of item ∷ [])) (is_so_far : before ≡ so_far) where
+  pub step_solution : (s : Solution) → item ≡ Solved s → items ≡ before ++ entry_of s ∷ [] → items ≡ all
+  step_solution s is items_is =
+      items_is
+      ∙ ap (λ (es : List Entry). es ++ entry_of s ∷ []) is_so_far
+      ∙ ap (λ (r : stored.Record A). so_far ++ solved_in (record_of r ∷ [])) (sym is)
+      ∙ sym more
+
+  pub step_other : ((s : Solution) → item ≡ Solved s → ⊥) → items ≡ before → items ≡ all
+  step_other not items_is =
+      items_is ∙ is_so_far ∙ sym (append-nil so_far) ∙ ap (λ (es : List Entry). so_far ++ es) (sym (not_solved item not)) ∙ sym more

@@ -1,12 +1,12 @@
 -- The offsets at which records start, and the search among them.
-use Rattle.std.proofs.Common.{◌≡◌, ℕ, zero, suc, ◌+◌, ◌<◌, ◌≤◌, true, false, List, [], ◌∷◌, ◌++◌, length, take, get_or, refl, ap, sym, ◌∙◌, arith, inl, inr, append_assoc, append-nil, length-append}
+use Rattle.std.proofs.Common.{◌≡◌, ℕ, zero, suc, ◌+◌, ◌-◌, ◌<◌, ◌≤◌, true, false, List, [], ◌∷◌, ◌++◌, length, take, get_or, refl, ap, sym, ◌∙◌, arith, inl, inr, append_assoc, append-nil, length-append}
 use lib.Dec.{leb}
 use Rattle.std.specs.List.Sorted.{IsNonDecreasingBy, IsPartitionPoint}
 use Rattle.std.proofs.lemmas.Bool.{cases_lt, leb-true, leb-false}
 use Rattle.std.proofs.lemmas.List.{get_or_default, take_all}
 use Rattle.std.proofs.lemmas.List.Concat.{flat_map-append}
 use Rattle.tws_best.specs.Best.{body_text}
-use Rattle.tws_best.specs.Frozen.{starts_from}
+use Rattle.tws_best.specs.Frozen.{Frozen, frozen_text, record_start, starts_from}
 use Rattle.tws_best.proofs.BodyTexts.{texts}
 use Rattle.tws_best.proofs.Windows.{texts_more}
 
@@ -49,11 +49,11 @@ starts_rise at bodies i j d le inside =
 
 -- ---- the record with the byte at an offset
 
-pub record IsFound (bodies : List (List ℕ)) (offset index start : ℕ) : Type 0 where
-  pub inside : index < length bodies
-  pub low : start ≤ offset
-  pub within : offset ≤ start + length (body_text (get_or bodies index []))
-  pub is : start ≡ 8 + length (texts (take index bodies))
+record IsFound (bodies : List (List ℕ)) (offset index start : ℕ) : Type 0 where
+  inside : index < length bodies
+  low : start ≤ offset
+  within : offset ≤ start + length (body_text (get_or bodies index []))
+  is : start ≡ 8 + length (texts (take index bodies))
 
 some_body : (bodies : List (List ℕ)) (offset : ℕ) → 8 < offset → offset ≤ 8 + length (texts bodies) → 0 < length bodies
 some_body [] offset past last = absurd (omega arith)
@@ -67,7 +67,7 @@ module _ (bodies : List (List ℕ)) (starts : List ℕ) (offset place : ℕ) (st
   start-is : (i : ℕ) → i < length bodies → get_or starts i 0 ≡ 8 + length (texts (take i bodies))
   start-is i inside = ap (λ (ns : List ℕ). get_or ns i 0) starts-is ∙ start_at 8 bodies i inside
 
-  pub place_past : 0 < place
+  place_past : 0 < place
   place_past = elim (cases_lt 0 place) [
     | inl lt ↦ lt
     | inr le ↦ (let some = some_body bodies offset past last in
@@ -75,7 +75,7 @@ module _ (bodies : List (List ℕ)) (starts : List ℕ) (offset place : ℕ) (st
         absurd (omega (arith, above, start-is 0 some)))
   ]
 
-  pub found_there : (index : ℕ) → index + 1 ≡ place → IsFound bodies offset index (get_or starts index 0)
+  found_there : (index : ℕ) → index + 1 ≡ place → IsFound bodies offset index (get_or starts index 0)
   found_there index next =
       let inside : index < length bodies = omega (arith, bound, count) in
       let is = start-is index inside in
@@ -95,6 +95,30 @@ module _ (bodies : List (List ℕ)) (starts : List ℕ) (offset place : ℕ) (st
               omega (arith, whole, size, is, last))
         ];
       }
+
+-- what a search among the starts of a snapshot's records finds: the record before the place
+pub record IsFoundIn (s : Frozen) (starts : List ℕ) (offset place : ℕ) : Type 0 where
+  pub past : 0 < place
+  pub inside : place - 1 < length s.bodies
+  pub counted : place - 1 < length starts
+  pub low : get_or starts (place - 1) 0 ≤ offset
+  pub within : offset ≤ get_or starts (place - 1) 0 + length (body_text (get_or s.bodies (place - 1) []))
+  pub is : get_or starts (place - 1) 0 ≡ record_start s (place - 1)
+
+pub found_in : (own s : Frozen) (starts : List ℕ) (offset place : ℕ) → own ≡ s → starts ≡ starts_from 8 own.bodies → 8 < offset → offset ≤ length (frozen_text s) → place ≤ length starts → IsPartitionPoint (λ y. leb y offset ≡ true) (λ y. leb y offset ≡ false) starts place → IsFoundIn s starts offset place
+found_in own s starts offset place own-is starts-are past last bound point =
+    let are = starts-are ∙ ap (λ v. starts_from 8 v.bodies) own-is in
+    let reach : offset ≤ 8 + length (texts s.bodies) = omega (arith, last) in
+    let some = place_past s.bodies starts offset place are past reach bound point in
+    let next : (place - 1) + 1 ≡ place = omega (arith, some) in
+    let found = found_there s.bodies starts offset place are past reach bound point (place - 1) next in
+    let many : length starts ≡ length s.bodies = ap length are ∙ starts_length 8 s.bodies in
+    record { past = some; inside = found.inside; counted = omega (arith, found.inside, many); low = found.low; within = found.within; is = found.is }
+
+-- the start that was read, wherever the list of starts lies
+pub start_read : (starts kept : List ℕ) (i start : ℕ) → starts ≡ kept → i < length starts → start ≡ get_or kept i start → start ≡ get_or starts i 0
+start_read starts kept i start same inside is =
+    is ∙ ap (λ (ns : List ℕ). get_or ns i start) (sym same) ∙ get_or_default starts i start 0 inside
 
 -- one body more is noted
 pub all_noted : (old new left next all : List (List ℕ)) (given body : List ℕ) → new ≡ old ++ given ∷ [] → given ≡ body → left ≡ body ∷ next → old ++ left ≡ all → new ++ next ≡ all

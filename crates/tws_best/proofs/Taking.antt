@@ -5,13 +5,11 @@ use Rattle.std.specs.declared.cmp.Ordering.TheVariants.{Less, Equal, Greater}
 use Rattle.std.specs.Ordering.{is_lt, match_ordering}
 use Rattle.std.specs.List.{Contains, AllByRecursion}
 use Rattle.std.specs.Map.{lookup, keys_of}
-use Rattle.std.specs.List.Sorted.{IsStrictlySortedBy}
+use Rattle.std.specs.List.Sorted.{IsStrictlySortedBy, IsPermutation}
 use Rattle.std.specs.BTreeMap.{is_at, insert_entry}
 use Rattle.std.proofs.lemmas.List.Elements.{Contains-append_left, Contains-append_right, Contains-append_cases}
+use Rattle.std.proofs.lemmas.List.Sorted.{Contains-permutation, IsPermutation-sym}
 use Rattle.tws_file.specs.declared.key.Key.{Key}
-use Rattle.tws_file.specs.declared.record.Record as stored
-use Rattle.tws_file.specs.declared.record.Record.TheVariants.{Solution as Solved}
-use Rattle.tws_file.specs.Record.{record_of}
 use Rattle.tws_file.specs.Text.{Solution, Record, pad, set, bare, solution, IsRecord, body_of}
 use Rattle.tws_best.specs.Rank.{rank_of, IsBelow}
 use Rattle.tws_best.specs.Best.{Entry, IsEntry, IsBestOf, IsRising, IsKept, key_cmp, entry_of, solved_in}
@@ -24,7 +22,6 @@ use Rattle.tws_best.proofs.Rising.{one_entry}
 use Rattle.tws_best.proofs.Bests.{widen, same_best, own_best, held_itself, held_by_best}
 use Rattle.tws_best.proofs.Sets.{best_of_best}
 use Rattle.tws_best.proofs.Choices.{put_best}
-use Rattle.tws_best.proofs.Solved.{not_solved}
 use Rattle.tws_best.proofs.Found.{entry, found, not_found, rising_of}
 
 -- ---- whether a solution enters
@@ -71,8 +68,8 @@ enters_by (Err e) k b ps new was is better inserted count sorted = tt
 
 -- ---- the best so far
 
-behind : (x : Entry) (es new : List Entry) → IsBestOf (Contains (x ∷ es)) new → IsBestOf (Contains (es ++ x ∷ [])) new
-behind x es new of =
+pushed_best : (x : Entry) (es new : List Entry) → IsBestOf (Contains (x ∷ es)) new → IsBestOf (Contains (es ++ x ∷ [])) new
+pushed_best x es new of =
     same_best (Contains (x ∷ es)) (Contains (es ++ x ∷ [])) new of
     (λ e has. elim (Contains-cases x es e has) [
       | inl is ↦ subst (Contains (es ++ x ∷ [])) is (Contains-append_right es (x ∷ []) x (Contains-here x []))
@@ -108,10 +105,10 @@ module _ (first so_far : List Entry) (x : Entry) (es new : List Entry) (of : IsB
   differs : IsBetter es x → IsBestOf (Contains (es ++ x ∷ [])) new → new ≢ first
   differs better next same =
       let k = next.every x (Contains-append_right es (x ∷ []) x (Contains-here x [])) in
-      let early : Contains first k.entry = subst (λ (all : List Entry). Contains all k.entry) same k.stands in
+      let early : Contains first k.entry = subst (λ (all : List Entry). Contains all k.entry) same k.present in
       let h = held_by_best (Contains (first ++ so_far)) es of k.entry (Contains-append_left first so_far k.entry early) in
       no_better (rank_of h.holder.body) (rank_of k.entry.body) (rank_of x.body) h.no_worse
-      ((next.best k.entry k.stands).least x (Contains-append_right es (x ∷ []) x (Contains-here x [])) (sym k.key_is))
+      ((next.best k.entry k.present).least x (Contains-append_right es (x ∷ []) x (Contains-here x [])) (sym k.key_is))
       (better h.holder h.member (h.same ∙ k.key_is))
 
 -- what holds after each solution of a file: what is kept is the best so far, and nothing was noted or something changed
@@ -141,7 +138,7 @@ enters : (first : List Pair) (so_far : List Entry) (x : Entry) (old new : List P
 enters first so_far x old new was is t s =
     let inserted = put_inserts x.key x.body old s.better ∙ ap entries_of (sym s.inserted) in
     let put : IsBestOf (Contains (x ∷ entries_of old)) (entries_of new) = subst (λ (es : List Entry). IsBestOf (Contains (x ∷ entries_of old)) es) inserted (put_best x (entries_of old) t.best.rising) in
-    let next = behind x (entries_of old) (entries_of new) put in
+    let next = pushed_best x (entries_of old) (entries_of new) put in
     record {
       best = with_more (entries_of first) so_far x (entries_of old) (entries_of new) t.best next;
       changed = inr (differs (entries_of first) so_far x (entries_of old) (entries_of new) t.best s.better next);
@@ -153,18 +150,20 @@ taken_more first so_far x old new was is t takes = elim takes [
   | inr s ↦ enters first so_far x old new was is t s
 ]
 
--- ---- one record more
+-- ---- all solutions, in whatever order
 
-module _ {A : Type 0} (first : List Pair) (so_far all : List Entry) (item : stored.Record A) (more : all ≡ so_far ++ solved_in (record_of item ∷ [])) (old : List Pair) (was : ℕ) (t : IsTaken first so_far old was) (now : List Pair) (is : ℕ) where
-  pub step_solution : (s : Solution) → item ≡ Solved s → (new : List Pair) (count : ℕ) → now ≡ new → is ≡ count → Takes (entry_of s) old new was count → IsTaken first all now is
-  step_solution s item-is new count now-is is-is takes =
-      let longer : all ≡ so_far ++ entry_of s ∷ [] = more ∙ ap (λ (r : stored.Record A). so_far ++ solved_in (record_of r ∷ [])) item-is in
-      rw (now-is, is-is, longer) (taken_more first so_far (entry_of s) old new was count t takes)
-
-  pub step_other : ((s : Solution) → item ≡ Solved s → ⊥) → now ≡ old → is ≡ was → IsTaken first all now is
-  step_other not now-is is-is =
-      let same : all ≡ so_far = more ∙ ap (λ (es : List Entry). so_far ++ es) (not_solved item not) ∙ append-nil so_far in
-      rw (now-is, is-is, same) t
+-- what is best of what was kept and of the solutions does not depend on their order
+pub best_moved : (old solved moved new : List Entry) → IsPermutation solved moved → IsBestOf (Contains (old ++ moved)) new → IsBestOf (Contains (old ++ solved)) new
+best_moved old solved moved new order of =
+    same_best (Contains (old ++ moved)) (Contains (old ++ solved)) new of
+    (λ e has. elim (Contains-append_cases old moved e has) [
+      | inl first ↦ Contains-append_left old solved e first
+      | inr second ↦ Contains-append_right old solved e (Contains-permutation moved solved e (IsPermutation-sym solved moved order) second)
+    ])
+    (λ e has. elim (Contains-append_cases old solved e has) [
+      | inl first ↦ Contains-append_left old moved e first
+      | inr second ↦ Contains-append_right old moved e (Contains-permutation solved moved e order second)
+    ])
 
 -- ---- what is kept are solutions, each key once
 

@@ -59,7 +59,7 @@ pub record IsSolutionIn (kind : Ruleset) (texts : List (List ℕ)) (e : Entry) :
   pub among : Contains texts text
   pub file : File
   pub is_text : IsText text file
-  pub stands : Contains (solutions_of kind (file ∷ [])) e
+  pub present : Contains (solutions_of kind (file ∷ [])) e
 
 -- ---- what is best
 
@@ -80,7 +80,7 @@ IsRising (e ∷ es) = AllByRecursion (λ (f : Entry). key_cmp e.key f.key ≡ Le
 -- some entry has this key
 pub record HasKey (entries : List Entry) (key : Key) : Type 0 where
   pub entry : Entry
-  pub stands : Contains entries entry
+  pub present : Contains entries entry
   pub key_is : entry.key ≡ key
 
 -- a finite map, as its entries in the order of their keys: it has the keys that the set has, and at each key a best solution

@@ -1,10 +1,12 @@
 //! How the solutions of a file come into a map of bodies: all that are better than what is kept, or none.
 
-ghost use Rattle.std.specs.Prelude.{◌≡◌, ◌≢◌, ◌⊎◌, ◌∷◌, [], ◌+◌, ◌++◌, List, length, Contains, Option, IfOk, OnOk, OnErr, MatchBool};
+ghost use Rattle.std.specs.Prelude.{◌≡◌, ◌≢◌, ◌⊎◌, ◌∷◌, [], ◌+◌, ◌++◌, List, length, map, Contains, Option, IfOk, IfSome, IfNone, OnOk, OnErr, MatchBool};
 ghost use Rattle.std.specs.List.{AllByRecursion};
+ghost use Rattle.std.specs.List.Sorted.{IsPermutation};
 ghost use Rattle.std.specs.BTreeMap.{get, insert_entry, IsOrdered};
 ghost use Rattle.tws_file.specs.Record.{records_of};
 ghost use Rattle.tws_file.specs.Text.{IsRecord};
+ghost use Rattle.tws_best.specs.Rank.{rank_of, IsBelow};
 ghost use Rattle.tws_best.specs.Best.{IsKept, IsBestOf, entry_of, key_cmp, solved_in};
 ghost use Rattle.tws_best.specs.Bodies.{Pair, entries_of};
 ghost use Rattle.tws_best.specs.Steps.{Takes, Undoes, CanGoBack, back_to};
@@ -45,6 +47,28 @@ fn replace<A: Allocator + Copy>(
     }
 }
 
+// The body of a solution that is better than this one; none where it is not. Mostly the ticks tell, and no body is made.
+fn better_body<A: Allocator + Copy, B: Allocator>(
+    alloc: A,
+    solution: &Solution<B>,
+    old: &Body<A>,
+) -> Result<Option<Body<A>>, AllocError>
+    ensures body { IfOk result (λ r. IfSome r (λ body. body ≡ (entry_of solution.now).body)) }
+    ensures better { IfOk result (λ r. IfSome r (λ body. IsBelow (rank_of body) (rank_of old.now))) }
+    ensures worse { IfOk result (λ r. IfNone r (IsBelow (rank_of (entry_of solution.now).body) (rank_of old.now) → ⊥)) }
+{
+    let rank = old.rank();
+    if solution.ticks > rank.ticks() {
+        return Ok(None);
+    }
+    let bytes = solution.body(alloc)?;
+    if Rank::of(bytes.as_slice()) < rank {
+        Ok(Some(Body::of(bytes)?))
+    } else {
+        Ok(None)
+    }
+}
+
 // Takes a solution in, if it is better than what is kept for its key.
 fn take<A: Allocator + Copy, B: Allocator>(
     alloc: A,
@@ -56,37 +80,65 @@ fn take<A: Allocator + Copy, B: Allocator>(
     ensures undo { (first : List Pair) → Undoes first done.old.items kept.old.entries → Undoes first done.new.items kept.new.entries }
 {
     let key = solution.key;
-    let bytes = solution.body(alloc)?;
     match kept.get(&key) {
-        Some(old) => {
-            if Rank::of(bytes.as_slice()) < old.rank() {
+        Some(old) => match better_body(alloc, solution, old)? {
+            Some(body) => {
                 let old = old.clone()?;
-                replace(kept, done, key, Some(old), Body::of(bytes)?)
-            } else {
-                Ok(())
+                replace(kept, done, key, Some(old), body)
             }
+            None => Ok(()),
+        },
+        None => {
+            let bytes = solution.body(alloc)?;
+            replace(kept, done, key, None, Body::of(bytes)?)
         }
-        None => replace(kept, done, key, None, Body::of(bytes)?),
     }
 }
 
-// Takes in those of the records' solutions that are better than what is kept.
+// The solutions among the records, in their order. The key is beside each, so that a sort by it looks up none of them.
+fn solutions_among<A: Allocator, B: Allocator>(
+    alloc: A,
+    records: &[Record<B>],
+) -> Result<Vec<(Key, &Solution<B>), A>, AllocError>
+    ensures { IfOk result (λ all. map (λ s. entry_of s.1.now) all.items ≡ solved_in (records_of records.now)) }
+{
+    let mut all = Vec::new(alloc);
+    for record in records {
+        if let Record::Solution(solution) = record {
+            all.push((solution.key, solution))?;
+        }
+    }
+    Ok(all)
+}
+
+// The solutions among the records, by rising keys. So each search in a large map ends close to where the last one did,
+// in memory that is near at hand.
+fn sorted_solutions<A: Allocator, B: Allocator>(
+    alloc: A,
+    records: &[Record<B>],
+) -> Result<Vec<(Key, &Solution<B>), A>, AllocError>
+    ensures { IfOk result (λ all. IsPermutation (solved_in (records_of records.now)) (map (λ s. entry_of s.1.now) all.items)) }
+{
+    let mut all = solutions_among(alloc, records)?;
+    all.sort_unstable_by_key(|one| one.0);
+    Ok(all)
+}
+
+// Takes in those of the solutions that are better than what is kept.
 fn take_all<A: Allocator + Copy, B: Allocator>(
     alloc: A,
     kept: &mut Bodies<A>,
     done: &mut Changes<A>,
-    records: &[Record<B>],
+    solutions: &[(Key, &Solution<B>)],
 ) -> Result<(), AllocError>
     requires kept { IsKept (entries_of kept.old.entries) }
     requires none { done.old.items ≡ [] }
-    ensures best { OnOk result (IsBestOf (Contains (entries_of kept.old.entries ++ solved_in (records_of records.now))) (entries_of kept.new.entries)) }
+    ensures best { OnOk result (IsBestOf (Contains (entries_of kept.old.entries ++ map (λ s. entry_of s.1.now) solutions.now)) (entries_of kept.new.entries)) }
     ensures changed { OnOk result ((done.new.items ≡ []) ⊎ (entries_of kept.new.entries ≢ entries_of kept.old.entries)) }
     ensures undo { Undoes kept.old.entries done.new.items kept.new.entries }
 {
-    for record in records {
-        if let Record::Solution(solution) = record {
-            take(alloc, kept, done, solution)?;
-        }
+    for (_, solution) in solutions {
+        take(alloc, kept, done, solution)?;
     }
     Ok(())
 }
@@ -130,8 +182,9 @@ pub(crate) fn add<A: Allocator + Copy, B: Allocator>(
     ensures err { OnErr result (kept.new.entries ≡ kept.old.entries) }
     ensures fits { IsKept (entries_of kept.new.entries) }
 {
+    let solutions = sorted_solutions(alloc, records)?;
     let mut done = Vec::new(alloc);
-    match take_all(alloc, kept, &mut done, records) {
+    match take_all(alloc, kept, &mut done, solutions.as_slice()) {
         Ok(()) => Ok(!done.is_empty()),
         Err(fault) => {
             undo(kept, done);

@@ -39,6 +39,13 @@ impl<'a> Rank<'a> {
             bytes: body,
         }
     }
+
+    // The time that the solution takes.
+    pub(crate) fn ticks(&self) -> u32
+        ensures { result ≡ self.now.ticks }
+    {
+        self.ticks
+    }
 }
 
 impl<'a> Ord for Rank<'a> {

@@ -1,15 +1,13 @@
-use Rattle.std.proofs.Common.{◌+◌, take, ap, sym, subst, refl, length, inl, inr}
-use Rattle.tws_file.specs.Record.{records_of}
-use Rattle.tws_best.specs.Best.{solved_in}
+use Rattle.std.proofs.Common.{List, take, map, ap, sym, subst, refl, length, inl, inr}
+use Rattle.tws_best.specs.Best.{Entry, entry_of}
 use Rattle.tws_best.specs.Steps.{Undoes}
 use Rattle.tws_best.proofs.Members.{none_from_length}
-use Rattle.tws_best.proofs.Solved.{solved_more}
-use Rattle.tws_best.proofs.Taking.{taken_none, step_solution, step_other}
+use Rattle.tws_best.proofs.Solved.{mapped_more}
+use Rattle.tws_best.proofs.Taking.{IsTaken, taken_none, taken_more}
 use Rattle.tws_best.proofs.merging.take_all.Goals as goal
-use Rattle.tws_best.proofs.merging.take_all.Goals.{in-Solution+in_ok-take, in_default}
 
-pub loop-record-init : goal.loop-record-init
-loop-record-init g c =
+pub loop-solution-init : goal.loop-solution-init
+loop-solution-init g c =
     let first = c.args.kept.now.entries in
     record {
       taken = taken_none first (length c.args.done.now.items) c.requires.kept.rising (ap length c.requires.none);
@@ -17,34 +15,25 @@ loop-record-init g c =
     }
 
 pub returns-in_err-take-clause-undo : goal.returns-in_err-take-clause-undo
-returns-in_err-take-clause-undo g c = c.take.ensures.undo c.args.kept.now.entries c.loop-record.invariant.undo
+returns-in_err-take-clause-undo g c = c.take.ensures.undo c.args.kept.now.entries c.loop-solution.invariant.undo
 
-pub loop-record-preserved : goal.loop-record-preserved
-loop-record-preserved g c =
-    let i = c.loop-record.record-index in
-    let records = c.args.records.now in
+pub loop-solution-preserved : goal.loop-solution-preserved
+loop-solution-preserved g c =
+    let i = c.loop-solution.solution-index in
+    let solutions = c.args.solutions.now in
     let first = c.args.kept.now.entries in
-    let so_far = solved_in (records_of (take i records)) in
-    let all = solved_in (records_of (take (i + 1) records)) in
-    let item = c.record-item.result in
-    let more = solved_more records i item c.loop-record-test.true c.record-item.is in
-    let before = c.loop-record in
-    let kept = c.match-record.kept.entries in
-    let count = length c.match-record.done.items in
-    elim c.match-record.branch [
-      | in-Solution+in_ok-take w ↦ (record {
-        taken = step_solution first so_far all item more before.kept.entries (length before.done.items) before.invariant.taken kept count w.in-Solution.solution w.in-Solution.is w.take.new.kept.entries (length w.take.new.done.items)
-            (ap (λ m. m.entries) w.kept-is) (ap (λ v. length v.items) w.done-is) w.in_ok-take.ensures.ok;
-        undo = rw (w.kept-is, w.done-is) (w.take.ensures.undo first before.invariant.undo);
-      })
-      | in_default w ↦ (record {
-        taken = step_other first so_far all item more before.kept.entries (length before.done.items) before.invariant.taken kept count w.in_default.not-Solution (ap (λ m. m.entries) w.kept-is) (ap (λ v. length v.items) w.done-is);
-        undo = rw (w.kept-is, w.done-is) before.invariant.undo;
-      })
-    ]
+    let so_far = map (λ s. entry_of s.1.now) (take i solutions) in
+    let item = c.loop-solution-item.result in
+    let more = mapped_more (λ s. entry_of s.1.now) solutions i item c.loop-solution-test.true c.loop-solution-item.is in
+    let before = c.loop-solution in
+    record {
+      taken = subst (λ (es : List Entry). IsTaken first es c.take.new.kept.entries (length c.take.new.done.items)) (sym more)
+          (taken_more first so_far (entry_of item.1.now) before.kept.entries c.take.new.kept.entries (length before.done.items) (length c.take.new.done.items) before.invariant.taken c.in_ok-take.ensures.ok);
+      undo = c.take.ensures.undo first before.invariant.undo;
+    }
 
 pub returns-clause-changed : goal.returns-clause-changed
-returns-clause-changed g c = elim c.loop-record.invariant.taken.changed [
-  | inl none ↦ inl (none_from_length c.loop-record.done.items none)
+returns-clause-changed g c = elim c.loop-solution.invariant.taken.changed [
+  | inl none ↦ inl (none_from_length c.loop-solution.done.items none)
   | inr other ↦ inr other
 ]
