@@ -185,7 +185,8 @@ impl<A: Allocator + Copy> Get<A> {
             Phase::Bound { end, .. } => match end.state() {
                 RecvState::Running => State::Running,
                 RecvState::Complete | RecvState::Over => State::Got,
-                RecvState::TimedOut => State::Failed(Cause::TimedOut),
+                // The client has failed then.
+                RecvState::TimedOut => unreachable!(),
             },
             Phase::Failed(why) => State::Failed(*why),
         }
@@ -199,7 +200,8 @@ impl<A: Allocator + Copy> Get<A> {
             Phase::Asking { .. } => false,
             Phase::Bound { end, .. } => match end.state() {
                 RecvState::Running | RecvState::Complete => false,
-                RecvState::TimedOut | RecvState::Over => true,
+                RecvState::Over => true,
+                RecvState::TimedOut => unreachable!(),
             },
             Phase::Failed(_) => true,
         }

@@ -169,7 +169,8 @@ impl<A: Allocator + Copy> Put<A> {
             Phase::Bound { end, .. } => match end.state() {
                 SendState::Running => State::Running,
                 SendState::Finished => State::Sent,
-                SendState::TimedOut => State::Failed(Cause::TimedOut),
+                // The client has failed then.
+                SendState::TimedOut => unreachable!(),
             },
             Phase::Failed(why) => State::Failed(*why),
         }

@@ -1,6 +1,6 @@
 -- What each step of one end keeps, and what it sends. Nothing here speaks of two ends. `Holding` has what a receiver knows
 -- of the file.
-use Rattle.std.proofs.Common.{◌≡◌, ◌⊎◌, ℕ, ◌+◌, ◌*◌, ◌^◌, ◌<◌, ◌≤◌, Bool, true, false, ◌==◌, List, length, Option, None, Some, IsSome, IfSome, Ok, refl, sym, ◌∙◌, subst, arith, inl, inr, length-append}
+use Rattle.std.proofs.Common.{◌≡◌, ◌≢◌, ◌⊎◌, ℕ, ◌+◌, ◌*◌, ◌^◌, ◌<◌, ◌≤◌, Bool, true, false, ◌==◌, List, length, Option, None, Some, IsSome, IfSome, Ok, refl, sym, ◌∙◌, subst, arith, inl, inr, length-append}
 use Rattle.std.proofs.lemmas.Bool.{eqb-true, eqb-false}
 use Rattle.std.proofs.lemmas.Bool.Decides.{nat_tests}
 use Rattle.tftp_packet.specs.declared.sizes.TheConstants.{BLOCK_SIZE}
@@ -14,7 +14,7 @@ use Rattle.tftp_ends.specs.declared.send_state.SendState.{SendState}
 use Rattle.tftp_ends.specs.declared.send_state.SendState.TheVariants as sending
 use Rattle.tftp_ends.specs.declared.recv_state.RecvState.{RecvState}
 use Rattle.tftp_ends.specs.declared.recv_state.RecvState.TheVariants as receiving
-use Rattle.tftp_ends.specs.Ends.{Verdict, granted, refused, Sender, SendAnswer, Receiver, data_packet, sender_start, sender_goes_on, sender_acked, sender_ack_in, sender_ack, sender_missed, sender_timeout_in, sender_timeout, receiver_start, receiver_appends, state_after, receiver_takes, receiver_next, receiver_again, is_last_come, is_past, receiver_running, receiver_data_in, receiver_data, receiver_missed, receiver_dallied, receiver_timeout_in, receiver_timeout, receiver_gives, receiver_take_in, receiver_take, sent_of, IsSender, HasSize, IsReceiver}
+use Rattle.tftp_ends.specs.Ends.{Verdict, granted, refused, Sender, SendAnswer, Receiver, data_packet, sender_start, sender_goes_on, sender_acked, sender_ack_in, sender_ack, sender_missed, sender_timeout_in, sender_timeout, receiver_start, receiver_appends, state_after, receiver_takes, receiver_next, receiver_again, is_last_come, is_past, receiver_running, receiver_data_in, receiver_data, receiver_waits, receiver_missed, receiver_dallied, receiver_timeout_in, receiver_timeout, receiver_gives, receiver_take_in, receiver_take, sent_of, IsSender, HasSize, IsReceiver}
 
 -- ---- packets that read back
 
@@ -55,8 +55,8 @@ pub record KeepsSender (s : Sender) (a : SendAnswer) : Type 0 where
 stays_keeps : (s : Sender) → KeepsSender s (record { sender = s; out = None })
 stays_keeps s = record { file = refl; onward = omega arith; within = λ w. w; sends = tt; fits = λ h. h }
 
-goes_on_keeps : (last : Bool) (s : Sender) → (s.current == block_count s.file) ≡ last → KeepsSender s (sender_goes_on last s)
-goes_on_keeps true s is_last =
+ends_keeps : (state : SendState) (s : Sender) → KeepsSender s (record { sender = record s { state = state }; out = None })
+ends_keeps state s =
     record {
       file = refl;
       onward = omega arith;
@@ -64,6 +64,9 @@ goes_on_keeps true s is_last =
       sends = tt;
       fits = λ h. record { size = h.size; counted = h.counted; within = h.within; patient = h.patient };
     }
+
+goes_on_keeps : (last : Bool) (s : Sender) → (s.current == block_count s.file) ≡ last → KeepsSender s (sender_goes_on last s)
+goes_on_keeps true s is_last = ends_keeps sending.Finished s
 goes_on_keeps false s is_last =
     let other : s.current ≡ block_count s.file → ⊥ = eqb-false _ _ is_last in
     let next : s.current ≤ block_count s.file → s.current + 1 ≤ block_count s.file = λ w. omega arith in
@@ -88,14 +91,7 @@ pub sender_ack-keeps : (n : ℕ) (s : Sender) → KeepsSender s (sender_ack n s)
 sender_ack-keeps n s = ack_in_keeps s.state n s
 
 missed_keeps : (last : Bool) (s : Sender) → (s.misses + 1 == MISSES) ≡ last → KeepsSender s (sender_missed last s)
-missed_keeps true s is_last =
-    record {
-      file = refl;
-      onward = omega arith;
-      within = λ w. w;
-      sends = tt;
-      fits = λ h. record { size = h.size; counted = h.counted; within = h.within; patient = h.patient };
-    }
+missed_keeps true s is_last = ends_keeps sending.TimedOut s
 missed_keeps false s is_last =
     let other : s.misses + 1 ≡ MISSES → ⊥ = eqb-false _ _ is_last in
     record {
@@ -276,63 +272,52 @@ data_in_keeps receiving.Over n body r short is verdict = same_keeps r
 pub receiver_data-keeps : (verdict : Verdict) (n : ℕ) (body : List ℕ) (r : Receiver) → length body ≤ BLOCK_SIZE → KeepsReceiver r (receiver_data verdict n body r).receiver (sent_of (receiver_data verdict n body r).result)
 receiver_data-keeps verdict n body r short = data_in_keeps r.state n body r short refl verdict
 
-missed_receiver : (last : Bool) (r : Receiver) → r.state ≡ receiving.Running → (r.misses + 1 == MISSES) ≡ last → KeepsReceiver r (receiver_missed last r).receiver (receiver_missed last r).out
-missed_receiver true r running is_last =
+-- it waits no longer, in a state in which nothing more comes
+stops_keeps : (state : RecvState) (r : Receiver) → state ≢ receiving.Running → state ≢ receiving.Complete → (IsReceiver r → IfSome r.file (HasSize state r.count)) → KeepsReceiver r (receiver_waits r.misses state None r).receiver None
+stops_keeps state r idle done size =
     record {
       onward = omega arith;
       sends = tt;
       fits = λ h. record {
-        size = subst (λ s. IfSome r.file (HasSize s r.count)) running h.size;
-        held = λ e. absurd cc;
-        room = λ e. absurd cc;
+        size = size h;
+        held = λ e. absurd (idle e);
+        room = λ e. absurd (idle e);
         within = h.within;
         patient = h.patient;
-        dally = λ e. absurd cc;
-      };
-    }
-missed_receiver false r running is_last =
-    let other : r.misses + 1 ≡ MISSES → ⊥ = eqb-false _ _ is_last in
-    record {
-      onward = omega arith;
-      sends = refl;
-      fits = λ h. record {
-        size = subst (λ s. IfSome r.file (HasSize s r.count)) running h.size;
-        held = λ _. h.held running;
-        room = λ _. h.room running;
-        within = h.within;
-        patient = omega (arith, h.patient);
-        dally = λ e. absurd cc;
+        dally = λ e. absurd (done e);
       };
     }
 
+-- it waits on, in the state that it has
+waits_keeps : (state : RecvState) (out : Option Packet) (r : Receiver) → r.state ≡ state → IfSome out (λ p. p ≡ ack r.count) → (IsReceiver r → r.misses + 1 < MISSES) → (IsReceiver r → state ≡ receiving.Complete → r.misses + 1 < DALLY)
+    → KeepsReceiver r (receiver_waits (r.misses + 1) state out r).receiver out
+waits_keeps state out r is sends patient dally =
+    record {
+      onward = omega arith;
+      sends = sends;
+      fits = λ h. record {
+        size = subst (λ s. IfSome r.file (HasSize s r.count)) is h.size;
+        held = λ e. h.held (is ∙ e);
+        room = λ e. h.room (is ∙ e);
+        within = h.within;
+        patient = patient h;
+        dally = dally h;
+      };
+    }
+
+missed_receiver : (last : Bool) (r : Receiver) → r.state ≡ receiving.Running → (r.misses + 1 == MISSES) ≡ last → KeepsReceiver r (receiver_missed last r).receiver (receiver_missed last r).out
+missed_receiver true r running is_last =
+    stops_keeps receiving.TimedOut r (λ e. cc) (λ e. cc) (λ h. subst (λ s. IfSome r.file (HasSize s r.count)) running h.size)
+missed_receiver false r running is_last =
+    let other : r.misses + 1 ≡ MISSES → ⊥ = eqb-false _ _ is_last in
+    waits_keeps receiving.Running (Some (ack r.count)) r running refl (λ h. omega (arith, h.patient, other)) (λ h e. absurd cc)
+
 dallied_receiver : (last : Bool) (r : Receiver) → r.state ≡ receiving.Complete → (r.misses + 1 == DALLY) ≡ last → KeepsReceiver r (receiver_dallied last r).receiver (receiver_dallied last r).out
 dallied_receiver true r complete is_last =
-    record {
-      onward = omega arith;
-      sends = tt;
-      fits = λ h. record {
-        size = subst (λ s. IfSome r.file (HasSize s r.count)) complete h.size;
-        held = λ e. absurd cc;
-        room = λ e. absurd cc;
-        within = h.within;
-        patient = h.patient;
-        dally = λ e. absurd cc;
-      };
-    }
+    stops_keeps receiving.Over r (λ e. cc) (λ e. cc) (λ h. subst (λ s. IfSome r.file (HasSize s r.count)) complete h.size)
 dallied_receiver false r complete is_last =
     let other : r.misses + 1 ≡ DALLY → ⊥ = eqb-false _ _ is_last in
-    record {
-      onward = omega arith;
-      sends = tt;
-      fits = λ h. record {
-        size = subst (λ s. IfSome r.file (HasSize s r.count)) complete h.size;
-        held = λ e. absurd cc;
-        room = λ e. absurd cc;
-        within = h.within;
-        patient = omega (arith, h.dally complete);
-        dally = λ _. omega (arith, h.dally complete);
-      };
-    }
+    waits_keeps receiving.Complete None r complete tt (λ h. omega (arith, h.dally complete, other)) (λ h e. omega (arith, h.dally complete, other))
 
 timeout_in_receiver : (state : RecvState) (r : Receiver) → r.state ≡ state → KeepsReceiver r (receiver_timeout_in state r).receiver (receiver_timeout_in state r).out
 timeout_in_receiver receiving.Running r is = missed_receiver (r.misses + 1 == MISSES) r is refl
