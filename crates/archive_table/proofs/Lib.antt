@@ -1,2 +1,9 @@
 pub mod Live
 pub mod Replies
+pub mod Found
+pub mod Held
+pub mod Serving
+pub mod Blocks
+pub mod Merged
+pub mod Lasts
+pub mod SamePort

@@ -1,17 +1,17 @@
 -- What follows of a port whose transfer was written and is then taken out, or was not changed.
-use Rattle.std.specs.Prelude.{◌≡◌, ℕ, Bool, true, false, cond, List, [], ◌∷◌, Option, None, Some}
+use Rattle.std.specs.Prelude.{◌≡◌, ℕ, Bool, true, false, cond, List, [], ◌∷◌, Option, None, Some, is_some}
 use Rattle.std.proofs.Common.{refl, sym, ap, ◌∙◌, inl, inr}
 use Rattle.std.specs.Map.{lookup, remove_entry, set_value}
 use Rattle.tftp_packet.specs.declared.endpoint.Endpoint.{Endpoint}
 use Rattle.tftp_packet.specs.declared.refusal.Refusal.TheVariants.{OutOfMemory, NotKept}
 use Rattle.tftp_ends.specs.Ends.{Receiver}
 use Rattle.archive_table.specs.Server.{Grant, all, no_memory, unkept, Maps, Server, Transfer, Answer, receiving, at_port, with_live, file_done, file_come, sends_from, refusal_dgram}
-use Rattle.std.proofs.lemmas.Bool.{cases_Bool}
+use Rattle.std.proofs.lemmas.Bool.{cases_Bool, true≢false}
 
-if_true : {A : Type 0} {b : Bool} (x y : A) → b ≡ true → cond b x y ≡ x
+pub if_true : {A : Type 0} {b : Bool} (x y : A) → b ≡ true → cond b x y ≡ x
 if_true x y e = ap (λ c. cond c x y) e
 
-if_false : {A : Type 0} {b : Bool} (x y : A) → b ≡ false → cond b x y ≡ y
+pub if_false : {A : Type 0} {b : Bool} (x y : A) → b ≡ false → cond b x y ≡ y
 if_false x y e = ap (λ c. cond c x y) e
 
 abbrev value_or : {X : Type 0} → X → Option X → X
@@ -51,3 +51,14 @@ pub done_come : (g : Grant) (maps : Maps) (port : ℕ) (peer : Endpoint) (file :
 done_come all maps port peer file r out s = refl
 done_come no_memory maps port peer file r out s = ap (λ (l : List (ℕ × Transfer)). closed_with l port peer (Some (refusal_dgram OutOfMemory)) s) (remove_set (at_port port) s.live (record { peer = peer; end = receiving r }))
 done_come unkept maps port peer file r out s = ap (λ (l : List (ℕ × Transfer)). closed_with l port peer (Some (refusal_dgram NotKept)) s) (remove_set (at_port port) s.live (record { peer = peer; end = receiving r }))
+
+pub none_some : {X Y : Type 0} {x : X} → Some x ≡ None → Y
+none_some e = absurd (true≢false (ap is_some e))
+
+-- where nothing is found nothing is taken out
+pub remove_none : {X : Type 0} (test : ℕ → Bool) (es : List (ℕ × X)) → lookup test es ≡ None → remove_entry test es ≡ es
+remove_none test [] h = refl
+remove_none {X} test (e ∷ es) h = elim (cases_Bool (test e.0)) [
+  | inl y ↦ none_some (sym (if_true (Some e.1) (lookup test es) y) ∙ h)
+  | inr n ↦ if_false es (e ∷ remove_entry test es) n ∙ ap (λ (l : List (ℕ × X)). e ∷ l) (remove_none test es (sym (if_false (Some e.1) (lookup test es) n) ∙ h))
+]

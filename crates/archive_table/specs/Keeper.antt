@@ -1,11 +1,18 @@
 -- What a keeper keeps: a list of the collections that it was given, in order.
-use Rattle.std.specs.Prelude.{◌≡◌, ◌≢◌, ◌⊎◌, ℕ, ◌<◌, ◌^◌, ◌-◌, Bool, true, false, List, [], ◌∷◌, ◌++◌, Option, None, Some, Result, Ok, Err, Vec}
+use Rattle.std.specs.Prelude.{◌≡◌, ◌≢◌, ◌⊎◌, ℕ, ◌<◌, ◌^◌, ◌-◌, Bool, true, false, List, [], ◌∷◌, ◌++◌, Contains, Option, None, Some, Result, Ok, Err, Vec}
 use Rattle.tws_file.specs.declared.«ruleset».Ruleset.{Ruleset}
 use Rattle.tws_file.specs.declared.«ruleset».Ruleset.TheVariants.{Lynx, Ms}
-use Rattle.tws_best.specs.Best.{Collected, collection_text}
+use Rattle.tws_file.specs.Text.{File, IsText}
+use Rattle.tftp_packet.specs.declared.refusal.Refusal.{Refusal}
+use Rattle.tftp_packet.specs.declared.refusal.Refusal.TheVariants.{OutOfMemory, NotKept}
+use Rattle.tws_file.specs.Fault.{HasFault}
+use Rattle.tws_best.specs.Best.{Collected, IsBestOf, solutions_of, collection_text}
 use Rattle.archive_table.specs.declared.keep_fault.KeepFault.{KeepFault}
 use Rattle.archive_table.specs.declared.keep_fault.KeepFault.TheVariants.{Device, Memory}
-use Rattle.archive_table.specs.Server.{Maps, Taken, Grant, all, no_memory, unkept}
+use Rattle.archive_table.specs.declared.load_fault.LoadFault.{LoadFault}
+use Rattle.archive_table.specs.declared.load_fault.LoadFault.TheVariants.{Keep, Unreadable, WrongRuleset}
+use Rattle.archive_table.specs.declared.load_fault.LoadFault.TheVariants as load
+use Rattle.archive_table.specs.Server.{Maps, Taken, IsJoined, IsMerged, Merges, Grant, all, no_memory, unkept}
 
 pub record Keeping : Type 0 where
   pub kind : Ruleset
@@ -52,12 +59,79 @@ abbrev pub Loads : Ruleset → Option (List Keeping) → Option (List ℕ) → T
 Loads kind None text = Unit {0}
 Loads kind (Some log) text = text ≡ last_kept kind log
 
+-- a collection of these rules that was loaded from this text, empty where there is none
+abbrev pub IsLoaded : Ruleset → Option (List ℕ) → Collected → Type 0
+IsLoaded kind None c = c ≡ record { «ruleset» = kind; entries = [] }
+IsLoaded kind (Some bytes) c =
+    (file : File) × IsText bytes file × (file.«ruleset» ≡ kind) × (c.«ruleset» ≡ kind) × IsBestOf (Contains (solutions_of file.«ruleset» (file ∷ []))) c.entries
+
+-- the one that the keeper has
+abbrev pub LoadedFrom : Ruleset → Option (List Keeping) → Collected → Type 0
+LoadedFrom kind log c = (text : Option (List ℕ)) × Loads kind log text × IsLoaded kind text c
+
+-- why this text is of no use
+abbrev pub IsMisread : Ruleset → (bytes : List ℕ) → LoadFault → Type 0
+IsMisread kind bytes (Keep e) = ⊥
+IsMisread kind bytes (Unreadable e) = HasFault bytes e
+IsMisread kind bytes WrongRuleset = (file : File) × IsText bytes file × (file.«ruleset» ≢ kind)
+IsMisread kind bytes load.Memory = Unit {0}
+
+-- why the collection cannot be loaded: the keeper fails, or has such a text
+abbrev pub FailsToLoad : Ruleset → Option (List Keeping) → LoadFault → Type 0
+FailsToLoad kind log (Keep e) = Unit {0}
+FailsToLoad kind log (Unreadable e) = (bytes : List ℕ) × Loads kind log (Some bytes) × IsMisread kind bytes (Unreadable e)
+FailsToLoad kind log WrongRuleset = (bytes : List ℕ) × Loads kind log (Some bytes) × IsMisread kind bytes WrongRuleset
+FailsToLoad kind log load.Memory = Unit {0}
+
+-- Lynx is loaded before MS is asked for
+abbrev pub TableFails : Option (List Keeping) → LoadFault → Type 0
+TableFails log e = FailsToLoad Lynx log e ⊎ ((c : Collected) × LoadedFrom Lynx log c × FailsToLoad Ms log e)
+
 -- ---- what a step adds
 
--- a collection that changed is kept, and one that did not is not
-abbrev pub KeepsChange : Collected → Collected → List Keeping → Type 0
-KeepsChange old new added =
-    ((new ≡ old) × (added ≡ [])) ⊎ ((new ≢ old) × (added ≡ keeping new.ruleset (collection_text new) true ∷ []))
+-- a collection that changed is kept; one that did not change is not given to be kept
+abbrev pub KeepsOne : Collected → Collected → Option (List Keeping) → Option (List Keeping) → Type 0
+KeepsOne old new before after =
+    ((new ≡ old) × Grows before after []) ⊎ ((new ≢ old) × Grows before after (keeping new.«ruleset» (collection_text new) true ∷ []))
+
+-- of both collections, of which one file changes at most one
+abbrev pub KeepsMaps : Maps → Maps → Option (List Keeping) → Option (List Keeping) → Type 0
+KeepsMaps old new before after =
+    ((new.ms ≡ old.ms) × KeepsOne old.lynx new.lynx before after) ⊎ ((new.lynx ≡ old.lynx) × KeepsOne old.ms new.ms before after)
+
+-- A keep that was refused: the keeper was given this collection and has failed, or had no memory for its list.
+abbrev pub FailsKeep : Ruleset → Collected → Option (List Keeping) → Option (List Keeping) → Type 0
+FailsKeep kind new before after =
+    Grows before after [] ⊎ Grows before after (keeping kind (collection_text new) false ∷ [])
+
+-- a file that did not join its collection, by the refusal: only what changes a collection has to be kept
+abbrev pub RefusesJoin : Refusal → (file : File) → Collected → Option (List Keeping) → Option (List Keeping) → Type 0
+RefusesJoin why file old before after =
+    ((why ≡ OutOfMemory) × Grows before after [])
+    ⊎ ((why ≡ NotKept) × ((new : Collected) × IsJoined file old new × (new ≢ old) × FailsKeep new.«ruleset» new before after))
+
+-- the same of both collections, of which the file changes one
+abbrev pub FailsKeepOf : Maps → Maps → Option (List Keeping) → Option (List Keeping) → Type 0
+FailsKeepOf old new before after =
+    ((new.ms ≡ old.ms) × (new.lynx ≢ old.lynx) × FailsKeep new.lynx.«ruleset» new.lynx before after)
+    ⊎ ((new.lynx ≡ old.lynx) × (new.ms ≢ old.ms) × FailsKeep new.ms.«ruleset» new.ms before after)
+
+-- the same of the bytes of a file
+abbrev pub RefusesFile : Refusal → (bytes : List ℕ) → Maps → Option (List Keeping) → Option (List Keeping) → Type 0
+RefusesFile why bytes old before after =
+    ((why ≡ OutOfMemory) × Grows before after [])
+    ⊎ ((why ≡ NotKept) × ((maps : Maps) × IsMerged bytes old maps × FailsKeepOf old maps before after))
+
+-- A keeper that refuses was given a collection that the step would have changed.
+abbrev pub RefusesKeep : (wanted : Option Taken) → Maps → Option (List Keeping) → Option (List Keeping) → Type 0
+RefusesKeep wanted old before after =
+    (maps : Maps) × Merges wanted old maps × FailsKeepOf old maps before after
+
+-- By what was granted. `wanted` is the file that is taken if all is.
+abbrev pub StepKeeps : Grant → (wanted : Option Taken) → Maps → Maps → Option (List Keeping) → Option (List Keeping) → Type 0
+StepKeeps all wanted old new before after = KeepsMaps old new before after
+StepKeeps no_memory wanted old new before after = Grows before after []
+StepKeeps unkept wanted old new before after = RefusesKeep wanted old before after
 
 -- it rose in this call, or is the greatest that it can be
 abbrev pub FailsAt : (old new : ℕ) → Type 0
@@ -66,3 +140,8 @@ FailsAt old new = (old < new) ⊎ (new ≡ 2 ^ 64 - 1)
 abbrev pub texts_of : {A : Type 0} → Option (Vec ℕ A) → Option (List ℕ)
 texts_of None = None
 texts_of (Some v) = Some v.items
+
+-- what a keeper has of a text that it was made with
+abbrev pub given : Ruleset → Option (List ℕ) → List Keeping
+given kind None = []
+given kind (Some text) = keeping kind text true ∷ []

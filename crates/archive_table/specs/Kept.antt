@@ -1,7 +1,9 @@
 -- The plain values of a table and of what it tells, without where their bytes lie in memory, and what private functions
 -- speak of.
 use Rattle.std.specs.Prelude.{ℕ, ◌≤◌, List, length, Option, None, Some}
+use Rattle.archive_table.specs.declared.kept.Kept.TheInside as keepings
 use Rattle.archive_table.specs.declared.taken.Taken.TheInside as taking
+use Rattle.archive_table.specs.Keeper.{Keeping}
 use Rattle.archive_table.specs.declared.step.Step.TheInside as stepping
 use Rattle.archive_table.specs.declared.end.End as held
 use Rattle.archive_table.specs.declared.end.End.TheVariants as ends
@@ -11,6 +13,9 @@ use Rattle.archive_table.specs.declared.heard.Heard as borrowed
 use Rattle.archive_table.specs.declared.heard.Heard.TheVariants as hears
 use Rattle.archive_table.specs.Server.{End, sending, receiving, Transfer, Maps, Server, Taken, Told, Heard, nothing, stray, ended, acked, block}
 use Rattle.tftp_ends.specs.Ends.{Sender, Receiver}
+
+abbrev pub keeping_of : {A : Type 0} → keepings.Inside A → Keeping
+keeping_of k = record { kind = k.kind; text = k.text.items; ok = k.ok }
 
 abbrev pub taken_of : {A : Type 0} → taking.Inside A → Taken
 taken_of t = record { peer = t.peer; file = t.file }
@@ -26,7 +31,7 @@ abbrev pub transfer_of : {A : Type 0} → transferring.Inside A → Transfer
 transfer_of t = record { peer = t.peer; end = end_of t.end }
 
 abbrev pub server_of : {A : Type 0} → tables.Inside A → Server
-server_of t = record { request = t.request; maps = record { lynx = t.lynx; ms = t.ms }; live = t.live.entries }
+server_of t = record { request = t.request; maps = record { lynx = t.lynx; ms = t.ms }; live = t.live }
 
 abbrev pub heard_of : borrowed.Heard → Heard
 heard_of hears.Nothing = nothing

@@ -1,3 +1,6 @@
 pub mod Server
 pub mod Keeper
+pub mod Incoming
+pub mod Ports
+pub mod Lends
 pub mod Kept

@@ -1,10 +1,11 @@
 -- The server: what it keeps, and what each datagram and each time-out makes of it. RFC 1350 sections 2, 4 and 6.
 -- What an end does is that of tftp_ends; docs/FORMATS.md has the rest as a table.
-use Rattle.std.specs.Prelude.{◌≡◌, ◌≢◌, ℕ, ◌≤◌, Bool, true, false, ◌==◌, ◌&&◌, nat_lt, List, [], ◌∷◌, ◌++◌, length, map, Contains, Option, None, Some, IsSome, Result, Ok, Err, cond, codes}
+use Rattle.std.specs.Prelude.{◌≡◌, ◌≢◌, ℕ, ◌<◌, ◌≤◌, Bool, true, false, ◌==◌, ◌&&◌, nat_lt, List, [], ◌∷◌, ◌++◌, length, map, Contains, Option, None, Some, IsSome, Result, Ok, Err, cond, codes}
 use Rattle.std.specs.Str.{bytes_eq}
 use Rattle.std.specs.Char.{to_ascii_lowercase}
 use Rattle.std.specs.Ordering.{nat_cmp}
-use Rattle.std.specs.Map.{lookup, remove_entry, set_value}
+use Rattle.std.specs.List.{All}
+use Rattle.std.specs.Map.{lookup, remove_entry, set_value, keys_of, values_of}
 use Rattle.std.specs.BTreeMap.{is_at, insert_entry}
 use Rattle.std.specs.BTreeMap.Range.{entries_between}
 use Rattle.std.specs.declared.ops.Bound.TheVariants.{Excluded, Unbounded}
@@ -23,7 +24,7 @@ use Rattle.tftp_ends.specs.declared.recv_state.RecvState.{RecvState}
 use Rattle.tftp_ends.specs.declared.recv_state.RecvState.TheVariants as recv
 use Rattle.tftp_ends.specs.declared.recv_fault.RecvFault.{RecvFault}
 use Rattle.tftp_ends.specs.declared.recv_fault.RecvFault.TheVariants as fault
-use Rattle.tftp_ends.specs.Ends.{Verdict, granted, refused, dgram_of, answer_of, Sender, SendAnswer, sender_start, sender_ack, sender_timeout, data_packet, IsSender, Receiver, RecvAnswer, DataAnswer, TakeAnswer, receiver_start, receiver_data, receiver_timeout, receiver_take, IsReceiver}
+use Rattle.tftp_ends.specs.Ends.{Verdict, granted, refused, dgram_of, answer_of, Sender, SendAnswer, sender_start, sender_ack, sender_timeout, data_packet, IsSender, Receiver, RecvAnswer, DataAnswer, TakeAnswer, receiver_start, receiver_data, receiver_timeout, receiver_take, IsReceiver, IsEnded}
 use Rattle.tws_file.specs.declared.«ruleset».Ruleset.{Ruleset}
 use Rattle.tws_file.specs.declared.«ruleset».Ruleset.TheVariants.{Lynx, Ms}
 use Rattle.tws_file.specs.Text.{File, IsText}
@@ -86,7 +87,7 @@ abbrev pub with_live : List (ℕ × Transfer) → Server → Server
 with_live live s = record { request = s.request; maps = s.maps; live = live }
 
 -- the first of these
-abbrev pub first_port : List (ℕ × Transfer) → Option ℕ
+abbrev pub first_port : {T : Type 0} → List (ℕ × T) → Option ℕ
 first_port [] = None
 first_port (e ∷ es) = Some e.0
 
@@ -440,7 +441,25 @@ Merges (Some t) old new = IsMerged t.file old new
 
 -- ---- what always holds
 
+-- a file that was received whole was taken out
+pub record IsReceiving (r : Receiver) : Type 0 where
+  pub fits : IsReceiver r
+  pub taken : IsEnded r.state → r.file ≡ None
+
+abbrev pub IsEnd : End → Type 0
+IsEnd (sending s) = IsSender s
+IsEnd (receiving r) = IsReceiving r
+
+-- each number is less than those after it
+abbrev pub AreRising : List ℕ → Type 0
+AreRising [] = Unit {0}
+AreRising (n ∷ ns) = All (λ m. n < m) ns × AreRising ns
+
 pub record IsServer (s : Server) : Type 0 where
   pub lynx : s.maps.lynx.ruleset ≡ Lynx
   pub ms : s.maps.ms.ruleset ≡ Ms
   pub few : length s.live ≤ LIVE
+  -- the ports are in their order, and the request port is none of them
+  pub ordered : AreRising (keys_of s.live)
+  pub apart : All (λ port. port ≢ s.request) (keys_of s.live)
+  pub ends : All (λ t. IsEnd t.end) (values_of s.live)

@@ -1,4 +1,4 @@
-ghost use Rattle.std.specs.Prelude.{◌≡◌, ℕ, List, [], Option, Err, IfOk};
+ghost use Rattle.std.specs.Prelude.{◌≡◌, ◌≤◌, ℕ, List, Option, Err, IfOk};
 ghost use Rattle.tws_best.specs.Best.{collection_text};
 ghost use Rattle.archive_table.specs.Keeper.{Keeping, Grows, Loads, FailsAt, kept_by, texts_of};
 
@@ -9,7 +9,7 @@ use tws_file::Ruleset;
 
 /// Where the collections are kept, so that a server finds them again after a restart.
 pub trait Keeper {
-    /// What was given to be kept, in order, if this keeper tells it. Once it stops telling, it never tells again.
+    /// What was given to be kept, in order, if this keeper tells it. One that tells it tells it always.
     ghost log: { Self → Option (List Keeping) };
 
     /// How many calls of the device failed so far, up to the greatest u64.
@@ -19,14 +19,15 @@ pub trait Keeper {
     ///
     /// # Errors
     ///
-    /// `Device` only where `failures` rose in this call or is the greatest u64; `Memory` where a growth was refused. What
-    /// can be loaded is then what it was.
+    /// `Device` only where `failures` rose in this call or is the greatest u64; `Memory` where a growth was refused. Where
+    /// the list is told, what can be loaded is then what it was.
     fn keep<A: Allocator>(
         &mut self,
         kind: Ruleset,
         collection: &Collection<A>,
     ) -> Result<(), KeepFault>
         ensures log { Grows (log self.old) (log self.new) (kept_by result kind (collection_text collection.now)) }
+        ensures more { failed self.old ≤ failed self.new }
         ensures failed { result ≡ Err KeepFault.Device → FailsAt (failed self.old) (failed self.new) };
 
     /// The text that was kept last for these rules; none if none was.
@@ -39,8 +40,9 @@ pub trait Keeper {
         alloc: A,
         kind: Ruleset,
     ) -> Result<Option<Vec<u8, A>>, KeepFault>
-        ensures log { Grows (log self.old) (log self.new) [] }
+        ensures log { log self.new ≡ log self.old }
         ensures text { IfOk result (λ text. Loads kind (log self.old) (texts_of text)) }
+        ensures more { failed self.old ≤ failed self.new }
         ensures failed { result ≡ Err KeepFault.Device → FailsAt (failed self.old) (failed self.new) };
 
     /// How many calls of the device failed so far, up to the greatest u64.

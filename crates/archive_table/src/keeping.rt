@@ -1,14 +1,15 @@
-//! A file that was received joins the collection of its ruleset, which is kept where that changed it.
+//! A file that has come whole joins the collection of its ruleset, which is kept where that changed it.
 
-ghost use Rattle.std.specs.Prelude.{◌≡◌, ◌⊎◌, OnOk, OnErr, IfErr};
+ghost use Rattle.std.specs.Prelude.{◌≡◌, ◌⊎◌, ℕ, List, OnOk, OnErr, IfErr};
+ghost use Rattle.tws_file.specs.Reader.{IsAnswer};
 ghost use Rattle.archive_table.specs.Server.{IsJoined, IsMerged};
+ghost use Rattle.archive_table.specs.Keeper.{Grows, KeepsOne, KeepsMaps, RefusesJoin, RefusesFile};
 
 use crate::keeper::Keeper;
 use std::alloc::Allocator;
-use tftp_ends::Received;
 use tftp_packet::Refusal;
 use tws_best::Collection;
-use tws_file::{FileFault, Ruleset, TwsFile, read_file};
+use tws_file::{FileFault, Ruleset, TwsFile};
 
 // A file joins a collection of its rules. On error nothing has changed.
 fn join<A: Allocator + Copy, K: Keeper>(
@@ -18,7 +19,10 @@ fn join<A: Allocator + Copy, K: Keeper>(
 ) -> Result<(), Refusal>
     ensures joined { OnOk result (IsJoined file.now collection.old collection.new) }
     ensures unchanged { OnErr result (collection.new ≡ collection.old) }
+    ensures rules { collection.new.ruleset ≡ collection.old.ruleset }
     ensures refusal { IfErr result (λ e. (e ≡ Refusal.OutOfMemory) ⊎ (e ≡ Refusal.NotKept)) }
+    ensures kept { OnOk result (KeepsOne collection.old collection.new (K.log keeper.old) (K.log keeper.new)) }
+    ensures unkept { IfErr result (λ e. RefusesJoin e file.now collection.old (K.log keeper.old) (K.log keeper.new)) }
 {
     let Ok(mut copy) = collection.copy() else {
         return Err(Refusal::OutOfMemory);
@@ -35,30 +39,27 @@ fn join<A: Allocator + Copy, K: Keeper>(
     Ok(())
 }
 
-// The file that these bytes are joins the collection of its rules; bytes that are no file change nothing. On error
-// nothing has changed either.
+// What the bytes of a whole file read as joins the collection of its rules; bytes that are no file change nothing. On
+// error nothing has changed either.
 pub(crate) fn merge_file<A: Allocator + Copy, K: Keeper>(
-    alloc: A,
     lynx: &mut Collection<A>,
     ms: &mut Collection<A>,
     keeper: &mut K,
-    file: &Received<A>,
+    read: &Result<TwsFile<A>, FileFault>,
 ) -> Result<(), Refusal>
-    ensures merged { OnOk result (IsMerged file.now (record { lynx = lynx.old; ms = ms.old }) (record { lynx = lynx.new; ms = ms.new })) }
+    ensures merged { OnOk result ((bytes : List ℕ) → IsAnswer bytes read.now → IsMerged bytes (record { lynx = lynx.old; ms = ms.old }) (record { lynx = lynx.new; ms = ms.new })) }
     ensures lynx { OnErr result (lynx.new ≡ lynx.old) }
     ensures ms { OnErr result (ms.new ≡ ms.old) }
     ensures rules { (lynx.new.ruleset ≡ lynx.old.ruleset) × (ms.new.ruleset ≡ ms.old.ruleset) }
     ensures refusal { IfErr result (λ e. (e ≡ Refusal.OutOfMemory) ⊎ (e ≡ Refusal.NotKept)) }
+    ensures kept { OnOk result (KeepsMaps (record { lynx = lynx.old; ms = ms.old }) (record { lynx = lynx.new; ms = ms.new }) (K.log keeper.old) (K.log keeper.new)) }
+    ensures unkept { IfErr result (λ e. (bytes : List ℕ) → IsAnswer bytes read.now → RefusesFile e bytes (record { lynx = lynx.old; ms = ms.old }) (K.log keeper.old) (K.log keeper.new)) }
 {
-    let Ok(bytes) = file.to_vec(alloc) else {
-        return Err(Refusal::OutOfMemory);
-    };
-    match read_file(alloc, bytes.as_slice()) {
+    match read {
         Ok(file) => match file.ruleset {
-            Ruleset::Lynx => join(lynx, keeper, &file),
-            Ruleset::Ms => join(ms, keeper, &file),
+            Ruleset::Lynx => join(lynx, keeper, file),
+            Ruleset::Ms => join(ms, keeper, file),
         },
-        Err(FileFault::Memory) => Err(Refusal::OutOfMemory),
         Err(_) => Ok(()),
     }
 }

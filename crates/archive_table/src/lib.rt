@@ -5,11 +5,18 @@
 
 mod end;
 mod heard;
+mod incoming;
 mod keep_fault;
 mod keeper;
 mod keeping;
+mod kept;
+mod laws;
 mod limits;
+mod load;
+mod load_fault;
+mod memory_keeper;
 mod no_keeper;
+mod ports;
 mod step;
 mod table;
 mod taken;
@@ -17,8 +24,15 @@ mod transfer;
 
 pub use keep_fault::KeepFault;
 pub use keeper::Keeper;
+pub use kept::Kept;
+pub use laws::limit_values;
 pub use limits::LIVE;
+pub use load_fault::LoadFault;
+pub use memory_keeper::MemoryKeeper;
 pub use no_keeper::NoKeeper;
 pub use step::Step;
 pub use table::Table;
 pub use taken::Taken;
+
+#[cfg(test)]
+mod tests;

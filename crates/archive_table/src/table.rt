@@ -1,24 +1,29 @@
 //! The table of a server.
 
-ghost use Rattle.std.specs.Prelude.{◌≡◌, ◌≢◌, ◌≤◌, [], None, Some, true, false, length, is_some};
+ghost use Rattle.std.specs.Prelude.{◌≡◌, ◌≢◌, ◌≤◌, [], None, Some, Err, IfOk, IfErr, true, false, length, is_some};
 ghost use Rattle.std.specs.Str.{bytes_eq};
 ghost use Rattle.tws_file.specs.Names.{file_name_of};
-ghost use Rattle.archive_table.specs.Server.{nothing_told, refuses, opens_if, request_verdict, server_request, server_timeout, transfer_at, has_place, read_asked, read_placed, write_asked, kind_named, is_octet as octet_mode, map_of, port_above, IsServer, closes, ack_live, data_live, file_done, server_datagram, grant_of, reply_grant, all, Merges, refusal_of as refusal_told, sends_from};
+ghost use Rattle.archive_table.specs.Server.{nothing_told, refuses, opens_if, request_verdict, server_request, server_timeout, transfer_at, has_place, read_asked, read_placed, write_asked, kind_named, is_octet as octet_mode, map_of, port_above, IsEnd, IsServer, closes, ack_live, data_live, file_done, server_datagram, grant_of, reply_grant, all, Merges, refusal_of as refusal_told, sends_from};
+ghost use Rattle.archive_table.specs.Keeper.{StepKeeps, LoadedFrom, TableFails, FailsAt};
 ghost use Rattle.archive_table.specs.Kept.{end_of};
+ghost use Rattle.tws_file.specs.Reader.{IsAnswer};
 
 use crate::end::End;
 use crate::heard::{Heard, hear};
+use crate::incoming::{Incoming, Whole};
+use crate::keep_fault::KeepFault;
 use crate::keeper::Keeper;
 use crate::keeping::merge_file;
 use crate::limits::LIVE;
+use crate::load::load_collection;
+use crate::load_fault::LoadFault;
+use crate::ports::Ports;
 use crate::step::Step;
 use crate::taken::Taken;
 use crate::transfer::Transfer;
 use std::alloc::{Allocator, Global};
-use std::collections::BTreeMap;
 use std::marker::Model;
-use std::ops::Bound;
-use tftp_ends::{MAX_FILE, Received, Receiver, RecvFault, RecvState, SendState, Sender};
+use tftp_ends::{MAX_FILE, RecvFault, RecvState, SendState, Sender};
 use tftp_packet::{Dgram, Endpoint, Out, Packet, Refusal, decode, encode_ack, is_octet};
 use tws_best::{Collection, Snapshot};
 use tws_file::Ruleset;
@@ -30,7 +35,7 @@ pub struct Table<A: Allocator + Copy = Global> {
     request: u16,
     lynx: Collection<A>,
     ms: Collection<A>,
-    live: BTreeMap<u16, Transfer<A>, A>,
+    live: Ports<Transfer<A>, A>,
 }
 
 impl<A: Allocator + Copy> Model for Table<A> {
@@ -116,8 +121,36 @@ impl<A: Allocator + Copy> Table<A> {
             request,
             lynx: Collection::new(alloc, Ruleset::Lynx),
             ms: Collection::new(alloc, Ruleset::Ms),
-            live: BTreeMap::new(alloc),
+            live: Ports::new(alloc),
         }
+    }
+
+    /// A server with this request port, the collections that a keeper has, empty where it has none, and no transfer.
+    /// Nothing is kept by this.
+    ///
+    /// # Errors
+    ///
+    /// The first of these at Lynx, and after that at MS: the keeper fails; what was kept is no solution file; it is a
+    /// file of other rules. Out of memory at any time.
+    pub fn load<K: Keeper>(alloc: A, request: u16, keeper: &mut K) -> Result<Self, LoadFault>
+        ensures request { IfOk result (λ t. t.request ≡ request) }
+        ensures lynx { IfOk result (λ t. LoadedFrom Ruleset.Lynx (K.log keeper.old) t.maps.lynx) }
+        ensures ms { IfOk result (λ t. LoadedFrom Ruleset.Ms (K.log keeper.old) t.maps.ms) }
+        ensures live { IfOk result (λ t. t.live ≡ []) }
+        ensures fault { IfErr result (TableFails (K.log keeper.old)) }
+        ensures log { K.log keeper.new ≡ K.log keeper.old }
+        ensures failed { result ≡ Err (LoadFault.Keep KeepFault.Device) → FailsAt (K.failed keeper.old) (K.failed keeper.new) }
+        ensures fits { IfOk result IsServer }
+    {
+        let lynx = load_collection(alloc, keeper, Ruleset::Lynx)?;
+        let ms = load_collection(alloc, keeper, Ruleset::Ms)?;
+        Ok(Table {
+            alloc,
+            request,
+            lynx,
+            ms,
+            live: Ports::new(alloc),
+        })
     }
 
     // A request is refused from the request port.
@@ -133,10 +166,12 @@ impl<A: Allocator + Copy> Table<A> {
         &mut self,
         spare: u16,
         from: Endpoint,
-        end: End<Sender<Snapshot<A>>, Receiver<A>>,
+        end: End<Sender<Snapshot<A>>, Incoming<A>>,
         first: Dgram,
     ) -> Step<A>
         requires place { has_place self.old ≡ true }
+        requires end { IsEnd (end_of end) }
+        requires other { spare ≢ self.old.request }
         requires free { transfer_at spare self.old ≡ None }
         ensures server { self.new ≡ (opens_if (request_verdict result.opened) spare from (end_of end) first self.old).server }
         ensures told { result ≡ (opens_if (request_verdict result.opened) spare from (end_of end) first self.old).told }
@@ -159,6 +194,7 @@ impl<A: Allocator + Copy> Table<A> {
 
     // A request to write.
     fn on_write(&mut self, spare: u16, from: Endpoint, mode: &[u8]) -> Step<A>
+        requires other { spare ≢ self.old.request }
         requires free { transfer_at spare self.old ≡ None }
         ensures server { self.new ≡ (write_asked (octet_mode mode.now) (request_verdict result.opened) spare from self.old).server }
         ensures told { result ≡ (write_asked (octet_mode mode.now) (request_verdict result.opened) spare from self.old).told }
@@ -170,12 +206,13 @@ impl<A: Allocator + Copy> Table<A> {
         if !self.has_place() {
             return self.refuse(from, Refusal::ServerBusy);
         }
-        let receiver = Receiver::new(self.alloc);
-        self.open(spare, from, End::Receiving(receiver), encode_ack(0))
+        let incoming = Incoming::new(self.alloc);
+        self.open(spare, from, End::Receiving(incoming), encode_ack(0))
     }
 
     // A request to read.
     fn on_read(&mut self, spare: u16, from: Endpoint, name: &[u8], mode: &[u8]) -> Step<A>
+        requires other { spare ≢ self.old.request }
         requires free { transfer_at spare self.old ≡ None }
         ensures server { self.new ≡ (read_asked (octet_mode mode.now) (request_verdict result.opened) spare from name.now self.old).server }
         ensures told { result ≡ (read_asked (octet_mode mode.now) (request_verdict result.opened) spare from name.now self.old).told }
@@ -192,6 +229,7 @@ impl<A: Allocator + Copy> Table<A> {
 
     // A request to read the collection of a ruleset.
     fn on_named(&mut self, spare: u16, from: Endpoint, kind: Ruleset) -> Step<A>
+        requires other { spare ≢ self.old.request }
         requires free { transfer_at spare self.old ≡ None }
         ensures server { self.new ≡ (read_placed (has_place self.old) (request_verdict result.opened) spare from (map_of kind self.old.maps) self.old).server }
         ensures told { result ≡ (read_placed (has_place self.old) (request_verdict result.opened) spare from (map_of kind self.old.maps) self.old).told }
@@ -219,11 +257,13 @@ impl<A: Allocator + Copy> Table<A> {
     /// that is refused changes nothing and is answered with an ERROR from the request port. The causes, in this order:
     /// another mode, no such file, `LIVE` transfers are live, the text has more than `MAX_FILE` bytes, out of memory.
     /// Any other datagram has no effect.
+    #[tactic(auto, using(crate::proofs::SamePort::request_same))]
     pub fn on_request(&mut self, spare: u16, from: Endpoint, bytes: &[u8]) -> Step<A>
         requires other { spare ≢ self.old.request }
         requires free { transfer_at spare self.old ≡ None }
         ensures server { self.new ≡ (server_request (request_verdict result.opened) spare from bytes.now self.old).server }
         ensures told { result ≡ (server_request (request_verdict result.opened) spare from bytes.now self.old).told }
+        ensures request { self.new.request ≡ self.old.request }
         ensures fits { IsServer self.new }
     {
         match decode(bytes) {
@@ -255,20 +295,21 @@ impl<A: Allocator + Copy> Table<A> {
         ensures told { result ≡ (closes port peer dgram self.old).told }
         ensures fits { IsServer self.new }
     {
-        self.live.remove(&port);
+        self.live.remove(port);
         let mut step = told(port, peer, dgram);
         step.closed = true;
         step
     }
 
     // ACK `n` of the peer has come to a port.
-    #[tactic(auto, using(crate::proofs::Live::remove_set, crate::proofs::Live::set_same))]
+    #[tactic(auto, using(crate::proofs::Live::remove_set, crate::proofs::Live::set_same, crate::proofs::Replies::sender_grant, crate::proofs::Replies::sent_grant))]
     fn on_ack(&mut self, port: u16, n: u16) -> Step<A>
         ensures server { self.new ≡ (ack_live (transfer_at port self.old) port n self.old).server }
         ensures told { result ≡ (ack_live (transfer_at port self.old) port n self.old).told }
+        ensures grant { grant_of result.out ≡ all }
         ensures fits { IsServer self.new }
     {
-        let Some(transfer) = self.live.get_mut(&port) else {
+        let Some(transfer) = self.live.get_mut(port) else {
             return Step::nothing();
         };
         let peer = transfer.peer;
@@ -288,16 +329,19 @@ impl<A: Allocator + Copy> Table<A> {
         keeper: &mut K,
         port: u16,
         peer: Endpoint,
-        file: Received<A>,
+        whole: Whole<A>,
         ack: Option<Dgram>,
     ) -> Step<A>
         requires acks { reply_grant ack ≡ all }
-        ensures server { self.new ≡ (file_done (grant_of result.out) self.new.maps port peer file ack self.old).server }
-        ensures told { result ≡ (file_done (grant_of result.out) self.new.maps port peer file ack self.old).told }
+        requires read { IsAnswer whole.file whole.read }
+        ensures server { self.new ≡ (file_done (grant_of result.out) self.new.maps port peer whole.file ack self.old).server }
+        ensures told { result ≡ (file_done (grant_of result.out) self.new.maps port peer whole.file ack self.old).told }
         ensures merges { Merges result.taken self.old.maps self.new.maps }
+        ensures keeps { StepKeeps (grant_of result.out) (Some (record { peer = peer; file = whole.file })) self.old.maps self.new.maps (K.log keeper.old) (K.log keeper.new) }
         ensures fits { IsServer self.new }
     {
-        match merge_file(self.alloc, &mut self.lynx, &mut self.ms, keeper, &file) {
+        let Whole { file, read } = whole;
+        match merge_file(&mut self.lynx, &mut self.ms, keeper, &read) {
             Ok(()) => {
                 let mut step = told(port, peer, ack);
                 step.taken = Some(Taken { peer, file });
@@ -314,20 +358,22 @@ impl<A: Allocator + Copy> Table<A> {
         ensures server { self.new ≡ (data_live (transfer_at port self.old) (grant_of result.out) self.new.maps port n body.now self.old).server }
         ensures told { result ≡ (data_live (transfer_at port self.old) (grant_of result.out) self.new.maps port n body.now self.old).told }
         ensures merges { Merges result.taken self.old.maps self.new.maps }
+        ensures keeps { StepKeeps (grant_of result.out) (data_live (transfer_at port self.old) all self.old.maps port n body.now self.old).told.taken self.old.maps self.new.maps (K.log keeper.old) (K.log keeper.new) }
         ensures fits { IsServer self.new }
     {
-        let Some(transfer) = self.live.get_mut(&port) else {
+        let Some(transfer) = self.live.get_mut(port) else {
             return Step::nothing();
         };
         let peer = transfer.peer;
-        let End::Receiving(receiver) = &mut transfer.end else {
+        let End::Receiving(incoming) = &mut transfer.end else {
             return Step::nothing();
         };
-        match receiver.on_data(n, body) {
+        let came = incoming.on_data(n, body);
+        match came {
             Err(fault) => self.close(port, peer, Some(refusal_of(fault).dgram())),
-            Ok(ack) => match receiver.take_file() {
+            Ok((ack, whole)) => match whole {
                 None => told(port, peer, ack),
-                Some(file) => self.on_file(keeper, port, peer, file, ack),
+                Some(whole) => self.on_file(keeper, port, peer, whole, ack),
             },
         }
     }
@@ -340,6 +386,7 @@ impl<A: Allocator + Copy> Table<A> {
     /// where that changed it, before it is acknowledged; then the file is taken. Bytes that are no solution file are taken
     /// and change nothing. A block that is one too many, memory that is refused and a collection that is not kept close
     /// the transfer with an ERROR, and no collection changes. A port that is not live gives an empty step.
+    #[tactic(auto, using(crate::proofs::SamePort::live_same))]
     pub fn on_datagram<K: Keeper>(
         &mut self,
         keeper: &mut K,
@@ -350,9 +397,11 @@ impl<A: Allocator + Copy> Table<A> {
         ensures server { self.new ≡ (server_datagram (grant_of result.out) self.new.maps port from bytes.now self.old).server }
         ensures told { result ≡ (server_datagram (grant_of result.out) self.new.maps port from bytes.now self.old).told }
         ensures merges { Merges result.taken self.old.maps self.new.maps }
+        ensures request { self.new.request ≡ self.old.request }
+        ensures keeps { StepKeeps (grant_of result.out) (server_datagram all self.old.maps port from bytes.now self.old).told.taken self.old.maps self.new.maps (K.log keeper.old) (K.log keeper.new) }
         ensures fits { IsServer self.new }
     {
-        let Some(transfer) = self.live.get(&port) else {
+        let Some(transfer) = self.live.get(port) else {
             return self.nothing();
         };
         let peer = transfer.peer;
@@ -367,13 +416,14 @@ impl<A: Allocator + Copy> Table<A> {
 
     /// Nothing has come to a port for a while. What its transfer sent last is sent again; the transfer is closed where
     /// its end gives up or has waited long enough for a repeated last block. A port that is not live gives an empty step.
-    #[tactic(auto, using(crate::proofs::Live::remove_set, crate::proofs::Live::set_same))]
+    #[tactic(auto, using(crate::proofs::Live::remove_set, crate::proofs::Live::set_same, crate::proofs::SamePort::timeout_same))]
     pub fn on_timeout(&mut self, port: u16) -> Step<A>
         ensures server { self.new ≡ (server_timeout port self.old).server }
         ensures told { result ≡ (server_timeout port self.old).told }
+        ensures request { self.new.request ≡ self.old.request }
         ensures fits { IsServer self.new }
     {
-        let Some(transfer) = self.live.get_mut(&port) else {
+        let Some(transfer) = self.live.get_mut(port) else {
             return Step::nothing();
         };
         let peer = transfer.peer;
@@ -385,9 +435,9 @@ impl<A: Allocator + Copy> Table<A> {
                     SendState::Finished | SendState::TimedOut => self.close(port, peer, out),
                 }
             }
-            End::Receiving(receiver) => {
-                let out = receiver.on_timeout();
-                match receiver.state() {
+            End::Receiving(incoming) => {
+                let out = incoming.on_timeout();
+                match incoming.state() {
                     RecvState::Running | RecvState::Complete => told(port, peer, out),
                     RecvState::TimedOut | RecvState::Over => self.close(port, peer, out),
                 }
@@ -417,17 +467,20 @@ impl<A: Allocator + Copy> Table<A> {
     pub fn next_port(&self, after: u16) -> Option<u16>
         ensures { result ≡ port_above after self.now }
     {
-        let mut above = self.live.range((Bound::Excluded(after), Bound::Unbounded));
-        match above.next() {
-            Some((port, _)) => Some(*port),
-            None => None,
-        }
+        self.live.above(after)
+    }
+
+    /// The port that requests come to.
+    pub fn request(&self) -> u16
+        ensures { result ≡ self.now.request }
+    {
+        self.request
     }
 
     /// Whether a transfer is at this port.
     pub fn is_live(&self, port: u16) -> bool
         ensures { result ≡ is_some (transfer_at port self.now) }
     {
-        self.live.contains_key(&port)
+        self.live.contains(port)
     }
 }

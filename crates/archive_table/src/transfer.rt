@@ -1,9 +1,10 @@
 //! One transfer at the server.
 
 use crate::end::End;
+use crate::incoming::Incoming;
 use std::alloc::Allocator;
 use std::marker::Model;
-use tftp_ends::{Receiver, Sender};
+use tftp_ends::Sender;
 use tftp_packet::Endpoint;
 use tws_best::Snapshot;
 
@@ -11,7 +12,7 @@ use tws_best::Snapshot;
 #[derive(Drop)]
 pub(crate) struct Transfer<A: Allocator + Copy> {
     pub(crate) peer: Endpoint,
-    pub(crate) end: End<Sender<Snapshot<A>>, Receiver<A>>,
+    pub(crate) end: End<Sender<Snapshot<A>>, Incoming<A>>,
 }
 
 impl<A: Allocator + Copy> Model for Transfer<A> {

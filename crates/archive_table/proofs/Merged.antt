@@ -1,0 +1,118 @@
+-- What a file that was read makes of the collections, and what a keeper was given.
+use Rattle.std.specs.Prelude.{◌≡◌, ◌≢◌, ◌⊎◌, ℕ, Bool, true, false, List, [], ◌++◌, Option, None, Some}
+use Rattle.std.proofs.Common.{refl, sym, ap, ◌∙◌, inl, inr, subst}
+use Rattle.std.proofs.lemmas.List.{append-nil}
+use Rattle.tws_file.specs.declared.«ruleset».Ruleset.{Ruleset}
+use Rattle.tws_file.specs.declared.«ruleset».Ruleset.TheVariants.{Lynx, Ms}
+use Rattle.tws_file.specs.declared.file_fault.FileFault.{FileFault}
+use Rattle.tws_file.specs.Text.{File, IsText}
+use Rattle.tws_file.specs.Fault.{HasFault}
+use Rattle.tws_file.proofs.FileText.{one_file}
+use Rattle.tws_file.proofs.Faults.{text_without_fault}
+use Rattle.tws_best.specs.Best.{Collected}
+use Rattle.tftp_packet.specs.declared.endpoint.Endpoint.{Endpoint}
+use Rattle.tftp_packet.specs.declared.refusal.Refusal.{Refusal}
+use Rattle.tftp_packet.specs.declared.refusal.Refusal.TheVariants.{OutOfMemory, NotKept, UnknownTransfer}
+use Rattle.tftp_packet.specs.Packet.{encode}
+use Rattle.archive_table.specs.Server.{Maps, Server, Taken, Grant, all, no_memory, unkept, dgram_grant, refusal_dgram, refusal_of, IsJoined, JoinsOwn, IsMerged, IsServer}
+use Rattle.archive_table.specs.Keeper.{Keeping, Grows, KeepsMaps, RefusesJoin, RefusesFile, StepKeeps}
+use Rattle.archive_table.proofs.Replies.{memory_grant, past_grant}
+use Rattle.std.proofs.lemmas.Bool.{true≢false}
+use Rattle.tftp_ends.specs.declared.recv_fault.RecvFault.{RecvFault}
+use Rattle.tftp_ends.specs.declared.recv_fault.RecvFault.TheVariants as recv
+
+abbrev pub both : Collected → Collected → Maps
+both lynx ms = record { lynx = lynx; ms = ms }
+
+-- the bytes are this file's and no other's
+own_joined : (bytes : List ℕ) (f : File) (old new : Maps) → IsText bytes f → JoinsOwn f.«ruleset» f old new → IsMerged bytes old new
+own_joined bytes f old new t own =
+    record {
+      readable = λ file s. subst (λ (f : File). JoinsOwn f.«ruleset» f old new) (one_file bytes f file t s) own;
+      unreadable = λ no. absurd (no f t);
+    }
+
+pub lynx_merged : (bytes : List ℕ) (f : File) (lynx new ms : Collected) → IsText bytes f → f.«ruleset» ≡ Lynx → IsJoined f lynx new → IsMerged bytes (both lynx ms) (both new ms)
+lynx_merged bytes f lynx new ms t is joined =
+    own_joined bytes f (both lynx ms) (both new ms) t (subst (λ r. JoinsOwn r f (both lynx ms) (both new ms)) (sym is) (joined, refl))
+
+pub ms_merged : (bytes : List ℕ) (f : File) (lynx ms new : Collected) → IsText bytes f → f.«ruleset» ≡ Ms → IsJoined f ms new → IsMerged bytes (both lynx ms) (both lynx new)
+ms_merged bytes f lynx ms new t is joined =
+    own_joined bytes f (both lynx ms) (both lynx new) t (subst (λ r. JoinsOwn r f (both lynx ms) (both lynx new)) (sym is) (joined, refl))
+
+-- bytes with a fault change nothing
+pub unread_merged : (bytes : List ℕ) (e : FileFault) (old : Maps) → HasFault bytes e → IsMerged bytes old old
+unread_merged bytes e old fault =
+    record {
+      readable = λ file t. absurd (text_without_fault bytes file e t fault);
+      unreadable = λ no. refl;
+    }
+
+module _ (why : Refusal) (bytes : List ℕ) (f : File) (lynx ms : Collected) (t : IsText bytes f) (before after : Option (List Keeping)) where
+  pub lynx_refused : f.«ruleset» ≡ Lynx → RefusesJoin why f lynx before after → RefusesFile why bytes (both lynx ms) before after
+  lynx_refused is (inl h) = inl h
+  lynx_refused is (inr (not, (new, joined, other, fails))) = inr (not, (both new ms, lynx_merged bytes f lynx new ms t is joined, inl (refl, other, fails)))
+
+  pub ms_refused : f.«ruleset» ≡ Ms → RefusesJoin why f ms before after → RefusesFile why bytes (both lynx ms) before after
+  ms_refused is (inl h) = inl h
+  ms_refused is (inr (not, (new, joined, other, fails))) = inr (not, (both lynx new, ms_merged bytes f lynx ms new t is joined, inr (refl, other, fails)))
+
+-- ---- the step
+
+pub unkept_grant : dgram_grant (refusal_dgram NotKept) ≡ unkept
+unfolding encode
+unkept_grant = refl
+
+pub refused_keeps : (why : Refusal) (peer : Endpoint) (bytes : List ℕ) (old new : Maps) (before after : Option (List Keeping)) → RefusesFile why bytes old before after → StepKeeps (dgram_grant (refusal_dgram why)) (Some (record { peer = peer; file = bytes })) old new before after
+refused_keeps why peer bytes old new before after (inl (is, grows)) =
+    subst (λ (g : Grant). StepKeeps g (Some (record { peer = peer; file = bytes })) old new before after) (sym (ap (λ w. dgram_grant (refusal_dgram w)) is ∙ memory_grant)) grows
+refused_keeps why peer bytes old new before after (inr (is, h)) =
+    subst (λ (g : Grant). StepKeeps g (Some (record { peer = peer; file = bytes })) old new before after) (sym (ap (λ w. dgram_grant (refusal_dgram w)) is ∙ unkept_grant)) h
+
+-- nothing is told of a list that stays
+grows_not : (log : Option (List Keeping)) → Grows log log []
+grows_not None = refl
+grows_not (Some ks) = sym (append-nil ks)
+
+pub keeps_nothing : (grant : Grant) (wanted : Option Taken) (maps : Maps) (log : Option (List Keeping)) → grant ≢ unkept → StepKeeps grant wanted maps maps log log
+keeps_nothing all wanted maps log other = inl (refl, inl (refl, grows_not log))
+keeps_nothing no_memory wanted maps log other = grows_not log
+keeps_nothing unkept wanted maps log other = absurd (other refl)
+
+-- ---- what always holds
+
+-- the collections are others of the same rules
+pub maps_fit : (s : Server) (lynx ms : Collected) → IsServer s → lynx.«ruleset» ≡ s.maps.lynx.«ruleset» → ms.«ruleset» ≡ s.maps.ms.«ruleset» → IsServer (record { request = s.request; maps = both lynx ms; live = s.live })
+maps_fit s lynx ms h l m =
+    record { lynx = l ∙ h.lynx; ms = m ∙ h.ms; few = h.few; ordered = h.ordered; apart = h.apart; ends = h.ends }
+
+-- ---- where nothing is to be kept
+
+abbrev is_all : Grant → Bool
+is_all all = true
+is_all no_memory = false
+is_all unkept = false
+
+abbrev is_memory : Grant → Bool
+is_memory all = false
+is_memory no_memory = true
+is_memory unkept = false
+
+all_is : all ≢ unkept
+all_is e = true≢false (ap is_all e)
+
+pub keeps_same : (grant : Grant) (wanted : Option Taken) (old new : Maps) (before after : Option (List Keeping)) → grant ≢ unkept → new ≡ old → after ≡ before → StepKeeps grant wanted old new before after
+keeps_same grant wanted old new before after other maps log =
+    subst (λ m. StepKeeps grant wanted old m before after) (sym maps) (subst (λ l. StepKeeps grant wanted old old before l) (sym log) (keeps_nothing grant wanted old before other))
+
+pub keeps_all : (grant : Grant) (wanted : Option Taken) (old new : Maps) (before after : Option (List Keeping)) → grant ≡ all → new ≡ old → after ≡ before → StepKeeps grant wanted old new before after
+keeps_all grant wanted old new before after is = keeps_same grant wanted old new before after (λ e. all_is (sym is ∙ e))
+
+-- what is answered to a block that was not taken is not that refusal
+pub fault_grant : (fault : RecvFault) → dgram_grant (refusal_dgram (refusal_of fault)) ≢ unkept
+fault_grant recv.Memory e = true≢false (ap is_memory (sym memory_grant ∙ e))
+fault_grant recv.TooLong e = all_is (sym past_grant ∙ e)
+
+pub stray_grant : dgram_grant (refusal_dgram UnknownTransfer) ≡ all
+unfolding encode
+stray_grant = refl

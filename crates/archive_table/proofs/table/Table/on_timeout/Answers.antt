@@ -1,0 +1,27 @@
+use Rattle.archive_table.specs.Kept.{server_of}
+use Rattle.archive_table.proofs.Serving.{set_fits}
+use Rattle.archive_table.proofs.table.Table.on_timeout.Goals as goal
+
+-- src/table.rt:400:43
+pub invariant_of-self-in-Running : goal.invariant_of-self-in-Running
+invariant_of-self-in-Running g c = set_fits c.args.port _ (server_of c.self.inside) c.self.invariant c.on_timeout-out.ensures.fits
+
+-- src/table.rt:401:66
+pub invariant_of-self-in-Finished : goal.invariant_of-self-in-Finished
+invariant_of-self-in-Finished g c = set_fits c.args.port _ (server_of c.self.inside) c.self.invariant c.on_timeout-out.ensures.fits
+
+-- src/table.rt:407:65
+pub invariant_of-self-in-Running-state : goal.invariant_of-self-in-Running-state
+invariant_of-self-in-Running-state g c = set_fits c.args.port _ (server_of c.self.inside) c.self.invariant c.on_timeout-out-in-Receiving.ensures.fits
+
+-- src/table.rt:408:62
+pub invariant_of-self-in-TimedOut : goal.invariant_of-self-in-TimedOut
+invariant_of-self-in-TimedOut g c = set_fits c.args.port _ (server_of c.self.inside) c.self.invariant c.on_timeout-out-in-Receiving.ensures.fits
+
+-- src/table.rt:386:5
+pub returns-in-Running-clause-fits : goal.returns-in-Running-clause-fits
+returns-in-Running-clause-fits g c = set_fits c.args.port _ (server_of c.self.inside) c.self.invariant c.on_timeout-out.ensures.fits
+
+-- src/table.rt:386:5
+pub returns-in-Running-state-clause-fits : goal.returns-in-Running-state-clause-fits
+returns-in-Running-state-clause-fits g c = set_fits c.args.port _ (server_of c.self.inside) c.self.invariant c.on_timeout-out-in-Receiving.ensures.fits

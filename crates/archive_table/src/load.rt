@@ -1,0 +1,59 @@
+//! The collections that a keeper has.
+
+ghost use Rattle.std.specs.Prelude.{◌≡◌, ◌≤◌, Some, Err, IfOk, IfErr};
+ghost use Rattle.archive_table.specs.Keeper.{IsLoaded, LoadedFrom, IsMisread, FailsToLoad, FailsAt};
+
+use crate::keep_fault::KeepFault;
+use crate::keeper::Keeper;
+use crate::load_fault::LoadFault;
+use std::alloc::Allocator;
+use tws_best::Collection;
+use tws_file::{FileFault, Ruleset, read_file};
+
+// The collection of these rules whose text this is.
+fn read_collection<A: Allocator + Copy>(
+    alloc: A,
+    bytes: &[u8],
+    kind: Ruleset,
+) -> Result<Collection<A>, LoadFault>
+    ensures loaded { IfOk result (λ c. IsLoaded kind (Some bytes.now) c) }
+    ensures rules { IfOk result (λ c. c.ruleset ≡ kind) }
+    ensures fault { IfErr result (λ e. IsMisread kind bytes.now e) }
+{
+    let file = match read_file(alloc, bytes) {
+        Ok(file) => file,
+        Err(FileFault::Memory) => return Err(LoadFault::Memory),
+        Err(fault) => return Err(LoadFault::Unreadable(fault)),
+    };
+    if file.ruleset == kind {
+        match Collection::load(alloc, &file) {
+            Ok(collection) => Ok(collection),
+            Err(_) => Err(LoadFault::Memory),
+        }
+    } else {
+        Err(LoadFault::WrongRuleset)
+    }
+}
+
+/// The collection of these rules that a keeper has, empty where it has none.
+pub(crate) fn load_collection<A: Allocator + Copy, K: Keeper>(
+    alloc: A,
+    keeper: &mut K,
+    kind: Ruleset,
+) -> Result<Collection<A>, LoadFault>
+    ensures log { K.log keeper.new ≡ K.log keeper.old }
+    ensures loaded { IfOk result (λ c. LoadedFrom kind (K.log keeper.old) c) }
+    ensures rules { IfOk result (λ c. c.ruleset ≡ kind) }
+    ensures fault { IfErr result (λ e. FailsToLoad kind (K.log keeper.old) e) }
+    ensures more { K.failed keeper.old ≤ K.failed keeper.new }
+    ensures failed { result ≡ Err (LoadFault.Keep KeepFault.Device) → FailsAt (K.failed keeper.old) (K.failed keeper.new) }
+{
+    let text = match keeper.load(alloc, kind) {
+        Ok(text) => text,
+        Err(fault) => return Err(LoadFault::Keep(fault)),
+    };
+    match text {
+        None => Ok(Collection::new(alloc, kind)),
+        Some(bytes) => read_collection(alloc, bytes.as_slice(), kind),
+    }
+}

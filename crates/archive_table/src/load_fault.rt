@@ -1,0 +1,20 @@
+use crate::keep_fault::KeepFault;
+use thiserror::Error;
+use tws_file::FileFault;
+
+/// Why the collections that were kept were not loaded.
+#[derive(Clone, Copy, Debug, PartialEq, Eq, Error)]
+pub enum LoadFault {
+    /// The keeper failed.
+    #[error("Keep({0})")]
+    Keep(KeepFault),
+    /// What was kept is no solution file.
+    #[error("Unreadable({0})")]
+    Unreadable(FileFault),
+    /// What was kept is a file of other rules.
+    #[error("WrongRuleset")]
+    WrongRuleset,
+    /// Out of memory.
+    #[error("Memory")]
+    Memory,
+}

@@ -1,0 +1,136 @@
+//! What a server has at its ports.
+
+ghost use Rattle.std.specs.Prelude.{◌≡◌, None, Some, IsSome, [], OnOk, OnErr, length, is_some, option_copied};
+ghost use Rattle.std.specs.Option.{option_copied_mut};
+ghost use Rattle.std.specs.Map.{lookup, remove_entry, set_value};
+ghost use Rattle.std.specs.BTreeMap.{insert_entry};
+ghost use Rattle.std.specs.Ordering.{nat_cmp};
+ghost use Rattle.std.specs.BTreeMap.Range.{entries_between};
+ghost use Rattle.std.specs.declared.ops.Bound.TheVariants.{Excluded, Unbounded};
+ghost use Rattle.archive_table.specs.Server.{at_port, first_port};
+
+use slab::Slab;
+use std::alloc::{AllocError, Allocator};
+use std::collections::BTreeMap;
+use std::marker::Model;
+use std::ops::Bound;
+
+/// What is at each live port: the port leads to a key, and the key to a place of a slab.
+#[derive(Drop)]
+pub(crate) struct Ports<T, A: Allocator + Copy> {
+    keys: BTreeMap<u16, usize, A>,
+    places: Slab<T, A>,
+}
+
+impl<T, A: Allocator + Copy> Model for Ports<T, A> {
+    ghost use Rattle.std.specs.Prelude.{ℕ, List};
+    ghost use Rattle.slab.specs.Slab.{get};
+    ghost use Rattle.archive_table.specs.Ports.{found_at, AreHeld};
+
+    ghost Value = { List (ℕ × T) };
+
+    ghost view = { λ p. found_at (get p.places) p.keys.entries };
+
+    ghost invariant = { λ p. AreHeld p.keys.entries p.places };
+}
+
+impl<T: Drop, A: Allocator + Copy> Ports<T, A> {
+    ghost use Rattle.std.specs.Borrow.{sem};
+    ghost use Rattle.archive_table.specs.Lends.{lends_get, lends_value};
+
+    /// No port is live. It takes no memory.
+    pub(crate) fn new(alloc: A) -> Self
+        ensures { result ≡ [] }
+    {
+        Ports {
+            keys: BTreeMap::new(alloc),
+            places: Slab::new(alloc),
+        }
+    }
+
+    /// How many ports are live.
+    #[tactic(auto, using(crate::proofs::Found::length_found))]
+    pub(crate) fn len(&self) -> usize
+        ensures { result ≡ length self.now }
+    {
+        self.keys.len()
+    }
+
+    /// Whether a port is live.
+    pub(crate) fn contains(&self, port: u16) -> bool
+        ensures { result ≡ is_some (lookup (at_port port) self.now) }
+    {
+        self.get(port).is_some()
+    }
+
+    /// What is at a port.
+    #[tactic(auto, using(crate::proofs::Found::lookup_found))]
+    pub(crate) fn get(&self, port: u16) -> Option<&T>
+        ensures { option_copied result ≡ lookup (at_port port) self.now }
+    {
+        let key = self.keys.get(&port)?;
+        self.places.get(*key)
+    }
+
+    /// Puts this at a port that is not live. On error nothing has changed.
+    #[tactic(auto, using(crate::proofs::Found::lookup_found))]
+    pub(crate) fn insert(&mut self, port: u16, value: T) -> Result<(), AllocError>
+        requires free { lookup (at_port port) self.old ≡ None }
+        ensures inserted { OnOk result (self.new ≡ insert_entry nat_cmp self.old port value) }
+        ensures unchanged { OnErr result (self.new ≡ self.old) }
+    {
+        self.places.reserve(1)?;
+        let key = self.places.vacant_key();
+        match self.keys.insert(port, key) {
+            Ok(_) => {
+                self.places.insert_reserved(value);
+                Ok(())
+            }
+            Err(_) => Err(AllocError),
+        }
+    }
+
+    /// What is at a port, for writing.
+    pub(crate) fn get_mut(&mut self, port: u16) -> Option<&mut T>
+        ensures* writes_back { sem 𝓛 (lends_get T.row A.row A.Allocator self.entry port result) }
+        ensures value { option_copied_mut result ≡ lookup (at_port port) self.old }
+    {
+        if self.contains(port) {
+            Some(self.value_mut(port))
+        } else {
+            None
+        }
+    }
+
+    // What is at a live port, for writing.
+    #[tactic(auto, using(crate::proofs::Found::lookup_found))]
+    fn value_mut(&mut self, port: u16) -> &mut T
+        requires live { IsSome (lookup (at_port port) self.old) }
+        ensures* writes_back { sem 𝓛 (lends_value T.row A.row A.Allocator self.entry port result) }
+        ensures value { lookup (at_port port) self.old ≡ Some result.now }
+    {
+        let key = self.keys[&port];
+        &mut self.places[key]
+    }
+
+    /// The least live port above this one.
+    #[tactic(auto, using(crate::proofs::Found::first_above))]
+    pub(crate) fn above(&self, after: u16) -> Option<u16>
+        ensures { result ≡ first_port (entries_between nat_cmp (Excluded after) Unbounded self.now) }
+    {
+        let mut above = self.keys.range((Bound::Excluded(after), Bound::Unbounded));
+        match above.next() {
+            Some((port, _)) => Some(*port),
+            None => None,
+        }
+    }
+
+    /// What was at a port is gone, and the port is not live.
+    pub(crate) fn remove(&mut self, port: u16)
+        ensures { self.new ≡ remove_entry (at_port port) self.old }
+    {
+        if let Some(key) = self.keys.remove(&port) {
+            self.places.remove(key);
+        }
+    }
+}

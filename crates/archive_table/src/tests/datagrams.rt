@@ -1,0 +1,274 @@
+// What comes to a transfer's port.
+use crate::NoKeeper;
+use crate::tests::archive::{
+    Archive, Input, client, closes, ends, first_other, has_texts, is_live, is_step, nothing, opens,
+    sends, takes,
+};
+use std::alloc::Global;
+use std::test::Fail;
+
+const WRQ: &[u8; 19] = b"\0\x02upload.tws\0octet\0";
+
+const RRQ: &[u8; 17] = b"\0\x01lynx.tws\0octet\0";
+
+// A Lynx file: level 1, BDHP, 100 ticks, no moves; and the same in 90 ticks.
+const HUNDRED: &[u8; 28] = b"\x35\x33\x9B\x99\x01\0\0\0\x10\0\0\0\x01\0BDHP\0\0\0\0\0\0\x64\0\0\0";
+
+const NINETY: &[u8; 28] = b"\x35\x33\x9B\x99\x01\0\0\0\x10\0\0\0\x01\0BDHP\0\0\0\0\0\0\x5A\0\0\0";
+
+const EMPTY_LYNX: &[u8; 8] = b"\x35\x33\x9B\x99\x01\0\0\0";
+
+const EMPTY_MS: &[u8; 8] = b"\x35\x33\x9B\x99\x02\0\0\0";
+
+// DATA 1 with each of them.
+const FIRST: &[u8; 32] =
+    b"\0\x03\0\x01\x35\x33\x9B\x99\x01\0\0\0\x10\0\0\0\x01\0BDHP\0\0\0\0\0\0\x64\0\0\0";
+
+const BETTER: &[u8; 32] =
+    b"\0\x03\0\x01\x35\x33\x9B\x99\x01\0\0\0\x10\0\0\0\x01\0BDHP\0\0\0\0\0\0\x5A\0\0\0";
+
+const ACK_0: &[u8; 4] = b"\0\x04\0\0";
+
+const ACK_1: &[u8; 4] = b"\0\x04\0\x01";
+
+const STRAY: &[u8; 21] = b"\0\x05\0\x05unknown transfer\0";
+
+const TOO_LONG: &[u8; 24] = b"\0\x05\0\0collection too long\0";
+
+const FILE_TOO_LONG: &[u8; 18] = b"\0\x05\0\x03file too long\0";
+
+// One request to write that came twice opens two transfers. The client ends the one that it is not bound to; by the other
+// its file is taken once, though its last block comes twice.
+#[test]
+fn a_request_that_came_twice(rt: HostRuntime) -> Result<(), Fail> {
+    let mut archive = Archive::new(rt.alloc());
+    let rows = [
+        (Input::Ask(4000, 2, WRQ), opens(4000, client(2), ACK_0)),
+        (Input::Ask(4001, 2, WRQ), opens(4001, client(2), ACK_0)),
+        (Input::Hear(4001, 2, STRAY), ends()),
+        (
+            Input::Hear(4000, 2, FIRST),
+            takes(4000, client(2), ACK_1, HUNDRED),
+        ),
+        (Input::Hear(4000, 2, FIRST), sends(4000, client(2), ACK_1)),
+        (Input::Wait(4000), nothing()),
+    ];
+    assert_eq!(rt;
+        first_other(rt.alloc(), &mut archive, &mut NoKeeper, &rows)?,
+        None
+    );
+    assert!(rt; has_texts(rt.alloc(), &archive, HUNDRED, EMPTY_MS)?);
+    assert!(rt; is_live(&archive, 1, Some(4000)));
+    let rows = [(Input::Wait(4000), ends())];
+    assert_eq!(rt;
+        first_other(rt.alloc(), &mut archive, &mut NoKeeper, &rows)?,
+        None
+    );
+    assert!(rt; is_live(&archive, 0, None));
+    Ok(())
+}
+
+// A datagram of another source changes nothing: the transfer goes on as if it had not come.
+#[test]
+fn another_source(rt: HostRuntime) -> Result<(), Fail> {
+    let mut archive = Archive::new(rt.alloc());
+    let empty = b"\0\x03\0\x01\x35\x33\x9B\x99\x01\0\0\0";
+    let rows = [
+        (Input::Ask(4000, 2, RRQ), opens(4000, client(2), empty)),
+        (Input::Hear(4000, 3, ACK_1), sends(4000, client(3), STRAY)),
+        (Input::Hear(4000, 3, b"\0\x05\0\0\0"), nothing()),
+        (Input::Hear(4000, 3, b"\0\x04\0"), nothing()),
+        (Input::Wait(4000), sends(4000, client(2), empty)),
+        (Input::Hear(4000, 2, ACK_1), ends()),
+    ];
+    assert_eq!(rt;
+        first_other(rt.alloc(), &mut archive, &mut NoKeeper, &rows)?,
+        None
+    );
+    Ok(())
+}
+
+#[test]
+fn malformed_datagrams_of_the_peer(rt: HostRuntime) -> Result<(), Fail> {
+    let mut archive = Archive::new(rt.alloc());
+    let rows = [
+        (Input::Ask(4000, 2, WRQ), opens(4000, client(2), ACK_0)),
+        (Input::Hear(4000, 2, &[0; 517]), nothing()),
+        (Input::Hear(4000, 2, b"\0\x05\0\0\x61"), nothing()),
+        (Input::Hear(4000, 2, b"\0\x04\0\0\0"), nothing()),
+        (Input::Hear(4000, 2, WRQ), nothing()),
+        (Input::Wait(4000), sends(4000, client(2), ACK_0)),
+        (Input::Hear(4000, 2, b"\0\x05\0\0\0"), ends()),
+        (Input::Hear(4000, 2, FIRST), nothing()),
+        (Input::Wait(4000), nothing()),
+    ];
+    assert_eq!(rt;
+        first_other(rt.alloc(), &mut archive, &mut NoKeeper, &rows)?,
+        None
+    );
+    assert!(rt; has_texts(rt.alloc(), &archive, EMPTY_LYNX, EMPTY_MS)?);
+    Ok(())
+}
+
+// Opens a download at each port from 4101 to 4163, or lets each wait: whether each sends DATA 1 with the first file.
+fn each_sends(alloc: Global, archive: &mut Archive, opened: bool) -> Result<bool, Fail> {
+    for port in 4101..4164 {
+        let (input, wanted) = if opened {
+            (Input::Wait(port), sends(port, client(2), FIRST))
+        } else {
+            (Input::Ask(port, 2, RRQ), opens(port, client(2), FIRST))
+        };
+        if first_other(alloc, archive, &mut NoKeeper, &[(input, wanted)])?.is_some() {
+            return Ok(false);
+        }
+    }
+    Ok(true)
+}
+
+// What a download sends is the collection as it was when it began.
+#[test]
+fn downloads_beside_an_upload(rt: HostRuntime) -> Result<(), Fail> {
+    let mut archive = Archive::new(rt.alloc());
+    let rows = [
+        (Input::Ask(4000, 2, WRQ), opens(4000, client(2), ACK_0)),
+        (
+            Input::Hear(4000, 2, FIRST),
+            takes(4000, client(2), ACK_1, HUNDRED),
+        ),
+        (Input::Wait(4000), nothing()),
+        (Input::Wait(4000), ends()),
+    ];
+    assert_eq!(rt;
+        first_other(rt.alloc(), &mut archive, &mut NoKeeper, &rows)?,
+        None
+    );
+    assert!(rt; each_sends(rt.alloc(), &mut archive, false)?);
+    let rows = [
+        (Input::Ask(4200, 3, WRQ), opens(4200, client(3), ACK_0)),
+        (
+            Input::Hear(4200, 3, BETTER),
+            takes(4200, client(3), ACK_1, NINETY),
+        ),
+    ];
+    assert_eq!(rt;
+        first_other(rt.alloc(), &mut archive, &mut NoKeeper, &rows)?,
+        None
+    );
+    assert!(rt; is_live(&archive, 64, Some(4101)));
+    assert!(rt; has_texts(rt.alloc(), &archive, NINETY, EMPTY_MS)?);
+    assert!(rt; each_sends(rt.alloc(), &mut archive, true)?);
+    Ok(())
+}
+
+// A transfer to which 65,534 whole blocks of sevens have come.
+fn nearly_full(alloc: Global) -> Result<Archive, Fail> {
+    let mut archive = Archive::new(alloc);
+    archive.ask(4000, client(2), WRQ)?;
+    let mut data = [7; 516];
+    data[0] = 0;
+    data[1] = 3;
+    for n in 1..65535_u16 {
+        let number = n.to_be_bytes();
+        data[2] = number[0];
+        data[3] = number[1];
+        let step = archive.hear(&mut NoKeeper, 4000, client(2), &data);
+        let ack = [0, 4, number[0], number[1]];
+        if !is_step(alloc, &step, sends(4000, client(2), &ack))? {
+            return Err(Fail::new("another answer to a whole block"));
+        }
+    }
+    Ok(archive)
+}
+
+#[test]
+fn a_block_too_many(rt: HostRuntime) -> Result<(), Fail> {
+    let mut archive = nearly_full(rt.alloc())?;
+    let mut data = [7; 516];
+    data[..4].copy_from_slice(b"\0\x03\xFF\xFF");
+    let rows = [(
+        Input::Hear(4000, 2, &data),
+        closes(4000, client(2), FILE_TOO_LONG),
+    )];
+    assert_eq!(rt;
+        first_other(rt.alloc(), &mut archive, &mut NoKeeper, &rows)?,
+        None
+    );
+    assert!(rt; is_live(&archive, 0, None));
+    Ok(())
+}
+
+// After the last block no number comes next: block 0 and block 1 are not taken.
+#[test]
+fn the_greatest_file(rt: HostRuntime) -> Result<(), Fail> {
+    let mut archive = nearly_full(rt.alloc())?;
+    let mut data = [7; 515];
+    data[..4].copy_from_slice(b"\0\x03\xFF\xFF");
+    let file = vec![in rt.alloc(); 7; 33553919]?;
+    let last = b"\0\x04\xFF\xFF";
+    let rows = [
+        (
+            Input::Hear(4000, 2, &data),
+            takes(4000, client(2), last, file.as_slice()),
+        ),
+        (Input::Hear(4000, 2, &data), sends(4000, client(2), last)),
+        (Input::Hear(4000, 2, b"\0\x03\0\0end"), nothing()),
+        (Input::Hear(4000, 2, b"\0\x03\0\x01end"), nothing()),
+    ];
+    assert_eq!(rt;
+        first_other(rt.alloc(), &mut archive, &mut NoKeeper, &rows)?,
+        None
+    );
+    assert!(rt; has_texts(rt.alloc(), &archive, EMPTY_LYNX, EMPTY_MS)?);
+    Ok(())
+}
+
+// A file comes with one solution of this level, which has 17,000,000 moves of one byte: 33,204 blocks.
+fn long_file(archive: &mut Archive, port: u16, level: u8) -> Result<bool, Fail> {
+    archive.ask(port, client(u32::from(level)), WRQ)?;
+    let header =
+        b"\0\x03\0\x01\x35\x33\x9B\x99\x01\0\0\0\x50\x66\x03\x01\0\0AAAA\0\0\0\0\0\0\0\0\0\0";
+    let mut data = [1; 516];
+    data[..32].copy_from_slice(header);
+    data[16] = level;
+    for n in 1..33204_u16 {
+        let number = n.to_be_bytes();
+        data[2] = number[0];
+        data[3] = number[1];
+        let step = archive.hear(&mut NoKeeper, port, client(u32::from(level)), &data);
+        if step.out.is_none() || step.closed {
+            return Ok(false);
+        }
+        data = [1; 516];
+        data[0] = 0;
+        data[1] = 3;
+    }
+    let mut last = [1; 96];
+    last[..4].copy_from_slice(b"\0\x03\x81\xB4");
+    let step = archive.hear(&mut NoKeeper, port, client(u32::from(level)), &last);
+    match step.taken {
+        Some(taken) => Ok(taken.file.len() == 17_000_028),
+        None => Ok(false),
+    }
+}
+
+// Two files whose collection would be too long to be sent: 34,000,048 bytes.
+#[test]
+fn a_collection_too_long(rt: HostRuntime) -> Result<(), Fail> {
+    let mut archive = Archive::new(rt.alloc());
+    assert!(rt; long_file(&mut archive, 4000, 1)?);
+    assert!(rt; long_file(&mut archive, 4002, 2)?);
+    let empty = b"\0\x03\0\x01\x35\x33\x9B\x99\x02\0\0\0";
+    let rows = [
+        (Input::Ask(4003, 9, RRQ), sends(6969, client(9), TOO_LONG)),
+        (
+            Input::Ask(4003, 9, b"\0\x01ms.tws\0octet\0"),
+            opens(4003, client(9), empty),
+        ),
+    ];
+    assert_eq!(rt;
+        first_other(rt.alloc(), &mut archive, &mut NoKeeper, &rows)?,
+        None
+    );
+    assert!(rt; is_live(&archive, 3, Some(4000)));
+    Ok(())
+}
