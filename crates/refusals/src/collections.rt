@@ -1,21 +1,13 @@
 // Files are merged into a collection and loaded, and of collections copies and snapshots are made.
-use refusing::Refusing;
+use refusing::{Outcome, Refusing, refuse_each};
 use std::alloc::{Allocator, Global};
 use std::test::Fail;
 use tftp_packet::Blocks;
 use tws_best::Collection;
 use tws_file::{Ruleset, TwsFile, read_file};
 
-// No run makes so many requests.
-const MANY: u64 = 200;
-
 // A Lynx file of solutions without moves: for each its number, a letter that is its password four times, and its ticks.
-fn file_of<A: Allocator + Copy>(alloc: A, solutions: &[(u8, u8, u8)]) -> Result<TwsFile<A>, Fail> {
-    let text = text_of(alloc, solutions)?;
-    Ok(read_file(alloc, &text)?)
-}
-
-fn text_of<A: Allocator>(alloc: A, solutions: &[(u8, u8, u8)]) -> Result<Vec<u8, A>, Fail> {
+fn text_of(alloc: Global, solutions: &[(u8, u8, u8)]) -> Result<Vec<u8>, Fail> {
     let mut text = Vec::from_slice(alloc, &[0x35, 0x33, 0x9B, 0x99, 1, 0, 0, 0])?;
     for (number, letter, ticks) in solutions {
         text.extend_from_slice(&[16, 0, 0, 0, *number, 0])?;
@@ -25,14 +17,22 @@ fn text_of<A: Allocator>(alloc: A, solutions: &[(u8, u8, u8)]) -> Result<Vec<u8,
     Ok(text)
 }
 
-fn is_text<A: Allocator + Copy>(
-    global: Global,
-    collection: &Collection<A>,
-    wanted: &[(u8, u8, u8)],
-) -> Result<bool, Fail> {
+// A file, and its text.
+#[derive(Drop)]
+struct Sample {
+    file: TwsFile,
+    text: Vec<u8>,
+}
+
+fn read_sample(global: Global, solutions: &[(u8, u8, u8)]) -> Result<Sample, Fail> {
+    let text = text_of(global, solutions)?;
+    let file = read_file(global, &text)?;
+    Ok(Sample { file, text })
+}
+
+fn is_text<A: Allocator + Copy>(global: Global, collection: &Collection<A>, text: &[u8]) -> bool {
     let mut out = Vec::new(global);
-    collection.write_text(&mut out)?;
-    Ok(out.as_slice() == text_of(global, wanted)?.as_slice())
+    collection.write_text(&mut out).is_ok() && out.as_slice() == text
 }
 
 const THREE: [(u8, u8, u8); 3] = [(1, 0x41, 50), (2, 0x42, 60), (4, 0x44, 70)];
@@ -42,51 +42,58 @@ const TWO: [(u8, u8, u8); 2] = [(3, 0x43, 10), (2, 0x42, 20)];
 
 const ALL: [(u8, u8, u8); 4] = [(1, 0x41, 50), (2, 0x42, 20), (3, 0x43, 10), (4, 0x44, 70)];
 
+// What a collection of no file writes.
+const EMPTY: [u8; 8] = [0x35, 0x33, 0x9B, 0x99, 1, 0, 0, 0];
+
+// Merges a file into a collection, which then has the new text, or still the old one.
+fn merge<A: Allocator + Copy>(
+    global: Global,
+    collection: &mut Collection<A>,
+    file: &TwsFile,
+    old: &[u8],
+    new: &[u8],
+) -> Outcome {
+    match collection.merge(file) {
+        Ok(changed) => Outcome::of(changed && is_text(global, collection, new)),
+        Err(_) => Outcome::refused(is_text(global, collection, old)),
+    }
+}
+
 #[test]
 fn merging(rt: HostRuntime) -> Result<(), Fail> {
-    let three = file_of(rt.alloc(), &THREE)?;
-    let two = file_of(rt.alloc(), &TWO)?;
-    for nth in 1..MANY {
-        let refusing = Refusing::new(rt.alloc(), nth);
-        let mut collection = Collection::new(&refusing, Ruleset::Lynx);
-        if collection.merge(&three).is_err() {
-            assert!(rt; refusing.has_refused());
-            assert!(rt; is_text(rt.alloc(), &collection, &[])?);
-            continue;
-        }
-        match collection.merge(&two) {
-            Ok(changed) => {
-                assert!(rt; changed);
-                assert!(rt; is_text(rt.alloc(), &collection, &ALL)?);
+    let global = rt.alloc();
+    let three = read_sample(global, &THREE)?;
+    let two = read_sample(global, &TWO)?;
+    let all = text_of(global, &ALL)?;
+    Ok(refuse_each(
+        global,
+        5,
+        &|refusing: &Refusing<Global>| {
+            let mut collection = Collection::new(refusing, Ruleset::Lynx);
+            match merge(global, &mut collection, &three.file, &EMPTY, &three.text) {
+                Outcome::Right => merge(global, &mut collection, &two.file, &three.text, &all),
+                outcome => outcome,
             }
-            Err(_) => {
-                assert!(rt; refusing.has_refused());
-                assert!(rt; is_text(rt.alloc(), &collection, &THREE)?);
-            }
-        }
-        if !refusing.has_refused() {
-            assert!(rt; nth > 5);
-            return Ok(());
-        }
+        },
+    )?)
+}
+
+fn load(global: Global, refusing: &Refusing<Global>, three: &Sample) -> Outcome {
+    match Collection::load(refusing, &three.file) {
+        Ok(collection) => Outcome::of(is_text(global, &collection, &three.text)),
+        Err(_) => Outcome::OutOfMemory,
     }
-    Err(Fail::new("a request was refused in each run"))
 }
 
 #[test]
 fn loading(rt: HostRuntime) -> Result<(), Fail> {
-    let file = file_of(rt.alloc(), &THREE)?;
-    for nth in 1..MANY {
-        let refusing = Refusing::new(rt.alloc(), nth);
-        match Collection::load(&refusing, &file) {
-            Ok(collection) => assert!(rt; is_text(rt.alloc(), &collection, &THREE)?),
-            Err(_) => assert!(rt; refusing.has_refused()),
-        }
-        if !refusing.has_refused() {
-            assert!(rt; nth > 3);
-            return Ok(());
-        }
-    }
-    Err(Fail::new("a request was refused in each run"))
+    let global = rt.alloc();
+    let three = read_sample(global, &THREE)?;
+    Ok(refuse_each(
+        global,
+        3,
+        &|refusing: &Refusing<Global>| load(global, refusing, &three),
+    )?)
 }
 
 // No request was made for the empty collection, nor is one for its copy.
@@ -95,66 +102,87 @@ fn empty_collections(rt: HostRuntime) -> Result<(), Fail> {
     let refusing = Refusing::new(rt.alloc(), 1);
     let collection = Collection::new(&refusing, Ruleset::Lynx);
     let copy = collection.copy()?;
-    assert!(rt; is_text(rt.alloc(), &copy, &[])?);
+    assert!(rt; is_text(rt.alloc(), &copy, &EMPTY));
     assert_eq!(rt; refusing.requests(), 0);
     Ok(())
 }
 
+// The outcome of a call that has to leave the collection as it was.
+fn unless_changed<A: Allocator + Copy>(
+    global: Global,
+    collection: &Collection<A>,
+    text: &[u8],
+    outcome: Outcome,
+) -> Outcome {
+    if is_text(global, collection, text) {
+        outcome
+    } else {
+        Outcome::Wrong
+    }
+}
+
+fn copy(global: Global, refusing: &Refusing<Global>, three: &Sample) -> Outcome {
+    let Ok(collection) = Collection::load(refusing, &three.file) else {
+        return Outcome::OutOfMemory;
+    };
+    let outcome = match collection.copy() {
+        Ok(copy) => Outcome::of(is_text(global, &copy, &three.text)),
+        Err(_) => Outcome::OutOfMemory,
+    };
+    unless_changed(global, &collection, &three.text, outcome)
+}
+
 #[test]
 fn copying(rt: HostRuntime) -> Result<(), Fail> {
-    let file = file_of(rt.alloc(), &THREE)?;
-    for nth in 1..MANY {
-        let refusing = Refusing::new(rt.alloc(), nth);
-        let Ok(collection) = Collection::load(&refusing, &file) else {
-            continue;
-        };
-        match collection.copy() {
-            Ok(copy) => assert!(rt; is_text(rt.alloc(), &copy, &THREE)?),
-            Err(_) => assert!(rt; refusing.has_refused()),
-        }
-        assert!(rt; is_text(rt.alloc(), &collection, &THREE)?);
-        if !refusing.has_refused() {
-            assert!(rt; nth > 5);
-            return Ok(());
-        }
-    }
-    Err(Fail::new("a request was refused in each run"))
+    let global = rt.alloc();
+    let three = read_sample(global, &THREE)?;
+    Ok(refuse_each(
+        global,
+        5,
+        &|refusing: &Refusing<Global>| copy(global, refusing, &three),
+    )?)
 }
 
 // All blocks, one after the other.
-fn joined_blocks(global: Global, blocks: &impl Blocks) -> Result<Vec<u8>, Fail> {
+fn joined_blocks(global: Global, blocks: &impl Blocks) -> Option<Vec<u8>> {
     let mut text = Vec::new(global);
     let mut out = [0; 512];
-    let count = u16::try_from(blocks.file_len() / 512 + 1)?;
+    let count = u16::try_from(blocks.file_len() / 512 + 1).ok()?;
     for before in 0..count {
         let size = blocks.block(before + 1, &mut out);
-        text.extend_from_slice(&out[..size])?;
+        text.extend_from_slice(&out[..size]).ok()?;
     }
-    Ok(text)
+    Some(text)
+}
+
+fn has_blocks(global: Global, blocks: &impl Blocks, text: &[u8]) -> bool {
+    match joined_blocks(global, blocks) {
+        Some(joined) => joined.as_slice() == text,
+        None => false,
+    }
+}
+
+fn snapshot(global: Global, refusing: &Refusing<Global>, three: &Sample) -> Outcome {
+    let Ok(collection) = Collection::load(refusing, &three.file) else {
+        return Outcome::OutOfMemory;
+    };
+    if collection.text_len() > 1_000_000 {
+        return Outcome::Wrong;
+    }
+    let outcome = match collection.snapshot() {
+        Ok(snapshot) => Outcome::of(has_blocks(global, &snapshot, &three.text)),
+        Err(_) => Outcome::OutOfMemory,
+    };
+    unless_changed(global, &collection, &three.text, outcome)
 }
 
 #[test]
 fn snapshots(rt: HostRuntime) -> Result<(), Fail> {
-    let file = file_of(rt.alloc(), &THREE)?;
-    let wanted = text_of(rt.alloc(), &THREE)?;
-    for nth in 1..MANY {
-        let refusing = Refusing::new(rt.alloc(), nth);
-        let Ok(collection) = Collection::load(&refusing, &file) else {
-            continue;
-        };
-        assert!(rt; collection.text_len() <= 1_000_000);
-        match collection.snapshot() {
-            Ok(snapshot) => {
-                let text = joined_blocks(rt.alloc(), &snapshot)?;
-                assert_eq!(rt; text.as_slice(), wanted.as_slice());
-            }
-            Err(_) => assert!(rt; refusing.has_refused()),
-        }
-        assert!(rt; is_text(rt.alloc(), &collection, &THREE)?);
-        if !refusing.has_refused() {
-            assert!(rt; nth > 5);
-            return Ok(());
-        }
-    }
-    Err(Fail::new("a request was refused in each run"))
+    let global = rt.alloc();
+    let three = read_sample(global, &THREE)?;
+    Ok(refuse_each(
+        global,
+        5,
+        &|refusing: &Refusing<Global>| snapshot(global, refusing, &three),
+    )?)
 }

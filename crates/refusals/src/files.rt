@@ -2,7 +2,7 @@
 ghost use Rattle.std.specs.Prelude.{ℕ, ◌+◌, length};
 ghost use Rattle.tws_file.specs.Reader.{HasRoom, HasAtMost};
 
-use refusing::Refusing;
+use refusing::{Outcome, Refusing, refuse_each};
 use std::alloc::{Allocator, Global};
 use std::test::Fail;
 use tws_file::{FileFault, OutFault, Reader, TwsFile, read_file, show};
@@ -19,9 +19,6 @@ const EVERY_KIND: [u8; 66] = [
 const LISTING: &str =
     "ruleset ms word 0000 extra 2\nset 10\nlevel 2 ABCD\npad\nlevel 1 BDHP ticks 100 flags 00 start 00 seed 0 bytes 2\n at 3 step 0\n at 7 step 0\n at 11 step 0\n at 15 step 0\nrecords 4\n";
 
-// No run makes so many requests.
-const MANY: u64 = 100;
-
 fn is_listed<A: Allocator>(global: Global, file: &TwsFile<A>) -> bool {
     let mut out = Vec::new(global);
     show(global, file, true, &mut out).is_ok() && out.as_slice() == LISTING.as_bytes()
@@ -29,42 +26,37 @@ fn is_listed<A: Allocator>(global: Global, file: &TwsFile<A>) -> bool {
 
 #[test]
 fn reading(rt: HostRuntime) -> Result<(), Fail> {
-    for nth in 1..MANY {
-        let refusing = Refusing::new(rt.alloc(), nth);
-        match read_file(&refusing, &EVERY_KIND) {
-            Ok(file) => assert!(rt; is_listed(rt.alloc(), &file)),
-            Err(fault) => {
-                assert_eq!(rt; fault, FileFault::Memory);
-                assert!(rt; refusing.has_refused());
+    let global = rt.alloc();
+    Ok(refuse_each(
+        global,
+        4,
+        &|refusing: &Refusing<Global>| {
+            match read_file(refusing, &EVERY_KIND) {
+                Ok(file) => Outcome::of(is_listed(global, &file)),
+                Err(fault) => Outcome::refused(fault == FileFault::Memory),
             }
-        }
-        if !refusing.has_refused() {
-            assert!(rt; nth > 4);
-            return Ok(());
-        }
+        },
+    )?)
+}
+
+// The sink keeps the plain allocator: its own running out of memory would be a fault of the writer.
+fn list(global: Global, refusing: &Refusing<Global>, file: &TwsFile) -> Outcome {
+    let mut out = Vec::new(global);
+    match show(refusing, file, true, &mut out) {
+        Ok(()) => Outcome::of(out.as_slice() == LISTING.as_bytes()),
+        Err(fault) => Outcome::refused(fault == OutFault::Memory),
     }
-    Err(Fail::new("a request was refused in each run"))
 }
 
 #[test]
 fn listing(rt: HostRuntime) -> Result<(), Fail> {
-    let file = read_file(rt.alloc(), &EVERY_KIND)?;
-    for nth in 1..MANY {
-        let refusing = Refusing::new(rt.alloc(), nth);
-        let mut out = Vec::new(rt.alloc());
-        match show(&refusing, &file, true, &mut out) {
-            Ok(()) => assert_eq!(rt; out.as_slice(), LISTING.as_bytes()),
-            Err(fault) => {
-                assert_eq!(rt; fault, OutFault::Memory);
-                assert!(rt; refusing.has_refused());
-            }
-        }
-        if !refusing.has_refused() {
-            assert!(rt; nth > 2);
-            return Ok(());
-        }
-    }
-    Err(Fail::new("a request was refused in each run"))
+    let global = rt.alloc();
+    let file = read_file(global, &EVERY_KIND)?;
+    Ok(refuse_each(
+        global,
+        2,
+        &|refusing: &Refusing<Global>| list(global, refusing, &file),
+    )?)
 }
 
 // A size field takes no memory before the bytes that it announces are there: the one request is for the bytes that came
@@ -91,20 +83,21 @@ fn push_again<A: Allocator + Copy>(reader: &mut Reader<A>, piece: &[u8]) -> Resu
     }
 }
 
+// Reads the file byte by byte. A push that was refused is made again, so that the answer is the full one.
+fn read_again(global: Global, refusing: &Refusing<Global>) -> Result<bool, FileFault> {
+    let mut reader = Reader::new(refusing);
+    for i in 0..EVERY_KIND.len() {
+        push_again(&mut reader, &EVERY_KIND[i..i + 1])?;
+    }
+    Ok(is_listed(global, &reader.finish()?))
+}
+
 #[test]
 fn reading_in_pieces(rt: HostRuntime) -> Result<(), Fail> {
-    for nth in 1..MANY {
-        let refusing = Refusing::new(rt.alloc(), nth);
-        let mut reader = Reader::new(&refusing);
-        for i in 0..EVERY_KIND.len() {
-            push_again(&mut reader, &EVERY_KIND[i..i + 1])?;
-        }
-        let file = reader.finish()?;
-        assert!(rt; is_listed(rt.alloc(), &file));
-        if !refusing.has_refused() {
-            assert!(rt; nth > 6);
-            return Ok(());
-        }
-    }
-    Err(Fail::new("a request was refused in each run"))
+    let global = rt.alloc();
+    Ok(refuse_each(
+        global,
+        6,
+        &|refusing: &Refusing<Global>| { Outcome::of(read_again(global, refusing) == Ok(true)) },
+    )?)
 }

@@ -1,16 +1,10 @@
-//! Tests alone: each request for memory is refused in turn, in runs of the calls that take memory.
+//! Tests alone: each request for memory is refused in turn, in runs of the calls of the file tool that take memory.
 //!
 //! Each run answers that memory ran out, or gives the full answer, and leaves nothing changed where it says so.
 #![tactic(auto)]
 
 #[cfg(test)]
-mod client;
-#[cfg(test)]
 mod collections;
-#[cfg(test)]
-mod each_request;
-#[cfg(test)]
-mod ends;
 #[cfg(test)]
 mod files;
 #[cfg(test)]

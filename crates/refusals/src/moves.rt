@@ -1,5 +1,6 @@
 // Moves are read and written, and bytes packed.
-use crate::each_request::{Outcome, refuse_each};
+use refusing::{Outcome, Refusing, refuse_each};
+use std::alloc::Global;
 use std::test::Fail;
 use tws_moves::{Act, Move, MovesFault, SpellFault, pack_moves, read_moves, write_moves};
 
@@ -46,40 +47,46 @@ fn spelled_moves() -> [Move; 10] {
 #[test]
 fn reading(rt: HostRuntime) -> Result<(), Fail> {
     let whole = spelled_moves();
-    refuse_each(
+    Ok(refuse_each(
         rt.alloc(),
         1,
-        |refusing| match read_moves(refusing, &SPELLED) {
+        &|refusing: &Refusing<Global>| match read_moves(refusing, &SPELLED) {
             Ok(moves) => Outcome::of(moves.as_slice() == whole.as_slice()),
             Err(MovesFault::Memory) => Outcome::OutOfMemory,
             Err(MovesFault::Cut { .. }) => Outcome::Wrong,
         },
-    )
+    )?)
+}
+
+fn write(global: Global, refusing: &Refusing<Global>) -> Outcome {
+    let Ok(moves) = read_moves(global, &SPELLED) else {
+        return Outcome::Wrong;
+    };
+    match write_moves(refusing, &moves) {
+        Ok(bytes) => Outcome::of(bytes.as_slice() == SPELLED.as_slice()),
+        Err(fault) => Outcome::refused(fault == SpellFault::Memory),
+    }
 }
 
 #[test]
 fn writing(rt: HostRuntime) -> Result<(), Fail> {
-    let moves = read_moves(rt.alloc(), &SPELLED)?;
-    refuse_each(
-        rt.alloc(),
+    let global = rt.alloc();
+    Ok(refuse_each(
+        global,
         1,
-        |refusing| match write_moves(refusing, &moves) {
-            Ok(bytes) => Outcome::of(bytes.as_slice() == SPELLED.as_slice()),
-            Err(SpellFault::Memory) => Outcome::OutOfMemory,
-            Err(SpellFault::TooLate { .. }) => Outcome::Wrong,
-        },
-    )
+        &|refusing: &Refusing<Global>| write(global, refusing),
+    )?)
 }
 
 #[test]
 fn packing(rt: HostRuntime) -> Result<(), Fail> {
-    refuse_each(
+    Ok(refuse_each(
         rt.alloc(),
         1,
-        |refusing| match pack_moves(refusing, &SPELLED) {
+        &|refusing: &Refusing<Global>| match pack_moves(refusing, &SPELLED) {
             Ok(bytes) => Outcome::of(bytes.as_slice() == SPELLED.as_slice()),
             Err(MovesFault::Memory) => Outcome::OutOfMemory,
             Err(MovesFault::Cut { .. }) => Outcome::Wrong,
         },
-    )
+    )?)
 }

@@ -1,5 +1,5 @@
 // A solution file is packed, and a body is taken out.
-use crate::each_request::{Outcome, refuse_each};
+use refusing::{Outcome, Refusing, refuse_each};
 use std::alloc::{Allocator, Global};
 use std::test::Fail;
 use tws_file::{Record, TwsFile, pack, read_file, write_file};
@@ -28,10 +28,14 @@ fn is_packed<A: Allocator>(global: Global, file: &TwsFile<A>) -> bool {
 #[test]
 fn packing(rt: HostRuntime) -> Result<(), Fail> {
     let file = read_file(rt.alloc(), &LOOSE)?;
-    refuse_each(rt.alloc(), 4, |refusing| match pack(refusing, &file) {
-        Ok(packed) => Outcome::of(is_packed(rt.alloc(), &packed)),
-        Err(_) => Outcome::OutOfMemory,
-    })
+    Ok(refuse_each(
+        rt.alloc(),
+        4,
+        &|refusing: &Refusing<Global>| match pack(refusing, &file) {
+            Ok(packed) => Outcome::of(is_packed(rt.alloc(), &packed)),
+            Err(_) => Outcome::OutOfMemory,
+        },
+    )?)
 }
 
 #[test]
@@ -40,8 +44,12 @@ fn the_body_of_a_solution(rt: HostRuntime) -> Result<(), Fail> {
     let [_, Record::Solution(solution)] = file.records.as_slice() else {
         return Err(Fail::new("no solution"));
     };
-    refuse_each(rt.alloc(), 1, |refusing| match solution.body(refusing) {
-        Ok(body) => Outcome::of(body.as_slice() == &LOOSE[33..]),
-        Err(_) => Outcome::OutOfMemory,
-    })
+    Ok(refuse_each(
+        rt.alloc(),
+        1,
+        &|refusing: &Refusing<Global>| match solution.body(refusing) {
+            Ok(body) => Outcome::of(body.as_slice() == &LOOSE[33..]),
+            Err(_) => Outcome::OutOfMemory,
+        },
+    )?)
 }

@@ -12,6 +12,10 @@ ghost use Rattle.std.specs.Prelude.{◌≡◌, ◌↔◌, ◌+◌, ◌≤◌, Is
 use std::alloc::{AllocError, Allocator};
 use std::cell::Cell;
 
+mod each_request;
+
+pub use each_request::{Complaint, Outcome, refuse_each};
+
 #[cfg(test)]
 mod tests;
 

@@ -113,3 +113,51 @@ fn each_request_is_refused_in_turn(rt: HostRuntime) -> Result<(), Fail> {
     assert_eq!(rt; refusals, 3);
     Ok(())
 }
+
+// What a run that takes no memory is told, by what it gives.
+#[test]
+fn complaints(rt: HostRuntime) {
+    let alloc = rt.alloc();
+    assert_eq!(rt;
+        refuse_each(alloc, 0, &|_: &Refusing<Global>| Outcome::Right),
+        Ok(())
+    );
+    assert_eq!(rt;
+        refuse_each(alloc, 1, &|_: &Refusing<Global>| Outcome::Right),
+        Err(Complaint::TooFew)
+    );
+    assert_eq!(rt;
+        refuse_each(alloc, 0, &|_: &Refusing<Global>| Outcome::Wrong),
+        Err(Complaint::WrongAnswer)
+    );
+    assert_eq!(rt;
+        refuse_each(alloc, 0, &|_: &Refusing<Global>| Outcome::OutOfMemory),
+        Err(Complaint::NoRefusal)
+    );
+}
+
+fn asks<A: Allocator>(alloc: A) -> Outcome {
+    match Vec::from_slice(alloc, &[1u8]) {
+        Ok(bytes) => Outcome::of(bytes.as_slice() == [1].as_slice()),
+        Err(_) => Outcome::OutOfMemory,
+    }
+}
+
+// One that asks each time anew, so that every run meets a refusal.
+#[test]
+fn runs_without_end(rt: HostRuntime) {
+    let outcome = refuse_each(rt.alloc(), 1, &|refusing: &Refusing<Global>| asks(refusing));
+    assert_eq!(rt; outcome, Ok(()));
+    let endless = refuse_each(
+        rt.alloc(),
+        1,
+        &|refusing: &Refusing<Global>| {
+            let mut outcome = Outcome::Right;
+            for _ in 0..refusing.nth {
+                outcome = asks(refusing);
+            }
+            outcome
+        },
+    );
+    assert_eq!(rt; endless, Err(Complaint::Endless));
+}

@@ -1,14 +1,12 @@
 // A transfer is received and copied, each growth refused in turn.
-ghost use Rattle.std.specs.Prelude.{◌≤◌};
+ghost use Rattle.std.specs.Prelude.{◌≤◌, length};
 
-use refusing::Refusing;
+use refusing::{Outcome, Refusing, refuse_each};
 use std::alloc::{Allocator, Global};
+use std::cell::Cell;
 use std::test::Fail;
 use tftp_ends::{CHUNK_SIZE, Received, Receiver, RecvFault, RecvState};
 use tftp_packet::{BLOCK_SIZE, Dgram};
-
-// No run makes so many requests.
-const MANY: u64 = 100;
 
 // The last block, of 100 bytes. The 32 blocks before block 33 fill a chunk, so that it begins a new one.
 const LAST: u16 = 34;
@@ -50,44 +48,80 @@ fn has_chunks<A: Allocator>(received: &Received<A>) -> bool {
         && are_blocks(second, 33)
 }
 
-fn is_ack(out: &Option<Dgram>, n: u16) -> bool {
+fn ack(n: u16) -> [u8; 4] {
     let [high, low] = n.to_be_bytes();
+    [0, 4, high, low]
+}
+
+fn has_bytes(dgram: &Dgram, bytes: &[u8]) -> bool {
+    dgram.bytes() == bytes
+}
+
+fn is_ack(out: &Option<Dgram>, n: u16) -> bool {
     match out {
-        Some(dgram) => dgram.bytes() == [0, 4, high, low].as_slice(),
+        Some(dgram) => has_bytes(dgram, &ack(n)),
         None => false,
     }
 }
 
-// A refused DATA leaves the receiver as it was: it gives the last ACK at a time-out, and the same DATA then succeeds.
-#[test]
-fn receiving(rt: HostRuntime) -> Result<(), Fail> {
-    let mut refused_at_33 = false;
-    for nth in 1..MANY {
-        let refusing = Refusing::new(rt.alloc(), nth);
-        let mut receiver = Receiver::new(&refusing);
-        for n in 1..=LAST {
-            let bytes = block(n);
-            let body = &bytes[..size(n)];
-            let mut out = receiver.on_data(n, body);
-            if let Err(fault) = out {
-                refused_at_33 = refused_at_33 || n == 33;
-                assert_eq!(rt; fault, RecvFault::Memory);
-                assert!(rt; refusing.has_refused());
-                assert_eq!(rt; receiver.state(), RecvState::Running);
-                assert!(rt; is_ack(&receiver.on_timeout(), n.wrapping_sub(1)));
-                out = receiver.on_data(n, body);
-            }
-            assert!(rt; is_ack(&out?, n));
+fn takes<A: Allocator + Copy>(receiver: &mut Receiver<A>, n: u16, body: &[u8]) -> bool
+    requires { length body.now ≤ BLOCK_SIZE }
+{
+    match receiver.on_data(n, body) {
+        Ok(out) => is_ack(&out, n),
+        Err(_) => false,
+    }
+}
+
+// Whether a block is taken: at once, or where memory ran out at the second time, and the receiver was as it was: it
+// gives the last ACK at a time-out. Notes a block that was refused.
+fn takes_again<A: Allocator + Copy>(
+    receiver: &mut Receiver<A>,
+    n: u16,
+    refused: &Cell<u16>,
+) -> bool {
+    let bytes = block(n);
+    let body = &bytes[..size(n)];
+    match receiver.on_data(n, body) {
+        Ok(out) => is_ack(&out, n),
+        Err(RecvFault::Memory) => {
+            refused.set(n);
+            receiver.state() == RecvState::Running
+                && is_ack(&receiver.on_timeout(), n.wrapping_sub(1))
+                && takes(receiver, n, body)
         }
-        assert_eq!(rt; receiver.state(), RecvState::Complete);
-        let received = receiver.take_file().ok_or("no file")?;
-        assert!(rt; has_chunks(&received));
-        if !refusing.has_refused() {
-            assert!(rt; refused_at_33);
-            return Ok(());
+        Err(_) => false,
+    }
+}
+
+// Takes all blocks. Whether the file is whole, though one block may have been refused once.
+fn receive(refusing: &Refusing<Global>, refused: &Cell<u16>) -> bool {
+    let mut receiver = Receiver::new(refusing);
+    for n in 1..=LAST {
+        if !takes_again(&mut receiver, n, refused) {
+            return false;
         }
     }
-    Err(Fail::new("a request was refused in each run"))
+    if receiver.state() != RecvState::Complete {
+        return false;
+    }
+    match receiver.take_file() {
+        Some(received) => has_chunks(&received),
+        None => false,
+    }
+}
+
+// The last request comes as block 33 begins a chunk.
+#[test]
+fn receiving(rt: HostRuntime) -> Result<(), Fail> {
+    let refused = Cell::new(0);
+    refuse_each(
+        rt.alloc(),
+        2,
+        &|refusing: &Refusing<Global>| { Outcome::of(receive(refusing, &refused)) },
+    )?;
+    assert_eq!(rt; refused.get(), 33);
+    Ok(())
 }
 
 fn received(alloc: Global) -> Result<Received, Fail> {
@@ -101,24 +135,20 @@ fn received(alloc: Global) -> Result<Received, Fail> {
 #[test]
 fn copying_what_was_received(rt: HostRuntime) -> Result<(), Fail> {
     let received = received(rt.alloc())?;
-    for nth in 1..MANY {
-        let refusing = Refusing::new(rt.alloc(), nth);
-        match received.to_vec(&refusing) {
-            Ok(bytes) => assert!(rt; is_whole(&bytes)),
-            Err(_) => assert!(rt; refusing.has_refused()),
-        }
-        if !refusing.has_refused() {
-            assert!(rt; nth > 1);
-            return Ok(());
-        }
-    }
-    Err(Fail::new("a request was refused in each run"))
+    Ok(refuse_each(
+        rt.alloc(),
+        1,
+        &|refusing: &Refusing<Global>| match received.to_vec(refusing) {
+            Ok(bytes) => Outcome::of(is_whole(&bytes)),
+            Err(_) => Outcome::OutOfMemory,
+        },
+    )?)
 }
 
 // No other call asks for memory, nor does an empty block where a chunk is full.
 #[test]
 fn calls_without_memory(rt: HostRuntime) -> Result<(), Fail> {
-    let refusing = Refusing::new(rt.alloc(), MANY);
+    let refusing = Refusing::new(rt.alloc(), 0);
     let mut receiver = Receiver::new(&refusing);
     assert!(rt; receiver.on_timeout().is_some());
     assert!(rt; receiver.on_data(2, &block(2))?.is_none());

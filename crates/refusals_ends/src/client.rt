@@ -1,0 +1,148 @@
+// A collection is fetched and a file is sent, each growth refused in turn.
+use archive_client::{Cause, Get, Put, State};
+use refusing::{Outcome, Refusing, refuse_each};
+use std::alloc::{Allocator, Global};
+use std::test::Fail;
+use tftp_packet::{Endpoint, Out};
+use tws_file::Ruleset;
+
+const SERVER: Endpoint = Endpoint {
+    host: 1,
+    port: 6969,
+};
+
+const PEER: Endpoint = Endpoint {
+    host: 1,
+    port: 4000,
+};
+
+// A Lynx file: level 1, BDHP, 100 ticks, no moves.
+const FILE: &[u8; 28] = b"\x35\x33\x9B\x99\x01\0\0\0\x10\0\0\0\x01\0BDHP\0\0\0\0\0\0\x64\0\0\0";
+
+// The first and only block of it.
+const FILE_DATA: &[u8; 32] =
+    b"\0\x03\0\x01\x35\x33\x9B\x99\x01\0\0\0\x10\0\0\0\x01\0BDHP\0\0\0\0\0\0\x64\0\0\0";
+
+fn is_out(out: &Out, to: Endpoint, bytes: &[u8]) -> bool {
+    out.from_port == 5000 && out.to == to && out.dgram.bytes() == bytes
+}
+
+fn goes(out: &Option<Out>, to: Endpoint, bytes: &[u8]) -> bool {
+    match out {
+        Some(out) => is_out(out, to, bytes),
+        None => false,
+    }
+}
+
+// Whether it has failed for memory, as it told the server, and is silent from now on.
+fn gives_up<A: Allocator + Copy>(client: &mut Get<A>, out: &Option<Out>, data: &[u8]) -> bool {
+    goes(out, PEER, b"\0\x05\0\x03out of memory\0")
+        && client.state() == State::Failed(Cause::Memory)
+        && client.over()
+        && client.on_datagram(PEER, data).is_none()
+        && client.on_timeout().is_none()
+        && client.state() == State::Failed(Cause::Memory)
+}
+
+// Gives a block. Whether the client has acknowledged it; an outcome, where it has not.
+fn give<A: Allocator + Copy>(client: &mut Get<A>, n: u8, data: &[u8]) -> Result<(), Outcome> {
+    let out = client.on_datagram(PEER, data);
+    if goes(&out, PEER, &[0, 4, 0, n]) {
+        return Ok(());
+    }
+    Err(Outcome::refused(gives_up(client, &out, data)))
+}
+
+// Whether the client got a file, and it is this one.
+fn has_got<A: Allocator + Copy>(global: Global, client: Get<A>, bytes: &[u8]) -> bool {
+    if client.state() != State::Got {
+        return false;
+    }
+    let Ok(file) = client.into_file() else {
+        return false;
+    };
+    match file.to_vec(global) {
+        Ok(got) => got.as_slice() == bytes,
+        Err(_) => false,
+    }
+}
+
+fn fetch_one(global: Global, refusing: &Refusing<Global>) -> Outcome {
+    let (mut client, _) = Get::start(refusing, 5000, SERVER, Ruleset::Lynx);
+    if refusing.requests() != 0 {
+        return Outcome::Wrong;
+    }
+    match give(&mut client, 1, FILE_DATA) {
+        Ok(()) => Outcome::of(has_got(global, client, FILE)),
+        Err(Outcome::OutOfMemory) => Outcome::refused(client.into_file().is_err()),
+        Err(outcome) => outcome,
+    }
+}
+
+// The first block is refused, so the client is never bound.
+#[test]
+fn fetching_one_block(rt: HostRuntime) -> Result<(), Fail> {
+    let global = rt.alloc();
+    Ok(refuse_each(
+        global,
+        1,
+        &|refusing: &Refusing<Global>| fetch_one(global, refusing),
+    )?)
+}
+
+// Gives three blocks, of which the last is empty; each byte of a block is its number.
+fn give_three<A: Allocator + Copy>(client: &mut Get<A>) -> Result<(), Outcome> {
+    let mut first = [1; 516];
+    first[..4].copy_from_slice(b"\0\x03\0\x01");
+    give(client, 1, &first)?;
+    let mut second = [2; 516];
+    second[..4].copy_from_slice(b"\0\x03\0\x02");
+    give(client, 2, &second)?;
+    give(client, 3, b"\0\x03\0\x03")
+}
+
+fn fetch_some(global: Global, refusing: &Refusing<Global>) -> Outcome {
+    let mut file = [1; 1024];
+    file[512..].copy_from_slice(&[2; 512]);
+    let (mut client, _) = Get::start(refusing, 5000, SERVER, Ruleset::Ms);
+    match give_three(&mut client) {
+        Ok(()) => Outcome::of(has_got(global, client, &file)),
+        Err(outcome) => outcome,
+    }
+}
+
+// A later block is refused: the client was bound, and has failed all the same.
+#[test]
+fn fetching_some_blocks(rt: HostRuntime) -> Result<(), Fail> {
+    let global = rt.alloc();
+    Ok(refuse_each(
+        global,
+        1,
+        &|refusing: &Refusing<Global>| fetch_some(global, refusing),
+    )?)
+}
+
+// Whether the request, the data and the end of a put are as they have to be, each given again at a time-out.
+fn sends_file<A: Allocator + Copy>(client: &mut Put<A>, first: Out) -> bool {
+    let request = b"\0\x02upload.tws\0octet\0";
+    goes(&Some(first), SERVER, request)
+        && goes(&client.on_timeout(), SERVER, request)
+        && goes(&client.on_datagram(PEER, b"\0\x04\0\0"), PEER, FILE_DATA)
+        && goes(&client.on_timeout(), PEER, FILE_DATA)
+        && client.on_datagram(PEER, b"\0\x04\0\x01").is_none()
+        && client.state() == State::Sent
+}
+
+// A put takes no memory.
+#[test]
+fn sending(rt: HostRuntime) -> Result<(), Fail> {
+    let refusing = Refusing::new(rt.alloc(), 0);
+    let file = Vec::from_slice(&refusing, FILE)?;
+    let requests = refusing.requests();
+    let Ok((mut client, first)) = Put::start(5000, SERVER, file) else {
+        return Err(Fail::new("too long"));
+    };
+    assert!(rt; sends_file(&mut client, first));
+    assert_eq!(rt; refusing.requests(), requests);
+    Ok(())
+}

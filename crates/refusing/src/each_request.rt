@@ -1,0 +1,111 @@
+ghost use Rattle.std.specs.Prelude.{◌≡◌, ◌≢◌, ◌<◌, true, false, IfNone, OnOk};
+ghost use Rattle.refusing.specs.declared.each_request.Outcome.TheVariants.{Right, Wrong, OutOfMemory};
+
+use crate::Refusing;
+use std::alloc::Global;
+use thiserror::Error;
+
+/// What one run of a test gave.
+#[derive(Clone, Copy, Debug, PartialEq, Eq)]
+pub enum Outcome {
+    /// The full answer.
+    Right,
+    /// Another answer, or a fault other than out of memory; or something changed that must not.
+    Wrong,
+    /// Memory ran out, and what has to stay as it was did.
+    OutOfMemory,
+}
+
+impl Outcome {
+    /// Of a run that did not run out of memory: whether its answer is the full one.
+    pub fn of(is_right: bool) -> Self
+        ensures right { is_right ≡ true → result ≡ Right }
+        ensures wrong { is_right ≡ false → result ≡ Wrong }
+    {
+        if is_right {
+            Outcome::Right
+        } else {
+            Outcome::Wrong
+        }
+    }
+
+    /// Of a run that ran out of memory: whether all that had to stay as it was did.
+    pub fn refused(is_as_before: bool) -> Self
+        ensures kept { is_as_before ≡ true → result ≡ OutOfMemory }
+        ensures changed { is_as_before ≡ false → result ≡ Wrong }
+    {
+        if is_as_before {
+            Outcome::OutOfMemory
+        } else {
+            Outcome::Wrong
+        }
+    }
+}
+
+/// What is wrong with the runs of a test.
+#[derive(Clone, Copy, Debug, PartialEq, Eq, Error)]
+pub enum Complaint {
+    /// A run did not give the full answer, and did not run out of memory.
+    #[error("a wrong answer")]
+    WrongAnswer,
+    /// A run was out of memory where no request was refused.
+    #[error("out of memory, and no request was refused")]
+    NoRefusal,
+    /// The first run that met no refusal came too early.
+    #[error("too few requests")]
+    TooFew,
+    /// Every run met a refusal.
+    #[error("a request was refused in each run")]
+    Endless,
+}
+
+// No run makes so many requests.
+const MANY: u64 = 200;
+
+// What is wrong with a run, if anything is.
+fn judge(outcome: Outcome, has_refused: bool) -> Option<Complaint>
+    ensures right { IfNone result (has_refused ≡ false → outcome ≡ Right) }
+    ensures not_wrong { IfNone result (outcome ≢ Wrong) }
+{
+    match outcome {
+        Outcome::Right => None,
+        Outcome::Wrong => Some(Complaint::WrongAnswer),
+        Outcome::OutOfMemory if has_refused => None,
+        Outcome::OutOfMemory => Some(Complaint::NoRefusal),
+    }
+}
+
+/// Refuses the first request of a run for memory, then the second, and so on, until a run meets no refusal. A run that
+/// is out of memory must have met one, and every other must give the full answer.
+///
+/// # Errors
+///
+/// What is wrong with a run; `TooFew` where the run without a refusal was not preceded by `least` others, and `Endless`
+/// where there was none in many.
+// The run is a `dyn`, so that this loop is proved and built once, and not for each test.
+pub fn refuse_each(
+    global: Global,
+    least: u64,
+    run: &dyn Fn(&Refusing<Global>) -> Outcome,
+) -> Result<(), Complaint>
+    requires { IsAlwaysCallable run.now }
+    // The last run, which met no refusal, gave the full answer.
+    ensures { OnOk result ((refusing : _) × (least < refusing.now.nth) × post run.now refusing Right) }
+{
+    for nth in 1..MANY {
+        let refusing = Refusing::new(global, nth);
+        let outcome = run(&refusing);
+        let has_refused = refusing.has_refused();
+        if let Some(complaint) = judge(outcome, has_refused) {
+            return Err(complaint);
+        }
+        if has_refused {
+            continue;
+        }
+        if nth <= least {
+            return Err(Complaint::TooFew);
+        }
+        return Ok(());
+    }
+    Err(Complaint::Endless)
+}
