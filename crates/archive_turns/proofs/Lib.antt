@@ -1,0 +1,11 @@
+pub mod Log
+pub mod Acting
+pub mod Visits
+pub mod Requests
+pub mod Rows
+pub mod Ports
+pub mod Transfers
+pub mod Following
+pub mod Turns
+pub mod Running
+pub mod Rounding

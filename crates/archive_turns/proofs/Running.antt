@@ -1,0 +1,108 @@
+-- How runs of clients begin, turn and end.
+use Rattle.std.specs.Prelude.{◌≡◌, ℕ, ◌+◌, ◌<◌, ◌≤◌, Bool, true, false, nat_lt, List, [], ◌∷◌, ◌++◌, length, Option, None, Some, Result, Ok, Err}
+use Rattle.std.proofs.Common.{refl, sym, ap, subst, ◌∙◌, inl, inr, arith}
+use Rattle.std.proofs.lemmas.Bool.{cases_Bool, ltb-true, lt-ltb}
+use Rattle.tftp_packet.specs.declared.endpoint.Endpoint.{Endpoint}
+use Rattle.tftp_packet.specs.declared.out.Out.{Out}
+use Rattle.tftp_ends.specs.declared.limits.TheConstants.{MAX_FILE}
+use Rattle.tftp_ends.specs.Ends.{Verdict, granted}
+use Rattle.archive_client.specs.declared.cause.Cause.TheVariants as cause
+use Rattle.archive_client.specs.Client.{Client, Operation, put, client_start, request_out, is_over}
+use Rattle.archive_turns.specs.declared.limits.TheConstants.{QUIET_TURNS}
+use Rattle.archive_turns.specs.declared.run_fault.RunFault.{RunFault}
+use Rattle.archive_turns.specs.declared.run_fault.RunFault.TheVariants as fails
+use Rattle.archive_turns.specs.Wire.{Entry, opened, closed, came, quiet, failed, sent, Grows}
+use Rattle.archive_turns.specs.Turn.{Replies, datagram, nothing, fault}
+use Rattle.archive_turns.specs.Run.{Run, Begun, Begins, is_long, begin_sized, begin_started, run_heard, run_quiet, run_received, MakesRan, MakesRunTurn, none, more, MakesRunTurns, MakesSome}
+use Rattle.archive_turns.proofs.Log.{grows_none, grows_join}
+
+abbrev replies : (send_done close_done : Bool) → Replies
+replies send_done close_done = record { sent = send_done; closed = close_done }
+
+-- ---- the begin
+
+pub begin_failed : {before after : Option (List Entry)} (server : Endpoint) (operation : Operation) → Grows before after (opened None ∷ []) → Begins server operation (Err fails.Socket) before after
+begin_failed server operation grows =
+    record { port = None; replies = replies true true; result_is = refl; log = grows }
+
+abbrev run_at : Client → (port : ℕ) → Run
+run_at c port = record { client = c; port = port; left = QUIET_TURNS }
+
+abbrev ok_run : Run → Result Run RunFault
+ok_run r = Ok r
+
+pub begin_made : {before mid after : Option (List Entry)} (server : Endpoint) (operation : Operation) (port : ℕ) (c : Client) (out : Out) (ok : Bool) → is_long operation ≡ false → c ≡ client_start port server operation → out ≡ request_out operation c → Grows before mid (opened (Some port) ∷ []) → Grows mid after (sent out ok ∷ []) → Begins server operation (Ok (run_at c port)) before after
+begin_made {before} {mid} {after} server operation port c out ok short c-is out-is first then =
+    let used : begin_started (client_start port server operation) operation port ok ≡ begin_sized (is_long operation) server operation port (replies ok true) = ap (λ (b : Bool). begin_sized b server operation port (replies ok true)) (sym short) in
+    let goes : Grows mid after (sent (request_out operation (client_start port server operation)) ok ∷ []) = subst (λ (o : Out). Grows mid after (sent o ok ∷ [])) (out-is ∙ ap (request_out operation) c-is) then in
+    record {
+      port = Some port;
+      replies = replies ok true;
+      result_is = ap (λ (x : Client). ok_run (run_at x port)) c-is ∙ ap (λ (b : Begun). b.result) used;
+      log = subst (λ (b : Begun). Grows before after b.calls) used (grows_join first goes);
+    }
+
+pub begin_long : {before mid after : Option (List Entry)} (server : Endpoint) (operation : Operation) (port : ℕ) (ok : Bool) → is_long operation ≡ true → Grows before mid (opened (Some port) ∷ []) → Grows mid after (closed port ok ∷ []) → Begins server operation (Err (fails.Transfer cause.TooLong)) before after
+begin_long {before} {mid} {after} server operation port ok long first then =
+    let used : begin_sized true server operation port (replies true ok) ≡ begin_sized (is_long operation) server operation port (replies true ok) = ap (λ (b : Bool). begin_sized b server operation port (replies true ok)) (sym long) in
+    record {
+      port = Some port;
+      replies = replies true ok;
+      result_is = ap (λ (b : Begun). b.result) used;
+      log = subst (λ (b : Begun). Grows before after b.calls) used (grows_join first then);
+    }
+
+pub short_put : (file : List ℕ) → length file ≤ MAX_FILE → is_long (put file) ≡ false
+short_put file short = elim (cases_Bool (nat_lt MAX_FILE (length file))) [
+  | inl y ↦ let above : MAX_FILE < length file = ltb-true MAX_FILE (length file) y in absurd (omega arith)
+  | inr n ↦ n
+]
+
+pub long_put : (file : List ℕ) → MAX_FILE < length file → is_long (put file) ≡ true
+long_put file long = lt-ltb MAX_FILE (length file) long
+
+-- ---- a turn
+
+pub turn_heard : {before mid after : Option (List Entry)} (from : Endpoint) (bytes : List ℕ) (verdict : Verdict) (port : ℕ) (old new : Run) → port ≡ old.port → Grows before mid (came port from bytes ∷ []) → MakesRan (λ ok. run_heard from bytes verdict old ok) new mid after → MakesRunTurn old new before after
+turn_heard {before} {mid} {after} from bytes verdict port old new e first ran =
+    let here : Grows before mid (came old.port from bytes ∷ []) = subst (λ (p : ℕ). Grows before mid (came p from bytes ∷ [])) e first in
+    record {
+      calls = (run_received (datagram from bytes) verdict ran.ok old).calls;
+      turn = record { answers = record { receipt = datagram from bytes; verdict = verdict; sent = ran.ok }; run = ran.run; calls_are = refl };
+      log = grows_join here ran.log;
+    }
+
+pub turn_quiet : {before mid after : Option (List Entry)} (port : ℕ) (old new : Run) → port ≡ old.port → Grows before mid (quiet port ∷ []) → MakesRan (λ ok. run_quiet old ok) new mid after → MakesRunTurn old new before after
+turn_quiet {before} {mid} {after} port old new e first ran =
+    let here : Grows before mid (quiet old.port ∷ []) = subst (λ (p : ℕ). Grows before mid (quiet p ∷ [])) e first in
+    record {
+      calls = (run_received nothing granted ran.ok old).calls;
+      turn = record { answers = record { receipt = nothing; verdict = granted; sent = ran.ok }; run = ran.run; calls_are = refl };
+      log = grows_join here ran.log;
+    }
+
+pub turn_failed : {before mid after : Option (List Entry)} (port : ℕ) (old new : Run) → port ≡ old.port → Grows before mid (failed port ∷ []) → MakesRan (λ ok. run_quiet old ok) new mid after → MakesRunTurn old new before after
+turn_failed {before} {mid} {after} port old new e first ran =
+    let here : Grows before mid (failed old.port ∷ []) = subst (λ (p : ℕ). Grows before mid (failed p ∷ [])) e first in
+    record {
+      calls = (run_received fault granted ran.ok old).calls;
+      turn = record { answers = record { receipt = fault; verdict = granted; sent = ran.ok }; run = ran.run; calls_are = refl };
+      log = grows_join here ran.log;
+    }
+
+-- ---- turns one after another
+
+pub some_none : (r : Run) (log : Option (List Entry)) → MakesSome 0 r r log log
+some_none r log = record { calls = []; runs = none r; log = grows_none log }
+
+pub some_more : {before mid after : Option (List Entry)} (n : ℕ) (old between new : Run) → MakesSome n old between before mid → is_over between.client ≡ false → MakesRunTurn between new mid after → MakesSome (n + 1) old new before after
+some_more n old between new so_far alive turn =
+    record { calls = so_far.calls ++ turn.calls; runs = more so_far.runs alive turn.turn; log = grows_join so_far.log turn.log }
+
+pub ended_over : {before after : Option (List Entry)} (n turns : ℕ) (old new : Run) → MakesSome n old new before after → n ≤ turns → is_over new.client ≡ true → MakesRunTurns turns old new before after
+ended_over n turns old new made most over =
+    record { calls = made.calls; runs = record { made = n; most = most; runs = made.runs; ends = inl over }; log = made.log }
+
+pub ended_used : {before after : Option (List Entry)} (n turns : ℕ) (old new : Run) → MakesSome n old new before after → n ≡ turns → MakesRunTurns turns old new before after
+ended_used n turns old new made used =
+    record { calls = made.calls; runs = record { made = n; most = omega (arith, used); runs = made.runs; ends = inr used }; log = made.log }

@@ -1,0 +1,135 @@
+-- What a visit leaves, by what was received and what the step told.
+use Rattle.std.specs.Prelude.{◌≡◌, ℕ, Bool, true, false, not, ◌==◌, ◌&&◌, is_some, List, [], ◌∷◌, Option, None, Some}
+use Rattle.std.proofs.Common.{refl, sym, ap, subst, ◌∙◌}
+use Rattle.tftp_packet.specs.declared.endpoint.Endpoint.{Endpoint}
+use Rattle.tftp_ends.specs.Ends.{Verdict, granted}
+use Rattle.archive_table.specs.Server.{Server, Maps, Told, Grant, all, Merges, transfer_at, server_request, server_datagram}
+use Rattle.archive_table.specs.Keeper.{Keeping, StepKeeps}
+use Rattle.archive_turns.specs.declared.change.Change.{Change}
+use Rattle.archive_turns.specs.declared.change.Change.TheVariants.{Quiet, Nothing}
+use Rattle.archive_turns.specs.Wire.{Entry, Grows, came, quiet, failed, opened}
+use Rattle.archive_turns.specs.Parts.{IsVisit, Acts}
+use Rattle.archive_turns.specs.Turn.{Replies, Receipt, datagram, nothing, fault, Answers, Visited, transfer_change, transfer_visit, transfer_asks, request_change, request_stepped, request_spared, request_used, request_visit, lost_visit, is_usable}
+use Rattle.archive_turns.proofs.Log.{grows_join}
+use Rattle.archive_turns.proofs.Requests.{server_request_step}
+
+abbrev pub no_replies : Replies
+no_replies = record { sent = true; closed = true }
+
+-- nothing else was asked than what was received
+abbrev pub answers_of : Receipt → Server → Answers
+answers_of receipt s =
+    record { receipt = receipt; spare = None; verdict = granted; grant = all; maps = s.maps; replies = no_replies }
+
+pub transfer_quiet : {before after : Option (List Entry)} (kept : Option (List Keeping)) (port : ℕ) (s : Server) → Grows before after (quiet port ∷ []) → IsVisit (λ a. transfer_visit a port s) (λ a. transfer_asks a port s) s s false Quiet before after kept kept
+transfer_quiet kept port s grows =
+    record { answers = answers_of nothing s; server = refl; taken_is = refl; change_is = refl; log = grows; merges = refl; keeps = refl }
+
+pub transfer_failed : {before after : Option (List Entry)} (kept : Option (List Keeping)) (port : ℕ) (s : Server) → Grows before after (failed port ∷ []) → IsVisit (λ a. transfer_visit a port s) (λ a. transfer_asks a port s) s s false Quiet before after kept kept
+transfer_failed kept port s grows =
+    record { answers = answers_of fault s; server = refl; taken_is = refl; change_is = refl; log = grows; merges = refl; keeps = refl }
+
+pub request_quiet : {before after : Option (List Entry)} (port : ℕ) (s : Server) → port ≡ s.request → Grows before after (quiet port ∷ []) → IsVisit (λ a. request_visit a s) (λ a. None) s s false Quiet before after None None
+request_quiet {before} {after} port s e grows =
+    record {
+      answers = answers_of nothing s;
+      server = refl;
+      taken_is = refl;
+      change_is = refl;
+      log = subst (λ (p : ℕ). Grows before after (quiet p ∷ [])) e grows;
+      merges = refl;
+      keeps = refl;
+    }
+
+pub request_failed : {before after : Option (List Entry)} (port : ℕ) (s : Server) → port ≡ s.request → Grows before after (failed port ∷ []) → IsVisit (λ a. request_visit a s) (λ a. None) s s false Quiet before after None None
+request_failed {before} {after} port s e grows =
+    record {
+      answers = answers_of fault s;
+      server = refl;
+      taken_is = refl;
+      change_is = refl;
+      log = subst (λ (p : ℕ). Grows before after (failed p ∷ [])) e grows;
+      merges = refl;
+      keeps = refl;
+    }
+
+-- what is known of a step at a transfer's port and of the calls after it
+abbrev Stepped : (s new : Server) (port : ℕ) (taken : Bool) (change : Change) (mid after : Option (List Entry)) → Told → Type 0
+Stepped s new port taken change mid after told =
+    Acts told.closed port told.out mid after × (taken ≡ is_some told.taken) × (change ≡ transfer_change told.closed told.out port) × Merges told.taken s.maps new.maps
+
+pub transfer_step : {before mid after : Option (List Entry)} {kept now : Option (List Keeping)} (port : ℕ) (from : Endpoint) (bytes : List ℕ) (s new : Server) (grant : Grant) (told : Told) (taken : Bool) (change : Change) → new ≡ (server_datagram grant new.maps port from bytes s).server → told ≡ (server_datagram grant new.maps port from bytes s).told → Merges told.taken s.maps new.maps → StepKeeps grant (server_datagram all s.maps port from bytes s).told.taken s.maps new.maps kept now → Grows before mid (came port from bytes ∷ []) → Acts told.closed port told.out mid after → taken ≡ is_some told.taken → change ≡ transfer_change told.closed told.out port → IsVisit (λ a. transfer_visit a port s) (λ a. transfer_asks a port s) s new taken change before after kept now
+transfer_step {before} {mid} {after} port from bytes s new grant told taken change new-is told-is merges keeps grows acts taken-is change-is =
+    let all-of = subst (Stepped s new port taken change mid after) told-is (acts, taken-is, change-is, merges) in
+    record {
+      answers = record { receipt = datagram from bytes; spare = None; verdict = granted; grant = grant; maps = new.maps; replies = all-of.0.replies };
+      server = new-is;
+      taken_is = all-of.1;
+      change_is = all-of.2;
+      log = grows_join grows all-of.0.log;
+      merges = all-of.3;
+      keeps = keeps;
+    }
+
+and_right : (a b : Bool) → (a && b) ≡ true → b ≡ true
+and_right true b e = e
+and_right false b e = cc
+
+not_some : {A : Type 0} (o : Option A) → not (is_some o) ≡ true → o ≡ None
+not_some None e = refl
+not_some (Some x) e = cc
+
+-- a port that can be used is free
+pub usable_free : (spare : ℕ) (s : Server) → is_usable spare s ≡ true → transfer_at spare s ≡ None
+usable_free spare s e = not_some (transfer_at spare s) (and_right (not (spare == 0) && not (spare == s.request)) _ e)
+
+abbrev RequestStepped : (s new : Server) (spare : ℕ) (taken : Bool) (change : Change) (mid after : Option (List Entry)) → Told → Type 0
+RequestStepped s new spare taken change mid after told =
+    Acts (not told.opened) spare told.out mid after × (taken ≡ is_some told.taken) × (change ≡ request_change told.opened spare)
+
+pub request_step : {before after : Option (List Entry)} {mid : Option (List Entry)} (spare : ℕ) (from : Endpoint) (bytes : List ℕ) (s new : Server) (verdict : Verdict) (told : Told) (taken : Bool) (change : Change) → is_usable spare s ≡ true → new ≡ (server_request verdict spare from bytes s).server → told ≡ (server_request verdict spare from bytes s).told → Grows before mid (opened (Some spare) ∷ []) → Acts (not told.opened) spare told.out mid after → taken ≡ is_some told.taken → change ≡ request_change told.opened spare → IsVisit (λ a. request_spared a.spare a.verdict a.replies from bytes s) (λ a. None) s new taken change before after None None
+request_step {before} {after} {mid} spare from bytes s new verdict told taken change usable new-is told-is grows acts taken-is change-is =
+    let all-of = subst (RequestStepped s new spare taken change mid after) told-is (acts, taken-is, change-is) in
+    let v : Visited = request_stepped spare all-of.0.replies (opened (Some spare) ∷ []) (server_request verdict spare from bytes s) in
+    let used : v ≡ request_used (is_usable spare s) spare verdict all-of.0.replies from bytes s = ap (λ (b : Bool). request_used b spare verdict all-of.0.replies from bytes s) (sym usable) in
+    record {
+      answers = record { receipt = nothing; spare = Some spare; verdict = verdict; grant = all; maps = s.maps; replies = all-of.0.replies };
+      server = new-is ∙ ap (λ (w : Visited). w.server) used;
+      taken_is = all-of.1 ∙ ap (λ (w : Visited). is_some w.taken) used;
+      change_is = all-of.2 ∙ ap (λ (w : Visited). w.change) used;
+      log = subst (λ (w : Visited). Grows before after w.calls) used (grows_join grows all-of.0.log);
+      merges = subst (λ (w : Visited). Merges w.taken s.maps new.maps) used (subst (λ (m : Maps). Merges (server_request verdict spare from bytes s).told.taken s.maps m) (ap (λ (t : Server). t.maps) (sym new-is)) (server_request_step verdict spare from bytes s (usable_free spare s usable)).merges);
+      keeps = refl;
+    }
+
+-- the spare port cannot be used, or none was opened
+pub request_unused : {before after : Option (List Entry)} (spare : ℕ) (from : Endpoint) (bytes : List ℕ) (s : Server) → is_usable spare s ≡ false → Grows before after (opened (Some spare) ∷ []) → IsVisit (λ a. request_spared a.spare a.verdict a.replies from bytes s) (λ a. None) s s false Nothing before after None None
+request_unused {before} {after} spare from bytes s unusable grows =
+    let used : lost_visit (opened (Some spare) ∷ []) s ≡ request_used (is_usable spare s) spare granted no_replies from bytes s = ap (λ (b : Bool). request_used b spare granted no_replies from bytes s) (sym unusable) in
+    record {
+      answers = record { receipt = nothing; spare = Some spare; verdict = granted; grant = all; maps = s.maps; replies = no_replies };
+      server = ap (λ (w : Visited). w.server) used;
+      taken_is = ap (λ (w : Visited). is_some w.taken) used;
+      change_is = ap (λ (w : Visited). w.change) used;
+      log = subst (λ (w : Visited). Grows before after w.calls) used grows;
+      merges = subst (λ (w : Visited). Merges w.taken s.maps s.maps) used refl;
+      keeps = refl;
+    }
+
+pub request_unopened : {before after : Option (List Entry)} (from : Endpoint) (bytes : List ℕ) (s : Server) → Grows before after (opened None ∷ []) → IsVisit (λ a. request_spared a.spare a.verdict a.replies from bytes s) (λ a. None) s s false Nothing before after None None
+request_unopened from bytes s grows =
+    record { answers = answers_of nothing s; server = refl; taken_is = refl; change_is = refl; log = grows; merges = refl; keeps = refl }
+
+-- a datagram was received before
+pub request_after : {before mid after : Option (List Entry)} (port : ℕ) (from : Endpoint) (bytes : List ℕ) (s new : Server) (taken : Bool) (change : Change) → port ≡ s.request → Grows before mid (came port from bytes ∷ []) → IsVisit (λ a. request_spared a.spare a.verdict a.replies from bytes s) (λ a. None) s new taken change mid after None None → IsVisit (λ a. request_visit a s) (λ a. None) s new taken change before after None None
+request_after {before} {mid} {after} port from bytes s new taken change e grows visit =
+    let here = subst (λ (p : ℕ). Grows before mid (came p from bytes ∷ [])) e grows in
+    record {
+      answers = record { receipt = datagram from bytes; spare = visit.answers.spare; verdict = visit.answers.verdict; grant = visit.answers.grant; maps = visit.answers.maps; replies = visit.answers.replies };
+      server = visit.server;
+      taken_is = visit.taken_is;
+      change_is = visit.change_is;
+      log = grows_join here visit.log;
+      merges = visit.merges;
+      keeps = refl;
+    }

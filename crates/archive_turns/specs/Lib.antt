@@ -1,0 +1,8 @@
+pub mod Wire
+pub mod Noted
+pub mod Timers
+pub mod Turn
+pub mod Parts
+pub mod Run
+pub mod Ready
+pub mod Kept

@@ -1,0 +1,223 @@
+-- A client that runs over a wire: how it begins, one turn of it, and how a whole run ends.
+use Rattle.std.specs.Prelude.{◌≡◌, ◌⊎◌, ℕ, ◌≤◌, ◌+◌, ◌-◌, Bool, true, false, nat_lt, nat_le, List, [], ◌∷◌, ◌++◌, length, Option, None, Some, Result, Ok, Err}
+use Rattle.std.specs.Io.KnownBytes.{Appends}
+use Rattle.byte_output.specs.Output.{AppendsPrefix}
+use Rattle.tws_file.specs.declared.«ruleset».Ruleset.{Ruleset}
+use Rattle.tftp_packet.specs.declared.endpoint.Endpoint.{Endpoint}
+use Rattle.tftp_packet.specs.declared.out.Out.{Out}
+use Rattle.tftp_ends.specs.declared.limits.TheConstants.{MAX_FILE}
+use Rattle.tftp_ends.specs.Ends.{Verdict}
+use Rattle.archive_client.specs.declared.cause.Cause.{Cause}
+use Rattle.archive_client.specs.declared.cause.Cause.TheVariants as cause
+use Rattle.archive_client.specs.declared.state.State.{State}
+use Rattle.archive_client.specs.declared.state.State.TheVariants as state
+use Rattle.archive_client.specs.Client.{Client, Operation, put, get, Answer, client_start, request_out, client_datagram, client_timeout, state_of, is_over, file_of}
+use Rattle.archive_turns.specs.declared.limits.TheConstants.{QUIET_TURNS}
+use Rattle.archive_turns.specs.declared.run_fault.RunFault.{RunFault}
+use Rattle.archive_turns.specs.declared.run_fault.RunFault.TheVariants as fails
+use Rattle.archive_turns.specs.Wire.{Entry, opened, closed, came, quiet, failed, sent, Grows}
+use Rattle.archive_turns.specs.Turn.{Replies, Receipt, datagram, nothing, fault, sendings}
+
+pub record Run : Type 0 where
+  pub client : Client
+  -- its own port
+  pub port : ℕ
+  -- how many quiet turns are left until it times out
+  pub left : ℕ
+
+-- what begins or what a turn makes, and the calls of the wire
+pub record Begun : Type 0 where
+  pub result : Result Run RunFault
+  pub calls : List Entry
+
+pub record Ran : Type 0 where
+  pub run : Run
+  pub calls : List Entry
+
+-- ---- the begin
+
+abbrev pub is_long : Operation → Bool
+is_long (put file) = nat_lt MAX_FILE (length file)
+is_long (get kind) = false
+
+abbrev pub begin_started : Client → Operation → (port : ℕ) → (ok : Bool) → Begun
+begin_started c operation port ok =
+    record {
+      result = Ok (record { client = c; port = port; left = QUIET_TURNS });
+      calls = opened (Some port) ∷ sent (request_out operation c) ok ∷ [];
+    }
+
+-- The port of a file that is too long is closed again.
+abbrev pub begin_sized : (long : Bool) → Endpoint → Operation → (port : ℕ) → Replies → Begun
+begin_sized true server operation port replies =
+    record {
+      result = Err (fails.Transfer cause.TooLong);
+      calls = opened (Some port) ∷ closed port replies.closed ∷ [];
+    }
+begin_sized false server operation port replies =
+    begin_started (client_start port server operation) operation port replies.sent
+
+abbrev pub begin_opened : (port : Option ℕ) → Endpoint → Operation → Replies → Begun
+begin_opened (Some port) server operation replies = begin_sized (is_long operation) server operation port replies
+begin_opened None server operation replies = record { result = Err fails.Socket; calls = opened None ∷ [] }
+
+-- a run begins: a port is opened, and the request is sent from there
+pub record Begins (server : Endpoint) (operation : Operation) (result : Result Run RunFault) (before after : Option (List Entry)) : Type 0 where
+  pub port : Option ℕ
+  pub replies : Replies
+  pub result_is : result ≡ (begin_opened port server operation replies).result
+  pub log : Grows before after (begin_opened port server operation replies).calls
+
+-- ---- a turn
+
+-- what is answered in a turn
+pub record RunAnswers : Type 0 where
+  pub receipt : Receipt
+  -- whether there is memory for what comes
+  pub verdict : Verdict
+  -- by `send`, if it is called
+  pub sent : Bool
+
+-- a step that sends lets the client wait anew
+abbrev pub left_after : Option Out → ℕ → ℕ
+left_after (Some out) left = QUIET_TURNS
+left_after None left = left
+
+abbrev pub run_stepped : (port left : ℕ) → Answer → (ok : Bool) → Ran
+run_stepped port left a ok =
+    record { run = record { client = a.client; port = port; left = left_after a.out left }; calls = sendings a.out ok }
+
+abbrev pub run_timed_out : (port : ℕ) → Answer → (ok : Bool) → Ran
+run_timed_out port a ok =
+    record { run = record { client = a.client; port = port; left = QUIET_TURNS }; calls = sendings a.out ok }
+
+abbrev pub run_waited : (last : Bool) → Run → (ok : Bool) → Ran
+run_waited true r ok = run_timed_out r.port (client_timeout r.client) ok
+run_waited false r ok = record { run = record { client = r.client; port = r.port; left = r.left - 1 }; calls = [] }
+
+-- a quiet turn: the last of those that were left is a time-out
+abbrev pub run_quiet : Run → (ok : Bool) → Ran
+run_quiet r ok = run_waited (nat_le r.left 1) r ok
+
+-- a call comes before
+abbrev pub run_after : Entry → Ran → Ran
+run_after call ran = record { run = ran.run; calls = call ∷ ran.calls }
+
+abbrev pub run_heard : (from : Endpoint) (bytes : List ℕ) → Verdict → Run → (ok : Bool) → Ran
+run_heard from bytes verdict r ok = run_stepped r.port r.left (client_datagram verdict from bytes r.client) ok
+
+abbrev pub run_received : Receipt → Verdict → (ok : Bool) → Run → Ran
+run_received (datagram from bytes) verdict ok r =
+    run_after (came r.port from bytes) (run_heard from bytes verdict r ok)
+run_received nothing verdict ok r = run_after (quiet r.port) (run_quiet r ok)
+run_received fault verdict ok r = run_after (failed r.port) (run_quiet r ok)
+
+abbrev pub run_turn : RunAnswers → Run → Ran
+run_turn a r = run_received a.receipt a.verdict a.sent r
+
+pub record IsRunTurn (old new : Run) (calls : List Entry) : Type 0 where
+  pub answers : RunAnswers
+  pub run : new ≡ (run_turn answers old).run
+  pub calls_are : calls ≡ (run_turn answers old).calls
+
+-- a turn was made, and the log has grown by its calls
+pub record MakesRunTurn (old new : Run) (before after : Option (List Entry)) : Type 0 where
+  pub calls : List Entry
+  pub turn : IsRunTurn old new calls
+  pub log : Grows before after calls
+
+-- what the part of a turn after `receive` leaves
+pub record MakesRan (ran : (ok : Bool) → Ran) (new : Run) (before after : Option (List Entry)) : Type 0 where
+  pub ok : Bool
+  pub run : new ≡ (ran ok).run
+  pub log : Grows before after (ran ok).calls
+
+-- turns one after another, as long as the client is not over
+pub data Runs : (turns : ℕ) (old new : Run) (calls : List Entry) → Type 0 where
+  none : (r : Run) → Runs 0 r r []
+  more : {turns : ℕ} {old mid new : Run} {calls added : List Entry} → Runs turns old mid calls → is_over mid.client ≡ false → IsRunTurn mid new added → Runs (turns + 1) old new (calls ++ added)
+
+-- at most this many, until the client is over
+pub record RunsFor (turns : ℕ) (old new : Run) (calls : List Entry) : Type 0 where
+  pub made : ℕ
+  pub most : made ≤ turns
+  pub runs : Runs made old new calls
+  pub ends : (is_over new.client ≡ true) ⊎ (made ≡ turns)
+
+pub record MakesRunTurns (turns : ℕ) (old new : Run) (before after : Option (List Entry)) : Type 0 where
+  pub calls : List Entry
+  pub runs : RunsFor turns old new calls
+  pub log : Grows before after calls
+
+-- ---- the end of a run
+
+abbrev pub fault_of : Cause → RunFault
+fault_of (cause.Refused code) = fails.Transfer (cause.Refused code)
+fault_of cause.TimedOut = fails.Transfer cause.TimedOut
+fault_of cause.TooLong = fails.Transfer cause.TooLong
+fault_of cause.Memory = fails.Memory
+
+-- A client that still runs when its turns are used up has timed out.
+abbrev pub unfinished : State → RunFault
+unfinished state.Running = fails.Transfer cause.TimedOut
+unfinished state.Sent = fails.Transfer cause.TimedOut
+unfinished state.Got = fails.Transfer cause.TimedOut
+unfinished (state.Failed why) = fault_of why
+
+-- a put is done exactly if its client ended `Sent`
+abbrev pub put_result : State → (len : ℕ) → Result ℕ RunFault
+put_result state.Running len = Err (unfinished state.Running)
+put_result state.Sent len = Ok len
+put_result state.Got len = Err (unfinished state.Got)
+put_result (state.Failed why) len = Err (fault_of why)
+
+-- What is written of a get, and what it answers: the file where its client has got it, and else nothing.
+abbrev pub Writes : Result (List ℕ) Client → Result ℕ RunFault → (written now : Option (List ℕ)) → Type 0
+Writes (Ok file) (Ok len) written now = (len ≡ length file) × Appends written now file
+Writes (Ok file) (Err e) written now = (e ≡ fails.Write) × AppendsPrefix written now file
+Writes (Err c) (Ok len) written now = ⊥
+Writes (Err c) (Err e) written now = (e ≡ unfinished (state_of c)) × (now ≡ written)
+
+pub record WritesGot (c : Client) (result : Result ℕ RunFault) (written now : Option (List ℕ)) : Type 0 where
+  pub writes : Writes (file_of c) result written now
+
+-- the turns of a put that has begun, and its answer
+pub record EndsPut (run : Run) (turns len : ℕ) (result : Result ℕ RunFault) (before after : Option (List Entry)) : Type 0 where
+  pub last : Run
+  pub made : MakesRunTurns turns run last before after
+  pub result_is : result ≡ put_result (state_of last.client) len
+
+-- the same of a get
+pub record EndsGet (run : Run) (turns : ℕ) (result : Result ℕ RunFault) (before after : Option (List Entry)) (written now : Option (List ℕ)) : Type 0 where
+  pub last : Run
+  pub made : MakesRunTurns turns run last before after
+  pub got : WritesGot last.client result written now
+
+-- a run that has not begun makes no turn and writes nothing
+abbrev pub PutAfter : Result Run RunFault → (turns len : ℕ) → Result ℕ RunFault → (mid after : Option (List Entry)) → Type 0
+PutAfter (Ok run) turns len result mid after = EndsPut run turns len result mid after
+PutAfter (Err e) turns len result mid after = (result ≡ Err e) × (after ≡ mid)
+
+abbrev pub GetAfter : Result Run RunFault → (turns : ℕ) → Result ℕ RunFault → (mid after : Option (List Entry)) → (written now : Option (List ℕ)) → Type 0
+GetAfter (Ok run) turns result mid after written now = EndsGet run turns result mid after written now
+GetAfter (Err e) turns result mid after written now = (result ≡ Err e) × (after ≡ mid) × (now ≡ written)
+
+-- a whole put: its begin, its turns and its answer
+pub record RunsPut (server : Endpoint) (file : List ℕ) (turns : ℕ) (result : Result ℕ RunFault) (before after : Option (List Entry)) : Type 0 where
+  pub begun : Result Run RunFault
+  pub mid : Option (List Entry)
+  pub begins : Begins server (put file) begun before mid
+  pub ends : PutAfter begun turns (length file) result mid after
+
+-- a whole get
+pub record RunsGet (server : Endpoint) (kind : Ruleset) (turns : ℕ) (result : Result ℕ RunFault) (before after : Option (List Entry)) (written now : Option (List ℕ)) : Type 0 where
+  pub begun : Result Run RunFault
+  pub mid : Option (List Entry)
+  pub begins : Begins server (get kind) begun before mid
+  pub ends : GetAfter begun turns result mid after written now
+
+-- in the middle of a run
+pub record MakesSome (turns : ℕ) (old new : Run) (before after : Option (List Entry)) : Type 0 where
+  pub calls : List Entry
+  pub runs : Runs turns old new calls
+  pub log : Grows before after calls

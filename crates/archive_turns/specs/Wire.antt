@@ -1,0 +1,48 @@
+-- The log of a wire: one entry for each call, with what the call was given and what it answered. A contract over any
+-- wire says by which entries the log grew.
+use Rattle.std.specs.Prelude.{◌≡◌, ℕ, Bool, true, false, List, ◌++◌, take, Option, None, Some, Result, Ok, Err}
+use Rattle.tftp_packet.specs.declared.endpoint.Endpoint.{Endpoint}
+use Rattle.tftp_packet.specs.declared.out.Out.{Out}
+use Rattle.archive_turns.specs.declared.wire_fault.WireFault.{WireFault}
+
+pub data Entry : Type 0 where
+  -- `open`: the port, or none where that failed
+  opened : (port : Option ℕ) → Entry
+  -- `close`, and whether it was done
+  closed : (port : ℕ) (ok : Bool) → Entry
+  -- `receive`: a datagram of these bytes has come to the port
+  came : (port : ℕ) (from : Endpoint) (bytes : List ℕ) → Entry
+  -- `receive`: nothing has come to the port
+  quiet : (port : ℕ) → Entry
+  -- `receive`: it failed at the port
+  failed : (port : ℕ) → Entry
+  -- `send`, and whether it was done
+  sent : (out : Out) (ok : Bool) → Entry
+  -- `wait` for a port after this one, until this moment: the port that is ready, and the time
+  waited : (after : ℕ) (until : Option ℕ) (ready : Option ℕ) (now : ℕ) → Entry
+
+-- ---- the entry of a call, by its answer
+
+abbrev pub port_opened : Result ℕ WireFault → Option ℕ
+port_opened (Ok port) = Some port
+port_opened (Err e) = None
+
+abbrev pub was_done : Result (Unit {0}) WireFault → Bool
+was_done (Ok done) = true
+was_done (Err e) = false
+
+abbrev pub received : (port : ℕ) → Result (Option (ℕ × Endpoint)) WireFault → (buffer : List ℕ) → Entry
+received port (Ok None) buffer = quiet port
+received port (Ok (Some got)) buffer = came port got.1 (take got.0 buffer)
+received port (Err e) buffer = failed port
+
+-- ---- how a log grows
+
+abbrev pub IsGrown : (old : Option (List Entry)) → (new added : List Entry) → Type 0
+IsGrown None new added = ⊥
+IsGrown (Some old) new added = new ≡ old ++ added
+
+-- Where the log is told afterwards, it was told before and has grown by these entries. So a wire that has stopped telling
+-- its log never tells it again.
+pub record Grows (old new : Option (List Entry)) (added : List Entry) : Type 0 where
+  pub told : (log : List Entry) → new ≡ Some log → IsGrown old log added

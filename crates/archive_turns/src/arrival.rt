@@ -1,0 +1,15 @@
+ghost use Rattle.std.specs.Prelude.{◌≤◌, length};
+
+use std::alloc::{Allocator, Global};
+use tftp_packet::Endpoint;
+use tws_file::Bytes;
+
+// A datagram that has come to a port and was not received yet.
+#[derive(Drop)]
+#[derive_where(Debug)]
+pub(crate) struct Arrival<A: Allocator = Global> {
+    pub(crate) port: u16,
+    pub(crate) from: Endpoint,
+    pub(crate) bytes: Bytes<A>,
+    ghost short: { length bytes ≤ 517 },
+}

@@ -1,0 +1,146 @@
+// A server and a client, each at a wire in memory, with what one sends carried to the other: files of many sizes, and the
+// same with each datagram carried twice.
+use super::*;
+use crate::test_wires::*;
+use archive_client::State;
+use archive_table::NoKeeper;
+use std::alloc::{AllocError, Global};
+use std::test::Fail;
+use tftp_packet::Endpoint;
+use tws_file::Ruleset;
+
+// The header of a Lynx file without records.
+const HEADER: &[u8; 8] = b"\x35\x33\x9B\x99\x01\0\0\0";
+
+// More turns than any of these runs needs.
+const TURNS: u32 = 4000;
+
+// The log of one wire up to here was carried; each datagram after it goes to the other wire, as often as this.
+fn carry(
+    alloc: Global,
+    from: &MemoryWire,
+    host: u32,
+    carried: usize,
+    times: u8,
+    to: &mut MemoryWire,
+) -> Result<usize, Fail> {
+    let log = from.log();
+    for entry in log.iter().skip(carried) {
+        if let Entry::Sent { out, .. } = entry {
+            let source = Endpoint {
+                host,
+                port: out.from_port,
+            };
+            for _ in 0..times {
+                to.arrive(alloc, out.to.port, source, out.dgram.bytes())?;
+            }
+        }
+    }
+    Ok(log.len())
+}
+
+// A Lynx file with so many bytes of records: of one solution, if that is enough for one.
+fn file_of(alloc: Global, size: usize) -> Result<Vec<u8>, AllocError> {
+    let mut bytes = Vec::from_slice(alloc, HEADER)?;
+    if size < 20 {
+        for _ in 0..size {
+            bytes.push(0)?;
+        }
+        return Ok(bytes);
+    }
+    bytes.extend_from_slice(&((size - 4) as u32).to_le_bytes())?;
+    bytes.extend_from_slice(b"\x01\0BDHP\0\0\0\0\0\0\x64\0\0\0")?;
+    for _ in 20..size {
+        bytes.push(0x61)?;
+    }
+    Ok(bytes)
+}
+
+// Puts a file: how many files the server took.
+fn put(
+    alloc: Global,
+    server: &mut Server,
+    wire: &mut MemoryWire,
+    file: Vec<u8>,
+    times: u8,
+) -> Result<u64, Fail> {
+    let mut line = wire_of(alloc, &[5000])?;
+    let Ok(mut run) = PutRun::begin(&mut line, SERVER, file) else {
+        return Err(Fail::new("not begun"));
+    };
+    let (mut sent, mut answered, mut taken) = (0, wire.log().len(), 0u64);
+    for _ in 0..TURNS {
+        sent = carry(alloc, &line, 2, sent, times, wire)?;
+        if server.turn(wire, &mut NoKeeper) {
+            taken = taken.saturating_add(1);
+        }
+        answered = carry(alloc, wire, 1, answered, times, &mut line)?;
+        run.turn(&mut line);
+        if run.client().over() {
+            break;
+        }
+    }
+    if run.client().state() == State::Sent {
+        Ok(taken)
+    } else {
+        Err(Fail::new("not sent"))
+    }
+}
+
+// Gets the Lynx collection.
+fn get(
+    alloc: Global,
+    server: &mut Server,
+    wire: &mut MemoryWire,
+    times: u8,
+) -> Result<Vec<u8>, Fail> {
+    let mut line = wire_of(alloc, &[5001])?;
+    let Ok(mut run) = GetRun::begin(alloc, &mut line, SERVER, Ruleset::Lynx) else {
+        return Err(Fail::new("not begun"));
+    };
+    let (mut sent, mut answered) = (0, wire.log().len());
+    for _ in 0..TURNS {
+        sent = carry(alloc, &line, 2, sent, times, wire)?;
+        server.turn(wire, &mut NoKeeper);
+        answered = carry(alloc, wire, 1, answered, times, &mut line)?;
+        run.turn(&mut line);
+        if run.client().state() == State::Got {
+            break;
+        }
+    }
+    match run.into_client().into_file() {
+        Ok(file) => Ok(file.to_vec(alloc)?),
+        Err(_) => Err(Fail::new("not fetched")),
+    }
+}
+
+// A put and a get of a file with so many bytes of records. What is fetched is the file, or no more than its header where
+// its records are too few for a solution.
+fn there_and_back(alloc: Global, size: usize, times: u8) -> Result<bool, Fail> {
+    let file = file_of(alloc, size)?;
+    let want = if size < 20 { HEADER.as_slice() } else { file.as_slice() };
+    let mut server = Server::new(alloc, 6969);
+    let mut wire = wire_of(alloc, &[4000, 4001, 4002, 4003])?;
+    let copy = Vec::from_slice(alloc, file.as_slice())?;
+    if put(alloc, &mut server, &mut wire, copy, times)? != 1 {
+        return Ok(false);
+    }
+    let got = get(alloc, &mut server, &mut wire, times)?;
+    Ok(got.as_slice() == want)
+}
+
+#[test]
+fn files_of_many_sizes(rt: HostRuntime) -> Result<(), Fail> {
+    for size in [0, 1, 511, 512, 513, 100_000] {
+        assert!(rt; there_and_back(rt.alloc(), size, 1)?);
+    }
+    Ok(())
+}
+
+#[test]
+fn files_of_many_sizes_carried_twice(rt: HostRuntime) -> Result<(), Fail> {
+    for size in [0, 1, 511, 512, 513, 100_000] {
+        assert!(rt; there_and_back(rt.alloc(), size, 2)?);
+    }
+    Ok(())
+}

@@ -1,0 +1,51 @@
+//! The running archive over any wire: one turn of a server or of a client, and the loops over them.
+//!
+//! `specs/Turn.antt` is the file to read first: which calls of the wire a turn makes, and which steps of the table.
+//! `specs/Wire.antt` has the log in which a wire tells its calls.
+#![tactic(auto)]
+
+mod arrival;
+mod change;
+mod entry;
+mod get_run;
+mod laws;
+mod limits;
+mod memory_wire;
+mod put_run;
+mod ready_server;
+mod ready_wire;
+mod run_fault;
+mod runs;
+mod serve;
+mod server;
+mod timer;
+mod timers;
+mod visit;
+mod wire;
+mod wire_fault;
+
+pub use entry::Entry;
+pub use get_run::GetRun;
+pub use laws::limit_values;
+pub use limits::{QUIET_TURNS, TIMEOUT};
+pub use memory_wire::MemoryWire;
+pub use put_run::PutRun;
+pub use ready_server::ReadyServer;
+pub use ready_wire::{Ready, ReadyWire};
+pub use run_fault::RunFault;
+pub use runs::{run_get, run_put};
+pub use serve::{serve_ready, serve_turns};
+pub use server::Server;
+pub use wire::{RECEIVE_SIZE, Wire};
+pub use wire_fault::WireFault;
+
+#[cfg(test)]
+mod join_tests;
+#[cfg(test)]
+mod ready_tests;
+#[cfg(test)]
+mod run_tests;
+#[cfg(test)]
+mod test_wires;
+#[cfg(test)]
+mod tests;

@@ -1,0 +1,307 @@
+//! A wire in memory, for tests: it gives what was put into it, and tells its log.
+
+ghost use Rattle.std.specs.Prelude.{◌≡◌, ◌==◌, ◌≤◌, ◌<◌, slice_get, [], ◌∷◌, length, true, OnOk, OnErr, IfOk, IfErr, IfSome, is_ok, if◌then◌else◌};
+ghost use Rattle.archive_table.specs.Keeper.{FailsAt};
+ghost use Rattle.archive_turns.specs.Noted.{entry_of, entries_of, arrives, counts_call, rises, notes, log_of, SameLog};
+ghost use Rattle.archive_turns.specs.Wire.{Grows, received, quiet, failed};
+
+use crate::arrival::Arrival;
+use crate::entry::Entry;
+use crate::ready_wire::{Ready, ReadyWire};
+use crate::wire::{RECEIVE_SIZE, Wire};
+use crate::wire_fault::WireFault;
+use std::alloc::{AllocError, Allocator, Global};
+use std::marker::Model;
+use tftp_packet::{Endpoint, Out};
+use tws_file::Bytes;
+
+/// A wire in memory. It gives the datagrams that were put into it, sends nothing anywhere, and has a log of all calls.
+#[derive(Drop)]
+#[derive_where(Debug)]
+pub struct MemoryWire<A: Allocator = Global> {
+    opens: Vec<u16, A>,
+    inbox: Vec<Arrival<A>, A>,
+    log: Vec<Entry<A>, A>,
+    telling: bool,
+    failures: u64,
+    fails_in: u64,
+    time: u64,
+}
+
+impl<A: Allocator> Model for MemoryWire<A> {
+    ghost use Rattle.archive_turns.specs.Noted.{Memory, memory_of};
+
+    ghost Value = { Memory };
+
+    ghost view = { memory_of };
+}
+
+impl<A: Allocator + Copy> MemoryWire<A> {
+    /// A wire whose `open` gives these ports, in order, and to which nothing has come. Its clock is at 0.
+    pub fn new(alloc: A, opens: Vec<u16, A>) -> Self
+        ensures { result ≡ record { opens = opens.items; inbox = []; log = []; telling = true; failures = 0; fails_in = 0; time = 0 } }
+    {
+        MemoryWire {
+            opens,
+            inbox: Vec::new(alloc),
+            log: Vec::new(alloc),
+            telling: true,
+            failures: 0,
+            fails_in: 0,
+            time: 0,
+        }
+    }
+
+    /// A datagram comes to a port. `receive` gives it after those that came to the port before.
+    ///
+    /// # Errors
+    ///
+    /// Out of memory: nothing has come.
+    pub fn arrive(
+        &mut self,
+        alloc: A,
+        port: u16,
+        from: Endpoint,
+        bytes: &[u8],
+    ) -> Result<(), AllocError>
+        requires { length bytes.now ≤ RECEIVE_SIZE }
+        ensures ok { OnOk result (self.new ≡ arrives port from bytes.now self.old) }
+        ensures err { OnErr result (self.new ≡ self.old) }
+    {
+        let bytes = Bytes::of(Vec::from_slice(alloc, bytes)?);
+        self.inbox.push(Arrival { port, from, bytes })?;
+        Ok(())
+    }
+
+    /// Lets call number `n` from now fail, counted from 1 over `open`, `close`, `receive` and `send`. It takes no port and
+    /// no datagram. This replaces what an earlier call of `fail_at` asked for; 0 lets none fail.
+    pub fn fail_at(&mut self, n: u64)
+        ensures { self.new ≡ record self.old { fails_in = n } }
+    {
+        self.fails_in = n;
+    }
+
+    /// Sets the clock.
+    pub fn set_time(&mut self, time: u64)
+        ensures { self.new ≡ record self.old { time = time } }
+    {
+        self.time = time;
+    }
+
+    /// An entry for each call, in order, as long as `telling`.
+    pub fn log(&self) -> &[Entry<A>]
+        ensures { entries_of result.now ≡ self.now.log }
+    {
+        self.log.as_slice()
+    }
+
+    /// Whether the log has an entry for each call. It has not once there was no memory for an entry.
+    pub fn telling(&self) -> bool
+        ensures { result ≡ self.now.telling }
+    {
+        self.telling
+    }
+}
+
+// Where the oldest datagram is that has come to a port.
+fn first_at<A: Allocator>(inbox: &[Arrival<A>], port: u16) -> Option<usize>
+    ensures within { IfSome result (λ i. i < length inbox.now) }
+    ensures port { IfSome result (λ i. (a : _) → slice_get inbox.now i ≡ Some a → a.port ≡ port) }
+{
+    for (i, arrival) in inbox.iter().enumerate() {
+        if arrival.port == port {
+            return Some(i);
+        }
+    }
+    None
+}
+
+impl<A: Allocator> MemoryWire<A> {
+    // Whether this call is to fail.
+    fn is_failing(&mut self) -> bool
+        ensures result { result ≡ (self.old.fails_in == 1) }
+        ensures left { self.new ≡ counts_call self.old }
+    {
+        let failing = self.fails_in == 1;
+        if self.fails_in > 0 {
+            self.fails_in -= 1;
+        }
+        failing
+    }
+
+    // One more failure.
+    fn rise(&mut self)
+        ensures { self.new ≡ rises self.old }
+    {
+        if self.failures < u64::MAX {
+            self.failures += 1;
+        }
+    }
+
+    // Writes a call down; false where there is no memory for that.
+    fn note(&mut self, entry: Entry<A>) -> bool
+        ensures { self.new ≡ notes result (entry_of entry) self.old }
+    {
+        let done = self.log.push(entry).is_ok();
+        if !done {
+            self.telling = false;
+        }
+        done
+    }
+
+    // The next port to be opened, unless this call is to fail or there is none.
+    fn take_port(&mut self) -> Option<u16>
+        ensures { SameLog self.old self.new }
+    {
+        if self.is_failing() || self.opens.is_empty() {
+            return None;
+        }
+        Some(self.opens.remove(0))
+    }
+
+    // The oldest datagram that has come to a port, which leaves the inbox.
+    fn take_arrival(&mut self, port: u16) -> Option<Arrival<A>>
+        ensures { SameLog self.old self.new }
+    {
+        let i = first_at(self.inbox.as_slice(), port)?;
+        Some(self.inbox.remove(i))
+    }
+
+    // Tells the caller of `receive` that nothing has come.
+    fn give_none(&mut self, port: u16) -> Result<Option<(usize, Endpoint)>, WireFault>
+        ensures log { Grows (log_of self.old) (log_of self.new) ((if is_ok result then quiet port else failed port) ∷ []) }
+        ensures none { IfOk result (λ got. got ≡ None) }
+        ensures fault { IfErr result (λ e. e ≡ WireFault.Receive) }
+        ensures failed { OnErr result (FailsAt self.old.failures self.new.failures) }
+    {
+        if self.note(Entry::Quiet(port)) {
+            return Ok(None);
+        }
+        self.rise();
+        Err(WireFault::Receive)
+    }
+
+    // Gives a datagram to the caller of `receive`.
+    fn give(
+        &mut self,
+        port: u16,
+        arrival: Arrival<A>,
+        buffer: &mut [u8; RECEIVE_SIZE],
+    ) -> Result<Option<(usize, Endpoint)>, WireFault>
+        ensures log { Grows (log_of self.old) (log_of self.new) (received port result buffer.new ∷ []) }
+        ensures count { IfOk result (λ got. IfSome got (λ g. g.0 ≤ RECEIVE_SIZE)) }
+        ensures fault { IfErr result (λ e. e ≡ WireFault.Receive) }
+        ensures failed { OnErr result (FailsAt self.old.failures self.new.failures) }
+    {
+        let Arrival { from, bytes, .. } = arrival;
+        let count = bytes.len();
+        buffer[..count].copy_from_slice(bytes.as_slice());
+        if self.note(Entry::Came { port, from, bytes }) {
+            return Ok(Some((count, from)));
+        }
+        self.rise();
+        Err(WireFault::Receive)
+    }
+}
+
+impl<A: Allocator> Wire for MemoryWire<A> {
+    ghost use Rattle.archive_turns.specs.Noted.{log_of};
+
+    ghost log = { log_of };
+
+    ghost failed = { λ w. w.failures };
+
+    fn open(&mut self) -> Result<u16, WireFault> {
+        let port = self.take_port();
+        if self.note(Entry::Opened(port)) {
+            if let Some(port) = port {
+                return Ok(port);
+            }
+        }
+        self.rise();
+        Err(WireFault::Open)
+    }
+
+    fn close(&mut self, port: u16) -> Result<(), WireFault> {
+        let ok = !self.is_failing();
+        if self.note(Entry::Closed(port, ok)) && ok {
+            return Ok(());
+        }
+        self.rise();
+        Err(WireFault::Close)
+    }
+
+    fn receive(
+        &mut self,
+        port: u16,
+        buffer: &mut [u8; RECEIVE_SIZE],
+    ) -> Result<Option<(usize, Endpoint)>, WireFault> {
+        if self.is_failing() {
+            self.note(Entry::Failed(port));
+            self.rise();
+            return Err(WireFault::Receive);
+        }
+        match self.take_arrival(port) {
+            Some(arrival) => self.give(port, arrival, buffer),
+            None => self.give_none(port),
+        }
+    }
+
+    fn send(&mut self, out: &Out) -> Result<(), WireFault> {
+        let ok = !self.is_failing();
+        let Ok(out) = out.clone() else {
+            unreachable!();
+        };
+        if self.note(Entry::Sent { out, ok }) && ok {
+            return Ok(());
+        }
+        self.rise();
+        Err(WireFault::Send)
+    }
+
+    fn failures(&self) -> u64 {
+        self.failures
+    }
+}
+
+// The lesser of a port and the least so far.
+fn lesser(least: Option<u16>, port: u16) -> Option<u16> {
+    match least {
+        Some(least) => Some(least.min(port)),
+        None => Some(port),
+    }
+}
+
+// The least port above this one to which something has come, or the least of all.
+fn next_at<A: Allocator>(inbox: &[Arrival<A>], after: u16) -> Option<u16> {
+    let mut above = None;
+    let mut least = None;
+    for arrival in inbox {
+        least = lesser(least, arrival.port);
+        if arrival.port > after {
+            above = lesser(above, arrival.port);
+        }
+    }
+    above.or(least)
+}
+
+impl<A: Allocator> ReadyWire for MemoryWire<A> {
+    // Where nothing has come, the clock goes on to the moment that is waited for.
+    fn wait(&mut self, after: u16, until: Option<u64>) -> Ready {
+        let ready = next_at(self.inbox.as_slice(), after);
+        if let (None, Some(until)) = (ready, until) {
+            self.time = self.time.max(until);
+        }
+        let now = self.time;
+        self.note(Entry::Waited {
+            after,
+            until,
+            ready,
+            now,
+        });
+        Ready {
+            port: ready,
+            time: now,
+        }
+    }
+}

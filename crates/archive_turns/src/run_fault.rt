@@ -1,0 +1,19 @@
+use archive_client::Cause;
+use thiserror::Error;
+
+/// Why a run of a client did not do what it was to do.
+#[derive(Clone, Copy, Debug, PartialEq, Eq, Error)]
+pub enum RunFault {
+    /// No port was opened.
+    #[error("Socket")]
+    Socket,
+    /// The transfer failed, or had not ended when its turns were used up.
+    #[error("{0}")]
+    Transfer(Cause),
+    /// Out of memory for what came.
+    #[error("Memory")]
+    Memory,
+    /// The file was not written to its end.
+    #[error("Write")]
+    Write,
+}

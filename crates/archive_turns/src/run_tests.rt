@@ -1,0 +1,130 @@
+// Runs of clients over wires in memory.
+use super::*;
+use crate::test_wires::*;
+use archive_client::Cause;
+use std::test::Fail;
+use tftp_packet::Endpoint;
+use tws_file::Ruleset;
+
+#[test]
+fn a_put_of_one_whole_block(rt: HostRuntime) -> Result<(), Fail> {
+    let mut wire = wire_of(rt.alloc(), &[5000])?;
+    let peer = Endpoint {
+        host: 1,
+        port: 4000,
+    };
+    for ack in [ACK_0, ACK_1, ACK_2] {
+        wire.arrive(rt.alloc(), 5000, peer, ack)?;
+    }
+    let file = vec![in rt.alloc(); 7; 512]?;
+    assert_eq!(rt; run_put(&mut wire, SERVER, file, 3), Ok(512));
+    assert_eq!(rt; send_count(&wire), 3);
+    Ok(())
+}
+
+#[test]
+fn a_get_in_one_turn(rt: HostRuntime) -> Result<(), Fail> {
+    let mut wire = wire_of(rt.alloc(), &[5000])?;
+    let peer = Endpoint {
+        host: 1,
+        port: 4000,
+    };
+    wire.arrive(rt.alloc(), 5000, peer, DATA_F1)?;
+    let mut out = Vec::new(rt.alloc());
+    let got = run_get(rt.alloc(), &mut wire, SERVER, Ruleset::Lynx, 1, &mut out);
+    assert_eq!(rt; got, Ok(28));
+    assert_eq!(rt; out.as_slice(), F1.as_slice());
+    Ok(())
+}
+
+// Whatever is taken of the file before the writer fails is a prefix of it.
+#[test]
+fn a_get_to_a_writer_that_fails(rt: HostRuntime) -> Result<(), Fail> {
+    for j in 0..28usize {
+        let mut wire = wire_of(rt.alloc(), &[5000])?;
+        let peer = Endpoint {
+            host: 1,
+            port: 4000,
+        };
+        wire.arrive(rt.alloc(), 5000, peer, DATA_F1)?;
+        let mut room = [0u8; 28];
+        let mut out = &mut room[..j];
+        let got = run_get(rt.alloc(), &mut wire, SERVER, Ruleset::Lynx, 1, &mut out);
+        assert_eq!(rt; got, Err(RunFault::Write));
+        assert_eq!(rt; &room[..j], &F1[..j]);
+    }
+    Ok(())
+}
+
+#[test]
+fn a_put_without_a_port(rt: HostRuntime) -> Result<(), Fail> {
+    let mut wire = wire_of(rt.alloc(), &[5000])?;
+    wire.fail_at(1);
+    let file = Vec::from_slice(rt.alloc(), F1)?;
+    assert_eq!(rt; run_put(&mut wire, SERVER, file, 9), Err(RunFault::Socket));
+    Ok(())
+}
+
+// The request that was lost goes out again in turn 200.
+#[test]
+fn a_put_whose_request_is_not_sent(rt: HostRuntime) -> Result<(), Fail> {
+    for (turns, sent) in [(199, 1), (200, 2)] {
+        let mut wire = wire_of(rt.alloc(), &[5000])?;
+        wire.fail_at(2);
+        let file = Vec::from_slice(rt.alloc(), F1)?;
+        let answer = run_put(&mut wire, SERVER, file, turns);
+        assert_eq!(rt; answer, Err(RunFault::Transfer(Cause::TimedOut)));
+        assert_eq!(rt; send_count(&wire), sent);
+        assert_eq!(rt; wire.failures(), 1);
+    }
+    Ok(())
+}
+
+#[test]
+fn a_put_that_is_never_answered(rt: HostRuntime) -> Result<(), Fail> {
+    for (turns, sent) in [(0, 1), (799, 4), (999, 5), (1000, 5)] {
+        let mut wire = wire_of(rt.alloc(), &[5000])?;
+        let file = Vec::from_slice(rt.alloc(), F1)?;
+        let answer = run_put(&mut wire, SERVER, file, turns);
+        assert_eq!(rt; answer, Err(RunFault::Transfer(Cause::TimedOut)));
+        assert_eq!(rt; send_count(&wire), sent);
+    }
+    Ok(())
+}
+
+#[test]
+fn a_put_that_is_too_long(rt: HostRuntime) -> Result<(), Fail> {
+    let mut wire = wire_of(rt.alloc(), &[5000])?;
+    let file = vec![in rt.alloc(); 7; 33553920]?;
+    let answer = run_put(&mut wire, SERVER, file, 9);
+    assert_eq!(rt; answer, Err(RunFault::Transfer(Cause::TooLong)));
+    let [opened, closed] = wire.log() else {
+        return Err(Fail::new("other calls"));
+    };
+    assert!(rt; is_opened(opened, Some(5000)));
+    assert!(rt; matches!(closed, Entry::Closed(5000, true)));
+    Ok(())
+}
+
+#[test]
+fn a_put_that_is_refused(rt: HostRuntime) -> Result<(), Fail> {
+    let mut wire = wire_of(rt.alloc(), &[5000])?;
+    wire.arrive(rt.alloc(), 5000, SERVER, b"\0\x05\0\x02no\0")?;
+    let file = Vec::from_slice(rt.alloc(), F1)?;
+    let answer = run_put(&mut wire, SERVER, file, 9);
+    assert_eq!(rt; answer, Err(RunFault::Transfer(Cause::Refused(2))));
+    Ok(())
+}
+
+#[test]
+fn faults_by_name(rt: HostRuntime) -> Result<(), Fail> {
+    for (fault, name) in [
+        (RunFault::Socket, "Socket"),
+        (RunFault::Transfer(Cause::TimedOut), "timed out"),
+        (RunFault::Memory, "Memory"),
+        (RunFault::Write, "Write"),
+    ] {
+        assert_eq!(rt; format!(in rt.alloc(); "{fault}")?.as_str(), name);
+    }
+    Ok(())
+}

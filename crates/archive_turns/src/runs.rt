@@ -1,0 +1,132 @@
+//! Whole runs of clients.
+
+ghost use Rattle.std.specs.Prelude.{◌≡◌};
+ghost use Rattle.archive_turns.specs.Run.{RunsPut, RunsGet, EndsPut, EndsGet, WritesGot, put_result, fault_of, unfinished};
+
+use crate::get_run::GetRun;
+use crate::put_run::PutRun;
+use crate::run_fault::RunFault;
+use crate::wire::Wire;
+use archive_client::{Cause, Get, State};
+use std::alloc::Allocator;
+use std::io::Write;
+use tftp_packet::Endpoint;
+use tws_file::Ruleset;
+
+// Why a client failed.
+fn fault(why: Cause) -> RunFault
+    ensures { result ≡ fault_of why }
+{
+    match why {
+        Cause::Memory => RunFault::Memory,
+        Cause::Refused(_) | Cause::TimedOut | Cause::TooLong => RunFault::Transfer(why),
+    }
+}
+
+// What a put answers whose client is so far.
+fn put_answer(state: State, len: u64) -> Result<u64, RunFault>
+    ensures { result ≡ put_result state len }
+{
+    match state {
+        State::Sent => Ok(len),
+        State::Running | State::Got => Err(RunFault::Transfer(Cause::TimedOut)),
+        State::Failed(why) => Err(fault(why)),
+    }
+}
+
+/// Puts a file: begins, and makes turns until the client is over, at most this many. Answers how many bytes it has. The
+/// server is at the host and the request port of `server`.
+///
+/// # Errors
+///
+/// Those of `PutRun::begin`. Else the cause with which the client failed, out of memory as `Memory`; a client that still
+/// runs when its turns are used up has timed out.
+pub fn run_put<A: Allocator + Copy, W: Wire>(
+    wire: &mut W,
+    server: Endpoint,
+    file: Vec<u8, A>,
+    turns: u64,
+) -> Result<u64, RunFault>
+    ensures { RunsPut server file.items turns result (W.log wire.old) (W.log wire.new) }
+{
+    let len = file.len() as u64;
+    match PutRun::begin(wire, server, file) {
+        Ok(run) => end_put(wire, run, len, turns),
+        Err(fault) => Err(fault),
+    }
+}
+
+// The turns of a put that has begun, and what it answers.
+fn end_put<A: Allocator + Copy, W: Wire>(
+    wire: &mut W,
+    run: PutRun<A>,
+    len: u64,
+    turns: u64,
+) -> Result<u64, RunFault>
+    ensures { EndsPut run turns len result (W.log wire.old) (W.log wire.new) }
+{
+    let mut run = run;
+    run.turns(wire, turns);
+    put_answer(run.client().state(), len)
+}
+
+/// Gets the collection of a ruleset and writes it: begins, and makes turns until the client is over, at most this many;
+/// then writes what came, if all of it came. Answers how many bytes it has.
+///
+/// # Errors
+///
+/// `Socket` where no port was opened; the cause with which the client failed, out of memory as `Memory`; a client that
+/// still waits for the file when its turns are used up has timed out. Then nothing is written. `Write` where the writer
+/// fails: a proper prefix of the file was written.
+pub fn run_get<A: Allocator + Copy, W: Wire, O: Write>(
+    alloc: A,
+    wire: &mut W,
+    server: Endpoint,
+    kind: Ruleset,
+    turns: u64,
+    out: &mut O,
+) -> Result<u64, RunFault>
+    ensures { RunsGet server kind turns result (W.log wire.old) (W.log wire.new) (O.contents out.old) (O.contents out.new) }
+{
+    match GetRun::begin(alloc, wire, server, kind) {
+        Ok(run) => end_get(wire, run, turns, out),
+        Err(fault) => Err(fault),
+    }
+}
+
+// The turns of a get that has begun, and what it writes and answers.
+fn end_get<A: Allocator + Copy, W: Wire, O: Write>(
+    wire: &mut W,
+    run: GetRun<A>,
+    turns: u64,
+    out: &mut O,
+) -> Result<u64, RunFault>
+    ensures { EndsGet run turns result (W.log wire.old) (W.log wire.new) (O.contents out.old) (O.contents out.new) }
+{
+    let mut run = run;
+    run.turns(wire, turns);
+    write_got(run.into_client(), out)
+}
+
+// Writes what a get has got.
+fn write_got<A: Allocator + Copy, O: Write>(get: Get<A>, out: &mut O) -> Result<u64, RunFault>
+    ensures { WritesGot get result (O.contents out.old) (O.contents out.new) }
+{
+    match get.into_file() {
+        Ok(file) => match file.write_to(out) {
+            Ok(()) => Ok(file.len()),
+            Err(_) => Err(RunFault::Write),
+        },
+        Err(get) => Err(get_fault(get.state())),
+    }
+}
+
+// Why a get whose client is so far has no file.
+fn get_fault(state: State) -> RunFault
+    ensures { result ≡ unfinished state }
+{
+    match state {
+        State::Failed(why) => fault(why),
+        State::Running | State::Sent | State::Got => RunFault::Transfer(Cause::TimedOut),
+    }
+}

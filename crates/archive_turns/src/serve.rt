@@ -1,0 +1,51 @@
+ghost use Rattle.std.specs.Prelude.{◌≡◌, ◌<◌, ◌≤◌, ◌+◌};
+ghost use Rattle.archive_turns.specs.Ready.{MakesRounds};
+ghost use Rattle.archive_turns.specs.Turn.{MakesTurns, count_if};
+
+use crate::ready_server::ReadyServer;
+use crate::ready_wire::ReadyWire;
+use crate::server::Server;
+use crate::wire::Wire;
+use archive_table::Keeper;
+use std::alloc::Allocator;
+
+// One more file is taken, or none.
+fn counted(taken: u64, took: bool) -> u64
+    requires { taken < u64.MAX }
+    ensures count { result ≡ count_if took taken }
+    ensures few { result ≤ taken + 1 }
+{
+    if took { taken + 1 } else { taken }
+}
+
+/// Makes this many turns of a server. Answers how many files were taken.
+pub fn serve_turns<A: Allocator + Copy, W: Wire, K: Keeper>(
+    wire: &mut W,
+    keeper: &mut K,
+    server: &mut Server<A>,
+    turns: u64,
+) -> u64
+    ensures { MakesTurns turns server.old server.new result (W.log wire.old) (W.log wire.new) (K.log keeper.old) (K.log keeper.new) }
+{
+    let mut taken = 0;
+    for _turn in 0..turns {
+        taken = counted(taken, server.turn(wire, keeper));
+    }
+    taken
+}
+
+/// Makes this many rounds of a server that waits for ready ports. Answers how many files were taken.
+pub fn serve_ready<A: Allocator + Copy, W: ReadyWire, K: Keeper>(
+    wire: &mut W,
+    keeper: &mut K,
+    server: &mut ReadyServer<A>,
+    rounds: u64,
+) -> u64
+    ensures { MakesRounds rounds server.old server.new result (W.log wire.old) (W.log wire.new) (K.log keeper.old) (K.log keeper.new) }
+{
+    let mut taken = 0;
+    for _round in 0..rounds {
+        taken = counted(taken, server.round(wire, keeper));
+    }
+    taken
+}

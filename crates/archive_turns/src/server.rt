@@ -1,0 +1,173 @@
+//! The server that counts turns.
+
+ghost use Rattle.std.specs.Prelude.{◌≡◌, Err, IfOk, IfErr, []};
+ghost use Rattle.tws_file.specs.declared.«ruleset».Ruleset.TheVariants.{Lynx, Ms};
+ghost use Rattle.archive_table.specs.Server.{IsServer, port_above};
+ghost use Rattle.archive_table.specs.Keeper.{LoadedFrom, TableFails, FailsAt};
+ghost use Rattle.archive_turns.specs.Timers.{ports_of, live_ports, timed, HasRoom};
+ghost use Rattle.archive_turns.specs.Parts.{IsVisit, Ends, Tracks};
+ghost use Rattle.archive_turns.specs.Turn.{MakesTurn, visit_at, visit_asks, noted};
+
+use crate::change::Change;
+use crate::limits::QUIET_TURNS;
+use crate::timers::Timers;
+use crate::visit::{Visit, time_out_due, visit_request, visit_transfer};
+use crate::wire::Wire;
+use archive_table::{KeepFault, Keeper, LoadFault, Table};
+use std::alloc::{Allocator, Global};
+use std::marker::Model;
+
+/// A server whose time is counted in turns: a table, the port that was visited last, and for each live port how many
+/// quiet turns are left until it times out.
+#[derive(Drop)]
+pub struct Server<A: Allocator + Copy = Global> {
+    table: Table<A>,
+    request: u16,
+    last: u16,
+    timers: Timers,
+}
+
+impl<A: Allocator + Copy> Model for Server<A> {
+    ghost use Rattle.std.specs.Prelude.{◌≡◌};
+    ghost use Rattle.archive_turns.specs.Turn.{Counted, IsCounted};
+
+    ghost Value = { Counted };
+
+    ghost use Rattle.archive_turns.specs.Kept.{counted_of};
+
+    ghost view = { counted_of };
+
+    ghost invariant = { λ s. IsCounted (counted_of s) × (s.request ≡ s.table.request) };
+}
+
+// The port that is visited next; none is the request port.
+fn next_port<A: Allocator + Copy>(table: &Table<A>, last: u16) -> Option<u16>
+    ensures { result ≡ port_above last table.now }
+{
+    table.next_port(last)
+}
+
+// A visit to a transfer's port, or to the request port, which is this one.
+fn visit<A: Allocator + Copy, W: Wire, K: Keeper>(
+    table: &mut Table<A>,
+    wire: &mut W,
+    keeper: &mut K,
+    request: u16,
+    port: Option<u16>,
+) -> Visit
+    requires { request ≡ table.old.request }
+    ensures visit { IsVisit (λ a. visit_at port a table.old) (λ a. visit_asks port a table.old) table.old table.new result.taken result.change (W.log wire.old) (W.log wire.new) (K.log keeper.old) (K.log keeper.new) }
+    ensures fits { IsServer table.old → IsServer table.new }
+{
+    match port {
+        Some(port) => visit_transfer(table, wire, keeper, port),
+        None => visit_request(table, wire, request),
+    }
+}
+
+// The port that is noted as the last one.
+fn noted_port(port: Option<u16>) -> u16
+    ensures { result ≡ noted port }
+{
+    match port {
+        Some(port) => port,
+        None => 0,
+    }
+}
+
+// After a visit: the timers follow it, and after a quiet turn those that are due time out.
+fn end_turn<A: Allocator + Copy, W: Wire>(
+    table: &mut Table<A>,
+    wire: &mut W,
+    timers: &mut Timers,
+    change: Change,
+)
+    requires fits { IsServer table.old }
+    requires room { HasRoom change timers.old }
+    requires tracks { ports_of (timed change QUIET_TURNS timers.old) ≡ live_ports table.old }
+    ensures ends { Ends change table.old table.new timers.old timers.new (W.log wire.old) (W.log wire.new) }
+    ensures keeps { Tracks table.old table.new timers.new }
+{
+    match change {
+        Change::Quiet => {
+            timers.lower();
+            time_out_due(table, wire, timers, 0, QUIET_TURNS);
+        }
+        _ => timers.apply(change, QUIET_TURNS),
+    }
+}
+
+impl<A: Allocator + Copy> Server<A> {
+    /// A server with this request port, empty collections and no transfer, which has visited no port yet. It takes no
+    /// memory by this.
+    pub fn new(alloc: A, request: u16) -> Self
+        ensures request { result.table.request ≡ request }
+        ensures lynx { result.table.maps.lynx ≡ record { «ruleset» = Lynx; entries = [] } }
+        ensures ms { result.table.maps.ms ≡ record { «ruleset» = Ms; entries = [] } }
+        ensures live { result.table.live ≡ [] }
+        ensures last { result.last ≡ 0 }
+        ensures timers { result.timers ≡ [] }
+    {
+        Self::of(Table::new(alloc, request), request)
+    }
+
+    /// A server like that of `new`, with the collections that a keeper has, empty where it has none. Nothing is kept by
+    /// this.
+    ///
+    /// # Errors
+    ///
+    /// Those of `Table::load`.
+    pub fn load<K: Keeper>(alloc: A, request: u16, keeper: &mut K) -> Result<Self, LoadFault>
+        ensures request { IfOk result (λ s. s.table.request ≡ request) }
+        ensures lynx { IfOk result (λ s. LoadedFrom Lynx (K.log keeper.old) s.table.maps.lynx) }
+        ensures ms { IfOk result (λ s. LoadedFrom Ms (K.log keeper.old) s.table.maps.ms) }
+        ensures live { IfOk result (λ s. s.table.live ≡ []) }
+        ensures last { IfOk result (λ s. s.last ≡ 0) }
+        ensures timers { IfOk result (λ s. s.timers ≡ []) }
+        ensures fault { IfErr result (TableFails (K.log keeper.old)) }
+        ensures log { K.log keeper.new ≡ K.log keeper.old }
+        ensures failed { result ≡ Err (LoadFault.Keep KeepFault.Device) → FailsAt (K.failed keeper.old) (K.failed keeper.new) }
+    {
+        match Table::load(alloc, request, keeper) {
+            Ok(table) => Ok(Self::of(table, request)),
+            Err(fault) => Err(fault),
+        }
+    }
+
+    // A server with this table, whose request port is this one, before its first turn.
+    fn of(table: Table<A>, request: u16) -> Self
+        requires port { request ≡ table.request }
+        requires idle { table.live ≡ [] }
+        requires fits { IsServer table }
+        ensures { result ≡ record { table = table; last = 0; timers = [] } }
+    {
+        Server {
+            table,
+            request,
+            last: 0,
+            timers: Timers::new(),
+        }
+    }
+
+    /// One turn: visits the port after the last one. Answers whether a file was taken.
+    ///
+    /// A datagram at the request port is answered from a spare port, which is opened for it and closed again unless a
+    /// transfer was opened on it. A turn in which nothing came is quiet; a transfer times out after `QUIET_TURNS` quiet
+    /// turns since it was opened or last sent. What fails on the wire is lost or ignored.
+    pub fn turn<W: Wire, K: Keeper>(&mut self, wire: &mut W, keeper: &mut K) -> bool
+        ensures { MakesTurn self.old self.new result (W.log wire.old) (W.log wire.new) (K.log keeper.old) (K.log keeper.new) }
+    {
+        let port = next_port(&self.table, self.last);
+        let visit = visit(&mut self.table, wire, keeper, self.request, port);
+        self.last = noted_port(port);
+        end_turn(&mut self.table, wire, &mut self.timers, visit.change);
+        visit.taken
+    }
+
+    /// The table.
+    pub fn table(&self) -> &Table<A>
+        ensures { result.now ≡ self.now.table }
+    {
+        &self.table
+    }
+}

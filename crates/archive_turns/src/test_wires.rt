@@ -1,0 +1,113 @@
+// Wires in memory for the tests, the datagrams of a put and a get by hand, RFC 1350, and what a log has.
+use crate::{Entry, MemoryWire};
+use std::alloc::Global;
+use std::test::Fail;
+use tftp_packet::Endpoint;
+
+pub(crate) const SERVER: Endpoint = Endpoint {
+    host: 1,
+    port: 6969,
+};
+
+pub(crate) const C1: Endpoint = Endpoint {
+    host: 2,
+    port: 5000,
+};
+
+pub(crate) const WRQ: &[u8; 19] = b"\0\x02upload.tws\0octet\0";
+
+// A Lynx file: level 1, BDHP, 100 ticks, no moves.
+pub(crate) const F1: &[u8; 28] =
+    b"\x35\x33\x9B\x99\x01\0\0\0\x10\0\0\0\x01\0BDHP\0\0\0\0\0\0\x64\0\0\0";
+
+// DATA 1 with that file.
+pub(crate) const DATA_F1: &[u8; 32] =
+    b"\0\x03\0\x01\x35\x33\x9B\x99\x01\0\0\0\x10\0\0\0\x01\0BDHP\0\0\0\0\0\0\x64\0\0\0";
+
+// The same with 90 ticks.
+pub(crate) const DATA_F2: &[u8; 32] =
+    b"\0\x03\0\x01\x35\x33\x9B\x99\x01\0\0\0\x10\0\0\0\x01\0BDHP\0\0\0\0\0\0\x5A\0\0\0";
+
+pub(crate) const RRQ: &[u8; 17] = b"\0\x01lynx.tws\0octet\0";
+
+pub(crate) const UNKNOWN: &[u8; 21] = b"\0\x05\0\x05unknown transfer\0";
+
+pub(crate) const ACK_0: &[u8; 4] = b"\0\x04\0\0";
+
+pub(crate) const ACK_1: &[u8; 4] = b"\0\x04\0\x01";
+
+pub(crate) const ACK_2: &[u8; 4] = b"\0\x04\0\x02";
+
+pub(crate) fn wire_of(alloc: Global, opens: &[u16]) -> Result<MemoryWire, Fail> {
+    Ok(MemoryWire::new(alloc, Vec::from_slice(alloc, opens)?))
+}
+
+// A wire that opens 4000, with a put of F1 by C1 in two datagrams.
+pub(crate) fn put_wire(alloc: Global, opens: u16) -> Result<MemoryWire, Fail> {
+    let mut wire = wire_of(alloc, &[opens])?;
+    wire.arrive(alloc, 6969, C1, WRQ)?;
+    wire.arrive(alloc, 4000, C1, DATA_F1)?;
+    Ok(wire)
+}
+
+pub(crate) fn is_came(entry: &Entry, at: u16, whom: Endpoint, what: &[u8]) -> bool {
+    match entry {
+        Entry::Came { port, from, bytes } => {
+            *port == at && *from == whom && bytes.as_slice() == what
+        }
+        _ => false,
+    }
+}
+
+pub(crate) fn is_sent(entry: &Entry, from: u16, to: Endpoint, what: &[u8], done: bool) -> bool {
+    match entry {
+        Entry::Sent { out, ok } => {
+            out.from_port == from && out.to == to && out.dgram.bytes() == what && *ok == done
+        }
+        _ => false,
+    }
+}
+
+pub(crate) fn is_opened(entry: &Entry, given: Option<u16>) -> bool {
+    match entry {
+        Entry::Opened(port) => *port == given,
+        _ => false,
+    }
+}
+
+pub(crate) fn is_quiet(entry: &Entry, at: u16) -> bool {
+    match entry {
+        Entry::Quiet(port) => *port == at,
+        _ => false,
+    }
+}
+
+pub(crate) fn is_failed(entry: &Entry, at: u16) -> bool {
+    match entry {
+        Entry::Failed(port) => *port == at,
+        _ => false,
+    }
+}
+
+pub(crate) fn is_send(entry: &Entry) -> bool {
+    match entry {
+        Entry::Sent { .. } => true,
+        _ => false,
+    }
+}
+
+// How many datagrams were sent.
+pub(crate) fn send_count(wire: &MemoryWire) -> usize {
+    wire.log().iter().filter(|entry| is_send(entry)).count()
+}
+
+// Whether this was sent last.
+pub(crate) fn sent_last(wire: &MemoryWire, from: u16, to: Endpoint, what: &[u8]) -> bool {
+    let mut last = false;
+    for entry in wire.log() {
+        if is_send(entry) {
+            last = is_sent(entry, from, to, what, true);
+        }
+    }
+    last
+}

@@ -1,0 +1,8 @@
+/// When the transfer at a live port times out.
+#[derive(Clone, Copy, Debug, Default, PartialEq, Eq)]
+pub(crate) struct Timer {
+    /// The port.
+    pub(crate) port: u16,
+    /// In the counted server how many quiet turns are left; in the ready server the time, in milliseconds.
+    pub(crate) due: u64,
+}

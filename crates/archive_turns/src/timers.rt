@@ -1,0 +1,187 @@
+ghost use Rattle.std.specs.Prelude.{◌≡◌, ℕ, ◌<◌, ◌≤◌, [], length, map, take, drop, IfSome, IfNone};
+ghost use Rattle.std.specs.List.{insert, remove};
+ghost use Rattle.archive_turns.specs.Ready.{earlier, earliest};
+ghost use Rattle.archive_turns.specs.Timers.{with_timer, without_timer, with_due, renewed, lower, lowered, due_ports, timed, timed_out, HasRoom};
+
+use crate::change::Change;
+use crate::timer::Timer;
+use archive_table::LIVE;
+use arrayvec::ArrayVec;
+use std::marker::Model;
+
+/// A timer for each live port, in the order of the ports. They lie in a fixed row of `LIVE` places and take no memory.
+#[derive(Drop)]
+pub(crate) struct Timers {
+    row: ArrayVec<Timer, LIVE>,
+}
+
+impl Model for Timers {
+    ghost use Rattle.std.specs.Prelude.{List};
+    ghost use Rattle.archive_turns.specs.declared.timer.Timer.{Timer};
+
+    ghost Value = { List Timer };
+
+    ghost view = { λ t. t.row.items };
+}
+
+// Where a timer of this port goes.
+fn place_for(row: &[Timer], port: u16) -> usize
+    ensures within { result ≤ length row.now }
+    ensures place { (due : ℕ) → with_timer (record { port = port; due = due }) row.now ≡ insert row.now result (record { port = port; due = due }) }
+{
+    for (i, timer) in row.iter().enumerate() {
+        if timer.port >= port {
+            return i;
+        }
+    }
+    row.len()
+}
+
+// Where the timer of this port is.
+fn place_of(row: &[Timer], port: u16) -> Option<usize>
+    ensures within { IfSome result (λ i. i < length row.now) }
+    ensures place { IfSome result (λ i. without_timer port row.now ≡ remove row.now i) }
+    ensures none { IfNone result (without_timer port row.now ≡ row.now) }
+{
+    for (i, timer) in row.iter().enumerate() {
+        if timer.port == port {
+            return Some(i);
+        }
+    }
+    None
+}
+
+// A timer, which begins anew if it is that of the port.
+fn begun_anew(timer: Timer, port: u16, due: u64) -> Timer
+    ensures { result ≡ renewed port due timer }
+{
+    if timer.port == port {
+        Timer { port, due }
+    } else {
+        timer
+    }
+}
+
+// A timer after one more quiet turn.
+fn one_less(timer: Timer) -> Timer
+    ensures { result ≡ lowered timer }
+{
+    Timer {
+        port: timer.port,
+        due: timer.due.saturating_sub(1),
+    }
+}
+
+// The timer of a port begins anew.
+fn renew_in(row: &mut [Timer], port: u16, due: u64)
+    ensures { row.new ≡ map (renewed port due) row.old }
+{
+    for timer in row.iter_mut() {
+        *timer = begun_anew(*timer, port, due);
+    }
+}
+
+// A quiet turn has passed.
+fn lower_in(row: &mut [Timer])
+    ensures { row.new ≡ map lowered row.old }
+{
+    for timer in row.iter_mut() {
+        *timer = one_less(*timer);
+    }
+}
+
+// The lesser of this time and that of a timer.
+fn earlier_of(least: Option<u64>, timer: Timer) -> Option<u64>
+    ensures { result ≡ earlier least timer }
+{
+    match least {
+        None => Some(timer.due),
+        Some(due) => Some(due.min(timer.due)),
+    }
+}
+
+impl Timers {
+    /// No timer.
+    pub(crate) fn new() -> Self
+        ensures { result ≡ [] }
+    {
+        Timers {
+            row: ArrayVec::new(),
+        }
+    }
+
+    /// What a visit makes of the timers.
+    pub(crate) fn apply(&mut self, change: Change, due: u64)
+        requires { HasRoom change self.old }
+        ensures { self.new ≡ timed change due self.old }
+    {
+        match change {
+            Change::Quiet | Change::Nothing => {}
+            Change::Opened(port) => {
+                let place = place_for(self.row.as_slice(), port);
+                self.row.insert(place, Timer { port, due });
+            }
+            Change::Sent(port) => self.renew(port, due),
+            Change::Closed(port) => self.remove(port),
+        }
+    }
+
+    /// What a time-out of a port makes of the timers.
+    pub(crate) fn apply_timeout(&mut self, change: Change, port: u16, due: u64)
+        ensures { self.new ≡ timed_out change port due self.old }
+    {
+        match change {
+            Change::Closed(port) => self.remove(port),
+            Change::Quiet | Change::Nothing | Change::Opened(_) | Change::Sent(_) => {
+                self.renew(port, due);
+            }
+        }
+    }
+
+    // The timer of a port begins anew.
+    fn renew(&mut self, port: u16, due: u64)
+        ensures { self.new ≡ with_due port due self.old }
+    {
+        renew_in(self.row.as_mut_slice(), port, due);
+    }
+
+    // A port needs no timer any more.
+    fn remove(&mut self, port: u16)
+        ensures { self.new ≡ without_timer port self.old }
+    {
+        if let Some(place) = place_of(self.row.as_slice(), port) {
+            self.row.remove(place);
+        }
+    }
+
+    /// A quiet turn has passed.
+    pub(crate) fn lower(&mut self)
+        ensures { self.new ≡ lower self.old }
+    {
+        lower_in(self.row.as_mut_slice());
+    }
+
+    /// The ports that are due by now, in their order.
+    pub(crate) fn due(&self, now: u64) -> ArrayVec<u16, LIVE>
+        ensures { result.items ≡ due_ports now self.now }
+    {
+        let mut ports = ArrayVec::new();
+        for timer in self.row.as_slice() {
+            if timer.due <= now {
+                ports.push(timer.port);
+            }
+        }
+        ports
+    }
+
+    /// The least time at which a port is due.
+    pub(crate) fn earliest(&self) -> Option<u64>
+        ensures { result ≡ earliest self.now }
+    {
+        let mut least = None;
+        for timer in self.row.as_slice() {
+            least = earlier_of(least, *timer);
+        }
+        least
+    }
+}

@@ -1,0 +1,68 @@
+ghost use Rattle.std.specs.Prelude.{◌≡◌, ◌≤◌, ℕ, List, [], ◌∷◌, Option, OnErr, IfErr, IfOk, IfSome};
+ghost use Rattle.archive_table.specs.Keeper.{FailsAt};
+ghost use Rattle.archive_turns.specs.Wire.{Entry, Grows, opened, closed, sent, port_opened, was_done, received};
+
+use crate::wire_fault::WireFault;
+use tftp_packet::{Endpoint, Out};
+
+/// How many bytes `receive` takes of a datagram: one more than any packet has, so that a longer one is told from it.
+pub const RECEIVE_SIZE: usize = 517;
+
+/// What datagrams go out by and come from: ports of UDP on our own host.
+pub trait Wire {
+    /// An entry for each call in order, if this wire tells them. Once it stops telling, it never tells again.
+    ghost log: { Self → Option (List Entry) };
+
+    /// How many calls failed so far, up to the greatest u64.
+    ghost failed: { Self → ℕ };
+
+    /// Opens a port of its own choice. That the port is fresh is not promised.
+    ///
+    /// # Errors
+    ///
+    /// `Open`, only where `failures` rose in this call or is the greatest u64.
+    fn open(&mut self) -> Result<u16, WireFault>
+        ensures log { Grows (log self.old) (log self.new) (opened (port_opened result) ∷ []) }
+        ensures fault { IfErr result (λ e. e ≡ WireFault.Open) }
+        ensures failed { OnErr result (FailsAt (failed self.old) (failed self.new)) };
+
+    /// Closes a port.
+    ///
+    /// # Errors
+    ///
+    /// `Close`, only where `failures` rose in this call or is the greatest u64.
+    fn close(&mut self, port: u16) -> Result<(), WireFault>
+        ensures log { Grows (log self.old) (log self.new) (closed port (was_done result) ∷ []) }
+        ensures fault { IfErr result (λ e. e ≡ WireFault.Close) }
+        ensures failed { OnErr result (FailsAt (failed self.old) (failed self.new)) };
+
+    /// The next datagram that has come to a port: how many of its bytes are in the buffer, and where it came from. None
+    /// where nothing came within the wire's wait.
+    ///
+    /// # Errors
+    ///
+    /// `Receive`, only where `failures` rose in this call or is the greatest u64.
+    fn receive(
+        &mut self,
+        port: u16,
+        buffer: &mut [u8; RECEIVE_SIZE],
+    ) -> Result<Option<(usize, Endpoint)>, WireFault>
+        ensures log { Grows (log self.old) (log self.new) (received port result buffer.new ∷ []) }
+        ensures count { IfOk result (λ got. IfSome got (λ g. g.0 ≤ RECEIVE_SIZE)) }
+        ensures fault { IfErr result (λ e. e ≡ WireFault.Receive) }
+        ensures failed { OnErr result (FailsAt (failed self.old) (failed self.new)) };
+
+    /// Sends a datagram from its port.
+    ///
+    /// # Errors
+    ///
+    /// `Send`, only where `failures` rose in this call or is the greatest u64.
+    fn send(&mut self, out: &Out) -> Result<(), WireFault>
+        ensures log { Grows (log self.old) (log self.new) (sent out.now (was_done result) ∷ []) }
+        ensures fault { IfErr result (λ e. e ≡ WireFault.Send) }
+        ensures failed { OnErr result (FailsAt (failed self.old) (failed self.new)) };
+
+    /// How many calls failed so far, up to the greatest u64.
+    fn failures(&self) -> u64
+        ensures { result ≡ failed self.now };
+}
