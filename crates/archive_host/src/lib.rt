@@ -1,0 +1,18 @@
+//! What touches the system: a wire over UDP sockets, and a keeper over a folder.
+//!
+//! No clause can say what a socket or a file gives or takes. What is proved is that each call ends, that a fault has the
+//! name of its call, and that failures are counted. The rest is tested.
+#![tactic(auto)]
+
+mod dir_keeper;
+mod open_port;
+mod open_ports;
+mod port_range;
+mod udp_wire;
+mod watch;
+
+pub use dir_keeper::DirKeeper;
+pub use udp_wire::UdpWire;
+
+#[cfg(test)]
+mod tests;

@@ -1,0 +1,104 @@
+ghost use Rattle.std.specs.Prelude.{◌≡◌, ◌<◌, ◌⊎◌, length, IfSome, slice_get, Some};
+
+use crate::open_port::OpenPort;
+use std::alloc::{AllocError, Global};
+
+/// The ports that are open, in the order in which they were opened.
+#[derive(Drop)]
+pub struct OpenPorts {
+    ports: Vec<OpenPort>,
+}
+
+// The lesser of a port and the least so far.
+fn lesser(least: Option<u16>, port: u16) -> Option<u16>
+    ensures { IfSome result (λ m. (m ≡ port) ⊎ (Some m ≡ least)) }
+{
+    match least {
+        Some(least) => {
+            if least < port {
+                Some(least)
+            } else {
+                Some(port)
+            }
+        }
+        None => Some(port),
+    }
+}
+
+impl OpenPorts {
+    /// No port. It takes no memory by this.
+    pub fn new(alloc: Global) -> Self {
+        OpenPorts {
+            ports: Vec::new(alloc),
+        }
+    }
+
+    /// Adds a port.
+    ///
+    /// # Errors
+    ///
+    /// Out of memory: the port is closed again, the others are as they were.
+    pub fn push(&mut self, port: OpenPort) -> Result<(), AllocError> {
+        self.ports.push(port)?;
+        Ok(())
+    }
+
+    // Where a port is.
+    fn place(&self, port: u16) -> Option<usize>
+        ensures within { IfSome result (λ i. i < length self.now.ports.items) }
+        ensures port { IfSome result (λ i. (o : _) → slice_get self.now.ports.items i ≡ Some o → o.port ≡ port) }
+    {
+        self.ports.iter().position(|open| open.port() == port)
+    }
+
+    /// The open port of this number.
+    pub fn get(&self, port: u16) -> Option<&OpenPort>
+        ensures { IfSome result (λ o. o.now.port ≡ port) }
+    {
+        let place = self.place(port)?;
+        Some(&self.ports[place])
+    }
+
+    /// The open port of this number, to be changed.
+    pub fn get_mut(&mut self, port: u16) -> Option<&mut OpenPort>
+        ensures { IfSome result (λ o. o.now.port ≡ port) }
+    {
+        let place = self.place(port)?;
+        Some(&mut self.ports[place])
+    }
+
+    /// Closes a port. Answers whether it was open.
+    pub fn close(&mut self, port: u16) -> bool {
+        match self.place(port) {
+            Some(place) => {
+                self.ports.remove(place);
+                true
+            }
+            None => false,
+        }
+    }
+
+    /// The least port above this one that is ready.
+    pub fn ready_above(&self, after: u16) -> Option<u16>
+        ensures { IfSome result (λ port. after < port) }
+    {
+        let mut least = None;
+        for open in &self.ports {
+            if open.is_ready() && open.port() > after {
+                least = lesser(least, open.port());
+            }
+        }
+        least
+    }
+
+    /// The least port that is ready.
+    pub fn ready_least(&self) -> Option<u16> {
+        let mut least = None;
+        for open in &self.ports {
+            if open.is_ready() {
+                least = lesser(least, open.port());
+            }
+        }
+        least
+    }
+}

@@ -1,0 +1,40 @@
+ghost use Rattle.std.specs.Prelude.{◌≡◌, ◌≤◌, ◌<◌, ◌+◌, ◌%◌};
+ghost use Rattle.archive_host.specs.declared.port_range.TheConstants.{FIRST};
+
+// The least port for private use, RFC 6335 section 6. The greatest is 65535.
+const FIRST: u16 = 49152;
+
+// How many ports that are.
+const COUNT: u16 = 16384;
+
+/// The ports for private use, 49152 to 65535, in turn: each comes again only after all others.
+#[derive(Drop)]
+pub struct PortRange {
+    next: u16,
+    ghost range: { FIRST ≤ next },
+}
+
+impl PortRange {
+    /// How many ports there are.
+    pub const LEN: u16 = COUNT;
+
+    /// The ports from this place on, where places begin again after the last.
+    pub fn from_place(place: u32) -> Self
+        ensures { result.next ≡ FIRST + place % COUNT }
+    {
+        PortRange {
+            next: FIRST + (place % COUNT as u32) as u16,
+        }
+    }
+
+    /// The next port. After the greatest comes the least.
+    pub fn take(&mut self) -> u16
+        ensures port { result ≡ self.old.next }
+        ensures next { self.old.next < 65535 → self.new.next ≡ self.old.next + 1 }
+        ensures again { self.old.next ≡ 65535 → self.new.next ≡ FIRST }
+    {
+        let port = self.next;
+        self.next = if port == u16::MAX { FIRST } else { port + 1 };
+        port
+    }
+}

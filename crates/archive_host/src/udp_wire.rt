@@ -1,0 +1,275 @@
+//! A wire over UDP sockets.
+
+ghost use Rattle.std.specs.Prelude.{◌≡◌, ◌==◌, ◌≤◌, ◌<◌, ◌+◌, ◌-◌, ◌^◌, None, IfOk, IfSome, IfErr, OnErr, if◌then◌else◌};
+ghost use Rattle.archive_table.specs.Keeper.{FailsAt};
+
+use crate::open_port::OpenPort;
+use crate::open_ports::OpenPorts;
+use crate::port_range::PortRange;
+use crate::watch::Watch;
+use archive_turns::{RECEIVE_SIZE, Ready, ReadyWire, Wire, WireFault};
+use std::io;
+use std::io::ErrorKind;
+use std::net::Net;
+use std::time::Clock;
+use tftp_packet::{Endpoint, Out};
+
+// How long `receive` waits, in milliseconds.
+const WAIT: u64 = 5;
+
+// How often `receive` looks at the system in that time. Each arrival at another port ends a look, and a system whose clock
+// or reports fail would end none.
+const LOOKS: u32 = 1000;
+
+/// A wire over UDP and IPv4, whose ports are open at every address of this host. `receive` waits 5 ms at most, and not at
+/// all at the port that `wait` has just given. Its clock is in milliseconds. It does not tell its log.
+#[derive(Drop)]
+pub struct UdpWire<R: Net + Clock + AllocGlobal + Copy> {
+    rt: R,
+    watch: Option<Watch>,
+    ports: OpenPorts,
+    range: PortRange,
+    given: Option<u16>,
+    time: u64,
+    failures: u64,
+}
+
+// A place that differs from one start of a program to the next, so that a port that was open before a restart is seldom
+// soon open again.
+fn place<R: Clock>(rt: &R) -> u32 {
+    match rt.since_1970() {
+        Ok(time) => time.subsec_nanos() / 1000,
+        Err(_) => 0,
+    }
+}
+
+impl<R: Net + Clock + AllocGlobal + Copy> UdpWire<R> {
+    /// A wire that has no port. It takes no memory by this.
+    pub fn new(rt: R) -> Self
+        ensures failures { result.failures ≡ 0 }
+    {
+        UdpWire {
+            rt,
+            watch: None,
+            ports: OpenPorts::new(rt.alloc()),
+            range: PortRange::from_place(place(&rt)),
+            given: None,
+            time: 0,
+            failures: 0,
+        }
+    }
+
+    /// A wire that has this port. At port 0 the system chooses one, which no call names.
+    ///
+    /// # Errors
+    ///
+    /// `Open` where the port cannot be opened.
+    pub fn listen(rt: R, port: u16) -> Result<Self, WireFault>
+        ensures failures { IfOk result (λ wire. wire.failures ≡ 0) }
+        ensures fault { IfErr result (λ e. e ≡ WireFault.Open) }
+    {
+        let mut wire = Self::new(rt);
+        match wire.open_port(port) {
+            Ok(()) => Ok(wire),
+            Err(_) => Err(WireFault::Open),
+        }
+    }
+
+    // One more failure.
+    fn rise(&mut self)
+        ensures { FailsAt self.old.failures self.new.failures }
+    {
+        if self.failures < u64::MAX {
+            self.failures += 1;
+        }
+    }
+
+    // Opens a port.
+    fn open_port(&mut self, port: u16) -> io::Result<()>
+        ensures failures { self.new.failures ≡ self.old.failures }
+    {
+        if self.watch.is_none() {
+            self.watch = Some(Watch::new(&self.rt, self.rt.alloc())?);
+        }
+        let Some(watch) = &self.watch else {
+            return Err(io::Error::from(ErrorKind::NotConnected));
+        };
+        let open = watch.open(&self.rt, port)?;
+        match self.ports.push(open) {
+            Ok(()) => Ok(()),
+            Err(_) => Err(io::Error::from(ErrorKind::OutOfMemory)),
+        }
+    }
+
+    // Opens the next port that no other socket has. Any other error of the system ends the search.
+    fn open_next(&mut self) -> Option<u16>
+        ensures failures { self.new.failures ≡ self.old.failures }
+    {
+        for _ in 0..PortRange::LEN {
+            let port = self.range.take();
+            match self.open_port(port) {
+                Ok(()) => return Some(port),
+                Err(e) => {
+                    if e.kind() != ErrorKind::AddrInUse {
+                        return None;
+                    }
+                }
+            }
+        }
+        None
+    }
+
+    // The time of the clock. Where the system does not tell it, the last one.
+    fn now(&mut self) -> u64
+        ensures failures { self.new.failures ≡ self.old.failures }
+    {
+        if let Ok(time) = self.rt.monotonic() {
+            let millis = u64::try_from(time.as_millis()).unwrap_or(u64::MAX);
+            self.time = self.time.max(millis);
+        }
+        self.time
+    }
+
+    // Looks at the system, for this many milliseconds at most.
+    fn look(&mut self, millis: Option<u64>)
+        ensures failures { self.new.failures ≡ self.old.failures }
+    {
+        if let Some(watch) = &mut self.watch {
+            watch.look(&mut self.ports, millis);
+        }
+    }
+
+    // One read of a port, without a wait.
+    fn read(
+        &mut self,
+        port: u16,
+        buffer: &mut [u8; RECEIVE_SIZE],
+    ) -> io::Result<Option<(usize, Endpoint)>>
+        ensures count { IfOk result (λ got. IfSome got (λ g. g.0 ≤ RECEIVE_SIZE)) }
+        ensures failures { self.new.failures ≡ self.old.failures }
+    {
+        match self.ports.get_mut(port) {
+            Some(open) => open.read(buffer),
+            None => Err(io::Error::from(ErrorKind::NotConnected)),
+        }
+    }
+
+    // Reads a port until something has come or the wait is over.
+    fn read_within(
+        &mut self,
+        port: u16,
+        buffer: &mut [u8; RECEIVE_SIZE],
+    ) -> io::Result<Option<(usize, Endpoint)>>
+        ensures count { IfOk result (λ got. IfSome got (λ g. g.0 ≤ RECEIVE_SIZE)) }
+        ensures failures { self.new.failures ≡ self.old.failures }
+    {
+        let end = self.now().saturating_add(WAIT);
+        for _ in 0..LOOKS {
+            let got = self.read(port, buffer)?;
+            let left = end.saturating_sub(self.now());
+            if got.is_some() || left == 0 {
+                return Ok(got);
+            }
+            self.look(Some(left));
+        }
+        Ok(None)
+    }
+
+    // How long to wait for a moment, if nothing is ready.
+    fn until(&mut self, until: Option<u64>) -> Option<u64>
+        ensures failures { self.new.failures ≡ self.old.failures }
+    {
+        if self.ports.ready_least().is_some() {
+            return Some(0);
+        }
+        let now = self.now();
+        until.map(|until| until.saturating_sub(now))
+    }
+
+    // The next ready port. Once no port above this one is ready the system is looked at, so that in each round over the
+    // ports it is looked at once, however busy they are.
+    fn next_ready(&mut self, after: u16, until: Option<u64>) -> Option<u16>
+        ensures failures { self.new.failures ≡ self.old.failures }
+    {
+        if let Some(port) = self.ports.ready_above(after) {
+            return Some(port);
+        }
+        let millis = self.until(until);
+        self.look(millis);
+        match self.ports.ready_above(after) {
+            Some(port) => Some(port),
+            None => self.ports.ready_least(),
+        }
+    }
+}
+
+impl<R: Net + Clock + AllocGlobal + Copy> Wire for UdpWire<R> {
+    ghost log = { λ _. None };
+
+    ghost failed = { λ w. w.failures };
+
+    fn open(&mut self) -> Result<u16, WireFault> {
+        match self.open_next() {
+            Some(port) => Ok(port),
+            None => {
+                self.rise();
+                Err(WireFault::Open)
+            }
+        }
+    }
+
+    fn close(&mut self, port: u16) -> Result<(), WireFault> {
+        if self.ports.close(port) {
+            Ok(())
+        } else {
+            self.rise();
+            Err(WireFault::Close)
+        }
+    }
+
+    fn receive(
+        &mut self,
+        port: u16,
+        buffer: &mut [u8; RECEIVE_SIZE],
+    ) -> Result<Option<(usize, Endpoint)>, WireFault> {
+        let got = if self.given == Some(port) {
+            self.read(port, buffer)
+        } else {
+            self.read_within(port, buffer)
+        };
+        self.given = None;
+        match got {
+            Ok(got) => Ok(got),
+            Err(_) => {
+                self.rise();
+                Err(WireFault::Receive)
+            }
+        }
+    }
+
+    fn send(&mut self, out: &Out) -> Result<(), WireFault> {
+        let sent = match self.ports.get(out.from_port) {
+            Some(open) => open.send(out),
+            None => false,
+        };
+        if sent {
+            Ok(())
+        } else {
+            self.rise();
+            Err(WireFault::Send)
+        }
+    }
+
+    fn failures(&self) -> u64 {
+        self.failures
+    }
+}
+
+impl<R: Net + Clock + AllocGlobal + Copy> ReadyWire for UdpWire<R> {
+    fn wait(&mut self, after: u16, until: Option<u64>) -> Ready {
+        let port = self.next_ready(after, until);
+        self.given = port;
+        let time = self.now();
+        Ready { port, time }
+    }
+}
