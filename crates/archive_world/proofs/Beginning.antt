@@ -1,0 +1,160 @@
+-- An operation begins.
+use Rattle.std.proofs.Common.{◌≡◌, ◌≢◌, ◌⊎◌, ℕ, ◌<◌, ◌≤◌, Bool, true, false, cond, List, [], ◌∷◌, ◌++◌, length, Some, Result, Ok, Err, refl, ap, sym, ◌∙◌, subst, inl, inr, ⊎_elim, arith, le_refl}
+use Rattle.std.proofs.lemmas.Bool.{ltb-false}
+use Rattle.tftp_packet.specs.declared.endpoint.Endpoint.{Endpoint}
+use Rattle.tftp_packet.specs.declared.packet_fault.PacketFault.{PacketFault}
+use Rattle.tftp_packet.specs.Packet.{Packet, read, write, data_block, ack, error, encode}
+use Rattle.tftp_packet.specs.Decode.{decode_bytes}
+use Rattle.tftp_ends.specs.declared.limits.TheConstants.{MAX_FILE}
+use Rattle.archive_table.specs.Server.{is_same}
+use Rattle.archive_client.specs.Client.{Operation, put, get, Client, IsOperation, client_start, request_packet}
+use Rattle.archive_world.specs.World.{Datagram, Begun, World, server_endpoint, client_at, is_too_long, begins}
+use Rattle.archive_world.specs.Headline.{HasOwnPorts}
+use Rattle.archive_world.proofs.Places.{Has, Has-last, Has-push, Extends-push, at-extends, at-last, before_last}
+use Rattle.archive_world.proofs.Endpoints.{exact_endpoint}
+use Rattle.archive_world.proofs.Claims.{GrowsTo, HasBegun, IsStranger, PutsBlock, ServesBlock, Fetches, ServerAcks, Says, IsHonest, Binds, IsBound, IsAskingFor, IsFaithful, MayBind}
+use Rattle.archive_world.proofs.Lasting.{either, honest-lasts, live-lasts, stranger-lasts, faithful-lasts, opening-lasts, is_taken-lasts, sent-lasts, got-lasts}
+use Rattle.archive_world.proofs.Growing.{begins-grow}
+use Rattle.archive_world.proofs.Owning.{no_stranger, put_begun, get_begun}
+use Rattle.archive_world.proofs.Invariant.{TakesOnce, Holds}
+use Rattle.archive_world.proofs.Sending.{honest_packet}
+use Rattle.archive_world.proofs.Answering.{request_fields, request_says, request_binds}
+
+-- ---- one datagram more
+
+-- it is the new one that binds
+pub record BindsBy (d : Datagram) (f : Endpoint) (port : ℕ) : Type 0 where
+  pub source : d.source ≡ f
+  pub binds : Binds (decode_bytes d.bytes)
+
+pub bound_split : (w v : World) (d : Datagram) → v.net ≡ w.net ++ d ∷ [] → (f : Endpoint) (port : ℕ) → IsBound v f port → IsBound w f port ⊎ BindsBy d f port
+bound_split w v d net f port b =
+    either
+    (λ old. record { datagram = b.datagram; among = old; source = b.source; target = b.target; binds = b.binds })
+    (λ new. record { source = ap (λ (x : Datagram). x.source) (sym new) ∙ b.source; binds = subst (λ (x : Datagram). Binds (decode_bytes x.bytes)) new b.binds })
+    (Has-push w.net d b.datagram (subst (λ (ds : List Datagram). Has ds b.datagram) net b.among))
+
+-- ---- a begin
+
+-- the request is not too long
+pub may_begin : (operation : Operation) → is_too_long operation ≡ false → IsOperation operation
+may_begin (put file) short = ltb-false MAX_FILE (length file) short
+may_begin (get kind) short = tt
+
+module _ (w : World) (h : Holds w) (e : Endpoint) (operation : Operation) (away : e.host ≢ server_endpoint.host) (may : IsOperation operation) (own : HasOwnPorts (begins e operation w)) where
+  abbrev after : World
+  after = begins e operation w
+
+  abbrev began : Begun
+  began = record { client = e; operation = operation; taken = length w.taken }
+
+  abbrev request : Datagram
+  request = record { source = e; target = server_endpoint; bytes = encode (request_packet operation) }
+
+  grows : GrowsTo w after
+  grows = begins-grow w e operation
+
+  asking : IsAskingFor after e operation
+  asking = record { may = may; count = length w.taken; among = Has-last w.begun began }
+
+  new_honest : IsHonest after request
+  new_honest =
+      honest_packet after e server_endpoint (request_packet operation) (request_fields operation) (request_says after e server_endpoint operation asking)
+
+  -- no operation began there before
+  not_before : {P : Type 0} → HasBegun w e → P
+  not_before b =
+      let place = b.among.place in
+      let still = at-extends w.begun (w.begun ++ began ∷ []) (Extends-push w.begun began) place b.begun b.among.is in
+      let earlier : place < length w.begun = before_last w.begun place b.begun b.among.is in
+      let same : place ≡ length w.begun = own.operations place (length w.begun) b.begun began still (at-last w.begun began) b.client in
+      absurd (omega arith)
+
+  begun_now : HasBegun after e
+  begun_now = record { begun = began; among = Has-last w.begun began; client = refl }
+
+  -- nothing that binds is from there
+  unsaid : {P : Type 0} (target : Endpoint) (p : Packet) → Binds (Ok p) → Says w e target p → P
+  unsaid target (read name mode) binds says = absurd binds
+  unsaid target (write name mode) binds says = absurd binds
+  unsaid target (data_block n body) binds says =
+      ⊎_elim (λ (s : PutsBlock w e n body). not_before (put_begun w e s.file s.began)) (λ (s : ServesBlock w e target n body). absurd (away s.ours)) says
+  unsaid target (ack n) binds says =
+      ⊎_elim (λ (s : Fetches w e). not_before (get_begun w e s.kind s.count s.began)) (λ (s : ServerAcks w e target n). absurd (away s.ours)) says
+  unsaid target (error code text) binds says = absurd binds
+
+  unread : {P : Type 0} (d : Datagram) (answer : Result Packet PacketFault) → decode_bytes d.bytes ≡ answer → Binds answer → ((p : Packet) → decode_bytes d.bytes ≡ Ok p → Says w e d.target p) → P
+  unread d (Ok p) reads binds says = unsaid d.target p binds (says p reads)
+  unread d (Err fault) reads binds says = absurd binds
+
+  honest_there : (d : Datagram) → IsHonest w d → d.source ≡ e → IsStranger w e ⊎ ((p : Packet) → decode_bytes d.bytes ≡ Ok p → Says w e d.target p)
+  honest_there d honest same =
+      subst (λ (x : Endpoint). IsStranger w x ⊎ ((p : Packet) → decode_bytes d.bytes ≡ Ok p → Says w x d.target p)) same honest.says
+
+  unbound : {P : Type 0} (port : ℕ) → IsBound w e port → P
+  unbound port b =
+      ⊎_elim
+      (λ (s : IsStranger w e). no_stranger after own e begun_now (stranger-lasts w after grows e s))
+      (λ says. unread b.datagram (decode_bytes b.datagram.bytes) refl b.binds says)
+      (honest_there b.datagram (h.net b.datagram b.among) b.source)
+
+  -- the request binds nobody
+  before : (f : Endpoint) (port : ℕ) → IsBound after f port → IsBound w f port
+  before f port b = ⊎_elim (λ old. old) (λ (new : BindsBy request f port). absurd (request_binds operation new.binds)) (bound_split w after request refl f port b)
+
+  -- ---- the clients
+
+  abbrev NewOr : Endpoint → Client → Type 0
+  NewOr f c = ((f ≡ e) × (c ≡ client_start e.port server_endpoint operation)) ⊎ (client_at f w ≡ Some c)
+
+  found_in : (f : Endpoint) (c : Client) (here : Bool) → is_same f e ≡ here → cond here (Some (client_start e.port server_endpoint operation)) (client_at f w) ≡ Some c → NewOr f c
+  found_in f c true is found = inl (exact_endpoint f e is, cc)
+  found_in f c false is found = inr found
+
+  found : (f : Endpoint) (c : Client) → client_at f after ≡ Some c → NewOr f c
+  found f c is = found_in f c (is_same f e) refl is
+
+  faithful : (f : Endpoint) (c : Client) → NewOr f c → IsFaithful after f c
+  faithful f c (inl new) =
+      let here : IsFaithful after e (client_start e.port server_endpoint operation) = record { port = refl; server = refl; phase = asking } in
+      subst (IsFaithful after f) (sym new.1) (subst (λ (x : Endpoint). IsFaithful after x (client_start e.port server_endpoint operation)) (sym new.0) here)
+  faithful f c (inr old) = faithful-lasts w after grows f c (h.clients f c old)
+
+  bound_in : (f : Endpoint) (c : Client) → NewOr f c → (port : ℕ) → IsBound w f port → MayBind c.phase port
+  bound_in f c (inl new) port b = unbound port (subst (λ (x : Endpoint). IsBound w x port) new.0 b)
+  bound_in f c (inr old) port b = h.bound f c old port b
+
+  one_port_in : (f : Endpoint) (p q : ℕ) (b : HasBegun after f) → Has w.begun b.begun ⊎ (b.begun ≡ began) → IsBound w f p → IsBound w f q → p ≡ q
+  one_port_in f p q b (inl old) at_p at_q =
+      h.one_port f p q (record { begun = b.begun; among = old; client = b.client }) at_p at_q
+  one_port_in f p q b (inr new) at_p at_q =
+      let same : f ≡ e = sym b.client ∙ ap (λ (x : Begun). x.client) new in
+      unbound p (subst (λ (x : Endpoint). IsBound w x p) same at_p)
+
+  once_in : TakesOnce after
+  once_in i j t u at_i at_j same =
+      either (stranger-lasts w after grows t.peer) (λ is. is) (h.once i j t u at_i at_j same)
+
+  pub begins-holds : Holds after
+  begins-holds =
+      record {
+        net = λ d has. ⊎_elim (λ old. honest-lasts w after grows d (h.net d old)) (λ new. subst (IsHonest after) (sym new) new_honest) (Has-push w.net request d has);
+        apart = h.apart;
+        live = λ port t is. live-lasts w after grows port t (h.live port t is);
+        untaken = λ port t is running u has same b. stranger-lasts w after grows t.peer (h.untaken port t is running u has same (before t.peer port b));
+        clients = λ f c is. faithful f c (found f c is);
+        bound = λ f c is port b. bound_in f c (found f c is) port (before f port b);
+        one_port = λ f p q b at_p at_q. one_port_in f p q b (Has-push w.begun began b.begun b.among) (before f p at_p) (before f q at_q);
+        begun = λ b has.
+            ⊎_elim
+            (λ old. record { away = (h.begun b old).away; counted = (h.begun b old).counted })
+            (λ (new : b ≡ began). record { away = λ ours. away (ap (λ (x : Begun). x.client.host) (sym new) ∙ ours); counted = subst (λ (x : Begun). x.taken ≤ length w.taken) (sym new) (le_refl (length w.taken)) })
+            (Has-push w.begun began b has);
+        strays = h.strays;
+        opened = λ o has. opening-lasts w after grows o (h.opened o has);
+        taken = λ t has. is_taken-lasts w after grows t (h.taken t has);
+        once = once_in;
+        sent = λ x has. sent-lasts w after grows x (h.sent x has);
+        got = λ g has. got-lasts w after grows g (h.got g has);
+        best = h.best;
+      }

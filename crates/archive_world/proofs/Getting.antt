@@ -1,0 +1,194 @@
+-- Steps of a client that gets.
+use Rattle.std.proofs.Common.{◌≡◌, ◌≢◌, ◌⊎◌, ℕ, ◌≤◌, Bool, true, false, List, length, Option, None, Some, IfSome, Result, Ok, Err, refl, sym, subst, inl, inr, ⊎_elim}
+use Rattle.tftp_packet.specs.declared.endpoint.Endpoint.{Endpoint}
+use Rattle.tftp_packet.specs.declared.sizes.TheConstants.{BLOCK_SIZE}
+use Rattle.tftp_packet.specs.Packet.{Packet, data_block, ack}
+use Rattle.tftp_packet.specs.Blocks.{block_of}
+use Rattle.tftp_packet.specs.Decode.{decode_bytes}
+use Rattle.tftp_packet.specs.Refusal.{refusal_packet}
+use Rattle.tftp_ends.specs.declared.recv_state.RecvState.{RecvState}
+use Rattle.tftp_ends.specs.declared.recv_state.RecvState.TheVariants as recv
+use Rattle.tftp_ends.specs.declared.recv_fault.RecvFault.{RecvFault}
+use Rattle.tftp_ends.specs.Ends.{Verdict, Receiver, DataAnswer, receiver_start, receiver_data, receiver_timeout, receiver_take_in, receiver_take, sent_of, IsEnded, HoldsFirst, IsReceiver}
+use Rattle.tftp_ends.proofs.Steps.{ReadsBack, IsReceiver-start, receiver_data-keeps, receiver_timeout-keeps, acks-reads_back}
+use Rattle.tftp_ends.proofs.Holding.{receiver_data-holds, receiver_timeout-holds, ended-whole}
+use Rattle.tws_file.specs.declared.«ruleset».Ruleset.{Ruleset}
+use Rattle.archive_client.specs.declared.cause.Cause.TheVariants as cause
+use Rattle.archive_client.specs.declared.state.State.TheVariants as state
+use Rattle.archive_client.specs.Client.{get, Phase, asking, receiving, failed, Client, in_phase, out_to, sends_to, moves, get_took, get_answered, get_refused, get_waited, get_waits, get_stays, cause_of, refusal_of, recv_state, phase_state}
+use Rattle.archive_world.specs.World.{Datagram, World, to_read, server_endpoint, newly_got, after_client, client_at}
+use Rattle.archive_world.specs.Headline.{HasOwnPorts}
+use Rattle.archive_world.proofs.Places.{Has}
+use Rattle.archive_world.proofs.Claims.{HasGet, IsStranger, PutsBlock, Serves, ServesBlock, Fetches, Says, IsAskingFor, IsGetting, IsAskedBy, MayBind, IsGot}
+use Rattle.archive_world.proofs.Owning.{no_stranger, put_begun, get_begun, one_get}
+use Rattle.archive_world.proofs.Invariant.{Holds}
+use Rattle.archive_world.proofs.ServerMoves.{begun_away}
+use Rattle.archive_world.proofs.ClientMoves.{SendsHonestly, BindsTo}
+use Rattle.archive_world.proofs.Changing.{never_sent, newly_got-from, moves-holds, stays-holds, fails-holds, fails_with, sends_it, sends_refusal, refusal_binds, binds_there}
+use Rattle.archive_world.proofs.Putting.{server_says}
+
+-- a block from the server's host is one of a collection that is served there
+pub served_by : (w : World) → Holds w → (d : Datagram) → Has w.net d → d.source.host ≡ server_endpoint.host → (n : ℕ) (body : List ℕ) → decode_bytes d.bytes ≡ Ok (data_block n body) → ServesBlock w d.source d.target n body
+served_by w h d among ours n body reads =
+    ⊎_elim
+    (λ (p : PutsBlock w d.source n body). absurd (begun_away w h d.source (put_begun w d.source p.file p.began) ours))
+    (λ serves. serves)
+    (server_says w h d among ours (data_block n body) reads)
+
+-- ---- states of a receiver
+
+not_sent : (s : RecvState) → recv_state s ≢ state.Sent
+not_sent recv.Running = λ e. cc
+not_sent recv.Complete = λ e. cc
+not_sent recv.TimedOut = λ e. cc
+not_sent recv.Over = λ e. cc
+
+got_ended : (s : RecvState) → recv_state s ≡ state.Got → IsEnded s
+got_ended recv.Running e = absurd cc
+got_ended recv.Complete e = tt
+got_ended recv.TimedOut e = absurd cc
+got_ended recv.Over e = tt
+
+take_in_file : (state : RecvState) (r : Receiver) (f : List ℕ) → (receiver_take_in state r).file ≡ Some f → r.file ≡ Some f
+take_in_file recv.Running r f given = absurd cc
+take_in_file recv.Complete r f given = given
+take_in_file recv.TimedOut r f given = absurd cc
+take_in_file recv.Over r f given = given
+
+same_file : (r : Receiver) (f file : List ℕ) → r.file ≡ Some f → r.file ≡ Some file → file ≡ f
+same_file r f file is also = cc
+
+module _ (w : World) (h : Holds w) (own : HasOwnPorts w) (e : Endpoint) where
+  -- what is served to a get is of its rules, and was opened since it began
+  pub record IsSince (kind : Ruleset) (count : ℕ) (port : ℕ) (file : List ℕ) : Type 0 where
+    pub serves : Serves w e port kind file
+    pub since : count ≤ serves.count
+
+  since_by : (kind other : Ruleset) (count : ℕ) (port : ℕ) (file : List ℕ) → HasGet w e kind count → (s : Serves w e port other file) → IsStranger w e ⊎ IsAskedBy w (record { peer = e; port = port; asked = to_read other; taken = s.count }) (to_read other) → (other ≡ kind) × (count ≤ s.count)
+  since_by kind other count port file began s (inl stranger) =
+      no_stranger w own e (get_begun w e kind count began) stranger
+  since_by kind other count port file began s (inr asked) =
+      let one = one_get w own e kind other count asked.0 began asked.1 in
+      (sym one.0, subst (λ (m : ℕ). m ≤ s.count) (sym one.1) asked.2)
+
+  served_since : (kind other : Ruleset) (count : ℕ) (port : ℕ) (file : List ℕ) → HasGet w e kind count → (s : Serves w e port other file) → (other ≡ kind) × (count ≤ s.count)
+  served_since kind other count port file began s =
+      since_by kind other count port file began s (h.opened _ s.opened.among).whose
+
+  -- a get that has ended has its file
+  pub is_got : (port : ℕ) (r : Receiver) → IsGetting w e port r → (s : _) → newly_got s (recv_state r.state) ≡ true → (f : List ℕ) → (receiver_take r).file ≡ Some f → IsGot w (record { client = e; file = f })
+  is_got port r g s new f given =
+      let both = newly_got-from s (recv_state r.state) new in
+      let whole = (ended-whole g.file r g.holds g.bounds (got_ended r.state both.1)).1 in
+      let same = same_file r f g.file (take_in_file r.state r f given) whole in
+      let since = (served_since g.kind g.kind g.count port g.file g.began g.serves).1 in
+      let got : IsGot w (record { client = e; file = g.file }) = record { kind = g.kind; count = g.count; began = g.began; port = port; serves = g.serves; since = since } in
+      subst (λ (file : List ℕ). IsGot w (record { client = e; file = file })) same got
+
+  -- it goes on with another receiver of the same file
+  getting_on : (port : ℕ) (r next : Receiver) (g : IsGetting w e port r) → HoldsFirst g.file next → IsReceiver next → IsGetting w e port next
+  getting_on port r next g holds bounds =
+      record { kind = g.kind; count = g.count; began = g.began; file = g.file; serves = g.serves; holds = holds; bounds = bounds }
+
+  module _ (c : Client) (is : client_at e w ≡ Some c) where
+    -- ---- it is bound, or is now
+
+    module _ (port : ℕ) (was : (q : ℕ) → MayBind c.phase q → q ≡ port) where
+      ack_sends : (kind : Ruleset) (count : ℕ) → HasGet w e kind count → (out : Option Packet) (n : ℕ) → IfSome out ReadsBack → IfSome out (λ p. p ≡ ack n) → IfSome (sends_to port out c) (SendsHonestly w e)
+      ack_sends kind count began None n back sends = tt
+      ack_sends kind count began (Some p) n back sends =
+          let fetches : Fetches w e = record { kind = kind; count = count; began = began } in
+          sends_it w h e c is port p back.decoded (subst (Says w e (record { host = c.server.host; port = port })) (sym sends) (inl fetches))
+
+      ack_binds : (next : Receiver) → (out : Option Packet) → IfSome (sends_to port out c) (BindsTo c (in_phase (receiving port next) c))
+      ack_binds next None = tt
+      ack_binds next (Some p) = binds_there w h e c is port p (in_phase (receiving port next) c) (λ q same. same) was
+
+      receives-holds : (next : Receiver) → IsGetting w e port next → (out : Option Packet) → IfSome out ReadsBack → IfSome out (λ p. p ≡ ack next.count) → Holds (after_client e c (moves (receiving port next) (sends_to port out c) c) w)
+      receives-holds next g out back sends =
+          moves-holds w h e c is (receiving port next) (sends_to port out c)
+          (record {
+            pursuing = g;
+            sending = ack_sends g.kind g.count g.began out next.count back sends;
+            binding = ack_binds next out;
+            still = was;
+            sends = λ new. never_sent (phase_state c.phase) (recv_state next.state) (not_sent next.state) new;
+            gets = is_got port next g (phase_state c.phase);
+          })
+
+      -- a DATA comes
+      module _ (r : Receiver) (g : IsGetting w e port r) (verdict : Verdict) (n : ℕ) (body : List ℕ) (short : length body ≤ BLOCK_SIZE) (is_block : body ≡ block_of g.file n) where
+        abbrev came : DataAnswer
+        came = receiver_data verdict n body r
+
+        getting_after : IsGetting w e port came.receiver
+        getting_after =
+            getting_on port r came.receiver g (receiver_data-holds g.file r g.holds verdict n body is_block) ((receiver_data-keeps verdict n body r short).fits g.bounds)
+
+        took_in : (result : Result (Option Packet) RecvFault) → came.result ≡ result → Holds (after_client e c (get_took port came.receiver result c) w)
+        took_in (Ok out) at =
+            let k = receiver_data-keeps verdict n body r short in
+            let back = subst (λ (x : Result (Option Packet) RecvFault). IfSome (sent_of x) ReadsBack) at (acks-reads_back r came.receiver (sent_of came.result) k g.bounds) in
+            let sends = subst (λ (x : Result (Option Packet) RecvFault). IfSome (sent_of x) (λ p. p ≡ ack came.receiver.count)) at k.sends in
+            receives-holds came.receiver getting_after out back sends
+        took_in (Err fault) at =
+            fails_with w h e c is (cause_of fault) (Some (out_to port (refusal_packet (refusal_of fault)) c)) (sends_refusal w h e c is port (refusal_of fault))
+            (refusal_binds w h e c is port (refusal_of fault) (in_phase (failed (cause_of fault)) c))
+
+        pub took-holds : Holds (after_client e c (get_took port came.receiver came.result c) w)
+        took-holds = took_in came.result refl
+
+      -- nothing comes
+      module _ (r : Receiver) (g : IsGetting w e port r) where
+        getting_waited : IsGetting w e port (receiver_timeout r).receiver
+        getting_waited =
+            getting_on port r (receiver_timeout r).receiver g (receiver_timeout-holds g.file r g.holds) ((receiver_timeout-keeps r).fits g.bounds)
+
+        waits_on : Holds (after_client e c (get_stays port (receiver_timeout r) c) w)
+        waits_on =
+            let k = receiver_timeout-keeps r in
+            let a = receiver_timeout r in
+            receives-holds a.receiver getting_waited a.out (acks-reads_back r a.receiver a.out k g.bounds) k.sends
+
+        waited_in : (state : RecvState) → Holds (after_client e c (get_waited state port (receiver_timeout r) c) w)
+        waited_in recv.Running = waits_on
+        waited_in recv.Complete = waits_on
+        waited_in recv.TimedOut = fails-holds w h e c is cause.TimedOut
+        waited_in recv.Over = waits_on
+
+        pub get_waits-holds : Holds (after_client e c (get_waits port (receiver_timeout r) c) w)
+        get_waits-holds = waited_in (receiver_timeout r).receiver.state
+
+    -- ---- it binds
+
+    module _ (kind : Ruleset) (misses : ℕ) (at : c.phase ≡ asking (get kind) misses) (there : IsAskingFor w e (get kind)) (verdict : Verdict) (port n : ℕ) (body : List ℕ) (short : length body ≤ BLOCK_SIZE) where
+      unbound : (q : ℕ) → MayBind c.phase q → q ≡ port
+      unbound q m = absurd (subst (λ (x : Phase). MayBind x q) at m)
+
+      getting_first : (other : Ruleset) (file : List ℕ) → Serves w e port other file → IsGetting w e port receiver_start
+      getting_first other file serves =
+          let began : HasGet w e kind there.count = record { among = there.among } in
+          let same = (served_since kind other there.count port file began serves).0 in
+          record {
+            kind = kind;
+            count = there.count;
+            began = began;
+            file = file;
+            serves = subst (λ (k : Ruleset). Serves w e port k file) same serves;
+            holds = refl;
+            bounds = IsReceiver-start;
+          }
+
+      pub get_answered-holds : (other : Ruleset) (file : List ℕ) → Serves w e port other file → body ≡ block_of file n → (first : Bool) → Holds (after_client e c (get_answered first verdict port n body c) w)
+      unfolding getting_first
+      get_answered-holds other file serves is_block true =
+          took-holds port unbound receiver_start (getting_first other file serves) verdict n body short is_block
+      get_answered-holds other file serves is_block false = stays-holds w h e c is
+
+    -- ---- it is refused
+
+    pub get_refused-holds : (state : RecvState) (code : ℕ) → Holds (after_client e c (get_refused state code c) w)
+    get_refused-holds recv.Running code = fails-holds w h e c is (cause.Refused code)
+    get_refused-holds recv.Complete code = stays-holds w h e c is
+    get_refused-holds recv.TimedOut code = stays-holds w h e c is
+    get_refused-holds recv.Over code = stays-holds w h e c is

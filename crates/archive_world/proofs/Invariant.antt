@@ -1,0 +1,86 @@
+-- What every event keeps of a world. Where it says that something has not happened, each step has to be looked at; all else
+-- lasts by itself.
+use Rattle.std.proofs.Common.{◌≡◌, ◌≢◌, ◌⊎◌, ℕ, ◌≤◌, true, List, [], length, slice_get, None, Some, Ordering, Less, Equal, Greater, is_eq, nat_cmp, refl, ap, sym}
+use Rattle.std.specs.Cmp.{nat_cmp_is}
+use Rattle.std.proofs.lemmas.Map.Lookups.{exact_unsigned}
+use Rattle.tftp_packet.specs.declared.endpoint.Endpoint.{Endpoint}
+use Rattle.tws_file.specs.declared.«ruleset».Ruleset.TheVariants.{Lynx, Ms}
+use Rattle.tws_best.specs.Best.{IsCollectionOf}
+use Rattle.tws_best.proofs.Sets.{no_texts}
+use Rattle.archive_table.specs.Server.{Maps, Taken, Transfer, at_port, transfer_at}
+use Rattle.archive_client.specs.Client.{Client}
+use Rattle.archive_world.specs.World.{Datagram, Begun, Opening, Got, World, start, client_at, server_endpoint}
+use Rattle.archive_world.specs.Headline.{files_of}
+use Rattle.archive_world.proofs.Places.{Has}
+use Rattle.archive_world.proofs.Keyed.{IsApart}
+use Rattle.archive_world.proofs.Claims.{HasBegun, IsStranger, IsHonest, IsBound, IsLive, IsUntaken, IsFaithful, MayBind, IsOpening, IsTaken, IsSent, IsGot}
+
+equal_from : (r : Ordering) → is_eq r ≡ true → r ≡ Equal
+equal_from Less e = absurd cc
+equal_from Equal e = refl
+equal_from Greater e = absurd cc
+
+-- ports are told apart
+pub exact_port : (a b : ℕ) → at_port a b ≡ true → a ≡ b
+exact_port a b e = exact_unsigned a b (equal_from (nat_cmp a b) e)
+
+pub same_port : (a : ℕ) → at_port a a ≡ true
+same_port a = ap is_eq (sym (nat_cmp_is a a Equal refl))
+
+-- each collection is the best over the files taken
+pub record AreBest (taken : List Taken) (maps : Maps) : Type 0 where
+  pub lynx : IsCollectionOf Lynx (files_of taken) maps.lynx
+  pub ms : IsCollectionOf Ms (files_of taken) maps.ms
+
+-- of two files from one peer, the peer is a stranger or they are one
+abbrev pub TakesOnce : World → Type 0
+TakesOnce w =
+    (i j : ℕ) (t u : Taken) → slice_get w.taken i ≡ Some t → slice_get w.taken j ≡ Some u → t.peer ≡ u.peer → IsStranger w t.peer ⊎ (i ≡ j)
+
+pub record IsBegun (w : World) (b : Begun) : Type 0 where
+  pub away : b.client.host ≢ server_endpoint.host
+  pub counted : b.taken ≤ length w.taken
+
+pub record Holds (w : World) : Type 0 where
+  pub net : (d : Datagram) → Has w.net d → IsHonest w d
+  pub apart : IsApart at_port exact_port w.server.live
+  pub live : (port : ℕ) (t : Transfer) → transfer_at port w.server ≡ Some t → IsLive w port t
+  pub untaken : (port : ℕ) (t : Transfer) → transfer_at port w.server ≡ Some t → IsUntaken w port t
+  pub clients : (e : Endpoint) (c : Client) → client_at e w ≡ Some c → IsFaithful w e c
+  -- a client has sent a DATA or an ACK to no other port than the one that it is bound to
+  pub bound : (e : Endpoint) (c : Client) → client_at e w ≡ Some c → (port : ℕ) → IsBound w e port → MayBind c.phase port
+  -- a client binds to one port
+  pub one_port : (e : Endpoint) (p q : ℕ) → HasBegun w e → IsBound w e p → IsBound w e q → p ≡ q
+  pub begun : (b : Begun) → Has w.begun b → IsBegun w b
+  pub strays : (d : Datagram) → Has w.strays d → d.source.host ≢ server_endpoint.host
+  pub opened : (o : Opening) → Has w.opened o → IsOpening w o
+  pub taken : (t : Taken) → Has w.taken t → IsTaken w t
+  pub once : TakesOnce w
+  pub sent : (e : Endpoint) → Has w.sent e → IsSent w e
+  pub got : (g : Got) → Has w.got g → IsGot w g
+  pub best : AreBest w.taken w.server.maps
+
+none_at : {A : Type 0} {P : Type 0} (x : A) → Has [] x → P
+none_at x h = let is : None ≡ Some x = h.is in absurd cc
+
+-- ---- the start
+
+pub start-holds : Holds start
+start-holds =
+    record {
+      net = λ d h. none_at d h;
+      apart = tt;
+      live = λ port t e. absurd cc;
+      untaken = λ port t e. absurd cc;
+      clients = λ e c is. absurd cc;
+      bound = λ e c is. absurd cc;
+      one_port = λ e p q h. none_at h.begun h.among;
+      begun = λ b h. none_at b h;
+      strays = λ d h. none_at d h;
+      opened = λ o h. none_at o h;
+      taken = λ t h. none_at t h;
+      once = λ i j t u e. absurd cc;
+      sent = λ e h. none_at e h;
+      got = λ g h. none_at g h;
+      best = record { lynx = no_texts Lynx _ refl refl; ms = no_texts Ms _ refl refl };
+    }

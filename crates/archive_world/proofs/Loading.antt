@@ -1,0 +1,130 @@
+-- What a keeper has is what the server has, and what is loaded from it is that.
+use Rattle.std.proofs.Common.{◌≡◌, ◌⊎◌, ℕ, Bool, true, false, List, [], ◌∷◌, ◌++◌, Option, None, Some, refl, ap, sym, ◌∙◌, subst, inl, inr, append-nil}
+use Rattle.tws_file.specs.declared.«ruleset».Ruleset.{Ruleset}
+use Rattle.tws_file.specs.declared.«ruleset».Ruleset.TheVariants.{Lynx, Ms}
+use Rattle.tws_file.specs.Text.{IsText}
+use Rattle.tws_best.specs.Best.{Collected, IsCollected, collection_text}
+use Rattle.tws_best.proofs.Texts.{read_back}
+use Rattle.archive_table.specs.Server.{Maps, Taken, Grant, all, no_memory, unkept}
+use Rattle.archive_table.specs.Keeper.{Keeping, keeping, same_kind, later_or, last_kept, IsLoaded, LoadedFrom, KeepsOne, KeepsMaps, RefusesKeep, FailsKeep, FailsKeepOf}
+use Rattle.archive_world.specs.World.{empty_maps}
+use Rattle.archive_world.specs.Restarts.{IsTextAt, HasKept, AreOwnRules, StepStaysKept, LoadsTheSame}
+
+-- ---- one more in the list
+
+-- of these rules, and kept
+last_own : (kind : Ruleset) (log : List Keeping) (k : Keeping) → same_kind kind k.kind ≡ true → k.ok ≡ true → last_kept kind (log ++ k ∷ []) ≡ Some k.text
+last_own kind [] k own ok =
+    ap (λ (b : Bool). later_or None b k.ok k.text) own ∙ ap (λ (b : Bool). later_or None true b k.text) ok
+last_own kind (x ∷ log) k own ok =
+    ap (λ (o : Option (List ℕ)). later_or o (same_kind kind x.kind) x.ok x.text) (last_own kind log k own ok)
+
+-- of other rules
+last_other : (kind : Ruleset) (log : List Keeping) (k : Keeping) → same_kind kind k.kind ≡ false → last_kept kind (log ++ k ∷ []) ≡ last_kept kind log
+last_other kind [] k other = ap (λ (b : Bool). later_or None b k.ok k.text) other
+last_other kind (x ∷ log) k other =
+    ap (λ (o : Option (List ℕ)). later_or o (same_kind kind x.kind) x.ok x.text) (last_other kind log k other)
+
+same : (kind : Ruleset) → same_kind kind kind ≡ true
+same Lynx = refl
+same Ms = refl
+
+-- ---- a step
+
+-- the list after it, where nothing was added
+unchanged : (kind : Ruleset) (before after : List Keeping) (c : Collected) → after ≡ before ++ [] → IsTextAt kind (last_kept kind before) c → IsTextAt kind (last_kept kind after) c
+unchanged kind before after c grows kept =
+    subst (λ (l : List Keeping). IsTextAt kind (last_kept kind l) c) (sym (grows ∙ append-nil before)) kept
+
+-- a collection of these rules was kept, or had not changed
+kept_own : (kind : Ruleset) (before after : List Keeping) (old new : Collected) → new.ruleset ≡ kind → KeepsOne old new (Some before) (Some after) → IsTextAt kind (last_kept kind before) old → IsTextAt kind (last_kept kind after) new
+kept_own kind before after old new rules (inl stayed) kept =
+    unchanged kind before after new stayed.1 (subst (IsTextAt kind (last_kept kind before)) (sym stayed.0) kept)
+kept_own kind before after old new rules (inr changed) kept =
+    let k = keeping new.ruleset (collection_text new) true in
+    let own : same_kind kind new.ruleset ≡ true = ap (same_kind kind) rules ∙ same kind in
+    let last : last_kept kind after ≡ Some (collection_text new) = ap (last_kept kind) changed.1 ∙ last_own kind before k own refl in
+    subst (λ (o : Option (List ℕ)). IsTextAt kind o new) (sym last) refl
+
+-- that of the other rules has the text that it had
+kept_other : (kind : Ruleset) (before after : List Keeping) (old new c : Collected) → same_kind kind new.ruleset ≡ false → KeepsOne old new (Some before) (Some after) → IsTextAt kind (last_kept kind before) c → IsTextAt kind (last_kept kind after) c
+kept_other kind before after old new c other (inl stayed) kept = unchanged kind before after c stayed.1 kept
+kept_other kind before after old new c other (inr changed) kept =
+    let k = keeping new.ruleset (collection_text new) true in
+    let last : last_kept kind after ≡ last_kept kind before = ap (last_kept kind) changed.1 ∙ last_other kind before k other in
+    subst (λ (o : Option (List ℕ)). IsTextAt kind o c) (sym last) kept
+
+maps_kept : (old new : Maps) (before after : List Keeping) → AreOwnRules new → KeepsMaps old new (Some before) (Some after) → HasKept before old → HasKept after new
+maps_kept old new before after rules (inl lynx) kept =
+    record {
+      lynx = kept_own Lynx before after old.lynx new.lynx rules.lynx lynx.1 kept.lynx;
+      ms = subst (IsTextAt Ms (last_kept Ms after)) (sym lynx.0) (kept_other Ms before after old.lynx new.lynx old.ms (ap (same_kind Ms) rules.lynx) lynx.1 kept.ms);
+    }
+maps_kept old new before after rules (inr ms) kept =
+    record {
+      lynx = subst (IsTextAt Lynx (last_kept Lynx after)) (sym ms.0) (kept_other Lynx before after old.ms new.ms old.lynx (ap (same_kind Lynx) rules.ms) ms.1 kept.lynx);
+      ms = kept_own Ms before after old.ms new.ms rules.ms ms.1 kept.ms;
+    }
+
+-- ---- a collection that was not kept
+
+none_later : (own : Bool) (text : List ℕ) → later_or None own false text ≡ None
+none_later true text = refl
+none_later false text = refl
+
+last_failed : (kind : Ruleset) (log : List Keeping) (k : Keeping) → k.ok ≡ false → last_kept kind (log ++ k ∷ []) ≡ last_kept kind log
+last_failed kind [] k failed =
+    ap (λ (b : Bool). later_or None (same_kind kind k.kind) b k.text) failed ∙ none_later (same_kind kind k.kind) k.text
+last_failed kind (x ∷ log) k failed =
+    ap (λ (o : Option (List ℕ)). later_or o (same_kind kind x.kind) x.ok x.text) (last_failed kind log k failed)
+
+none_added : (maps : Maps) (before after : List Keeping) → after ≡ before ++ [] → HasKept before maps → HasKept after maps
+none_added maps before after grows kept =
+    record { lynx = unchanged Lynx before after maps.lynx grows kept.lynx; ms = unchanged Ms before after maps.ms grows kept.ms }
+
+failed_one : (maps : Maps) (before after : List Keeping) (kind : Ruleset) (new : Collected) → FailsKeep kind new (Some before) (Some after) → HasKept before maps → HasKept after maps
+failed_one maps before after rules new (inl none) kept = none_added maps before after none kept
+failed_one maps before after rules new (inr failed) kept =
+    let k = keeping rules (collection_text new) false in
+    let last : (kind : Ruleset) → last_kept kind before ≡ last_kept kind after = λ kind. sym (ap (last_kept kind) failed ∙ last_failed kind before k refl) in
+    record {
+      lynx = subst (λ (o : Option (List ℕ)). IsTextAt Lynx o maps.lynx) (last Lynx) kept.lynx;
+      ms = subst (λ (o : Option (List ℕ)). IsTextAt Ms o maps.ms) (last Ms) kept.ms;
+    }
+
+failed_maps : (now old new : Maps) (before after : List Keeping) → FailsKeepOf old new (Some before) (Some after) → HasKept before now → HasKept after now
+failed_maps now old new before after (inl lynx) kept = failed_one now before after new.lynx.ruleset new.lynx lynx.2 kept
+failed_maps now old new before after (inr ms) kept = failed_one now before after new.ms.ruleset new.ms ms.2 kept
+
+refused_keep : (wanted : Option Taken) (old : Maps) (before after : List Keeping) → RefusesKeep wanted old (Some before) (Some after) → HasKept before old → HasKept after old
+refused_keep wanted old before after failed kept = failed_maps old old failed.0 before after failed.2 kept
+
+-- the collections stayed where not all was granted
+stayed_at : (grant : Grant) (old new : Maps) (after : List Keeping) → (grant ≡ all → ⊥) → (grant ≡ all) ⊎ (new ≡ old) → HasKept after old → HasKept after new
+stayed_at grant old new after other (inl is) kept = absurd (other is)
+stayed_at grant old new after other (inr same_maps) kept = subst (HasKept after) (sym same_maps) kept
+
+pub step-stays_kept : (grant : Grant) (wanted : Option Taken) (old new : Maps) (before after : List Keeping) → StepStaysKept grant wanted old new before after
+step-stays_kept all wanted old new before after keeps either_way rules kept = maps_kept old new before after rules keeps kept
+step-stays_kept no_memory wanted old new before after keeps either_way rules kept =
+    stayed_at no_memory old new after (λ e. cc) either_way (none_added old before after keeps kept)
+step-stays_kept unkept wanted old new before after keeps either_way rules kept =
+    stayed_at unkept old new after (λ e. cc) either_way (refused_keep wanted old before after keeps kept)
+
+-- ---- a load
+
+loaded_by : (kind : Ruleset) (text : Option (List ℕ)) (now loaded : Collected) → IsTextAt kind text now → IsCollected now → IsLoaded kind text loaded → loaded ≡ now
+loaded_by kind None now loaded has fits is = is ∙ sym has
+loaded_by kind (Some text) now loaded has fits is =
+    read_back now loaded is.0 fits (subst (λ (bytes : List ℕ). IsText bytes is.0) has is.1) (is.3 ∙ sym is.2) is.4
+
+loaded_from : (kind : Ruleset) (log : List Keeping) (now loaded : Collected) → IsTextAt kind (last_kept kind log) now → IsCollected now → LoadedFrom kind (Some log) loaded → loaded ≡ now
+loaded_from kind log now loaded has fits from =
+    loaded_by kind from.0 now loaded (subst (λ (o : Option (List ℕ)). IsTextAt kind o now) (sym from.1) has) fits from.2
+
+pub loads-the_same : (log : List Keeping) (maps : Maps) → LoadsTheSame log maps
+loads-the_same log maps kept fits_lynx fits_ms lynx ms from_lynx from_ms =
+    (loaded_from Lynx log maps.lynx lynx kept.lynx fits_lynx from_lynx, loaded_from Ms log maps.ms ms kept.ms fits_ms from_ms)
+
+pub start-kept : HasKept [] empty_maps
+start-kept = record { lynx = refl; ms = refl }

@@ -1,0 +1,65 @@
+-- What a file that is taken makes of the collections.
+use Rattle.std.proofs.Common.{◌≡◌, ◌⊎◌, ℕ, List, [], ◌∷◌, ◌++◌, Contains, refl, ap, sym, ◌∙◌, subst, inl, inr, append-nil}
+use Rattle.std.proofs.lemmas.List.{map-append}
+use Rattle.tws_file.specs.declared.«ruleset».Ruleset.{Ruleset}
+use Rattle.tws_file.specs.declared.«ruleset».Ruleset.TheVariants.{Lynx, Ms}
+use Rattle.tws_file.specs.Text.{File, IsText, IsReadable}
+use Rattle.tws_best.specs.Best.{Entry, Collected, IsCollectionOf, IsBestOf, solutions_of, solved_by}
+use Rattle.tws_best.proofs.Bests.{own_best}
+use Rattle.tws_best.proofs.Sets.{one_more_text, one_more_unreadable}
+use Rattle.archive_table.specs.Server.{Maps, Taken, IsJoined, JoinsOwn, IsMerged}
+use Rattle.archive_world.specs.Headline.{files_of}
+use Rattle.archive_world.proofs.Readability.{readable_or_not}
+use Rattle.archive_world.proofs.Invariant.{AreBest}
+
+-- a file of these rules joins their collection
+joins : (kind : Ruleset) (texts : List (List ℕ)) (text : List ℕ) (f : File) (old new : Collected) → IsCollectionOf kind texts old → IsText text f → IsJoined f old new → IsCollectionOf kind (texts ++ text ∷ []) new
+joins kind texts text f old new best is joined = one_more_text kind texts text f old new best is joined.kind joined.best
+
+-- the collection of other rules is that over one text more
+no_solutions : (kind : Ruleset) (f : File) (c : Collected) → solved_by c.ruleset f.ruleset f.records ≡ [] → solutions_of c.ruleset (f ∷ []) ≡ []
+no_solutions kind f c none = ap (λ (es : List Entry). es ++ []) none
+
+stays : (kind : Ruleset) (texts : List (List ℕ)) (text : List ℕ) (f : File) (old new : Collected) → IsCollectionOf kind texts old → IsText text f → solutions_of old.ruleset (f ∷ []) ≡ [] → new ≡ old → IsCollectionOf kind (texts ++ text ∷ []) new
+stays kind texts text f old new best is none same =
+    let all : old.entries ++ solutions_of old.ruleset (f ∷ []) ≡ old.entries = ap (λ (es : List Entry). old.entries ++ es) none ∙ append-nil old.entries in
+    let kept : IsBestOf (Contains (old.entries ++ solutions_of old.ruleset (f ∷ []))) old.entries = subst (λ (es : List Entry). IsBestOf (Contains es) old.entries) (sym all) (own_best old.entries best.best.rising) in
+    subst (λ (c : Collected). IsCollectionOf kind (texts ++ text ∷ []) c) (sym same) (one_more_text kind texts text f old old best is refl kept)
+
+other_lynx : (f : File) (c : Collected) → c.ruleset ≡ Lynx → f.ruleset ≡ Ms → solutions_of c.ruleset (f ∷ []) ≡ []
+other_lynx f c kind other =
+    ap (λ (r : Ruleset). solutions_of r (f ∷ [])) kind ∙ ap (λ (r : Ruleset). solved_by Lynx r f.records ++ []) other
+
+other_ms : (f : File) (c : Collected) → c.ruleset ≡ Ms → f.ruleset ≡ Lynx → solutions_of c.ruleset (f ∷ []) ≡ []
+other_ms f c kind other =
+    ap (λ (r : Ruleset). solutions_of r (f ∷ [])) kind ∙ ap (λ (r : Ruleset). solved_by Ms r f.records ++ []) other
+
+module _ (texts : List (List ℕ)) (text : List ℕ) (old new : Maps) (lynx : IsCollectionOf Lynx texts old.lynx) (ms : IsCollectionOf Ms texts old.ms) where
+  abbrev Both : Type 0
+  Both = IsCollectionOf Lynx (texts ++ text ∷ []) new.lynx × IsCollectionOf Ms (texts ++ text ∷ []) new.ms
+
+  file_joins : (f : File) → IsText text f → (kind : Ruleset) → f.ruleset ≡ kind → JoinsOwn kind f old new → Both
+  file_joins f is Lynx kind own =
+      (joins Lynx texts text f old.lynx new.lynx lynx is own.0, stays Ms texts text f old.ms new.ms ms is (other_ms f old.ms ms.kind_is kind) own.1)
+  file_joins f is Ms kind own =
+      (stays Lynx texts text f old.lynx new.lynx lynx is (other_lynx f old.lynx lynx.kind_is kind) own.1, joins Ms texts text f old.ms new.ms ms is own.0)
+
+  merged_by : IsMerged text old new → IsReadable text ⊎ (IsReadable text → ⊥) → Both
+  merged_by merged (inl readable) = file_joins readable.0 readable.1 readable.0.ruleset refl (merged.readable readable.0 readable.1)
+  merged_by merged (inr never) =
+      let same : new ≡ old = merged.unreadable (λ f is. never (f, is)) in
+      subst (λ (m : Maps). IsCollectionOf Lynx (texts ++ text ∷ []) m.lynx × IsCollectionOf Ms (texts ++ text ∷ []) m.ms) (sym same)
+      (one_more_unreadable Lynx texts text old.lynx lynx never, one_more_unreadable Ms texts text old.ms ms never)
+
+  merged : IsMerged text old new → Both
+  merged m = merged_by m (readable_or_not text)
+
+-- the collections are the best over one file more
+pub best-taken : (taken : List Taken) (t : Taken) (old new : Maps) → AreBest taken old → IsMerged t.file old new → AreBest (taken ++ t ∷ []) new
+best-taken taken t old new best m =
+    let both = merged (files_of taken) t.file old new best.lynx best.ms m in
+    let files : files_of (taken ++ t ∷ []) ≡ files_of taken ++ t.file ∷ [] = map-append (λ (u : Taken). u.file) taken (t ∷ []) in
+    record {
+      lynx = subst (λ (fs : List (List ℕ)). IsCollectionOf Lynx fs new.lynx) (sym files) both.0;
+      ms = subst (λ (fs : List (List ℕ)). IsCollectionOf Ms fs new.ms) (sym files) both.1;
+    }

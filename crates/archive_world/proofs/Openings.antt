@@ -1,0 +1,206 @@
+-- A request comes to the server.
+use Rattle.std.proofs.Common.{◌≡◌, ◌≢◌, ◌⊎◌, ℕ, ◌≤◌, ◌<◌, nat_cmp, List, [], ◌∷◌, ◌++◌, length, take, None, Some, Ok, refl, ap, sym, ◌∙◌, subst, inl, inr, arith, le_refl, take_all}
+use Rattle.std.specs.BTreeMap.{insert_entry}
+use Rattle.tftp_packet.specs.declared.endpoint.Endpoint.{Endpoint}
+use Rattle.tftp_packet.specs.declared.refusal.Refusal.{Refusal}
+use Rattle.tftp_packet.specs.Packet.{read, write, encode}
+use Rattle.tftp_packet.specs.Blocks.{block_of}
+use Rattle.tftp_packet.specs.Refusal.{refusal_packet}
+use Rattle.tftp_packet.specs.Decode.{decode_bytes}
+use Rattle.tftp_ends.specs.declared.limits.TheConstants.{MAX_FILE}
+use Rattle.tftp_ends.specs.Ends.{Verdict, sender_start, data_packet}
+use Rattle.tftp_ends.proofs.Steps.{IsSender-start, start-reads_back}
+use Rattle.tws_file.specs.declared.«ruleset».Ruleset.{Ruleset}
+use Rattle.tws_file.specs.declared.«ruleset».Ruleset.TheVariants.{Lynx, Ms}
+use Rattle.tws_best.specs.Best.{collection_text}
+use Rattle.archive_table.specs.Server.{End, Taken, Transfer, sending, at_port, with_live, transfer_at, map_of, kind_named, out_from, refuses}
+use Rattle.archive_world.specs.World.{Datagram, World, Opening, Asked, to_write, to_read, server_endpoint, after_request}
+use Rattle.archive_world.specs.Headline.{HasOwnPorts, IsBestOver, files_of}
+use Rattle.archive_world.proofs.Places.{Has, Has-last, Has-push, at-extends, at-last, before_last, Extends-same, Extends-push}
+use Rattle.archive_world.proofs.Keyed.{NewOrOld, lookup-insert_entry, apart-insert_entry}
+use Rattle.archive_world.proofs.Claims.{GrowsTo, HasBegun, HasGet, HasOpened, IsStranger, IsTextOf, Serves, ServesBlock, AsksToRead, AsksToWrite, IsHonest, IsBound, IsLiveEnd, IsLive, IsUntaken, IsAskedBy, IsOpening, IsTakenFrom}
+use Rattle.archive_world.proofs.Lasting.{either, stranger-lasts, get-lasts, live-lasts}
+use Rattle.archive_world.proofs.Owning.{put_begun, get_begun}
+use Rattle.archive_world.proofs.Invariant.{exact_port, same_port, TakesOnce, Holds}
+use Rattle.archive_world.proofs.ServerMoves.{served, begun_away, bound_before, served-holds}
+use Rattle.archive_world.proofs.Sending.{from_port, honest_packet, honest_refusal, replies-holds}
+
+-- ---- a transfer is opened
+
+module _ (w : World) (h : Holds w) (spare : ℕ) (free : transfer_at spare w.server ≡ None) (from : Endpoint) (asked : Asked) where
+  abbrev pub opening : Opening
+  opening = record { peer = from; port = spare; asked = asked; taken = length w.taken }
+
+  module _ (end : End) (first : List ℕ) where
+    abbrev pub transfer : Transfer
+    transfer = record { peer = from; end = end }
+
+    abbrev more : List (ℕ × Transfer)
+    more = insert_entry nat_cmp w.server.live spare transfer
+
+    abbrev sends : List Datagram
+    sends = w.net ++ record { source = from_port spare; target = from; bytes = first } ∷ []
+
+    abbrev pub opened : World
+    opened = served sends (with_live more w.server) w.taken (w.opened ++ opening ∷ []) w
+
+    pub grows : GrowsTo w opened
+    grows =
+        record {
+          net = Extends-push w.net _;
+          begun = Extends-same w.begun;
+          taken = Extends-same w.taken;
+          opened = Extends-push w.opened opening;
+          strays = Extends-same w.strays;
+        }
+
+    -- what is to be shown
+    pub record IsFine : Type 0 where
+      pub away : from.host ≢ server_endpoint.host
+      pub live : IsLiveEnd opened from spare end
+      pub honest : IsHonest opened (record { source = from_port spare; target = from; bytes = first })
+      pub whose : IsStranger opened from ⊎ IsAskedBy opened opening asked
+
+    module _ (own : HasOwnPorts opened) (f : IsFine) where
+      from_us : (d : Datagram) → Has sends d → Has w.net d ⊎ ((d.source.host ≡ server_endpoint.host) × IsHonest opened d)
+      from_us d has =
+          either (λ old. old) (λ is. (ap (λ (x : Datagram). x.source.host) is, subst (IsHonest opened) (sym is) f.honest)) (Has-push w.net _ d has)
+
+      before : (e : Endpoint) (q : ℕ) → e.host ≢ server_endpoint.host → IsBound opened e q → IsBound w e q
+      before = bound_before w h sends (with_live more w.server) w.taken (w.opened ++ opening ∷ []) (λ d has. either (λ old. old) (λ ours. ours.0) (from_us d has))
+
+      live_in : (q : ℕ) (u : Transfer) → NewOrOld at_port exact_port w.server.live spare transfer q u → IsLive opened q u
+      live_in q u (inr old) = live-lasts w opened grows q u (h.live q u old)
+      live_in q u (inl new) =
+          let here : IsLive opened spare transfer = record { away = f.away; end = f.live } in
+          subst (λ (x : Transfer). IsLive opened q x) (sym new.1) (subst (λ (p : ℕ). IsLive opened p transfer) (sym new.0) here)
+
+      -- no transfer was opened there for this peer before
+      never_opened : {P : Type 0} (asked_then : Asked) (count : ℕ) → HasOpened w from spare asked_then count → P
+      never_opened asked_then count o =
+          let place = o.among.place in
+          let still = at-extends w.opened (w.opened ++ opening ∷ []) (Extends-push w.opened opening) place _ o.among.is in
+          let first_then : place < length w.opened = before_last w.opened place _ o.among.is in
+          let same : place ≡ length w.opened = own.openings place (length w.opened) _ opening still (at-last w.opened opening) refl refl in
+          absurd (omega arith)
+
+      taken_before : (u : Taken) → u.peer ≡ from → IsBound w from spare → IsStranger w u.peer ⊎ IsTakenFrom w u → IsStranger opened from
+      taken_before u same bound (inl stranger) = subst (IsStranger opened) same (stranger-lasts w opened grows u.peer stranger)
+      taken_before u same bound (inr t) =
+          let at_port_then : IsBound w from t.port = subst (λ (e : Endpoint). IsBound w e t.port) same t.bound in
+          let begun : HasBegun w from = subst (HasBegun w) same (put_begun w u.peer u.file t.began) in
+          let one = h.one_port from t.port spare begun at_port_then bound in
+          let o = subst (λ (p : ℕ). HasOpened w from p to_write t.count) one (subst (λ (e : Endpoint). HasOpened w e t.port to_write t.count) same t.opened) in
+          never_opened to_write t.count o
+
+      untaken_new : IsUntaken opened spare transfer
+      untaken_new running u has same bound = taken_before u same (before from spare f.away bound) (h.taken u has).whose
+
+      untaken_in : (q : ℕ) (u : Transfer) → NewOrOld at_port exact_port w.server.live spare transfer q u → IsUntaken opened q u
+      untaken_in q u (inr old) =
+          λ running v has same bound. stranger-lasts w opened grows u.peer (h.untaken q u old running v has same (before u.peer q (h.live q u old).away bound))
+      untaken_in q u (inl new) =
+          subst (λ (x : Transfer). IsUntaken opened q x) (sym new.1) (subst (λ (p : ℕ). IsUntaken opened p transfer) (sym new.0) untaken_new)
+
+      once_in : TakesOnce opened
+      once_in i j t u at_i at_j same =
+          either (stranger-lasts w opened grows t.peer) (λ e. e) (h.once i j t u at_i at_j same)
+
+      new_opening : IsOpening opened opening
+      new_opening = record { counted = le_refl (length w.taken); whose = f.whose }
+
+      pub opened-holds : Holds opened
+      opened-holds =
+          served-holds w h sends (with_live more w.server) w.taken (w.opened ++ opening ∷ [])
+          (record {
+            more_net = grows.net;
+            more_taken = grows.taken;
+            more_opened = grows.opened;
+            honest = from_us;
+            apart = apart-insert_entry nat_cmp exact_port same_port w.server.live spare transfer free h.apart;
+            live = λ q u e. live_in q u (lookup-insert_entry nat_cmp exact_port w.server.live spare transfer q u e);
+            untaken = λ q u e. untaken_in q u (lookup-insert_entry nat_cmp exact_port w.server.live spare transfer q u e);
+            openings = λ o has. either (λ old. old) (λ is. subst (IsOpening opened) (sym is) new_opening) (Has-push w.opened opening o has);
+            files = λ t has. inl has;
+            once = once_in;
+            best = h.best;
+          })
+
+-- ---- a request to read
+
+module _ (w : World) (h : Holds w) (d : Datagram) (among : Has w.net d) where
+  -- who reads is a stranger or a get
+  pub reads : (name mode : List ℕ) → decode_bytes d.bytes ≡ Ok (read name mode) → IsStranger w d.source ⊎ AsksToRead w d.source name
+  reads name mode is = either (λ s. s) (λ says. says (read name mode) is) (h.net d among).says
+
+  pub writes : (name mode : List ℕ) → decode_bytes d.bytes ≡ Ok (write name mode) → IsStranger w d.source ⊎ AsksToWrite w d.source
+  writes name mode is = either (λ s. s) (λ says. says (write name mode) is) (h.net d among).says
+
+  stranger_away : (e : Endpoint) → IsStranger w e → e.host ≢ server_endpoint.host
+  stranger_away e s ours = h.strays s.datagram s.among (ap (λ (x : Endpoint). x.host) s.source ∙ ours)
+
+  reader_away : (name : List ℕ) → IsStranger w d.source ⊎ AsksToRead w d.source name → d.source.host ≢ server_endpoint.host
+  reader_away name (inl stranger) = stranger_away d.source stranger
+  reader_away name (inr asks) = begun_away w h d.source (get_begun w d.source asks.kind asks.count asks.began)
+
+  pub writer_away : IsStranger w d.source ⊎ AsksToWrite w d.source → d.source.host ≢ server_endpoint.host
+  writer_away (inl stranger) = stranger_away d.source stranger
+  writer_away (inr asks) = begun_away w h d.source (put_begun w d.source asks.file asks.began)
+
+  -- a refusal changes nothing but the network
+  pub refuses-holds : (spare : ℕ) (asked : Asked) (why : Refusal) → Holds (after_request d.source spare asked (refuses why d.source w.server) w)
+  refuses-holds spare asked why =
+      replies-holds w h (out_from w.server.request d.source (refusal_packet why)) (honest_refusal w (from_port w.server.request) d.source why)
+
+  module _ (verdict : Verdict) (spare : ℕ) (free : transfer_at spare w.server ≡ None) where
+    -- ---- the text of a collection
+
+    all_files : (taken : List Taken) → take (length taken) taken ≡ taken
+    all_files taken = take_all (length taken) taken (le_refl (length taken))
+
+    best_of : (kind : Ruleset) → IsBestOver kind (files_of w.taken) (collection_text (map_of kind w.server.maps))
+    best_of Lynx = (w.server.maps.lynx, h.best.lynx, refl)
+    best_of Ms = (w.server.maps.ms, h.best.ms, refl)
+
+    is_text : (kind : Ruleset) → IsTextOf w.taken (length w.taken) kind (collection_text (map_of kind w.server.maps))
+    is_text kind =
+        record {
+          within = le_refl (length w.taken);
+          best = subst (λ (ts : List Taken). IsBestOver kind (files_of ts) (collection_text (map_of kind w.server.maps))) (sym (all_files w.taken)) (best_of kind);
+        }
+
+    same_kind : (name : List ℕ) (kind other : Ruleset) → kind_named name ≡ Some kind → kind_named name ≡ Some other → other ≡ kind
+    same_kind name kind other is also = cc
+
+    module _ (kind : Ruleset) (short : length (collection_text (map_of kind w.server.maps)) ≤ MAX_FILE) where
+      abbrev pub text : List ℕ
+      text = collection_text (map_of kind w.server.maps)
+
+      abbrev pub reading : World
+      reading = opened w h spare free d.source (to_read kind) (sending (sender_start text)) (encode (data_packet text 1))
+
+      has_opened : HasOpened reading d.source spare (to_read kind) (length w.taken)
+      has_opened = record { among = Has-last w.opened _ }
+
+      serves : Serves reading d.source spare kind text
+      serves = record { count = length w.taken; opened = has_opened; is_text = is_text kind }
+
+      serves_first : ServesBlock reading (from_port spare) d.source 1 (block_of text 1)
+      serves_first = record { ours = refl; kind = kind; file = text; serves = serves; is_block = refl }
+
+      asked_by : (name : List ℕ) → kind_named name ≡ Some kind → AsksToRead w d.source name → IsAskedBy reading (opening w h spare free d.source (to_read kind)) (to_read kind)
+      asked_by name is asks =
+          let same = same_kind name kind asks.kind is asks.named in
+          let get_it : HasGet w d.source kind asks.count = subst (λ (k : Ruleset). HasGet w d.source k asks.count) same asks.began in
+          let counted : asks.count ≤ length w.taken = (h.begun _ asks.began.among).counted in
+          (asks.count, get-lasts w reading (grows w h spare free d.source (to_read kind) (sending (sender_start text)) (encode (data_packet text 1))) d.source kind asks.count get_it, counted)
+
+      pub read_fine : (name : List ℕ) → kind_named name ≡ Some kind → IsStranger w d.source ⊎ AsksToRead w d.source name → IsFine w h spare free d.source (to_read kind) (sending (sender_start text)) (encode (data_packet text 1))
+      read_fine name is whose =
+          let g = grows w h spare free d.source (to_read kind) (sending (sender_start text)) (encode (data_packet text 1)) in
+          record {
+            away = reader_away name whose;
+            live = record { kind = kind; serves = serves; bounds = IsSender-start text short };
+            honest = honest_packet reading (from_port spare) d.source (data_packet text 1) (start-reads_back text short).decoded (inr serves_first);
+            whose = either (stranger-lasts w reading g d.source) (asked_by name is) whose;
+          }

@@ -1,0 +1,55 @@
+-- The premises of the law can be met, also where a file is taken.
+use Rattle.std.proofs.Common.{◌≡◌, ℕ, zero, suc, List, [], ◌∷◌, ◌++◌, length, slice_get, Contains, Some, refl, ap, sym, ◌∙◌, subst, arith, length-append}
+use Rattle.tftp_packet.specs.Packet.{encode}
+use Rattle.tftp_packet.specs.Decode.{decode_bytes}
+use Rattle.tftp_packet.specs.Blocks.{block_of}
+use Rattle.tws_file.specs.Text.{File, IsText}
+use Rattle.archive_table.specs.Server.{Taken, IsMerged}
+use Rattle.archive_world.specs.World.{run, start, empty_maps, AllMerged}
+use Rattle.archive_world.specs.Headline.{HasOwnPorts}
+use Rattle.archive_world.specs.Samples.{empty_put}
+
+one_place : {A : Type 0} (x y : A) (i : ℕ) → slice_get (x ∷ []) i ≡ Some y → i ≡ 0
+one_place x y zero e = refl
+one_place x y (suc i) e = absurd cc
+
+none_in : {A P : Type 0} (x : A) → Contains [] x → P
+none_in x c = absurd (omega (arith, c.1))
+
+pub empty_put-own : HasOwnPorts (run empty_put)
+unfolding encode decode_bytes block_of
+empty_put-own =
+    record {
+      operations = λ i j b c at_i at_j same. one_place _ b i at_i ∙ sym (one_place _ c j at_j);
+      openings = λ i j o p at_i at_j peer port. one_place _ o i at_i ∙ sym (one_place _ p j at_j);
+      strangers = λ d among. none_in d among;
+    }
+
+not_more : {P : Type 0} (ts : List Taken) (t : Taken) → ts ≡ ts ++ t ∷ [] → P
+not_more ts t e = let more = ap length e ∙ length-append ts (t ∷ []) in absurd (omega arith)
+
+-- no bytes are no file's text
+empty_unreadable : (f : File) → IsText [] f → ⊥
+empty_unreadable f is = let cut = is.text in absurd cc
+
+empty_merged : IsMerged [] empty_maps empty_maps
+empty_merged = record { readable = λ f is. absurd (empty_unreadable f is); unreadable = λ never. refl }
+
+one_taken : (t u : Taken) → t ∷ [] ≡ [] ++ u ∷ [] → t ≡ u
+one_taken t u e = cc
+
+pub empty_put-merged : AllMerged empty_put start
+unfolding encode decode_bytes block_of
+empty_put-merged = (
+  λ t e. not_more [] t e,
+  (
+    λ t e. not_more [] t e,
+    (
+      λ t e. not_more [] t e,
+      (
+        λ t e. subst (λ (u : Taken). IsMerged u.file empty_maps empty_maps) (one_taken _ t e) empty_merged,
+        (λ t e. not_more _ t e, tt),
+      ),
+    ),
+  ),
+)

@@ -1,0 +1,20 @@
+use Rattle.archive_world.proofs.Counting.{began-by}
+use Rattle.archive_world.proofs.Concluding.{run-headline}
+use Rattle.archive_world.proofs.Fetching.{fetches-sent}
+use Rattle.archive_world.proofs.Totality.{run-total, run-one}
+use Rattle.archive_world.proofs.laws.network_law.Goals as goal
+
+pub returns-clause-headline : goal.returns-clause-headline
+returns-clause-headline c = run-headline
+
+pub returns-clause-since : goal.returns-clause-since
+returns-clause-since c = fetches-sent
+
+pub returns-clause-began : goal.returns-clause-began
+returns-clause-began c = began-by
+
+pub returns-clause-total : goal.returns-clause-total
+returns-clause-total c = run-total
+
+pub returns-clause-one : goal.returns-clause-one
+returns-clause-one c = run-one

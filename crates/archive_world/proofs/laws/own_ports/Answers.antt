@@ -1,0 +1,20 @@
+use Rattle.archive_world.specs.World.{happens}
+use Rattle.archive_world.proofs.Growing.{step-grows}
+use Rattle.archive_world.proofs.Owning.{own-before}
+use Rattle.archive_world.proofs.Reusing.{start-own, begin-keeps_own, opening-keeps_own, stray-keeps_own}
+use Rattle.archive_world.proofs.laws.own_ports.Goals as goal
+
+pub returns-clause-start : goal.returns-clause-start
+returns-clause-start c = start-own
+
+pub returns-clause-begin : goal.returns-clause-begin
+returns-clause-begin c = begin-keeps_own
+
+pub returns-clause-opening : goal.returns-clause-opening
+returns-clause-opening c = opening-keeps_own
+
+pub returns-clause-stray : goal.returns-clause-stray
+returns-clause-stray c = stray-keeps_own
+
+pub returns-clause-before : goal.returns-clause-before
+returns-clause-before c = λ w s own. own-before w (happens s w) (step-grows w s) own

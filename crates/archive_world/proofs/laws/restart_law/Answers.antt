@@ -1,0 +1,19 @@
+use Rattle.archive_world.proofs.Loading.{start-kept, step-stays_kept, loads-the_same}
+use Rattle.archive_world.proofs.Persisting.{run-kept}
+use Rattle.archive_world.proofs.Lists.{run-list}
+use Rattle.archive_world.proofs.laws.restart_law.Goals as goal
+
+pub returns-clause-start : goal.returns-clause-start
+returns-clause-start c = start-kept
+
+pub returns-clause-step : goal.returns-clause-step
+returns-clause-step c = step-stays_kept
+
+pub returns-clause-load : goal.returns-clause-load
+returns-clause-load c = loads-the_same
+
+pub returns-clause-run : goal.returns-clause-run
+returns-clause-run c = run-kept
+
+pub returns-clause-list : goal.returns-clause-list
+returns-clause-list c = run-list

@@ -1,0 +1,15 @@
+use Rattle.std.proofs.Common.{refl}
+use Rattle.archive_world.specs.Inside.{world_of}
+use Rattle.archive_world.proofs.Steps.{on-ok}
+use Rattle.archive_world.proofs.Clients.{waited, waited_none}
+use Rattle.archive_world.proofs.machine.Machine.client_timeout.Goals as goal
+
+pub returns-in_default : goal.returns-in_default
+returns-in_default g c =
+    waited_none c.args.e c.args.self.now (world_of c.self.inside) c.self.inside.got.items c.self.view_is refl c.as_slice.result.now c.as_slice.ensures.value (c.in_default.ensures.none refl)
+
+pub returns : goal.returns
+returns g c =
+    on-ok c.answer.result
+    (λ is. waited c.args.e c.args.self.now (world_of c.self.inside) c.answer.new.self c.self.inside.got.items c.self.view_is refl c.self.inside.clients.items c.wait_at-told.new.clients.items c.wait_at-told.result.was c.wait_at-told.result.now c.wait_at-told.result.out refl c.wait_at-told.ensures is)
+    c.answer.ensures

@@ -1,0 +1,119 @@
+-- The world that a machine has, without where its bytes lie in memory.
+use Rattle.std.specs.Prelude.{◌≡◌, ℕ, zero, suc, Bool, true, false, List, [], ◌∷◌, map, Option, Some}
+use Rattle.tftp_packet.specs.declared.endpoint.Endpoint.{Endpoint}
+use Rattle.archive_client.specs.Client.{Client, IsClient, state_of, verdict_after}
+use Rattle.archive_client.specs.Client as client
+use Rattle.archive_client.specs.declared.state.State.{State}
+use Rattle.tftp_packet.specs.declared.out.Out.{Out}
+use Rattle.std.specs.Map.{lookup, set_value}
+use Rattle.tftp_ends.specs.Ends.{Verdict, granted}
+use Rattle.archive_world.specs.declared.seat.Seat.TheInside as seats
+use Rattle.archive_world.specs.declared.running.Running as runnings
+use Rattle.archive_world.specs.declared.running.Running.TheVariants.{Put, Get}
+use Rattle.archive_world.specs.declared.begun.Begun.TheInside as beginning
+use Rattle.archive_world.specs.declared.machine.Machine.TheInside as machines
+use Rattle.archive_world.specs.Kept.{operation_of}
+use Rattle.archive_world.specs.World.{World, Begun, Got, Datagram, after_transfer, at_endpoint, net_with, sent_with, got_with, newly_sent, newly_got}
+use Rattle.archive_table.specs.Server.{Grant, Taken, Merges, server_datagram}
+use Rattle.archive_table.specs.Keeper.{Keeping, StepKeeps}
+
+abbrev pub running_of : {A : Type 0} → runnings.Running A → Client
+running_of (Put c) = c
+running_of (Get c) = c
+
+abbrev pub seat_of : {A : Type 0} → seats.Inside A → Endpoint × Client
+seat_of s = (s.client, running_of s.running)
+
+abbrev pub begun_of : {A : Type 0} → beginning.Inside A → Begun
+begun_of b = record { client = b.client; operation = operation_of b.kind; taken = b.taken }
+
+-- the file that the client there has, if it has fetched one
+-- what was granted to a client that is this now
+abbrev pub verdict_in : {A : Type 0} → runnings.Running A → Verdict
+verdict_in (Put c) = granted
+verdict_in (Get c) = verdict_after c
+
+-- of the entries before this place, none has a key that passes
+abbrev pub NoneBefore : {K X : Type 0} → (test : K → Bool) → ℕ → List (K × X) → Type 0
+NoneBefore test zero xs = Unit {0}
+NoneBefore test (suc i) [] = ⊥
+NoneBefore test (suc i) (x ∷ xs) = (test x.0 ≡ false) × NoneBefore test i xs
+
+-- the first entry whose key passes is at this place
+abbrev pub IsFirst : {K X : Type 0} → (test : K → Bool) → ℕ → List (K × X) → Type 0
+IsFirst test zero [] = ⊥
+IsFirst test zero (x ∷ xs) = test x.0 ≡ true
+IsFirst test (suc i) [] = ⊥
+IsFirst test (suc i) (x ∷ xs) = (test x.0 ≡ false) × IsFirst test i xs
+
+-- whose file was fetched, without its bytes
+abbrev pub bare_got : Endpoint → Got
+bare_got e = record { client = e; file = [] }
+
+-- a world without the bytes of the files that were fetched, which its clients have
+abbrev pub bare : World → World
+bare w =
+    record {
+      net = w.net;
+      server = w.server;
+      clients = w.clients;
+      begun = w.begun;
+      taken = w.taken;
+      sent = w.sent;
+      got = map (λ (g : Got). bare_got g.client) w.got;
+      opened = w.opened;
+      strays = w.strays;
+    }
+
+-- the same of a machine
+abbrev pub world_of : {A : Type 0} → machines.Inside A → World
+world_of m =
+    record {
+      net = m.net.items;
+      server = m.table;
+      clients = m.clients.items;
+      begun = m.begun.items;
+      taken = m.taken.items;
+      sent = m.sent.items;
+      got = map bare_got m.got.items;
+      opened = m.opened.items;
+      strays = m.strays.items;
+    }
+
+-- ---- a datagram at a port of the server
+
+-- What the machine is after a datagram has come to a port of the server, with what was granted; and what the keeper's list
+-- has then. `wanted` is the file that is taken if all is granted.
+pub record HearsAtPort (d : Datagram) (before after : Option (List Keeping)) (old new : World) : Type 0 where
+  pub grant : Grant
+  pub wanted : Option Taken
+  pub is : new ≡ after_transfer (server_datagram grant new.server.maps d.target.port d.source d.bytes old.server) old
+  pub merges : Merges (server_datagram grant new.server.maps d.target.port d.source d.bytes old.server).told.taken old.server.maps new.server.maps
+  pub keeps : StepKeeps grant wanted old.server.maps new.server.maps before after
+
+-- ---- a client
+
+-- Of the client at an endpoint: what it has answered, as a list of clients and a program see it.
+pub record Answers (step : Client → client.Answer) (e : Endpoint) (before after : List (Endpoint × Client)) (was now : State) (out : Option Out) : Type 0 where
+  pub client : Client
+  pub there : lookup (at_endpoint e) before ≡ Some client
+  pub written : after ≡ set_value (at_endpoint e) before (step client).client
+  pub was_is : was ≡ state_of client
+  pub now_is : now ≡ state_of (step client).client
+  pub out_is : out ≡ (step client).out
+  pub fits : IsClient (step client).client
+
+-- a machine's world once these are its clients, one of which has answered
+abbrev pub answered_by : Endpoint → List (Endpoint × Client) → (was now : State) → Option Out → World → World
+answered_by e clients was now out w =
+    record {
+      net = net_with e.host w.net out;
+      server = w.server;
+      clients = clients;
+      begun = w.begun;
+      taken = w.taken;
+      sent = sent_with (newly_sent was now) e w.sent;
+      got = got_with (newly_got was now) e (Some []) w.got;
+      opened = w.opened;
+      strays = w.strays;
+    }

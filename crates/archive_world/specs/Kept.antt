@@ -1,0 +1,46 @@
+-- The plain values of events and of what a run leaves, without where their bytes lie in memory.
+use Rattle.std.specs.Prelude.{List, map}
+use Rattle.archive_table.specs.Server.{Taken}
+use Rattle.archive_client.specs.Client.{Operation, put, get}
+use Rattle.archive_world.specs.declared.datagram.Datagram.TheInside as datagrams
+use Rattle.archive_world.specs.declared.opening.Opening.TheInside as openings
+use Rattle.archive_world.specs.declared.taken_file.TakenFile.TheInside as taking
+use Rattle.archive_world.specs.declared.got_file.GotFile.TheInside as getting
+use Rattle.archive_world.specs.declared.asked.Asked.{Asked as AskedFor}
+use Rattle.archive_world.specs.declared.asked.Asked.TheVariants as asks
+use Rattle.archive_world.specs.declared.op_kind.OpKind as kinds
+use Rattle.archive_world.specs.declared.op_kind.OpKind.TheVariants.{Put, Get}
+use Rattle.archive_world.specs.declared.event.Event as events
+use Rattle.archive_world.specs.declared.event.Event.TheVariants.{Begin, Deliver, ClientTimeout, ServerTimeout, Stray, Restart}
+use Rattle.archive_world.specs.World.{Datagram, Asked, to_write, to_read, Opening, Got, Event, begin, deliver, client_times_out, server_times_out, stray, restart}
+
+abbrev pub datagram_of : {A : Type 0} → datagrams.Inside A → Datagram
+datagram_of d = record { source = d.from; target = d.to; bytes = d.bytes }
+
+abbrev pub asked_as : AskedFor → Asked
+asked_as asks.Write = to_write
+asked_as (asks.Read kind) = to_read kind
+
+abbrev pub opening_of : openings.Inside → Opening
+opening_of o = record { peer = o.peer; port = o.port; asked = asked_as o.asked; taken = o.taken }
+
+abbrev pub taken_of : {A : Type 0} → taking.Inside A → Taken
+taken_of t = record { peer = t.peer; file = t.file }
+
+abbrev pub got_of : {A : Type 0} → getting.Inside A → Got
+got_of g = record { client = g.client; file = g.file }
+
+abbrev pub operation_of : {A : Type 0} → kinds.OpKind A → Operation
+operation_of (Put file) = put file
+operation_of (Get kind) = get kind
+
+abbrev pub event_of : {A : Type 0} → events.Event A → Event
+event_of (Begin op) = begin op.client (operation_of op.kind)
+event_of (Deliver index spare) = deliver index spare
+event_of (ClientTimeout client) = client_times_out client
+event_of (ServerTimeout port) = server_times_out port
+event_of (Stray d) = stray d
+event_of Restart = restart
+
+abbrev pub events_of : {A : Type 0} → List (events.Event A) → List Event
+events_of es = map event_of es

@@ -1,0 +1,402 @@
+-- The server, its clients and the network between them, and what each event makes of them. A step of the server is that of
+-- archive_table, a step of a client that of archive_client.
+use Rattle.std.specs.Prelude.{◌≡◌, ◌≢◌, ℕ, Bool, true, false, ◌==◌, nat_lt, cond, List, [], ◌∷◌, ◌++◌, map, length, slice_get, Option, None, Some, Result, Ok, Err}
+use Rattle.std.specs.Map.{lookup, set_value}
+use Rattle.tftp_packet.specs.declared.endpoint.Endpoint.{Endpoint}
+use Rattle.tftp_packet.specs.declared.out.Out.{Out}
+use Rattle.tftp_packet.specs.declared.packet_fault.PacketFault.{PacketFault}
+use Rattle.tftp_packet.specs.Packet.{Packet, read, write, data_block, ack, error}
+use Rattle.tftp_packet.specs.Decode.{decode_bytes}
+use Rattle.tftp_ends.specs.declared.limits.TheConstants.{MAX_FILE}
+use Rattle.tws_file.specs.declared.«ruleset».Ruleset.{Ruleset}
+use Rattle.tws_file.specs.declared.«ruleset».Ruleset.TheVariants.{Lynx, Ms}
+use Rattle.archive_table.specs.Server.{Server, Maps, Transfer, Taken, Grant, memory_of, is_same, kind_named, transfer_at, server_request, server_datagram, server_timeout, IsMerged}
+use Rattle.archive_table.specs.Server as table
+use Rattle.archive_client.specs.declared.state.State.{State}
+use Rattle.archive_client.specs.declared.state.State.TheVariants as state
+use Rattle.archive_client.specs.Client.{Operation, put, get, Client, request_out, client_start, client_datagram, client_timeout, state_of, phase_file}
+use Rattle.archive_client.specs.Client as client
+
+-- ---- what a world is
+
+-- a datagram, and between which endpoints
+pub record Datagram : Type 0 where
+  pub source : Endpoint
+  pub target : Endpoint
+  pub bytes : List ℕ
+
+-- an operation that has begun
+pub record Begun : Type 0 where
+  pub client : Endpoint
+  pub operation : Operation
+  -- how many files the server had taken by then
+  pub taken : ℕ
+
+-- what a transfer was opened for
+pub data Asked : Type 0 where
+  to_write : Asked
+  to_read : (kind : Ruleset) → Asked
+
+-- a transfer that the server has opened
+pub record Opening : Type 0 where
+  pub peer : Endpoint
+  pub port : ℕ
+  pub asked : Asked
+  -- how many files the server had taken by then
+  pub taken : ℕ
+
+-- a file that a client has fetched whole
+pub record Got : Type 0 where
+  pub client : Endpoint
+  pub file : List ℕ
+
+pub record World : Type 0 where
+  -- all datagrams that were ever sent, in order; none leaves the network
+  pub net : List Datagram
+  pub server : Server
+  -- the newest first
+  pub clients : List (Endpoint × Client)
+  -- what has happened, in order: the operations that have begun
+  pub begun : List Begun
+  -- the files that the server has taken, each with its peer
+  pub taken : List Taken
+  -- the clients that count their files as sent
+  pub sent : List Endpoint
+  pub got : List Got
+  -- the transfers that were opened
+  pub opened : List Opening
+  -- the datagrams that came from nowhere
+  pub strays : List Datagram
+
+-- What may happen next. A loss is a datagram that is never delivered.
+pub data Event : Type 0 where
+  -- an operation begins at an endpoint
+  begin : (client : Endpoint) (operation : Operation) → Event
+  -- the datagram at this place of the network comes to its target; any may come again, and in any order. If the target is
+  -- the server's port of requests, this spare port is free for a transfer
+  deliver : (index spare : ℕ) → Event
+  -- nothing has come to a client for a while
+  client_times_out : (client : Endpoint) → Event
+  -- nothing has come to this port of the server for a while
+  server_times_out : (port : ℕ) → Event
+  -- a datagram enters the network from nowhere
+  stray : (datagram : Datagram) → Event
+  -- the server starts again, with the collections that it has kept
+  restart : Event
+
+-- an event, and what is not in the hands of the network
+pub record Step : Type 0 where
+  pub event : Event
+  -- what the step is granted: memory, and that a changed collection is kept
+  pub grant : Grant
+  -- where a file is taken, the collections after it
+  pub maps : Maps
+
+-- the server's port of requests
+abbrev pub server_endpoint : Endpoint
+server_endpoint = record { host = 1; port = 6969 }
+
+abbrev pub empty_maps : Maps
+empty_maps = record { lynx = record { «ruleset» = Lynx; entries = [] }; ms = record { «ruleset» = Ms; entries = [] } }
+
+-- nothing was sent, and the server has nothing
+abbrev pub start : World
+start =
+    record {
+      net = [];
+      server = record { request = server_endpoint.port; maps = empty_maps; live = [] };
+      clients = [];
+      begun = [];
+      taken = [];
+      sent = [];
+      got = [];
+      opened = [];
+      strays = [];
+    }
+
+-- ---- clients by their endpoints
+
+abbrev pub at_endpoint : Endpoint → Endpoint → Bool
+at_endpoint e f = is_same e f
+
+abbrev pub client_at : Endpoint → World → Option Client
+client_at e w = lookup (at_endpoint e) w.clients
+
+abbrev pub has_begun : Endpoint → List Begun → Bool
+has_begun e [] = false
+has_begun e (b ∷ bs) = cond (is_same e b.client) true (has_begun e bs)
+
+-- ---- what a step leaves
+
+abbrev pub datagram_of : (host : ℕ) → Out → Datagram
+datagram_of host out =
+    record { source = record { host = host; port = out.from_port }; target = out.to; bytes = out.dgram }
+
+-- what a host sends joins the network
+abbrev pub net_with : (host : ℕ) → List Datagram → Option Out → List Datagram
+net_with host net None = net
+net_with host net (Some out) = net ++ datagram_of host out ∷ []
+
+abbrev pub opened_with : (opened : Bool) → Opening → List Opening → List Opening
+opened_with true o os = os ++ o ∷ []
+opened_with false o os = os
+
+abbrev pub taken_with : Option Taken → List Taken → List Taken
+taken_with None ts = ts
+taken_with (Some t) ts = ts ++ t ∷ []
+
+-- after the server's answer to a request; a request takes no file
+abbrev pub after_request : (peer : Endpoint) (port : ℕ) → Asked → table.Answer → World → World
+after_request peer port asked a w =
+    record {
+      net = net_with server_endpoint.host w.net a.told.out;
+      server = a.server;
+      clients = w.clients;
+      begun = w.begun;
+      taken = w.taken;
+      sent = w.sent;
+      got = w.got;
+      opened = opened_with a.told.opened (record { peer = peer; port = port; asked = asked; taken = length w.taken }) w.opened;
+      strays = w.strays;
+    }
+
+-- after any other answer of the server; none but a request opens a transfer
+abbrev pub after_transfer : table.Answer → World → World
+after_transfer a w =
+    record {
+      net = net_with server_endpoint.host w.net a.told.out;
+      server = a.server;
+      clients = w.clients;
+      begun = w.begun;
+      taken = taken_with a.told.taken w.taken;
+      sent = w.sent;
+      got = w.got;
+      opened = w.opened;
+      strays = w.strays;
+    }
+
+-- whether a client that was in the first state counts its file as sent now, and likewise as fetched
+abbrev pub newly_sent : (was now : State) → Bool
+newly_sent state.Running state.Running = false
+newly_sent state.Running state.Sent = true
+newly_sent state.Running state.Got = false
+newly_sent state.Running (state.Failed why) = false
+newly_sent state.Sent now = false
+newly_sent state.Got now = false
+newly_sent (state.Failed why) now = false
+
+abbrev pub newly_got : (was now : State) → Bool
+newly_got state.Running state.Running = false
+newly_got state.Running state.Sent = false
+newly_got state.Running state.Got = true
+newly_got state.Running (state.Failed why) = false
+newly_got state.Sent now = false
+newly_got state.Got now = false
+newly_got (state.Failed why) now = false
+
+abbrev pub sent_with : (newly : Bool) → Endpoint → List Endpoint → List Endpoint
+sent_with true e es = es ++ e ∷ []
+sent_with false e es = es
+
+abbrev pub got_with : (newly : Bool) → Endpoint → Option (List ℕ) → List Got → List Got
+got_with true e (Some file) gs = gs ++ record { client = e; file = file } ∷ []
+got_with true e None gs = gs
+got_with false e file gs = gs
+
+-- after the answer of the client at an endpoint, which was this one
+abbrev pub after_client : Endpoint → Client → client.Answer → World → World
+after_client e c a w =
+    record {
+      net = net_with e.host w.net a.out;
+      server = w.server;
+      clients = set_value (at_endpoint e) w.clients a.client;
+      begun = w.begun;
+      taken = w.taken;
+      sent = sent_with (newly_sent (state_of c) (state_of a.client)) e w.sent;
+      got = got_with (newly_got (state_of c) (state_of a.client)) e (phase_file a.client.phase) w.got;
+      opened = w.opened;
+      strays = w.strays;
+    }
+
+-- ---- a begin
+
+abbrev pub is_too_long : Operation → Bool
+is_too_long (put file) = nat_lt MAX_FILE (length file)
+is_too_long (get kind) = false
+
+-- a new client that sends its request
+abbrev pub begins : Endpoint → Operation → World → World
+begins e operation w =
+    record {
+      net = net_with e.host w.net (Some (request_out operation (client_start e.port server_endpoint operation)));
+      server = w.server;
+      clients = (e, client_start e.port server_endpoint operation) ∷ w.clients;
+      begun = w.begun ++ record { client = e; operation = operation; taken = length w.taken } ∷ [];
+      taken = w.taken;
+      sent = w.sent;
+      got = w.got;
+      opened = w.opened;
+      strays = w.strays;
+    }
+
+-- No operation begins on the server's host, and none with a file that is too long.
+abbrev pub begins_unless : (ours long : Bool) → Endpoint → Operation → World → World
+begins_unless true long e operation w = w
+begins_unless false true e operation w = w
+begins_unless false false e operation w = begins e operation w
+
+-- ---- a delivery
+
+-- what is asked for by the name; no transfer is opened for another one
+abbrev pub asked_named : Option Ruleset → Asked
+asked_named (Some kind) = to_read kind
+asked_named None = to_write
+
+-- what a request asks for; no other packet opens a transfer
+abbrev pub asked_packet : Packet → Asked
+asked_packet (read name mode) = asked_named (kind_named name)
+asked_packet (write name mode) = to_write
+asked_packet (data_block n body) = to_write
+asked_packet (ack n) = to_write
+asked_packet (error code text) = to_write
+
+abbrev pub asked_decoded : Result Packet PacketFault → Asked
+asked_decoded (Ok packet) = asked_packet packet
+asked_decoded (Err e) = to_write
+
+abbrev pub asked_of : (bytes : List ℕ) → Asked
+asked_of bytes = asked_decoded (decode_bytes bytes)
+
+-- The port of requests is not spare, nor is a port with a transfer.
+abbrev pub request_comes : (used : Bool) → Option Transfer → (spare : ℕ) → Grant → Datagram → World → World
+request_comes true live spare grant d w = w
+request_comes false (Some t) spare grant d w = w
+request_comes false None spare grant d w =
+    after_request d.source spare (asked_of d.bytes) (server_request (memory_of grant) spare d.source d.bytes w.server) w
+
+-- a datagram comes to the server's host: whether to the port of requests
+abbrev pub server_hears : (request : Bool) → (spare : ℕ) → Grant → Maps → Datagram → World → World
+server_hears true spare grant maps d w =
+    request_comes (spare == w.server.request) (transfer_at spare w.server) spare grant d w
+server_hears false spare grant maps d w =
+    after_transfer (server_datagram grant maps d.target.port d.source d.bytes w.server) w
+
+-- a datagram for an endpoint with no client changes nothing
+abbrev pub client_hears : Option Client → Grant → Datagram → World → World
+client_hears None grant d w = w
+client_hears (Some c) grant d w =
+    after_client d.target c (client_datagram (memory_of grant) d.source d.bytes c) w
+
+-- whether it comes to the server's host
+abbrev pub arrives : (ours : Bool) → (spare : ℕ) → Grant → Maps → Datagram → World → World
+arrives true spare grant maps d w = server_hears (d.target.port == w.server.request) spare grant maps d w
+arrives false spare grant maps d w = client_hears (client_at d.target w) grant d w
+
+-- a place at which nothing was sent changes nothing
+abbrev pub delivers : Option Datagram → (spare : ℕ) → Grant → Maps → World → World
+delivers None spare grant maps w = w
+delivers (Some d) spare grant maps w = arrives (d.target.host == server_endpoint.host) spare grant maps d w
+
+-- ---- the other events
+
+abbrev pub client_waits : Option Client → Endpoint → World → World
+client_waits None e w = w
+client_waits (Some c) e w = after_client e c (client_timeout c) w
+
+abbrev pub strays_in : Datagram → World → World
+strays_in d w =
+    record {
+      net = w.net ++ d ∷ [];
+      server = w.server;
+      clients = w.clients;
+      begun = w.begun;
+      taken = w.taken;
+      sent = w.sent;
+      got = w.got;
+      opened = w.opened;
+      strays = w.strays ++ d ∷ [];
+    }
+
+-- A stray comes neither from the server's host nor from an endpoint with an operation.
+abbrev pub strays_unless : (ours begun : Bool) → Datagram → World → World
+strays_unless true begun d w = w
+strays_unless false true d w = w
+strays_unless false false d w = strays_in d w
+
+-- All transfers are gone. A changed collection was kept before it replaced the old one, so the collections that were kept
+-- are those of now.
+abbrev pub restarts : World → World
+restarts w =
+    record {
+      net = w.net;
+      server = record { request = w.server.request; maps = w.server.maps; live = [] };
+      clients = w.clients;
+      begun = w.begun;
+      taken = w.taken;
+      sent = w.sent;
+      got = w.got;
+      opened = w.opened;
+      strays = w.strays;
+    }
+
+-- ---- a run
+
+-- An event that may not happen changes nothing.
+abbrev pub event_happens : Event → Grant → Maps → World → World
+event_happens (begin e operation) grant maps w =
+    begins_unless (e.host == server_endpoint.host) (is_too_long operation) e operation w
+event_happens (deliver index spare) grant maps w = delivers (slice_get w.net index) spare grant maps w
+event_happens (client_times_out e) grant maps w = client_waits (client_at e w) e w
+event_happens (server_times_out port) grant maps w = after_transfer (server_timeout port w.server) w
+event_happens (stray d) grant maps w =
+    strays_unless (d.source.host == server_endpoint.host) (has_begun d.source w.begun) d w
+event_happens restart grant maps w = restarts w
+
+abbrev pub happens : Step → World → World
+happens s w = event_happens s.event s.grant s.maps w
+
+abbrev pub run_from : List Step → World → World
+run_from [] w = w
+run_from (s ∷ steps) w = run_from steps (happens s w)
+
+abbrev pub run : List Step → World
+run steps = run_from steps start
+
+-- Where the step takes a file, the file has made the collections after it.
+abbrev pub HasMerged : Step → World → Type 0
+HasMerged s w =
+    (t : Taken) → (happens s w).taken ≡ w.taken ++ t ∷ [] → IsMerged t.file w.server.maps (happens s w).server.maps
+
+abbrev pub AllMerged : List Step → World → Type 0
+AllMerged [] w = Unit {0}
+AllMerged (s ∷ steps) w = HasMerged s w × AllMerged steps (happens s w)
+
+-- what is asked of a world: all but the collections, which follow from it
+abbrev pub asked_by : List Step → List (Event × Grant)
+asked_by steps = map (λ (s : Step). (s.event, s.grant)) steps
+
+-- ---- which events may happen
+
+-- no transfer is at the port, and it is not the port of requests
+pub record IsFree (spare : ℕ) (w : World) : Type 0 where
+  pub other : spare ≢ w.server.request
+  pub free : transfer_at spare w.server ≡ None
+
+-- a datagram was sent, and where it goes to the port of requests, the spare port is free
+pub record MayDeliver (index spare : ℕ) (w : World) : Type 0 where
+  pub datagram : Datagram
+  pub is : slice_get w.net index ≡ Some datagram
+  pub spare_is : datagram.target ≡ record { host = server_endpoint.host; port = w.server.request } → IsFree spare w
+
+-- A time-out of a port without a transfer may happen, and changes nothing.
+abbrev pub MayHappen : Event → World → Type 0
+MayHappen (begin e operation) w = (e.host ≢ server_endpoint.host) × (is_too_long operation ≡ false)
+MayHappen (deliver index spare) w = MayDeliver index spare w
+MayHappen (client_times_out e) w = has_begun e w.begun ≡ true
+MayHappen (server_times_out port) w = Unit {0}
+MayHappen (stray d) w = (d.source.host ≢ server_endpoint.host) × (has_begun d.source w.begun ≡ false)
+MayHappen restart w = Unit {0}
+
+abbrev pub AllMayHappen : List Step → World → Type 0
+AllMayHappen [] w = Unit {0}
+AllMayHappen (s ∷ steps) w = MayHappen s.event w × AllMayHappen steps (happens s w)

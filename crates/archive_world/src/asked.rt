@@ -1,0 +1,10 @@
+use tws_file::Ruleset;
+
+/// What a transfer was opened for.
+#[derive(Clone, Copy, Debug, PartialEq, Eq)]
+pub enum Asked {
+    /// To write a file.
+    Write,
+    /// To read the collection of these rules.
+    Read(Ruleset),
+}

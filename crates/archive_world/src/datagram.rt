@@ -1,0 +1,45 @@
+ghost use Rattle.std.specs.Prelude.{◌≡◌, IfOk};
+
+use std::alloc::{AllocError, Allocator, Global};
+use std::marker::Model;
+use tftp_packet::Endpoint;
+use tws_file::Bytes;
+
+/// A datagram, and between which endpoints.
+#[derive(Drop)]
+#[derive_where(Debug)]
+pub struct Datagram<A: Allocator = Global> {
+    /// Where it comes from.
+    pub from: Endpoint,
+    /// Where it goes to.
+    pub to: Endpoint,
+    /// Its bytes.
+    pub bytes: Bytes<A>,
+}
+
+impl<A: Allocator> Model for Datagram<A> {
+    ghost use Rattle.archive_world.specs.World.{Datagram as Sent};
+
+    ghost Value = { Sent };
+
+    ghost use Rattle.archive_world.specs.Kept.{datagram_of};
+
+    ghost view = { datagram_of };
+}
+
+impl<A: Allocator> Datagram<A> {
+    /// The same datagram again.
+    ///
+    /// # Errors
+    ///
+    /// Out of memory.
+    pub(crate) fn copy<B: Allocator>(&self, alloc: B) -> Result<Datagram<B>, AllocError>
+        ensures { IfOk result (λ d. d ≡ self.now) }
+    {
+        Ok(Datagram {
+            from: self.from,
+            to: self.to,
+            bytes: Bytes::of(Vec::from_slice(alloc, self.bytes.as_slice())?),
+        })
+    }
+}

@@ -1,0 +1,33 @@
+use crate::datagram::Datagram;
+use crate::op::Op;
+use std::alloc::{Allocator, Global};
+use tftp_packet::Endpoint;
+
+/// What may happen next. A loss is a datagram that is never delivered.
+#[derive(Drop)]
+#[derive_where(Debug)]
+pub enum Event<A: Allocator = Global> {
+    /// An operation begins: its client sends its request.
+    Begin(Op<A>),
+    /// A datagram that was sent comes to its target; any may come again, and in any order.
+    Deliver {
+        /// Which one, counted from 0 over all that were ever sent.
+        index: usize,
+        /// Where it goes to the server's port of requests: the port that is free for a transfer.
+        spare: u16,
+    },
+    /// Nothing has come to a client for a while.
+    ClientTimeout {
+        /// Where the client is.
+        client: Endpoint,
+    },
+    /// Nothing has come to a port of the server for a while.
+    ServerTimeout {
+        /// The port.
+        port: u16,
+    },
+    /// A datagram enters the network from nowhere.
+    Stray(Datagram<A>),
+    /// The server starts again, with the collections that its keeper has.
+    Restart,
+}

@@ -1,0 +1,24 @@
+use std::alloc::{Allocator, Global};
+use std::marker::Model;
+use tftp_packet::Endpoint;
+use tws_file::Bytes;
+
+/// A file that a client has fetched whole.
+#[derive(Drop)]
+#[derive_where(Debug)]
+pub struct GotFile<A: Allocator = Global> {
+    /// Where the client is.
+    pub client: Endpoint,
+    /// Its bytes.
+    pub file: Bytes<A>,
+}
+
+impl<A: Allocator> Model for GotFile<A> {
+    ghost use Rattle.archive_world.specs.World.{Got};
+
+    ghost Value = { Got };
+
+    ghost use Rattle.archive_world.specs.Kept.{got_of};
+
+    ghost view = { got_of };
+}

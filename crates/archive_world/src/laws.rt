@@ -1,0 +1,90 @@
+//! What holds of every run. These functions do nothing: each contract is a theorem.
+
+ghost use Rattle.std.specs.Prelude.{◌≡◌, List, [], ◌∷◌, ◌++◌, Contains, Option};
+ghost use Rattle.archive_world.specs.Samples.{request_twice, late_ack, crossed_get, unanswered, strange_put, restart_between, empty_put, empty_get, barred_strays, opened_again, outcome_of, sample_opening, one_put_outcome, no_file_outcome, crossed_get_outcome, strange_put_outcome, restart_outcome, empty_put_outcome, empty_get_outcome};
+ghost use Rattle.tftp_packet.specs.declared.endpoint.Endpoint.{Endpoint};
+ghost use Rattle.archive_client.specs.Client.{Operation};
+ghost use Rattle.archive_world.specs.Reuse.{BeginKeepsOwn, OpeningKeepsOwn, StrayKeepsOwn};
+ghost use Rattle.archive_world.specs.World.{Begun, Datagram, Opening, to_write, World, Event, Step, happens, start, run, server_endpoint, empty_maps, AllMerged, asked_by, AllMayHappen};
+ghost use Rattle.archive_table.specs.Server.{Grant, Maps, Taken};
+ghost use Rattle.archive_table.specs.Keeper.{Keeping};
+ghost use Rattle.archive_world.specs.Restarts.{HasKept, StepStaysKept, LoadsTheSame, RunKeeps, RestartsFrom};
+ghost use Rattle.archive_world.specs.Traces.{Member, trace_from, trace_steps, AllDeedsMerged};
+ghost use Rattle.archive_world.specs.Headline.{HasOwnPorts, Headline, FetchesSent, BeganBy};
+
+/// Of every list of begins, deliveries of any datagram ever sent, losses, time-outs, strangers' datagrams and restarts,
+/// whatever memory is refused and whatever is not kept: where no port pair serves two transfers and no stranger has the
+/// endpoint of an operation, a put's file is taken at most once and unchanged, and exactly once if its client counts it as
+/// sent; each collection is the best over the files taken; and a finished get is the collection at a request of its own.
+/// Where a step takes a file, the collections after it are those that the server's contract says.
+pub fn network_law()
+    ensures headline { (steps : List Step) → HasOwnPorts (run steps) → AllMerged steps start → Headline (run steps) }
+    // What has begun are operations of the events, each with the number of files that were taken before its event.
+    ensures began { (steps : List Step) (b : Begun) → Contains (run steps).begun b → BeganBy steps b }
+    // So a put that was counted as sent before a get began is in what that has fetched.
+    ensures since { (before after : List Step) (s : Step) → HasOwnPorts (run (before ++ s ∷ after)) → AllMerged (before ++ s ∷ after) start → FetchesSent before after s }
+    // For all events and grants there are collections that the server's contract says, and the world after them is one.
+    ensures total { (asked : List (Event × Grant)) → (steps : List Step) × (asked_by steps ≡ asked) × AllMerged steps start }
+    ensures one { (first second : List Step) → asked_by first ≡ asked_by second → AllMerged first start → AllMerged second start → run first ≡ run second }
+{}
+
+/// The server's host and its port of requests as numbers. The definitions name them.
+pub fn server_values()
+    ensures host { server_endpoint.host ≡ 1 }
+    ensures port { server_endpoint.port ≡ 6969 }
+{}
+
+/// Of every trace, which names the datagrams that come: if each event that it makes may happen, so that each datagram that
+/// it names was sent before or is a stranger's, the run of these events, with what the trace was granted, makes just the
+/// trace's deeds. So the headline holds of every such trace with own ports.
+pub fn trace_law()
+    ensures run { (members : List Member) → AllMayHappen (trace_steps members start) start → run (trace_steps members start) ≡ trace_from members start }
+    ensures headline { (members : List Member) → AllMayHappen (trace_steps members start) start → HasOwnPorts (trace_from members start) → AllDeedsMerged members start → Headline (trace_from members start) }
+{}
+
+/// Some runs, so that nobody has to take it on trust that a run does something: a request that comes twice, a last ACK that
+/// is late three times, a put that crosses a get, a put that nobody answers, a stranger, a restart, a file of no bytes, a
+/// get of nothing, strays that may not happen.
+pub fn sample_runs()
+    ensures twice { outcome_of (run request_twice) ≡ one_put_outcome 6 (sample_opening 1 4000 to_write 0 ∷ sample_opening 1 4001 to_write 0 ∷ []) }
+    ensures late { outcome_of (run late_ack) ≡ one_put_outcome 10 (sample_opening 1 4000 to_write 0 ∷ []) }
+    ensures crossed { outcome_of (run crossed_get) ≡ crossed_get_outcome }
+    ensures unanswered { outcome_of (run unanswered) ≡ no_file_outcome 5 }
+    ensures strange { outcome_of (run strange_put) ≡ strange_put_outcome }
+    ensures restarted { outcome_of (run restart_between) ≡ restart_outcome }
+    ensures empty { outcome_of (run empty_put) ≡ empty_put_outcome }
+    ensures fetched_empty { outcome_of (run empty_get) ≡ empty_get_outcome }
+    ensures barred { outcome_of (run barred_strays) ≡ no_file_outcome 1 }
+    // These runs meet the premises of the law; in all but one a readable file is taken.
+    ensures crossed_premises { HasOwnPorts (run crossed_get) × AllMerged crossed_get start }
+    ensures strange_premises { HasOwnPorts (run strange_put) × AllMerged strange_put start }
+    ensures restarted_premises { HasOwnPorts (run restart_between) × AllMerged restart_between start }
+    ensures premises { HasOwnPorts (run empty_put) × AllMerged empty_put start }
+    // A second opening for one peer at one port, as a restart allows, breaks own ports.
+    ensures opened_again { HasOwnPorts (run opened_again) → ⊥ }
+{}
+
+/// Where ports are own, by which tests they stay so: a begin, if neither an operation nor a stranger has been at its
+/// endpoint; an opening, if none before had its peer and its port; a stray, if no operation has begun at its endpoint.
+pub fn own_ports()
+    ensures start { HasOwnPorts start }
+    ensures begin { (w : World) → HasOwnPorts w → (e : Endpoint) (operation : Operation) → BeginKeepsOwn w e operation }
+    ensures opening { (w : World) → HasOwnPorts w → (o : Opening) → OpeningKeepsOwn w o }
+    ensures stray { (w : World) → HasOwnPorts w → (d : Datagram) → StrayKeepsOwn w d }
+    // What was not own stays so.
+    ensures before { (w : World) (s : Step) → HasOwnPorts (happens s w) → HasOwnPorts w }
+{}
+
+/// What a keeper has is, after each step, what the server has, and what a table loads from it is that: so a restart leaves
+/// the collections as they are. A keeper that holds nothing has the empty collections; each step of the server keeps what
+/// it changes; a load gives what was kept last. So over every run whose steps keep as the server's contract says, what is
+/// loaded at a restart is what the world has after it.
+pub fn restart_law()
+    ensures start { HasKept [] empty_maps }
+    ensures step { (grant : Grant) (wanted : Option Taken) (old new : Maps) (before after : List Keeping) → StepStaysKept grant wanted old new before after }
+    ensures load { (log : List Keeping) (maps : Maps) → LoadsTheSame log maps }
+    // Over every run, from a keeper that holds nothing. The beginning of a run is a run, so this holds at each restart.
+    ensures run { (steps : List Step) (log : List Keeping) → AllMerged steps start → RunKeeps steps start [] log → HasKept log (run steps).server.maps × RestartsFrom log (run steps) }
+    // Every run with merged collections has such a list.
+    ensures list { (steps : List Step) → AllMerged steps start → (log : List Keeping) × RunKeeps steps start [] log }
+{}

@@ -1,0 +1,39 @@
+//! The archive and its clients as one: a server, clients, and the network between them, over every schedule of begins,
+//! deliveries, time-outs, strangers' datagrams and restarts. docs/HEADLINE.md tells the promise and why it holds.
+//!
+//! `specs/World.antt` is the file to read first: what a world is, and what each event makes of it. `specs/Headline.antt`
+//! has the premise on ports and what holds of every run. `Traces` has runs as their ends tell them, `Reuse` the tests by
+//! which ports stay own, `Restarts` why a restart leaves the collections as they are, and `Samples` some runs.
+#![tactic(auto)]
+
+mod answered;
+mod asked;
+mod begun;
+mod datagram;
+mod event;
+mod event_fault;
+mod event_steps;
+mod got_file;
+mod laws;
+mod machine;
+mod op;
+mod op_kind;
+mod opening;
+mod running;
+mod seat;
+mod seats;
+mod server_endpoint;
+mod taken_file;
+mod world_fault;
+
+pub use asked::Asked;
+pub use datagram::Datagram;
+pub use event::Event;
+pub use got_file::GotFile;
+pub use laws::{network_law, own_ports, restart_law, sample_runs, server_values, trace_law};
+pub use op::Op;
+pub use op_kind::OpKind;
+pub use opening::Opening;
+pub use server_endpoint::SERVER;
+pub use taken_file::TakenFile;
+pub use world_fault::WorldFault;

@@ -1,0 +1,439 @@
+//! The server, the clients and the network, as a program.
+
+ghost use Rattle.std.specs.Prelude.{◌≡◌, false, is_some, ◌≢◌, [], OnOk, OnErr, IfOk, IfErr, Some, None, length, slice_get};
+ghost use Rattle.archive_table.specs.Server.{request_verdict, server_request, server_datagram, server_timeout, grant_of, transfer_at, kind_named, is_same, Grant};
+ghost use Rattle.archive_table.specs.Keeper.{LoadedFrom, TableFails};
+ghost use Rattle.archive_world.specs.Kept.{asked_as, operation_of};
+ghost use Rattle.archive_world.specs.World.{start, has_begun, begins, is_too_long, server_endpoint, net_with, taken_with, opened_with, asked_of, asked_named, after_request, after_transfer, strays_in, newly_sent, newly_got, client_at, client_waits, client_hears};
+ghost use Rattle.archive_world.specs.Inside.{HearsAtPort, answered_by, bare};
+ghost use Rattle.archive_world.specs.Reuse.{has_strayed, was_opened, is_opening_at};
+ghost use Rattle.std.specs.Str.{bytes_eq};
+ghost use Rattle.tws_file.specs.Names.{file_name_of};
+
+use crate::answered::Answered;
+use crate::asked::Asked;
+use crate::begun::Begun;
+use crate::datagram::Datagram;
+use crate::op::Op;
+use crate::opening::Opening;
+use crate::running::Running;
+use crate::seat::Seat;
+use crate::seats::{find, hear_at, is_one, wait_at};
+use crate::server_endpoint::SERVER;
+use crate::taken_file::TakenFile;
+use archive_client::State;
+use archive_table::{Keeper, LoadFault, Step, Table, Taken};
+use std::alloc::{AllocError, Allocator, Global};
+use std::marker::Model;
+use tftp_packet::{Endpoint, Out, Packet, decode};
+use tws_file::{Bytes, Ruleset};
+
+/// A world: the real table and clients, and the datagrams that they have sent.
+#[derive(Drop)]
+pub(crate) struct Machine<A: Allocator + Copy = Global> {
+    alloc: A,
+    net: Vec<Datagram<A>, A>,
+    table: Table<A>,
+    // The newest first.
+    clients: Vec<Seat<A>, A>,
+    begun: Vec<Begun<A>, A>,
+    taken: Vec<TakenFile<A>, A>,
+    sent: Vec<Endpoint, A>,
+    // Whose files were fetched; the files are their clients'.
+    got: Vec<Endpoint, A>,
+    opened: Vec<Opening, A>,
+    strays: Vec<Datagram<A>, A>,
+}
+
+impl<A: Allocator + Copy> Model for Machine<A> {
+    ghost use Rattle.archive_world.specs.World.{World};
+
+    ghost Value = { World };
+
+    ghost use Rattle.archive_world.specs.Inside.{world_of};
+
+    ghost view = { world_of };
+}
+
+impl<A: Allocator + Copy> Machine<A> {
+    /// Nothing was sent, and the server has nothing.
+    pub(crate) fn new(alloc: A) -> Self
+        ensures { result ≡ start }
+    {
+        Machine {
+            alloc,
+            net: Vec::new(alloc),
+            table: Table::new(alloc, SERVER.port),
+            clients: Vec::new(alloc),
+            begun: Vec::new(alloc),
+            taken: Vec::new(alloc),
+            sent: Vec::new(alloc),
+            got: Vec::new(alloc),
+            opened: Vec::new(alloc),
+            strays: Vec::new(alloc),
+        }
+    }
+
+    // What a host sends joins the network.
+    fn send(&mut self, host: u32, out: Option<Out>) -> Result<(), AllocError>
+        ensures { OnOk result (self.new ≡ record self.old { net = net_with host self.old.net out }) }
+    {
+        let Some(out) = out else {
+            return Ok(());
+        };
+        let bytes = Bytes::of(Vec::from_slice(self.alloc, out.dgram.bytes())?);
+        let from = Endpoint {
+            host,
+            port: out.from_port,
+        };
+        self.net.push(Datagram {
+            from,
+            to: out.to,
+            bytes,
+        })?;
+        Ok(())
+    }
+
+    // The server has taken a file.
+    fn take(&mut self, taken: Option<Taken<A>>) -> Result<(), AllocError>
+        ensures { OnOk result (self.new ≡ record self.old { taken = taken_with taken self.old.taken }) }
+    {
+        let Some(Taken { peer, file }) = taken else {
+            return Ok(());
+        };
+        let file = Bytes::of(file.to_vec(self.alloc)?);
+        self.taken.push(TakenFile { peer, file })?;
+        Ok(())
+    }
+
+    // What the server tells after any input but a request.
+    fn tell(&mut self, step: Step<A>) -> Result<(), AllocError>
+        ensures { OnOk result (self.new ≡ after_transfer (record { server = self.old.server; told = step }) self.old) }
+    {
+        let Step { out, taken, .. } = step;
+        self.send(SERVER.host, out)?;
+        self.take(taken)
+    }
+
+    /// Nothing has come to a port of the server for a while.
+    ///
+    /// # Errors
+    ///
+    /// Out of memory.
+    pub(crate) fn server_timeout(&mut self, port: u16) -> Result<(), AllocError>
+        ensures { OnOk result (self.new ≡ after_transfer (server_timeout port self.old.server) self.old) }
+    {
+        let step = self.table.on_timeout(port);
+        self.tell(step)
+    }
+
+    /// A datagram enters the network from nowhere.
+    ///
+    /// # Errors
+    ///
+    /// Out of memory.
+    pub(crate) fn stray(&mut self, datagram: &Datagram<A>) -> Result<(), AllocError>
+        ensures { OnOk result (self.new ≡ strays_in datagram.now self.old) }
+    {
+        let one = datagram.copy(self.alloc)?;
+        let other = datagram.copy(self.alloc)?;
+        self.net.push(one)?;
+        self.strays.push(other)?;
+        Ok(())
+    }
+
+    /// A datagram comes to another port of the server than that of requests.
+    ///
+    /// # Errors
+    ///
+    /// Out of memory.
+    pub(crate) fn transfer<K: Keeper>(
+        &mut self,
+        keeper: &mut K,
+        d: &Datagram<A>,
+    ) -> Result<(), AllocError>
+        ensures { OnOk result (HearsAtPort d.now (K.log keeper.old) (K.log keeper.new) self.old self.new) }
+    {
+        let step = self
+            .table
+            .on_datagram(keeper, d.to.port, d.from, d.bytes.as_slice());
+        self.tell(step)
+    }
+
+    /// The server starts again with what the keeper has.
+    ///
+    /// # Errors
+    ///
+    /// Those of `Table::load`; nothing changes then.
+    pub(crate) fn restart<K: Keeper>(&mut self, keeper: &mut K) -> Result<(), LoadFault>
+        requires request { self.old.server.request ≡ server_endpoint.port }
+        ensures lynx { OnOk result (LoadedFrom Ruleset.Lynx (K.log keeper.old) self.new.server.maps.lynx) }
+        ensures ms { OnOk result (LoadedFrom Ruleset.Ms (K.log keeper.old) self.new.server.maps.ms) }
+        ensures world { OnOk result (self.new ≡ record self.old { server = record { request = self.old.server.request; maps = self.new.server.maps; live = [] } }) }
+        ensures log { K.log keeper.new ≡ K.log keeper.old }
+        ensures fault { IfErr result (TableFails (K.log keeper.old)) }
+        ensures err { OnErr result (self.new ≡ self.old) }
+    {
+        self.table = Table::load(self.alloc, SERVER.port, keeper)?;
+        Ok(())
+    }
+
+    /// An operation begins: its client sends its request.
+    ///
+    /// # Errors
+    ///
+    /// Out of memory.
+    pub(crate) fn begin(&mut self, op: &Op<A>) -> Result<(), AllocError>
+        requires short { is_too_long (operation_of op.now.kind) ≡ false }
+        ensures { OnOk result (self.new ≡ begins op.now.client (operation_of op.now.kind) self.old) }
+    {
+        let client = op.client;
+        let kind = op.kind.copy(self.alloc)?;
+        let (running, out) = Running::start(self.alloc, client.port, &op.kind)?;
+        let taken = self.taken.len();
+        let Ok(()) = self.clients.insert(0, Seat { client, running }) else {
+            return Err(AllocError);
+        };
+        self.begun.push(Begun {
+            client,
+            kind,
+            taken,
+        })?;
+        self.send(client.host, Some(out))
+    }
+
+    /// Whether an operation has begun at this endpoint.
+    pub(crate) fn has_begun(&self, e: Endpoint) -> bool
+        ensures { result ≡ has_begun e self.now.begun }
+    {
+        is_begun(self.begun.as_slice(), e)
+    }
+
+    /// Whether a stranger's datagram has come from this endpoint.
+    pub(crate) fn has_strayed(&self, e: Endpoint) -> bool
+        ensures { result ≡ has_strayed e self.now.strays }
+    {
+        is_strayed(self.strays.as_slice(), e)
+    }
+
+    /// Whether a transfer is at this port of the server.
+    pub(crate) fn is_live(&self, port: u16) -> bool
+        ensures { result ≡ is_some (transfer_at port self.now.server) }
+    {
+        self.table.is_live(port)
+    }
+
+    /// The datagram at this place of the network, copied; none where nothing was sent there.
+    ///
+    /// # Errors
+    ///
+    /// Out of memory.
+    pub(crate) fn datagram(&self, index: usize) -> Result<Option<Datagram<A>>, AllocError>
+        ensures { IfOk result (λ d. d ≡ slice_get self.now.net index) }
+    {
+        match self.net.get(index) {
+            Some(d) => Ok(Some(d.copy(self.alloc)?)),
+            None => Ok(None),
+        }
+    }
+
+    // A client has answered.
+    #[tactic(auto, using(crate::proofs::Clients::got_push))]
+    fn answer(&mut self, e: Endpoint, told: Answered) -> Result<(), AllocError>
+        ensures { OnOk result (self.new ≡ answered_by e self.old.clients told.was told.now told.out self.old) }
+    {
+        if is_newly_sent(told.was, told.now) {
+            self.sent.push(e)?;
+        }
+        if is_newly_got(told.was, told.now) {
+            self.got.push(e)?;
+        }
+        self.send(e.host, told.out)
+    }
+
+    /// Nothing has come to a client for a while. Where none is at this endpoint, nothing changes.
+    ///
+    /// # Errors
+    ///
+    /// Out of memory.
+    pub(crate) fn client_timeout(&mut self, e: Endpoint) -> Result<(), AllocError>
+        ensures { OnOk result (self.new ≡ bare (client_waits (client_at e self.old) e self.old)) }
+    {
+        let Some(i) = find(self.clients.as_slice(), e) else {
+            return Ok(());
+        };
+        let told = wait_at(&mut self.clients, i, e);
+        self.answer(e, told)
+    }
+
+    /// A datagram comes to a client's host. Where no client is at its target, nothing changes.
+    ///
+    /// # Errors
+    ///
+    /// Out of memory.
+    pub(crate) fn client_hear(&mut self, d: &Datagram<A>) -> Result<(), AllocError>
+        ensures { OnOk result ((grant : Grant) × (self.new ≡ bare (client_hears (client_at d.now.target self.old) grant d.now self.old))) }
+    {
+        let Some(i) = find(self.clients.as_slice(), d.to) else {
+            return Ok(());
+        };
+        let told = hear_at(&mut self.clients, i, d.to, d.from, d.bytes.as_slice());
+        self.answer(d.to, told)
+    }
+
+    /// Whether a transfer was opened for this peer at this port.
+    pub(crate) fn was_opened(&self, peer: Endpoint, port: u16) -> bool
+        ensures { result ≡ was_opened peer port self.now.opened }
+    {
+        is_opened(self.opened.as_slice(), peer, port)
+    }
+
+    /// A datagram comes to the port of requests, and this port is spare. Whether a transfer was opened there.
+    ///
+    /// # Errors
+    ///
+    /// Out of memory.
+    pub(crate) fn request(&mut self, spare: u16, d: &Datagram<A>) -> Result<bool, AllocError>
+        requires other { spare ≢ self.old.server.request }
+        requires free { transfer_at spare self.old.server ≡ None }
+        ensures { IfOk result (λ opened. self.new ≡ after_request d.now.source spare (asked_of d.now.bytes) (server_request (request_verdict opened) spare d.now.source d.now.bytes self.old.server) self.old) }
+    {
+        let step = self.table.on_request(spare, d.from, d.bytes.as_slice());
+        let Step { out, opened, .. } = step;
+        self.open(opened, spare, d)?;
+        self.send(SERVER.host, out)?;
+        Ok(opened)
+    }
+
+    // A transfer was opened at this port for a request, or none was.
+    fn open(&mut self, opened: bool, port: u16, d: &Datagram<A>) -> Result<(), AllocError>
+        ensures { OnOk result (self.new ≡ record self.old { opened = opened_with opened (record { peer = d.now.source; port = port; asked = asked_of d.now.bytes; taken = length self.old.taken }) self.old.opened }) }
+    {
+        if !opened {
+            return Ok(());
+        }
+        self.opened.push(Opening {
+            peer: d.from,
+            port,
+            asked: asked_by(d.bytes.as_slice()),
+            taken: self.taken.len(),
+        })?;
+        Ok(())
+    }
+}
+
+// Whether a client counts its file as sent now, and did not before.
+fn is_newly_sent(was: State, now: State) -> bool
+    ensures { result ≡ newly_sent was now }
+{
+    match (was, now) {
+        (State::Running, State::Sent) => true,
+        _ => false,
+    }
+}
+
+// Whether a client has fetched its file now, and had not before.
+fn is_newly_got(was: State, now: State) -> bool
+    ensures { result ≡ newly_got was now }
+{
+    match (was, now) {
+        (State::Running, State::Got) => true,
+        _ => false,
+    }
+}
+
+// What a request asks for.
+fn asked_by(bytes: &[u8]) -> Asked
+    ensures { asked_as result ≡ asked_of bytes.now }
+{
+    match decode(bytes) {
+        Ok(Packet::Read { name, .. }) => asked_named(name),
+        Ok(_) | Err(_) => Asked::Write,
+    }
+}
+
+// Whether this is the name of the collection of these rules.
+fn is_name(name: &[u8], kind: Ruleset) -> bool
+    ensures { result ≡ bytes_eq name.now (file_name_of kind) }
+{
+    name == kind.file_name()
+}
+
+// What is read by this name.
+fn asked_named(name: &[u8]) -> Asked
+    ensures { asked_as result ≡ asked_named (kind_named name.now) }
+{
+    if is_name(name, Ruleset::Lynx) {
+        Asked::Read(Ruleset::Lynx)
+    } else if is_name(name, Ruleset::Ms) {
+        Asked::Read(Ruleset::Ms)
+    } else {
+        Asked::Write
+    }
+}
+
+// Whether this is the transfer of a peer at a port.
+fn is_opening(one: &Opening, peer: Endpoint, port: u16) -> bool
+    ensures { result ≡ is_opening_at peer port one.now }
+{
+    peer.host == one.peer.host && peer.port == one.peer.port && port == one.port
+}
+
+// Whether the transfer of a peer at a port is among these.
+#[tactic(auto, using(crate::proofs::Searches::opened_here))]
+fn is_opened(openings: &[Opening], peer: Endpoint, port: u16) -> bool
+    ensures { result ≡ was_opened peer port openings.now }
+{
+    let mut i = openings.len();
+    while i > 0 {
+        i -= 1;
+        if is_opening(&openings[i], peer, port) {
+            return true;
+        }
+    }
+    false
+}
+
+// Whether this operation is at an endpoint.
+fn is_begun_at<A: Allocator>(one: &Begun<A>, e: Endpoint) -> bool
+    ensures { result ≡ is_same e one.now.client }
+{
+    is_one(e, one.client)
+}
+
+// Whether an operation among these has begun at an endpoint.
+#[tactic(auto, using(crate::proofs::Searches::begun_here))]
+fn is_begun<A: Allocator>(begun: &[Begun<A>], e: Endpoint) -> bool
+    ensures { result ≡ has_begun e begun.now }
+{
+    let mut i = begun.len();
+    while i > 0 {
+        i -= 1;
+        if is_begun_at(&begun[i], e) {
+            return true;
+        }
+    }
+    false
+}
+
+// Whether a datagram comes from an endpoint.
+fn is_from<A: Allocator>(one: &Datagram<A>, e: Endpoint) -> bool
+    ensures { result ≡ is_same e one.now.source }
+{
+    is_one(e, one.from)
+}
+
+// Whether a datagram among these comes from an endpoint.
+#[tactic(auto, using(crate::proofs::Searches::strayed_here))]
+fn is_strayed<A: Allocator>(strays: &[Datagram<A>], e: Endpoint) -> bool
+    ensures { result ≡ has_strayed e strays.now }
+{
+    let mut i = strays.len();
+    while i > 0 {
+        i -= 1;
+        if is_from(&strays[i], e) {
+            return true;
+        }
+    }
+    false
+}

@@ -1,0 +1,34 @@
+ghost use Rattle.std.specs.Prelude.{◌≡◌, IfOk};
+ghost use Rattle.archive_world.specs.Kept.{operation_of};
+
+use std::alloc::{AllocError, Allocator, Global};
+use tws_file::{Bytes, Ruleset};
+
+/// What a client is to do.
+#[derive(Drop)]
+#[derive_where(Debug)]
+pub enum OpKind<A: Allocator = Global> {
+    /// Sends this file.
+    Put(Bytes<A>),
+    /// Fetches the collection of these rules.
+    Get(Ruleset),
+}
+
+impl<A: Allocator> OpKind<A> {
+    /// The same again.
+    ///
+    /// # Errors
+    ///
+    /// Out of memory.
+    pub(crate) fn copy<B: Allocator>(&self, alloc: B) -> Result<OpKind<B>, AllocError>
+        ensures { IfOk result (λ k. operation_of k ≡ operation_of self.now) }
+    {
+        match self {
+            OpKind::Put(file) => {
+                let file = Vec::from_slice(alloc, file.as_slice())?;
+                Ok(OpKind::Put(Bytes::of(file)))
+            }
+            OpKind::Get(kind) => Ok(OpKind::Get(*kind)),
+        }
+    }
+}

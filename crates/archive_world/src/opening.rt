@@ -1,0 +1,26 @@
+use crate::asked::Asked;
+use std::marker::Model;
+use tftp_packet::Endpoint;
+
+/// A transfer that the server has opened.
+#[derive(Debug, Drop)]
+pub struct Opening {
+    /// Whom it is with.
+    pub peer: Endpoint,
+    /// The server's port.
+    pub port: u16,
+    /// What was asked for.
+    pub asked: Asked,
+    /// How many files the server had taken by then.
+    pub taken: usize,
+}
+
+impl Model for Opening {
+    ghost use Rattle.archive_world.specs.World.{Opening as Opened};
+
+    ghost Value = { Opened };
+
+    ghost use Rattle.archive_world.specs.Kept.{opening_of};
+
+    ghost view = { opening_of };
+}

@@ -1,0 +1,81 @@
+ghost use Rattle.std.specs.Prelude.{◌≡◌, IfOk, false};
+ghost use Rattle.archive_world.specs.Kept.{operation_of};
+ghost use Rattle.archive_world.specs.World.{is_too_long, server_endpoint};
+ghost use Rattle.archive_client.specs.Client.{client_datagram, client_timeout, client_start, request_out, state_of, IsClient};
+ghost use Rattle.archive_world.specs.Inside.{running_of, verdict_in};
+
+use crate::op_kind::OpKind;
+use crate::server_endpoint::SERVER;
+use archive_client::{Get, Put, State};
+use std::alloc::{AllocError, Allocator, Global};
+use tftp_packet::{Endpoint, Out};
+
+/// What runs at a client's endpoint.
+#[derive(Drop)]
+pub(crate) enum Running<A: Allocator + Copy = Global> {
+    /// A client that sends a file.
+    Put(Put<A>),
+    /// A client that fetches a collection.
+    Get(Get<A>),
+}
+
+impl<A: Allocator + Copy> Running<A> {
+    /// A client at this port that begins, and its request.
+    ///
+    /// # Errors
+    ///
+    /// Out of memory.
+    pub(crate) fn start(alloc: A, port: u16, kind: &OpKind<A>) -> Result<(Self, Out), AllocError>
+        requires short { is_too_long (operation_of kind.now) ≡ false }
+        ensures client { IfOk result (λ r. running_of r.0 ≡ client_start port server_endpoint (operation_of kind.now)) }
+        ensures sent { IfOk result (λ r. r.1 ≡ request_out (operation_of kind.now) (client_start port server_endpoint (operation_of kind.now))) }
+    {
+        match kind {
+            OpKind::Put(file) => {
+                let file = Vec::from_slice(alloc, file.as_slice())?;
+                match Put::start(port, SERVER, file) {
+                    Ok((put, out)) => Ok((Running::Put(put), out)),
+                    Err(_) => unreachable!(),
+                }
+            }
+            OpKind::Get(kind) => {
+                let (get, out) = Get::start(alloc, port, SERVER, *kind);
+                Ok((Running::Get(get), out))
+            }
+        }
+    }
+
+    /// A datagram of these bytes has come from `from`.
+    pub(crate) fn hear(&mut self, from: Endpoint, bytes: &[u8]) -> Option<Out>
+        ensures client { running_of self.new ≡ (client_datagram (verdict_in self.new) from bytes.now (running_of self.old)).client }
+        ensures sent { result ≡ (client_datagram (verdict_in self.new) from bytes.now (running_of self.old)).out }
+        ensures fits { IsClient (running_of self.new) }
+    {
+        match self {
+            Running::Put(put) => put.on_datagram(from, bytes),
+            Running::Get(get) => get.on_datagram(from, bytes),
+        }
+    }
+
+    /// Nothing has come for a while.
+    pub(crate) fn wait(&mut self) -> Option<Out>
+        ensures client { running_of self.new ≡ (client_timeout (running_of self.old)).client }
+        ensures sent { result ≡ (client_timeout (running_of self.old)).out }
+        ensures fits { IsClient (running_of self.new) }
+    {
+        match self {
+            Running::Put(put) => put.on_timeout(),
+            Running::Get(get) => get.on_timeout(),
+        }
+    }
+
+    /// How far it is.
+    pub(crate) fn state(&self) -> State
+        ensures { result ≡ state_of (running_of self.now) }
+    {
+        match self {
+            Running::Put(put) => put.state(),
+            Running::Get(get) => get.state(),
+        }
+    }
+}

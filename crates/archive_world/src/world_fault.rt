@@ -1,0 +1,18 @@
+use thiserror::Error;
+
+/// Why a list of events has no run. Events are counted from 0.
+#[derive(Clone, Copy, Debug, PartialEq, Eq, Error)]
+pub enum WorldFault {
+    /// This event may not happen.
+    #[error("BadEvent({0})")]
+    BadEvent(usize),
+    /// By this event a pair of ports would serve two transfers, or two ends have one endpoint.
+    #[error("PortReused({0})")]
+    PortReused(usize),
+    /// At this event the server cannot load what its keeper has.
+    #[error("NotLoaded({0})")]
+    NotLoaded(usize),
+    /// Out of memory.
+    #[error("Memory")]
+    Memory,
+}
