@@ -1,5 +1,5 @@
 -- Inputs that tell what bytes they have, and what is collected of them.
-use Rattle.std.proofs.Common.{◌≡◌, ℕ, zero, suc, ◌+◌, ◌<◌, List, [], ◌∷◌, ◌++◌, length, take, drop, get_or, slice_set, map, Option, Some, IfSome, refl, ap, sym, subst, ◌∙◌, arith, get_or-drop, drop-drop, append-nil}
+use Rattle.std.proofs.Common.{◌≡◌, ℕ, zero, suc, ◌+◌, ◌<◌, List, [], ◌∷◌, ◌++◌, length, take, drop, get_or, slice_set, map, Option, Some, IfSome, refl, ap, sym, subst, ◌∙◌, arith, get_or-drop, drop-drop}
 use Rattle.std.specs.List.{AllByRecursion, Contains}
 use Rattle.std.proofs.Math.Seq.{take-length}
 use Rattle.std.proofs.lemmas.List.{take_more, take_more_set, take-map, get_or-map, drop-set-lt, length-set, length-map, map-append}
@@ -11,7 +11,7 @@ use Rattle.tws_file.specs.Fault.{HasFault}
 use Rattle.tws_best.specs.Best.{Collected, IsBestOf, IsCollectionOf, solutions_of}
 use Rattle.tws_best.proofs.Sets.{no_texts, one_more_text}
 use Rattle.tws_tool.specs.declared.tool_fault.ToolFault.{ToolFault}
-use Rattle.tws_tool.specs.declared.tool_fault.ToolFault.TheVariants.{Read, Write, Unreadable, Memory}
+use Rattle.tws_tool.specs.declared.tool_fault.ToolFault.TheVariants.{Read, Write, Unreadable, Memory, Socket, Transfer}
 use Rattle.tws_tool.specs.Faults.{ReadFails, IsReadOut}
 use Rattle.tws_tool.specs.Collecting.{AreTold, Collects, CollectFails, IsFirstUnreadable, AreReadOut}
 
@@ -105,6 +105,8 @@ module _ {R : Type 0} (told : R → Option (List ℕ)) (now old : List R) (i : �
         has_fault = at_some (λ (bytes : List ℕ). HasFault bytes fault) (told x) (get_or texts i []) this fails.1;
       })
   input_fails kind c Memory so_far fails = tt
+  input_fails kind c Socket so_far fails = absurd fails
+  input_fails kind c (Transfer why) so_far fails = absurd fails
 
 -- all inputs were collected
 pub all_collected : (R : Type 0) (told : R → Option (List ℕ)) (files : List R) (i : ℕ) (kind : Ruleset) (c : Collected) → i ≡ length files → Collects kind (map told (take i files)) c → Collects kind (map told files) c
@@ -131,3 +133,5 @@ read_out told now i y known Write inside ended fails out = tt
 read_out {R} told now i y known (Unreadable index fault) inside ended fails out =
     subst (λ (n : ℕ). AllByRecursion (λ (r : R). IsAtEnd (told r)) (take (n + 1) (slice_set now i y))) (sym fails.0) (one_more_ended told now i y inside ended out)
 read_out told now i y known Memory inside ended fails out = tt
+read_out told now i y known Socket inside ended fails out = tt
+read_out told now i y known (Transfer why) inside ended fails out = tt

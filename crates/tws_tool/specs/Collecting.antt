@@ -9,7 +9,7 @@ use Rattle.tws_file.specs.Fault.{HasFault}
 use Rattle.byte_output.specs.Output.{AppendsPrefix}
 use Rattle.tws_best.specs.Best.{Collected, IsCollectionOf, collection_text}
 use Rattle.tws_tool.specs.declared.tool_fault.ToolFault.{ToolFault}
-use Rattle.tws_tool.specs.declared.tool_fault.ToolFault.TheVariants.{Read, Write, Unreadable, Memory}
+use Rattle.tws_tool.specs.declared.tool_fault.ToolFault.TheVariants.{Read, Write, Unreadable, Memory, Socket, Transfer}
 
 -- the inputs tell what bytes they have, and these are they
 abbrev pub AreTold : List (Option (List ℕ)) → List (List ℕ) → Type 0
@@ -35,6 +35,8 @@ CollectFails knowns Read = Unit {0}
 CollectFails knowns Write = ⊥
 CollectFails knowns (Unreadable index fault) = (texts : List (List ℕ)) → AreTold knowns texts → IsFirstUnreadable texts index fault
 CollectFails knowns Memory = Unit {0}
+CollectFails knowns Socket = ⊥
+CollectFails knowns (Transfer why) = ⊥
 
 -- the inputs up to one that is called unreadable were read to their ends
 abbrev pub AreReadOut : {R : Type 0} → (R → Option (List ℕ)) → List R → ToolFault → Type 0
@@ -42,6 +44,8 @@ AreReadOut told files Read = Unit {0}
 AreReadOut told files Write = Unit {0}
 AreReadOut told files (Unreadable index fault) = AllByRecursion (λ file. IsAtEnd (told file)) (take (index + 1) files)
 AreReadOut told files Memory = Unit {0}
+AreReadOut told files Socket = Unit {0}
+AreReadOut told files (Transfer why) = Unit {0}
 
 -- the collection over all inputs was written
 abbrev pub BestWrites : Ruleset → List (Option (List ℕ)) → (old new : Option (List ℕ)) → Type 0
@@ -56,3 +60,5 @@ BestFails kind knowns old new Read = new ≡ old
 BestFails kind knowns old new Write = BestPrefix kind knowns old new
 BestFails kind knowns old new (Unreadable index fault) = (new ≡ old) × CollectFails knowns (Unreadable index fault)
 BestFails kind knowns old new Memory = (new ≡ old) ⊎ BestPrefix kind knowns old new
+BestFails kind knowns old new Socket = ⊥
+BestFails kind knowns old new (Transfer why) = ⊥

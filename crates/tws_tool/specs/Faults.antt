@@ -5,14 +5,23 @@ use Rattle.tws_file.specs.declared.file_fault.FileFault.{FileFault}
 use Rattle.tws_file.specs.declared.file_fault.FileFault.TheVariants as file
 use Rattle.byte_output.specs.declared.out_fault.OutFault.{OutFault}
 use Rattle.byte_output.specs.declared.out_fault.OutFault.TheVariants as out
+use Rattle.archive_turns.specs.declared.run_fault.RunFault.{RunFault}
+use Rattle.archive_turns.specs.declared.run_fault.RunFault.TheVariants as run
 use Rattle.tws_file.specs.Fault.{HasFault}
 use Rattle.tws_tool.specs.declared.tool_fault.ToolFault.{ToolFault}
-use Rattle.tws_tool.specs.declared.tool_fault.ToolFault.TheVariants.{Read, Write, Unreadable, Memory}
+use Rattle.tws_tool.specs.declared.tool_fault.ToolFault.TheVariants.{Read, Write, Unreadable, Memory, Socket, Transfer}
 
 -- a fault of writing, as a command's
 abbrev pub written_fault : OutFault → ToolFault
 written_fault out.Io = Write
 written_fault out.Memory = Memory
+
+-- a fault of a transfer, as a command's
+abbrev pub run_fault : RunFault → ToolFault
+run_fault run.Socket = Socket
+run_fault (run.Transfer why) = Transfer why
+run_fault run.Memory = Memory
+run_fault run.Write = Write
 
 -- a fault of reading a file, as a command's
 abbrev pub input_fault : ℕ → FileFault → ToolFault
@@ -29,6 +38,8 @@ IsReadOut left Read = Unit {0}
 IsReadOut left Write = Unit {0}
 IsReadOut left (Unreadable index fault) = IsAtEnd left
 IsReadOut left Memory = Unit {0}
+IsReadOut left Socket = Unit {0}
+IsReadOut left (Transfer why) = Unit {0}
 
 -- the fault comes before anything is written
 abbrev pub IsBeforeOutput : ToolFault → Type 0
@@ -36,6 +47,8 @@ IsBeforeOutput Read = Unit {0}
 IsBeforeOutput Write = ⊥
 IsBeforeOutput (Unreadable index fault) = Unit {0}
 IsBeforeOutput Memory = ⊥
+IsBeforeOutput Socket = Unit {0}
+IsBeforeOutput (Transfer why) = Unit {0}
 
 -- no file was read from the input of this index, which had these bytes
 abbrev pub ReadFails : ℕ → Option (List ℕ) → ToolFault → Type 0
@@ -43,6 +56,8 @@ ReadFails index known Read = Unit {0}
 ReadFails index known Write = ⊥
 ReadFails index known (Unreadable i fault) = (i ≡ index) × IfSome known (λ (bytes : List ℕ). HasFault bytes fault)
 ReadFails index known Memory = Unit {0}
+ReadFails index known Socket = ⊥
+ReadFails index known (Transfer why) = ⊥
 
 -- the exit status of a program that failed so
 abbrev pub status_of : ToolFault → ℕ
@@ -50,6 +65,8 @@ status_of Read = 2
 status_of Write = 2
 status_of (Unreadable index fault) = 3
 status_of Memory = 2
+status_of Socket = 2
+status_of (Transfer why) = 4
 
 -- the exit status of a command that answered so
 abbrev pub answer_status : Result (Unit {0}) ToolFault → ℕ

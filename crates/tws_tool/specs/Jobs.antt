@@ -1,19 +1,25 @@
--- What a run of the program did, by its exit status: 0 where all was done, 1 for a usage error, 2 where reading, writing
--- or memory failed, 3 for an unreadable solution file.
-use Rattle.std.specs.Prelude.{◌≡◌, ◌≢◌, ◌⊎◌, ℕ, ◌≤◌, List, length, Option, Result, Ok, Err}
+-- What a run of the program did, by its exit status: 0 where all was done, 1 for a usage error, 2 where reading, writing,
+-- a socket or memory failed, 3 for an unreadable solution file, 4 for a failed transfer.
+use Rattle.std.specs.Prelude.{◌≡◌, ◌≢◌, ◌⊎◌, ℕ, ◌≤◌, List, length, Option, Result, Ok, Err, string_bytes}
 use Rattle.std.specs.Io.KnownBytes.{IsAtEnd}
+use Rattle.clap.specs.Words.{kind_of}
+use Rattle.clap.specs.declared.error.Error.{Error}
+use Rattle.clap.specs.declared.error.kind.ErrorKind.TheVariants.{DisplayHelp, DisplayVersion}
 use Rattle.tws_file.specs.declared.«ruleset».Ruleset.{Ruleset}
 use Rattle.tws_file.specs.Text.{File}
 use Rattle.tws_file.specs.Listing.{listing_of}
 use Rattle.tws_file.specs.Packing.{packed_text}
 use Rattle.tws_tool.specs.declared.job.Job.{Job}
-use Rattle.tws_tool.specs.declared.job.Job.TheVariants.{Show, Pack, Best}
+use Rattle.tws_tool.specs.declared.job.Job.TheVariants.{Show, Pack, Best, Serve, Put, Get}
 use Rattle.tws_tool.specs.declared.job.JobFault.{JobFault}
 use Rattle.tws_tool.specs.declared.job.JobFault.TheVariants as fault
 use Rattle.tws_tool.specs.declared.tool_fault.ToolFault.{ToolFault}
-use Rattle.tws_tool.specs.declared.tool_fault.ToolFault.TheVariants.{Read, Write, Unreadable, Memory}
+use Rattle.tws_tool.specs.declared.tool_fault.ToolFault.TheVariants.{Read, Write, Unreadable, Memory, Socket, Transfer}
 use Rattle.tws_tool.specs.Written.{Writes, WritesPrefix}
 use Rattle.tws_tool.specs.Collecting.{BestWrites, BestPrefix}
+use Rattle.tws_tool.specs.Lines.{Transfers, sent_line, got_line}
+use Rattle.tws_tool.specs.Serving.{Served}
+use Rattle.tws_tool.specs.Help.{WritesHelp, WritesHelpPrefix}
 
 -- a command of one input, which writes this text of the file: what the input had and has left, what the output held and
 -- holds
@@ -36,6 +42,8 @@ BestStops kind files old new Read = new ≡ old
 BestStops kind files old new Write = BestCut kind files old new
 BestStops kind files old new (Unreadable index fault) = new ≡ old
 BestStops kind files old new Memory = BestCut kind files old new
+BestStops kind files old new Socket = ⊥
+BestStops kind files old new (Transfer why) = ⊥
 
 pub record BestRan (kind : Ruleset) (files status : ℕ) (old new : Option (List ℕ)) : Type 0 where
   pub done : status ≡ 0 → BestDone kind files old new
@@ -43,10 +51,24 @@ pub record BestRan (kind : Ruleset) (files status : ℕ) (old new : Option (List
   pub unreadable : status ≡ 3 → new ≡ old
   pub never : status ≢ 1
 
+-- the words ask for help
+abbrev pub IsHelp : Error → Type 0
+IsHelp error = (kind_of error ≡ DisplayHelp) ⊎ (kind_of error ≡ DisplayVersion)
+
+-- help was written; or the words are refused, and nothing was written
+pub record Explained (error : Error) (status : ℕ) (old new : Option (List ℕ)) : Type 0 where
+  pub help : IsHelp error → status ≢ 1
+  pub shown : status ≡ 0 → IsHelp error × WritesHelp old new
+  pub failed : status ≡ 2 → IsHelp error × ((new ≡ old) ⊎ WritesHelpPrefix old new)
+  pub usage : status ≡ 1 → new ≡ old
+  pub few : status ≤ 2
+
 abbrev pub JobRuns : Result Job JobFault → (status : ℕ) → (known left old new : Option (List ℕ)) → Type 0
 JobRuns (Ok (Show moves)) status known left old new = Ran (listing_of moves) status known left old new
 JobRuns (Ok Pack) status known left old new = Ran packed_text status known left old new
 JobRuns (Ok (Best kind files)) status known left old new = BestRan kind (length files.items) status old new
--- help, or a usage error, which leaves input and output as they were
-JobRuns (Err (fault.Words error)) status known left old new = status ≤ 2
+JobRuns (Ok (Serve port turns dir)) status known left old new = (left ≡ known) × Served port status old new
+JobRuns (Ok (Put target)) status known left old new = (left ≡ known) × Transfers (string_bytes target.address) sent_line status old new
+JobRuns (Ok (Get kind target)) status known left old new = (left ≡ known) × Transfers (string_bytes target.address) got_line status old new
+JobRuns (Err (fault.Words error)) status known left old new = Explained error status old new
 JobRuns (Err fault.Memory) status known left old new = (status ≡ 2) × (new ≡ old)

@@ -1,5 +1,11 @@
+pub mod Address
 pub mod Inputs
 pub mod Faults
 pub mod Written
 pub mod Collecting
+pub mod Help
+pub mod Lines
+pub mod Archiving
+pub mod Serving
 pub mod Jobs
+pub mod CommandLine

@@ -6,7 +6,7 @@ use Rattle.tws_file.specs.Listing.{listing_of}
 use Rattle.tws_file.specs.Packing.{packed_text}
 use Rattle.byte_output.specs.Output.{AppendsPrefix}
 use Rattle.tws_tool.specs.declared.tool_fault.ToolFault.{ToolFault}
-use Rattle.tws_tool.specs.declared.tool_fault.ToolFault.TheVariants.{Read, Write, Unreadable, Memory}
+use Rattle.tws_tool.specs.declared.tool_fault.ToolFault.TheVariants.{Read, Write, Unreadable, Memory, Socket, Transfer}
 use Rattle.tws_tool.specs.Faults.{ReadFails}
 
 -- the texts that commands of one input write
@@ -31,3 +31,5 @@ WriteFails text known old new Read = new ≡ old
 WriteFails text known old new Write = WritesPrefix text known old new
 WriteFails text known old new (Unreadable index fault) = (new ≡ old) × ReadFails 0 known (Unreadable index fault)
 WriteFails text known old new Memory = (new ≡ old) ⊎ WritesPrefix text known old new
+WriteFails text known old new Socket = ⊥
+WriteFails text known old new (Transfer why) = ⊥

@@ -1,18 +1,22 @@
 //! What the words of a command line ask for.
 
-ghost use Rattle.std.specs.Prelude.{◌≡◌};
+ghost use Rattle.std.specs.Prelude.{◌≡◌, ◌≢◌, ◌⊎◌, ℕ, map, option_map, IfOk, IfErr, IfSome, IfNone, string_bytes, codes};
+ghost use Rattle.clap.specs.Matches.{found_of};
 ghost use Rattle.clap.specs.Values.{kind_of};
-ghost use Rattle.clap.specs.declared.error.kind.ErrorKind.TheVariants.{OutOfMemory};
-ghost use Rattle.tws_tool.specs.declared.job.JobFault.TheVariants.{Memory};
+ghost use Rattle.clap.specs.Words.{rows_of, first_of};
+ghost use Rattle.clap.specs.declared.error.kind.ErrorKind.TheVariants.{OutOfMemory, InvalidSubcommand};
+ghost use Rattle.tws_tool.specs.CommandLine.{rules_word, AreRuleNames, AnswersCommand, AnswersTarget, FindsCommand, IsNumberOr, RefusesWords, AnswersWords};
+ghost use Rattle.tws_tool.specs.declared.limits.TheConstants.{PORT, MAX_PORT};
+ghost use Rattle.tws_tool.specs.declared.job.JobFault.TheVariants.{Memory, Words};
 
-use clap::builder::ValueParser;
+use crate::command::{command, rule_names};
+use crate::limits::{MAX_PORT, PORT, TURNS};
+use crate::number::{number_or, text_given};
+use crate::target::Target;
+use clap::ArgMatches;
 use clap::error::ErrorKind;
-use clap::{Arg, ArgAction, ArgMatches, Command};
 use std::alloc::{AllocError, AllocFailed, Global};
 use tws_file::Ruleset;
-
-/// The names of the rules, as words.
-const RULES: [&str; 2] = ["lynx", "ms"];
 
 /// What the program is asked to do.
 #[derive(Drop)]
@@ -30,6 +34,27 @@ pub(crate) enum Job {
         rules: Ruleset,
         /// The names of the files.
         files: Vec<String>,
+    },
+    /// To serve the archive.
+    Serve {
+        /// On this port.
+        port: u16,
+        /// For this many turns.
+        turns: u64,
+        /// With the collections kept in this folder.
+        dir: Option<String>,
+    },
+    /// To send a solution file to an archive.
+    Put {
+        /// This file.
+        target: Target,
+    },
+    /// To fetch a collection from an archive.
+    Get {
+        /// The one of these rules.
+        rules: Ruleset,
+        /// Into this file.
+        target: Target,
     },
 }
 
@@ -60,7 +85,7 @@ impl<T: Drop> From<AllocFailed<T>> for JobFault {
 
 impl From<clap::Error> for JobFault {
     // An error of running out of memory is no usage error.
-    ghost from_gives = { λ error e. kind_of error ≡ OutOfMemory → e ≡ Memory };
+    ghost from_gives = { λ error e. ((kind_of error ≡ OutOfMemory) × (e ≡ Memory)) ⊎ ((kind_of error ≢ OutOfMemory) × (e ≡ Words error)) };
 
     fn from(error: clap::Error) -> Self {
         match error.kind() {
@@ -70,42 +95,11 @@ impl From<clap::Error> for JobFault {
     }
 }
 
-// The command line of the program.
-fn command<'a>(alloc: Global) -> Result<Command<'a>, AllocError> {
-    let moves = Arg::new(alloc, "moves")
-        .long("moves")
-        .action(ArgAction::SetTrue)
-        .help("With a line for each move");
-    let show = Command::new(alloc, "show")
-        .about("List the solution file on standard input")
-        .arg(moves)?;
-    let pack = Command::new(alloc, "pack").about(
-        "Write the solution file on standard input with its moves in the fewest bytes",
-    );
-    let rules = Arg::new(alloc, "rules")
-        .value_name("RULESET")
-        .value_parser(ValueParser::Names(&RULES))
-        .required(true)
-        .help("The rules that the solutions were played by");
-    let files = Arg::new(alloc, "files")
-        .value_name("FILE")
-        .num_args(1..)
-        .required(true)
-        .help("The solution files");
-    let best = Command::new(alloc, "best")
-        .about("Write the best solution of each level of several files")
-        .arg(rules)?
-        .arg(files)?;
-    Command::new(alloc, "tws")
-        .about("Lists, packs and collects Tile World solution files")
-        .subcommand_required(true)
-        .subcommand(show)?
-        .subcommand(pack)?
-        .subcommand(best)
-}
-
 // The rules of this name.
-fn rules_of(name: &str) -> Option<Ruleset> {
+fn rules_of(name: &str) -> Option<Ruleset>
+    ensures some { IfSome result (λ kind. name.now ≡ rules_word kind) }
+    ensures none { IfNone result ((kind : Ruleset) → name.now ≢ rules_word kind) }
+{
     match name {
         "lynx" => Some(Ruleset::Lynx),
         "ms" => Some(Ruleset::Ms),
@@ -113,20 +107,122 @@ fn rules_of(name: &str) -> Option<Ruleset> {
     }
 }
 
+// The texts, in memory of their own.
+fn copied(alloc: Global, texts: &[&str]) -> Result<Vec<String>, JobFault>
+    ensures copied { IfOk result (λ copies. map string_bytes copies.items ≡ map (λ text. text.now) texts.now) }
+    ensures memory { IfErr result (λ e. e ≡ Memory) }
+{
+    let mut copies = Vec::new(alloc);
+    for text in texts {
+        copies.push(String::from_str(alloc, text)?)?;
+    }
+    Ok(copies)
+}
+
 // What the words after `best` ask for; nothing if they name no rules.
-fn best_of(alloc: Global, words: &ArgMatches) -> Result<Option<Job>, JobFault> {
-    let Some(rules) = words.get_str("rules").and_then(rules_of) else {
+fn best_of(alloc: Global, words: &ArgMatches) -> Result<Option<Job>, JobFault>
+    ensures asked { IfOk result (AnswersCommand (codes "best", rows_of (found_of words.now))) }
+    ensures memory { IfErr result (λ e. e ≡ Memory) }
+{
+    let Some(name) = words.get_str("rules") else {
         return Ok(None);
     };
-    let mut files = Vec::new(alloc);
-    for name in words.get_raw("files").unwrap_or(&[]) {
-        files.push(String::from_str(alloc, name)?)?;
-    }
+    let Some(rules) = rules_of(name) else {
+        return Ok(None);
+    };
+    let files = copied(alloc, words.get_raw("files").unwrap_or(&[]))?;
     Ok(Some(Job::Best { rules, files }))
 }
 
+// The text that was given by this name, in memory of its own.
+fn text_of(alloc: Global, words: &ArgMatches, name: &str) -> Result<Option<String>, JobFault>
+    ensures copied { IfOk result (λ text. option_map string_bytes text ≡ first_of name.now (rows_of (found_of words.now))) }
+    ensures memory { IfErr result (λ e. e ≡ Memory) }
+{
+    match text_given(words, name) {
+        Some(text) => Ok(Some(String::from_str(alloc, text)?)),
+        None => Ok(None),
+    }
+}
+
+// The port that was given, or the default.
+fn port_of(words: &ArgMatches) -> Option<u16>
+    ensures some { IfSome result (IsNumberOr PORT MAX_PORT (first_of (codes "port") (rows_of (found_of words.now)))) }
+    ensures none { IfNone result ((n : ℕ) → IsNumberOr PORT MAX_PORT (first_of (codes "port") (rows_of (found_of words.now))) n → ⊥) }
+{
+    let port = number_or(words, "port", PORT as u64, MAX_PORT as u64)?;
+    Some(port as u16)
+}
+
+// What the words after `serve` ask for; nothing if a number is none.
+fn serve_of(alloc: Global, words: &ArgMatches) -> Result<Option<Job>, JobFault>
+    ensures asked { IfOk result (AnswersCommand (codes "serve", rows_of (found_of words.now))) }
+    ensures memory { IfErr result (λ e. e ≡ Memory) }
+{
+    let Some(port) = port_of(words) else {
+        return Ok(None);
+    };
+    let Some(turns) = number_or(words, "turns", TURNS, TURNS) else {
+        return Ok(None);
+    };
+    let dir = text_of(alloc, words, "dir")?;
+    Ok(Some(Job::Serve { port, turns, dir }))
+}
+
+// The target that the words name; nothing if they name none, or the port is none.
+fn target_of(alloc: Global, words: &ArgMatches) -> Result<Option<Target>, JobFault>
+    ensures asked { IfOk result (AnswersTarget (rows_of (found_of words.now))) }
+    ensures memory { IfErr result (λ e. e ≡ Memory) }
+{
+    let Some(port) = port_of(words) else {
+        return Ok(None);
+    };
+    let Some(address) = text_of(alloc, words, "address")? else {
+        return Ok(None);
+    };
+    let Some(file) = text_of(alloc, words, "file")? else {
+        return Ok(None);
+    };
+    Ok(Some(Target {
+        address,
+        file,
+        port,
+    }))
+}
+
+// What the words after `put` ask for; nothing if they name no target.
+fn put_of(alloc: Global, words: &ArgMatches) -> Result<Option<Job>, JobFault>
+    ensures asked { IfOk result (AnswersCommand (codes "put", rows_of (found_of words.now))) }
+    ensures memory { IfErr result (λ e. e ≡ Memory) }
+{
+    let Some(target) = target_of(alloc, words)? else {
+        return Ok(None);
+    };
+    Ok(Some(Job::Put { target }))
+}
+
+// What the words after `get` ask for; nothing if they name no rules or no target.
+fn get_of(alloc: Global, words: &ArgMatches) -> Result<Option<Job>, JobFault>
+    ensures asked { IfOk result (AnswersCommand (codes "get", rows_of (found_of words.now))) }
+    ensures memory { IfErr result (λ e. e ≡ Memory) }
+{
+    let Some(name) = text_given(words, "rules") else {
+        return Ok(None);
+    };
+    let Some(rules) = rules_of(name) else {
+        return Ok(None);
+    };
+    let Some(target) = target_of(alloc, words)? else {
+        return Ok(None);
+    };
+    Ok(Some(Job::Get { rules, target }))
+}
+
 // What the words of a command ask for; nothing if there is no command of this name.
-fn job_by(alloc: Global, name: &str, words: &ArgMatches) -> Result<Option<Job>, JobFault> {
+fn job_by(alloc: Global, name: &str, words: &ArgMatches) -> Result<Option<Job>, JobFault>
+    ensures asked { IfOk result (AnswersCommand (name.now, rows_of (found_of words.now))) }
+    ensures memory { IfErr result (λ e. e ≡ Memory) }
+{
     match name {
         "show" => {
             let moves = words.get_flag("moves");
@@ -134,19 +230,45 @@ fn job_by(alloc: Global, name: &str, words: &ArgMatches) -> Result<Option<Job>, 
         }
         "pack" => Ok(Some(Job::Pack)),
         "best" => best_of(alloc, words),
+        "serve" => serve_of(alloc, words),
+        "put" => put_of(alloc, words),
+        "get" => get_of(alloc, words),
         _ => Ok(None),
     }
 }
 
+// What `clap` finds in the words.
+fn found_in<'a>(
+    alloc: Global,
+    names: &'a [&'a str],
+    words: &'a [String],
+) -> Result<ArgMatches<'a>, JobFault>
+    requires { AreRuleNames names }
+    ensures found { IfOk result (FindsCommand (map string_bytes words.now)) }
+    ensures refused { IfErr result (RefusesWords (map string_bytes words.now)) }
+{
+    let command = command(alloc, names)?;
+    Ok(command.try_get_matches_from(words)?)
+}
+
+// The error that there is no such command.
+fn no_command(alloc: Global) -> Result<clap::Error, JobFault>
+    ensures kind { IfOk result (λ error. kind_of error ≡ InvalidSubcommand) }
+    ensures memory { IfErr result (λ e. e ≡ Memory) }
+{
+    let mut command = command(alloc, rule_names())?;
+    Ok(command.error(ErrorKind::InvalidSubcommand, "no such command")?)
+}
+
 // What the words ask for, of which the first is the program's name.
-pub(crate) fn job_of(alloc: Global, words: &[String]) -> Result<Job, JobFault> {
-    let mut command = command(alloc)?;
-    let matches = command.try_get_matches_from_mut(words)?;
-    if let Some((name, words)) = matches.subcommand() {
+pub(crate) fn job_of(alloc: Global, words: &[String]) -> Result<Job, JobFault>
+    ensures { AnswersWords (map string_bytes words.now) result }
+{
+    let found = found_in(alloc, rule_names(), words)?;
+    if let Some((name, words)) = found.subcommand() {
         if let Some(job) = job_by(alloc, name, words)? {
             return Ok(job);
         }
     }
-    let error = command.error(ErrorKind::InvalidSubcommand, "no such command")?;
-    Err(JobFault::Words(error))
+    Err(JobFault::Words(no_command(alloc)?))
 }

@@ -1,10 +1,24 @@
-//! What holds of the commands whatever they read. This function does nothing: its contract is a theorem.
+//! What holds of the commands whatever they read. These functions do nothing: their contracts are theorems.
 
-ghost use Rattle.std.specs.Prelude.{◌≡◌};
+ghost use Rattle.std.specs.Prelude.{◌≡◌, [], ◌∷◌, codes, None, true, false};
+ghost use Rattle.tws_tool.specs.CommandLine.{AskFor};
+ghost use Rattle.tws_tool.specs.declared.job.Job.TheVariants.{Show, Pack, Serve};
 
 use crate::input::INPUT_READS;
+use crate::limits::{PORT, TURNS};
 
-/// The limit as a number. The definitions name it.
+/// The limits as numbers. The definitions name them.
 pub fn limit_values()
-    ensures { INPUT_READS ≡ 67108864 }
+    ensures reads { INPUT_READS ≡ 67108864 }
+    ensures port { PORT ≡ 6969 }
+    ensures turns { TURNS ≡ 1000000000 }
+{}
+
+/// The words `show`, `show --moves`, `pack`, `serve`, and `serve` with a port and turns.
+pub fn words_of_commands()
+    ensures show { AskFor (codes "show" ∷ []) (Show false) }
+    ensures moves { AskFor (codes "show" ∷ codes "--moves" ∷ []) (Show true) }
+    ensures pack { AskFor (codes "pack" ∷ []) Pack }
+    ensures serve { AskFor (codes "serve" ∷ []) (Serve 6969 1000000000 None) }
+    ensures counted { AskFor (codes "serve" ∷ codes "--port" ∷ codes "80" ∷ codes "--turns=5" ∷ []) (Serve 80 5 None) }
 {}

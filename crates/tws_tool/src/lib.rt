@@ -1,22 +1,39 @@
 //! The commands of the program `tws`, over any reader and writer.
 #![tactic(auto)]
 
+mod address;
 mod best;
+mod command;
+mod get;
+mod host;
 mod input;
 mod job;
 mod laws;
+mod limits;
+mod line;
+mod number;
 mod pack;
 mod program;
+mod put;
+mod serve;
 mod show;
+mod target;
 mod tool_fault;
 
+pub use address::Address;
 pub use best::run_best;
+pub use get::get_file;
 pub use input::INPUT_READS;
-pub use laws::limit_values;
+pub use laws::{limit_values, words_of_commands};
+pub use limits::{PORT, TURNS};
 pub use pack::run_pack;
 pub use program::run_words;
+pub use put::put_file;
+pub use serve::{serve_counted, serve_waiting};
 pub use show::run_show;
 pub use tool_fault::ToolFault;
 
+#[cfg(test)]
+mod address_tests;
 #[cfg(test)]
 mod tests;

@@ -1,26 +1,35 @@
 //! The whole program but for where its words and streams come from.
 
-ghost use Rattle.std.specs.Prelude.{◌≡◌, ◌≢◌, ◌⊎◌, ◌≤◌, Result, length, OnOk, IfOk, IfErr};
+ghost use Rattle.std.specs.Prelude.{◌≡◌, ◌≢◌, ◌⊎◌, ◌≤◌, Result, length, map, string_bytes, OnOk, IfOk, IfErr};
 ghost use Rattle.tws_tool.specs.declared.job.Job.{Job};
 ghost use Rattle.tws_tool.specs.declared.job.JobFault.{JobFault};
-ghost use Rattle.tws_tool.specs.Faults.{status_of, answer_status};
+ghost use Rattle.tws_tool.specs.Faults.{IsReadFault, status_of, answer_status};
 ghost use Rattle.tws_tool.specs.Written.{Writes, CommandText, text_by};
-ghost use Rattle.tws_tool.specs.Jobs.{BestDone, BestStops, JobRuns};
+ghost use Rattle.tws_tool.specs.Jobs.{BestDone, BestStops, Explained, JobRuns};
+ghost use Rattle.tws_tool.specs.CommandLine.{AnswersWords};
+ghost use Rattle.tws_tool.specs.Serving.{Served};
+ghost use Rattle.tws_tool.specs.Help.{WritesHelp, HelpFails};
 
 use crate::best::run_best;
+use crate::host;
 use crate::job::{Job, JobFault, job_of};
 use crate::pack::run_pack;
 use crate::show::run_show;
 use crate::tool_fault::ToolFault;
+use archive_host::DirKeeper;
+use archive_table::NoKeeper;
+use byte_output::put;
 use std::alloc::Global;
 use std::fs::OpenOptions;
 use std::io::{Read, Write};
+use std::net::Net;
 use std::rt::Files;
+use std::time::Clock;
 use tws_file::Ruleset;
 
 const DONE: u8 = 0;
 
-const USAGE: u8 = 1;
+pub(crate) const USAGE: u8 = 1;
 
 // Says why a command failed whose inputs have these names, and answers the status. An input without a name is standard
 // input.
@@ -42,9 +51,9 @@ fn report<E: Write>(fault: ToolFault, names: &[String], errors: &mut E) -> u8
 }
 
 // Says why a command failed, if it did, and answers the status.
-fn finish<E: Write>(done: Result<(), ToolFault>, names: &[String], errors: &mut E) -> u8
+pub(crate) fn finish<E: Write>(done: Result<(), ToolFault>, names: &[String], errors: &mut E) -> u8
     ensures status { result ≡ answer_status done }
-    ensures few { result ≤ 3 }
+    ensures few { result ≤ 4 }
     ensures silent { result ≡ 0 → errors.new ≡ errors.old }
 {
     match done {
@@ -53,9 +62,26 @@ fn finish<E: Write>(done: Result<(), ToolFault>, names: &[String], errors: &mut 
     }
 }
 
+// Writes the text of a request for help, which ends its last line.
+fn write_help<W: Write>(alloc: Global, error: &clap::Error, out: &mut W) -> Result<(), ToolFault>
+    ensures written { OnOk result (WritesHelp (W.contents out.old) (W.contents out.new)) }
+    ensures fails { IfErr result (HelpFails (W.contents out.old) (W.contents out.new)) }
+{
+    let text = format!(in alloc; "{error}")?;
+    let mut page = String::from_str(alloc, text.trim_end())?;
+    page.push_str("\n")?;
+    put(out, page.as_bytes())?;
+    Ok(())
+}
+
 // Shows help, or says what is wrong with the words, and answers the status.
-fn explain<W: Write, E: Write>(error: &clap::Error, out: &mut W, errors: &mut E) -> u8
-    ensures status { result ≤ 2 }
+fn explain<W: Write, E: Write>(
+    alloc: Global,
+    error: &clap::Error,
+    out: &mut W,
+    errors: &mut E,
+) -> u8
+    ensures explained { Explained error.now result (W.contents out.old) (W.contents out.new) }
     ensures usage { result ≡ 1 → out.new ≡ out.old }
     ensures silent { result ≡ 0 → errors.new ≡ errors.old }
 {
@@ -63,15 +89,13 @@ fn explain<W: Write, E: Write>(error: &clap::Error, out: &mut W, errors: &mut E)
         let _ = write!(errors, "{error}");
         return USAGE;
     }
-    match write!(out, "{error}") {
-        Ok(()) => DONE,
-        Err(_) => report(ToolFault::Write, &[], errors),
-    }
+    finish(write_help(alloc, error, out), &[], errors)
 }
 
 // Opens all files, before one is read.
 fn open_all<P: Files>(rt: &P, alloc: Global, names: &[String]) -> Result<Vec<P::File>, ToolFault>
-    ensures { IfOk result (λ files. length files.items ≡ length names.now) }
+    ensures opened { IfOk result (λ files. length files.items ≡ length names.now) }
+    ensures fault { IfErr result IsReadFault }
 {
     let mut files = Vec::new(alloc);
     for name in names {
@@ -100,8 +124,43 @@ fn write_best<P: Files, W: Write>(
     run_best(alloc, rules, &mut files, out)
 }
 
+// Serves the archive, with its collections kept in the folder of this name, if there is one.
+fn serve_job<P: Files + Net + Clock + AllocGlobal + Copy, W: Write, E: Write>(
+    rt: P,
+    alloc: Global,
+    port: u16,
+    turns: u64,
+    dir: Option<String>,
+    out: &mut W,
+    errors: &mut E,
+) -> u8
+    ensures served { Served port result (W.contents out.old) (W.contents out.new) }
+    ensures status { (result ≡ 0) ⊎ (result ≡ 2) }
+    ensures silent { result ≡ 0 → errors.new ≡ errors.old }
+{
+    match dir {
+        Some(dir) => {
+            let Ok(folder) = String::from_str(alloc, dir.as_str()) else {
+                return report(ToolFault::Memory, &[], errors);
+            };
+            let mut keeper = DirKeeper::new(rt, folder);
+            host::serve(
+                rt,
+                alloc,
+                port,
+                turns,
+                &mut keeper,
+                dir.as_str(),
+                out,
+                errors,
+            )
+        }
+        None => host::serve(rt, alloc, port, turns, &mut NoKeeper, "memory", out, errors),
+    }
+}
+
 // Does a job, or says why there is none, and answers the status.
-fn run_job<P: Files, R: Read, W: Write, E: Write>(
+fn run_job<P: Files + Net + Clock + AllocGlobal + Copy, R: Read, W: Write, E: Write>(
     rt: &P,
     alloc: Global,
     job: Result<Job, JobFault>,
@@ -111,7 +170,7 @@ fn run_job<P: Files, R: Read, W: Write, E: Write>(
 ) -> u8
     ensures ran { JobRuns job result (R.remaining input.old) (R.remaining input.new) (W.contents out.old) (W.contents out.new) }
     ensures usage { result ≡ 1 → (input.new ≡ input.old) × (out.new ≡ out.old) }
-    ensures status { result ≤ 3 }
+    ensures status { result ≤ 4 }
     // At status 0, where input was read, a command's text of it was written.
     ensures written { result ≡ 0 → (input.new ≡ input.old) ⊎ (text : CommandText) × Writes (text_by text) (R.remaining input.old) (W.contents out.old) (W.contents out.new) }
     ensures unreadable { result ≡ 3 → out.new ≡ out.old }
@@ -124,7 +183,10 @@ fn run_job<P: Files, R: Read, W: Write, E: Write>(
             let done = write_best(rt, alloc, rules, &files, out);
             finish(done, &files, errors)
         }
-        Err(JobFault::Words(error)) => explain(&error, out, errors),
+        Ok(Job::Serve { port, turns, dir }) => serve_job(*rt, alloc, port, turns, dir, out, errors),
+        Ok(Job::Put { target }) => host::put(*rt, alloc, &target, out, errors),
+        Ok(Job::Get { rules, target }) => host::get(*rt, alloc, rules, &target, out, errors),
+        Err(JobFault::Words(error)) => explain(alloc, &error, out, errors),
         Err(JobFault::Memory) => report(ToolFault::Memory, &[], errors),
     }
 }
@@ -132,8 +194,9 @@ fn run_job<P: Files, R: Read, W: Write, E: Write>(
 /// Does what the words ask for, of which the first is the program's name, and answers the exit status.
 ///
 /// A fault goes to `errors` as one line. The status is 0 where all was done, and for help, whose text goes to `out`;
-/// 1 for a usage error; 2 where reading, writing or memory failed; 3 for an unreadable solution file.
-pub fn run_words<P: Files, R: Read, W: Write, E: Write>(
+/// 1 for a usage error or a bad address; 2 where reading, writing, a socket or memory failed; 3 for an unreadable solution
+/// file; 4 for a failed transfer.
+pub fn run_words<P: Files + Net + Clock + AllocGlobal + Copy, R: Read, W: Write, E: Write>(
     rt: &P,
     alloc: Global,
     words: &[String],
@@ -141,10 +204,11 @@ pub fn run_words<P: Files, R: Read, W: Write, E: Write>(
     out: &mut W,
     errors: &mut E,
 ) -> u8
-    ensures ran { (job : Result Job JobFault) × JobRuns job result (R.remaining input.old) (R.remaining input.new) (W.contents out.old) (W.contents out.new) }
+    // The job is the one that the words ask for.
+    ensures ran { (job : Result Job JobFault) × AnswersWords (map string_bytes words.now) job × JobRuns job result (R.remaining input.old) (R.remaining input.new) (W.contents out.old) (W.contents out.new) }
     // A usage error leaves input and output as they were, and an unreadable file the output.
     ensures usage { result ≡ 1 → (input.new ≡ input.old) × (out.new ≡ out.old) }
-    ensures status { result ≤ 3 }
+    ensures status { result ≤ 4 }
     // At status 0, where input was read, a command's text of it was written.
     ensures written { result ≡ 0 → (input.new ≡ input.old) ⊎ (text : CommandText) × Writes (text_by text) (R.remaining input.old) (W.contents out.old) (W.contents out.new) }
     ensures unreadable { result ≡ 3 → out.new ≡ out.old }

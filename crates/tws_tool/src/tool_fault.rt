@@ -1,7 +1,9 @@
 ghost use Rattle.std.specs.Prelude.{◌≡◌};
-ghost use Rattle.tws_tool.specs.Faults.{written_fault, input_fault, status_of};
+ghost use Rattle.tws_tool.specs.Faults.{written_fault, input_fault, run_fault, status_of};
 ghost use Rattle.tws_tool.specs.declared.tool_fault.ToolFault.TheVariants.{Memory};
 
+use archive_client::Cause;
+use archive_turns::RunFault;
 use std::alloc::{AllocError, AllocFailed};
 use thiserror::Error;
 use tws_file::{FileFault, OutFault};
@@ -25,6 +27,12 @@ pub enum ToolFault {
     /// Memory ran out.
     #[error("out of memory")]
     Memory,
+    /// A port could not be opened.
+    #[error("socket fault")]
+    Socket,
+    /// A transfer failed.
+    #[error("transfer failed: {0}")]
+    Transfer(Cause),
 }
 
 impl ToolFault {
@@ -43,8 +51,9 @@ impl ToolFault {
         ensures { result ≡ status_of self }
     {
         match self {
-            ToolFault::Read | ToolFault::Write | ToolFault::Memory => 2,
+            ToolFault::Read | ToolFault::Write | ToolFault::Memory | ToolFault::Socket => 2,
             ToolFault::Unreadable { .. } => 3,
+            ToolFault::Transfer(_) => 4,
         }
     }
 }
@@ -72,6 +81,19 @@ impl From<OutFault> for ToolFault {
         match fault {
             OutFault::Io => ToolFault::Write,
             OutFault::Memory => ToolFault::Memory,
+        }
+    }
+}
+
+impl From<RunFault> for ToolFault {
+    ghost from_gives = { λ fault e. e ≡ run_fault fault };
+
+    fn from(fault: RunFault) -> Self {
+        match fault {
+            RunFault::Socket => ToolFault::Socket,
+            RunFault::Transfer(why) => ToolFault::Transfer(why),
+            RunFault::Memory => ToolFault::Memory,
+            RunFault::Write => ToolFault::Write,
         }
     }
 }

@@ -1,7 +1,6 @@
-use Rattle.std.proofs.Common.{ℕ, ◌+◌, List, Option, arith, refl, sym, subst, map, take, IfSome}
+use Rattle.std.proofs.Common.{ℕ, List, Option, arith, refl, sym, subst, map, take, IfSome}
 use Rattle.std.proofs.lemmas.Result.{err_from_is_err_and}
 use Rattle.tws_file.specs.Text.{IsText}
-use Rattle.tws_tool.specs.Collecting.{Collects}
 use Rattle.tws_tool.specs.Faults.{ReadFails}
 use Rattle.tws_tool.proofs.Told.{collects_none, collects_more, known_more, input_fails, all_collected, one_more_ended, others_stay, set_count, read_out}
 use Rattle.tws_tool.proofs.best.collect.Goals as goal

@@ -1,0 +1,60 @@
+-- Why a put fails.
+use Rattle.std.proofs.Common.{◌≡◌, ◌≢◌, ◌∙◌, ℕ, Bool, true, false, List, Option, Some, None, Result, Ok, Err, refl, ap, sym, subst, inr}
+use Rattle.tftp_packet.specs.declared.endpoint.Endpoint.{Endpoint}
+use Rattle.archive_client.specs.declared.state.State.{State}
+use Rattle.archive_client.specs.declared.state.State.TheVariants as state
+use Rattle.archive_client.specs.declared.cause.Cause.{Cause}
+use Rattle.archive_client.specs.declared.cause.Cause.TheVariants as cause
+use Rattle.archive_client.specs.Client.{Operation, put, state_of}
+use Rattle.archive_turns.specs.declared.run_fault.RunFault.{RunFault}
+use Rattle.archive_turns.specs.declared.run_fault.RunFault.TheVariants as run
+use Rattle.archive_turns.specs.Turn.{Replies}
+use Rattle.archive_turns.specs.Wire.{Entry}
+use Rattle.archive_turns.specs.Run.{Run, PutAfter, RunsPut, begin_opened, begin_sized, is_long, put_result}
+use Rattle.tws_tool.specs.declared.tool_fault.ToolFault.{ToolFault}
+use Rattle.tws_tool.specs.Faults.{run_fault}
+use Rattle.tws_tool.specs.Archiving.{PutFails, PutRuns}
+
+-- a put writes nothing, so that nothing it writes fails
+no_write_of : (why : Cause) (len : ℕ) → put_result (state.Failed why) len ≢ Err run.Write
+no_write_of (cause.Refused code) len is = absurd cc
+no_write_of cause.TimedOut len is = absurd cc
+no_write_of cause.TooLong len is = absurd cc
+no_write_of cause.Memory len is = absurd cc
+
+no_write_result : (s : State) (len : ℕ) → put_result s len ≢ Err run.Write
+no_write_result state.Running len is = absurd cc
+no_write_result state.Sent len is = absurd cc
+no_write_result state.Got len is = absurd cc
+no_write_result (state.Failed why) len is = no_write_of why len is
+
+no_write_sized : (long : Bool) (server : Endpoint) (operation : Operation) (port : ℕ) (replies : Replies) → (begin_sized long server operation port replies).result ≢ Err run.Write
+no_write_sized true server operation port replies is = absurd cc
+no_write_sized false server operation port replies is = absurd cc
+
+no_write_begun : (port : Option ℕ) (server : Endpoint) (operation : Operation) (replies : Replies) → (begin_opened port server operation replies).result ≢ Err run.Write
+no_write_begun None server operation replies is = absurd cc
+no_write_begun (Some port) server operation replies is = no_write_sized (is_long operation) server operation port replies is
+
+abbrev fault_in : Result ℕ RunFault → RunFault
+fault_in (Ok len) = run.Write
+fault_in (Err e) = e
+
+no_write_after : (begun : Result Run RunFault) (turns len : ℕ) (mid after : Option (List Entry)) → begun ≢ Err run.Write → PutAfter begun turns len (Err run.Write) mid after → ⊥
+no_write_after (Ok r) turns len mid after never ends = no_write_result (state_of ends.last.client) len (sym ends.result_is)
+no_write_after (Err e) turns len mid after never ends = never (ap Err (ap fault_in (sym ends.0)))
+
+pub no_write : (server : Endpoint) (file : List ℕ) (turns : ℕ) (before after : Option (List Entry)) → RunsPut server file turns (Err run.Write) before after → ⊥
+no_write server file turns before after runs =
+    no_write_after runs.begun turns _ runs.mid after (λ is. no_write_begun runs.begins.port server (put file) runs.begins.replies (sym runs.begins.result_is ∙ is)) runs.ends
+
+module _ (known : Option (List ℕ)) (server : Endpoint) (before after : Option (List Entry)) (old : Option (List ℕ)) where
+  fails_by : (why : RunFault) → PutRuns known server (Err why) before after → PutFails known server before after old old (run_fault why)
+  fails_by run.Socket runs = (refl, runs)
+  fails_by (run.Transfer why) runs = (refl, runs)
+  fails_by run.Memory runs = (refl, inr (_, runs))
+  fails_by run.Write runs = absurd (no_write server runs.bytes _ before after runs.runs)
+
+  -- a put whose run failed
+  pub put_fails : (why : RunFault) (e : ToolFault) → e ≡ run_fault why → PutRuns known server (Err why) before after → PutFails known server before after old old e
+  put_fails why e is runs = subst (PutFails known server before after old old) (sym is) (fails_by why runs)

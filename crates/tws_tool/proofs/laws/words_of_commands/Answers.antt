@@ -1,0 +1,17 @@
+use Rattle.tws_tool.proofs.Asking.{asks_for_counted, asks_for_moves, asks_for_pack, asks_for_serve, asks_for_show}
+use Rattle.tws_tool.proofs.laws.words_of_commands.Goals as goal
+
+pub returns-clause-show : goal.returns-clause-show
+returns-clause-show c = asks_for_show
+
+pub returns-clause-moves : goal.returns-clause-moves
+returns-clause-moves c = asks_for_moves
+
+pub returns-clause-pack : goal.returns-clause-pack
+returns-clause-pack c = asks_for_pack
+
+pub returns-clause-serve : goal.returns-clause-serve
+returns-clause-serve c = asks_for_serve
+
+pub returns-clause-counted : goal.returns-clause-counted
+returns-clause-counted c = asks_for_counted

@@ -1,0 +1,76 @@
+-- What the commands of the archive do: over any wire, any keeper, any file and any output.
+use Rattle.std.specs.Prelude.{◌≡◌, ◌⊎◌, ℕ, List, Option, IfSome, Result, Ok, Err}
+use Rattle.std.specs.Io.KnownBytes.{Appends}
+use Rattle.byte_output.specs.Output.{AppendsPrefix}
+use Rattle.tws_file.specs.declared.«ruleset».Ruleset.{Ruleset}
+use Rattle.tws_file.specs.Text.{IsReadable}
+use Rattle.tws_file.specs.Fault.{HasFault}
+use Rattle.tftp_packet.specs.declared.endpoint.Endpoint.{Endpoint}
+use Rattle.archive_turns.specs.declared.run_fault.RunFault.{RunFault}
+use Rattle.archive_turns.specs.declared.run_fault.RunFault.TheVariants as run
+use Rattle.archive_turns.specs.Wire.{Entry}
+use Rattle.archive_turns.specs.Run.{RunsPut, RunsGet}
+use Rattle.tws_tool.specs.declared.limits.TheConstants.{TURNS}
+use Rattle.tws_tool.specs.declared.tool_fault.ToolFault.{ToolFault}
+use Rattle.tws_tool.specs.declared.tool_fault.ToolFault.TheVariants.{Read, Write, Unreadable, Memory, Socket, Transfer}
+use Rattle.tws_tool.specs.Lines.{sent_line, got_line}
+
+-- ---- put
+
+-- the whole input is these bytes, which are a file's text
+pub record IsWhole (known : Option (List ℕ)) (bytes : List ℕ) : Type 0 where
+  pub known_is : IfSome known (λ (xs : List ℕ). bytes ≡ xs)
+  pub readable : IsReadable bytes
+
+-- a run of a put of them to its end, with this answer
+pub record PutRuns (known : Option (List ℕ)) (server : Endpoint) (result : Result ℕ RunFault) (before after : Option (List Entry)) : Type 0 where
+  pub bytes : List ℕ
+  pub whole : IsWhole known bytes
+  pub runs : RunsPut server bytes TURNS result before after
+
+-- the whole input was put, and the line that says so was written
+pub record Puts (known : Option (List ℕ)) (server : Endpoint) (before after : Option (List Entry)) (old new : Option (List ℕ)) : Type 0 where
+  pub len : ℕ
+  pub put : PutRuns known server (Ok len) before after
+  pub said : Appends old new (sent_line len)
+
+-- a put that ran but was not said: of the line a proper prefix was written
+pub record PutUnsaid (known : Option (List ℕ)) (server : Endpoint) (before after : Option (List Entry)) (old new : Option (List ℕ)) : Type 0 where
+  pub len : ℕ
+  pub put : PutRuns known server (Ok len) before after
+  pub prefix : AppendsPrefix old new (sent_line len)
+
+-- Nothing goes out by the wire where the input is not read to its end or is no file.
+abbrev pub PutFails : (known : Option (List ℕ)) (server : Endpoint) (before after : Option (List Entry)) (old new : Option (List ℕ)) → ToolFault → Type 0
+PutFails known server before after old new Read = (after ≡ before) × (new ≡ old)
+PutFails known server before after old new Write = PutUnsaid known server before after old new
+PutFails known server before after old new (Unreadable index fault) = (after ≡ before) × (new ≡ old) × (index ≡ 0) × IfSome known (λ (bytes : List ℕ). HasFault bytes fault)
+PutFails known server before after old new Memory = (new ≡ old) × ((after ≡ before) ⊎ ((result : Result ℕ RunFault) × PutRuns known server result before after))
+PutFails known server before after old new Socket = (new ≡ old) × PutRuns known server (Err run.Socket) before after
+PutFails known server before after old new (Transfer why) = (new ≡ old) × PutRuns known server (Err (run.Transfer why)) before after
+
+-- ---- get
+
+-- the collection was fetched into the file, and the line that says so was written
+pub record Gets (server : Endpoint) (kind : Ruleset) (before after : Option (List Entry)) (written now old new : Option (List ℕ)) : Type 0 where
+  pub len : ℕ
+  pub got : RunsGet server kind TURNS (Ok len) before after written now
+  pub said : Appends old new (got_line len)
+
+-- a get that failed, before anything was printed
+abbrev pub GetRuns : (server : Endpoint) (kind : Ruleset) (before after : Option (List Entry)) (written now old new : Option (List ℕ)) → RunFault → Type 0
+GetRuns server kind before after written now old new why = (new ≡ old) × RunsGet server kind TURNS (Err why) before after written now
+
+-- a get that was done but not said: of the line not all was written
+pub record GetUnsaid (server : Endpoint) (kind : Ruleset) (before after : Option (List Entry)) (written now : Option (List ℕ)) (Left : List ℕ → Type 0) : Type 0 where
+  pub len : ℕ
+  pub got : RunsGet server kind TURNS (Ok len) before after written now
+  pub left : Left (got_line len)
+
+abbrev pub GetFails : (server : Endpoint) (kind : Ruleset) (before after : Option (List Entry)) (written now old new : Option (List ℕ)) → ToolFault → Type 0
+GetFails server kind before after written now old new Read = ⊥
+GetFails server kind before after written now old new Write = GetRuns server kind before after written now old new run.Write ⊎ GetUnsaid server kind before after written now (AppendsPrefix old new)
+GetFails server kind before after written now old new (Unreadable index fault) = ⊥
+GetFails server kind before after written now old new Memory = GetRuns server kind before after written now old new run.Memory ⊎ GetUnsaid server kind before after written now (λ line. new ≡ old)
+GetFails server kind before after written now old new Socket = GetRuns server kind before after written now old new run.Socket
+GetFails server kind before after written now old new (Transfer why) = GetRuns server kind before after written now old new (run.Transfer why)

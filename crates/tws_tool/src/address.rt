@@ -1,0 +1,38 @@
+//! A server's address, as it is written.
+
+ghost use Rattle.std.specs.Prelude.{◌≡◌, ℕ, ◌+◌, ◌*◌, IfSome, IfNone, slice_index};
+ghost use Rattle.tws_tool.specs.Address.{IsAddress};
+
+use std::net::Ipv4Addr;
+
+/// An IPv4 address as a number, whose most significant byte is the first of the four numbers that are written.
+#[derive(Clone, Copy, Debug, PartialEq, Eq)]
+pub struct Address {
+    pub host: u32,
+}
+
+// The number that has these bytes, the most significant one first.
+fn number_of(bytes: [u8; 4]) -> u32
+    ensures { result ≡ ((slice_index bytes 0 * 256 + slice_index bytes 1) * 256 + slice_index bytes 2) * 256 + slice_index bytes 3 }
+{
+    let [a, b, c, d] = bytes;
+    let high = u32::from(a) * 256 + u32::from(b);
+    let low = u32::from(c) * 256 + u32::from(d);
+    high * 65_536 + low
+}
+
+impl Address {
+    /// The address that the text writes: four decimal numbers of 0 to 255 without leading zeros, joined by dots. None
+    /// where it writes none.
+    pub fn read(text: &str) -> Option<Self>
+        ensures some { IfSome result (λ address. IsAddress text.now address.host) }
+        ensures none { IfNone result ((host : ℕ) → IsAddress text.now host → ⊥) }
+    {
+        match text.parse::<Ipv4Addr>() {
+            Ok(address) => Some(Address {
+                host: number_of(address.octets()),
+            }),
+            Err(_) => None,
+        }
+    }
+}

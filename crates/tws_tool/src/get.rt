@@ -1,0 +1,38 @@
+//! The command `get`.
+
+ghost use Rattle.std.specs.Prelude.{◌≡◌, ◌⊎◌, OnOk, IfErr};
+ghost use Rattle.tws_tool.specs.Lines.{Unless};
+ghost use Rattle.tws_tool.specs.Archiving.{Gets, GetFails};
+
+use crate::limits::TURNS;
+use crate::line::say;
+use crate::tool_fault::ToolFault;
+use archive_turns::{Wire, run_get};
+use std::alloc::Global;
+use std::io::Write;
+use tftp_packet::Endpoint;
+use tws_file::Ruleset;
+
+/// Fetches the collection of these rules from the archive at the host and the request port of `server` into a file, in at
+/// most `TURNS` turns; then says how many bytes it has.
+///
+/// # Errors
+///
+/// `Socket` where no port was opened, and `Transfer` with the cause of the failed transfer: then nothing is written to the
+/// file. `Write` where a writer fails, and `Memory` where a growth was refused.
+pub fn get_file<N: Wire, F: Write, W: Write>(
+    alloc: Global,
+    wire: &mut N,
+    server: Endpoint,
+    rules: Ruleset,
+    file: &mut F,
+    out: &mut W,
+) -> Result<(), ToolFault>
+    ensures got { OnOk result (Gets server rules (N.log wire.old) (N.log wire.new) (F.contents file.old) (F.contents file.new) (W.contents out.old) (W.contents out.new)) }
+    ensures fails { IfErr result (GetFails server rules (N.log wire.old) (N.log wire.new) (F.contents file.old) (F.contents file.new) (W.contents out.old) (W.contents out.new)) }
+    // Also of a writer that does not tell what it holds.
+    ensures unwritten { IfErr result (Unless (out.new ≡ out.old)) }
+{
+    let len = run_get(alloc, wire, server, rules, TURNS, file)?;
+    say(alloc, "got ", len, " bytes", out)
+}

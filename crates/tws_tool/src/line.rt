@@ -1,0 +1,39 @@
+//! The lines that the commands of the archive print.
+
+ghost use Rattle.std.specs.Prelude.{◌≡◌, ◌++◌, OnOk, IfErr, string_bytes};
+ghost use Rattle.tws_tool.specs.Lines.{number_line, LineFails};
+ghost use Rattle.std.specs.Io.KnownBytes.{Appends};
+
+use crate::tool_fault::ToolFault;
+use byte_output::put;
+use std::alloc::{AllocError, Global};
+use std::io::Write;
+
+// Adds a number between two texts, as a line.
+fn push_line(text: &mut String, before: &str, number: u64, after: &str) -> Result<(), AllocError>
+    ensures { OnOk result (string_bytes text.new ≡ string_bytes text.old ++ number_line before.now number after.now) }
+{
+    writeln!(text, "{before}{number}{after}")
+}
+
+/// Writes a number between two texts, as a line.
+///
+/// # Errors
+///
+/// `Write` where the writer fails: a proper prefix of the line was written. `Memory` where there was none for the line, and
+/// nothing was written.
+pub(crate) fn say<W: Write>(
+    alloc: Global,
+    before: &str,
+    number: u64,
+    after: &str,
+    out: &mut W,
+) -> Result<(), ToolFault>
+    ensures said { OnOk result (Appends (W.contents out.old) (W.contents out.new) (number_line before.now number after.now)) }
+    ensures fails { IfErr result (LineFails (number_line before.now number after.now) (W.contents out.old) (W.contents out.new)) }
+{
+    let mut text = String::new(alloc);
+    push_line(&mut text, before, number, after)?;
+    put(out, text.as_bytes())?;
+    Ok(())
+}
