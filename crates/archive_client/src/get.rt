@@ -1,8 +1,8 @@
 //! The client that fetches a collection.
 
-ghost use Rattle.std.specs.Prelude.{◌≡◌, ◌≤◌, length, Some, None, false, IsOk, IfOk, ◌↔◌};
+ghost use Rattle.std.specs.Prelude.{◌≡◌, ◌≤◌, length, Some, None, false, IsOk, IfOk, ◌↔◌, option_copied};
 ghost use Rattle.tftp_packet.specs.Refusal.{refusal_packet};
-ghost use Rattle.archive_client.specs.Client.{get, failed, in_phase, out_to, cause_of, refusal_of as told, client_start, request_out, client_datagram, client_timeout, verdict_after, state_of, is_over, phase_peer, data_heard, file_of, IsClient};
+ghost use Rattle.archive_client.specs.Client.{get, failed, in_phase, out_to, cause_of, refusal_of as told, client_start, request_out, client_datagram, client_timeout, verdict_after, state_of, is_over, phase_peer, data_heard, file_of, phase_file, IsClient};
 
 use crate::cause::Cause;
 use crate::heard::Heard;
@@ -204,6 +204,16 @@ impl<A: Allocator + Copy> Get<A> {
                 RecvState::TimedOut => unreachable!(),
             },
             Phase::Failed(_) => true,
+        }
+    }
+
+    /// The file, where all of it has come: exactly where the state is `Got`.
+    pub fn file(&self) -> Option<&Received<A>>
+        ensures { option_copied result ≡ phase_file self.now.phase }
+    {
+        match &self.phase {
+            Phase::Bound { end, .. } => end.file(),
+            Phase::Asking { .. } | Phase::Failed(_) => None,
         }
     }
 

@@ -1,6 +1,6 @@
 //! A file that was received.
 
-ghost use Rattle.std.specs.Prelude.{◌≡◌, ◌<◌, ◌≤◌, length, IfOk, IfErr, OnOk, OnErr};
+ghost use Rattle.std.specs.Prelude.{◌≡◌, ◌<◌, ◌≤◌, ◌+◌, ◌%◌, ◌++◌, [], length, IfOk, IfErr, OnOk, OnErr};
 ghost use Rattle.std.specs.Io.KnownBytes.{Appends};
 ghost use Rattle.byte_output.specs.Output.{AppendsPrefix};
 ghost use Rattle.tftp_ends.specs.Chunks.{chunk_count, chunk_of};
@@ -29,14 +29,30 @@ impl<A: Allocator> Model for Received<A> {
     ghost view = { λ r. r.chunks };
 }
 
-impl<A: Allocator> Received<A> {
-    // The bytes of chunks.
-    pub(crate) fn of(chunks: Chunks<A>) -> Self
-        ensures { result ≡ chunks }
+impl<A: Allocator + Copy> Received<A> {
+    // No bytes yet.
+    pub(crate) fn new(alloc: A) -> Self
+        ensures { result ≡ [] }
     {
-        Received { chunks }
+        Received {
+            chunks: Chunks::new(alloc),
+        }
     }
 
+    // Adds the next block. An empty one takes no memory. On error nothing changes.
+    pub(crate) fn push_block(&mut self, block: &[u8]) -> Result<(), AllocError>
+        requires short { length block.now ≤ BLOCK_SIZE }
+        requires whole_blocks { length self.old % BLOCK_SIZE ≡ 0 }
+        requires room { length self.old + length block.now ≤ MAX_FILE }
+        ensures ok { OnOk result (self.new ≡ self.old ++ block.now) }
+        ensures err { OnErr result (self.new ≡ self.old) }
+        ensures grows { IfErr result (λ _. 1 ≤ length block.now) }
+    {
+        self.chunks.push_block(block)
+    }
+}
+
+impl<A: Allocator> Received<A> {
     /// How many bytes it has, at most `MAX_FILE`.
     pub fn len(&self) -> u64
         ensures count { result ≡ length self.now }

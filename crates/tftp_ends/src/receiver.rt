@@ -1,9 +1,8 @@
 //! The end that receives.
 
-ghost use Rattle.std.specs.Prelude.{◌≡◌, ◌≤◌, ◌==◌, ◌+◌, length, Ok, OnErr, IfErr, IfSome};
+ghost use Rattle.std.specs.Prelude.{◌≡◌, ◌≤◌, ◌==◌, ◌+◌, length, Ok, OnErr, IfErr, IfSome, option_copied};
 ghost use Rattle.tftp_ends.specs.Ends.{dgram_of, answer_of, verdict_of, is_last_come, is_past, receiver_start, receiver_next, receiver_again, receiver_data, receiver_timeout, receiver_take, receiver_running, IsReceiver};
 
-use crate::chunks::Chunks;
 use crate::limits::{DALLY, MAX_BLOCKS, MAX_FILE, MISSES};
 use crate::received::Received;
 use crate::recv_fault::RecvFault;
@@ -24,7 +23,7 @@ pub struct Receiver<A: Allocator + Copy = Global> {
     /// How many blocks have come: blocks 1 to this one.
     count: u16,
     /// Their bytes; none once the file was taken out.
-    file: Option<Chunks<A>>,
+    file: Option<Received<A>>,
     /// Time-outs in a row without a new block.
     misses: u8,
     state: RecvState,
@@ -50,7 +49,7 @@ impl<A: Allocator + Copy> Receiver<A> {
     {
         Receiver {
             count: 0,
-            file: Some(Chunks::new(alloc)),
+            file: Some(Received::new(alloc)),
             misses: 0,
             state: RecvState::Running,
         }
@@ -168,6 +167,16 @@ impl<A: Allocator + Copy> Receiver<A> {
         self.state
     }
 
+    /// The file, where all of it has come and it was not taken out.
+    pub fn file(&self) -> Option<&Received<A>>
+        ensures { option_copied result ≡ (receiver_take self.now).file }
+    {
+        match self.state {
+            RecvState::Complete | RecvState::Over => self.file.as_ref(),
+            RecvState::Running | RecvState::TimedOut => None,
+        }
+    }
+
     /// The file, once: where all of it has come and it was not taken out before. Nothing else changes, so the last block
     /// is still acknowledged where it comes again.
     pub fn take_file(&mut self) -> Option<Received<A>>
@@ -178,7 +187,7 @@ impl<A: Allocator + Copy> Receiver<A> {
         ensures size { IfSome result (λ f. length f ≤ MAX_FILE) }
     {
         match self.state {
-            RecvState::Complete | RecvState::Over => self.file.take().map(Received::of),
+            RecvState::Complete | RecvState::Over => self.file.take(),
             RecvState::Running | RecvState::TimedOut => None,
         }
     }
