@@ -5,6 +5,8 @@ pub(crate) enum EventFault {
     Bad,
     /// A pair of ports would serve two transfers, or two ends have one endpoint.
     Reused,
+    /// The server cannot load what its keeper has.
+    NotLoaded,
     /// Out of memory.
     Memory,
 }

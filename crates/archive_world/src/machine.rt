@@ -14,8 +14,10 @@ use crate::answered::Answered;
 use crate::asked::Asked;
 use crate::begun::Begun;
 use crate::datagram::Datagram;
+use crate::got_file::GotFile;
 use crate::op::Op;
 use crate::opening::Opening;
+use crate::outcome::Outcome;
 use crate::running::Running;
 use crate::seat::Seat;
 use crate::seats::{find, hear_at, is_one, wait_at};
@@ -26,6 +28,7 @@ use archive_table::{Keeper, LoadFault, Step, Table, Taken};
 use std::alloc::{AllocError, Allocator, Global};
 use std::marker::Model;
 use tftp_packet::{Endpoint, Out, Packet, decode};
+use tws_best::Collection;
 use tws_file::{Bytes, Ruleset};
 
 /// A world: the real table and clients, and the datagrams that they have sent.
@@ -39,8 +42,7 @@ pub(crate) struct Machine<A: Allocator + Copy = Global> {
     begun: Vec<Begun<A>, A>,
     taken: Vec<TakenFile<A>, A>,
     sent: Vec<Endpoint, A>,
-    // Whose files were fetched; the files are their clients'.
-    got: Vec<Endpoint, A>,
+    got: Vec<GotFile<A>, A>,
     opened: Vec<Opening, A>,
     strays: Vec<Datagram<A>, A>,
 }
@@ -237,16 +239,26 @@ impl<A: Allocator + Copy> Machine<A> {
         }
     }
 
+    // A client has fetched a file, if this is one.
+    fn fetch(&mut self, client: Endpoint, file: Option<Bytes<A>>) -> Result<(), AllocError> {
+        let Some(file) = file else {
+            return Ok(());
+        };
+        self.got.push(GotFile { client, file })?;
+        Ok(())
+    }
+
     // A client has answered.
     #[tactic(auto, using(crate::proofs::Clients::got_push))]
-    fn answer(&mut self, e: Endpoint, told: Answered) -> Result<(), AllocError>
+    fn answer(&mut self, i: usize, e: Endpoint, told: Answered) -> Result<(), AllocError>
         ensures { OnOk result (self.new ≡ answered_by e self.old.clients told.was told.now told.out self.old) }
     {
         if is_newly_sent(told.was, told.now) {
             self.sent.push(e)?;
         }
         if is_newly_got(told.was, told.now) {
-            self.got.push(e)?;
+            let file = self.clients[i].running.file(self.alloc)?;
+            self.fetch(e, file)?;
         }
         self.send(e.host, told.out)
     }
@@ -263,7 +275,7 @@ impl<A: Allocator + Copy> Machine<A> {
             return Ok(());
         };
         let told = wait_at(&mut self.clients, i, e);
-        self.answer(e, told)
+        self.answer(i, e, told)
     }
 
     /// A datagram comes to a client's host. Where no client is at its target, nothing changes.
@@ -278,7 +290,7 @@ impl<A: Allocator + Copy> Machine<A> {
             return Ok(());
         };
         let told = hear_at(&mut self.clients, i, d.to, d.from, d.bytes.as_slice());
-        self.answer(d.to, told)
+        self.answer(i, d.to, told)
     }
 
     /// Whether a transfer was opened for this peer at this port.
@@ -305,6 +317,33 @@ impl<A: Allocator + Copy> Machine<A> {
         Ok(opened)
     }
 
+    /// What all that has happened leaves.
+    ///
+    /// # Errors
+    ///
+    /// Out of memory.
+    pub(crate) fn outcome(self) -> Result<Outcome<A>, AllocError> {
+        let lynx = text_of(self.alloc, self.table.collection(Ruleset::Lynx))?;
+        let ms = text_of(self.alloc, self.table.collection(Ruleset::Ms))?;
+        let Machine {
+            net,
+            taken,
+            sent,
+            got,
+            opened,
+            ..
+        } = self;
+        Ok(Outcome {
+            taken,
+            sent,
+            got,
+            opened,
+            lynx,
+            ms,
+            datagrams: net,
+        })
+    }
+
     // A transfer was opened at this port for a request, or none was.
     fn open(&mut self, opened: bool, port: u16, d: &Datagram<A>) -> Result<(), AllocError>
         ensures { OnOk result (self.new ≡ record self.old { opened = opened_with opened (record { peer = d.now.source; port = port; asked = asked_of d.now.bytes; taken = length self.old.taken }) self.old.opened }) }
@@ -319,6 +358,18 @@ impl<A: Allocator + Copy> Machine<A> {
             taken: self.taken.len(),
         })?;
         Ok(())
+    }
+}
+
+// The text of a collection.
+fn text_of<A: Allocator + Copy>(
+    alloc: A,
+    collection: &Collection<A>,
+) -> Result<Bytes<A>, AllocError> {
+    let mut text = Vec::new(alloc);
+    match collection.write_text(&mut text) {
+        Ok(()) => Ok(Bytes::of(text)),
+        Err(_) => Err(AllocError),
     }
 }
 

@@ -9,6 +9,7 @@ use crate::server_endpoint::SERVER;
 use archive_client::{Get, Put, State};
 use std::alloc::{AllocError, Allocator, Global};
 use tftp_packet::{Endpoint, Out};
+use tws_file::Bytes;
 
 /// What runs at a client's endpoint.
 #[derive(Drop)]
@@ -76,6 +77,22 @@ impl<A: Allocator + Copy> Running<A> {
         match self {
             Running::Put(put) => put.state(),
             Running::Get(get) => get.state(),
+        }
+    }
+
+    /// A copy of the file that it has fetched whole; none where it has not.
+    ///
+    /// # Errors
+    ///
+    /// Out of memory.
+    pub(crate) fn file<B: Allocator>(&self, alloc: B) -> Result<Option<Bytes<B>>, AllocError> {
+        let file = match self {
+            Running::Put(_) => None,
+            Running::Get(get) => get.file(),
+        };
+        match file {
+            Some(file) => Ok(Some(Bytes::of(file.to_vec(alloc)?))),
+            None => Ok(None),
         }
     }
 }

@@ -1,0 +1,27 @@
+use crate::datagram::Datagram;
+use crate::got_file::GotFile;
+use crate::opening::Opening;
+use crate::taken_file::TakenFile;
+use std::alloc::{Allocator, Global};
+use tftp_packet::Endpoint;
+use tws_file::Bytes;
+
+/// What a run leaves. Each list is in the order in which things happened.
+#[derive(Drop)]
+#[derive_where(Debug)]
+pub struct Outcome<A: Allocator = Global> {
+    /// The files that the server has taken.
+    pub taken: Vec<TakenFile<A>, A>,
+    /// The clients that count their files as sent.
+    pub sent: Vec<Endpoint, A>,
+    /// The collections that clients have fetched whole.
+    pub got: Vec<GotFile<A>, A>,
+    /// The transfers that were opened.
+    pub opened: Vec<Opening, A>,
+    /// The text of the server's Lynx collection at the end.
+    pub lynx: Bytes<A>,
+    /// The text of its MS collection.
+    pub ms: Bytes<A>,
+    /// The datagrams that were ever sent, by strangers too.
+    pub datagrams: Vec<Datagram<A>, A>,
+}
