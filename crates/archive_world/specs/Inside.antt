@@ -27,7 +27,6 @@ seat_of s = (s.client, running_of s.running)
 abbrev pub begun_of : {A : Type 0} → beginning.Inside A → Begun
 begun_of b = record { client = b.client; operation = operation_of b.kind; taken = b.taken }
 
--- the file that the client there has, if it has fetched one
 -- what was granted to a client that is this now
 abbrev pub verdict_in : {A : Type 0} → runnings.Running A → Verdict
 verdict_in (Put c) = granted
@@ -46,26 +45,7 @@ IsFirst test zero (x ∷ xs) = test x.0 ≡ true
 IsFirst test (suc i) [] = ⊥
 IsFirst test (suc i) (x ∷ xs) = (test x.0 ≡ false) × IsFirst test i xs
 
--- whose file was fetched, without its bytes
-abbrev pub bare_got : Endpoint → Got
-bare_got e = record { client = e; file = [] }
-
--- a world without the bytes of the files that were fetched, which its clients have
-abbrev pub bare : World → World
-bare w =
-    record {
-      net = w.net;
-      server = w.server;
-      clients = w.clients;
-      begun = w.begun;
-      taken = w.taken;
-      sent = w.sent;
-      got = map (λ (g : Got). bare_got g.client) w.got;
-      opened = w.opened;
-      strays = w.strays;
-    }
-
--- the same of a machine
+-- the world that a machine has
 abbrev pub world_of : {A : Type 0} → machines.Inside A → World
 world_of m =
     record {
@@ -75,7 +55,7 @@ world_of m =
       begun = m.begun.items;
       taken = m.taken.items;
       sent = m.sent.items;
-      got = map bare_got m.got.items;
+      got = m.got.items;
       opened = m.opened.items;
       strays = m.strays.items;
     }

@@ -9,7 +9,6 @@ ghost use Rattle.tftp_ends.specs.Ends.{granted};
 ghost use Rattle.archive_world.specs.Kept.{operation_of};
 ghost use Rattle.archive_world.specs.Reuse.{IsUnused, was_opened};
 ghost use Rattle.archive_world.specs.World.{begin, client_times_out, server_times_out, stray, empty_maps, is_too_long, server_endpoint, event_happens, after_request, asked_of, restarts, IsFree, MayHappen};
-ghost use Rattle.archive_world.specs.Inside.{bare};
 
 use crate::datagram::Datagram;
 use crate::event_fault::EventFault;
@@ -100,7 +99,7 @@ pub(crate) fn client_timeout<A: Allocator + Copy>(
     machine: &mut Machine<A>,
     e: Endpoint,
 ) -> Result<(), EventFault>
-    ensures made { OnOk result (machine.new ≡ bare (event_happens (client_times_out e) all empty_maps machine.old)) }
+    ensures made { OnOk result (machine.new ≡ event_happens (client_times_out e) all empty_maps machine.old) }
     ensures may { OnOk result (MayHappen (client_times_out e) machine.old) }
     ensures bad { result ≡ Err EventFault.Bad → MayHappen (client_times_out e) machine.old → ⊥ }
 {

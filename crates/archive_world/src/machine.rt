@@ -5,7 +5,7 @@ ghost use Rattle.archive_table.specs.Server.{request_verdict, server_request, se
 ghost use Rattle.archive_table.specs.Keeper.{LoadedFrom, TableFails};
 ghost use Rattle.archive_world.specs.Kept.{asked_as, operation_of};
 ghost use Rattle.archive_world.specs.World.{start, has_begun, begins, is_too_long, server_endpoint, net_with, taken_with, opened_with, asked_of, asked_named, after_request, after_transfer, strays_in, newly_sent, newly_got, client_at, client_waits, client_hears};
-ghost use Rattle.archive_world.specs.Inside.{HearsAtPort, answered_by, bare};
+ghost use Rattle.archive_world.specs.Inside.{HearsAtPort, answered_by};
 ghost use Rattle.archive_world.specs.Reuse.{has_strayed, was_opened, is_opening_at};
 ghost use Rattle.std.specs.Str.{bytes_eq};
 ghost use Rattle.tws_file.specs.Names.{file_name_of};
@@ -249,7 +249,6 @@ impl<A: Allocator + Copy> Machine<A> {
     }
 
     // A client has answered.
-    #[tactic(auto, using(crate::proofs::Clients::got_push))]
     fn answer(&mut self, i: usize, e: Endpoint, told: Answered) -> Result<(), AllocError>
         ensures { OnOk result (self.new ≡ answered_by e self.old.clients told.was told.now told.out self.old) }
     {
@@ -269,7 +268,7 @@ impl<A: Allocator + Copy> Machine<A> {
     ///
     /// Out of memory.
     pub(crate) fn client_timeout(&mut self, e: Endpoint) -> Result<(), AllocError>
-        ensures { OnOk result (self.new ≡ bare (client_waits (client_at e self.old) e self.old)) }
+        ensures { OnOk result (self.new ≡ client_waits (client_at e self.old) e self.old) }
     {
         let Some(i) = find(self.clients.as_slice(), e) else {
             return Ok(());
@@ -284,7 +283,7 @@ impl<A: Allocator + Copy> Machine<A> {
     ///
     /// Out of memory.
     pub(crate) fn client_hear(&mut self, d: &Datagram<A>) -> Result<(), AllocError>
-        ensures { OnOk result ((grant : Grant) × (self.new ≡ bare (client_hears (client_at d.now.target self.old) grant d.now self.old))) }
+        ensures { OnOk result ((grant : Grant) × (self.new ≡ client_hears (client_at d.now.target self.old) grant d.now self.old)) }
     {
         let Some(i) = find(self.clients.as_slice(), d.to) else {
             return Ok(());
