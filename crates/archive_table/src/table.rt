@@ -54,16 +54,15 @@ impl<A: Allocator + Copy> Model for Table<A> {
 fn told<A: Allocator>(port: u16, to: Endpoint, dgram: Option<Dgram>) -> Step<A>
     ensures { result ≡ record { out = sends_from port to dgram; opened = false; taken = None; closed = false } }
 {
-    let out = match dgram {
-        Some(dgram) => Some(Out {
+    let Some(dgram) = dgram else {
+        return Step::nothing();
+    };
+    Step {
+        out: Some(Out {
             from_port: port,
             to,
             dgram,
         }),
-        None => None,
-    };
-    Step {
-        out,
         opened: false,
         taken: None,
         closed: false,

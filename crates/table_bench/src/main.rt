@@ -111,12 +111,12 @@ fn open(table: &mut Table, file: &[u8], port: u16, reads: bool) -> Option<Dgram>
 
 // Gives what a client sends to the table. Whether there was something.
 fn turn(table: &mut Table, file: &[u8], client: &mut Client) -> bool {
-    let Some(dgram) = client.next.take() else {
+    let Some(dgram) = &client.next else {
         return false;
     };
     let from = endpoint(client.port);
-    let Step { out, .. } = table.on_datagram(&mut NoKeeper, client.port, from, dgram.bytes());
-    client.next = match out {
+    let step = table.on_datagram(&mut NoKeeper, client.port, from, dgram.bytes());
+    client.next = match &step.out {
         Some(out) => reply(file, &out.dgram),
         None => None,
     };

@@ -31,9 +31,12 @@ impl Dgram {
     pub(crate) fn of_opcode(opcode: u16) -> Self
         ensures { result ≡ big_bytes 2 opcode }
     {
-        let mut buffer = [0; MAX_DATAGRAM];
-        BigEndian::write_u16(&mut buffer, opcode);
-        Dgram { buffer, len: 2 }
+        let mut dgram = Dgram {
+            buffer: [0; MAX_DATAGRAM],
+            len: 2,
+        };
+        BigEndian::write_u16(&mut dgram.buffer, opcode);
+        dgram
     }
 
     /// Adds bytes at the end.
