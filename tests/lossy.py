@@ -4,8 +4,9 @@
 It prints the port at which it takes requests. Each client has a socket of its own towards the server, and each port that
 answers a client has a socket of its own towards it, so that a transfer has its own ports on both sides. Of the datagrams
 of both directions it drops a tenth, repeats a tenth, delays a tenth by up to 0.2 s, and holds back a tenth until a later
-one of their direction has passed, or 1.5 s. The same datagram of a transfer is dropped or held back twice at most: a sender
-gives up after five time-outs. At SIGTERM it prints how many of each there were.
+one of their direction has passed, or 1.5 s. Of a block and its ACK one datagram is dropped or held back at most: a server
+that has a whole file answers a repeated block for two seconds alone, so a client that loses the last ACK and then its next
+block too gives up, although its file was taken. At SIGTERM it prints how many of each there were.
 """
 import heapq
 import random
@@ -15,7 +16,8 @@ import socket
 import sys
 import time
 
-LOST_AT_MOST = 2
+# The opcodes of packets with a block's number.
+BLOCKS = (3, 4)
 
 
 def opened():
@@ -34,8 +36,8 @@ class Proxy:
         # For each client its socket towards the server; for each client and port of the server the socket towards it.
         self.ups = {}
         self.downs = {}
-        # How often a datagram of a direction was lost; what a direction holds back; what is to be sent later.
-        self.lost = {}
+        # What was lost of each transfer; what a direction holds back; what is to be sent later.
+        self.lost = set()
         self.held = {}
         self.later = []
         self.number = 0
@@ -49,20 +51,20 @@ class Proxy:
     def from_front(self, data, source):
         if source not in self.ups:
             self.ups[source] = self.open(lambda answer, port: self.from_server(source, answer, port))
-        self.take(data, self.ups[source], self.server)
+        self.take((source, self.server), data, self.ups[source], self.server)
 
     def from_server(self, client, data, source):
         if source == self.server:
-            self.take(data, self.front, client)
+            self.take((client, source), data, self.front, client)
             return
         way = (client, source)
         if way not in self.downs:
             self.downs[way] = self.open(lambda answer, port: self.from_client(way, answer, port))
-        self.take(data, self.downs[way], client)
+        self.take(way, data, self.downs[way], client)
 
     def from_client(self, way, data, source):
         if source == way[0]:
-            self.take(data, self.ups[way[0]], way[1])
+            self.take(way, data, self.ups[way[0]], way[1])
 
     def put_off(self, seconds, way, data):
         """Notes what is to be sent later: when, a number that no other note has, the way, and the datagram."""
@@ -79,28 +81,27 @@ class Proxy:
             # A full queue or a port that is closed is a loss of the network's own.
             pass
 
-    def take(self, data, end, to):
-        """One datagram that came, and goes on by this socket to this address: what becomes of it is drawn."""
+    def take(self, transfer, data, end, to):
+        """A datagram of a transfer came, and goes on by this socket to this address: what becomes of it is drawn."""
         way = (end, to)
-        key = (end, to, data)
+        # More than a tenth each where something may be lost, which makes a tenth of all.
         drawn = self.draw.random()
-        loses = self.lost.get(key, 0) < LOST_AT_MOST
-        if drawn < 0.1 and loses:
-            self.lost[key] = self.lost.get(key, 0) + 1
-            self.counts["dropped"] += 1
+        part = (transfer, data[2:4] if data[1] in BLOCKS else data)
+        if drawn < 0.3 and part not in self.lost and way not in self.held:
+            self.lost.add(part)
+            if drawn < 0.15:
+                self.counts["dropped"] += 1
+            else:
+                self.counts["reordered"] += 1
+                self.held[way] = self.put_off(1.5, way, data)
             return
-        if drawn < 0.2 and loses and way not in self.held:
-            self.lost[key] = self.lost.get(key, 0) + 1
-            self.counts["reordered"] += 1
-            self.held[way] = self.put_off(1.5, way, data)
-            return
-        if 0.2 <= drawn < 0.3:
+        if 0.3 <= drawn < 0.4:
             self.counts["delayed"] += 1
             self.put_off(self.draw.uniform(0.01, 0.2), way, data)
             return
         self.counts["passed"] += 1
         self.send(way, data)
-        if 0.3 <= drawn < 0.4:
+        if 0.4 <= drawn < 0.5:
             self.counts["repeated"] += 1
             self.send(way, data)
         self.release(way)

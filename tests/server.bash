@@ -49,7 +49,7 @@ adds() {
 # listening: whether the server says so within ten seconds. One that has ended does not.
 listening() {
     for _ in $(seq 200); do
-        grep -qx "serving on port $port" "$work/serving" && return 0
+        grep -qsx "serving on port $port" "$work/serving" && return 0
         kill -0 "$server" 2>/dev/null || return 1
         sleep 0.05
     done
