@@ -1,0 +1,49 @@
+#!/usr/bin/env python3
+"""Sends datagrams to a server on this host and prints what it answers to each: datagrams.py PORT DATAGRAM..
+
+The first goes to PORT, each further one to the port that the last answer came from. `\\xHH` stands for a byte, and `@FILE`
+for DATA 1 with the first 512 bytes of a file; `stranger:` before a datagram sends it from another socket than the first.
+A line for each answer: which port it came from, `request` or `transfer`, and its bytes; `nothing` if none comes within ten
+seconds. At the end an ERROR closes the transfer.
+"""
+import codecs
+import socket
+import sys
+
+
+def datagram(text):
+    if text.startswith("@"):
+        with open(text[1:], "rb") as file:
+            return b"\0\3\0\1" + file.read(512)
+    return codecs.escape_decode(text.encode("latin-1"))[0]
+
+
+def opened():
+    end = socket.socket(socket.AF_INET, socket.SOCK_DGRAM)
+    end.bind(("127.0.0.1", 0))
+    end.settimeout(10)
+    return end
+
+
+def main():
+    port = int(sys.argv[1])
+    own, stranger = opened(), opened()
+    to = port
+    for text in sys.argv[2:]:
+        end = own
+        if text.startswith("stranger:"):
+            end, text = stranger, text[len("stranger:"):]
+        end.sendto(datagram(text), ("127.0.0.1", to))
+        try:
+            answer, (_, to) = end.recvfrom(2000)
+        except TimeoutError:
+            print("nothing")
+            continue
+        # In the text of bytes, each that is no printable character stands as \xHH.
+        text = "".join(chr(b) if 32 <= b < 127 and b != 92 else f"\\x{b:02x}" for b in answer)
+        print("request" if to == port else "transfer", text)
+    if to != port:
+        own.sendto(b"\0\5\0\0done\0", ("127.0.0.1", to))
+
+
+main()

@@ -1,0 +1,173 @@
+#!/usr/bin/env python3
+"""Kills servers at random moments during puts, and looks at what each has after its restart: kills.py PROGRAM FOLDER.
+
+Ten servers side by side, each with a folder of its own, are killed five times each. A put that was counted as sent must be
+in the collection after the restart; the one that was running may be in it, whole, or not. The last line counts the checks.
+"""
+import os
+import random
+import signal
+import struct
+import subprocess
+import sys
+import threading
+import time
+
+PROGRAM, FOLDER = sys.argv[1], sys.argv[2]
+SERVERS = 10
+KILLS = 5
+# The puts before each moment is drawn, and how late the moment is at most, in seconds from the start of the next put.
+BEFORE = 2
+LATEST = 0.06
+# How long a client that has no server any more may take to hear what is sent already.
+HEARS = 0.3
+
+lock = threading.Lock()
+counts = {True: 0, False: 0}
+met = 0
+processes = []
+
+
+def check(name, holds):
+    with lock:
+        counts[bool(holds)] += 1
+        if not holds:
+            print(f"check failed: {name}", flush=True)
+
+
+def run(*words, out=subprocess.PIPE):
+    process = subprocess.Popen([PROGRAM, *map(str, words)], stdin=subprocess.DEVNULL, stdout=out, stderr=subprocess.DEVNULL)
+    with lock:
+        processes.append(process)
+    return process
+
+
+class Archive:
+    def __init__(self, k):
+        self.draw = random.Random(k)
+        self.name = f"server {k}"
+        self.port = 45000 + 200 * k
+        self.folder = os.path.join(FOLDER, str(k))
+        self.kept = os.path.join(self.folder, "kept")
+        os.makedirs(self.kept)
+        self.made = 0
+        # The files of which the collection is the best.
+        self.taken = []
+
+    def path(self, name):
+        return os.path.join(self.folder, name)
+
+    def file(self):
+        """A file of one level, in fewer ticks than any before it."""
+        self.made += 1
+        moves = bytes(self.draw.choices(range(0, 256, 4), k=self.draw.randrange(30_000)))
+        body = struct.pack("<H4sBBII", self.draw.randrange(1, 8), b"BDHP", 0, 0, 0, 10_000 - self.made) + moves
+        path = self.path(f"{self.made}.tws")
+        with open(path, "wb") as out:
+            out.write(bytes.fromhex("35339B9901000000") + struct.pack("<I", len(body)) + body)
+        return path
+
+    def start(self):
+        """Starts the server, on the next port that is free."""
+        for _ in range(100):
+            self.port += 1
+            self.server = run("serve", "--port", self.port, "--dir", self.kept)
+            if self.server.stdout.readline() == b"serving on port %d\n" % self.port:
+                return
+            self.server.wait()
+        sys.exit(f"{self.name} does not start")
+
+    def put(self, path):
+        self.client = run("put", "127.0.0.1", path, "--port", self.port, out=subprocess.DEVNULL)
+        return self.client.wait()
+
+    def best(self, files):
+        return subprocess.run([PROGRAM, "best", "lynx", *files], stdout=subprocess.PIPE, check=True).stdout
+
+    def get(self):
+        path = self.path("got")
+        status = run("get", "127.0.0.1", "lynx", path, "--port", self.port, out=subprocess.DEVNULL).wait()
+        check(f"{self.name}: get, status {status}", status == 0)
+        with open(path, "rb") as got:
+            return got.read()
+
+    def kill(self, moment):
+        """Kills the server after this time, and soon after that the client that runs."""
+        time.sleep(moment)
+        self.server.kill()
+        self.server.wait()
+        self.killed.set()
+        time.sleep(HEARS)
+        self.client.kill()
+
+    def puts_until_killed(self):
+        """Puts one file after another until the server is killed. The last is answered if its client did not end well."""
+        self.killed = threading.Event()
+        path = self.file()
+        killer = threading.Thread(target=self.kill, args=(self.draw.uniform(0, LATEST),), daemon=True)
+        killer.start()
+        running = None
+        while not running and not self.killed.is_set():
+            status = self.put(path)
+            if status == 0:
+                self.taken.append(path)
+                path = self.file()
+            else:
+                check(f"{self.name}: a put beside a server that runs, status {status}", status == -signal.SIGKILL)
+                running = path
+        killer.join()
+        return running
+
+    def round(self):
+        global met
+        for _ in range(BEFORE):
+            path = self.file()
+            status = self.put(path)
+            check(f"{self.name}: put, status {status}", status == 0)
+            self.taken.append(path)
+        running = self.puts_until_killed()
+        self.start()
+        got = self.get()
+        is_after = running and got == self.best(self.taken + [running])
+        if is_after:
+            self.taken.append(running)
+        check(f"{self.name}: after {self.made} files it has what was sent", is_after or got == self.best(self.taken))
+        with open(os.path.join(self.kept, "lynx.tws"), "rb") as kept:
+            check(f"{self.name}: after {self.made} files it has what is kept", got == kept.read())
+        with lock:
+            met += running is not None
+
+    def live(self):
+        try:
+            self.start()
+            for _ in range(KILLS):
+                self.round()
+        except BaseException as e:
+            check(f"{self.name}: {e!r}", False)
+            raise
+        self.server.terminate()
+
+
+def end():
+    with lock:
+        for process in processes:
+            if process.returncode is None:
+                process.kill()
+
+
+def main():
+    signal.signal(signal.SIGTERM, lambda *_: sys.exit(1))
+    try:
+        lives = [threading.Thread(target=Archive(k).live, daemon=True) for k in range(SERVERS)]
+        for life in lives:
+            life.start()
+        for life in lives:
+            life.join()
+    finally:
+        end()
+    check(f"{met} of {SERVERS * KILLS} kills met a put", met >= SERVERS * KILLS // 2)
+    print(f"{counts[True]} passed, {counts[False]} failed")
+    sys.exit(counts[False] > 0)
+
+
+main()
