@@ -85,14 +85,27 @@ fn a_put_that_is_never_answered(rt: HostRuntime) -> Result<(), Fail> {
     Ok(())
 }
 
+// Whether a put of so many bytes begins.
+fn starts(alloc: Global, len: usize) -> Result<bool, Fail> {
+    let file = filled(alloc, len)?;
+    match Put::start(5000, SERVER, file) {
+        Ok((put, request)) => {
+            Ok(put.state() == State::Running && goes(&Some(request), 6969, WRQ))
+        }
+        Err(_fault) => Ok(false),
+    }
+}
+
+// It has 8,191 whole blocks, and an empty one will end it.
+#[test]
+fn a_file_of_many_whole_blocks(rt: HostRuntime) -> Result<(), Fail> {
+    assert!(rt; starts(rt.alloc(), 4193792)?);
+    Ok(())
+}
+
 #[test]
 fn the_greatest_file(rt: HostRuntime) -> Result<(), Fail> {
-    let file = filled(rt.alloc(), 33553919)?;
-    let Ok((put, request)) = Put::start(5000, SERVER, file) else {
-        return Err(Fail::new("too long"));
-    };
-    assert!(rt; goes(&Some(request), 6969, WRQ));
-    assert_eq!(rt; put.state(), State::Running);
+    assert!(rt; starts(rt.alloc(), 33553919)?);
     Ok(())
 }
 
