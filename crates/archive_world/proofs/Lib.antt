@@ -45,3 +45,4 @@ pub mod Searches
 pub mod Steps
 pub mod Firsts
 pub mod Clients
+pub mod Exiting

@@ -14,7 +14,7 @@ use Rattle.archive_world.specs.declared.begun.Begun.TheInside as beginning
 use Rattle.archive_world.specs.declared.machine.Machine.TheInside as machines
 use Rattle.archive_world.specs.Kept.{operation_of}
 use Rattle.archive_world.specs.World.{World, Begun, Got, Datagram, after_transfer, at_endpoint, net_with, sent_with, got_with, newly_sent, newly_got}
-use Rattle.archive_table.specs.Server.{Grant, Taken, Merges, server_datagram}
+use Rattle.archive_table.specs.Server.{Grant, all, Merges, server_datagram}
 use Rattle.archive_table.specs.Keeper.{Keeping, StepKeeps}
 
 abbrev pub running_of : {A : Type 0} → runnings.Running A → Client
@@ -62,14 +62,14 @@ world_of m =
 
 -- ---- a datagram at a port of the server
 
--- What the machine is after a datagram has come to a port of the server, with what was granted; and what the keeper's list
--- has then. `wanted` is the file that is taken if all is granted.
+-- What a world is after a datagram has come to a port of the server, with what was granted; and what the keeper's list is
+-- then.
 pub record HearsAtPort (d : Datagram) (before after : Option (List Keeping)) (old new : World) : Type 0 where
   pub grant : Grant
-  pub wanted : Option Taken
   pub is : new ≡ after_transfer (server_datagram grant new.server.maps d.target.port d.source d.bytes old.server) old
   pub merges : Merges (server_datagram grant new.server.maps d.target.port d.source d.bytes old.server).told.taken old.server.maps new.server.maps
-  pub keeps : StepKeeps grant wanted old.server.maps new.server.maps before after
+  -- by the file that is taken if all is granted
+  pub keeps : StepKeeps grant (server_datagram all old.server.maps d.target.port d.source d.bytes old.server).told.taken old.server.maps new.server.maps before after
 
 -- ---- a client
 

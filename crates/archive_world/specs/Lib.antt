@@ -6,3 +6,6 @@ pub mod Reuse
 pub mod Restarts
 pub mod Kept
 pub mod Inside
+pub mod Outcomes
+pub mod Replays
+pub mod Exits

@@ -4,7 +4,7 @@ ghost use Rattle.std.specs.Prelude.{◌≡◌, false, is_some, ◌≢◌, [], On
 ghost use Rattle.archive_table.specs.Server.{request_verdict, server_request, server_datagram, server_timeout, grant_of, transfer_at, kind_named, is_same, Grant};
 ghost use Rattle.archive_table.specs.Keeper.{LoadedFrom, TableFails};
 ghost use Rattle.archive_world.specs.Kept.{asked_as, operation_of};
-ghost use Rattle.archive_world.specs.World.{start, has_begun, begins, is_too_long, server_endpoint, net_with, taken_with, opened_with, asked_of, asked_named, after_request, after_transfer, strays_in, newly_sent, newly_got, client_at, client_waits, client_hears};
+ghost use Rattle.archive_world.specs.World.{World, start, has_begun, begins, is_too_long, server_endpoint, net_with, taken_with, opened_with, asked_of, asked_named, after_request, after_transfer, strays_in, newly_sent, newly_got, client_at, client_waits, client_hears};
 ghost use Rattle.archive_world.specs.Inside.{HearsAtPort, answered_by};
 ghost use Rattle.archive_world.specs.Reuse.{has_strayed, was_opened, is_opening_at};
 ghost use Rattle.std.specs.Str.{bytes_eq};
@@ -154,7 +154,7 @@ impl<A: Allocator + Copy> Machine<A> {
         keeper: &mut K,
         d: &Datagram<A>,
     ) -> Result<(), AllocError>
-        ensures { OnOk result (HearsAtPort d.now (K.log keeper.old) (K.log keeper.new) self.old self.new) }
+        ensures { (world : World) × HearsAtPort d.now (K.log keeper.old) (K.log keeper.new) self.old world × OnOk result (self.new ≡ world) }
     {
         let step = self
             .table
@@ -307,7 +307,8 @@ impl<A: Allocator + Copy> Machine<A> {
     pub(crate) fn request(&mut self, spare: u16, d: &Datagram<A>) -> Result<bool, AllocError>
         requires other { spare ≢ self.old.server.request }
         requires free { transfer_at spare self.old.server ≡ None }
-        ensures { IfOk result (λ opened. self.new ≡ after_request d.now.source spare (asked_of d.now.bytes) (server_request (request_verdict opened) spare d.now.source d.now.bytes self.old.server) self.old) }
+        ensures told { IfOk result (λ opened. opened ≡ (server_request (request_verdict opened) spare d.now.source d.now.bytes self.old.server).told.opened) }
+        ensures made { IfOk result (λ opened. self.new ≡ after_request d.now.source spare (asked_of d.now.bytes) (server_request (request_verdict opened) spare d.now.source d.now.bytes self.old.server) self.old) }
     {
         let step = self.table.on_request(spare, d.from, d.bytes.as_slice());
         let Step { out, opened, .. } = step;

@@ -2,7 +2,7 @@
 
 use crate::event::Event;
 use crate::event_fault::EventFault;
-use crate::happening::happen;
+use crate::events::happen;
 use crate::machine::Machine;
 use crate::outcome::Outcome;
 use crate::world_fault::WorldFault;

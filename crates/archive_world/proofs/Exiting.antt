@@ -1,0 +1,204 @@
+-- What each event makes, from what its call has answered.
+use Rattle.std.specs.Prelude.{◌≡◌, ◌≢◌, ◌⊎◌, ℕ, Bool, true, false, ◌==◌, List, [], ◌∷◌, ◌++◌, slice_get, Option, None, Some, Result, Ok, Err, OnOk, OnErr, IfOk, IfErr}
+use Rattle.std.proofs.Common.{refl, ap, sym, ◌∙◌, subst, inl, inr}
+use Rattle.std.proofs.lemmas.Bool.{eq-eqb, ne_eqb}
+use Rattle.tftp_packet.specs.declared.endpoint.Endpoint.{Endpoint}
+use Rattle.archive_client.specs.Client.{Operation, Client}
+use Rattle.archive_table.specs.Server.{Maps, Taken, Grant, all, IsMerged, server_timeout, transfer_at}
+use Rattle.archive_table.specs.Keeper.{Keeping, TableFails}
+use Rattle.archive_table.specs.declared.load_fault.LoadFault.{LoadFault}
+use Rattle.archive_table.proofs.SamePort.{request_same, datagram_same, timeout_same}
+use Rattle.archive_world.specs.declared.event_fault.EventFault.{EventFault}
+use Rattle.archive_world.specs.declared.event_fault.EventFault.TheVariants as fault
+use Rattle.archive_world.specs.World.{Event, begin, deliver, client_times_out, server_times_out, stray, restart, World, Datagram, Step, server_endpoint, empty_maps, has_begun, is_too_long, client_at, begins, begins_unless, client_waits, strays_in, strays_unless, restarts, taken_with, event_happens, HasMerged, MayHappen}
+use Rattle.archive_world.specs.Headline.{HasOwnPorts}
+use Rattle.archive_world.specs.Reuse.{IsUnused}
+use Rattle.archive_world.specs.Restarts.{HasKept}
+use Rattle.tws_best.specs.Best.{IsCollected}
+use Rattle.archive_world.specs.Replays.{Makes, Reuses}
+use Rattle.archive_world.specs.Exits.{IsKeptBy, MakesTold, Comes}
+use Rattle.archive_world.proofs.Remaining.{Remain, begins_remain, waits_remain, strays_remain, timeout_leaves}
+use Rattle.archive_world.proofs.Reusing.{begin-keeps_own, stray-keeps_own}
+use Rattle.archive_world.proofs.Totality.{not_more}
+use Rattle.archive_world.proofs.Tracing.{begins_fits, strays_fits}
+
+-- no file is taken, so none has to be merged
+pub remain-merged : (w v : World) → Remain w v → (t : Taken) → v.taken ≡ w.taken ++ t ∷ [] → IsMerged t.file w.server.maps v.server.maps
+remain-merged w v remain t e = not_more w.taken t (sym remain.0 ∙ e)
+
+-- a step after which the keeper has what it had
+pub told-makes : (e : Event) (told : Option (List Keeping)) (w v : World) → ((log : List Keeping) → told ≡ Some log → IsKeptBy log w → Makes e log log w v) → MakesTold e told told w v
+told-makes e told w v makes after is = (after, is, makes after is)
+
+no_fault : {P : Type 0} (f g : EventFault) → f ≡ g → (Err f ≡ Err {T = Unit {0}} g → ⊥) → P
+no_fault f g e never = absurd (never (ap (λ (x : EventFault). Err x) e))
+
+-- ---- a begin
+
+module _ (w v : World) (e : Endpoint) (operation : Operation) where
+  abbrev begun : World
+  begun = event_happens (begin e operation) all empty_maps w
+
+  begun_merged : HasMerged (record { event = begin e operation; grant = all; maps = empty_maps }) w
+  begun_merged = remain-merged w begun (begins_remain w (e.host == server_endpoint.host) (is_too_long operation) e operation)
+
+  begun_own : MayHappen (begin e operation) w → HasOwnPorts w → HasOwnPorts begun → IsUnused e w
+  begun_own may own later = (begin-keeps_own w own e operation).0 (subst HasOwnPorts (begins_fits w e operation may.0 may.1) later)
+
+  begun_request : (ours long : Bool) → (begins_unless ours long e operation w).server.request ≡ w.server.request
+  begun_request true long = refl
+  begun_request false true = refl
+  begun_request false false = refl
+
+  begun_makes : v ≡ begun → MayHappen (begin e operation) w → IsUnused e w → (log : List Keeping) → Makes (begin e operation) log log w v
+  begun_makes is may unused log =
+      record {
+        grant = all;
+        maps = empty_maps;
+        is = is;
+        may = may;
+        own = λ own. subst HasOwnPorts (sym (is ∙ begins_fits w e operation may.0 may.1)) ((begin-keeps_own w own e operation).1 unused);
+        merged = begun_merged;
+        keeps = refl;
+      }
+
+  pub begin-comes : (r : Result (Unit {0}) EventFault) (told : Option (List Keeping)) → OnOk r (v ≡ begun) → OnOk r (MayHappen (begin e operation) w) → OnOk r (IsUnused e w) → (r ≡ Err fault.Bad → MayHappen (begin e operation) w → ⊥) → (r ≡ Err fault.Reused → MayHappen (begin e operation) w) → (r ≡ Err fault.Reused → IsUnused e w → ⊥) → r ≢ Err fault.NotLoaded → Comes r (begin e operation) told told w v
+  begin-comes (Ok done) told is may unused bad reused used loads = (
+    ap (λ (x : World). x.server.request) is ∙ begun_request (e.host == server_endpoint.host) (is_too_long operation),
+    told-makes (begin e operation) told w v (λ log t kept. begun_makes is may unused log),
+  )
+  begin-comes (Err fault.Bad) told is may unused bad reused used loads = (refl, bad refl)
+  begin-comes (Err fault.Reused) told is may unused bad reused used loads = (
+    refl,
+    λ own. record {
+      may = reused refl;
+      grant = all;
+      maps = empty_maps;
+      merged = begun_merged;
+      reused = λ later. used refl (begun_own (reused refl) own later);
+    },
+  )
+  begin-comes (Err fault.NotLoaded) told is may unused bad reused used loads = absurd (loads refl)
+  begin-comes (Err fault.Memory) told is may unused bad reused used loads = inl refl
+
+-- ---- a stray
+
+module _ (w v : World) (d : Datagram) where
+  abbrev strayed : World
+  strayed = event_happens (stray d) all empty_maps w
+
+  strayed_request : (ours begun : Bool) → (strays_unless ours begun d w).server.request ≡ w.server.request
+  strayed_request true begun = refl
+  strayed_request false true = refl
+  strayed_request false false = refl
+
+  strayed_makes : v ≡ strayed → MayHappen (stray d) w → (log : List Keeping) → Makes (stray d) log log w v
+  strayed_makes is may log =
+      record {
+        grant = all;
+        maps = empty_maps;
+        is = is;
+        may = may;
+        own = λ own. subst HasOwnPorts (sym (is ∙ strays_fits w d may.0 may.1)) ((stray-keeps_own w own d).1 may.1);
+        merged = remain-merged w strayed (strays_remain w (d.source.host == server_endpoint.host) (has_begun d.source w.begun) d);
+        keeps = refl;
+      }
+
+  pub stray-comes : (r : Result (Unit {0}) EventFault) (told : Option (List Keeping)) → OnOk r (v ≡ strayed) → OnOk r (MayHappen (stray d) w) → (r ≡ Err fault.Bad → MayHappen (stray d) w → ⊥) → r ≢ Err fault.Reused → r ≢ Err fault.NotLoaded → Comes r (stray d) told told w v
+  stray-comes (Ok done) told is may bad own loads = (
+    ap (λ (x : World). x.server.request) is ∙ strayed_request (d.source.host == server_endpoint.host) (has_begun d.source w.begun),
+    told-makes (stray d) told w v (λ log t kept. strayed_makes is may log),
+  )
+  stray-comes (Err fault.Bad) told is may bad own loads = (refl, bad refl)
+  stray-comes (Err fault.Reused) told is may bad own loads = absurd (own refl)
+  stray-comes (Err fault.NotLoaded) told is may bad own loads = absurd (loads refl)
+  stray-comes (Err fault.Memory) told is may bad own loads = inl refl
+
+-- ---- time-outs
+
+module _ (w v : World) (e : Endpoint) where
+  abbrev waited : World
+  waited = event_happens (client_times_out e) all empty_maps w
+
+  waited_request : (found : Option Client) → (client_waits found e w).server.request ≡ w.server.request
+  waited_request None = refl
+  waited_request (Some c) = refl
+
+  waited_own : (found : Option Client) → HasOwnPorts w → HasOwnPorts (client_waits found e w)
+  waited_own None own = own
+  waited_own (Some c) own =
+      record { operations = own.operations; openings = own.openings; strangers = own.strangers }
+
+  waited_makes : v ≡ waited → MayHappen (client_times_out e) w → (log : List Keeping) → Makes (client_times_out e) log log w v
+  waited_makes is may log =
+      record {
+        grant = all;
+        maps = empty_maps;
+        is = is;
+        may = may;
+        own = λ own. subst HasOwnPorts (sym is) (waited_own (client_at e w) own);
+        merged = remain-merged w waited (waits_remain w (client_at e w) e);
+        keeps = refl;
+      }
+
+  pub wait-comes : (r : Result (Unit {0}) EventFault) (told : Option (List Keeping)) → OnOk r (v ≡ waited) → OnOk r (MayHappen (client_times_out e) w) → (r ≡ Err fault.Bad → MayHappen (client_times_out e) w → ⊥) → r ≢ Err fault.Reused → r ≢ Err fault.NotLoaded → Comes r (client_times_out e) told told w v
+  wait-comes (Ok done) told is may bad own loads = (
+    ap (λ (x : World). x.server.request) is ∙ waited_request (client_at e w),
+    told-makes (client_times_out e) told w v (λ log t kept. waited_makes is may log),
+  )
+  wait-comes (Err fault.Bad) told is may bad own loads = (refl, bad refl)
+  wait-comes (Err fault.Reused) told is may bad own loads = absurd (own refl)
+  wait-comes (Err fault.NotLoaded) told is may bad own loads = absurd (loads refl)
+  wait-comes (Err fault.Memory) told is may bad own loads = inl refl
+
+module _ (w v : World) (port : ℕ) where
+  abbrev timed : World
+  timed = event_happens (server_times_out port) all empty_maps w
+
+  timed_taken : timed.taken ≡ w.taken
+  timed_taken = ap (λ (o : Option Taken). taken_with o w.taken) (timeout_leaves (transfer_at port w.server) port w.server).0
+
+  timed_makes : v ≡ timed → (log : List Keeping) → Makes (server_times_out port) log log w v
+  timed_makes is log =
+      record {
+        grant = all;
+        maps = empty_maps;
+        is = is;
+        may = tt;
+        own = λ own. subst HasOwnPorts (sym is) (record { operations = own.operations; openings = own.openings; strangers = own.strangers });
+        merged = remain-merged w timed (timed_taken, (timeout_leaves (transfer_at port w.server) port w.server).1);
+        keeps = refl;
+      }
+
+  pub time-comes : (r : Result (Unit {0}) EventFault) (told : Option (List Keeping)) → OnOk r (v ≡ timed) → IfErr r (λ f. f ≡ fault.Memory) → Comes r (server_times_out port) told told w v
+  time-comes (Ok done) told is memory = (
+    ap (λ (x : World). x.server.request) is ∙ timeout_same port w.server,
+    told-makes (server_times_out port) told w v (λ log t kept. timed_makes is log),
+  )
+  time-comes (Err fault.Bad) told is memory = absurd cc
+  time-comes (Err fault.Reused) told is memory = absurd cc
+  time-comes (Err fault.NotLoaded) told is memory = absurd cc
+  time-comes (Err fault.Memory) told is memory = inl refl
+
+-- ---- a restart
+
+module _ (w v : World) (told now : Option (List Keeping)) (same : now ≡ told) where
+  restart_makes : ((log : List Keeping) → told ≡ Some log → HasKept log w.server.maps → IsCollected w.server.maps.lynx → IsCollected w.server.maps.ms → v ≡ restarts w) → (log : List Keeping) → told ≡ Some log → IsKeptBy log w → Makes restart log log w v
+  restart_makes made log is kept =
+      let then = made log is kept.kept kept.lynx kept.ms in
+      record {
+        grant = all;
+        maps = empty_maps;
+        is = then;
+        may = tt;
+        own = λ own. subst HasOwnPorts (sym then) (record { operations = own.operations; openings = own.openings; strangers = own.strangers });
+        merged = remain-merged w (restarts w) (refl, refl);
+        keeps = λ kind. refl;
+      }
+
+  pub restart-comes : v.server.request ≡ w.server.request → ((log : List Keeping) → told ≡ Some log → HasKept log w.server.maps → IsCollected w.server.maps.lynx → IsCollected w.server.maps.ms → v ≡ restarts w) → Comes (Ok tt) restart told now w v
+  restart-comes request made =
+      (request, λ after is. (after, sym same ∙ is, restart_makes made after (sym same ∙ is)))
+
+  pub restart-fails : (f : LoadFault) → TableFails told f → Comes (Err fault.NotLoaded) restart told now w v
+  restart-fails f fails = (same, refl, (f, fails))
