@@ -154,7 +154,8 @@ pub(crate) fn request<A: Allocator + Copy>(
     ensures reused { result ≡ Err EventFault.Reused → IsFree spare machine.old }
     ensures used { result ≡ Err EventFault.Reused → was_opened d.now.source spare machine.old.opened ≡ true }
     ensures loads { result ≢ Err EventFault.NotLoaded }
-    ensures told { result ≡ Err EventFault.Reused → (server_request granted spare d.now.source d.now.bytes machine.old.server).told.opened ≡ true }
+    ensures told { IfOk result (λ opened. opened ≡ (server_request (request_verdict opened) spare d.now.source d.now.bytes machine.old.server).told.opened) }
+    ensures opens { result ≡ Err EventFault.Reused → (server_request granted spare d.now.source d.now.bytes machine.old.server).told.opened ≡ true }
     ensures opened { result ≡ Err EventFault.Reused → machine.new ≡ after_request d.now.source spare (asked_of d.now.bytes) (server_request granted spare d.now.source d.now.bytes machine.old.server) machine.old }
 {
     if spare == SERVER.port || machine.is_live(spare) {
