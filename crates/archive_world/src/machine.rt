@@ -1,10 +1,10 @@
 //! The server, the clients and the network, as a program.
 
-ghost use Rattle.std.specs.Prelude.{◌≡◌, false, is_some, ◌≢◌, [], OnOk, OnErr, IfOk, IfErr, Some, None, length, slice_get};
+ghost use Rattle.std.specs.Prelude.{◌≡◌, false, true, is_some, ◌≢◌, [], OnOk, OnErr, IfOk, IfErr, Some, None, length, slice_get};
 ghost use Rattle.archive_table.specs.Server.{request_verdict, server_request, server_datagram, server_timeout, grant_of, transfer_at, kind_named, is_same, Grant};
 ghost use Rattle.archive_table.specs.Keeper.{LoadedFrom, TableFails};
 ghost use Rattle.archive_world.specs.Kept.{asked_as, operation_of};
-ghost use Rattle.archive_world.specs.World.{World, start, has_begun, begins, is_too_long, server_endpoint, net_with, taken_with, opened_with, asked_of, asked_named, after_request, after_transfer, strays_in, newly_sent, newly_got, client_at, client_waits, client_hears};
+ghost use Rattle.archive_world.specs.World.{World, start, has_begun, begins, is_too_long, server_endpoint, net_with, taken_with, opened_with, got_with, asked_of, asked_named, after_request, after_transfer, strays_in, client_at, client_waits, client_hears};
 ghost use Rattle.archive_world.specs.Inside.{HearsAtPort, answered_by};
 ghost use Rattle.archive_world.specs.Reuse.{has_strayed, was_opened, is_opening_at};
 ghost use Rattle.std.specs.Str.{bytes_eq};
@@ -23,7 +23,6 @@ use crate::seat::Seat;
 use crate::seats::{find, hear_at, is_one, wait_at};
 use crate::server_endpoint::SERVER;
 use crate::taken_file::TakenFile;
-use archive_client::State;
 use archive_table::{Keeper, LoadFault, Step, Table, Taken};
 use std::alloc::{AllocError, Allocator, Global};
 use std::marker::Model;
@@ -240,7 +239,9 @@ impl<A: Allocator + Copy> Machine<A> {
     }
 
     // A client has fetched a file, if this is one.
-    fn fetch(&mut self, client: Endpoint, file: Option<Bytes<A>>) -> Result<(), AllocError> {
+    fn fetch(&mut self, client: Endpoint, file: Option<Bytes<A>>) -> Result<(), AllocError>
+        ensures { OnOk result (self.new ≡ record self.old { got = got_with true client file self.old.got }) }
+    {
         let Some(file) = file else {
             return Ok(());
         };
@@ -249,17 +250,15 @@ impl<A: Allocator + Copy> Machine<A> {
     }
 
     // A client has answered.
-    fn answer(&mut self, i: usize, e: Endpoint, told: Answered) -> Result<(), AllocError>
-        ensures { OnOk result (self.new ≡ answered_by e self.old.clients told.was told.now told.out self.old) }
+    fn answer(&mut self, e: Endpoint, told: Answered<A>) -> Result<(), AllocError>
+        ensures { OnOk result (self.new ≡ answered_by e self.old.clients told.sent told.file told.out self.old) }
     {
-        if is_newly_sent(told.was, told.now) {
+        let Answered { sent, file, out } = told;
+        if sent {
             self.sent.push(e)?;
         }
-        if is_newly_got(told.was, told.now) {
-            let file = self.clients[i].running.file(self.alloc)?;
-            self.fetch(e, file)?;
-        }
-        self.send(e.host, told.out)
+        self.fetch(e, file)?;
+        self.send(e.host, out)
     }
 
     /// Nothing has come to a client for a while. Where none is at this endpoint, nothing changes.
@@ -273,8 +272,8 @@ impl<A: Allocator + Copy> Machine<A> {
         let Some(i) = find(self.clients.as_slice(), e) else {
             return Ok(());
         };
-        let told = wait_at(&mut self.clients, i, e);
-        self.answer(i, e, told)
+        let told = wait_at(self.alloc, &mut self.clients, i, e)?;
+        self.answer(e, told)
     }
 
     /// A datagram comes to a client's host. Where no client is at its target, nothing changes.
@@ -288,8 +287,8 @@ impl<A: Allocator + Copy> Machine<A> {
         let Some(i) = find(self.clients.as_slice(), d.to) else {
             return Ok(());
         };
-        let told = hear_at(&mut self.clients, i, d.to, d.from, d.bytes.as_slice());
-        self.answer(i, d.to, told)
+        let told = hear_at(self.alloc, &mut self.clients, i, d)?;
+        self.answer(d.to, told)
     }
 
     /// Whether a transfer was opened for this peer at this port.
@@ -370,26 +369,6 @@ fn text_of<A: Allocator + Copy>(
     match collection.write_text(&mut text) {
         Ok(()) => Ok(Bytes::of(text)),
         Err(_) => Err(AllocError),
-    }
-}
-
-// Whether a client counts its file as sent now, and did not before.
-fn is_newly_sent(was: State, now: State) -> bool
-    ensures { result ≡ newly_sent was now }
-{
-    match (was, now) {
-        (State::Running, State::Sent) => true,
-        _ => false,
-    }
-}
-
-// Whether a client has fetched its file now, and had not before.
-fn is_newly_got(was: State, now: State) -> bool
-    ensures { result ≡ newly_got was now }
-{
-    match (was, now) {
-        (State::Running, State::Got) => true,
-        _ => false,
     }
 }
 
