@@ -4,5 +4,6 @@ pub mod Traces
 pub mod Samples
 pub mod Reuse
 pub mod Restarts
+pub mod Outcomes
 pub mod Kept
 pub mod Inside
