@@ -63,7 +63,7 @@ answered_alike step e w after sent file out is =
     ∙ ap (λ (o : Option Out). answered_by e (set_value (at_endpoint e) w.clients next) (newly_sent (state_of is.client) (state_of next)) file o w) is.out_is
     ∙ ap (λ (f : Option (List ℕ)). answered_by e (set_value (at_endpoint e) w.clients next) (newly_sent (state_of is.client) (state_of next)) f (step is.client).out w) is.file_is
     ∙ ap (λ (gs : List Got). record { net = net_with e.host w.net (step is.client).out; server = w.server; clients = set_value (at_endpoint e) w.clients next; begun = w.begun; taken = w.taken; sent = sent_with (newly_sent (state_of is.client) (state_of next)) e w.sent; got = gs; opened = w.opened; strays = w.strays })
-        (fetched_alike (newly_got (state_of is.client) (state_of next)) e (phase_file next.phase) w.got)
+    (fetched_alike (newly_got (state_of is.client) (state_of next)) e (phase_file next.phase) w.got)
 
 pub waited : (e : Endpoint) (w seen new : World) → seen ≡ w → (before after : List (Endpoint × Client)) (sent : Bool) (file : Option (List ℕ)) (out : Option Out) → before ≡ seen.clients → Answers client_timeout e before after sent file out → new ≡ answered_by e after sent file out seen → new ≡ client_waits (client_at e w) e w
 waited e w seen new is-seen before after sent file out same told new-is =

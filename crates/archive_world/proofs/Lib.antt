@@ -46,3 +46,4 @@ pub mod Steps
 pub mod Firsts
 pub mod Clients
 pub mod Exiting
+pub mod Replaying

@@ -6,8 +6,10 @@ ghost use Rattle.archive_table.specs.Keeper.{LoadedFrom, TableFails};
 ghost use Rattle.archive_world.specs.Kept.{asked_as, operation_of};
 ghost use Rattle.archive_world.specs.World.{World, start, has_begun, begins, is_too_long, server_endpoint, net_with, taken_with, opened_with, got_with, asked_of, asked_named, after_request, after_transfer, strays_in, client_at, client_waits, client_hears};
 ghost use Rattle.archive_world.specs.Inside.{HearsAtPort, answered_by};
+ghost use Rattle.archive_world.specs.Outcomes.{outcome_of};
 ghost use Rattle.archive_world.specs.Reuse.{has_strayed, was_opened, is_opening_at};
 ghost use Rattle.std.specs.Str.{bytes_eq};
+ghost use Rattle.tws_best.specs.Best.{collection_text};
 ghost use Rattle.tws_file.specs.Names.{file_name_of};
 
 use crate::answered::Answered;
@@ -321,7 +323,9 @@ impl<A: Allocator + Copy> Machine<A> {
     /// # Errors
     ///
     /// Out of memory.
-    pub(crate) fn outcome(self) -> Result<Outcome<A>, AllocError> {
+    pub(crate) fn outcome(self) -> Result<Outcome<A>, AllocError>
+        ensures { IfOk result (λ o. o ≡ outcome_of self) }
+    {
         let lynx = text_of(self.alloc, self.table.collection(Ruleset::Lynx))?;
         let ms = text_of(self.alloc, self.table.collection(Ruleset::Ms))?;
         let Machine {
@@ -364,7 +368,9 @@ impl<A: Allocator + Copy> Machine<A> {
 fn text_of<A: Allocator + Copy>(
     alloc: A,
     collection: &Collection<A>,
-) -> Result<Bytes<A>, AllocError> {
+) -> Result<Bytes<A>, AllocError>
+    ensures { IfOk result (λ text. text ≡ collection_text collection.now) }
+{
     let mut text = Vec::new(alloc);
     match collection.write_text(&mut text) {
         Ok(()) => Ok(Bytes::of(text)),

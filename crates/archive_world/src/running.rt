@@ -50,7 +50,7 @@ impl<A: Allocator + Copy> Running<A> {
     pub(crate) fn hear(&mut self, from: Endpoint, bytes: &[u8]) -> Option<Out>
         ensures client { running_of self.new ≡ (client_datagram (verdict_in self.new) from bytes.now (running_of self.old)).client }
         ensures sent { result ≡ (client_datagram (verdict_in self.new) from bytes.now (running_of self.old)).out }
-        {
+    {
         match self {
             Running::Put(put) => put.on_datagram(from, bytes),
             Running::Get(get) => get.on_datagram(from, bytes),
@@ -61,7 +61,7 @@ impl<A: Allocator + Copy> Running<A> {
     pub(crate) fn wait(&mut self) -> Option<Out>
         ensures client { running_of self.new ≡ (client_timeout (running_of self.old)).client }
         ensures sent { result ≡ (client_timeout (running_of self.old)).out }
-        {
+    {
         match self {
             Running::Put(put) => put.on_timeout(),
             Running::Get(get) => get.on_timeout(),

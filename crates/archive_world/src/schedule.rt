@@ -1,5 +1,12 @@
 //! A list of events, made one by one.
 
+ghost use Rattle.std.specs.Prelude.{◌≡◌, ℕ, List, Some, [], Err, IfOk};
+ghost use Rattle.archive_table.specs.Keeper.{Keeping};
+ghost use Rattle.archive_world.specs.World.{start};
+ghost use Rattle.archive_world.specs.Kept.{events_of};
+ghost use Rattle.archive_world.specs.Replays.{WhereTold, HasRun, IsBadAt, IsReusedAt, IsNotLoadedAt, HasStopped};
+ghost use Rattle.archive_world.specs.Exits.{fault_of, Ends};
+
 use crate::event::Event;
 use crate::event_fault::EventFault;
 use crate::events::happen;
@@ -10,7 +17,9 @@ use archive_table::Keeper;
 use std::alloc::Allocator;
 
 // Why there is no run, by the fault of the event at this place.
-fn fault_at(fault: EventFault, index: usize) -> WorldFault {
+fn fault_at(fault: EventFault, index: usize) -> WorldFault
+    ensures { result ≡ fault_of fault index }
+{
     match fault {
         EventFault::Bad => WorldFault::BadEvent(index),
         EventFault::Reused => WorldFault::PortReused(index),
@@ -24,7 +33,10 @@ fn happen_all<K: Keeper, A: Allocator + Copy>(
     machine: &mut Machine<A>,
     keeper: &mut K,
     events: &[Event<A>],
-) -> Result<(), WorldFault> {
+) -> Result<(), WorldFault>
+    requires start { machine.old ≡ start }
+    ensures { WhereTold (K.log keeper.old) (K.log keeper.new) (λ log. Ends result (events_of events.now) log machine.new) }
+{
     let mut i = 0;
     while i < events.len() {
         match happen(machine, keeper, &events[i]) {
@@ -47,9 +59,18 @@ pub fn replay<K: Keeper, A: Allocator + Copy>(
     alloc: A,
     keeper: &mut K,
     events: &[Event<A>],
-) -> Result<Outcome<A>, WorldFault> {
+) -> Result<Outcome<A>, WorldFault>
+    ensures ran { IfOk result (λ outcome. WhereTold (K.log keeper.old) (K.log keeper.new) (λ log. HasRun (events_of events.now) log outcome)) }
+    ensures bad { (i : ℕ) → result ≡ Err (WorldFault.BadEvent i) → WhereTold (K.log keeper.old) (K.log keeper.new) (λ log. IsBadAt (events_of events.now) log i) }
+    ensures reused { (i : ℕ) → result ≡ Err (WorldFault.PortReused i) → WhereTold (K.log keeper.old) (K.log keeper.new) (λ log. IsReusedAt (events_of events.now) log i) }
+    ensures not_loaded { (i : ℕ) → result ≡ Err (WorldFault.NotLoaded i) → WhereTold (K.log keeper.old) (K.log keeper.new) (λ log. IsNotLoadedAt (events_of events.now) log i) }
+    ensures memory { result ≡ Err WorldFault.Memory → WhereTold (K.log keeper.old) (K.log keeper.new) (λ log. HasStopped (events_of events.now) log) }
+{
     let mut machine = Machine::new(alloc);
-    happen_all(&mut machine, keeper, events)?;
+    match happen_all(&mut machine, keeper, events) {
+        Ok(()) => {}
+        Err(fault) => return Err(fault),
+    }
     match machine.outcome() {
         Ok(outcome) => Ok(outcome),
         Err(_) => Err(WorldFault::Memory),
