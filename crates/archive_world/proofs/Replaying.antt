@@ -173,7 +173,7 @@ module _ {A : Type 0} (es : List (events.Event A)) (i : ℕ) (x : events.Event A
           fault = comes.2.0;
           fails = subst (λ (o : Option (List Keeping)). TableFails o comes.2.0) (sym comes.0 ∙ now) comes.2.1;
         }
-    fails_at fault.Memory comes = stopped_by comes
+    fails_at fault.Memory comes log none now = stopped_by comes log none now
 
     pub ends-at : (r : WorldFault) (f : EventFault) → r ≡ fault_of f i → Comes (Err f) e old new w v → WhereTold told new (λ log. Ends (Err r) (events_of es) log v)
     ends-at r f is comes =
