@@ -16,12 +16,12 @@ use Rattle.archive_world.specs.declared.event_fault.EventFault.TheVariants as fa
 use Rattle.archive_world.specs.World.{Event, begin, deliver, client_times_out, server_times_out, stray, restart, World, Datagram, Opening, Step, server_endpoint, empty_maps, has_begun, is_too_long, client_at, begins, begins_unless, client_hears, client_waits, strays_in, strays_unless, restarts, opened_with, taken_with, asked_of, after_request, event_happens, HasMerged, IsFree, MayDeliver, MayHappen}
 use Rattle.archive_world.specs.Headline.{OwnPorts, HasOwnPorts}
 use Rattle.archive_world.specs.Reuse.{IsUnused, was_opened}
-use Rattle.archive_world.specs.Restarts.{HasKept, wanted_at, wanted_of, wanted_by}
+use Rattle.archive_world.specs.Restarts.{HasKept, EventKeeps, wanted_at, wanted_of, wanted_by}
 use Rattle.archive_world.specs.Traces.{server_comes, comes}
 use Rattle.archive_world.specs.Inside.{HearsAtPort}
 use Rattle.tws_best.specs.Best.{Collected, IsCollected}
 use Rattle.archive_world.specs.Replays.{Makes, Reuses}
-use Rattle.archive_world.specs.Exits.{IsKeptBy, MakesTold, Comes}
+use Rattle.archive_world.specs.Exits.{IsKept, MakesKept, Comes}
 use Rattle.archive_world.proofs.Remaining.{Remain, begins_remain, client_remains, request_remains, waits_remain, strays_remain, timeout_leaves}
 use Rattle.archive_world.proofs.Reusing.{begin-keeps_own, opening-keeps_own, stray-keeps_own}
 use Rattle.archive_world.proofs.Endpoints.{endpoint_is}
@@ -32,36 +32,35 @@ use Rattle.archive_world.proofs.Tracing.{begins_fits, strays_fits, delivers_fits
 pub remain-merged : (w v : World) → Remain w v → (t : Taken) → v.taken ≡ w.taken ++ t ∷ [] → IsMerged t.file w.server.maps v.server.maps
 remain-merged w v remain t e = not_more w.taken t (sym remain.0 ∙ e)
 
--- a step after which the keeper has what it had
-pub told-makes : (e : Event) (told : Option (List Keeping)) (w v : World) → ((log : List Keeping) → told ≡ Some log → IsKeptBy log w → Makes e log log w v) → MakesTold e told told w v
-told-makes e told w v makes after is = (after, is, makes after is)
+-- ---- a keeper that told its list tells it after
 
--- ---- a keeper that tells its list told it before
+some_none : (before : List Keeping) → Some before ≡ None → ⊥
+some_none before e = cc
 
-none_one : (old new : Collected) (after : List Keeping) → KeepsOne old new None (Some after) → ⊥
-none_one old new after (inl stays) = stays.1
-none_one old new after (inr changes) = changes.1
+none_one : (old new : Collected) (before : List Keeping) → KeepsOne old new (Some before) None → ⊥
+none_one old new before (inl stays) = some_none before stays.1
+none_one old new before (inr changes) = some_none before changes.1
 
-none_maps : (old new : Maps) (after : List Keeping) → KeepsMaps old new None (Some after) → ⊥
-none_maps old new after (inl lynx) = none_one old.lynx new.lynx after lynx.1
-none_maps old new after (inr ms) = none_one old.ms new.ms after ms.1
+none_maps : (old new : Maps) (before : List Keeping) → KeepsMaps old new (Some before) None → ⊥
+none_maps old new before (inl lynx) = none_one old.lynx new.lynx before lynx.1
+none_maps old new before (inr ms) = none_one old.ms new.ms before ms.1
 
-none_fails : (kind : Ruleset) (new : Collected) (after : List Keeping) → FailsKeep kind new None (Some after) → ⊥
-none_fails kind new after (inl none) = none
-none_fails kind new after (inr failed) = failed
+none_fails : (kind : Ruleset) (new : Collected) (before : List Keeping) → FailsKeep kind new (Some before) None → ⊥
+none_fails kind new before (inl none) = some_none before none
+none_fails kind new before (inr failed) = some_none before failed
 
-none_fails_of : (old new : Maps) (after : List Keeping) → FailsKeepOf old new None (Some after) → ⊥
-none_fails_of old new after (inl lynx) = none_fails new.lynx.ruleset new.lynx after lynx.2
-none_fails_of old new after (inr ms) = none_fails new.ms.ruleset new.ms after ms.2
+none_fails_of : (old new : Maps) (before : List Keeping) → FailsKeepOf old new (Some before) None → ⊥
+none_fails_of old new before (inl lynx) = none_fails new.lynx.ruleset new.lynx before lynx.2
+none_fails_of old new before (inr ms) = none_fails new.ms.ruleset new.ms before ms.2
 
-none_tells : (grant : Grant) (wanted : Option Taken) (old new : Maps) (after : List Keeping) → StepKeeps grant wanted old new None (Some after) → ⊥
-none_tells all wanted old new after keeps = none_maps old new after keeps
-none_tells no_memory wanted old new after keeps = keeps
-none_tells unkept wanted old new after keeps = none_fails_of old keeps.0 after keeps.2
+none_tells : (grant : Grant) (wanted : Option Taken) (old new : Maps) (before : List Keeping) → StepKeeps grant wanted old new (Some before) None → ⊥
+none_tells all wanted old new before keeps = none_maps old new before keeps
+none_tells no_memory wanted old new before keeps = some_none before keeps
+none_tells unkept wanted old new before keeps = none_fails_of old keeps.0 before keeps.2
 
-told_before : (grant : Grant) (wanted : Option Taken) (old new : Maps) (told : Option (List Keeping)) (after : List Keeping) → StepKeeps grant wanted old new told (Some after) → (before : List Keeping) × (told ≡ Some before)
-told_before grant wanted old new None after keeps = absurd (none_tells grant wanted old new after keeps)
-told_before grant wanted old new (Some before) after keeps = (before, refl)
+told_after : (grant : Grant) (wanted : Option Taken) (old new : Maps) (before : List Keeping) (now : Option (List Keeping)) → StepKeeps grant wanted old new (Some before) now → (after : List Keeping) × (now ≡ Some after)
+told_after grant wanted old new before None keeps = absurd (none_tells grant wanted old new before keeps)
+told_after grant wanted old new before (Some after) keeps = (after, refl)
 
 -- ---- a file that was taken
 
@@ -96,8 +95,8 @@ module _ (w v : World) (e : Endpoint) (operation : Operation) where
   begun_request false true = refl
   begun_request false false = refl
 
-  begun_makes : v ≡ begun → MayHappen (begin e operation) w → IsUnused e w → (log : List Keeping) → Makes (begin e operation) log log w v
-  begun_makes is may unused log =
+  begun_makes : v ≡ begun → MayHappen (begin e operation) w → IsUnused e w → (told : Option (List Keeping)) → Makes (begin e operation) told told w v
+  begun_makes is may unused told =
       record {
         grant = all;
         maps = empty_maps;
@@ -105,13 +104,13 @@ module _ (w v : World) (e : Endpoint) (operation : Operation) where
         may = may;
         own = λ own. subst HasOwnPorts (sym (is ∙ begins_fits w e operation may.0 may.1)) ((begin-keeps_own w own e operation).1 unused);
         merged = begun_merged;
-        keeps = refl;
+        keeps = λ before tells. (before, tells, refl);
       }
 
   pub begin-comes : (r : Result (Unit {0}) EventFault) (told : Option (List Keeping)) → OnOk r (v ≡ begun) → OnOk r (MayHappen (begin e operation) w) → OnOk r (IsUnused e w) → (r ≡ Err fault.Bad → MayHappen (begin e operation) w → ⊥) → (r ≡ Err fault.Reused → MayHappen (begin e operation) w) → (r ≡ Err fault.Reused → IsUnused e w → ⊥) → r ≢ Err fault.NotLoaded → Comes r (begin e operation) told told w v
   begin-comes (Ok done) told is may unused bad reused used loads = (
     ap (λ (x : World). x.server.request) is ∙ begun_request (e.host == server_endpoint.host) (is_too_long operation),
-    told-makes (begin e operation) told w v (λ log t kept. begun_makes is may unused log),
+    λ ready. begun_makes is may unused told,
   )
   begin-comes (Err fault.Bad) told is may unused bad reused used loads = (refl, bad refl)
   begin-comes (Err fault.Reused) told is may unused bad reused used loads = (
@@ -138,8 +137,8 @@ module _ (w v : World) (d : Datagram) where
   strayed_request false true = refl
   strayed_request false false = refl
 
-  strayed_makes : v ≡ strayed → MayHappen (stray d) w → (log : List Keeping) → Makes (stray d) log log w v
-  strayed_makes is may log =
+  strayed_makes : v ≡ strayed → MayHappen (stray d) w → (told : Option (List Keeping)) → Makes (stray d) told told w v
+  strayed_makes is may told =
       record {
         grant = all;
         maps = empty_maps;
@@ -147,13 +146,13 @@ module _ (w v : World) (d : Datagram) where
         may = may;
         own = λ own. subst HasOwnPorts (sym (is ∙ strays_fits w d may.0 may.1)) ((stray-keeps_own w own d).1 may.1);
         merged = remain-merged w strayed (strays_remain w (d.source.host == server_endpoint.host) (has_begun d.source w.begun) d);
-        keeps = refl;
+        keeps = λ before tells. (before, tells, refl);
       }
 
   pub stray-comes : (r : Result (Unit {0}) EventFault) (told : Option (List Keeping)) → OnOk r (v ≡ strayed) → OnOk r (MayHappen (stray d) w) → (r ≡ Err fault.Bad → MayHappen (stray d) w → ⊥) → r ≢ Err fault.Reused → r ≢ Err fault.NotLoaded → Comes r (stray d) told told w v
   stray-comes (Ok done) told is may bad own loads = (
     ap (λ (x : World). x.server.request) is ∙ strayed_request (d.source.host == server_endpoint.host) (has_begun d.source w.begun),
-    told-makes (stray d) told w v (λ log t kept. strayed_makes is may log),
+    λ ready. strayed_makes is may told,
   )
   stray-comes (Err fault.Bad) told is may bad own loads = (refl, bad refl)
   stray-comes (Err fault.Reused) told is may bad own loads = absurd (own refl)
@@ -175,8 +174,8 @@ module _ (w v : World) (e : Endpoint) where
   waited_own (Some c) own =
       record { operations = own.operations; openings = own.openings; strangers = own.strangers }
 
-  waited_makes : v ≡ waited → MayHappen (client_times_out e) w → (log : List Keeping) → Makes (client_times_out e) log log w v
-  waited_makes is may log =
+  waited_makes : v ≡ waited → MayHappen (client_times_out e) w → (told : Option (List Keeping)) → Makes (client_times_out e) told told w v
+  waited_makes is may told =
       record {
         grant = all;
         maps = empty_maps;
@@ -184,13 +183,13 @@ module _ (w v : World) (e : Endpoint) where
         may = may;
         own = λ own. subst HasOwnPorts (sym is) (waited_own (client_at e w) own);
         merged = remain-merged w waited (waits_remain w (client_at e w) e);
-        keeps = refl;
+        keeps = λ before tells. (before, tells, refl);
       }
 
   pub wait-comes : (r : Result (Unit {0}) EventFault) (told : Option (List Keeping)) → OnOk r (v ≡ waited) → OnOk r (MayHappen (client_times_out e) w) → (r ≡ Err fault.Bad → MayHappen (client_times_out e) w → ⊥) → r ≢ Err fault.Reused → r ≢ Err fault.NotLoaded → Comes r (client_times_out e) told told w v
   wait-comes (Ok done) told is may bad own loads = (
     ap (λ (x : World). x.server.request) is ∙ waited_request (client_at e w),
-    told-makes (client_times_out e) told w v (λ log t kept. waited_makes is may log),
+    λ ready. waited_makes is may told,
   )
   wait-comes (Err fault.Bad) told is may bad own loads = (refl, bad refl)
   wait-comes (Err fault.Reused) told is may bad own loads = absurd (own refl)
@@ -204,8 +203,8 @@ module _ (w v : World) (port : ℕ) where
   timed_taken : timed.taken ≡ w.taken
   timed_taken = ap (λ (o : Option Taken). taken_with o w.taken) (timeout_leaves (transfer_at port w.server) port w.server).0
 
-  timed_makes : v ≡ timed → (log : List Keeping) → Makes (server_times_out port) log log w v
-  timed_makes is log =
+  timed_makes : v ≡ timed → (told : Option (List Keeping)) → Makes (server_times_out port) told told w v
+  timed_makes is told =
       record {
         grant = all;
         maps = empty_maps;
@@ -213,13 +212,13 @@ module _ (w v : World) (port : ℕ) where
         may = tt;
         own = λ own. subst HasOwnPorts (sym is) (record { operations = own.operations; openings = own.openings; strangers = own.strangers });
         merged = remain-merged w timed (timed_taken, (timeout_leaves (transfer_at port w.server) port w.server).1);
-        keeps = refl;
+        keeps = λ before tells. (before, tells, refl);
       }
 
   pub time-comes : (r : Result (Unit {0}) EventFault) (told : Option (List Keeping)) → OnOk r (v ≡ timed) → IfErr r (λ f. f ≡ fault.Memory) → Comes r (server_times_out port) told told w v
   time-comes (Ok done) told is memory = (
     ap (λ (x : World). x.server.request) is ∙ timeout_same port w.server,
-    told-makes (server_times_out port) told w v (λ log t kept. timed_makes is log),
+    λ ready. timed_makes is told,
   )
   time-comes (Err fault.Bad) told is memory = absurd cc
   time-comes (Err fault.Reused) told is memory = absurd cc
@@ -229,25 +228,24 @@ module _ (w v : World) (port : ℕ) where
 -- ---- a restart
 
 module _ (w v : World) (told now : Option (List Keeping)) (same : now ≡ told) where
-  restart_makes : ((log : List Keeping) → told ≡ Some log → HasKept log w.server.maps → IsCollected w.server.maps.lynx → IsCollected w.server.maps.ms → v ≡ restarts w) → (log : List Keeping) → told ≡ Some log → IsKeptBy log w → Makes restart log log w v
-  restart_makes made log is kept =
-      let then = made log is kept.kept kept.lynx kept.ms in
+  restart_makes : v ≡ restarts w → Makes restart told now w v
+  restart_makes is =
       record {
         grant = all;
         maps = empty_maps;
-        is = then;
+        is = is;
         may = tt;
-        own = λ own. subst HasOwnPorts (sym then) (record { operations = own.operations; openings = own.openings; strangers = own.strangers });
+        own = λ own. subst HasOwnPorts (sym is) (record { operations = own.operations; openings = own.openings; strangers = own.strangers });
         merged = remain-merged w (restarts w) (refl, refl);
-        keeps = λ kind. refl;
+        keeps = λ before tells. (before, same ∙ tells, λ kind. refl);
       }
 
   pub restart-comes : v.server.request ≡ w.server.request → ((log : List Keeping) → told ≡ Some log → HasKept log w.server.maps → IsCollected w.server.maps.lynx → IsCollected w.server.maps.ms → v ≡ restarts w) → Comes (Ok tt) restart told now w v
-  restart-comes request made =
-      (request, λ after is. (after, sym same ∙ is, restart_makes made after (sym same ∙ is)))
-
-  pub restart-fails : (f : LoadFault) → TableFails told f → Comes (Err fault.NotLoaded) restart told now w v
-  restart-fails f fails = (same, refl, (f, fails))
+  restart-comes request made = (
+    request,
+    λ ready. let has = ready refl in
+        restart_makes (made has.log has.tells has.kept has.lynx has.ms),
+  )
 
 -- ---- a delivery
 
@@ -283,8 +281,8 @@ module _ (w v : World) (d : Datagram) (index spare : ℕ) (there : slice_get w.n
     heard_request None grant = refl
     heard_request (Some c) grant = refl
 
-    heard_makes : (grant : Grant) → v ≡ client_hears (client_at d.target w) grant d w → (log : List Keeping) → Makes (deliver index spare) log log w v
-    heard_makes grant is log =
+    heard_makes : (grant : Grant) → v ≡ client_hears (client_at d.target w) grant d w → (keeper : Option (List Keeping)) → Makes (deliver index spare) keeper keeper w v
+    heard_makes grant is keeper =
         let remain = client_remains w (client_at d.target w) grant d in
         record {
           grant = grant;
@@ -293,13 +291,13 @@ module _ (w v : World) (d : Datagram) (index spare : ℕ) (there : slice_get w.n
           may = away_may;
           own = λ own. subst HasOwnPorts (sym is) (heard_own (client_at d.target w) grant own);
           merged = remain-merged w (event_happens (deliver index spare) grant empty_maps w) (subst (Remain w) (sym (heard_as grant)) remain);
-          keeps = inl (ap (λ (x : World). x.server.maps) is ∙ remain.1, refl);
+          keeps = λ before tells. (before, tells, inl (ap (λ (x : World). x.server.maps) is ∙ remain.1, refl));
         }
 
     pub hear-comes : (told : Option (List Keeping)) → (grant : Grant) × (v ≡ client_hears (client_at d.target w) grant d w) → Comes (Ok tt) (deliver index spare) told told w v
     hear-comes told heard = (
       ap (λ (x : World). x.server.request) heard.1 ∙ heard_request (client_at d.target w) heard.0,
-      told-makes (deliver index spare) told w v (λ log t kept. heard_makes heard.0 heard.1 log),
+      λ ready. heard_makes heard.0 heard.1 told,
     )
 
   -- ---- to the server
@@ -348,8 +346,8 @@ module _ (w v : World) (d : Datagram) (index spare : ℕ) (there : slice_get w.n
           let ports : OwnPorts w.begun (opened_with (answered (request_verdict opened)).told.opened opening w.opened) w.strays = subst (λ (b : Bool). OwnPorts w.begun (opened_with b opening w.opened) w.strays) told (own_opened opened none own) in
           record { operations = ports.operations; openings = ports.openings; strangers = ports.strangers }
 
-      asked_makes : (opened : Bool) → v ≡ asked (request_verdict opened) → IsFree spare w → opened ≡ (answered (request_verdict opened)).told.opened → (opened ≡ true → was_opened d.source spare w.opened ≡ false) → (log : List Keeping) → Makes (deliver index spare) log log w v
-      asked_makes opened is free told none log =
+      asked_makes : (opened : Bool) → v ≡ asked (request_verdict opened) → IsFree spare w → opened ≡ (answered (request_verdict opened)).told.opened → (opened ≡ true → was_opened d.source spare w.opened ≡ false) → (keeper : Option (List Keeping)) → Makes (deliver index spare) keeper keeper w v
+      asked_makes opened is free told none keeper =
           let grant = request_grant opened in
           record {
             grant = grant;
@@ -358,7 +356,7 @@ module _ (w v : World) (d : Datagram) (index spare : ℕ) (there : slice_get w.n
             may = free_may free;
             own = λ own. subst HasOwnPorts (sym is) (asked_own opened told none own);
             merged = asked_merged grant free;
-            keeps = inl (ap (λ (x : World). x.server.maps) (is ∙ ap asked (sym (request_memory opened))) ∙ (request_remains w false None spare grant d).1, refl);
+            keeps = λ before tells. (before, tells, inl (ap (λ (x : World). x.server.maps) (is ∙ ap asked (sym (request_memory opened))) ∙ (request_remains w false None spare grant d).1, refl));
           }
 
       reused_by : HasOwnPorts w → IsFree spare w → was_opened d.source spare w.opened ≡ true → (answered granted).told.opened ≡ true → HasOwnPorts (event_happens (deliver index spare) all empty_maps w) → ⊥
@@ -382,7 +380,7 @@ module _ (w v : World) (d : Datagram) (index spare : ℕ) (there : slice_get w.n
       pub ask-comes : (r : Result Bool EventFault) (opened : Bool) (told : Option (List Keeping)) → v ≡ asked (request_verdict opened) → IsFree spare w → opened ≡ (answered (request_verdict opened)).told.opened → r ≡ Ok opened → (r ≡ Ok true → was_opened d.source spare w.opened ≡ false) → Comes (Ok tt) (deliver index spare) told told w v
       ask-comes r opened told is free opens ok none = (
         ap (λ (x : World). x.server.request) is ∙ request_same (request_verdict opened) spare d.source d.bytes w.server,
-        told-makes (deliver index spare) told w v (λ log t kept. asked_makes opened is free opens (λ e. none (ok ∙ ap (λ (b : Bool). Ok b) e)) log),
+        λ ready. asked_makes opened is free opens (λ e. none (ok ∙ ap (λ (b : Bool). Ok b) e)) told,
       )
 
       pub ask-fails : (r : Result Bool EventFault) (f : EventFault) (told : Option (List Keeping)) → r ≡ Err f → (r ≡ Err fault.Bad → IsFree spare w → ⊥) → (r ≡ Err fault.Reused → IsFree spare w) → (r ≡ Err fault.Reused → was_opened d.source spare w.opened ≡ true) → r ≢ Err fault.NotLoaded → (r ≡ Err fault.Reused → (answered granted).told.opened ≡ true) → Comes (Err f) (deliver index spare) told told w v
@@ -427,8 +425,13 @@ module _ (w v : World) (d : Datagram) (index spare : ℕ) (there : slice_get w.n
           (subst (λ (o : Option (List Keeping)). StepKeeps h.grant (wanted_by (slice_get w.net index) w) w.server.maps u.server.maps old o) new_is
           (subst (λ (o : Option Taken). StepKeeps h.grant o w.server.maps u.server.maps old new) (sym stepped_wanted) h.keeps))
 
-      stepped_makes : (before after : List Keeping) → old ≡ Some before → new ≡ Some after → Makes (deliver index spare) before after w u
-      stepped_makes before after old_is new_is =
+      now_keeps : (before : List Keeping) → old ≡ Some before → (after : List Keeping) × (new ≡ Some after) × EventKeeps (deliver index spare) h.grant w u before after
+      now_keeps before is =
+          let now = told_after h.grant wanted w.server.maps u.server.maps before new (subst (λ (o : Option (List Keeping)). StepKeeps h.grant wanted w.server.maps u.server.maps o new) is h.keeps) in
+          (now.0, now.1, inr (stepped_keeps before now.0 is now.1))
+
+      stepped_makes : Makes (deliver index spare) old new w u
+      stepped_makes =
           record {
             grant = h.grant;
             maps = u.server.maps;
@@ -436,21 +439,16 @@ module _ (w v : World) (d : Datagram) (index spare : ℕ) (there : slice_get w.n
             may = other_may;
             own = stepped_own;
             merged = stepped_merged;
-            keeps = inr (stepped_keeps before after old_is new_is);
+            keeps = now_keeps;
           }
 
-      step_told : MakesTold (deliver index spare) old new w u
-      step_told after is =
-          let first = told_before h.grant wanted w.server.maps u.server.maps old after (subst (λ (o : Option (List Keeping)). StepKeeps h.grant wanted w.server.maps u.server.maps old o) is h.keeps) in
-          (first.0, first.1, λ kept. stepped_makes first.0 after first.1 is)
-
       pub transfer-fails : Comes (Err fault.Memory) (deliver index spare) old new w v
-      transfer-fails = inr (u, step_told)
+      transfer-fails = inr (u, λ ready. stepped_makes)
 
       pub transfer-comes : v ≡ u → Comes (Ok tt) (deliver index spare) old new w v
       transfer-comes is = (
         ap (λ (x : World). x.server.request) (is ∙ h.is) ∙ datagram_same h.grant u.server.maps d.target.port d.source d.bytes w.server,
-        subst (λ (x : World). MakesTold (deliver index spare) old new w x) (sym is) step_told,
+        λ ready. subst (λ (x : World). Makes (deliver index spare) old new w x) (sym is) stepped_makes,
       )
 
 -- the same of an event that is this one

@@ -12,24 +12,25 @@ use Rattle.archive_world.specs.Headline.{HasOwnPorts}
 use Rattle.archive_world.specs.Restarts.{HasKept}
 use Rattle.archive_world.specs.Replays.{HasHappened, Makes, Reuses, IsBadAt, IsReusedAt, IsNotLoadedAt, HasStopped}
 
--- what the keeper has is what the server has
-pub record IsKeptBy (log : List Keeping) (w : World) : Type 0 where
+-- the keeper tells its list, and what it has is what the server has
+pub record IsKept (told : Option (List Keeping)) (w : World) : Type 0 where
+  pub log : List Keeping
+  pub tells : told ≡ Some log
   pub kept : HasKept log w.server.maps
   pub lynx : IsCollected w.server.maps.lynx
   pub ms : IsCollected w.server.maps.ms
 
--- What an event makes where the keeper tells its list after it: it told it before, too.
-abbrev pub MakesTold : Event → (old new : Option (List Keeping)) → (w v : World) → Type 0
-MakesTold e old new w v =
-    (after : List Keeping) → new ≡ Some after → (before : List Keeping) × (old ≡ Some before) × (IsKeptBy before w → Makes e before after w v)
+-- what an event makes; of a restart, where the keeper has what the server has
+abbrev pub MakesKept : Event → (told now : Option (List Keeping)) → (w v : World) → Type 0
+MakesKept e told now w v = (e ≡ restart → IsKept told w) → Makes e told now w v
 
 -- By what a call for an event answers. Where memory runs out, the event was not begun, or the server made its step.
-abbrev pub Comes : Result (Unit {0}) EventFault → Event → (old new : Option (List Keeping)) → (w v : World) → Type 0
-Comes (Ok done) e old new w v = (v.server.request ≡ w.server.request) × MakesTold e old new w v
-Comes (Err Bad) e old new w v = (new ≡ old) × (MayHappen e w → ⊥)
-Comes (Err Reused) e old new w v = (new ≡ old) × (HasOwnPorts w → Reuses e w)
-Comes (Err NotLoaded) e old new w v = (new ≡ old) × (e ≡ restart) × ((fault : LoadFault) × TableFails old fault)
-Comes (Err Memory) e old new w v = (new ≡ old) ⊎ ((u : World) × MakesTold e old new w u)
+abbrev pub Comes : Result (Unit {0}) EventFault → Event → (told now : Option (List Keeping)) → (w v : World) → Type 0
+Comes (Ok done) e told now w v = (v.server.request ≡ w.server.request) × MakesKept e told now w v
+Comes (Err Bad) e told now w v = (now ≡ told) × (MayHappen e w → ⊥)
+Comes (Err Reused) e told now w v = (now ≡ told) × (HasOwnPorts w → Reuses e w)
+Comes (Err NotLoaded) e told now w v = (now ≡ told) × (e ≡ restart) × ((fault : LoadFault) × TableFails told fault)
+Comes (Err Memory) e told now w v = (now ≡ told) ⊎ ((u : World) × MakesKept e told now w u)
 
 -- the fault of the event at a place
 abbrev pub fault_of : EventFault → (index : ℕ) → WorldFault
@@ -39,9 +40,9 @@ fault_of NotLoaded index = world.NotLoaded index
 fault_of Memory index = world.Memory
 
 -- by what a call for a list of events answers
-abbrev pub Ends : Result (Unit {0}) WorldFault → List Event → List Keeping → (v : World) → Type 0
-Ends (Ok done) events log v = HasHappened events log v
-Ends (Err (world.BadEvent i)) events log v = IsBadAt events log i
-Ends (Err (world.PortReused i)) events log v = IsReusedAt events log i
-Ends (Err (world.NotLoaded i)) events log v = IsNotLoadedAt events log i
-Ends (Err world.Memory) events log v = HasStopped events log
+abbrev pub Ends : Result (Unit {0}) WorldFault → List Event → (told now : Option (List Keeping)) → (v : World) → Type 0
+Ends (Ok done) events told now v = HasHappened events told now v
+Ends (Err (world.BadEvent i)) events told now v = IsBadAt events told now i
+Ends (Err (world.PortReused i)) events told now v = IsReusedAt events told now i
+Ends (Err (world.NotLoaded i)) events told now v = IsNotLoadedAt events told now i
+Ends (Err world.Memory) events told now v = HasStopped events told now

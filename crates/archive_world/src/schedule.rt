@@ -1,10 +1,9 @@
 //! A list of events, made one by one.
 
-ghost use Rattle.std.specs.Prelude.{◌≡◌, ℕ, List, Some, [], Err, IfOk};
-ghost use Rattle.archive_table.specs.Keeper.{Keeping};
+ghost use Rattle.std.specs.Prelude.{◌≡◌, ℕ, Err, IfOk};
 ghost use Rattle.archive_world.specs.World.{start};
 ghost use Rattle.archive_world.specs.Kept.{events_of};
-ghost use Rattle.archive_world.specs.Replays.{WhereTold, HasRun, IsBadAt, IsReusedAt, IsNotLoadedAt, HasStopped};
+ghost use Rattle.archive_world.specs.Replays.{IsReady, HasRun, IsBadAt, IsReusedAt, IsNotLoadedAt, HasStopped};
 ghost use Rattle.archive_world.specs.Exits.{fault_of, Ends};
 
 use crate::event::Event;
@@ -35,7 +34,7 @@ fn happen_all<K: Keeper, A: Allocator + Copy>(
     events: &[Event<A>],
 ) -> Result<(), WorldFault>
     requires start { machine.old ≡ start }
-    ensures { WhereTold (K.log keeper.old) (K.log keeper.new) (λ log. Ends result (events_of events.now) log machine.new) }
+    ensures { IsReady (K.log keeper.old) (events_of events.now) → Ends result (events_of events.now) (K.log keeper.old) (K.log keeper.new) machine.new }
 {
     let mut i = 0;
     while i < events.len() {
@@ -60,11 +59,11 @@ pub fn replay<K: Keeper, A: Allocator + Copy>(
     keeper: &mut K,
     events: &[Event<A>],
 ) -> Result<Outcome<A>, WorldFault>
-    ensures ran { IfOk result (λ outcome. WhereTold (K.log keeper.old) (K.log keeper.new) (λ log. HasRun (events_of events.now) log outcome)) }
-    ensures bad { (i : ℕ) → result ≡ Err (WorldFault.BadEvent i) → WhereTold (K.log keeper.old) (K.log keeper.new) (λ log. IsBadAt (events_of events.now) log i) }
-    ensures reused { (i : ℕ) → result ≡ Err (WorldFault.PortReused i) → WhereTold (K.log keeper.old) (K.log keeper.new) (λ log. IsReusedAt (events_of events.now) log i) }
-    ensures not_loaded { (i : ℕ) → result ≡ Err (WorldFault.NotLoaded i) → WhereTold (K.log keeper.old) (K.log keeper.new) (λ log. IsNotLoadedAt (events_of events.now) log i) }
-    ensures memory { result ≡ Err WorldFault.Memory → WhereTold (K.log keeper.old) (K.log keeper.new) (λ log. HasStopped (events_of events.now) log) }
+    ensures ran { IfOk result (λ outcome. IsReady (K.log keeper.old) (events_of events.now) → HasRun (events_of events.now) (K.log keeper.old) (K.log keeper.new) outcome) }
+    ensures bad { (i : ℕ) → result ≡ Err (WorldFault.BadEvent i) → IsReady (K.log keeper.old) (events_of events.now) → IsBadAt (events_of events.now) (K.log keeper.old) (K.log keeper.new) i }
+    ensures reused { (i : ℕ) → result ≡ Err (WorldFault.PortReused i) → IsReady (K.log keeper.old) (events_of events.now) → IsReusedAt (events_of events.now) (K.log keeper.old) (K.log keeper.new) i }
+    ensures not_loaded { (i : ℕ) → result ≡ Err (WorldFault.NotLoaded i) → IsReady (K.log keeper.old) (events_of events.now) → IsNotLoadedAt (events_of events.now) (K.log keeper.old) (K.log keeper.new) i }
+    ensures memory { result ≡ Err WorldFault.Memory → IsReady (K.log keeper.old) (events_of events.now) → HasStopped (events_of events.now) (K.log keeper.old) (K.log keeper.new) }
 {
     let mut machine = Machine::new(alloc);
     match happen_all(&mut machine, keeper, events) {

@@ -1,6 +1,6 @@
 use Rattle.std.proofs.Common.{ap, ◌∙◌, arith}
 use Rattle.archive_world.specs.World.{World}
-use Rattle.archive_world.proofs.Replaying.{told-start, one-more, ends-at}
+use Rattle.archive_world.proofs.Replaying.{happened-start, one-more, ends-at}
 use Rattle.archive_world.proofs.schedule.happen_all.Goals as goal
 
 pub loop-i-init : goal.loop-i-init
@@ -8,7 +8,7 @@ loop-i-init g c =
     record {
       within = omega arith;
       request = ap (λ (w : World). w.server.request) c.requires.start;
-      so_far = told-start (g.K.Keeper.log c.args.keeper.now) c.args.machine.now c.requires.start;
+      so_far = λ ready. happened-start (g.K.Keeper.log c.args.keeper.now) c.args.machine.now c.requires.start;
     }
 
 pub returns-in-Err : goal.returns-in-Err

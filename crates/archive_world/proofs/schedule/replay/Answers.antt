@@ -12,9 +12,9 @@ returns-in-Err-clause-reused g c = λ i is.
     reused-by (events_of c.args.events.now) (g.K.Keeper.log c.args.keeper.now) (g.K.Keeper.log c.happen_all.new.keeper) c.happen_all.new.machine c.in-Err.fault c.in-Err.ensures i same
 
 pub returns-in-Ok-outcome-clause-ran : goal.returns-in-Ok-outcome-clause-ran
-returns-in-Ok-outcome-clause-ran g c =
-    ran-to (events_of c.args.events.now) (g.K.Keeper.log c.args.keeper.now) (g.K.Keeper.log c.happen_all.new.keeper) c.happen_all.new.machine c.in-Ok-outcome.outcome c.in-Ok-outcome.ensures c.in-Ok.ensures
+returns-in-Ok-outcome-clause-ran g c = λ ready.
+    ran-to (events_of c.args.events.now) (g.K.Keeper.log c.args.keeper.now) (g.K.Keeper.log c.happen_all.new.keeper) c.happen_all.new.machine c.in-Ok-outcome.outcome c.in-Ok-outcome.ensures (c.in-Ok.ensures ready)
 
 pub returns-in-Err-outcome-clause-memory : goal.returns-in-Err-outcome-clause-memory
-returns-in-Err-outcome-clause-memory g c = λ is.
-    stopped-after (events_of c.args.events.now) (g.K.Keeper.log c.args.keeper.now) (g.K.Keeper.log c.happen_all.new.keeper) c.happen_all.new.machine (take_all (length (events_of c.args.events.now)) (events_of c.args.events.now) (omega arith)) c.in-Ok.ensures
+returns-in-Err-outcome-clause-memory g c = λ is ready.
+    stopped-after (events_of c.args.events.now) (g.K.Keeper.log c.args.keeper.now) (g.K.Keeper.log c.happen_all.new.keeper) c.happen_all.new.machine (take_all (length (events_of c.args.events.now)) (events_of c.args.events.now) (omega arith)) (c.in-Ok.ensures ready)
