@@ -1,6 +1,6 @@
 //! The client that fetches a collection.
 
-ghost use Rattle.std.specs.Prelude.{◌≡◌, ◌≤◌, length, Some, None, false, IsOk, IfOk, ◌↔◌, option_copied};
+ghost use Rattle.std.specs.Prelude.{◌≡◌, ◌≢◌, ◌≤◌, length, Some, None, false, IsOk, IfOk, ◌↔◌, option_copied};
 ghost use Rattle.tftp_packet.specs.Refusal.{refusal_packet};
 ghost use Rattle.archive_client.specs.Client.{get, failed, in_phase, out_to, cause_of, refusal_of as told, client_start, request_out, client_datagram, client_timeout, verdict_after, state_of, is_over, phase_peer, data_heard, file_of, phase_file, IsClient};
 
@@ -178,7 +178,8 @@ impl<A: Allocator + Copy> Get<A> {
 
     /// How far it is: never `Sent`.
     pub fn state(&self) -> State
-        ensures { result ≡ state_of self.now }
+        ensures is { result ≡ state_of self.now }
+        ensures never { result ≢ State.Sent }
     {
         match &self.phase {
             Phase::Asking { .. } => State::Running,

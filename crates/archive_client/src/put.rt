@@ -1,6 +1,6 @@
 //! The client that sends a file.
 
-ghost use Rattle.std.specs.Prelude.{◌≡◌, ◌<◌, ◌≤◌, length, IfOk, IfErr, false};
+ghost use Rattle.std.specs.Prelude.{◌≡◌, ◌≢◌, ◌<◌, ◌≤◌, length, IfOk, IfErr, false};
 ghost use Rattle.tftp_ends.specs.Ends.{granted};
 ghost use Rattle.archive_client.specs.Client.{put, client_start, request_out, client_datagram, client_timeout, state_of, is_over, phase_peer, ack_heard, IsClient};
 
@@ -162,7 +162,8 @@ impl<A: Allocator + Copy> Put<A> {
 
     /// How far it is: never `Got`.
     pub fn state(&self) -> State
-        ensures { result ≡ state_of self.now }
+        ensures is { result ≡ state_of self.now }
+        ensures never { result ≢ State.Got }
     {
         match &self.phase {
             Phase::Asking { .. } => State::Running,

@@ -45,3 +45,5 @@ pub mod Searches
 pub mod Steps
 pub mod Firsts
 pub mod Clients
+pub mod Exiting
+pub mod Replaying

@@ -146,7 +146,7 @@ module _ (w : World) where
   begins_remain false true e operation = (refl, refl)
   begins_remain false false e operation = (refl, refl)
 
-  request_remains : (used : Bool) (live : Option Transfer) (spare : ℕ) (grant : Grant) (d : Datagram) → Remain w (request_comes used live spare grant d w)
+  pub request_remains : (used : Bool) (live : Option Transfer) (spare : ℕ) (grant : Grant) (d : Datagram) → Remain w (request_comes used live spare grant d w)
   request_remains true live spare grant d = (refl, refl)
   request_remains false (Some t) spare grant d = (refl, refl)
   request_remains false None spare grant d =
@@ -173,7 +173,7 @@ module _ (w : World) where
       answer_takes grant (λ maps. server_datagram grant maps d.target.port d.source d.bytes w.server)
       (found_takes (transfer_at d.target.port w.server) grant d.target.port d.source d.bytes w.server)
 
-  client_remains : (found : Option Client) (grant : Grant) (d : Datagram) → Remain w (client_hears found grant d w)
+  pub client_remains : (found : Option Client) (grant : Grant) (d : Datagram) → Remain w (client_hears found grant d w)
   client_remains None grant d = (refl, refl)
   client_remains (Some c) grant d = (refl, refl)
 

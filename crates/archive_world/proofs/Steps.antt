@@ -1,7 +1,7 @@
 -- What a call of the machine makes of its world, from what the call of the table or of the client has told.
 use Rattle.std.specs.Prelude.{◌≡◌, List, [], Option, Some, Result, Ok, Err, OnOk}
 use Rattle.std.proofs.Common.{sym, ap, subst, ◌∙◌}
-use Rattle.archive_table.specs.Server.{Server, Told, Taken, Grant, Merges, server_datagram}
+use Rattle.archive_table.specs.Server.{Server, Told, Taken, Grant, all, Merges, server_datagram}
 use Rattle.archive_table.specs.Server as table
 use Rattle.archive_table.specs.Keeper.{Keeping, StepKeeps, LoadedFrom}
 use Rattle.tws_best.specs.Best.{Collected, IsCollected}
@@ -18,11 +18,14 @@ on-ok (Err e) f p = p
 abbrev asks : Grant → Server → Datagram → World → table.Answer
 asks grant server d w = server_datagram grant server.maps d.target.port d.source d.bytes w.server
 
-at-port-itself : (d : Datagram) (before after : Option (List Keeping)) (old : World) (grant : Grant) (wanted : Option Taken) (server : Server) (told : Told) → server ≡ (asks grant server d old).server → told ≡ (asks grant server d old).told → Merges told.taken old.server.maps server.maps → StepKeeps grant wanted old.server.maps server.maps before after → HearsAtPort d before after old (after_transfer (record { server = server; told = told }) old)
-at-port-itself d before after old grant wanted server told server-is told-is merges keeps =
+-- the file that is taken if all is granted
+abbrev wants : Datagram → World → Option Taken
+wants d w = (server_datagram all w.server.maps d.target.port d.source d.bytes w.server).told.taken
+
+at-port-itself : (d : Datagram) (before after : Option (List Keeping)) (old : World) (grant : Grant) (server : Server) (told : Told) → server ≡ (asks grant server d old).server → told ≡ (asks grant server d old).told → Merges told.taken old.server.maps server.maps → StepKeeps grant (wants d old) old.server.maps server.maps before after → HearsAtPort d before after old (after_transfer (record { server = server; told = told }) old)
+at-port-itself d before after old grant server told server-is told-is merges keeps =
     record {
       grant = grant;
-      wanted = wanted;
       is = ap (λ (s : Server). after_transfer (record { server = s; told = told }) old) server-is
           ∙ ap (λ (t : Told). after_transfer (record { server = (asks grant server d old).server; told = t }) old) told-is;
       merges = rw (sym told-is) merges;
@@ -30,9 +33,9 @@ at-port-itself d before after old grant wanted server told server-is told-is mer
     }
 
 -- a datagram at a port of the server
-pub at-port : (d heard : Datagram) (before after : Option (List Keeping)) (old seen new : World) → d ≡ heard → old ≡ seen → (grant : Grant) (wanted : Option Taken) (server : Server) (told : Told) → server ≡ (asks grant server heard seen).server → told ≡ (asks grant server heard seen).told → Merges told.taken seen.server.maps server.maps → StepKeeps grant wanted seen.server.maps server.maps before after → new ≡ after_transfer (record { server = server; told = told }) seen → HearsAtPort d before after old new
-at-port d heard before after old seen new d-is old-is grant wanted server told server-is told-is merges keeps new-is =
-    rw (d-is, old-is, new-is) (at-port-itself heard before after seen grant wanted server told server-is told-is merges keeps)
+pub at-port : (d heard : Datagram) (before after : Option (List Keeping)) (old seen new : World) → d ≡ heard → old ≡ seen → (grant : Grant) (server : Server) (told : Told) → server ≡ (asks grant server heard seen).server → told ≡ (asks grant server heard seen).told → Merges told.taken seen.server.maps server.maps → StepKeeps grant (wants heard seen) seen.server.maps server.maps before after → new ≡ after_transfer (record { server = server; told = told }) seen → HearsAtPort d before after old new
+at-port d heard before after old seen new d-is old-is grant server told server-is told-is merges keeps new-is =
+    rw (d-is, old-is, new-is) (at-port-itself heard before after seen grant server told server-is told-is merges keeps)
 
 -- what is loaded is what the server had
 pub restarts-same : (log : List Keeping) (old new : World) → HasKept log old.server.maps → IsCollected old.server.maps.lynx → IsCollected old.server.maps.ms → LoadedFrom Lynx (Some log) new.server.maps.lynx → LoadedFrom Ms (Some log) new.server.maps.ms → new ≡ record old { server = record { request = old.server.request; maps = new.server.maps; live = [] } } → new ≡ restarts old

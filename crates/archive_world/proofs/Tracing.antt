@@ -144,7 +144,7 @@ deed_merged w (client_waits_long e) grant maps may merged = (merged, tt)
 deed_merged w (server_waits_long port) grant maps may merged = (merged, tt)
 deed_merged w loads grant maps may merged = (merged, tt)
 
-merged_append : (xs ys : List Step) (w : World) → AllMerged xs w → AllMerged ys (run_from xs w) → AllMerged (xs ++ ys) w
+pub merged_append : (xs ys : List Step) (w : World) → AllMerged xs w → AllMerged ys (run_from xs w) → AllMerged (xs ++ ys) w
 merged_append [] ys w first rest = rest
 merged_append (x ∷ xs) ys w first rest = (first.0, merged_append xs ys (happens x w) first.1 rest)
 

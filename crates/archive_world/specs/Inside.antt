@@ -1,9 +1,8 @@
 -- The world that a machine has, without where its bytes lie in memory.
-use Rattle.std.specs.Prelude.{◌≡◌, ℕ, zero, suc, Bool, true, false, List, [], ◌∷◌, map, Option, Some}
+use Rattle.std.specs.Prelude.{◌≡◌, ℕ, zero, suc, Bool, true, false, List, [], ◌∷◌, Option, None, Some}
 use Rattle.tftp_packet.specs.declared.endpoint.Endpoint.{Endpoint}
-use Rattle.archive_client.specs.Client.{Client, IsClient, state_of, verdict_after}
+use Rattle.archive_client.specs.Client.{Client, state_of, phase_file, verdict_after}
 use Rattle.archive_client.specs.Client as client
-use Rattle.archive_client.specs.declared.state.State.{State}
 use Rattle.tftp_packet.specs.declared.out.Out.{Out}
 use Rattle.std.specs.Map.{lookup, set_value}
 use Rattle.tftp_ends.specs.Ends.{Verdict, granted}
@@ -14,7 +13,7 @@ use Rattle.archive_world.specs.declared.begun.Begun.TheInside as beginning
 use Rattle.archive_world.specs.declared.machine.Machine.TheInside as machines
 use Rattle.archive_world.specs.Kept.{operation_of}
 use Rattle.archive_world.specs.World.{World, Begun, Got, Datagram, after_transfer, at_endpoint, net_with, sent_with, got_with, newly_sent, newly_got}
-use Rattle.archive_table.specs.Server.{Grant, Taken, Merges, server_datagram}
+use Rattle.archive_table.specs.Server.{Grant, all, Merges, server_datagram}
 use Rattle.archive_table.specs.Keeper.{Keeping, StepKeeps}
 
 abbrev pub running_of : {A : Type 0} → runnings.Running A → Client
@@ -26,6 +25,11 @@ seat_of s = (s.client, running_of s.running)
 
 abbrev pub begun_of : {A : Type 0} → beginning.Inside A → Begun
 begun_of b = record { client = b.client; operation = operation_of b.kind; taken = b.taken }
+
+-- the file that a client has fetched whole; a put has none
+abbrev pub running_file : {A : Type 0} → runnings.Running A → Option (List ℕ)
+running_file (Put c) = None
+running_file (Get c) = phase_file c.phase
 
 -- what was granted to a client that is this now
 abbrev pub verdict_in : {A : Type 0} → runnings.Running A → Verdict
@@ -62,38 +66,42 @@ world_of m =
 
 -- ---- a datagram at a port of the server
 
--- What the machine is after a datagram has come to a port of the server, with what was granted; and what the keeper's list
--- has then. `wanted` is the file that is taken if all is granted.
+-- What a world is after a datagram has come to a port of the server, with what was granted; and what the keeper's list is
+-- then.
 pub record HearsAtPort (d : Datagram) (before after : Option (List Keeping)) (old new : World) : Type 0 where
   pub grant : Grant
-  pub wanted : Option Taken
   pub is : new ≡ after_transfer (server_datagram grant new.server.maps d.target.port d.source d.bytes old.server) old
   pub merges : Merges (server_datagram grant new.server.maps d.target.port d.source d.bytes old.server).told.taken old.server.maps new.server.maps
-  pub keeps : StepKeeps grant wanted old.server.maps new.server.maps before after
+  -- by the file that is taken if all is granted
+  pub keeps : StepKeeps grant (server_datagram all old.server.maps d.target.port d.source d.bytes old.server).told.taken old.server.maps new.server.maps before after
 
 -- ---- a client
 
--- Of the client at an endpoint: what it has answered, as a list of clients and a program see it.
-pub record Answers (step : Client → client.Answer) (e : Endpoint) (before after : List (Endpoint × Client)) (was now : State) (out : Option Out) : Type 0 where
+-- the file that a client has, if it has it newly
+abbrev pub newly_fetched : (newly : Bool) → Option (List ℕ) → Option (List ℕ)
+newly_fetched true file = file
+newly_fetched false file = None
+
+-- Of the client at an endpoint: what its step has told, as a list of clients and a program see it.
+pub record Answers (step : Client → client.Answer) (e : Endpoint) (before after : List (Endpoint × Client)) (sent : Bool) (file : Option (List ℕ)) (out : Option Out) : Type 0 where
   pub client : Client
   pub there : lookup (at_endpoint e) before ≡ Some client
   pub written : after ≡ set_value (at_endpoint e) before (step client).client
-  pub was_is : was ≡ state_of client
-  pub now_is : now ≡ state_of (step client).client
+  pub sent_is : sent ≡ newly_sent (state_of client) (state_of (step client).client)
+  pub file_is : file ≡ newly_fetched (newly_got (state_of client) (state_of (step client).client)) (phase_file (step client).client.phase)
   pub out_is : out ≡ (step client).out
-  pub fits : IsClient (step client).client
 
--- a machine's world once these are its clients, one of which has answered
-abbrev pub answered_by : Endpoint → List (Endpoint × Client) → (was now : State) → Option Out → World → World
-answered_by e clients was now out w =
+-- a machine's world once these are its clients, one of which has told this
+abbrev pub answered_by : Endpoint → List (Endpoint × Client) → (sent : Bool) → (file : Option (List ℕ)) → Option Out → World → World
+answered_by e clients sent file out w =
     record {
       net = net_with e.host w.net out;
       server = w.server;
       clients = clients;
       begun = w.begun;
       taken = w.taken;
-      sent = sent_with (newly_sent was now) e w.sent;
-      got = got_with (newly_got was now) e (Some []) w.got;
+      sent = sent_with sent e w.sent;
+      got = got_with true e file w.got;
       opened = w.opened;
       strays = w.strays;
     }

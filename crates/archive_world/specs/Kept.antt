@@ -6,6 +6,7 @@ use Rattle.archive_world.specs.declared.datagram.Datagram.TheInside as datagrams
 use Rattle.archive_world.specs.declared.opening.Opening.TheInside as openings
 use Rattle.archive_world.specs.declared.taken_file.TakenFile.TheInside as taking
 use Rattle.archive_world.specs.declared.got_file.GotFile.TheInside as getting
+use Rattle.archive_world.specs.declared.outcome.Outcome.TheInside as outcomes
 use Rattle.archive_world.specs.declared.asked.Asked.{Asked as AskedFor}
 use Rattle.archive_world.specs.declared.asked.Asked.TheVariants as asks
 use Rattle.archive_world.specs.declared.op_kind.OpKind as kinds
@@ -13,6 +14,7 @@ use Rattle.archive_world.specs.declared.op_kind.OpKind.TheVariants.{Put, Get}
 use Rattle.archive_world.specs.declared.event.Event as events
 use Rattle.archive_world.specs.declared.event.Event.TheVariants.{Begin, Deliver, ClientTimeout, ServerTimeout, Stray, Restart}
 use Rattle.archive_world.specs.World.{Datagram, Asked, to_write, to_read, Opening, Got, Event, begin, deliver, client_times_out, server_times_out, stray, restart}
+use Rattle.archive_world.specs.Outcomes.{Outcome}
 
 abbrev pub datagram_of : {A : Type 0} → datagrams.Inside A → Datagram
 datagram_of d = record { source = d.from; target = d.to; bytes = d.bytes }
@@ -29,6 +31,18 @@ taken_of t = record { peer = t.peer; file = t.file }
 
 abbrev pub got_of : {A : Type 0} → getting.Inside A → Got
 got_of g = record { client = g.client; file = g.file }
+
+abbrev pub outcome_as : {A : Type 0} → outcomes.Inside A → Outcome
+outcome_as o =
+    record {
+      taken = o.taken.items;
+      sent = o.sent.items;
+      got = o.got.items;
+      opened = o.opened.items;
+      lynx = o.lynx;
+      ms = o.ms;
+      datagrams = o.datagrams.items;
+    }
 
 abbrev pub operation_of : {A : Type 0} → kinds.OpKind A → Operation
 operation_of (Put file) = put file

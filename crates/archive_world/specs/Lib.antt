@@ -4,5 +4,8 @@ pub mod Traces
 pub mod Samples
 pub mod Reuse
 pub mod Restarts
+pub mod Outcomes
 pub mod Kept
 pub mod Inside
+pub mod Replays
+pub mod Exits

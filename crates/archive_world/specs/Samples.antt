@@ -119,9 +119,9 @@ barred_strays =
 abbrev pub opened_again : List Step
 opened_again = plain_steps (begin (sample_client 1) (put []) ∷ deliver 0 4000 ∷ restart ∷ deliver 0 4000 ∷ [])
 
--- ---- what a run comes to
+-- ---- what a run comes to, in short
 
-pub record Outcome : Type 0 where
+pub record Summary : Type 0 where
   -- how many datagrams were sent, and how many of them were strays
   pub datagrams : ℕ
   pub strays : ℕ
@@ -133,8 +133,8 @@ pub record Outcome : Type 0 where
   pub lynx : List ℕ
   pub ms : List ℕ
 
-abbrev pub outcome_of : World → Outcome
-outcome_of w =
+abbrev pub summary_of : World → Summary
+summary_of w =
     record {
       datagrams = length w.net;
       strays = length w.strays;
@@ -155,8 +155,8 @@ sample_opening number port asked taken =
     record { peer = sample_client number; port = port; asked = asked; taken = taken }
 
 -- one put, whose file is taken once and counted as sent
-abbrev pub one_put_outcome : (datagrams : ℕ) → List Opening → Outcome
-one_put_outcome datagrams opened =
+abbrev pub one_put_summary : (datagrams : ℕ) → List Opening → Summary
+one_put_summary datagrams opened =
     record {
       datagrams = datagrams;
       strays = 0;
@@ -169,8 +169,8 @@ one_put_outcome datagrams opened =
     }
 
 -- nothing is taken, counted as sent or fetched
-abbrev pub no_file_outcome : (datagrams : ℕ) → Outcome
-no_file_outcome datagrams =
+abbrev pub no_file_summary : (datagrams : ℕ) → Summary
+no_file_summary datagrams =
     record {
       datagrams = datagrams;
       strays = 0;
@@ -182,8 +182,8 @@ no_file_outcome datagrams =
       ms = bare_file 2;
     }
 
-abbrev pub crossed_get_outcome : Outcome
-crossed_get_outcome =
+abbrev pub crossed_get_summary : Summary
+crossed_get_summary =
     record {
       datagrams = 14;
       strays = 0;
@@ -196,8 +196,8 @@ crossed_get_outcome =
       ms = bare_file 2;
     }
 
-abbrev pub strange_put_outcome : Outcome
-strange_put_outcome =
+abbrev pub strange_put_summary : Summary
+strange_put_summary =
     record {
       datagrams = 10;
       strays = 3;
@@ -209,8 +209,8 @@ strange_put_outcome =
       ms = bare_file 2;
     }
 
-abbrev pub restart_outcome : Outcome
-restart_outcome =
+abbrev pub restart_summary : Summary
+restart_summary =
     record {
       datagrams = 7;
       strays = 0;
@@ -222,8 +222,8 @@ restart_outcome =
       ms = bare_file 2;
     }
 
-abbrev pub empty_put_outcome : Outcome
-empty_put_outcome =
+abbrev pub empty_put_summary : Summary
+empty_put_summary =
     record {
       datagrams = 4;
       strays = 0;
@@ -235,8 +235,8 @@ empty_put_outcome =
       ms = bare_file 2;
     }
 
-abbrev pub empty_get_outcome : Outcome
-empty_get_outcome =
+abbrev pub empty_get_summary : Summary
+empty_get_summary =
     record {
       datagrams = 3;
       strays = 0;

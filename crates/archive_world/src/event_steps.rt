@@ -1,6 +1,6 @@
 //! Events, tested and then made by the machine.
 
-ghost use Rattle.std.specs.Prelude.{◌≡◌, ◌==◌, List, Some, Ok, Err, IfOk, IfErr, OnOk, OnErr, false, true};
+ghost use Rattle.std.specs.Prelude.{◌≡◌, ◌≢◌, ◌==◌, List, Some, Ok, Err, IfOk, IfErr, OnOk, OnErr, false, true};
 ghost use Rattle.archive_table.specs.Server.{all, server_request, request_verdict};
 ghost use Rattle.archive_table.specs.Keeper.{Keeping, TableFails};
 ghost use Rattle.tws_best.specs.Best.{IsCollected};
@@ -54,6 +54,7 @@ pub(crate) fn begin<A: Allocator + Copy>(
     ensures bad { result ≡ Err EventFault.Bad → MayHappen (begin op.now.client (operation_of op.now.kind)) machine.old → ⊥ }
     ensures reused { result ≡ Err EventFault.Reused → MayHappen (begin op.now.client (operation_of op.now.kind)) machine.old }
     ensures used { result ≡ Err EventFault.Reused → IsUnused op.now.client machine.old → ⊥ }
+    ensures loads { result ≢ Err EventFault.NotLoaded }
 {
     if is_ours(op.client) || is_long(&op.kind) {
         return Err(EventFault::Bad);
@@ -79,6 +80,8 @@ pub(crate) fn stray<A: Allocator + Copy>(
     ensures made { OnOk result (machine.new ≡ event_happens (stray d.now) all empty_maps machine.old) }
     ensures may { OnOk result (MayHappen (stray d.now) machine.old) }
     ensures bad { result ≡ Err EventFault.Bad → MayHappen (stray d.now) machine.old → ⊥ }
+    ensures own { result ≢ Err EventFault.Reused }
+    ensures loads { result ≢ Err EventFault.NotLoaded }
 {
     let from = d.from;
     if is_ours(from) || machine.has_begun(from) {
@@ -102,6 +105,8 @@ pub(crate) fn client_timeout<A: Allocator + Copy>(
     ensures made { OnOk result (machine.new ≡ event_happens (client_times_out e) all empty_maps machine.old) }
     ensures may { OnOk result (MayHappen (client_times_out e) machine.old) }
     ensures bad { result ≡ Err EventFault.Bad → MayHappen (client_times_out e) machine.old → ⊥ }
+    ensures own { result ≢ Err EventFault.Reused }
+    ensures loads { result ≢ Err EventFault.NotLoaded }
 {
     if !machine.has_begun(e) {
         return Err(EventFault::Bad);
@@ -122,6 +127,7 @@ pub(crate) fn server_timeout<A: Allocator + Copy>(
     port: u16,
 ) -> Result<(), EventFault>
     ensures made { OnOk result (machine.new ≡ event_happens (server_times_out port) all empty_maps machine.old) }
+    ensures may { IfErr result (λ fault. fault ≡ EventFault.Memory) }
 {
     match machine.server_timeout(port) {
         Ok(()) => Ok(()),
@@ -147,6 +153,9 @@ pub(crate) fn request<A: Allocator + Copy>(
     ensures bad { result ≡ Err EventFault.Bad → IsFree spare machine.old → ⊥ }
     ensures reused { result ≡ Err EventFault.Reused → IsFree spare machine.old }
     ensures used { result ≡ Err EventFault.Reused → was_opened d.now.source spare machine.old.opened ≡ true }
+    ensures loads { result ≢ Err EventFault.NotLoaded }
+    ensures told { IfOk result (λ opened. opened ≡ (server_request (request_verdict opened) spare d.now.source d.now.bytes machine.old.server).told.opened) }
+    ensures opens { result ≡ Err EventFault.Reused → (server_request granted spare d.now.source d.now.bytes machine.old.server).told.opened ≡ true }
     ensures opened { result ≡ Err EventFault.Reused → machine.new ≡ after_request d.now.source spare (asked_of d.now.bytes) (server_request granted spare d.now.source d.now.bytes machine.old.server) machine.old }
 {
     if spare == SERVER.port || machine.is_live(spare) {
@@ -176,6 +185,7 @@ pub(crate) fn restart<K: Keeper, A: Allocator + Copy>(
 ) -> Result<(), LoadFault>
     requires request { machine.old.server.request ≡ server_endpoint.port }
     ensures made { OnOk result ((log : List Keeping) → K.log keeper.old ≡ Some log → HasKept log machine.old.server.maps → IsCollected machine.old.server.maps.lynx → IsCollected machine.old.server.maps.ms → machine.new ≡ restarts machine.old) }
+    ensures request { OnOk result (machine.new.server.request ≡ machine.old.server.request) }
     ensures log { K.log keeper.new ≡ K.log keeper.old }
     ensures fault { IfErr result (TableFails (K.log keeper.old)) }
     ensures err { OnErr result (machine.new ≡ machine.old) }

@@ -1,7 +1,7 @@
 //! What holds of every run. These functions do nothing: each contract is a theorem.
 
 ghost use Rattle.std.specs.Prelude.{◌≡◌, List, [], ◌∷◌, ◌++◌, Contains, Option};
-ghost use Rattle.archive_world.specs.Samples.{request_twice, late_ack, crossed_get, unanswered, strange_put, restart_between, empty_put, empty_get, barred_strays, opened_again, outcome_of, sample_opening, one_put_outcome, no_file_outcome, crossed_get_outcome, strange_put_outcome, restart_outcome, empty_put_outcome, empty_get_outcome};
+ghost use Rattle.archive_world.specs.Samples.{request_twice, late_ack, crossed_get, unanswered, strange_put, restart_between, empty_put, empty_get, barred_strays, opened_again, summary_of, sample_opening, one_put_summary, no_file_summary, crossed_get_summary, strange_put_summary, restart_summary, empty_put_summary, empty_get_summary};
 ghost use Rattle.tftp_packet.specs.declared.endpoint.Endpoint.{Endpoint};
 ghost use Rattle.archive_client.specs.Client.{Operation};
 ghost use Rattle.archive_world.specs.Reuse.{BeginKeepsOwn, OpeningKeepsOwn, StrayKeepsOwn};
@@ -46,15 +46,15 @@ pub fn trace_law()
 /// is late three times, a put that crosses a get, a put that nobody answers, a stranger, a restart, a file of no bytes, a
 /// get of nothing, strays that may not happen.
 pub fn sample_runs()
-    ensures twice { outcome_of (run request_twice) ≡ one_put_outcome 6 (sample_opening 1 4000 to_write 0 ∷ sample_opening 1 4001 to_write 0 ∷ []) }
-    ensures late { outcome_of (run late_ack) ≡ one_put_outcome 10 (sample_opening 1 4000 to_write 0 ∷ []) }
-    ensures crossed { outcome_of (run crossed_get) ≡ crossed_get_outcome }
-    ensures unanswered { outcome_of (run unanswered) ≡ no_file_outcome 5 }
-    ensures strange { outcome_of (run strange_put) ≡ strange_put_outcome }
-    ensures restarted { outcome_of (run restart_between) ≡ restart_outcome }
-    ensures empty { outcome_of (run empty_put) ≡ empty_put_outcome }
-    ensures fetched_empty { outcome_of (run empty_get) ≡ empty_get_outcome }
-    ensures barred { outcome_of (run barred_strays) ≡ no_file_outcome 1 }
+    ensures twice { summary_of (run request_twice) ≡ one_put_summary 6 (sample_opening 1 4000 to_write 0 ∷ sample_opening 1 4001 to_write 0 ∷ []) }
+    ensures late { summary_of (run late_ack) ≡ one_put_summary 10 (sample_opening 1 4000 to_write 0 ∷ []) }
+    ensures crossed { summary_of (run crossed_get) ≡ crossed_get_summary }
+    ensures unanswered { summary_of (run unanswered) ≡ no_file_summary 5 }
+    ensures strange { summary_of (run strange_put) ≡ strange_put_summary }
+    ensures restarted { summary_of (run restart_between) ≡ restart_summary }
+    ensures empty { summary_of (run empty_put) ≡ empty_put_summary }
+    ensures fetched_empty { summary_of (run empty_get) ≡ empty_get_summary }
+    ensures barred { summary_of (run barred_strays) ≡ no_file_summary 1 }
     // These runs meet the premises of the law; in all but one a readable file is taken.
     ensures crossed_premises { HasOwnPorts (run crossed_get) × AllMerged crossed_get start }
     ensures strange_premises { HasOwnPorts (run strange_put) × AllMerged strange_put start }

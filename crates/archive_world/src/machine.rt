@@ -1,13 +1,15 @@
 //! The server, the clients and the network, as a program.
 
-ghost use Rattle.std.specs.Prelude.{◌≡◌, false, is_some, ◌≢◌, [], OnOk, OnErr, IfOk, IfErr, Some, None, length, slice_get};
+ghost use Rattle.std.specs.Prelude.{◌≡◌, false, true, is_some, ◌≢◌, [], OnOk, OnErr, IfOk, IfErr, Some, None, length, slice_get};
 ghost use Rattle.archive_table.specs.Server.{request_verdict, server_request, server_datagram, server_timeout, grant_of, transfer_at, kind_named, is_same, Grant};
 ghost use Rattle.archive_table.specs.Keeper.{LoadedFrom, TableFails};
 ghost use Rattle.archive_world.specs.Kept.{asked_as, operation_of};
-ghost use Rattle.archive_world.specs.World.{start, has_begun, begins, is_too_long, server_endpoint, net_with, taken_with, opened_with, asked_of, asked_named, after_request, after_transfer, strays_in, newly_sent, newly_got, client_at, client_waits, client_hears};
+ghost use Rattle.archive_world.specs.World.{World, start, has_begun, begins, is_too_long, server_endpoint, net_with, taken_with, opened_with, got_with, asked_of, asked_named, after_request, after_transfer, strays_in, client_at, client_waits, client_hears};
 ghost use Rattle.archive_world.specs.Inside.{HearsAtPort, answered_by};
+ghost use Rattle.archive_world.specs.Outcomes.{outcome_of};
 ghost use Rattle.archive_world.specs.Reuse.{has_strayed, was_opened, is_opening_at};
 ghost use Rattle.std.specs.Str.{bytes_eq};
+ghost use Rattle.tws_best.specs.Best.{collection_text};
 ghost use Rattle.tws_file.specs.Names.{file_name_of};
 
 use crate::answered::Answered;
@@ -23,7 +25,6 @@ use crate::seat::Seat;
 use crate::seats::{find, hear_at, is_one, wait_at};
 use crate::server_endpoint::SERVER;
 use crate::taken_file::TakenFile;
-use archive_client::State;
 use archive_table::{Keeper, LoadFault, Step, Table, Taken};
 use std::alloc::{AllocError, Allocator, Global};
 use std::marker::Model;
@@ -154,7 +155,7 @@ impl<A: Allocator + Copy> Machine<A> {
         keeper: &mut K,
         d: &Datagram<A>,
     ) -> Result<(), AllocError>
-        ensures { OnOk result (HearsAtPort d.now (K.log keeper.old) (K.log keeper.new) self.old self.new) }
+        ensures { (world : World) × HearsAtPort d.now (K.log keeper.old) (K.log keeper.new) self.old world × OnOk result (self.new ≡ world) }
     {
         let step = self
             .table
@@ -240,7 +241,9 @@ impl<A: Allocator + Copy> Machine<A> {
     }
 
     // A client has fetched a file, if this is one.
-    fn fetch(&mut self, client: Endpoint, file: Option<Bytes<A>>) -> Result<(), AllocError> {
+    fn fetch(&mut self, client: Endpoint, file: Option<Bytes<A>>) -> Result<(), AllocError>
+        ensures { OnOk result (self.new ≡ record self.old { got = got_with true client file self.old.got }) }
+    {
         let Some(file) = file else {
             return Ok(());
         };
@@ -249,17 +252,15 @@ impl<A: Allocator + Copy> Machine<A> {
     }
 
     // A client has answered.
-    fn answer(&mut self, i: usize, e: Endpoint, told: Answered) -> Result<(), AllocError>
-        ensures { OnOk result (self.new ≡ answered_by e self.old.clients told.was told.now told.out self.old) }
+    fn answer(&mut self, e: Endpoint, told: Answered<A>) -> Result<(), AllocError>
+        ensures { OnOk result (self.new ≡ answered_by e self.old.clients told.sent told.file told.out self.old) }
     {
-        if is_newly_sent(told.was, told.now) {
+        let Answered { sent, file, out } = told;
+        if sent {
             self.sent.push(e)?;
         }
-        if is_newly_got(told.was, told.now) {
-            let file = self.clients[i].running.file(self.alloc)?;
-            self.fetch(e, file)?;
-        }
-        self.send(e.host, told.out)
+        self.fetch(e, file)?;
+        self.send(e.host, out)
     }
 
     /// Nothing has come to a client for a while. Where none is at this endpoint, nothing changes.
@@ -273,8 +274,8 @@ impl<A: Allocator + Copy> Machine<A> {
         let Some(i) = find(self.clients.as_slice(), e) else {
             return Ok(());
         };
-        let told = wait_at(&mut self.clients, i, e);
-        self.answer(i, e, told)
+        let told = wait_at(self.alloc, &mut self.clients, i, e)?;
+        self.answer(e, told)
     }
 
     /// A datagram comes to a client's host. Where no client is at its target, nothing changes.
@@ -288,8 +289,8 @@ impl<A: Allocator + Copy> Machine<A> {
         let Some(i) = find(self.clients.as_slice(), d.to) else {
             return Ok(());
         };
-        let told = hear_at(&mut self.clients, i, d.to, d.from, d.bytes.as_slice());
-        self.answer(i, d.to, told)
+        let told = hear_at(self.alloc, &mut self.clients, i, d)?;
+        self.answer(d.to, told)
     }
 
     /// Whether a transfer was opened for this peer at this port.
@@ -307,7 +308,8 @@ impl<A: Allocator + Copy> Machine<A> {
     pub(crate) fn request(&mut self, spare: u16, d: &Datagram<A>) -> Result<bool, AllocError>
         requires other { spare ≢ self.old.server.request }
         requires free { transfer_at spare self.old.server ≡ None }
-        ensures { IfOk result (λ opened. self.new ≡ after_request d.now.source spare (asked_of d.now.bytes) (server_request (request_verdict opened) spare d.now.source d.now.bytes self.old.server) self.old) }
+        ensures told { IfOk result (λ opened. opened ≡ (server_request (request_verdict opened) spare d.now.source d.now.bytes self.old.server).told.opened) }
+        ensures made { IfOk result (λ opened. self.new ≡ after_request d.now.source spare (asked_of d.now.bytes) (server_request (request_verdict opened) spare d.now.source d.now.bytes self.old.server) self.old) }
     {
         let step = self.table.on_request(spare, d.from, d.bytes.as_slice());
         let Step { out, opened, .. } = step;
@@ -321,7 +323,9 @@ impl<A: Allocator + Copy> Machine<A> {
     /// # Errors
     ///
     /// Out of memory.
-    pub(crate) fn outcome(self) -> Result<Outcome<A>, AllocError> {
+    pub(crate) fn outcome(self) -> Result<Outcome<A>, AllocError>
+        ensures { IfOk result (λ o. o ≡ outcome_of self) }
+    {
         let lynx = text_of(self.alloc, self.table.collection(Ruleset::Lynx))?;
         let ms = text_of(self.alloc, self.table.collection(Ruleset::Ms))?;
         let Machine {
@@ -364,31 +368,13 @@ impl<A: Allocator + Copy> Machine<A> {
 fn text_of<A: Allocator + Copy>(
     alloc: A,
     collection: &Collection<A>,
-) -> Result<Bytes<A>, AllocError> {
+) -> Result<Bytes<A>, AllocError>
+    ensures { IfOk result (λ text. text ≡ collection_text collection.now) }
+{
     let mut text = Vec::new(alloc);
     match collection.write_text(&mut text) {
         Ok(()) => Ok(Bytes::of(text)),
         Err(_) => Err(AllocError),
-    }
-}
-
-// Whether a client counts its file as sent now, and did not before.
-fn is_newly_sent(was: State, now: State) -> bool
-    ensures { result ≡ newly_sent was now }
-{
-    match (was, now) {
-        (State::Running, State::Sent) => true,
-        _ => false,
-    }
-}
-
-// Whether a client has fetched its file now, and had not before.
-fn is_newly_got(was: State, now: State) -> bool
-    ensures { result ≡ newly_got was now }
-{
-    match (was, now) {
-        (State::Running, State::Got) => true,
-        _ => false,
     }
 }
 

@@ -3,6 +3,7 @@ use crate::got_file::GotFile;
 use crate::opening::Opening;
 use crate::taken_file::TakenFile;
 use std::alloc::{Allocator, Global};
+use std::marker::Model;
 use tftp_packet::Endpoint;
 use tws_file::Bytes;
 
@@ -24,4 +25,14 @@ pub struct Outcome<A: Allocator = Global> {
     pub ms: Bytes<A>,
     /// The datagrams that were ever sent, by strangers too.
     pub datagrams: Vec<Datagram<A>, A>,
+}
+
+impl<A: Allocator> Model for Outcome<A> {
+    ghost use Rattle.archive_world.specs.Outcomes.{Outcome as Left};
+
+    ghost Value = { Left };
+
+    ghost use Rattle.archive_world.specs.Kept.{outcome_as};
+
+    ghost view = { outcome_as };
 }

@@ -1,8 +1,8 @@
 ghost use Rattle.std.specs.Prelude.{◌≡◌, IfOk, false};
 ghost use Rattle.archive_world.specs.Kept.{operation_of};
 ghost use Rattle.archive_world.specs.World.{is_too_long, server_endpoint};
-ghost use Rattle.archive_client.specs.Client.{client_datagram, client_timeout, client_start, request_out, state_of, IsClient};
-ghost use Rattle.archive_world.specs.Inside.{running_of, verdict_in};
+ghost use Rattle.archive_client.specs.Client.{client_datagram, client_timeout, client_start, request_out, state_of, phase_file};
+ghost use Rattle.archive_world.specs.Inside.{running_of, running_file, verdict_in};
 
 use crate::op_kind::OpKind;
 use crate::server_endpoint::SERVER;
@@ -50,7 +50,6 @@ impl<A: Allocator + Copy> Running<A> {
     pub(crate) fn hear(&mut self, from: Endpoint, bytes: &[u8]) -> Option<Out>
         ensures client { running_of self.new ≡ (client_datagram (verdict_in self.new) from bytes.now (running_of self.old)).client }
         ensures sent { result ≡ (client_datagram (verdict_in self.new) from bytes.now (running_of self.old)).out }
-        ensures fits { IsClient (running_of self.new) }
     {
         match self {
             Running::Put(put) => put.on_datagram(from, bytes),
@@ -62,7 +61,6 @@ impl<A: Allocator + Copy> Running<A> {
     pub(crate) fn wait(&mut self) -> Option<Out>
         ensures client { running_of self.new ≡ (client_timeout (running_of self.old)).client }
         ensures sent { result ≡ (client_timeout (running_of self.old)).out }
-        ensures fits { IsClient (running_of self.new) }
     {
         match self {
             Running::Put(put) => put.on_timeout(),
@@ -70,9 +68,10 @@ impl<A: Allocator + Copy> Running<A> {
         }
     }
 
-    /// How far it is.
+    /// How far it is. Only a get ever has got its file.
     pub(crate) fn state(&self) -> State
-        ensures { result ≡ state_of (running_of self.now) }
+        ensures is { result ≡ state_of (running_of self.now) }
+        ensures got { result ≡ State.Got → running_file self.now ≡ phase_file (running_of self.now).phase }
     {
         match self {
             Running::Put(put) => put.state(),
@@ -85,7 +84,9 @@ impl<A: Allocator + Copy> Running<A> {
     /// # Errors
     ///
     /// Out of memory.
-    pub(crate) fn file<B: Allocator>(&self, alloc: B) -> Result<Option<Bytes<B>>, AllocError> {
+    pub(crate) fn file<B: Allocator>(&self, alloc: B) -> Result<Option<Bytes<B>>, AllocError>
+        ensures { IfOk result (λ file. file ≡ running_file self.now) }
+    {
         let file = match self {
             Running::Put(_) => None,
             Running::Get(get) => get.file(),

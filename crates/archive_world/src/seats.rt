@@ -1,17 +1,20 @@
 //! The clients by their endpoints.
 
-ghost use Rattle.std.specs.Prelude.{◌≡◌, ◌<◌, length, None, IfSome};
+ghost use Rattle.std.specs.Prelude.{◌≡◌, ◌<◌, length, true, None, IfSome, IfOk};
 ghost use Rattle.std.specs.Map.{lookup};
 ghost use Rattle.archive_table.specs.Server.{is_same};
-ghost use Rattle.archive_world.specs.World.{at_endpoint};
-ghost use Rattle.archive_world.specs.Inside.{IsFirst, Answers};
-ghost use Rattle.archive_client.specs.Client.{client_timeout, client_datagram};
+ghost use Rattle.archive_world.specs.World.{at_endpoint, newly_sent, newly_got};
+ghost use Rattle.archive_world.specs.Inside.{IsFirst, Answers, running_of, newly_fetched};
+ghost use Rattle.archive_client.specs.Client.{client_timeout, client_datagram, phase_file, state_of};
 ghost use Rattle.tftp_ends.specs.Ends.{Verdict};
 
 use crate::answered::Answered;
+use crate::datagram::Datagram;
+use crate::running::Running;
 use crate::seat::Seat;
-use std::alloc::Allocator;
-use tftp_packet::Endpoint;
+use archive_client::State;
+use std::alloc::{AllocError, Allocator};
+use tftp_packet::{Endpoint, Out};
 
 // Whether two endpoints are one.
 pub(crate) fn is_one(a: Endpoint, b: Endpoint) -> bool
@@ -45,38 +48,89 @@ pub(crate) fn find<A: Allocator + Copy>(clients: &[Seat<A>], e: Endpoint) -> Opt
     None
 }
 
+// Whether a client counts its file as sent now, and did not before.
+fn is_newly_sent(was: State, now: State) -> bool
+    ensures { result ≡ newly_sent was now }
+{
+    match (was, now) {
+        (State::Running, State::Sent) => true,
+        _ => false,
+    }
+}
+
+// Whether a client has fetched its file now, and had not before.
+fn is_newly_got(was: State, now: State) -> bool
+    ensures is { result ≡ newly_got was now }
+    ensures got { result ≡ true → now ≡ State.Got }
+{
+    match (was, now) {
+        (State::Running, State::Got) => true,
+        _ => false,
+    }
+}
+
+// What a client's step tells, by how far the client was before it.
+fn answered<A: Allocator + Copy>(
+    alloc: A,
+    client: &Running<A>,
+    was: State,
+    out: Option<Out>,
+) -> Result<Answered<A>, AllocError>
+    ensures sent { IfOk result (λ told. told.sent ≡ newly_sent was (state_of (running_of client.now))) }
+    ensures file { IfOk result (λ told. told.file ≡ newly_fetched (newly_got was (state_of (running_of client.now))) (phase_file (running_of client.now).phase)) }
+    ensures out { IfOk result (λ told. told.out ≡ out) }
+{
+    let now = client.state();
+    let sent = is_newly_sent(was, now);
+    if !is_newly_got(was, now) {
+        return Ok(Answered {
+            sent,
+            file: None,
+            out,
+        });
+    }
+    let file = client.file(alloc)?;
+    Ok(Answered { sent, file, out })
+}
+
 /// Nothing has come to the client at this place, which is that at an endpoint.
+///
+/// # Errors
+///
+/// Out of memory for a copy of a file.
 pub(crate) fn wait_at<A: Allocator + Copy>(
+    alloc: A,
     clients: &mut Vec<Seat<A>, A>,
     i: usize,
     e: Endpoint,
-) -> Answered
+) -> Result<Answered<A>, AllocError>
     requires first { IsFirst (at_endpoint e) i clients.old.items }
     requires within { i < length clients.old.items }
-    ensures { Answers client_timeout e clients.old.items clients.new.items result.was result.now result.out }
+    ensures { IfOk result (λ told. Answers client_timeout e clients.old.items clients.new.items told.sent told.file told.out) }
 {
     let seat = &mut clients[i];
     let was = seat.running.state();
     let out = seat.running.wait();
-    let now = seat.running.state();
-    Answered { was, now, out }
+    answered(alloc, &seat.running, was, out)
 }
 
 /// A datagram of these bytes has come to that client. What it was granted is told by the clause alone.
+///
+/// # Errors
+///
+/// Out of memory for a copy of a file.
 pub(crate) fn hear_at<A: Allocator + Copy>(
+    alloc: A,
     clients: &mut Vec<Seat<A>, A>,
     i: usize,
-    e: Endpoint,
-    from: Endpoint,
-    bytes: &[u8],
-) -> Answered
-    requires first { IsFirst (at_endpoint e) i clients.old.items }
+    d: &Datagram<A>,
+) -> Result<Answered<A>, AllocError>
+    requires first { IsFirst (at_endpoint d.now.target) i clients.old.items }
     requires within { i < length clients.old.items }
-    ensures { (verdict : Verdict) × Answers (client_datagram verdict from bytes.now) e clients.old.items clients.new.items result.was result.now result.out }
+    ensures { IfOk result (λ told. (verdict : Verdict) × Answers (client_datagram verdict d.now.source d.now.bytes) d.now.target clients.old.items clients.new.items told.sent told.file told.out) }
 {
     let seat = &mut clients[i];
     let was = seat.running.state();
-    let out = seat.running.hear(from, bytes);
-    let now = seat.running.state();
-    Answered { was, now, out }
+    let out = seat.running.hear(d.from, d.bytes.as_slice());
+    answered(alloc, &seat.running, was, out)
 }

@@ -1,9 +1,11 @@
 use Rattle.std.proofs.Common.{◌∙◌}
 use Rattle.archive_client.specs.Client.{client_timeout}
 use Rattle.archive_world.specs.Inside.{running_of}
-use Rattle.archive_world.proofs.Clients.{answers_at}
+use Rattle.archive_world.proofs.Clients.{answers_at, told_all}
 use Rattle.archive_world.proofs.seats.wait_at.Goals as goal
 
 pub returns : goal.returns
 returns g c =
-    answers_at client_timeout c.args.e c.args.clients.now.items c.args.i c.index_mut-seat.result.now c.seat.inside.client (running_of c.seat.inside.running) (running_of c.wait-out.new.self) c.state-was.result c.state-now.result c.wait-out.result c.requires.first (c.seat.view_is ∙ c.index_mut-seat.ensures.value) c.wait-out.ensures.client c.state-was.ensures c.state-now.ensures c.wait-out.ensures.sent c.wait-out.ensures.fits
+    told_all c.answered.result _ _ _ _
+    (λ told sent file out. answers_at client_timeout c.args.e c.args.clients.now.items c.args.i c.index_mut-seat.result.now c.seat.inside.client (running_of c.seat.inside.running) (running_of c.wait-out.new.self) c.state-was.result told.sent told.file told.out c.requires.first (c.seat.view_is ∙ c.index_mut-seat.ensures.value) c.wait-out.ensures.client c.state-was.ensures.is sent file (out ∙ c.wait-out.ensures.sent))
+    c.answered.ensures.sent c.answered.ensures.file c.answered.ensures.out

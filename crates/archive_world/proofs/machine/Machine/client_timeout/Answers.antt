@@ -6,10 +6,10 @@ use Rattle.archive_world.proofs.machine.Machine.client_timeout.Goals as goal
 
 pub returns-in_default : goal.returns-in_default
 returns-in_default g c =
-    waited_none c.args.e c.args.self.now (world_of c.self.inside) c.self.inside.got.items c.self.view_is refl c.as_slice.result.now c.as_slice.ensures.value (c.in_default.ensures.none refl)
+    waited_none c.args.e c.args.self.now (world_of c.self.inside) c.self.view_is c.as_slice.result.now c.as_slice.ensures.value (c.in_default.ensures.none refl)
 
 pub returns : goal.returns
 returns g c =
     on-ok c.answer.result
-    (λ is. waited c.args.e c.args.self.now (world_of c.self.inside) c.answer.new.self c.self.inside.got.items c.self.view_is refl c.self.inside.clients.items c.wait_at-told.new.clients.items c.wait_at-told.result.was c.wait_at-told.result.now c.wait_at-told.result.out refl c.wait_at-told.ensures is)
+    (λ is. waited c.args.e c.args.self.now (world_of c.self.inside) c.answer.new.self c.self.view_is c.self.inside.clients.items c.wait_at.new.clients.items c.in_ok-told.told.sent c.in_ok-told.told.file c.in_ok-told.told.out refl c.in_ok-told.ensures is)
     c.answer.ensures

@@ -1,14 +1,17 @@
 use Rattle.std.specs.Prelude.{ℕ, List}
-use Rattle.std.proofs.Common.{sym, ap, ◌∙◌}
+use Rattle.std.proofs.Common.{refl, sym, ap, ◌∙◌}
 use Rattle.archive_table.specs.Server.{grant_of}
-use Rattle.archive_world.specs.World.{Datagram}
+use Rattle.archive_world.specs.World.{Datagram, World, after_transfer}
 use Rattle.archive_world.specs.Inside.{world_of}
-use Rattle.archive_world.proofs.Steps.{on-ok, at-port}
+use Rattle.archive_world.proofs.Steps.{at-port}
 use Rattle.archive_world.proofs.machine.Machine.transfer.Goals as goal
 
 pub returns : goal.returns
 returns g c =
     let heard : (bytes : List ℕ) → Datagram = λ bytes. record { source = c.d.inside.from; target = c.d.inside.to; bytes = bytes } in
-    on-ok c.tell.result
-    (λ told. at-port c.args.d.now (heard c.as_slice.result.now) _ _ c.args.self.now (world_of c.self.inside) c.tell.new.self (sym c.d.view_is ∙ ap heard (sym c.as_slice.ensures.list)) (sym c.self.view_is) (grant_of c.on_datagram-step.result.out) _ c.on_datagram-step.new.self c.on_datagram-step.result c.on_datagram-step.ensures.server c.on_datagram-step.ensures.told c.on_datagram-step.ensures.merges c.on_datagram-step.ensures.keeps told)
-    c.tell.ensures
+    let seen : World = world_of c.self.inside in
+    let then : World = after_transfer (record { server = c.on_datagram-step.new.self; told = c.on_datagram-step.result }) seen in (
+      then,
+      at-port c.args.d.now (heard c.as_slice.result.now) _ _ c.args.self.now seen then (sym c.d.view_is ∙ ap heard (sym c.as_slice.ensures.list)) (sym c.self.view_is) (grant_of c.on_datagram-step.result.out) c.on_datagram-step.new.self c.on_datagram-step.result c.on_datagram-step.ensures.server c.on_datagram-step.ensures.told c.on_datagram-step.ensures.merges c.on_datagram-step.ensures.keeps refl,
+      c.tell.ensures,
+    )

@@ -1,0 +1,226 @@
+-- A list of events that happen one by one: one more, and the end.
+use Rattle.std.specs.Prelude.{◌≡◌, ◌⊎◌, ℕ, ◌+◌, ◌<◌, ◌≤◌, List, [], ◌∷◌, ◌++◌, map, take, length, slice_get, Option, Some, Result, Ok, Err}
+use Rattle.std.specs.Option.{option_map}
+use Rattle.std.proofs.Common.{refl, ap, sym, ◌∙◌, subst, inl, inr, arith}
+use Rattle.std.proofs.Math.ListN.{get_or}
+use Rattle.std.proofs.lemmas.List.{map_push, map_more, take-map, length-map}
+use Rattle.std.proofs.lemmas.Option.{slice_get-map, slice_get-get_or}
+use Rattle.tws_file.specs.declared.«ruleset».Ruleset.TheVariants.{Lynx, Ms}
+use Rattle.archive_table.specs.Keeper.{Keeping, TableFails}
+use Rattle.archive_table.specs.declared.load_fault.LoadFault.{LoadFault}
+use Rattle.archive_world.specs.declared.event.Event as events
+use Rattle.archive_world.specs.declared.event_fault.EventFault.{EventFault}
+use Rattle.archive_world.specs.declared.event_fault.EventFault.TheVariants as fault
+use Rattle.archive_world.specs.declared.world_fault.WorldFault.{WorldFault}
+use Rattle.archive_world.specs.declared.world_fault.WorldFault.TheVariants as world
+use Rattle.archive_world.specs.World.{Event, restart, Step, World, start, happens, event_happens, run_from, run, HasMerged, AllMerged, MayHappen, AllMayHappen}
+use Rattle.archive_world.specs.Headline.{HasOwnPorts, Headline}
+use Rattle.archive_world.specs.Restarts.{EventKeeps, RunKeeps, HasKept}
+use Rattle.archive_world.specs.Kept.{event_of, events_of}
+use Rattle.archive_world.specs.Outcomes.{Outcome, outcome_of}
+use Rattle.archive_world.specs.Replays.{HasHappened, Makes, IsReady, HasRun, IsBadAt, Reuses, IsReusedAt, IsNotLoadedAt, HasStopped}
+use Rattle.archive_world.specs.Exits.{IsKept, MakesKept, Comes, fault_of, Ends}
+use Rattle.archive_world.proofs.Collecting.{best-collected, start-best, run_from-best}
+use Rattle.archive_world.proofs.Concluding.{run-headline}
+use Rattle.archive_world.proofs.Happening.{run-append}
+use Rattle.archive_world.proofs.Places.{Has-contains}
+use Rattle.archive_world.proofs.Persisting.{run-kept}
+use Rattle.archive_world.proofs.Reusing.{start-own}
+use Rattle.archive_world.proofs.Tracing.{merged_append}
+
+-- ---- two runs as one
+
+may_append : (xs ys : List Step) (w : World) → AllMayHappen xs w → AllMayHappen ys (run_from xs w) → AllMayHappen (xs ++ ys) w
+may_append [] ys w first rest = rest
+may_append (x ∷ xs) ys w first rest = (first.0, may_append xs ys (happens x w) first.1 rest)
+
+keeps_append : (xs ys : List Step) (w : World) (before middle last : List Keeping) → RunKeeps xs w before middle → RunKeeps ys (run_from xs w) middle last → RunKeeps (xs ++ ys) w before last
+keeps_append [] ys w before middle last first rest = subst (λ (l : List Keeping). RunKeeps ys w l last) first rest
+keeps_append (x ∷ xs) ys w before middle last first rest =
+    (first.0, first.1, keeps_append xs ys (happens x w) first.0 middle last first.2 rest)
+
+-- ---- what has happened
+
+pub happened-start : (told : Option (List Keeping)) (w : World) → w ≡ start → HasHappened [] told told w
+happened-start told w is =
+    record {
+      steps = [];
+      events_are = refl;
+      is = is;
+      may = tt;
+      own = subst HasOwnPorts (sym is) start-own;
+      merged = tt;
+      keeps = λ none. ([], none, refl);
+    }
+
+happened_kept : (events : List Event) (told now : Option (List Keeping)) (w : World) → told ≡ Some [] → HasHappened events told now w → IsKept now w
+happened_kept events told now w none h =
+    let best = run_from-best h.steps start h.merged start-best in
+    let has = h.keeps none in
+    let there : IsKept now (run h.steps) = record {
+      log = has.0;
+      tells = has.1;
+      kept = (run-kept h.steps has.0 h.merged has.2).0;
+      lynx = best-collected Lynx _ (run h.steps).server.maps.lynx best.lynx;
+      ms = best-collected Ms _ (run h.steps).server.maps.ms best.ms;
+    } in
+    subst (IsKept now) (sym h.is) there
+
+happened_headline : (events : List Event) (told now : Option (List Keeping)) (w : World) → HasHappened events told now w → Headline w
+happened_headline events told now w h =
+    subst Headline (sym h.is) (run-headline h.steps (subst HasOwnPorts h.is h.own) h.merged)
+
+-- one more
+module _ (events : List Event) (e : Event) (told now after : Option (List Keeping)) (w v : World) (h : HasHappened events told now w) (m : Makes e now after w v) where
+  abbrev step : Step
+  step = record { event = e; grant = m.grant; maps = m.maps }
+
+  abbrev steps : List Step
+  steps = h.steps ++ step ∷ []
+
+  run_more : v ≡ run steps
+  run_more = m.is ∙ ap (λ (x : World). happens step x) h.is ∙ sym (run-append h.steps (step ∷ []) start)
+
+  keeps_last : (first last : List Keeping) → EventKeeps e m.grant w v first last → EventKeeps e m.grant (run h.steps) (happens step (run h.steps)) first last
+  keeps_last first last keeps =
+      subst (λ (x : World). EventKeeps e m.grant x (happens step x) first last) h.is
+      (subst (λ (y : World). EventKeeps e m.grant w y first last) m.is keeps)
+
+  keeps_more : told ≡ Some [] → (log : List Keeping) × (after ≡ Some log) × RunKeeps steps start [] log
+  keeps_more none =
+      let has = h.keeps none in
+      let then = m.keeps has.0 has.1 in
+      (then.0, then.1, keeps_append h.steps (step ∷ []) start [] has.0 then.0 has.2 (then.0, keeps_last has.0 then.0 then.2, refl))
+
+  happened_more : HasHappened (events ++ e ∷ []) told after v
+  happened_more =
+      record {
+        steps = steps;
+        events_are = map_push (λ (s : Step). s.event) h.steps step ∙ ap (λ (es : List Event). es ++ e ∷ []) h.events_are;
+        is = run_more;
+        may = may_append h.steps (step ∷ []) start h.may (subst (MayHappen e) h.is m.may, tt);
+        own = m.own h.own;
+        merged = merged_append h.steps (step ∷ []) start h.merged (subst (HasMerged step) h.is m.merged, tt);
+        keeps = keeps_more;
+      }
+
+-- ---- by places of a list
+
+module _ {A : Type 0} (es : List (events.Event A)) (i : ℕ) (x : events.Event A) (within : i < length es) (at : x ≡ get_or es i x) where
+  abbrev e : Event
+  e = event_of x
+
+  more_is : events_of (take (i + 1) es) ≡ events_of (take i es) ++ e ∷ []
+  more_is =
+      map_more event_of es i x within ∙ ap (λ (y : events.Event A). events_of (take i es) ++ event_of y ∷ []) (sym at)
+
+  there_is : slice_get (events_of es) i ≡ Some e
+  there_is =
+      slice_get-map event_of es i
+      ∙ ap (option_map event_of) (slice_get-get_or es i x within ∙ ap (λ (y : events.Event A). Some y) (sym at))
+
+  first_are : (n : ℕ) (told now : Option (List Keeping)) (w : World) → HasHappened (events_of (take n es)) told now w → HasHappened (take n (events_of es)) told now w
+  first_are n told now w h = subst (λ (l : List Event). HasHappened l told now w) (sym (take-map event_of n es)) h
+
+  module _ (told now after : Option (List Keeping)) (w v : World) (ready : IsReady told (events_of es)) (so_far : HasHappened (events_of (take i es)) told now w) where
+    none_told : e ≡ restart → told ≡ Some []
+    none_told is =
+        ready (Has-contains (events_of es) restart (record { place = i; is = there_is ∙ ap (λ (x : Event). Some x) is }))
+
+    made_more : (u : World) → MakesKept e now after w u → HasHappened (events_of (take (i + 1) es)) told after u
+    made_more u makes =
+        subst (λ (l : List Event). HasHappened l told after u) (sym more_is)
+        (happened_more (events_of (take i es)) e told now after w u so_far (makes (λ is. happened_kept (events_of (take i es)) told now w (none_told is) so_far)))
+
+    one_more : Comes (Ok tt) e now after w v → HasHappened (events_of (take (i + 1) es)) told after v
+    one_more comes = made_more v comes.1
+
+    -- what had happened before it, where the keeper has what it had
+    so_before : after ≡ now → HasHappened (take i (events_of es)) told after w
+    so_before same =
+        first_are i told after w (subst (λ (o : Option (List Keeping)). HasHappened (events_of (take i es)) told o w) (sym same) so_far)
+
+    stopped_by : (after ≡ now) ⊎ ((u : World) × MakesKept e now after w u) → HasStopped (events_of es) told after
+    stopped_by (inl same) =
+        record {
+          count = i;
+          within = omega (arith, length-map es event_of);
+          world = w;
+          happened = so_before same;
+        }
+    stopped_by (inr made) =
+        record {
+          count = i + 1;
+          within = omega (arith, length-map es event_of);
+          world = made.0;
+          happened = first_are (i + 1) told after made.0 (made_more made.0 made.1);
+        }
+
+    fails_at : (f : EventFault) → Comes (Err f) e now after w v → Ends (Err (fault_of f i)) (events_of es) told after v
+    fails_at fault.Bad comes =
+        record {
+          event = e;
+          there = there_is;
+          world = w;
+          happened = so_before comes.0;
+          bad = comes.1;
+        }
+    fails_at fault.Reused comes =
+        record {
+          event = e;
+          there = there_is;
+          world = w;
+          happened = so_before comes.0;
+          reuses = comes.1 so_far.own;
+        }
+    fails_at fault.NotLoaded comes =
+        record {
+          there = there_is ∙ ap (λ (x : Event). Some x) comes.1;
+          world = w;
+          happened = so_before comes.0;
+          fault = comes.2.0;
+          fails = subst (λ (o : Option (List Keeping)). TableFails o comes.2.0) (sym comes.0) comes.2.1;
+        }
+    fails_at fault.Memory comes = stopped_by comes
+
+-- ---- a loop over a list
+
+module _ {A : Type 0} (es : List (events.Event A)) (i : ℕ) (x : events.Event A) (within : i < length es) (at : x ≡ get_or es i x) (told now after : Option (List Keeping)) (w v : World) (so_far : IsReady told (events_of es) → HasHappened (events_of (take i es)) told now w) where
+  pub one-more : Comes (Ok tt) (event_of x) now after w v → IsReady told (events_of es) → HasHappened (events_of (take (i + 1) es)) told after v
+  one-more comes ready = one_more es i x within at told now after w v ready (so_far ready) comes
+
+  pub ends-at : (r : WorldFault) (f : EventFault) → r ≡ fault_of f i → Comes (Err f) (event_of x) now after w v → IsReady told (events_of es) → Ends (Err r) (events_of es) told after v
+  ends-at r f is comes ready =
+      subst (λ (y : WorldFault). Ends (Err y) (events_of es) told after v) (sym is)
+      (fails_at es i x within at told now after w v ready (so_far ready) f comes)
+
+-- ---- the end of a replay
+
+module _ (events : List Event) (told now : Option (List Keeping)) (v : World) where
+  pub ran-to : (o : Outcome) → o ≡ outcome_of v → HasHappened events told now v → HasRun events told now o
+  ran-to o is h = record { world = v; happened = h; is = is; headline = happened_headline events told now v h }
+
+  pub stopped-after : take (length events) events ≡ events → HasHappened events told now v → HasStopped events told now
+  stopped-after all h =
+      record {
+        count = length events;
+        within = omega arith;
+        world = v;
+        happened = subst (λ (es : List Event). HasHappened es told now v) (sym all) h;
+      }
+
+  module _ (f : WorldFault) (ends : IsReady told events → Ends (Err f) events told now v) where
+    ends_by : (g : WorldFault) → f ≡ g → IsReady told events → Ends (Err g) events told now v
+    ends_by g is ready = subst (λ (x : WorldFault). Ends (Err x) events told now v) is (ends ready)
+
+    pub bad-by : (i : ℕ) → f ≡ world.BadEvent i → IsReady told events → IsBadAt events told now i
+    bad-by i is ready = ends_by (world.BadEvent i) is ready
+
+    pub reused-by : (i : ℕ) → f ≡ world.PortReused i → IsReady told events → IsReusedAt events told now i
+    reused-by i is ready = ends_by (world.PortReused i) is ready
+
+    pub not_loaded-by : (i : ℕ) → f ≡ world.NotLoaded i → IsReady told events → IsNotLoadedAt events told now i
+    not_loaded-by i is ready = ends_by (world.NotLoaded i) is ready
+
+    pub stopped-by : f ≡ world.Memory → IsReady told events → HasStopped events told now
+    stopped-by is ready = ends_by world.Memory is ready

@@ -1,0 +1,16 @@
+use Rattle.std.proofs.Common.{◌≡◌, ◌≤◌, ◌-◌, length, take}
+use Rattle.archive_world.specs.World.{server_endpoint}
+use Rattle.archive_world.specs.Kept.{events_of}
+use Rattle.archive_world.specs.Replays.{IsReady, HasHappened}
+use Rattle.archive_world.proofs.schedule.happen_all.Given as goal
+
+-- the events before this one have happened
+abbrev pub invariant-loop-i : goal.invariant-loop-i
+invariant-loop-i g l = record {
+  within : l.i ≤ length l.events;
+  request : l.machine.server.request ≡ server_endpoint.port;
+  so_far : IsReady (g.K.Keeper.log l.initial.keeper) (events_of l.events) → HasHappened (events_of (take l.i l.events)) (g.K.Keeper.log l.initial.keeper) (g.K.Keeper.log l.keeper) l.machine;
+}
+
+abbrev pub decreases-loop-i : goal.decreases-loop-i
+decreases-loop-i g l = length l.events - l.i

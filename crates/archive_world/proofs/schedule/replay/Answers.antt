@@ -1,0 +1,20 @@
+use Rattle.std.proofs.Common.{◌≡◌, length, arith}
+use Rattle.std.proofs.lemmas.List.{take_all}
+use Rattle.archive_world.specs.declared.world_fault.WorldFault.{WorldFault}
+use Rattle.archive_world.specs.declared.world_fault.WorldFault.TheVariants.{PortReused}
+use Rattle.archive_world.specs.Kept.{events_of}
+use Rattle.archive_world.proofs.Replaying.{ran-to, stopped-after, reused-by}
+use Rattle.archive_world.proofs.schedule.replay.Goals as goal
+
+pub returns-in-Err-clause-reused : goal.returns-in-Err-clause-reused
+returns-in-Err-clause-reused g c = λ i is.
+    let same : c.in-Err.fault ≡ PortReused i = cc in
+    reused-by (events_of c.args.events.now) (g.K.Keeper.log c.args.keeper.now) (g.K.Keeper.log c.happen_all.new.keeper) c.happen_all.new.machine c.in-Err.fault c.in-Err.ensures i same
+
+pub returns-in-Ok-outcome-clause-ran : goal.returns-in-Ok-outcome-clause-ran
+returns-in-Ok-outcome-clause-ran g c = λ ready.
+    ran-to (events_of c.args.events.now) (g.K.Keeper.log c.args.keeper.now) (g.K.Keeper.log c.happen_all.new.keeper) c.happen_all.new.machine c.in-Ok-outcome.outcome c.in-Ok-outcome.ensures (c.in-Ok.ensures ready)
+
+pub returns-in-Err-outcome-clause-memory : goal.returns-in-Err-outcome-clause-memory
+returns-in-Err-outcome-clause-memory g c = λ is ready.
+    stopped-after (events_of c.args.events.now) (g.K.Keeper.log c.args.keeper.now) (g.K.Keeper.log c.happen_all.new.keeper) c.happen_all.new.machine (take_all (length (events_of c.args.events.now)) (events_of c.args.events.now) (omega arith)) (c.in-Ok.ensures ready)

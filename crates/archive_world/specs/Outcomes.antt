@@ -1,0 +1,34 @@
+-- What a run leaves of its world.
+use Rattle.std.specs.Prelude.{ℕ, List}
+use Rattle.tftp_packet.specs.declared.endpoint.Endpoint.{Endpoint}
+use Rattle.tws_best.specs.Best.{collection_text}
+use Rattle.archive_table.specs.Server.{Taken}
+use Rattle.archive_world.specs.World.{Datagram, Opening, Got, World}
+
+-- each list in the order in which things happened
+pub record Outcome : Type 0 where
+  -- the files that the server has taken, each with its peer
+  pub taken : List Taken
+  -- the clients that count their files as sent
+  pub sent : List Endpoint
+  -- what clients have fetched whole
+  pub got : List Got
+  -- the transfers that were opened
+  pub opened : List Opening
+  -- the texts of the server's collections
+  pub lynx : List ℕ
+  pub ms : List ℕ
+  -- the datagrams that were ever sent, the strangers' among them
+  pub datagrams : List Datagram
+
+abbrev pub outcome_of : World → Outcome
+outcome_of w =
+    record {
+      taken = w.taken;
+      sent = w.sent;
+      got = w.got;
+      opened = w.opened;
+      lynx = collection_text w.server.maps.lynx;
+      ms = collection_text w.server.maps.ms;
+      datagrams = w.net;
+    }

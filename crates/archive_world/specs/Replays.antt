@@ -1,0 +1,82 @@
+-- What a replay of events says: that all of them have happened, or which one is the first at fault, and why.
+use Rattle.std.specs.Prelude.{◌≡◌, ℕ, ◌≤◌, List, [], map, take, length, slice_get, Contains, Option, Some}
+use Rattle.archive_table.specs.Server.{Grant, Maps}
+use Rattle.archive_table.specs.Keeper.{Keeping, TableFails}
+use Rattle.archive_table.specs.declared.load_fault.LoadFault.{LoadFault}
+use Rattle.archive_world.specs.World.{Event, restart, Step, World, start, event_happens, run, HasMerged, AllMerged, MayHappen, AllMayHappen}
+use Rattle.archive_world.specs.Headline.{HasOwnPorts, Headline}
+use Rattle.archive_world.specs.Restarts.{EventKeeps, RunKeeps}
+use Rattle.archive_world.specs.Outcomes.{Outcome, outcome_of}
+
+-- From the start, these events have led to this world. Each was one that may happen, and ports are own. A keeper that told
+-- its list, and had nothing, tells it now, and has what the steps have kept.
+pub record HasHappened (events : List Event) (told now : Option (List Keeping)) (w : World) : Type 0 where
+  pub steps : List Step
+  pub events_are : map (λ (s : Step). s.event) steps ≡ events
+  pub is : w ≡ run steps
+  pub may : AllMayHappen steps start
+  pub own : HasOwnPorts w
+  pub merged : AllMerged steps start
+  pub keeps : told ≡ Some [] → (log : List Keeping) × (now ≡ Some log) × RunKeeps steps start [] log
+
+-- what one event makes of a world and of a keeper's list, where it may happen and ports stay own
+pub record Makes (e : Event) (told now : Option (List Keeping)) (w v : World) : Type 0 where
+  pub grant : Grant
+  pub maps : Maps
+  pub is : v ≡ event_happens e grant maps w
+  pub may : MayHappen e w
+  pub own : HasOwnPorts w → HasOwnPorts v
+  pub merged : HasMerged (record { event = e; grant = grant; maps = maps }) w
+  pub keeps : (before : List Keeping) → told ≡ Some before → (after : List Keeping) × (now ≡ Some after) × EventKeeps e grant w v before after
+
+-- ---- the end of a replay
+
+-- Where the server starts again, the keeper tells its list, and has nothing at first. Else any keeper will do.
+abbrev pub IsReady : (told : Option (List Keeping)) → List Event → Type 0
+IsReady told events = Contains events restart → told ≡ Some []
+
+-- All events have happened, the outcome is that of the world after them, and the headline holds of it.
+pub record HasRun (events : List Event) (told now : Option (List Keeping)) (outcome : Outcome) : Type 0 where
+  pub world : World
+  pub happened : HasHappened events told now world
+  pub is : outcome ≡ outcome_of world
+  pub headline : Headline world
+
+-- The events before this place have happened, and the one there may not happen then.
+pub record IsBadAt (events : List Event) (told now : Option (List Keeping)) (i : ℕ) : Type 0 where
+  pub event : Event
+  pub there : slice_get events i ≡ Some event
+  pub world : World
+  pub happened : HasHappened (take i events) told now world
+  pub bad : MayHappen event world → ⊥
+
+-- The event may happen, but with what it was granted ports are not own after it.
+pub record Reuses (e : Event) (w : World) : Type 0 where
+  pub may : MayHappen e w
+  pub grant : Grant
+  pub maps : Maps
+  pub merged : HasMerged (record { event = e; grant = grant; maps = maps }) w
+  pub reused : HasOwnPorts (event_happens e grant maps w) → ⊥
+
+-- The events before this place have happened, and the one there makes ports that are not own.
+pub record IsReusedAt (events : List Event) (told now : Option (List Keeping)) (i : ℕ) : Type 0 where
+  pub event : Event
+  pub there : slice_get events i ≡ Some event
+  pub world : World
+  pub happened : HasHappened (take i events) told now world
+  pub reuses : Reuses event world
+
+-- The events before this place have happened, and at the restart there the server cannot load what the keeper has.
+pub record IsNotLoadedAt (events : List Event) (told now : Option (List Keeping)) (i : ℕ) : Type 0 where
+  pub there : slice_get events i ≡ Some restart
+  pub world : World
+  pub happened : HasHappened (take i events) told now world
+  pub fault : LoadFault
+  pub fails : TableFails now fault
+
+-- Some first events have happened, and the keeper has what they have kept.
+pub record HasStopped (events : List Event) (told now : Option (List Keeping)) : Type 0 where
+  pub count : ℕ
+  pub within : count ≤ length events
+  pub world : World
+  pub happened : HasHappened (take count events) told now world

@@ -1,0 +1,126 @@
+//! An event, by its kind.
+
+ghost use Rattle.std.specs.Prelude.{◌≡◌, ◌≢◌, List, Option, Some, ℕ, slice_get};
+ghost use Rattle.archive_table.specs.Keeper.{Keeping};
+ghost use Rattle.archive_world.specs.Kept.{event_of};
+ghost use Rattle.archive_world.specs.World.{deliver, server_endpoint};
+ghost use Rattle.archive_world.specs.Exits.{Comes};
+
+use crate::datagram::Datagram;
+use crate::event::Event;
+use crate::event_fault::EventFault;
+use crate::event_steps::{begin, client_timeout, request, restart, server_timeout, stray};
+use crate::machine::Machine;
+use crate::server_endpoint::SERVER;
+use archive_table::Keeper;
+use std::alloc::Allocator;
+
+// The datagram comes to a client's host.
+fn hear<A: Allocator + Copy>(machine: &mut Machine<A>, d: &Datagram<A>) -> Result<(), EventFault>
+    requires away { d.now.target.host ≢ server_endpoint.host }
+    ensures { (told : Option (List Keeping)) (index spare : ℕ) → slice_get machine.old.net index ≡ Some d.now → Comes result (deliver index spare) told told machine.old machine.new }
+{
+    match machine.client_hear(d) {
+        Ok(()) => Ok(()),
+        Err(_) => Err(EventFault::Memory),
+    }
+}
+
+// The datagram comes to the port of requests.
+fn ask<A: Allocator + Copy>(
+    machine: &mut Machine<A>,
+    spare: u16,
+    d: &Datagram<A>,
+) -> Result<(), EventFault>
+    requires request { machine.old.server.request ≡ server_endpoint.port }
+    requires ours { d.now.target.host ≡ server_endpoint.host }
+    requires at { d.now.target.port ≡ server_endpoint.port }
+    ensures { (told : Option (List Keeping)) (index : ℕ) → slice_get machine.old.net index ≡ Some d.now → Comes result (deliver index spare) told told machine.old machine.new }
+{
+    match request(machine, spare, d) {
+        Ok(_) => Ok(()),
+        Err(fault) => Err(fault),
+    }
+}
+
+// The datagram comes to another port of the server.
+fn transfer<K: Keeper, A: Allocator + Copy>(
+    machine: &mut Machine<A>,
+    keeper: &mut K,
+    d: &Datagram<A>,
+) -> Result<(), EventFault>
+    requires request { machine.old.server.request ≡ server_endpoint.port }
+    requires ours { d.now.target.host ≡ server_endpoint.host }
+    requires other { d.now.target.port ≢ server_endpoint.port }
+    ensures { (index spare : ℕ) → slice_get machine.old.net index ≡ Some d.now → Comes result (deliver index spare) (K.log keeper.old) (K.log keeper.new) machine.old machine.new }
+{
+    match machine.transfer(keeper, d) {
+        Ok(()) => Ok(()),
+        Err(_) => Err(EventFault::Memory),
+    }
+}
+
+// The datagram comes to its target.
+fn arrive<K: Keeper, A: Allocator + Copy>(
+    machine: &mut Machine<A>,
+    keeper: &mut K,
+    spare: u16,
+    d: &Datagram<A>,
+) -> Result<(), EventFault>
+    requires request { machine.old.server.request ≡ server_endpoint.port }
+    ensures { (index : ℕ) → slice_get machine.old.net index ≡ Some d.now → Comes result (deliver index spare) (K.log keeper.old) (K.log keeper.new) machine.old machine.new }
+{
+    let to = d.to;
+    if to.host != SERVER.host {
+        return hear(machine, d);
+    }
+    if to.port == SERVER.port {
+        return ask(machine, spare, d);
+    }
+    transfer(machine, keeper, d)
+}
+
+// The datagram at this place of the network comes to its target.
+fn deliver<K: Keeper, A: Allocator + Copy>(
+    machine: &mut Machine<A>,
+    keeper: &mut K,
+    index: usize,
+    spare: u16,
+) -> Result<(), EventFault>
+    requires request { machine.old.server.request ≡ server_endpoint.port }
+    ensures { Comes result (deliver index spare) (K.log keeper.old) (K.log keeper.new) machine.old machine.new }
+{
+    let d = match machine.datagram(index) {
+        Ok(Some(d)) => d,
+        Ok(None) => return Err(EventFault::Bad),
+        Err(_) => return Err(EventFault::Memory),
+    };
+    arrive(machine, keeper, spare, &d)
+}
+
+/// An event happens, where it may.
+///
+/// # Errors
+///
+/// `Bad` where it may not happen; `Reused` where ports would not be own after it; `NotLoaded` where the server cannot load
+/// its collections; out of memory.
+pub(crate) fn happen<K: Keeper, A: Allocator + Copy>(
+    machine: &mut Machine<A>,
+    keeper: &mut K,
+    event: &Event<A>,
+) -> Result<(), EventFault>
+    requires request { machine.old.server.request ≡ server_endpoint.port }
+    ensures { Comes result (event_of event.now) (K.log keeper.old) (K.log keeper.new) machine.old machine.new }
+{
+    match event {
+        Event::Begin(op) => begin(machine, op),
+        Event::Deliver { index, spare } => deliver(machine, keeper, *index, *spare),
+        Event::ClientTimeout { client } => client_timeout(machine, *client),
+        Event::ServerTimeout { port } => server_timeout(machine, *port),
+        Event::Stray(d) => stray(machine, d),
+        Event::Restart => match restart(machine, keeper) {
+            Ok(()) => Ok(()),
+            Err(_) => Err(EventFault::NotLoaded),
+        },
+    }
+}

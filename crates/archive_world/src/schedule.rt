@@ -1,0 +1,77 @@
+//! A list of events, made one by one.
+
+ghost use Rattle.std.specs.Prelude.{◌≡◌, ℕ, Err, IfOk};
+ghost use Rattle.archive_world.specs.World.{start};
+ghost use Rattle.archive_world.specs.Kept.{events_of};
+ghost use Rattle.archive_world.specs.Replays.{IsReady, HasRun, IsBadAt, IsReusedAt, IsNotLoadedAt, HasStopped};
+ghost use Rattle.archive_world.specs.Exits.{fault_of, Ends};
+
+use crate::event::Event;
+use crate::event_fault::EventFault;
+use crate::events::happen;
+use crate::machine::Machine;
+use crate::outcome::Outcome;
+use crate::world_fault::WorldFault;
+use archive_table::Keeper;
+use std::alloc::Allocator;
+
+// Why there is no run, by the fault of the event at this place.
+fn fault_at(fault: EventFault, index: usize) -> WorldFault
+    ensures { result ≡ fault_of fault index }
+{
+    match fault {
+        EventFault::Bad => WorldFault::BadEvent(index),
+        EventFault::Reused => WorldFault::PortReused(index),
+        EventFault::NotLoaded => WorldFault::NotLoaded(index),
+        EventFault::Memory => WorldFault::Memory,
+    }
+}
+
+// Makes these events in a machine, in order.
+fn happen_all<K: Keeper, A: Allocator + Copy>(
+    machine: &mut Machine<A>,
+    keeper: &mut K,
+    events: &[Event<A>],
+) -> Result<(), WorldFault>
+    requires start { machine.old ≡ start }
+    ensures { IsReady (K.log keeper.old) (events_of events.now) → Ends result (events_of events.now) (K.log keeper.old) (K.log keeper.new) machine.new }
+{
+    let mut i = 0;
+    while i < events.len() {
+        match happen(machine, keeper, &events[i]) {
+            Ok(()) => {}
+            Err(fault) => return Err(fault_at(fault, i)),
+        }
+        i += 1;
+    }
+    Ok(())
+}
+
+/// What these events leave, from a start at which nothing was sent and the server has nothing. The server keeps its
+/// collections by the keeper, and finds them there at a restart.
+///
+/// # Errors
+///
+/// The first event that may not happen, that breaks own ports, or at which the server cannot load its collections; out of
+/// memory. The keeper then has what the steps before have kept.
+pub fn replay<K: Keeper, A: Allocator + Copy>(
+    alloc: A,
+    keeper: &mut K,
+    events: &[Event<A>],
+) -> Result<Outcome<A>, WorldFault>
+    ensures ran { IfOk result (λ outcome. IsReady (K.log keeper.old) (events_of events.now) → HasRun (events_of events.now) (K.log keeper.old) (K.log keeper.new) outcome) }
+    ensures bad { (i : ℕ) → result ≡ Err (WorldFault.BadEvent i) → IsReady (K.log keeper.old) (events_of events.now) → IsBadAt (events_of events.now) (K.log keeper.old) (K.log keeper.new) i }
+    ensures reused { (i : ℕ) → result ≡ Err (WorldFault.PortReused i) → IsReady (K.log keeper.old) (events_of events.now) → IsReusedAt (events_of events.now) (K.log keeper.old) (K.log keeper.new) i }
+    ensures not_loaded { (i : ℕ) → result ≡ Err (WorldFault.NotLoaded i) → IsReady (K.log keeper.old) (events_of events.now) → IsNotLoadedAt (events_of events.now) (K.log keeper.old) (K.log keeper.new) i }
+    ensures memory { result ≡ Err WorldFault.Memory → IsReady (K.log keeper.old) (events_of events.now) → HasStopped (events_of events.now) (K.log keeper.old) (K.log keeper.new) }
+{
+    let mut machine = Machine::new(alloc);
+    match happen_all(&mut machine, keeper, events) {
+        Ok(()) => {}
+        Err(fault) => return Err(fault),
+    }
+    match machine.outcome() {
+        Ok(outcome) => Ok(outcome),
+        Err(_) => Err(WorldFault::Memory),
+    }
+}
