@@ -101,21 +101,22 @@ class Archive:
         self.client.kill()
 
     def puts_until_killed(self):
-        """Puts one file after another until the server is killed. The last is answered if its client did not end well."""
+        """Puts one file after another until the server is killed: the last, if it was not counted as sent."""
         self.killed = threading.Event()
         path = self.file()
         killer = threading.Thread(target=self.kill, args=(self.draw.uniform(0, LATEST),), daemon=True)
         killer.start()
-        running = None
+        running, status = None, 0
         while not running and not self.killed.is_set():
             status = self.put(path)
             if status == 0:
                 self.taken.append(path)
                 path = self.file()
             else:
-                check(f"{self.name}: a put beside a server that runs, status {status}", status == -signal.SIGKILL)
                 running = path
         killer.join()
+        # A put is sent, or its client was killed after the server was.
+        check(f"{self.name}: the last put, status {status}", status in (0, -signal.SIGKILL))
         return running
 
     def round(self):

@@ -69,13 +69,13 @@ start() {
     exit 2
 }
 
-# gives NAME STATUS OUT ERRORS WORDS: the program prints and answers so.
+# gives NAME STATUS OUT ERRORS WORDS: the program prints and answers so, within two minutes.
 gives() {
     local name=$1 want=$2 status
     printf '%s' "${3:+$3$'\n'}" >"$work/want.out"
     printf '%s' "${4:+$4$'\n'}" >"$work/want.errors"
     shift 4
-    "$program" "$@" >"$work/out" 2>"$work/errors" </dev/null
+    timeout 120 "$program" "$@" >"$work/out" 2>"$work/errors" </dev/null
     status=$?
     check "$name, status $status" [ "$status" = "$want" ]
     check "$name, output" cmp "$work/out" "$work/want.out"
