@@ -36,4 +36,8 @@ pub use tool_fault::ToolFault;
 #[cfg(test)]
 mod address_tests;
 #[cfg(test)]
+mod archive_tests;
+#[cfg(test)]
+mod test_streams;
+#[cfg(test)]
 mod tests;

@@ -1,13 +1,9 @@
 // The commands as the program runs them: what is printed, and the status.
 use super::*;
+use crate::test_streams::*;
 use std::test::Fail;
 use std::{env, fs, io, process};
 use tws_file::{FileFault, Ruleset};
-
-const SOLUTION: [u8; 28] = [
-    0x35, 0x33, 0x9B, 0x99, 0x01, 0x00, 0x00, 0x00, 0x10, 0x00, 0x00, 0x00, 0x01, 0x00, 0x42, 0x44,
-    0x48, 0x50, 0x00, 0x00, 0x00, 0x00, 0x00, 0x00, 0x64, 0x00, 0x00, 0x00,
-];
 
 // The same with two bytes of moves, the second of which begins a move that is cut.
 const CUT: [u8; 30] = [
@@ -187,26 +183,6 @@ fn words_that_ask_for_nothing(rt: HostRuntime) -> Result<(), Fail> {
     Ok(())
 }
 
-// Fails at every read and write.
-#[derive(Drop)]
-struct Broken;
-
-impl io::Read for Broken {
-    fn read(&mut self, _buf: &mut [u8]) -> io::Result<usize> {
-        Err(io::Error::from(io::ErrorKind::Other))
-    }
-}
-
-impl io::Write for Broken {
-    fn write(&mut self, _buf: &[u8]) -> io::Result<usize> {
-        Err(io::Error::from(io::ErrorKind::Other))
-    }
-
-    fn flush(&mut self) -> io::Result<()> {
-        Ok(())
-    }
-}
-
 #[test]
 fn streams_that_fail(rt: HostRuntime) -> Result<(), Fail> {
     let words = vec![in rt.alloc();
@@ -256,23 +232,6 @@ fn show_answers_its_faults(rt: HostRuntime) {
         run_show(rt.alloc(), &mut input, &mut out, false),
         Err(fault)
     );
-}
-
-// Gives a byte at each read, and ends after so many.
-#[derive(Drop)]
-struct Drops {
-    left: u32,
-}
-
-impl io::Read for Drops {
-    fn read(&mut self, buf: &mut [u8]) -> io::Result<usize> {
-        if self.left == 0 || buf.is_empty() {
-            return Ok(0);
-        }
-        self.left -= 1;
-        buf[0] = 0;
-        Ok(1)
-    }
 }
 
 #[test]
