@@ -41,13 +41,14 @@ fn run(rt: &HostRuntime, words: &[&str], input: &[u8]) -> Result<Outcome, Fail> 
     })
 }
 
+const LISTING: &str =
+    "ruleset lynx word 0000 extra 0\nlevel 1 BDHP ticks 100 flags 00 start 00 seed 0 bytes 0\nrecords 1\n";
+
 #[test]
 fn show_lists_a_file(rt: HostRuntime) -> Result<(), Fail> {
     let outcome = run(&rt, &["tws", "show"], &SOLUTION)?;
     assert_eq!(rt; outcome.status, 0);
-    let listing =
-        "ruleset lynx word 0000 extra 0\nlevel 1 BDHP ticks 100 flags 00 start 00 seed 0 bytes 0\nrecords 1\n";
-    assert_eq!(rt; outcome.out.as_slice(), listing.as_bytes());
+    assert_eq!(rt; outcome.out.as_slice(), LISTING.as_bytes());
     assert!(rt; outcome.errors.is_empty());
     Ok(())
 }
@@ -211,17 +212,41 @@ fn streams_that_fail(rt: HostRuntime) -> Result<(), Fail> {
     Ok(())
 }
 
+// Whatever is written before the writer fails is a proper prefix of the listing.
+#[test]
+fn show_to_a_writer_with_little_room(rt: HostRuntime) {
+    let listing = LISTING.as_bytes();
+    for j in 0..listing.len() {
+        let mut room = [0u8; 97];
+        let mut out = &mut room[..j];
+        let mut input = SOLUTION.as_slice();
+        assert_eq!(rt;
+            run_show(rt.alloc(), &mut input, &mut out, false),
+            Err(ToolFault::Write)
+        );
+        assert_eq!(rt; room.get(..j), listing.get(..j));
+    }
+}
+
+// The reader fails after a part of a record, and after a header that would be a file.
+#[test]
+fn an_input_that_breaks(rt: HostRuntime) {
+    for bytes in [&SOLUTION[..10], &SOLUTION[..8]] {
+        let mut out = Vec::new(rt.alloc());
+        let mut input = Breaks {
+            bytes: Some(bytes),
+            kind: io::ErrorKind::Other,
+        };
+        assert_eq!(rt;
+            run_show(rt.alloc(), &mut input, &mut out, false),
+            Err(ToolFault::Read)
+        );
+        assert!(rt; out.is_empty());
+    }
+}
+
 #[test]
 fn show_answers_its_faults(rt: HostRuntime) {
-    let mut room = [0u8; 10];
-    let mut out = room.as_mut_slice();
-    let mut input = SOLUTION.as_slice();
-    assert_eq!(rt;
-        run_show(rt.alloc(), &mut input, &mut out, false),
-        Err(ToolFault::Write)
-    );
-    assert_eq!(rt; room, *b"ruleset ly");
-
     let mut out = Vec::new(rt.alloc());
     let mut input = &SOLUTION[..9];
     let fault = ToolFault::Unreadable {
