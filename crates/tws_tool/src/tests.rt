@@ -78,8 +78,12 @@ fn pack_writes_the_fewest_bytes(rt: HostRuntime) -> Result<(), Fail> {
     assert_eq!(rt; outcome.out.get(8).copied(), Some(0x12));
     assert_eq!(rt; outcome.out.get(28..), Some([0x00, 0x61].as_slice()));
 
-    let outcome = run(&rt, &["tws", "pack"], &SOLUTION)?;
-    assert_eq!(rt; outcome.out.as_slice(), SOLUTION.as_slice());
+    // What is packed already comes back as it was.
+    for packed in [SOLUTION.as_slice(), &MOVED] {
+        let outcome = run(&rt, &["tws", "pack"], packed)?;
+        assert_eq!(rt; outcome.status, 0);
+        assert_eq!(rt; outcome.out.as_slice(), packed);
+    }
 
     let outcome = run(&rt, &["tws", "pack"], &[0x35, 0x33, 0x9B, 0x98, 2, 0, 0, 0])?;
     assert_eq!(rt; outcome.status, 3);
