@@ -90,31 +90,69 @@ fn each_call_failing(rt: HostRuntime) -> Result<(), Fail> {
     Ok(())
 }
 
-#[test]
-fn a_failing_receive(rt: HostRuntime) -> Result<(), Fail> {
+// The log of two turns of a server, of whose calls call number `n` fails.
+fn failing_wire(rt: &HostRuntime, n: u64) -> Result<MemoryWire, Fail> {
     let mut wire = put_wire(rt.alloc(), 4000)?;
-    wire.fail_at(1);
+    wire.fail_at(n);
     let mut server = Server::new(rt.alloc(), 6969);
     serve_turns(&mut wire, &mut NoKeeper, &mut server, 2);
-    let [failed, _, opened, _] = wire.log() else {
+    Ok(wire)
+}
+
+// The request comes in the second turn.
+#[test]
+fn a_failing_receive(rt: HostRuntime) -> Result<(), Fail> {
+    let wire = failing_wire(&rt, 1)?;
+    let [failed, came, opened, sent] = wire.log() else {
         return Err(Fail::new("other calls"));
     };
     assert!(rt; is_failed(failed, 6969));
+    assert!(rt; is_came(came, 6969, C1, WRQ));
     assert!(rt; is_opened(opened, Some(4000)));
+    assert!(rt; is_sent(sent, 4000, C1, ACK_0, true));
     Ok(())
 }
 
+// Where no port is opened the request is as if it had not come: nothing is sent.
 #[test]
-fn failing_sends(rt: HostRuntime) -> Result<(), Fail> {
-    let mut wire = put_wire(rt.alloc(), 4000)?;
-    wire.fail_at(3);
-    let mut server = Server::new(rt.alloc(), 6969);
-    serve_turns(&mut wire, &mut NoKeeper, &mut server, 2);
-    let [_, _, first, _, last] = wire.log() else {
+fn a_failing_open(rt: HostRuntime) -> Result<(), Fail> {
+    let wire = failing_wire(&rt, 2)?;
+    let [came, opened, quiet] = wire.log() else {
         return Err(Fail::new("other calls"));
     };
-    assert!(rt; is_sent(first, 4000, C1, ACK_0, false));
-    assert!(rt; is_sent(last, 4000, C1, ACK_1, true));
+    assert!(rt; is_came(came, 6969, C1, WRQ));
+    assert!(rt; is_opened(opened, None));
+    assert!(rt; is_quiet(quiet, 6969));
+    Ok(())
+}
+
+// The transfer is live, and its first block waits at its port.
+#[test]
+fn a_failing_receive_of_a_transfer(rt: HostRuntime) -> Result<(), Fail> {
+    let wire = failing_wire(&rt, 4)?;
+    let [came, opened, sent, failed] = wire.log() else {
+        return Err(Fail::new("other calls"));
+    };
+    assert!(rt; is_came(came, 6969, C1, WRQ));
+    assert!(rt; is_opened(opened, Some(4000)));
+    assert!(rt; is_sent(sent, 4000, C1, ACK_0, true));
+    assert!(rt; is_failed(failed, 4000));
+    Ok(())
+}
+
+// The ACK of the request, and that of the last block.
+#[test]
+fn failing_sends(rt: HostRuntime) -> Result<(), Fail> {
+    for (n, first_ok, last_ok) in [(3, false, true), (5, true, false)] {
+        let wire = failing_wire(&rt, n)?;
+        let [_, opened, first, came, last] = wire.log() else {
+            return Err(Fail::new("other calls"));
+        };
+        assert!(rt; is_opened(opened, Some(4000)));
+        assert!(rt; is_sent(first, 4000, C1, ACK_0, first_ok));
+        assert!(rt; is_came(came, 4000, C1, DATA_F1));
+        assert!(rt; is_sent(last, 4000, C1, ACK_1, last_ok));
+    }
     Ok(())
 }
 

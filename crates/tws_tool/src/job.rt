@@ -20,7 +20,7 @@ use tws_file::Ruleset;
 
 /// What the program is asked to do.
 #[derive(Drop)]
-pub(crate) enum Job {
+pub enum Job {
     /// To list the solution file on standard input.
     Show {
         /// With a line for each move.
@@ -60,7 +60,7 @@ pub(crate) enum Job {
 
 /// Why words ask for nothing.
 #[derive(Drop)]
-pub(crate) enum JobFault {
+pub enum JobFault {
     /// A usage error, or a request for help.
     Words(clap::Error),
     /// Out of memory.
@@ -260,8 +260,12 @@ fn no_command(alloc: Global) -> Result<clap::Error, JobFault>
     Ok(command.error(ErrorKind::InvalidSubcommand, "no such command")?)
 }
 
-// What the words ask for, of which the first is the program's name.
-pub(crate) fn job_of(alloc: Global, words: &[String]) -> Result<Job, JobFault>
+/// What the words ask for, of which the first is the program's name.
+///
+/// # Errors
+///
+/// `Words` where they ask for help, have a fault, or ask for nothing that there is; `Memory` where a growth was refused.
+pub fn job_of(alloc: Global, words: &[String]) -> Result<Job, JobFault>
     ensures { AnswersWords (map string_bytes words.now) result }
 {
     let found = found_in(alloc, rule_names(), words)?;

@@ -24,6 +24,7 @@ pub use address::Address;
 pub use best::run_best;
 pub use get::get_file;
 pub use input::INPUT_READS;
+pub use job::{Job, JobFault, job_of};
 pub use laws::{limit_values, words_of_commands};
 pub use limits::{PORT, TURNS};
 pub use pack::run_pack;
@@ -31,9 +32,16 @@ pub use program::run_words;
 pub use put::put_file;
 pub use serve::{serve_counted, serve_waiting};
 pub use show::run_show;
+pub use target::Target;
 pub use tool_fault::ToolFault;
 
 #[cfg(test)]
 mod address_tests;
+#[cfg(test)]
+mod archive_tests;
+#[cfg(test)]
+mod job_tests;
+#[cfg(test)]
+mod test_streams;
 #[cfg(test)]
 mod tests;

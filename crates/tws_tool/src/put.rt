@@ -6,37 +6,45 @@ ghost use Rattle.archive_turns.specs.Run.{RunsPut};
 ghost use Rattle.tws_file.specs.Text.{IsReadable};
 ghost use Rattle.tws_file.specs.Fault.{HasFault};
 ghost use Rattle.tws_tool.specs.declared.limits.TheConstants.{TURNS};
-ghost use Rattle.tws_tool.specs.Faults.{IsReadFault, ReadFails, run_fault};
+ghost use Rattle.tws_tool.specs.Faults.{IsReadFault, IsReadOut, ReadFails, run_fault};
 ghost use Rattle.tws_tool.specs.Lines.{Unless};
 ghost use Rattle.tws_tool.specs.Archiving.{IsWhole, PutFails, PutRuns, Puts};
 
+use crate::input::INPUT_READS;
 use crate::limits::TURNS;
 use crate::line::say;
 use crate::tool_fault::ToolFault;
 use archive_turns::{RunFault, Wire, run_put};
 use std::alloc::Global;
-use std::io::{ErrorKind, Read, Write};
+use std::io::{Read, Write};
 use tftp_packet::Endpoint;
 use tws_file::read_file;
 
-// All bytes of an input.
+// All bytes of an input. However much it has, it is read at most `INPUT_READS` times.
 fn read_bytes<R: Read>(alloc: Global, input: &mut R) -> Result<Vec<u8>, ToolFault>
     ensures bytes { IfOk result (λ bytes. IfSome (R.remaining input.old) (λ xs. bytes.items ≡ xs)) }
+    ensures end { OnOk result (IsAtEnd (R.remaining input.new)) }
     ensures fault { IfErr result IsReadFault }
 {
     let mut bytes = Vec::new(alloc);
-    match input.read_to_end(&mut bytes) {
-        Ok(_) => Ok(bytes),
-        Err(error) => match error.kind() {
-            ErrorKind::OutOfMemory => Err(ToolFault::Memory),
-            _ => Err(ToolFault::Read),
-        },
+    let mut piece = [0; 1 << 16];
+    for _ in 0..INPUT_READS {
+        let Ok(count) = input.read(&mut piece) else {
+            return Err(ToolFault::Read);
+        };
+        if count == 0 {
+            return Ok(bytes);
+        }
+        bytes.extend_from_slice(&piece[..count])?;
     }
+    Err(ToolFault::Read)
 }
 
 // All bytes of an input, which are a solution file's text.
 fn read_whole<R: Read>(alloc: Global, input: &mut R) -> Result<Vec<u8>, ToolFault>
     ensures whole { IfOk result (λ bytes. IsWhole (R.remaining input.old) bytes.items) }
+    ensures end { OnOk result (IsAtEnd (R.remaining input.new)) }
+    ensures unreadable { IfErr result (IsReadOut (R.remaining input.new)) }
     ensures fault { IfErr result (ReadFails 0 (R.remaining input.old)) }
 {
     let bytes = read_bytes(alloc, input)?;
@@ -51,9 +59,9 @@ fn read_whole<R: Read>(alloc: Global, input: &mut R) -> Result<Vec<u8>, ToolFaul
 ///
 /// # Errors
 ///
-/// `Read` where the reader fails, and `Unreadable` with index 0 and the fault of the bytes: then nothing is sent. `Socket`
-/// where no port was opened, and `Transfer` with the cause of the failed transfer. `Write` where the writer fails, after the
-/// file was sent. `Memory` where a growth was refused.
+/// `Read` where the reader fails or does not end within `INPUT_READS` reads, and `Unreadable` with index 0 and the fault of
+/// the bytes: then nothing is sent. `Socket` where no port was opened, and `Transfer` with the cause of the failed transfer.
+/// `Write` where the writer fails, after the file was sent. `Memory` where a growth was refused.
 pub fn put_file<R: Read, N: Wire, W: Write>(
     alloc: Global,
     input: &mut R,
@@ -61,6 +69,8 @@ pub fn put_file<R: Read, N: Wire, W: Write>(
     server: Endpoint,
     out: &mut W,
 ) -> Result<(), ToolFault>
+    ensures end { OnOk result (IsAtEnd (R.remaining input.new)) }
+    ensures unreadable { IfErr result (IsReadOut (R.remaining input.new)) }
     ensures sent { OnOk result (Puts (R.remaining input.old) server (N.log wire.old) (N.log wire.new) (W.contents out.old) (W.contents out.new)) }
     ensures fails { IfErr result (PutFails (R.remaining input.old) server (N.log wire.old) (N.log wire.new) (W.contents out.old) (W.contents out.new)) }
     // Also of a writer that does not tell what it holds.

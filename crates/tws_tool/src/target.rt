@@ -1,6 +1,6 @@
 /// What is sent to an archive, or fetched from it, and where the archive is.
 #[derive(Drop)]
-pub(crate) struct Target {
+pub struct Target {
     /// The server's address, as it was typed.
     pub address: String,
     /// The name of the file that is sent, or written.

@@ -1,13 +1,9 @@
 // The commands as the program runs them: what is printed, and the status.
 use super::*;
+use crate::test_streams::*;
 use std::test::Fail;
 use std::{env, fs, io, process};
 use tws_file::{FileFault, Ruleset};
-
-const SOLUTION: [u8; 28] = [
-    0x35, 0x33, 0x9B, 0x99, 0x01, 0x00, 0x00, 0x00, 0x10, 0x00, 0x00, 0x00, 0x01, 0x00, 0x42, 0x44,
-    0x48, 0x50, 0x00, 0x00, 0x00, 0x00, 0x00, 0x00, 0x64, 0x00, 0x00, 0x00,
-];
 
 // The same with two bytes of moves, the second of which begins a move that is cut.
 const CUT: [u8; 30] = [
@@ -45,13 +41,14 @@ fn run(rt: &HostRuntime, words: &[&str], input: &[u8]) -> Result<Outcome, Fail> 
     })
 }
 
+const LISTING: &str =
+    "ruleset lynx word 0000 extra 0\nlevel 1 BDHP ticks 100 flags 00 start 00 seed 0 bytes 0\nrecords 1\n";
+
 #[test]
 fn show_lists_a_file(rt: HostRuntime) -> Result<(), Fail> {
     let outcome = run(&rt, &["tws", "show"], &SOLUTION)?;
     assert_eq!(rt; outcome.status, 0);
-    let listing =
-        "ruleset lynx word 0000 extra 0\nlevel 1 BDHP ticks 100 flags 00 start 00 seed 0 bytes 0\nrecords 1\n";
-    assert_eq!(rt; outcome.out.as_slice(), listing.as_bytes());
+    assert_eq!(rt; outcome.out.as_slice(), LISTING.as_bytes());
     assert!(rt; outcome.errors.is_empty());
     Ok(())
 }
@@ -81,8 +78,12 @@ fn pack_writes_the_fewest_bytes(rt: HostRuntime) -> Result<(), Fail> {
     assert_eq!(rt; outcome.out.get(8).copied(), Some(0x12));
     assert_eq!(rt; outcome.out.get(28..), Some([0x00, 0x61].as_slice()));
 
-    let outcome = run(&rt, &["tws", "pack"], &SOLUTION)?;
-    assert_eq!(rt; outcome.out.as_slice(), SOLUTION.as_slice());
+    // What is packed already comes back as it was.
+    for packed in [SOLUTION.as_slice(), &MOVED] {
+        let outcome = run(&rt, &["tws", "pack"], packed)?;
+        assert_eq!(rt; outcome.status, 0);
+        assert_eq!(rt; outcome.out.as_slice(), packed);
+    }
 
     let outcome = run(&rt, &["tws", "pack"], &[0x35, 0x33, 0x9B, 0x98, 2, 0, 0, 0])?;
     assert_eq!(rt; outcome.status, 3);
@@ -187,26 +188,6 @@ fn words_that_ask_for_nothing(rt: HostRuntime) -> Result<(), Fail> {
     Ok(())
 }
 
-// Fails at every read and write.
-#[derive(Drop)]
-struct Broken;
-
-impl io::Read for Broken {
-    fn read(&mut self, _buf: &mut [u8]) -> io::Result<usize> {
-        Err(io::Error::from(io::ErrorKind::Other))
-    }
-}
-
-impl io::Write for Broken {
-    fn write(&mut self, _buf: &[u8]) -> io::Result<usize> {
-        Err(io::Error::from(io::ErrorKind::Other))
-    }
-
-    fn flush(&mut self) -> io::Result<()> {
-        Ok(())
-    }
-}
-
 #[test]
 fn streams_that_fail(rt: HostRuntime) -> Result<(), Fail> {
     let words = vec![in rt.alloc();
@@ -235,17 +216,41 @@ fn streams_that_fail(rt: HostRuntime) -> Result<(), Fail> {
     Ok(())
 }
 
+// Whatever is written before the writer fails is a proper prefix of the listing.
+#[test]
+fn show_to_a_writer_with_little_room(rt: HostRuntime) {
+    let listing = LISTING.as_bytes();
+    for j in 0..listing.len() {
+        let mut room = [0u8; 97];
+        let mut out = &mut room[..j];
+        let mut input = SOLUTION.as_slice();
+        assert_eq!(rt;
+            run_show(rt.alloc(), &mut input, &mut out, false),
+            Err(ToolFault::Write)
+        );
+        assert_eq!(rt; room.get(..j), listing.get(..j));
+    }
+}
+
+// The reader fails after a part of a record, and after a header that would be a file.
+#[test]
+fn an_input_that_breaks(rt: HostRuntime) {
+    for bytes in [&SOLUTION[..10], &SOLUTION[..8]] {
+        let mut out = Vec::new(rt.alloc());
+        let mut input = Breaks {
+            bytes: Some(bytes),
+            kind: io::ErrorKind::Other,
+        };
+        assert_eq!(rt;
+            run_show(rt.alloc(), &mut input, &mut out, false),
+            Err(ToolFault::Read)
+        );
+        assert!(rt; out.is_empty());
+    }
+}
+
 #[test]
 fn show_answers_its_faults(rt: HostRuntime) {
-    let mut room = [0u8; 10];
-    let mut out = room.as_mut_slice();
-    let mut input = SOLUTION.as_slice();
-    assert_eq!(rt;
-        run_show(rt.alloc(), &mut input, &mut out, false),
-        Err(ToolFault::Write)
-    );
-    assert_eq!(rt; room, *b"ruleset ly");
-
     let mut out = Vec::new(rt.alloc());
     let mut input = &SOLUTION[..9];
     let fault = ToolFault::Unreadable {
@@ -256,23 +261,6 @@ fn show_answers_its_faults(rt: HostRuntime) {
         run_show(rt.alloc(), &mut input, &mut out, false),
         Err(fault)
     );
-}
-
-// Gives a byte at each read, and ends after so many.
-#[derive(Drop)]
-struct Drops {
-    left: u32,
-}
-
-impl io::Read for Drops {
-    fn read(&mut self, buf: &mut [u8]) -> io::Result<usize> {
-        if self.left == 0 || buf.is_empty() {
-            return Ok(0);
-        }
-        self.left -= 1;
-        buf[0] = 0;
-        Ok(1)
-    }
 }
 
 #[test]

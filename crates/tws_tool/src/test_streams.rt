@@ -1,0 +1,64 @@
+// Inputs and outputs for the tests, and a file of one solution.
+use std::io;
+
+// Level 1, BDHP, 100 ticks, no moves, by the rules of Lynx.
+pub(crate) const SOLUTION: [u8; 28] = [
+    0x35, 0x33, 0x9B, 0x99, 0x01, 0x00, 0x00, 0x00, 0x10, 0x00, 0x00, 0x00, 0x01, 0x00, 0x42, 0x44,
+    0x48, 0x50, 0x00, 0x00, 0x00, 0x00, 0x00, 0x00, 0x64, 0x00, 0x00, 0x00,
+];
+
+// Fails at every read and write.
+#[derive(Drop)]
+pub(crate) struct Broken;
+
+impl io::Read for Broken {
+    fn read(&mut self, _buf: &mut [u8]) -> io::Result<usize> {
+        Err(io::Error::from(io::ErrorKind::Other))
+    }
+}
+
+impl io::Write for Broken {
+    fn write(&mut self, _buf: &[u8]) -> io::Result<usize> {
+        Err(io::Error::from(io::ErrorKind::Other))
+    }
+
+    fn flush(&mut self) -> io::Result<()> {
+        Ok(())
+    }
+}
+
+// Gives a byte at each read, and ends after so many.
+#[derive(Drop)]
+pub(crate) struct Drops {
+    pub(crate) left: u32,
+}
+
+impl io::Read for Drops {
+    fn read(&mut self, buf: &mut [u8]) -> io::Result<usize> {
+        if self.left == 0 || buf.is_empty() {
+            return Ok(0);
+        }
+        self.left -= 1;
+        buf[0] = 0;
+        Ok(1)
+    }
+}
+
+// Gives these bytes at the first read, and fails at the next.
+#[derive(Drop)]
+pub(crate) struct Breaks<'a> {
+    pub(crate) bytes: Option<&'a [u8]>,
+    pub(crate) kind: io::ErrorKind,
+}
+
+impl io::Read for Breaks<'_> {
+    fn read(&mut self, buf: &mut [u8]) -> io::Result<usize> {
+        match self.bytes.take() {
+            Some(bytes) => {
+                let mut bytes = bytes;
+                bytes.read(buf)
+            }
+            None => Err(io::Error::from(self.kind)),
+        }
+    }
+}
