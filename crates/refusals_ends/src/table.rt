@@ -1,7 +1,8 @@
-// The server's table: a request, and the block that completes a file, each growth refused in turn.
-use archive_table::{NoKeeper, Step, Table};
+// The server's table: a request, the block that completes a file, a keeper, and a start, each growth refused in turn.
+use archive_table::{KeepFault, Keeper, LoadFault, MemoryKeeper, NoKeeper, Step, Table};
 use refusing::{Outcome, Refusing, refuse_each};
 use std::alloc::{Allocator, Global};
+use std::cell::Cell;
 use std::test::Fail;
 use tftp_packet::{Endpoint, Out};
 use tws_file::Ruleset;
@@ -24,7 +25,16 @@ const TO_READ: &[u8] = b"\0\x01lynx.tws\0octet\0";
 
 const OUT_OF_MEMORY: &[u8] = b"\0\x05\0\x03out of memory\0";
 
-// A Lynx file in one block: level 1, BDHP, 100 ticks, no moves.
+const NOT_KEPT: &[u8] = b"\0\x05\0\0not kept\0";
+
+const EMPTY_LYNX: &[u8] = b"\x35\x33\x9B\x99\x01\0\0\0";
+
+const EMPTY_MS: &[u8] = b"\x35\x33\x9B\x99\x02\0\0\0";
+
+// A Lynx file: level 1, BDHP, 100 ticks, no moves. As a collection it has the same text.
+const FILE: &[u8] = b"\x35\x33\x9B\x99\x01\0\0\0\x10\0\0\0\x01\0BDHP\0\0\0\0\0\0\x64\0\0\0";
+
+// The first and only block of it.
 const FILE_DATA: &[u8; 32] =
     b"\0\x03\0\x01\x35\x33\x9B\x99\x01\0\0\0\x10\0\0\0\x01\0BDHP\0\0\0\0\0\0\x64\0\0\0";
 
@@ -137,4 +147,239 @@ fn take_one(refusing: &Refusing<Global>) -> Outcome {
 fn the_last_block(rt: HostRuntime) -> Result<(), Fail> {
     let global = rt.alloc();
     Ok(refuse_each(global, 2, &|refusing: &Refusing<Global>| take_one(refusing))?)
+}
+
+// Whether the collections of a table have this text and that of none.
+fn has_texts<A: Allocator + Copy>(global: Global, table: &Table<A>, lynx: &[u8]) -> bool {
+    let mut text = Vec::new(global);
+    let mut other = Vec::new(global);
+    table
+        .collection(Ruleset::Lynx)
+        .write_text(&mut text)
+        .is_ok()
+        && table.collection(Ruleset::Ms).write_text(&mut other).is_ok()
+        && text.as_slice() == lynx
+        && other.as_slice() == EMPTY_MS
+}
+
+// Whether a request to read is answered with the file in one block, from a new transfer at port 4001.
+fn is_served<A: Allocator + Copy>(table: &Table<A>, step: &Step<A>) -> bool {
+    step.opened && goes(&step.out, 4001, SECOND, FILE_DATA) && table.live() == 2
+}
+
+// Whether a request to read is refused for memory, with no transfer opened.
+fn is_turned_down<A: Allocator + Copy>(table: &Table<A>, step: &Step<A>) -> bool {
+    !step.opened
+        && goes(&step.out, REQUEST, SECOND, OUT_OF_MEMORY)
+        && table.live() == 1
+        && !table.is_live(4001)
+}
+
+// Asks for the collection, which is the file. A request that was refused is served where it comes again.
+fn read_file<A: Allocator + Copy>(
+    global: Global,
+    table: &mut Table<A>,
+    refused: &Cell<u64>,
+) -> Outcome {
+    let Some(step) = ask(table, 4001, SECOND, TO_READ) else {
+        return Outcome::Wrong;
+    };
+    if step.opened {
+        return Outcome::of(is_served(table, &step) && has_texts(global, table, FILE));
+    }
+    refused.set(refused.get().saturating_add(1));
+    let is_as_before = is_turned_down(table, &step) && has_texts(global, table, FILE);
+    let Some(again) = ask(table, 4001, SECOND, TO_READ) else {
+        return Outcome::Wrong;
+    };
+    Outcome::refused(is_as_before && is_served(table, &again))
+}
+
+fn read_one(global: Global, refusing: &Refusing<Global>, refused: &Cell<u64>) -> Outcome {
+    let mut table = Table::new(refusing, REQUEST);
+    if let Err(outcome) = open(&mut table, 4000, FIRST, TO_WRITE) {
+        return outcome;
+    }
+    let step = table.on_datagram(&mut NoKeeper, 4000, FIRST, FILE_DATA);
+    if step.taken.is_none() {
+        return Outcome::refused(is_let_go(&table, &step));
+    }
+    read_file(global, &mut table, refused)
+}
+
+// The collection is not empty, so that what a reader is to be sent takes memory.
+#[test]
+fn reading_what_was_taken(rt: HostRuntime) -> Result<(), Fail> {
+    let global = rt.alloc();
+    let refused = Cell::new(0);
+    refuse_each(
+        global,
+        3,
+        &|refusing: &Refusing<Global>| read_one(global, refusing, &refused),
+    )?;
+    assert!(rt; refused.get() >= 1);
+    Ok(())
+}
+
+// Whether a keeper has this text of Lynx, which was kept, and no other.
+fn has_one<A: Allocator + Copy>(keeper: &MemoryKeeper<A>, text: &[u8]) -> bool {
+    match keeper.kept() {
+        [one] => one.kind == Ruleset::Lynx && one.ok && one.text.as_slice() == text,
+        _ => false,
+    }
+}
+
+// Whether a server that starts with what a keeper has has this text.
+fn starts_with<A: Allocator + Copy>(
+    global: Global,
+    keeper: &mut MemoryKeeper<A>,
+    lynx: &[u8],
+) -> bool {
+    match Table::load(global, REQUEST, keeper) {
+        Ok(table) => table.live() == 0 && has_texts(global, &table, lynx),
+        Err(_fault) => false,
+    }
+}
+
+// Whether the last block is acknowledged, and its file has joined the collection and was kept once.
+fn is_taken<A: Allocator + Copy>(
+    global: Global,
+    table: &Table<A>,
+    keeper: &MemoryKeeper<A>,
+    step: &Step<A>,
+) -> bool {
+    goes(&step.out, 4000, FIRST, b"\0\x04\0\x01")
+        && !step.closed
+        && has_texts(global, table, FILE)
+        && has_one(keeper, FILE)
+}
+
+// Whether the last block has closed its transfer, with nothing taken, joined or kept. Counts an answer `not kept`.
+fn is_given_up<A: Allocator + Copy>(
+    global: Global,
+    table: &Table<A>,
+    keeper: &MemoryKeeper<A>,
+    step: &Step<A>,
+    not_kept: &Cell<u64>,
+) -> bool {
+    if goes(&step.out, 4000, FIRST, NOT_KEPT) {
+        not_kept.set(not_kept.get().saturating_add(1));
+    } else if !goes(&step.out, 4000, FIRST, OUT_OF_MEMORY) {
+        return false;
+    }
+    step.closed
+        && table.live() == 0
+        && has_texts(global, table, EMPTY_LYNX)
+        && keeper.kept().is_empty()
+}
+
+fn keep_one(global: Global, refusing: &Refusing<Global>, not_kept: &Cell<u64>) -> Outcome {
+    let mut table = Table::new(refusing, REQUEST);
+    let mut keeper = MemoryKeeper::new(refusing);
+    if let Err(outcome) = open(&mut table, 4000, FIRST, TO_WRITE) {
+        return outcome;
+    }
+    let step = table.on_datagram(&mut keeper, 4000, FIRST, FILE_DATA);
+    if step.taken.is_some() {
+        let is_right = is_taken(global, &table, &keeper, &step);
+        return Outcome::of(is_right && starts_with(global, &mut keeper, FILE));
+    }
+    let is_as_before = is_given_up(global, &table, &keeper, &step, not_kept);
+    Outcome::refused(is_as_before && starts_with(global, &mut keeper, EMPTY_LYNX))
+}
+
+// The block that completes a file, where the keeper takes its memory from the same place: the file is taken and kept, or
+// neither. What a server finds that starts again is what was taken.
+#[test]
+fn the_last_block_kept(rt: HostRuntime) -> Result<(), Fail> {
+    let global = rt.alloc();
+    let not_kept = Cell::new(0);
+    refuse_each(
+        global,
+        4,
+        &|refusing: &Refusing<Global>| keep_one(global, refusing, &not_kept),
+    )?;
+    assert!(rt; not_kept.get() >= 2);
+    Ok(())
+}
+
+// Whether a start with what a keeper has is refused for memory. Counts a refusal in the keeper.
+fn is_refused(fault: LoadFault, in_keeper: &Cell<u64>) -> bool {
+    match fault {
+        LoadFault::Memory => true,
+        LoadFault::Keep(KeepFault::Memory) => {
+            in_keeper.set(in_keeper.get().saturating_add(1));
+            true
+        }
+        _ => false,
+    }
+}
+
+fn load_one(global: Global, refusing: &Refusing<Global>, in_keeper: &Cell<u64>) -> Outcome {
+    let Ok(text) = Vec::from_slice(global, FILE) else {
+        return Outcome::Wrong;
+    };
+    let Ok(mut keeper) = MemoryKeeper::with(global, Some(text), None) else {
+        return Outcome::Wrong;
+    };
+    match Table::load(refusing, REQUEST, &mut keeper) {
+        Ok(table) => Outcome::of(has_texts(global, &table, FILE) && has_one(&keeper, FILE)),
+        Err(fault) => {
+            let is_as_before = is_refused(fault, in_keeper) && has_one(&keeper, FILE);
+            Outcome::refused(is_as_before && starts_with(global, &mut keeper, FILE))
+        }
+    }
+}
+
+// A start with one file, which the keeper copies before it is read.
+#[test]
+fn starting(rt: HostRuntime) -> Result<(), Fail> {
+    let global = rt.alloc();
+    let in_keeper = Cell::new(0);
+    refuse_each(
+        global,
+        2,
+        &|refusing: &Refusing<Global>| load_one(global, refusing, &in_keeper),
+    )?;
+    assert_eq!(rt; in_keeper.get(), 1);
+    Ok(())
+}
+
+// Whether a keeper has the file for Lynx and the text of none for MS, both kept.
+fn has_both<A: Allocator + Copy>(keeper: &MemoryKeeper<A>) -> bool {
+    match keeper.kept() {
+        [lynx, ms] => {
+            lynx.kind == Ruleset::Lynx
+                && lynx.ok
+                && lynx.text.as_slice() == FILE
+                && ms.kind == Ruleset::Ms
+                && ms.ok
+                && ms.text.as_slice() == EMPTY_MS
+        }
+        _ => false,
+    }
+}
+
+fn make_keeper(refusing: &Refusing<Global>) -> Outcome {
+    let Ok(lynx) = Vec::from_slice(refusing, FILE) else {
+        return Outcome::OutOfMemory;
+    };
+    let Ok(ms) = Vec::from_slice(refusing, EMPTY_MS) else {
+        return Outcome::OutOfMemory;
+    };
+    match MemoryKeeper::with(refusing, Some(lynx), Some(ms)) {
+        Ok(keeper) => Outcome::of(has_both(&keeper) && keeper.failures() == 0),
+        Err(_) => Outcome::OutOfMemory,
+    }
+}
+
+// Two texts, and the list of them.
+#[test]
+fn a_keeper_with_texts(rt: HostRuntime) -> Result<(), Fail> {
+    let global = rt.alloc();
+    Ok(refuse_each(
+        global,
+        3,
+        &|refusing: &Refusing<Global>| make_keeper(refusing),
+    )?)
 }
