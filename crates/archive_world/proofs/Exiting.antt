@@ -1,5 +1,5 @@
 -- What each event makes, from what its call has answered.
-use Rattle.std.specs.Prelude.{◌≡◌, ◌≢◌, ◌⊎◌, ℕ, Bool, true, false, ◌==◌, List, [], ◌∷◌, ◌++◌, length, slice_get, Option, None, Some, Result, Ok, Err, OnOk, OnErr, IfOk, IfErr}
+use Rattle.std.specs.Prelude.{◌≡◌, ◌≢◌, ℕ, Bool, true, false, ◌==◌, List, [], ◌∷◌, ◌++◌, length, slice_get, Option, None, Some, Result, Ok, Err, OnOk, IfErr}
 use Rattle.std.proofs.Common.{refl, ap, sym, ◌∙◌, subst, inl, inr}
 use Rattle.std.proofs.lemmas.Bool.{eq-eqb, ne_eqb, true≢false}
 use Rattle.tftp_packet.specs.declared.endpoint.Endpoint.{Endpoint}
@@ -8,12 +8,11 @@ use Rattle.archive_table.specs.Server.{Maps, Taken, Grant, all, no_memory, unkep
 use Rattle.archive_table.specs.Server as table
 use Rattle.tftp_ends.specs.Ends.{Verdict, granted}
 use Rattle.tws_file.specs.declared.«ruleset».Ruleset.{Ruleset}
-use Rattle.archive_table.specs.Keeper.{Keeping, TableFails, KeepsOne, KeepsMaps, FailsKeep, FailsKeepOf, StepKeeps}
-use Rattle.archive_table.specs.declared.load_fault.LoadFault.{LoadFault}
+use Rattle.archive_table.specs.Keeper.{Keeping, KeepsOne, KeepsMaps, FailsKeep, FailsKeepOf, StepKeeps}
 use Rattle.archive_table.proofs.SamePort.{request_same, datagram_same, timeout_same}
 use Rattle.archive_world.specs.declared.event_fault.EventFault.{EventFault}
 use Rattle.archive_world.specs.declared.event_fault.EventFault.TheVariants as fault
-use Rattle.archive_world.specs.World.{Event, begin, deliver, client_times_out, server_times_out, stray, restart, World, Datagram, Opening, Step, server_endpoint, empty_maps, has_begun, is_too_long, client_at, begins, begins_unless, client_hears, client_waits, strays_in, strays_unless, restarts, opened_with, taken_with, asked_of, after_request, event_happens, HasMerged, IsFree, MayDeliver, MayHappen}
+use Rattle.archive_world.specs.World.{Event, begin, deliver, client_times_out, server_times_out, stray, restart, World, Datagram, Opening, server_endpoint, empty_maps, has_begun, is_too_long, client_at, begins_unless, client_hears, client_waits, strays_unless, restarts, opened_with, taken_with, asked_of, after_request, event_happens, HasMerged, IsFree, MayDeliver, MayHappen}
 use Rattle.archive_world.specs.Headline.{OwnPorts, HasOwnPorts}
 use Rattle.archive_world.specs.Reuse.{IsUnused, was_opened}
 use Rattle.archive_world.specs.Restarts.{HasKept, EventKeeps, wanted_at, wanted_of, wanted_by}
@@ -21,7 +20,7 @@ use Rattle.archive_world.specs.Traces.{server_comes, comes}
 use Rattle.archive_world.specs.Inside.{HearsAtPort}
 use Rattle.tws_best.specs.Best.{Collected, IsCollected}
 use Rattle.archive_world.specs.Replays.{Makes, Reuses}
-use Rattle.archive_world.specs.Exits.{IsKept, MakesKept, Comes}
+use Rattle.archive_world.specs.Exits.{Comes}
 use Rattle.archive_world.proofs.Remaining.{Remain, begins_remain, client_remains, request_remains, waits_remain, strays_remain, timeout_leaves}
 use Rattle.archive_world.proofs.Reusing.{begin-keeps_own, opening-keeps_own, stray-keeps_own}
 use Rattle.archive_world.proofs.Endpoints.{endpoint_is}

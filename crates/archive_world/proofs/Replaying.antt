@@ -1,5 +1,5 @@
 -- A list of events that happen one by one: one more, and the end.
-use Rattle.std.specs.Prelude.{◌≡◌, ◌⊎◌, ℕ, ◌+◌, ◌<◌, ◌≤◌, List, [], ◌∷◌, ◌++◌, map, take, length, slice_get, Option, Some, Result, Ok, Err}
+use Rattle.std.specs.Prelude.{◌≡◌, ◌⊎◌, ℕ, ◌+◌, ◌<◌, List, [], ◌∷◌, ◌++◌, take, length, slice_get, Option, Some, Ok, Err}
 use Rattle.std.specs.Option.{option_map}
 use Rattle.std.proofs.Common.{refl, ap, sym, ◌∙◌, subst, inl, inr, arith}
 use Rattle.std.proofs.Math.ListN.{get_or}
@@ -7,18 +7,17 @@ use Rattle.std.proofs.lemmas.List.{map_push, map_more, take-map, length-map}
 use Rattle.std.proofs.lemmas.Option.{slice_get-map, slice_get-get_or}
 use Rattle.tws_file.specs.declared.«ruleset».Ruleset.TheVariants.{Lynx, Ms}
 use Rattle.archive_table.specs.Keeper.{Keeping, TableFails}
-use Rattle.archive_table.specs.declared.load_fault.LoadFault.{LoadFault}
 use Rattle.archive_world.specs.declared.event.Event as events
 use Rattle.archive_world.specs.declared.event_fault.EventFault.{EventFault}
 use Rattle.archive_world.specs.declared.event_fault.EventFault.TheVariants as fault
 use Rattle.archive_world.specs.declared.world_fault.WorldFault.{WorldFault}
 use Rattle.archive_world.specs.declared.world_fault.WorldFault.TheVariants as world
-use Rattle.archive_world.specs.World.{Event, restart, Step, World, start, happens, event_happens, run_from, run, HasMerged, AllMerged, MayHappen, AllMayHappen}
+use Rattle.archive_world.specs.World.{Event, restart, Step, World, start, happens, run_from, run, HasMerged, MayHappen, AllMayHappen}
 use Rattle.archive_world.specs.Headline.{HasOwnPorts, Headline}
-use Rattle.archive_world.specs.Restarts.{EventKeeps, RunKeeps, HasKept}
+use Rattle.archive_world.specs.Restarts.{EventKeeps, RunKeeps}
 use Rattle.archive_world.specs.Kept.{event_of, events_of}
 use Rattle.archive_world.specs.Outcomes.{Outcome, outcome_of}
-use Rattle.archive_world.specs.Replays.{HasHappened, Makes, IsReady, HasRun, IsBadAt, Reuses, IsReusedAt, IsNotLoadedAt, HasStopped}
+use Rattle.archive_world.specs.Replays.{HasHappened, Makes, IsReady, HasRun, IsBadAt, IsReusedAt, IsNotLoadedAt, HasStopped}
 use Rattle.archive_world.specs.Exits.{IsKept, MakesKept, Comes, fault_of, Ends}
 use Rattle.archive_world.proofs.Collecting.{best-collected, start-best, run_from-best}
 use Rattle.archive_world.proofs.Concluding.{run-headline}

@@ -1,4 +1,4 @@
-use Rattle.std.specs.Prelude.{◌≡◌, Ok}
+use Rattle.std.specs.Prelude.{Ok}
 use Rattle.std.proofs.Common.{ap}
 use Rattle.archive_world.specs.Kept.{event_of, operation_of}
 use Rattle.archive_world.specs.World.{begin, client_times_out, server_times_out, stray, restart}

@@ -1,6 +1,5 @@
 use Rattle.std.proofs.Common.{◌≡◌, length, arith}
 use Rattle.std.proofs.lemmas.List.{take_all}
-use Rattle.archive_world.specs.declared.world_fault.WorldFault.{WorldFault}
 use Rattle.archive_world.specs.declared.world_fault.WorldFault.TheVariants.{PortReused}
 use Rattle.archive_world.specs.Kept.{events_of}
 use Rattle.archive_world.proofs.Replaying.{ran-to, stopped-after, reused-by}
