@@ -1,11 +1,12 @@
 // What comes to a transfer's port.
-use crate::NoKeeper;
 use crate::tests::archive::{
     Archive, Input, client, closes, ends, first_other, has_texts, is_live, is_step, nothing, opens,
     sends, takes,
 };
+use crate::{NoKeeper, Step};
 use std::alloc::Global;
 use std::test::Fail;
+use tws_file::Ruleset;
 
 const WRQ: &[u8; 19] = b"\0\x02upload.tws\0octet\0";
 
@@ -36,6 +37,10 @@ const STRAY: &[u8; 21] = b"\0\x05\0\x05unknown transfer\0";
 const TOO_LONG: &[u8; 24] = b"\0\x05\0\0collection too long\0";
 
 const FILE_TOO_LONG: &[u8; 18] = b"\0\x05\0\x03file too long\0";
+
+// How DATA 1 of a Lynx file begins whose solution has password AAAA. The record's size and its level are not yet in it.
+const LONG_HEADER: &[u8; 32] =
+    b"\0\x03\0\x01\x35\x33\x9B\x99\x01\0\0\0\0\0\0\0\0\0AAAA\0\0\0\0\0\0\0\0\0\0";
 
 // One request to write that came twice opens two transfers. The client ends the one that it is not bound to; by the other
 // its file is taken once, though its last block comes twice.
@@ -222,31 +227,29 @@ fn the_greatest_file(rt: HostRuntime) -> Result<(), Fail> {
     Ok(())
 }
 
-// A file comes with one solution of this level, which has 17,000,000 moves of one byte: 33,204 blocks.
-fn long_file(archive: &mut Archive, port: u16, level: u8) -> Result<bool, Fail> {
-    archive.ask(port, client(u32::from(level)), WRQ)?;
-    let header =
-        b"\0\x03\0\x01\x35\x33\x9B\x99\x01\0\0\0\x50\x66\x03\x01\0\0AAAA\0\0\0\0\0\0\0\0\0\0";
+// A file of so many bytes comes: one solution of this level, whose moves have one byte each.
+fn long_file(archive: &mut Archive, port: u16, level: u8, size: u32) -> Result<bool, Fail> {
+    let host = client(u32::from(level));
+    archive.ask(port, host, WRQ)?;
     let mut data = [1; 516];
-    data[..32].copy_from_slice(header);
+    data[..32].copy_from_slice(LONG_HEADER);
+    data[12..16].copy_from_slice(&size.wrapping_sub(12).to_le_bytes());
     data[16] = level;
-    for n in 1..33204_u16 {
-        let number = n.to_be_bytes();
-        data[2] = number[0];
-        data[3] = number[1];
-        let step = archive.hear(&mut NoKeeper, port, client(u32::from(level)), &data);
+    let whole_blocks = (size / 512 % 65536) as u16;
+    for n in 0..whole_blocks {
+        data[2..4].copy_from_slice(&n.wrapping_add(1).to_be_bytes());
+        let step = archive.hear(&mut NoKeeper, port, host, &data);
         if step.out.is_none() || step.closed {
             return Ok(false);
         }
         data = [1; 516];
-        data[0] = 0;
-        data[1] = 3;
+        data[..2].copy_from_slice(b"\0\x03");
     }
-    let mut last = [1; 96];
-    last[..4].copy_from_slice(b"\0\x03\x81\xB4");
-    let step = archive.hear(&mut NoKeeper, port, client(u32::from(level)), &last);
+    data[2..4].copy_from_slice(&whole_blocks.wrapping_add(1).to_be_bytes());
+    let rest = (size % 512) as usize;
+    let step = archive.hear(&mut NoKeeper, port, host, &data[..4 + rest]);
     match step.taken {
-        Some(taken) => Ok(taken.file.len() == 17_000_028),
+        Some(taken) => Ok(taken.file.len() == u64::from(size)),
         None => Ok(false),
     }
 }
@@ -255,8 +258,8 @@ fn long_file(archive: &mut Archive, port: u16, level: u8) -> Result<bool, Fail> 
 #[test]
 fn a_collection_too_long(rt: HostRuntime) -> Result<(), Fail> {
     let mut archive = Archive::new(rt.alloc());
-    assert!(rt; long_file(&mut archive, 4000, 1)?);
-    assert!(rt; long_file(&mut archive, 4002, 2)?);
+    assert!(rt; long_file(&mut archive, 4000, 1, 17_000_028)?);
+    assert!(rt; long_file(&mut archive, 4002, 2, 17_000_028)?);
     let empty = b"\0\x03\0\x01\x35\x33\x9B\x99\x02\0\0\0";
     let rows = [
         (Input::Ask(4003, 9, RRQ), sends(6969, client(9), TOO_LONG)),
@@ -270,5 +273,49 @@ fn a_collection_too_long(rt: HostRuntime) -> Result<(), Fail> {
         None
     );
     assert!(rt; is_live(&archive, 3, Some(4000)));
+    Ok(())
+}
+
+// Whether a step sends this DATA and leaves its transfer open.
+fn is_block(step: &Step, number: [u8; 2], body: &[u8]) -> bool {
+    match &step.out {
+        Some(out) => {
+            let bytes = out.dgram.bytes();
+            !step.closed
+                && bytes.len() == body.len().wrapping_add(4)
+                && bytes.starts_with(&[0, 3, number[0], number[1]])
+                && bytes.ends_with(body)
+        }
+        None => false,
+    }
+}
+
+// Whether a transfer that began with this step sends this text block by block, each by the ACK of the one before it, and
+// ends with the last ACK.
+fn is_served(archive: &mut Archive, port: u16, first: Step, text: &[u8]) -> bool {
+    let mut step = first;
+    for (i, body) in text.chunks(512).enumerate() {
+        let number = ((i % 65536) as u16).wrapping_add(1).to_be_bytes();
+        if !is_block(&step, number, body) {
+            return false;
+        }
+        let ack = [0, 4, number[0], number[1]];
+        step = archive.hear(&mut NoKeeper, port, client(9), &ack);
+    }
+    step.closed && step.out.is_none()
+}
+
+// Two files whose collection is long, and is sent: 4,200,048 bytes, in 8,204 blocks.
+#[test]
+fn a_long_collection(rt: HostRuntime) -> Result<(), Fail> {
+    let mut archive = Archive::new(rt.alloc());
+    assert!(rt; long_file(&mut archive, 4000, 1, 2_100_028)?);
+    assert!(rt; long_file(&mut archive, 4002, 2, 2_100_028)?);
+    let text = archive.text(rt.alloc(), Ruleset::Lynx)?;
+    assert_eq!(rt; text.len(), 4_200_048);
+    let first = archive.ask(4003, client(9), RRQ)?;
+    assert!(rt; first.opened);
+    assert!(rt; is_served(&mut archive, 4003, first, &text));
+    assert!(rt; is_live(&archive, 2, Some(4000)));
     Ok(())
 }
