@@ -143,13 +143,18 @@ fn puts_that_fail(rt: HostRuntime) -> Result<(), Fail> {
     Ok(())
 }
 
-// A readable file of one byte more than 65535 blocks hold: a header and one record of the level set's name. It is read, and
-// nothing of it goes out.
+// A readable file: a header, and one record of the level set's name, which has this many bytes.
+fn named(rt: &HostRuntime, size: u32) -> Result<Vec<u8>, Fail> {
+    let mut bytes = Vec::from_slice(rt.alloc(), b"\x35\x33\x9B\x99\x01\0\0\0")?;
+    bytes.extend_from_slice(&size.to_le_bytes())?;
+    bytes.extend_from_slice(&vec![in rt.alloc(); 0; size as usize]?)?;
+    Ok(bytes)
+}
+
+// The file has one byte more than 65535 blocks hold. It is read, and nothing of it goes out.
 #[test]
 fn a_put_that_is_too_long(rt: HostRuntime) -> Result<(), Fail> {
-    let mut bytes = vec![in rt.alloc(); 0u8; 33_553_920]?;
-    bytes[..8].copy_from_slice(&SOLUTION[..8]);
-    bytes[8..12].copy_from_slice(&33_553_908u32.to_le_bytes());
+    let bytes = named(&rt, 33_553_908)?;
     let mut wire = answered(&rt, &[])?;
     let too_long = ToolFault::Transfer(Cause::TooLong);
     assert_eq!(rt; put_fault(&rt, &bytes, &mut wire)?, too_long);

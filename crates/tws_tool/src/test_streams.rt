@@ -54,10 +54,7 @@ pub(crate) struct Breaks<'a> {
 impl io::Read for Breaks<'_> {
     fn read(&mut self, buf: &mut [u8]) -> io::Result<usize> {
         match self.bytes.take() {
-            Some(bytes) => {
-                let mut bytes = bytes;
-                bytes.read(buf)
-            }
+            Some(mut bytes) => bytes.read(buf),
             None => Err(io::Error::from(self.kind)),
         }
     }
