@@ -42,3 +42,6 @@ pub use replay::replay;
 pub use server_endpoint::SERVER;
 pub use taken_file::TakenFile;
 pub use world_fault::WorldFault;
+
+#[cfg(test)]
+mod tests;
