@@ -1,5 +1,5 @@
 //! Tests alone: each request for memory is refused in turn, in runs of the calls of the ends, of the clients and of the
-//! server's table that take memory.
+//! server's table that take memory, and in replays.
 //!
 //! Each run answers that memory ran out, or gives the full answer, and leaves nothing changed where it says so.
 #![tactic(auto)]
@@ -10,3 +10,5 @@ mod client;
 mod ends;
 #[cfg(test)]
 mod table;
+#[cfg(test)]
+mod world;
