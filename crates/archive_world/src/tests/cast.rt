@@ -42,8 +42,6 @@ pub(super) const ACK_1: &[u8; 4] = b"\0\x04\0\x01";
 
 pub(super) const ACK_2: &[u8; 4] = b"\0\x04\0\x02";
 
-pub(super) const ACK_3: &[u8; 4] = b"\0\x04\0\x03";
-
 pub(super) const UNKNOWN: &[u8; 21] = b"\0\x05\0\x05unknown transfer\0";
 
 pub(super) const NOT_KEPT: &[u8; 13] = b"\0\x05\0\0not kept\0";

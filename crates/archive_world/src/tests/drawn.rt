@@ -161,7 +161,7 @@ fn wait(draws: &mut Draws, drawn: &Drawn, outcome: &Outcome) -> Event {
 fn stranger(draws: &mut Draws) -> Endpoint {
     Endpoint {
         host: STRANGER.host,
-        port: 7 + draws.below(2),
+        port: 7_u16.wrapping_add(draws.below(2)),
     }
 }
 
@@ -240,7 +240,8 @@ fn step(
         return Ok(());
     }
     if pending.is_empty() {
-        drawn.events.push(wait(draws, drawn, outcome))?;
+        let event = wait(draws, drawn, outcome);
+        drawn.events.push(event)?;
         return Ok(());
     }
     let place = if draws.once_in(4) {

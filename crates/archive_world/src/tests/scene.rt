@@ -97,7 +97,7 @@ pub(super) struct Wanted<'a> {
     pub(super) datagrams: &'a [(Endpoint, Endpoint, &'a [u8])],
 }
 
-fn are_taken(taken: &[TakenFile], wanted: &[(Endpoint, &[u8])]) -> bool {
+pub(super) fn are_taken(taken: &[TakenFile], wanted: &[(Endpoint, &[u8])]) -> bool {
     for (one, (peer, file)) in taken.iter().zip(wanted) {
         if one.peer != *peer || one.file.as_slice() != *file {
             return false;
@@ -106,7 +106,7 @@ fn are_taken(taken: &[TakenFile], wanted: &[(Endpoint, &[u8])]) -> bool {
     taken.len() == wanted.len()
 }
 
-fn are_got(got: &[GotFile], wanted: &[(Endpoint, &[u8])]) -> bool {
+pub(super) fn are_got(got: &[GotFile], wanted: &[(Endpoint, &[u8])]) -> bool {
     for (one, (client, file)) in got.iter().zip(wanted) {
         if one.client != *client || one.file.as_slice() != *file {
             return false;
@@ -115,7 +115,7 @@ fn are_got(got: &[GotFile], wanted: &[(Endpoint, &[u8])]) -> bool {
     got.len() == wanted.len()
 }
 
-fn are_opened(opened: &[Opening], wanted: &[(Endpoint, u16, Asked, usize)]) -> bool {
+pub(super) fn are_opened(opened: &[Opening], wanted: &[(Endpoint, u16, Asked, usize)]) -> bool {
     for (one, (peer, port, asked, taken)) in opened.iter().zip(wanted) {
         let is_peer = one.peer == *peer && one.port == *port;
         if !is_peer || one.asked != *asked || one.taken != *taken {

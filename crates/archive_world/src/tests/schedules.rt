@@ -1,12 +1,14 @@
-// A thousand lists of up to sixty events, each outcome tested against every promise. The first two lists are fixed.
-use crate::tests::cast::{ACK_0, ACK_1, ACK_2, ACK_3, C1, C2, C3, C4, EMPTY_MS, RRQ_LYNX, WRQ, at};
+// A thousand lists of up to sixty events, each outcome tested against every promise. The first two lists are fixed, each a
+// test of its own.
+use crate::tests::cast::{C1, C2, C3, C4, EMPTY_MS, RRQ_LYNX, WRQ, at};
 use crate::tests::drawn::{Draws, draw};
 use crate::tests::promises::{begin_counts, broken_promise};
-use crate::tests::scene::{Act, Wanted, events_of, other_part, run};
-use crate::{Asked, Event, Outcome, SERVER};
+use crate::tests::scene::{Act, are_got, are_opened, are_taken, events_of};
+use crate::{Asked, Datagram, Event, Outcome, SERVER, replay};
 use archive_table::MemoryKeeper;
 use std::alloc::Global;
 use std::test::Fail;
+use tftp_packet::Endpoint;
 use tws_file::Ruleset;
 
 const READ: Asked = Asked::Read(Ruleset::Lynx);
@@ -75,25 +77,45 @@ fn fast_second() -> [u8; 220] {
     data
 }
 
-// What differs from what is wanted of these events, or the promise that they break, if anything is wrong.
-fn complaint(
-    alloc: Global,
-    acts: &[Act<'_>],
-    wanted: &Wanted<'_>,
-) -> Result<Option<&'static str>, Fail> {
-    let outcome = run(alloc, &mut MemoryKeeper::new(alloc), acts)?;
-    if let Some(part) = other_part(&outcome, wanted) {
-        return Ok(Some(part));
-    }
-    broken_promise(alloc, &events_of(alloc, acts)?, &outcome, 0)
+// A packet of the fixed lists; the number is that of an ACK or of a block.
+#[derive(Clone, Copy)]
+enum Line {
+    Write,
+    Read,
+    Ack(u8),
+    Slow(u8),
+    Fast(u8),
 }
 
-// One after the other, and each datagram is delivered once, in order.
-fn a_put_and_a_get(alloc: Global) -> Result<Option<&'static str>, Fail> {
-    let file = slow_file();
-    let (first, second, third) = (slow_first(), slow_second(), slow_third());
-    let acts = [
-        Act::Put(C1, &file),
+fn is_line(bytes: &[u8], line: Line) -> bool {
+    match line {
+        Line::Write => bytes == WRQ.as_slice(),
+        Line::Read => bytes == RRQ_LYNX.as_slice(),
+        Line::Ack(n) => bytes == [0, 4, 0, n].as_slice(),
+        Line::Slow(1) => bytes == slow_first().as_slice(),
+        Line::Slow(2) => bytes == slow_second().as_slice(),
+        Line::Slow(3) => bytes == slow_third().as_slice(),
+        Line::Fast(1) => bytes == fast_first().as_slice(),
+        Line::Fast(2) => bytes == fast_second().as_slice(),
+        Line::Slow(_) | Line::Fast(_) => false,
+    }
+}
+
+// Whether just these were sent, each from there to there.
+fn were_sent(datagrams: &[Datagram], wanted: &[(Endpoint, Endpoint, Line)]) -> bool {
+    for (one, (from, to, line)) in datagrams.iter().zip(wanted) {
+        let is_sent = one.from == *from && one.to == *to;
+        if !is_sent || !is_line(one.bytes.as_slice(), *line) {
+            return false;
+        }
+    }
+    datagrams.len() == wanted.len()
+}
+
+// A put, and then a get: each datagram is delivered once, in order.
+fn put_and_get(file: &[u8]) -> [Act<'_>; 17] {
+    [
+        Act::Put(C1, file),
         Act::Ask(0, 4000),
         Act::Deliver(1),
         Act::Deliver(2),
@@ -110,36 +132,45 @@ fn a_put_and_a_get(alloc: Global) -> Result<Option<&'static str>, Fail> {
         Act::Deliver(12),
         Act::Deliver(13),
         Act::Deliver(14),
-    ];
-    let wanted = Wanted {
-        taken: &[(C1, &file)],
-        sent: &[C1],
-        got: &[(C2, &file)],
-        opened: &[(C1, 4000, Asked::Write, 0), (C2, 4001, READ, 1)],
-        lynx: &file,
-        ms: EMPTY_MS,
-        datagrams: &[
-            (C1, SERVER, WRQ),
-            (at(4000), C1, ACK_0),
-            (C1, at(4000), &first),
-            (at(4000), C1, ACK_1),
-            (C1, at(4000), &second),
-            (at(4000), C1, ACK_2),
-            (C1, at(4000), &third),
-            (at(4000), C1, ACK_3),
-            (C2, SERVER, RRQ_LYNX),
-            (at(4001), C2, &first),
-            (C2, at(4001), ACK_1),
-            (at(4001), C2, &second),
-            (C2, at(4001), ACK_2),
-            (at(4001), C2, &third),
-            (C2, at(4001), ACK_3),
-        ],
-    };
-    complaint(alloc, &acts, &wanted)
+    ]
 }
 
-// What happens in the run below, one line for each datagram that is delivered.
+#[test]
+fn a_get_after_a_put(rt: HostRuntime) -> Result<(), Fail> {
+    let file = slow_file();
+    let events = events_of(rt.alloc(), &put_and_get(&file))?;
+    let outcome = replay(rt.alloc(), &mut MemoryKeeper::new(rt.alloc()), &events)?;
+    let sent = [
+        (C1, SERVER, Line::Write),
+        (at(4000), C1, Line::Ack(0)),
+        (C1, at(4000), Line::Slow(1)),
+        (at(4000), C1, Line::Ack(1)),
+        (C1, at(4000), Line::Slow(2)),
+        (at(4000), C1, Line::Ack(2)),
+        (C1, at(4000), Line::Slow(3)),
+        (at(4000), C1, Line::Ack(3)),
+        (C2, SERVER, Line::Read),
+        (at(4001), C2, Line::Slow(1)),
+        (C2, at(4001), Line::Ack(1)),
+        (at(4001), C2, Line::Slow(2)),
+        (C2, at(4001), Line::Ack(2)),
+        (at(4001), C2, Line::Slow(3)),
+        (C2, at(4001), Line::Ack(3)),
+    ];
+    assert!(rt; were_sent(outcome.datagrams.as_slice(), &sent));
+    assert!(rt; are_taken(outcome.taken.as_slice(), &[(C1, &file)]));
+    assert_eq!(rt; outcome.sent.as_slice(), [C1].as_slice());
+    assert!(rt; are_got(outcome.got.as_slice(), &[(C2, &file)]));
+    let opened = [(C1, 4000, Asked::Write, 0), (C2, 4001, READ, 1)];
+    assert!(rt; are_opened(outcome.opened.as_slice(), &opened));
+    assert_eq!(rt; outcome.lynx.as_slice(), file.as_slice());
+    assert_eq!(rt; outcome.ms.as_slice(), EMPTY_MS.as_slice());
+    assert_eq!(rt; broken_promise(rt.alloc(), &events, &outcome, 0)?, None);
+    Ok(())
+}
+
+// The slow file is taken. Then the fast one is sent; one download has been asked for before that, another one begins
+// meanwhile, and both end after the fast file was taken.
 fn crossing<'a>(slow: &'a [u8], fast: &'a [u8]) -> [Act<'a>; 32] {
     [
         Act::Put(C1, slow),
@@ -178,56 +209,65 @@ fn crossing<'a>(slow: &'a [u8], fast: &'a [u8]) -> [Act<'a>; 32] {
     ]
 }
 
-// The slow file is taken. Then the fast one is sent; one download has been asked for before that, another one begins
-// meanwhile, and both end after the fast file was taken. They still get the slow one.
-fn two_gets_across_a_put(alloc: Global) -> Result<Option<&'static str>, Fail> {
+// What is sent in the crossing.
+fn crossed_lines() -> [(Endpoint, Endpoint, Line); 28] {
+    [
+        (C1, SERVER, Line::Write),
+        (at(4000), C1, Line::Ack(0)),
+        (C1, at(4000), Line::Slow(1)),
+        (at(4000), C1, Line::Ack(1)),
+        (C1, at(4000), Line::Slow(2)),
+        (at(4000), C1, Line::Ack(2)),
+        (C1, at(4000), Line::Slow(3)),
+        (at(4000), C1, Line::Ack(3)),
+        (C2, SERVER, Line::Read),
+        (C3, SERVER, Line::Write),
+        (at(4001), C2, Line::Slow(1)),
+        (at(4002), C3, Line::Ack(0)),
+        (C2, at(4001), Line::Ack(1)),
+        (C3, at(4002), Line::Fast(1)),
+        (C4, SERVER, Line::Read),
+        (at(4002), C3, Line::Ack(1)),
+        (at(4003), C4, Line::Slow(1)),
+        (at(4001), C2, Line::Slow(2)),
+        (C3, at(4002), Line::Fast(2)),
+        (C2, at(4001), Line::Ack(2)),
+        (at(4002), C3, Line::Ack(2)),
+        (C4, at(4003), Line::Ack(1)),
+        (at(4003), C4, Line::Slow(2)),
+        (at(4001), C2, Line::Slow(3)),
+        (C2, at(4001), Line::Ack(3)),
+        (C4, at(4003), Line::Ack(2)),
+        (at(4003), C4, Line::Slow(3)),
+        (C4, at(4003), Line::Ack(3)),
+    ]
+}
+
+// The files of the crossing: which are taken, and which are fetched. The gets still have the slow one.
+fn has_crossed(outcome: &Outcome, slow: &[u8], fast: &[u8]) -> bool {
+    are_taken(outcome.taken.as_slice(), &[(C1, slow), (C3, fast)])
+        && are_got(outcome.got.as_slice(), &[(C2, slow), (C4, slow)])
+        && outcome.lynx.as_slice() == fast
+}
+
+#[test]
+fn two_gets_across_a_put(rt: HostRuntime) -> Result<(), Fail> {
     let (slow, fast) = (slow_file(), fast_file());
-    let (first, second, third) = (slow_first(), slow_second(), slow_third());
-    let (fast_first, fast_second) = (fast_first(), fast_second());
-    let wanted = Wanted {
-        taken: &[(C1, &slow), (C3, &fast)],
-        sent: &[C1, C3],
-        got: &[(C2, &slow), (C4, &slow)],
-        opened: &[
-            (C1, 4000, Asked::Write, 0),
-            (C2, 4001, READ, 1),
-            (C3, 4002, Asked::Write, 1),
-            (C4, 4003, READ, 1),
-        ],
-        lynx: &fast,
-        ms: EMPTY_MS,
-        datagrams: &[
-            (C1, SERVER, WRQ),
-            (at(4000), C1, ACK_0),
-            (C1, at(4000), &first),
-            (at(4000), C1, ACK_1),
-            (C1, at(4000), &second),
-            (at(4000), C1, ACK_2),
-            (C1, at(4000), &third),
-            (at(4000), C1, ACK_3),
-            (C2, SERVER, RRQ_LYNX),
-            (C3, SERVER, WRQ),
-            (at(4001), C2, &first),
-            (at(4002), C3, ACK_0),
-            (C2, at(4001), ACK_1),
-            (C3, at(4002), &fast_first),
-            (C4, SERVER, RRQ_LYNX),
-            (at(4002), C3, ACK_1),
-            (at(4003), C4, &first),
-            (at(4001), C2, &second),
-            (C3, at(4002), &fast_second),
-            (C2, at(4001), ACK_2),
-            (at(4002), C3, ACK_2),
-            (C4, at(4003), ACK_1),
-            (at(4003), C4, &second),
-            (at(4001), C2, &third),
-            (C2, at(4001), ACK_3),
-            (C4, at(4003), ACK_2),
-            (at(4003), C4, &third),
-            (C4, at(4003), ACK_3),
-        ],
-    };
-    complaint(alloc, &crossing(&slow, &fast), &wanted)
+    let events = events_of(rt.alloc(), &crossing(&slow, &fast))?;
+    let outcome = replay(rt.alloc(), &mut MemoryKeeper::new(rt.alloc()), &events)?;
+    assert!(rt; were_sent(outcome.datagrams.as_slice(), &crossed_lines()));
+    assert!(rt; has_crossed(&outcome, &slow, &fast));
+    assert_eq!(rt; outcome.sent.as_slice(), [C1, C3].as_slice());
+    let opened = [
+        (C1, 4000, Asked::Write, 0),
+        (C2, 4001, READ, 1),
+        (C3, 4002, Asked::Write, 1),
+        (C4, 4003, READ, 1),
+    ];
+    assert!(rt; are_opened(outcome.opened.as_slice(), &opened));
+    assert_eq!(rt; outcome.ms.as_slice(), EMPTY_MS.as_slice());
+    assert_eq!(rt; broken_promise(rt.alloc(), &events, &outcome, 0)?, None);
+    Ok(())
 }
 
 // ---- the drawn lists
@@ -316,8 +356,6 @@ fn broken_by_draw(
 
 #[test]
 fn schedules(rt: HostRuntime) -> Result<(), Fail> {
-    assert_eq!(rt; a_put_and_a_get(rt.alloc())?, None);
-    assert_eq!(rt; two_gets_across_a_put(rt.alloc())?, None);
     let mut draws = Draws(5);
     let mut tally = Tally::new();
     for list in 0..DRAWN {
