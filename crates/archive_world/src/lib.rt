@@ -43,3 +43,6 @@ pub use schedule::replay;
 pub use server_endpoint::SERVER;
 pub use taken_file::TakenFile;
 pub use world_fault::WorldFault;
+
+#[cfg(test)]
+mod tests;

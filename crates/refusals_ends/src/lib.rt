@@ -1,5 +1,5 @@
 //! Tests alone: each request for memory is refused in turn, in runs of the calls of the ends, of the clients, of the
-//! server's table and of a wire in memory that take memory.
+//! server's table and of a wire in memory that take memory, and in replays.
 //!
 //! Each run answers that memory ran out, or gives the full answer, and leaves nothing changed where it says so.
 #![tactic(auto)]
@@ -12,3 +12,5 @@ mod ends;
 mod table;
 #[cfg(test)]
 mod turns;
+#[cfg(test)]
+mod world;

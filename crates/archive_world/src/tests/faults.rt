@@ -1,0 +1,142 @@
+// Lists of events without a run.
+use crate::tests::cast::{C1, C2, EMPTY_LYNX, EMPTY_MS, HUNDRED, RRQ_MS, WRQ, at};
+use crate::tests::scene::{Act, Wanted, fault, fault_by, other_part, run, was_given};
+use crate::{SERVER, WorldFault};
+use archive_table::MemoryKeeper;
+use std::test::Fail;
+use tftp_packet::Endpoint;
+use tws_file::Ruleset;
+
+#[test]
+fn no_events(rt: HostRuntime) -> Result<(), Fail> {
+    let outcome = run(rt.alloc(), &mut MemoryKeeper::new(rt.alloc()), &[])?;
+    let wanted = Wanted {
+        taken: &[],
+        sent: &[],
+        got: &[],
+        opened: &[],
+        lynx: EMPTY_LYNX,
+        ms: EMPTY_MS,
+        datagrams: &[],
+    };
+    assert_eq!(rt; other_part(&outcome, &wanted), None);
+    Ok(())
+}
+
+#[test]
+fn a_delivery_of_what_was_not_sent(rt: HostRuntime) -> Result<(), Fail> {
+    assert_eq!(rt;
+        fault(rt.alloc(), &[Act::Ask(0, 4000)])?,
+        Some(WorldFault::BadEvent(0))
+    );
+    let acts = [Act::Put(C1, HUNDRED), Act::Ask(0, 4000), Act::Deliver(2)];
+    assert_eq!(rt; fault(rt.alloc(), &acts)?, Some(WorldFault::BadEvent(2)));
+    Ok(())
+}
+
+// The port of requests is never spare, nor is a port with a transfer.
+#[test]
+fn a_spare_port_that_is_not_free(rt: HostRuntime) -> Result<(), Fail> {
+    let acts = [Act::Put(C1, HUNDRED), Act::Ask(0, 4000), Act::Ask(0, 4000)];
+    assert_eq!(rt; fault(rt.alloc(), &acts)?, Some(WorldFault::BadEvent(2)));
+    let acts = [Act::Put(C1, HUNDRED), Act::Ask(0, 6969)];
+    assert_eq!(rt; fault(rt.alloc(), &acts)?, Some(WorldFault::BadEvent(1)));
+    Ok(())
+}
+
+#[test]
+fn clients_where_none_may_be(rt: HostRuntime) -> Result<(), Fail> {
+    for port in [6969, 5000] {
+        let acts = [Act::Get(at(port), Ruleset::Lynx)];
+        assert_eq!(rt; fault(rt.alloc(), &acts)?, Some(WorldFault::BadEvent(0)));
+    }
+    let acts = [Act::Put(C1, HUNDRED), Act::ClientWaits(C2)];
+    assert_eq!(rt; fault(rt.alloc(), &acts)?, Some(WorldFault::BadEvent(1)));
+    Ok(())
+}
+
+// Also where an operation has begun there before.
+#[test]
+fn a_put_of_a_file_that_is_too_long(rt: HostRuntime) -> Result<(), Fail> {
+    let file = vec![in rt.alloc(); 7; 33_553_920]?;
+    let acts = [Act::Put(C1, &file)];
+    assert_eq!(rt; fault(rt.alloc(), &acts)?, Some(WorldFault::BadEvent(0)));
+    let acts = [Act::Put(C1, HUNDRED), Act::Put(C1, &file)];
+    assert_eq!(rt; fault(rt.alloc(), &acts)?, Some(WorldFault::BadEvent(1)));
+    Ok(())
+}
+
+#[test]
+fn two_operations_of_one_client(rt: HostRuntime) -> Result<(), Fail> {
+    let acts = [
+        Act::Get(C1, Ruleset::Lynx),
+        Act::Ask(0, 4000),
+        Act::Get(C1, Ruleset::Ms),
+    ];
+    assert_eq!(rt; fault(rt.alloc(), &acts)?, Some(WorldFault::PortReused(2)));
+    Ok(())
+}
+
+// The transfer has ended by time-outs, so its port is free; but not for the same client.
+#[test]
+fn two_transfers_of_one_client_at_one_port(rt: HostRuntime) -> Result<(), Fail> {
+    let acts = [
+        Act::Put(C1, HUNDRED),
+        Act::Ask(0, 4000),
+        Act::PortWaits(4000),
+        Act::PortWaits(4000),
+        Act::PortWaits(4000),
+        Act::PortWaits(4000),
+        Act::PortWaits(4000),
+        Act::Ask(0, 4000),
+    ];
+    assert_eq!(rt; fault(rt.alloc(), &acts)?, Some(WorldFault::PortReused(7)));
+    Ok(())
+}
+
+// What the keeper was given before the fault stays.
+#[test]
+fn a_fault_after_a_file_was_taken(rt: HostRuntime) -> Result<(), Fail> {
+    let mut keeper = MemoryKeeper::new(rt.alloc());
+    let acts = [
+        Act::Put(C1, HUNDRED),
+        Act::Ask(0, 4000),
+        Act::Deliver(1),
+        Act::Deliver(2),
+        Act::Deliver(4),
+    ];
+    assert_eq!(rt;
+        fault_by(rt.alloc(), &mut keeper, &acts)?,
+        Some(WorldFault::BadEvent(4))
+    );
+    assert!(rt; was_given(&keeper, &[(Ruleset::Lynx, HUNDRED, true)]));
+    Ok(())
+}
+
+// A time-out of a port without a transfer, and a datagram for an endpoint with no client.
+#[test]
+fn events_that_change_nothing(rt: HostRuntime) -> Result<(), Fail> {
+    let nobody = Endpoint {
+        host: 9,
+        port: 5000,
+    };
+    let acts = [
+        Act::PortWaits(4000),
+        Act::Put(C1, HUNDRED),
+        Act::Stray(C2, nobody, RRQ_MS),
+        Act::Deliver(1),
+        Act::PortWaits(6969),
+    ];
+    let outcome = run(rt.alloc(), &mut MemoryKeeper::new(rt.alloc()), &acts)?;
+    let wanted = Wanted {
+        taken: &[],
+        sent: &[],
+        got: &[],
+        opened: &[],
+        lynx: EMPTY_LYNX,
+        ms: EMPTY_MS,
+        datagrams: &[(C1, SERVER, WRQ), (C2, nobody, RRQ_MS)],
+    };
+    assert_eq!(rt; other_part(&outcome, &wanted), None);
+    Ok(())
+}

@@ -1,0 +1,173 @@
+// Gets.
+use crate::tests::cast::{
+    ACK_0, ACK_1, BUSY, C1, C2, C3, C4, DATA_EMPTY_LYNX, DATA_EMPTY_MS, DATA_HUNDRED, DATA_NINETY,
+    EMPTY_LYNX, EMPTY_MS, HUNDRED, NINETY, RRQ_LYNX, RRQ_MS, WRQ, at,
+};
+use crate::tests::scene::{Act, Wanted, is_datagram, other_part, run, was_given};
+use crate::{Asked, Outcome, SERVER};
+use archive_table::MemoryKeeper;
+use std::alloc::Global;
+use std::test::Fail;
+use tftp_packet::Endpoint;
+use tws_file::Ruleset;
+
+const READ: Asked = Asked::Read(Ruleset::Lynx);
+
+// A put comes between the request and the first block of a get: that get still has the collection as it was when it was
+// opened, and the next one has the new one.
+#[test]
+fn a_get_across_a_put(rt: HostRuntime) -> Result<(), Fail> {
+    let mut keeper = MemoryKeeper::new(rt.alloc());
+    let acts = [
+        Act::Put(C1, HUNDRED),
+        Act::Ask(0, 4000),
+        Act::Deliver(1),
+        Act::Deliver(2),
+        Act::Deliver(3),
+        Act::Get(C2, Ruleset::Lynx),
+        Act::Ask(4, 4001),
+        Act::Put(C3, NINETY),
+        Act::Ask(6, 4002),
+        Act::Deliver(7),
+        Act::Deliver(8),
+        Act::Deliver(5),
+        Act::Get(C4, Ruleset::Lynx),
+        Act::Ask(11, 4003),
+        Act::Deliver(12),
+    ];
+    let outcome = run(rt.alloc(), &mut keeper, &acts)?;
+    let wanted = Wanted {
+        taken: &[(C1, HUNDRED), (C3, NINETY)],
+        // The last ACK of the second put is never delivered.
+        sent: &[C1],
+        got: &[(C2, HUNDRED), (C4, NINETY)],
+        opened: &[
+            (C1, 4000, Asked::Write, 0),
+            (C2, 4001, READ, 1),
+            (C3, 4002, Asked::Write, 1),
+            (C4, 4003, READ, 2),
+        ],
+        lynx: NINETY,
+        ms: EMPTY_MS,
+        datagrams: &[
+            (C1, SERVER, WRQ),
+            (at(4000), C1, ACK_0),
+            (C1, at(4000), DATA_HUNDRED),
+            (at(4000), C1, ACK_1),
+            (C2, SERVER, RRQ_LYNX),
+            (at(4001), C2, DATA_HUNDRED),
+            (C3, SERVER, WRQ),
+            (at(4002), C3, ACK_0),
+            (C3, at(4002), DATA_NINETY),
+            (at(4002), C3, ACK_1),
+            (C2, at(4001), ACK_1),
+            (C4, SERVER, RRQ_LYNX),
+            (at(4003), C4, DATA_NINETY),
+            (C4, at(4003), ACK_1),
+        ],
+    };
+    assert_eq!(rt; other_part(&outcome, &wanted), None);
+    let given = [
+        (Ruleset::Lynx, HUNDRED.as_slice(), true),
+        (Ruleset::Lynx, NINETY.as_slice(), true),
+    ];
+    assert!(rt; was_given(&keeper, &given));
+    Ok(())
+}
+
+#[test]
+fn a_get_of_an_empty_collection(rt: HostRuntime) -> Result<(), Fail> {
+    let mut keeper = MemoryKeeper::new(rt.alloc());
+    let acts = [
+        Act::Get(C1, Ruleset::Ms),
+        Act::Ask(0, 4000),
+        Act::Deliver(1),
+        Act::Deliver(2),
+    ];
+    let outcome = run(rt.alloc(), &mut keeper, &acts)?;
+    let wanted = Wanted {
+        taken: &[],
+        sent: &[],
+        got: &[(C1, EMPTY_MS)],
+        opened: &[(C1, 4000, Asked::Read(Ruleset::Ms), 0)],
+        lynx: EMPTY_LYNX,
+        ms: EMPTY_MS,
+        datagrams: &[
+            (C1, SERVER, RRQ_MS),
+            (at(4000), C1, DATA_EMPTY_MS),
+            (C1, at(4000), ACK_1),
+        ],
+    };
+    assert_eq!(rt; other_part(&outcome, &wanted), None);
+    Ok(())
+}
+
+// The client with this number, counted from 0.
+fn client(number: u16) -> Endpoint {
+    Endpoint {
+        host: 2 + u32::from(number),
+        port: 5000,
+    }
+}
+
+// 65 gets begin, and all their requests come. The last client hears the answer, and waits.
+fn crowd(alloc: Global) -> Result<Vec<Act<'static>>, Fail> {
+    let mut acts = Vec::new(alloc);
+    for i in 0..65 {
+        acts.push(Act::Get(client(i), Ruleset::Lynx))?;
+    }
+    for i in 0..65 {
+        acts.push(Act::Ask(usize::from(i), 4001_u16.wrapping_add(i)))?;
+    }
+    acts.push(Act::Deliver(129))?;
+    acts.push(Act::ClientWaits(client(64)))?;
+    Ok(acts)
+}
+
+// Whether this get was requested, as datagram i, and answered as datagram 65 + i by DATA 1 of the empty collection.
+fn is_served(outcome: &Outcome, i: u16) -> bool {
+    let port = 4001_u16.wrapping_add(i);
+    let i = usize::from(i);
+    let Some(opening) = outcome.opened.get(i) else {
+        return false;
+    };
+    let Some(request) = outcome.datagrams.get(i) else {
+        return false;
+    };
+    let Some(answer) = outcome.datagrams.get(i.wrapping_add(65)) else {
+        return false;
+    };
+    let peer = opening.peer;
+    opening.port == port
+        && opening.asked == READ
+        && opening.taken == 0
+        && is_datagram(request, peer, SERVER, RRQ_LYNX)
+        && is_datagram(answer, at(port), peer, DATA_EMPTY_LYNX)
+}
+
+// The server has room for 64 transfers. The client that is refused sends nothing more.
+#[test]
+fn a_get_too_many(rt: HostRuntime) -> Result<(), Fail> {
+    let mut keeper = MemoryKeeper::new(rt.alloc());
+    let outcome = run(rt.alloc(), &mut keeper, &crowd(rt.alloc())?)?;
+    assert_eq!(rt; outcome.datagrams.len(), 130);
+    assert_eq!(rt; outcome.opened.len(), 64);
+    for i in 0..64 {
+        assert!(rt; is_served(&outcome, i), "{i}");
+        let peer = outcome
+            .opened
+            .get(usize::from(i))
+            .map(|opening| opening.peer);
+        assert_eq!(rt; peer, Some(client(i)));
+    }
+    let (Some(request), Some(refusal)) = (outcome.datagrams.get(64), outcome.datagrams.get(129))
+    else {
+        return Err(Fail::new("too few datagrams"));
+    };
+    assert!(rt; is_datagram(request, client(64), SERVER, RRQ_LYNX));
+    assert!(rt; is_datagram(refusal, SERVER, client(64), BUSY));
+    assert!(rt; outcome.taken.is_empty() && outcome.sent.is_empty() && outcome.got.is_empty());
+    assert_eq!(rt; outcome.lynx.as_slice(), EMPTY_LYNX.as_slice());
+    assert_eq!(rt; outcome.ms.as_slice(), EMPTY_MS.as_slice());
+    Ok(())
+}

@@ -1,0 +1,210 @@
+// A server that starts again, and a keeper that fails.
+use crate::tests::cast::{
+    ACK_0, ACK_1, C1, C2, DATA_HUNDRED, EMPTY_LYNX, EMPTY_MS, HUNDRED, NOT_KEPT, RRQ_LYNX, WRQ, at,
+};
+use crate::tests::scene::{Act, Wanted, fault, fault_by, other_part, run, was_given};
+use crate::{Asked, SERVER, WorldFault};
+use archive_table::MemoryKeeper;
+use std::test::Fail;
+use tws_file::Ruleset;
+
+// What was taken before the restart is fetched after it. A time-out of the port that had a transfer changes nothing.
+#[test]
+fn a_restart_between_a_put_and_a_get(rt: HostRuntime) -> Result<(), Fail> {
+    let mut keeper = MemoryKeeper::new(rt.alloc());
+    let acts = [
+        Act::Put(C1, HUNDRED),
+        Act::Ask(0, 4000),
+        Act::Deliver(1),
+        Act::Deliver(2),
+        Act::Deliver(3),
+        Act::Restart,
+        Act::PortWaits(4000),
+        Act::Get(C2, Ruleset::Lynx),
+        Act::Ask(4, 4001),
+        Act::Deliver(5),
+    ];
+    let outcome = run(rt.alloc(), &mut keeper, &acts)?;
+    let wanted = Wanted {
+        taken: &[(C1, HUNDRED)],
+        sent: &[C1],
+        got: &[(C2, HUNDRED)],
+        opened: &[
+            (C1, 4000, Asked::Write, 0),
+            (C2, 4001, Asked::Read(Ruleset::Lynx), 1),
+        ],
+        lynx: HUNDRED,
+        ms: EMPTY_MS,
+        datagrams: &[
+            (C1, SERVER, WRQ),
+            (at(4000), C1, ACK_0),
+            (C1, at(4000), DATA_HUNDRED),
+            (at(4000), C1, ACK_1),
+            (C2, SERVER, RRQ_LYNX),
+            (at(4001), C2, DATA_HUNDRED),
+            (C2, at(4001), ACK_1),
+        ],
+    };
+    assert_eq!(rt; other_part(&outcome, &wanted), None);
+    assert!(rt; was_given(&keeper, &[(Ruleset::Lynx, HUNDRED, true)]));
+    Ok(())
+}
+
+// The transfer at the port is gone by the restart; the same client may not have another one there.
+#[test]
+fn a_port_from_before_the_restart(rt: HostRuntime) -> Result<(), Fail> {
+    let acts = [
+        Act::Put(C1, HUNDRED),
+        Act::Ask(0, 4000),
+        Act::Deliver(1),
+        Act::Deliver(2),
+        Act::Deliver(3),
+        Act::Restart,
+        Act::Ask(0, 4000),
+    ];
+    assert_eq!(rt; fault(rt.alloc(), &acts)?, Some(WorldFault::PortReused(6)));
+    Ok(())
+}
+
+// The first keep fails: nothing is taken, and the client is told so. The next one's file is taken.
+#[test]
+fn a_keep_that_fails(rt: HostRuntime) -> Result<(), Fail> {
+    let mut keeper = MemoryKeeper::new(rt.alloc());
+    keeper.fail_at(1);
+    let acts = [
+        Act::Put(C1, HUNDRED),
+        Act::Ask(0, 4000),
+        Act::Deliver(1),
+        Act::Deliver(2),
+        Act::Deliver(3),
+        Act::ClientWaits(C1),
+        Act::PortWaits(4000),
+        Act::Put(C2, HUNDRED),
+        Act::Ask(4, 4001),
+        Act::Deliver(5),
+        Act::Deliver(6),
+        Act::Deliver(7),
+    ];
+    let outcome = run(rt.alloc(), &mut keeper, &acts)?;
+    let wanted = Wanted {
+        taken: &[(C2, HUNDRED)],
+        sent: &[C2],
+        got: &[],
+        opened: &[(C1, 4000, Asked::Write, 0), (C2, 4001, Asked::Write, 0)],
+        lynx: HUNDRED,
+        ms: EMPTY_MS,
+        datagrams: &[
+            (C1, SERVER, WRQ),
+            (at(4000), C1, ACK_0),
+            (C1, at(4000), DATA_HUNDRED),
+            (at(4000), C1, NOT_KEPT),
+            (C2, SERVER, WRQ),
+            (at(4001), C2, ACK_0),
+            (C2, at(4001), DATA_HUNDRED),
+            (at(4001), C2, ACK_1),
+        ],
+    };
+    assert_eq!(rt; other_part(&outcome, &wanted), None);
+    let given = [
+        (Ruleset::Lynx, HUNDRED.as_slice(), false),
+        (Ruleset::Lynx, HUNDRED.as_slice(), true),
+    ];
+    assert!(rt; was_given(&keeper, &given));
+    Ok(())
+}
+
+// A put, and then a restart.
+const PUT_AND_RESTART: [Act<'static>; 5] = [
+    Act::Put(C1, HUNDRED),
+    Act::Ask(0, 4000),
+    Act::Deliver(1),
+    Act::Deliver(2),
+    Act::Restart,
+];
+
+// The keep fails: nothing was taken, and the server finds nothing as it starts again.
+#[test]
+fn a_restart_after_a_keep_that_fails(rt: HostRuntime) -> Result<(), Fail> {
+    let mut keeper = MemoryKeeper::new(rt.alloc());
+    keeper.fail_at(1);
+    let outcome = run(rt.alloc(), &mut keeper, &PUT_AND_RESTART)?;
+    let wanted = Wanted {
+        taken: &[],
+        sent: &[],
+        got: &[],
+        opened: &[(C1, 4000, Asked::Write, 0)],
+        lynx: EMPTY_LYNX,
+        ms: EMPTY_MS,
+        datagrams: &[
+            (C1, SERVER, WRQ),
+            (at(4000), C1, ACK_0),
+            (C1, at(4000), DATA_HUNDRED),
+            (at(4000), C1, NOT_KEPT),
+        ],
+    };
+    assert_eq!(rt; other_part(&outcome, &wanted), None);
+    assert!(rt; was_given(&keeper, &[(Ruleset::Lynx, HUNDRED, false)]));
+    Ok(())
+}
+
+// No call fails: the file was taken, and the server has it again.
+#[test]
+fn a_restart_after_a_put(rt: HostRuntime) -> Result<(), Fail> {
+    let mut keeper = MemoryKeeper::new(rt.alloc());
+    let outcome = run(rt.alloc(), &mut keeper, &PUT_AND_RESTART)?;
+    let wanted = Wanted {
+        taken: &[(C1, HUNDRED)],
+        sent: &[],
+        got: &[],
+        opened: &[(C1, 4000, Asked::Write, 0)],
+        lynx: HUNDRED,
+        ms: EMPTY_MS,
+        datagrams: &[
+            (C1, SERVER, WRQ),
+            (at(4000), C1, ACK_0),
+            (C1, at(4000), DATA_HUNDRED),
+            (at(4000), C1, ACK_1),
+        ],
+    };
+    assert_eq!(rt; other_part(&outcome, &wanted), None);
+    assert!(rt; was_given(&keeper, &[(Ruleset::Lynx, HUNDRED, true)]));
+    Ok(())
+}
+
+// A load fails: there is no run, and the keeper has what was kept before.
+#[test]
+fn a_restart_that_fails(rt: HostRuntime) -> Result<(), Fail> {
+    let mut keeper = MemoryKeeper::new(rt.alloc());
+    keeper.fail_at(1);
+    assert_eq!(rt;
+        fault_by(rt.alloc(), &mut keeper, &[Act::Restart])?,
+        Some(WorldFault::NotLoaded(0))
+    );
+    // The load of Lynx is the second call, that of MS the third.
+    for n in [2, 3] {
+        let mut keeper = MemoryKeeper::new(rt.alloc());
+        keeper.fail_at(n);
+        assert_eq!(rt;
+            fault_by(rt.alloc(), &mut keeper, &PUT_AND_RESTART)?,
+            Some(WorldFault::NotLoaded(4))
+        );
+        assert!(rt; was_given(&keeper, &[(Ruleset::Lynx, HUNDRED, true)]));
+    }
+    Ok(())
+}
+
+// What a keeper has that is no file of these rules is not loaded.
+#[test]
+fn a_restart_with_bytes_that_are_no_collection(rt: HostRuntime) -> Result<(), Fail> {
+    let alloc = rt.alloc();
+    for text in [b"\x35\x33\x9B\x98\x02\0\0".as_slice(), EMPTY_MS.as_slice()] {
+        let text = Vec::from_slice(alloc, text)?;
+        let mut keeper = MemoryKeeper::with(alloc, Some(text), None)?;
+        let acts = [Act::Put(C1, HUNDRED), Act::Restart];
+        assert_eq!(rt;
+            fault_by(alloc, &mut keeper, &acts)?,
+            Some(WorldFault::NotLoaded(1))
+        );
+    }
+    Ok(())
+}

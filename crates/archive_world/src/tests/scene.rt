@@ -1,0 +1,184 @@
+// Lists of events in short, and what they are wanted to leave.
+use crate::{
+    Asked, Datagram, Event, GotFile, Op, OpKind, Opening, Outcome, TakenFile, WorldFault, replay,
+};
+use archive_table::MemoryKeeper;
+use std::alloc::Global;
+use std::test::Fail;
+use tftp_packet::Endpoint;
+use tws_file::{Bytes, Ruleset};
+
+// An event in short.
+#[derive(Clone, Copy)]
+pub(super) enum Act<'a> {
+    Put(Endpoint, &'a [u8]),
+    Get(Endpoint, Ruleset),
+    // The datagram at this place comes to a client or to a transfer.
+    Deliver(usize),
+    // The datagram at this place comes to the port of requests, where this port is spare.
+    Ask(usize, u16),
+    ClientWaits(Endpoint),
+    PortWaits(u16),
+    // From there, to there, these bytes.
+    Stray(Endpoint, Endpoint, &'a [u8]),
+    Restart,
+}
+
+pub(super) fn bytes_of(alloc: Global, bytes: &[u8]) -> Result<Bytes, Fail> {
+    Ok(Bytes::of(Vec::from_slice(alloc, bytes)?))
+}
+
+fn begin(client: Endpoint, kind: OpKind) -> Event {
+    Event::Begin(Op { client, kind })
+}
+
+pub(super) fn event_of(alloc: Global, act: Act<'_>) -> Result<Event, Fail> {
+    Ok(match act {
+        Act::Put(client, file) => begin(client, OpKind::Put(bytes_of(alloc, file)?)),
+        Act::Get(client, kind) => begin(client, OpKind::Get(kind)),
+        Act::Deliver(index) => Event::Deliver { index, spare: 0 },
+        Act::Ask(index, spare) => Event::Deliver { index, spare },
+        Act::ClientWaits(client) => Event::ClientTimeout { client },
+        Act::PortWaits(port) => Event::ServerTimeout { port },
+        Act::Stray(from, to, bytes) => Event::Stray(Datagram {
+            from,
+            to,
+            bytes: bytes_of(alloc, bytes)?,
+        }),
+        Act::Restart => Event::Restart,
+    })
+}
+
+pub(super) fn events_of(alloc: Global, acts: &[Act<'_>]) -> Result<Vec<Event>, Fail> {
+    let mut events = Vec::new(alloc);
+    for act in acts {
+        events.push(event_of(alloc, *act)?)?;
+    }
+    Ok(events)
+}
+
+// What these events leave, by this keeper.
+pub(super) fn run(
+    alloc: Global,
+    keeper: &mut MemoryKeeper,
+    acts: &[Act<'_>],
+) -> Result<Outcome, Fail> {
+    let events = events_of(alloc, acts)?;
+    Ok(replay(alloc, keeper, &events)?)
+}
+
+// Why these events have no run, by this keeper.
+pub(super) fn fault_by(
+    alloc: Global,
+    keeper: &mut MemoryKeeper,
+    acts: &[Act<'_>],
+) -> Result<Option<WorldFault>, Fail> {
+    let events = events_of(alloc, acts)?;
+    match replay(alloc, keeper, &events) {
+        Ok(_outcome) => Ok(None),
+        Err(fault) => Ok(Some(fault)),
+    }
+}
+
+pub(super) fn fault(alloc: Global, acts: &[Act<'_>]) -> Result<Option<WorldFault>, Fail> {
+    fault_by(alloc, &mut MemoryKeeper::new(alloc), acts)
+}
+
+// What a run is to leave: a file with its peer or client; an opening's peer, port, request and count of files taken; a
+// datagram's source, target and bytes.
+#[derive(Clone, Copy)]
+pub(super) struct Wanted<'a> {
+    pub(super) taken: &'a [(Endpoint, &'a [u8])],
+    pub(super) sent: &'a [Endpoint],
+    pub(super) got: &'a [(Endpoint, &'a [u8])],
+    pub(super) opened: &'a [(Endpoint, u16, Asked, usize)],
+    pub(super) lynx: &'a [u8],
+    pub(super) ms: &'a [u8],
+    pub(super) datagrams: &'a [(Endpoint, Endpoint, &'a [u8])],
+}
+
+pub(super) fn are_taken(taken: &[TakenFile], wanted: &[(Endpoint, &[u8])]) -> bool {
+    for (one, (peer, file)) in taken.iter().zip(wanted) {
+        if one.peer != *peer || one.file.as_slice() != *file {
+            return false;
+        }
+    }
+    taken.len() == wanted.len()
+}
+
+pub(super) fn are_got(got: &[GotFile], wanted: &[(Endpoint, &[u8])]) -> bool {
+    for (one, (client, file)) in got.iter().zip(wanted) {
+        if one.client != *client || one.file.as_slice() != *file {
+            return false;
+        }
+    }
+    got.len() == wanted.len()
+}
+
+pub(super) fn are_opened(opened: &[Opening], wanted: &[(Endpoint, u16, Asked, usize)]) -> bool {
+    for (one, (peer, port, asked, taken)) in opened.iter().zip(wanted) {
+        let is_peer = one.peer == *peer && one.port == *port;
+        if !is_peer || one.asked != *asked || one.taken != *taken {
+            return false;
+        }
+    }
+    opened.len() == wanted.len()
+}
+
+pub(super) fn is_datagram(one: &Datagram, from: Endpoint, to: Endpoint, bytes: &[u8]) -> bool {
+    one.from == from && one.to == to && one.bytes.as_slice() == bytes
+}
+
+// The first datagram that is another one than wanted; how many there are to be, if that is all.
+pub(super) fn other_datagram(
+    datagrams: &[Datagram],
+    wanted: &[(Endpoint, Endpoint, &[u8])],
+) -> Option<usize> {
+    for (i, (one, (from, to, bytes))) in datagrams.iter().zip(wanted).enumerate() {
+        if !is_datagram(one, *from, *to, bytes) {
+            return Some(i);
+        }
+    }
+    if datagrams.len() == wanted.len() {
+        None
+    } else {
+        Some(wanted.len())
+    }
+}
+
+// The part of an outcome that is not as wanted, if there is one.
+pub(super) fn other_part(outcome: &Outcome, wanted: &Wanted<'_>) -> Option<&'static str> {
+    if !are_taken(outcome.taken.as_slice(), wanted.taken) {
+        return Some("taken");
+    }
+    if outcome.sent.as_slice() != wanted.sent {
+        return Some("sent");
+    }
+    if !are_got(outcome.got.as_slice(), wanted.got) {
+        return Some("got");
+    }
+    if !are_opened(outcome.opened.as_slice(), wanted.opened) {
+        return Some("opened");
+    }
+    if outcome.lynx.as_slice() != wanted.lynx {
+        return Some("lynx");
+    }
+    if outcome.ms.as_slice() != wanted.ms {
+        return Some("ms");
+    }
+    if other_datagram(outcome.datagrams.as_slice(), wanted.datagrams).is_some() {
+        return Some("datagrams");
+    }
+    None
+}
+
+// Whether a keeper was given just these texts, and kept each or not.
+pub(super) fn was_given(keeper: &MemoryKeeper, wanted: &[(Ruleset, &[u8], bool)]) -> bool {
+    let kept = keeper.kept();
+    for (one, (kind, text, ok)) in kept.iter().zip(wanted) {
+        if one.kind != *kind || one.text.as_slice() != *text || one.ok != *ok {
+            return false;
+        }
+    }
+    kept.len() == wanted.len()
+}

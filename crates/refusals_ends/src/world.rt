@@ -1,0 +1,294 @@
+// A replay of a put, each growth refused in turn.
+use archive_table::MemoryKeeper;
+use archive_world::{
+    Datagram, Event, Op, OpKind, Opening, Outcome as Left, SERVER, WorldFault, replay,
+};
+use refusing::{Outcome, Refusing, refuse_each};
+use std::alloc::{AllocError, Allocator, Global};
+use std::cell::Cell;
+use std::test::Fail;
+use tftp_packet::Endpoint;
+use tws_file::{Bytes, Ruleset};
+
+const CLIENT: Endpoint = Endpoint {
+    host: 2,
+    port: 5000,
+};
+
+const TO_WRITE: &[u8] = b"\0\x02upload.tws\0octet\0";
+
+const OUT_OF_MEMORY: &[u8] = b"\0\x05\0\x03out of memory\0";
+
+const NOT_KEPT: &[u8] = b"\0\x05\0\0not kept\0";
+
+const UNKNOWN: &[u8] = b"\0\x05\0\x05unknown transfer\0";
+
+// A Lynx file: level 1, BDHP, 100 ticks, no moves; and DATA 1 with it.
+const FILE: &[u8; 28] = b"\x35\x33\x9B\x99\x01\0\0\0\x10\0\0\0\x01\0BDHP\0\0\0\0\0\0\x64\0\0\0";
+
+const FILE_DATA: &[u8; 32] =
+    b"\0\x03\0\x01\x35\x33\x9B\x99\x01\0\0\0\x10\0\0\0\x01\0BDHP\0\0\0\0\0\0\x64\0\0\0";
+
+const EMPTY: &[u8] = b"\x35\x33\x9B\x99\x01\0\0\0";
+
+fn at(port: u16) -> Endpoint {
+    Endpoint { host: 1, port }
+}
+
+// A put begins, and these datagrams are delivered, each with its spare port.
+fn put_events<A: Allocator + Copy>(
+    alloc: A,
+    deliveries: &[(usize, u16)],
+) -> Result<Vec<Event<A>, A>, AllocError> {
+    let client = CLIENT;
+    let kind = OpKind::Put(Bytes::of(Vec::from_slice(alloc, FILE)?));
+    let mut events = Vec::new(alloc);
+    events.push(Event::Begin(Op { client, kind }))?;
+    for (index, spare) in deliveries {
+        events.push(Event::Deliver {
+            index: *index,
+            spare: *spare,
+        })?;
+    }
+    Ok(events)
+}
+
+// ---- what is left
+
+fn is_datagram<A: Allocator>(
+    one: &Datagram<A>,
+    from: Endpoint,
+    to: Endpoint,
+    bytes: &[u8],
+) -> bool {
+    one.from == from && one.to == to && one.bytes.as_slice() == bytes
+}
+
+// Whether just these were sent.
+fn were_sent<A: Allocator>(
+    datagrams: &[Datagram<A>],
+    wanted: &[(Endpoint, Endpoint, &[u8])],
+) -> bool {
+    for (one, (from, to, bytes)) in datagrams.iter().zip(wanted) {
+        if !is_datagram(one, *from, *to, bytes) {
+            return false;
+        }
+    }
+    datagrams.len() == wanted.len()
+}
+
+// Whether transfers were opened for the client at just these ports.
+fn were_opened(opened: &[Opening], ports: &[u16]) -> bool {
+    for (one, port) in opened.iter().zip(ports) {
+        if one.peer != CLIENT || one.port != *port || one.taken != 0 {
+            return false;
+        }
+    }
+    opened.len() == ports.len()
+}
+
+// Nothing was taken, sent or fetched, and the server has nothing.
+fn has_nothing<A: Allocator>(left: &Left<A>) -> bool {
+    left.taken.is_empty()
+        && left.sent.is_empty()
+        && left.got.is_empty()
+        && left.lynx.as_slice() == EMPTY
+}
+
+// The file was taken, and the server has it.
+fn has_file<A: Allocator>(left: &Left<A>) -> bool {
+    let [one] = left.taken.as_slice() else {
+        return false;
+    };
+    one.peer == CLIENT
+        && one.file.as_slice() == FILE.as_slice()
+        && left.lynx.as_slice() == FILE.as_slice()
+}
+
+// ---- a request that is answered
+
+const REQUEST: [(usize, u16); 2] = [(0, 4000), (1, 0)];
+
+fn request(global: Global, refusing: &Refusing<Global>, unopened: &Cell<bool>) -> Outcome {
+    let Ok(events) = put_events(refusing, &REQUEST) else {
+        return Outcome::OutOfMemory;
+    };
+    let left = match replay(refusing, &mut MemoryKeeper::new(global), &events) {
+        Ok(left) => left,
+        Err(fault) => return Outcome::refused(fault == WorldFault::Memory),
+    };
+    if left.opened.is_empty() {
+        unopened.set(true);
+        let sent = [(CLIENT, SERVER, TO_WRITE), (SERVER, CLIENT, OUT_OF_MEMORY)];
+        return Outcome::refused(has_nothing(&left) && were_sent(left.datagrams.as_slice(), &sent));
+    }
+    let sent = [
+        (CLIENT, SERVER, TO_WRITE),
+        (at(4000), CLIENT, b"\0\x04\0\0".as_slice()),
+        (CLIENT, at(4000), FILE_DATA.as_slice()),
+    ];
+    let is_sent = were_sent(left.datagrams.as_slice(), &sent);
+    Outcome::of(has_nothing(&left) && is_sent && were_opened(left.opened.as_slice(), &[4000]))
+}
+
+// A request and its answer: the replay is out of memory, or the request is refused, or all is as it is with ample memory.
+#[test]
+fn a_request_in_a_replay(rt: HostRuntime) -> Result<(), Fail> {
+    let global = rt.alloc();
+    let unopened = Cell::new(false);
+    refuse_each(
+        global,
+        4,
+        &|refusing: &Refusing<Global>| request(global, refusing, &unopened),
+    )?;
+    assert!(rt; unopened.get());
+    Ok(())
+}
+
+// ---- a request that comes twice
+
+const TWICE: [(usize, u16); 7] = [(0, 4000), (0, 4001), (1, 0), (2, 0), (4, 0), (3, 0), (5, 0)];
+
+// The datagrams of the run with ample memory; the last one is another where the block is refused.
+fn were_sent_twice<A: Allocator>(datagrams: &[Datagram<A>], last: &[u8]) -> bool {
+    let sent = [
+        (CLIENT, SERVER, TO_WRITE),
+        (at(4000), CLIENT, b"\0\x04\0\0".as_slice()),
+        (at(4001), CLIENT, b"\0\x04\0\0".as_slice()),
+        (CLIENT, at(4000), FILE_DATA.as_slice()),
+        (CLIENT, at(4001), UNKNOWN),
+        (at(4000), CLIENT, last),
+    ];
+    were_sent(datagrams, &sent)
+}
+
+fn request_twice(global: Global, refusing: &Refusing<Global>, unopened: &Cell<bool>) -> Outcome {
+    let Ok(events) = put_events(refusing, &TWICE) else {
+        return Outcome::OutOfMemory;
+    };
+    let left = match replay(refusing, &mut MemoryKeeper::new(global), &events) {
+        Ok(left) => left,
+        // One of the requests is refused, so there are too few datagrams.
+        Err(WorldFault::BadEvent(5)) => {
+            unopened.set(true);
+            return Outcome::OutOfMemory;
+        }
+        Err(fault) => return Outcome::refused(fault == WorldFault::Memory),
+    };
+    let datagrams = left.datagrams.as_slice();
+    let is_opened = were_opened(left.opened.as_slice(), &[4000, 4001]);
+    if left.taken.is_empty() {
+        let is_sent = were_sent_twice(datagrams, OUT_OF_MEMORY);
+        return Outcome::refused(has_nothing(&left) && is_opened && is_sent);
+    }
+    let is_sent = were_sent_twice(datagrams, b"\0\x04\0\x01") && left.sent.len() == 1;
+    Outcome::of(has_file(&left) && is_opened && is_sent)
+}
+
+// A request that is refused is answered, and sends no block to a second transfer: a later event is then on a datagram that
+// was not sent.
+#[test]
+fn a_request_that_comes_twice_in_a_replay(rt: HostRuntime) -> Result<(), Fail> {
+    let global = rt.alloc();
+    let unopened = Cell::new(false);
+    refuse_each(
+        global,
+        8,
+        &|refusing: &Refusing<Global>| request_twice(global, refusing, &unopened),
+    )?;
+    assert!(rt; unopened.get());
+    Ok(())
+}
+
+// ---- a put, and then a restart
+
+const WHOLE: [(usize, u16); 3] = [(0, 4000), (1, 0), (2, 0)];
+
+// What a put and a restart leave: all of it, or nothing, if the last block was refused or the collection not kept.
+fn judge_restart<A: Allocator>(left: &Left<A>) -> Outcome {
+    if !were_opened(left.opened.as_slice(), &[4000]) {
+        return Outcome::Wrong;
+    }
+    let [request, first, block, last] = left.datagrams.as_slice() else {
+        return Outcome::Wrong;
+    };
+    let is_begun = is_datagram(request, CLIENT, SERVER, TO_WRITE)
+        && is_datagram(first, at(4000), CLIENT, b"\0\x04\0\0")
+        && is_datagram(block, CLIENT, at(4000), FILE_DATA);
+    if left.taken.is_empty() {
+        let is_told = is_datagram(last, at(4000), CLIENT, OUT_OF_MEMORY)
+            || is_datagram(last, at(4000), CLIENT, NOT_KEPT);
+        return Outcome::refused(is_begun && is_told && has_nothing(left));
+    }
+    let is_told = is_datagram(last, at(4000), CLIENT, b"\0\x04\0\x01");
+    Outcome::of(is_begun && is_told && has_file(left))
+}
+
+// Whether a keeper has just the file.
+fn keeps_file<A: Allocator + Copy>(keeper: &MemoryKeeper<A>) -> bool {
+    let [one] = keeper.kept() else {
+        return false;
+    };
+    one.kind == Ruleset::Lynx && one.text.as_slice() == FILE.as_slice() && one.ok
+}
+
+// What was refused in any run, beside the growths of the replay itself.
+#[derive(Drop)]
+struct Seen {
+    request: Cell<bool>,
+    keep: Cell<bool>,
+    load: Cell<bool>,
+}
+
+// Whether the last datagram says that the collection was not kept.
+fn was_refused_a_keep<A: Allocator>(left: &Left<A>) -> bool {
+    match left.datagrams.last() {
+        Some(d) => d.bytes.as_slice() == NOT_KEPT,
+        None => false,
+    }
+}
+
+// The keeper's growths are refused too.
+fn put_and_restart(refusing: &Refusing<Global>, seen: &Seen) -> Outcome {
+    let Ok(mut events) = put_events(refusing, &WHOLE) else {
+        return Outcome::OutOfMemory;
+    };
+    if events.push(Event::Restart).is_err() {
+        return Outcome::OutOfMemory;
+    }
+    let mut keeper = MemoryKeeper::new(refusing);
+    match replay(refusing, &mut keeper, &events) {
+        Ok(left) => {
+            if was_refused_a_keep(&left) {
+                seen.keep.set(true);
+            }
+            judge_restart(&left)
+        }
+        Err(WorldFault::BadEvent(3)) => {
+            seen.request.set(true);
+            Outcome::refused(keeper.kept().is_empty())
+        }
+        Err(WorldFault::NotLoaded(4)) => {
+            seen.load.set(true);
+            Outcome::refused(keeps_file(&keeper))
+        }
+        Err(fault) => Outcome::refused(fault == WorldFault::Memory),
+    }
+}
+
+// After the restart the server has the file if it was taken, and nothing if it was not.
+#[test]
+fn a_put_and_a_restart_in_a_replay(rt: HostRuntime) -> Result<(), Fail> {
+    let seen = Seen {
+        request: Cell::new(false),
+        keep: Cell::new(false),
+        load: Cell::new(false),
+    };
+    refuse_each(
+        rt.alloc(),
+        8,
+        &|refusing: &Refusing<Global>| put_and_restart(refusing, &seen),
+    )?;
+    assert!(rt; seen.request.get() && seen.keep.get() && seen.load.get());
+    Ok(())
+}
