@@ -1,5 +1,5 @@
 -- What each event makes, from what its call has answered.
-use Rattle.std.specs.Prelude.{◌≡◌, ◌≢◌, ℕ, Bool, true, false, ◌==◌, List, [], ◌∷◌, ◌++◌, length, slice_get, Option, None, Some, Result, Ok, Err, OnOk, IfErr}
+use Rattle.std.specs.Prelude.{◌≡◌, ◌≢◌, ℕ, Bool, true, false, ◌==◌, List, [], ◌∷◌, ◌++◌, length, slice_get, Option, None, Some, is_some, Result, Ok, Err, OnOk, IfErr}
 use Rattle.std.proofs.Common.{refl, ap, sym, ◌∙◌, subst, inl, inr}
 use Rattle.std.proofs.lemmas.Bool.{eq-eqb, ne_eqb, true≢false}
 use Rattle.tftp_packet.specs.declared.endpoint.Endpoint.{Endpoint}
@@ -8,7 +8,7 @@ use Rattle.archive_table.specs.Server.{Maps, Taken, Grant, all, no_memory, unkep
 use Rattle.archive_table.specs.Server as table
 use Rattle.tftp_ends.specs.Ends.{Verdict, granted}
 use Rattle.tws_file.specs.declared.«ruleset».Ruleset.{Ruleset}
-use Rattle.archive_table.specs.Keeper.{Keeping, KeepsOne, KeepsMaps, FailsKeep, FailsKeepOf, StepKeeps}
+use Rattle.archive_table.specs.Keeper.{Keeping, KeepsOne, KeepsMaps, FailsKeep, FailsKeepOf, RefusesKeep, StepKeeps}
 use Rattle.archive_table.proofs.SamePort.{request_same, datagram_same, timeout_same}
 use Rattle.archive_world.specs.declared.event_fault.EventFault.{EventFault}
 use Rattle.archive_world.specs.declared.event_fault.EventFault.TheVariants as fault
@@ -19,7 +19,7 @@ use Rattle.archive_world.specs.Restarts.{HasKept, EventKeeps, wanted_at, wanted_
 use Rattle.archive_world.specs.Traces.{server_comes, comes}
 use Rattle.archive_world.specs.Inside.{HearsAtPort}
 use Rattle.tws_best.specs.Best.{Collected, IsCollected}
-use Rattle.archive_world.specs.Replays.{Makes, Reuses}
+use Rattle.archive_world.specs.Replays.{IsDue, Makes, Reuses}
 use Rattle.archive_world.specs.Exits.{Comes}
 use Rattle.archive_world.proofs.Remaining.{Remain, begins_remain, client_remains, request_remains, waits_remain, strays_remain, timeout_leaves}
 use Rattle.archive_world.proofs.Reusing.{begin-keeps_own, opening-keeps_own, stray-keeps_own}
@@ -60,6 +60,35 @@ none_tells unkept wanted old new before keeps = none_fails_of old keeps.0 before
 told_after : (grant : Grant) (wanted : Option Taken) (old new : Maps) (before : List Keeping) (now : Option (List Keeping)) → StepKeeps grant wanted old new (Some before) now → (after : List Keeping) × (now ≡ Some after)
 told_after grant wanted old new before None keeps = absurd (none_tells grant wanted old new before keeps)
 told_after grant wanted old new before (Some after) keeps = (after, refl)
+
+-- ---- a keep that was refused
+
+changed_of : (old new : Maps) (before after : Option (List Keeping)) → FailsKeepOf old new before after → new ≢ old
+changed_of old new before after (inl lynx) = λ is. lynx.1 (ap (λ (m : Maps). m.lynx) is)
+changed_of old new before after (inr ms) = λ is. ms.1 (ap (λ (m : Maps). m.ms) is)
+
+kept_due : (grant : Grant) (wanted : Option Taken) (t : Taken) (old new : Maps) (before after : Option (List Keeping)) → grant ≡ unkept → wanted ≡ Some t → StepKeeps grant wanted old new before after → (maps : Maps) × IsMerged t.file old maps × (maps ≢ old)
+kept_due grant wanted t old new before after is wants keeps =
+    let refused : RefusesKeep wanted old before after = subst (λ (g : Grant). StepKeeps g wanted old new before after) is keeps in (
+      refused.0,
+      subst (λ (o : Option Taken). Merges o old refused.0) wants refused.1,
+      changed_of old refused.0 before after refused.2,
+    )
+
+abbrev is_restart : Event → Bool
+is_restart (begin e operation) = false
+is_restart (deliver index spare) = false
+is_restart (client_times_out e) = false
+is_restart (server_times_out port) = false
+is_restart (stray d) = false
+is_restart restart = true
+
+-- no event of another kind is a restart
+no_restart : (e : Event) → is_restart e ≡ false → e ≡ restart → ⊥
+no_restart e other is = true≢false (sym (ap is_restart is) ∙ other)
+
+none_some : (t : Taken) → None ≡ Some t → ⊥
+none_some t is = true≢false (sym (ap (λ (o : Option Taken). is_some o) is))
 
 -- ---- a file that was taken
 
@@ -103,7 +132,9 @@ module _ (w v : World) (e : Endpoint) (operation : Operation) where
         may = may;
         own = λ own. subst HasOwnPorts (sym (is ∙ begins_fits w e operation may.0 may.1)) ((begin-keeps_own w own e operation).1 unused);
         merged = begun_merged;
+        due = tt;
         keeps = λ before tells. (before, tells, refl);
+        stays = λ is. refl;
       }
 
   pub begin-comes : (r : Result (Unit {0}) EventFault) (told : Option (List Keeping)) → OnOk r (v ≡ begun) → OnOk r (MayHappen (begin e operation) w) → OnOk r (IsUnused e w) → (r ≡ Err fault.Bad → MayHappen (begin e operation) w → ⊥) → (r ≡ Err fault.Reused → MayHappen (begin e operation) w) → (r ≡ Err fault.Reused → IsUnused e w → ⊥) → r ≢ Err fault.NotLoaded → Comes r (begin e operation) told told w v
@@ -145,7 +176,9 @@ module _ (w v : World) (d : Datagram) where
         may = may;
         own = λ own. subst HasOwnPorts (sym (is ∙ strays_fits w d may.0 may.1)) ((stray-keeps_own w own d).1 may.1);
         merged = remain-merged w strayed (strays_remain w (d.source.host == server_endpoint.host) (has_begun d.source w.begun) d);
+        due = tt;
         keeps = λ before tells. (before, tells, refl);
+        stays = λ is. refl;
       }
 
   pub stray-comes : (r : Result (Unit {0}) EventFault) (told : Option (List Keeping)) → OnOk r (v ≡ strayed) → OnOk r (MayHappen (stray d) w) → (r ≡ Err fault.Bad → MayHappen (stray d) w → ⊥) → r ≢ Err fault.Reused → r ≢ Err fault.NotLoaded → Comes r (stray d) told told w v
@@ -182,7 +215,9 @@ module _ (w v : World) (e : Endpoint) where
         may = may;
         own = λ own. subst HasOwnPorts (sym is) (waited_own (client_at e w) own);
         merged = remain-merged w waited (waits_remain w (client_at e w) e);
+        due = tt;
         keeps = λ before tells. (before, tells, refl);
+        stays = λ is. refl;
       }
 
   pub wait-comes : (r : Result (Unit {0}) EventFault) (told : Option (List Keeping)) → OnOk r (v ≡ waited) → OnOk r (MayHappen (client_times_out e) w) → (r ≡ Err fault.Bad → MayHappen (client_times_out e) w → ⊥) → r ≢ Err fault.Reused → r ≢ Err fault.NotLoaded → Comes r (client_times_out e) told told w v
@@ -211,7 +246,9 @@ module _ (w v : World) (port : ℕ) where
         may = tt;
         own = λ own. subst HasOwnPorts (sym is) (record { operations = own.operations; openings = own.openings; strangers = own.strangers });
         merged = remain-merged w timed (timed_taken, (timeout_leaves (transfer_at port w.server) port w.server).1);
+        due = tt;
         keeps = λ before tells. (before, tells, refl);
+        stays = λ is. refl;
       }
 
   pub time-comes : (r : Result (Unit {0}) EventFault) (told : Option (List Keeping)) → OnOk r (v ≡ timed) → IfErr r (λ f. f ≡ fault.Memory) → Comes r (server_times_out port) told told w v
@@ -236,7 +273,9 @@ module _ (w v : World) (told now : Option (List Keeping)) (same : now ≡ told) 
         may = tt;
         own = λ own. subst HasOwnPorts (sym is) (record { operations = own.operations; openings = own.openings; strangers = own.strangers });
         merged = remain-merged w (restarts w) (refl, refl);
+        due = tt;
         keeps = λ before tells. (before, same ∙ tells, λ kind. refl);
+        stays = λ is. same;
       }
 
   pub restart-comes : v.server.request ≡ w.server.request → ((log : List Keeping) → told ≡ Some log → HasKept log w.server.maps → IsCollected w.server.maps.lynx → IsCollected w.server.maps.ms → v ≡ restarts w) → Comes (Ok tt) restart told now w v
@@ -268,6 +307,10 @@ module _ (w v : World) (d : Datagram) (index spare : ℕ) (there : slice_get w.n
     away_may : MayDeliver index spare w
     away_may = may_deliver (λ to. absurd (away (ap (λ (e : Endpoint). e.host) to)))
 
+    away_due : (grant : Grant) → IsDue (deliver index spare) grant w
+    away_due grant = λ is t wants.
+        absurd (none_some t (sym (wanted_here false (ne_eqb d.target.host server_endpoint.host away)) ∙ wants))
+
     heard_as : (grant : Grant) → event_happens (deliver index spare) grant empty_maps w ≡ client_hears (client_at d.target w) grant d w
     heard_as grant = delivered grant empty_maps away_may false (ne_eqb d.target.host server_endpoint.host away)
 
@@ -290,7 +333,9 @@ module _ (w v : World) (d : Datagram) (index spare : ℕ) (there : slice_get w.n
           may = away_may;
           own = λ own. subst HasOwnPorts (sym is) (heard_own (client_at d.target w) grant own);
           merged = remain-merged w (event_happens (deliver index spare) grant empty_maps w) (subst (Remain w) (sym (heard_as grant)) remain);
+          due = away_due grant;
           keeps = λ before tells. (before, tells, inl (ap (λ (x : World). x.server.maps) is ∙ remain.1, refl));
+          stays = λ is. refl;
         }
 
     pub hear-comes : (told : Option (List Keeping)) → (grant : Grant) × (v ≡ client_hears (client_at d.target w) grant d w) → Comes (Ok tt) (deliver index spare) told told w v
@@ -331,6 +376,11 @@ module _ (w v : World) (d : Datagram) (index spare : ℕ) (there : slice_get w.n
       asked_as : (grant : Grant) → IsFree spare w → event_happens (deliver index spare) grant empty_maps w ≡ asked (memory_of grant)
       asked_as grant free = came_as grant empty_maps (free_may free) true (eq-eqb d.target.port w.server.request at)
 
+      asked_due : (grant : Grant) → IsDue (deliver index spare) grant w
+      asked_due grant = λ is t wants.
+          let none = wanted_here true (eq-eqb d.target.host server_endpoint.host ours) ∙ ap (λ (b : Bool). wanted_at b d w) (eq-eqb d.target.port w.server.request at) in
+          absurd (none_some t (sym none ∙ wants))
+
       asked_merged : (grant : Grant) → IsFree spare w → HasMerged (record { event = deliver index spare; grant = grant; maps = empty_maps }) w
       asked_merged grant free =
           remain-merged w (event_happens (deliver index spare) grant empty_maps w)
@@ -355,7 +405,9 @@ module _ (w v : World) (d : Datagram) (index spare : ℕ) (there : slice_get w.n
             may = free_may free;
             own = λ own. subst HasOwnPorts (sym is) (asked_own opened told none own);
             merged = asked_merged grant free;
+            due = asked_due grant;
             keeps = λ before tells. (before, tells, inl (ap (λ (x : World). x.server.maps) (is ∙ ap asked (sym (request_memory opened))) ∙ (request_remains w false None spare grant d).1, refl));
+            stays = λ is. refl;
           }
 
       reused_by : HasOwnPorts w → IsFree spare w → was_opened d.source spare w.opened ≡ true → (answered granted).told.opened ≡ true → HasOwnPorts (event_happens (deliver index spare) all empty_maps w) → ⊥
@@ -429,6 +481,10 @@ module _ (w v : World) (d : Datagram) (index spare : ℕ) (there : slice_get w.n
           let now = told_after h.grant wanted w.server.maps u.server.maps before new (subst (λ (o : Option (List Keeping)). StepKeeps h.grant wanted w.server.maps u.server.maps o new) is h.keeps) in
           (now.0, now.1, inr (stepped_keeps before now.0 is now.1))
 
+      stepped_due : IsDue (deliver index spare) h.grant w
+      stepped_due = λ is t wants.
+          kept_due h.grant wanted t w.server.maps u.server.maps old new is (sym stepped_wanted ∙ wants) h.keeps
+
       stepped_makes : Makes (deliver index spare) old new w u
       stepped_makes =
           record {
@@ -438,7 +494,9 @@ module _ (w v : World) (d : Datagram) (index spare : ℕ) (there : slice_get w.n
             may = other_may;
             own = stepped_own;
             merged = stepped_merged;
+            due = stepped_due;
             keeps = now_keeps;
+            stays = λ is. absurd (no_restart (deliver index spare) refl is);
           }
 
       pub transfer-fails : Comes (Err fault.Memory) (deliver index spare) old new w v

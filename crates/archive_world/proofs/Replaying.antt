@@ -17,7 +17,7 @@ use Rattle.archive_world.specs.Headline.{HasOwnPorts, Headline}
 use Rattle.archive_world.specs.Restarts.{EventKeeps, RunKeeps}
 use Rattle.archive_world.specs.Kept.{event_of, events_of}
 use Rattle.archive_world.specs.Outcomes.{Outcome, outcome_of}
-use Rattle.archive_world.specs.Replays.{HasHappened, Makes, IsReady, HasRun, IsBadAt, IsReusedAt, IsNotLoadedAt, HasStopped}
+use Rattle.archive_world.specs.Replays.{HaveKept, IsDue, AllDue, HasHappened, Makes, IsReady, HasRun, IsBadAt, IsReusedAt, IsNotLoadedAt, HasStopped}
 use Rattle.archive_world.specs.Exits.{IsKept, MakesKept, Comes, fault_of, Ends}
 use Rattle.archive_world.proofs.Collecting.{best-collected, start-best, run_from-best}
 use Rattle.archive_world.proofs.Concluding.{run-headline}
@@ -33,10 +33,22 @@ may_append : (xs ys : List Step) (w : World) → AllMayHappen xs w → AllMayHap
 may_append [] ys w first rest = rest
 may_append (x ∷ xs) ys w first rest = (first.0, may_append xs ys (happens x w) first.1 rest)
 
-keeps_append : (xs ys : List Step) (w : World) (before middle last : List Keeping) → RunKeeps xs w before middle → RunKeeps ys (run_from xs w) middle last → RunKeeps (xs ++ ys) w before last
-keeps_append [] ys w before middle last first rest = subst (λ (l : List Keeping). RunKeeps ys w l last) first rest
+due_append : (xs ys : List Step) (w : World) → AllDue xs w → AllDue ys (run_from xs w) → AllDue (xs ++ ys) w
+due_append [] ys w first rest = rest
+due_append (x ∷ xs) ys w first rest = (first.0, due_append xs ys (happens x w) first.1 rest)
+
+keeps_append : (xs ys : List Step) (w : World) (before middle last : List Keeping) → HaveKept xs w before middle → HaveKept ys (run_from xs w) middle last → HaveKept (xs ++ ys) w before last
+keeps_append [] ys w before middle last first rest = subst (λ (l : List Keeping). HaveKept ys w l last) first rest
 keeps_append (x ∷ xs) ys w before middle last first rest =
-    (first.0, first.1, keeps_append xs ys (happens x w) first.0 middle last first.2 rest)
+    (first.0, first.1, first.2, keeps_append xs ys (happens x w) first.0 middle last first.3 rest)
+
+run_keeps : (xs : List Step) (w : World) (before last : List Keeping) → HaveKept xs w before last → RunKeeps xs w before last
+run_keeps [] w before last keeps = keeps
+run_keeps (x ∷ xs) w before last keeps =
+    (keeps.0, keeps.1, run_keeps xs (happens x w) keeps.0 last keeps.3)
+
+some_same : (x y : List Keeping) → Some x ≡ Some y → x ≡ y
+some_same x y is = cc
 
 -- ---- what has happened
 
@@ -49,17 +61,18 @@ happened-start told w is =
       may = tt;
       own = subst HasOwnPorts (sym is) start-own;
       merged = tt;
-      keeps = λ none. ([], none, refl);
+      due = tt;
+      keeps = λ before tells. (before, tells, refl);
     }
 
 happened_kept : (events : List Event) (told now : Option (List Keeping)) (w : World) → told ≡ Some [] → HasHappened events told now w → IsKept now w
 happened_kept events told now w none h =
     let best = run_from-best h.steps start h.merged start-best in
-    let has = h.keeps none in
+    let has = h.keeps [] none in
     let there : IsKept now (run h.steps) = record {
       log = has.0;
       tells = has.1;
-      kept = (run-kept h.steps has.0 h.merged has.2).0;
+      kept = (run-kept h.steps has.0 h.merged (run_keeps h.steps start [] has.0 has.2)).0;
       lynx = best-collected Lynx _ (run h.steps).server.maps.lynx best.lynx;
       ms = best-collected Ms _ (run h.steps).server.maps.ms best.ms;
     } in
@@ -85,11 +98,12 @@ module _ (events : List Event) (e : Event) (told now after : Option (List Keepin
       subst (λ (x : World). EventKeeps e m.grant x (happens step x) first last) h.is
       (subst (λ (y : World). EventKeeps e m.grant w y first last) m.is keeps)
 
-  keeps_more : told ≡ Some [] → (log : List Keeping) × (after ≡ Some log) × RunKeeps steps start [] log
-  keeps_more none =
-      let has = h.keeps none in
+  keeps_more : (before : List Keeping) → told ≡ Some before → (log : List Keeping) × (after ≡ Some log) × HaveKept steps start before log
+  keeps_more before tells =
+      let has = h.keeps before tells in
       let then = m.keeps has.0 has.1 in
-      (then.0, then.1, keeps_append h.steps (step ∷ []) start [] has.0 then.0 has.2 (then.0, keeps_last has.0 then.0 then.2, refl))
+      let stays : e ≡ restart → then.0 ≡ has.0 = λ is. some_same then.0 has.0 (sym then.1 ∙ m.stays is ∙ has.1) in
+      (then.0, then.1, keeps_append h.steps (step ∷ []) start before has.0 then.0 has.2 (then.0, keeps_last has.0 then.0 then.2, stays, refl))
 
   happened_more : HasHappened (events ++ e ∷ []) told after v
   happened_more =
@@ -100,6 +114,7 @@ module _ (events : List Event) (e : Event) (told now after : Option (List Keepin
         may = may_append h.steps (step ∷ []) start h.may (subst (MayHappen e) h.is m.may, tt);
         own = m.own h.own;
         merged = merged_append h.steps (step ∷ []) start h.merged (subst (HasMerged step) h.is m.merged, tt);
+        due = due_append h.steps (step ∷ []) start h.due (subst (IsDue e m.grant) h.is m.due, tt);
         keeps = keeps_more;
       }
 

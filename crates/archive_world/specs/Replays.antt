@@ -1,15 +1,35 @@
 -- What a replay of events says: that all of them have happened, or which one is the first at fault, and why.
-use Rattle.std.specs.Prelude.{◌≡◌, ℕ, ◌≤◌, List, [], map, take, length, slice_get, Contains, Option, Some}
-use Rattle.archive_table.specs.Server.{Grant, Maps}
+use Rattle.std.specs.Prelude.{◌≡◌, ◌≢◌, ℕ, ◌≤◌, List, [], ◌∷◌, map, take, length, slice_get, Contains, Option, Some}
+use Rattle.archive_table.specs.Server.{Grant, unkept, Maps, Taken, IsMerged}
 use Rattle.archive_table.specs.Keeper.{Keeping, TableFails}
 use Rattle.archive_table.specs.declared.load_fault.LoadFault.{LoadFault}
-use Rattle.archive_world.specs.World.{Event, restart, Step, World, start, event_happens, run, HasMerged, AllMerged, MayHappen, AllMayHappen}
+use Rattle.archive_world.specs.World.{Event, begin, deliver, client_times_out, server_times_out, stray, restart, Step, World, start, event_happens, happens, run, HasMerged, AllMerged, MayHappen, AllMayHappen}
 use Rattle.archive_world.specs.Headline.{HasOwnPorts, Headline}
-use Rattle.archive_world.specs.Restarts.{EventKeeps, RunKeeps}
+use Rattle.archive_world.specs.Restarts.{EventKeeps, wanted_by}
 use Rattle.archive_world.specs.Outcomes.{Outcome, outcome_of}
 
+-- What the keeper has after these steps, where before them it had the first; a restart leaves its list.
+abbrev pub HaveKept : List Step → World → (before last : List Keeping) → Type 0
+HaveKept [] w before last = last ≡ before
+HaveKept (s ∷ steps) w before last =
+    (after : List Keeping) × EventKeeps s.event s.grant w (happens s w) before after × (s.event ≡ restart → after ≡ before) × HaveKept steps (happens s w) after last
+
+-- A keep is refused only where the file would have changed a collection.
+abbrev pub IsDue : Event → Grant → World → Type 0
+IsDue (begin e operation) grant w = Unit {0}
+IsDue (deliver index spare) grant w =
+    grant ≡ unkept → (t : Taken) → wanted_by (slice_get w.net index) w ≡ Some t → (maps : Maps) × IsMerged t.file w.server.maps maps × (maps ≢ w.server.maps)
+IsDue (client_times_out e) grant w = Unit {0}
+IsDue (server_times_out port) grant w = Unit {0}
+IsDue (stray d) grant w = Unit {0}
+IsDue restart grant w = Unit {0}
+
+abbrev pub AllDue : List Step → World → Type 0
+AllDue [] w = Unit {0}
+AllDue (s ∷ steps) w = IsDue s.event s.grant w × AllDue steps (happens s w)
+
 -- From the start, these events have led to this world. Each was one that may happen, and ports are own. A keeper that told
--- its list, and had nothing, tells it now, and has what the steps have kept.
+-- its list tells it now, and has what the steps have kept.
 pub record HasHappened (events : List Event) (told now : Option (List Keeping)) (w : World) : Type 0 where
   pub steps : List Step
   pub events_are : map (λ (s : Step). s.event) steps ≡ events
@@ -17,7 +37,8 @@ pub record HasHappened (events : List Event) (told now : Option (List Keeping)) 
   pub may : AllMayHappen steps start
   pub own : HasOwnPorts w
   pub merged : AllMerged steps start
-  pub keeps : told ≡ Some [] → (log : List Keeping) × (now ≡ Some log) × RunKeeps steps start [] log
+  pub due : AllDue steps start
+  pub keeps : (before : List Keeping) → told ≡ Some before → (log : List Keeping) × (now ≡ Some log) × HaveKept steps start before log
 
 -- what one event makes of a world and of a keeper's list, where it may happen and ports stay own
 pub record Makes (e : Event) (told now : Option (List Keeping)) (w v : World) : Type 0 where
@@ -27,7 +48,10 @@ pub record Makes (e : Event) (told now : Option (List Keeping)) (w v : World) : 
   pub may : MayHappen e w
   pub own : HasOwnPorts w → HasOwnPorts v
   pub merged : HasMerged (record { event = e; grant = grant; maps = maps }) w
+  pub due : IsDue e grant w
   pub keeps : (before : List Keeping) → told ≡ Some before → (after : List Keeping) × (now ≡ Some after) × EventKeeps e grant w v before after
+  -- a restart leaves its list
+  pub stays : e ≡ restart → now ≡ told
 
 -- ---- the end of a replay
 

@@ -1,9 +1,24 @@
 use Rattle.std.proofs.Common.{◌≡◌, length, arith}
 use Rattle.std.proofs.lemmas.List.{take_all}
-use Rattle.archive_world.specs.declared.world_fault.WorldFault.TheVariants.{PortReused}
+use Rattle.archive_world.specs.declared.world_fault.WorldFault.TheVariants.{BadEvent, PortReused, NotLoaded, Memory}
 use Rattle.archive_world.specs.Kept.{events_of}
-use Rattle.archive_world.proofs.Replaying.{ran-to, stopped-after, reused-by}
+use Rattle.archive_world.proofs.Replaying.{ran-to, stopped-after, bad-by, reused-by, not_loaded-by, stopped-by}
 use Rattle.archive_world.proofs.schedule.replay.Goals as goal
+
+pub returns-in-Err-clause-bad : goal.returns-in-Err-clause-bad
+returns-in-Err-clause-bad g c = λ i is.
+    let same : c.in-Err.fault ≡ BadEvent i = cc in
+    bad-by (events_of c.args.events.now) (g.K.Keeper.log c.args.keeper.now) (g.K.Keeper.log c.happen_all.new.keeper) c.happen_all.new.machine c.in-Err.fault c.in-Err.ensures i same
+
+pub returns-in-Err-clause-not_loaded : goal.returns-in-Err-clause-not_loaded
+returns-in-Err-clause-not_loaded g c = λ i is.
+    let same : c.in-Err.fault ≡ NotLoaded i = cc in
+    not_loaded-by (events_of c.args.events.now) (g.K.Keeper.log c.args.keeper.now) (g.K.Keeper.log c.happen_all.new.keeper) c.happen_all.new.machine c.in-Err.fault c.in-Err.ensures i same
+
+pub returns-in-Err-clause-memory : goal.returns-in-Err-clause-memory
+returns-in-Err-clause-memory g c = λ is.
+    let same : c.in-Err.fault ≡ Memory = cc in
+    stopped-by (events_of c.args.events.now) (g.K.Keeper.log c.args.keeper.now) (g.K.Keeper.log c.happen_all.new.keeper) c.happen_all.new.machine c.in-Err.fault c.in-Err.ensures same
 
 pub returns-in-Err-clause-reused : goal.returns-in-Err-clause-reused
 returns-in-Err-clause-reused g c = λ i is.
