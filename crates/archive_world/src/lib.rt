@@ -3,8 +3,8 @@
 //!
 //! `specs/World.antt` is the file to read first: what a world is, and what each event makes of it. `specs/Headline.antt`
 //! has the premise on ports and what holds of every run. `Traces` has runs as their ends tell them, `Reuse` the tests by
-//! which ports stay own, `Restarts` why a restart leaves the collections as they are, `Outcomes` what a run leaves, and
-//! `Samples` some runs.
+//! which ports stay own, `Restarts` why a restart leaves the collections as they are, `Outcomes` what a run leaves,
+//! `Replays` what a replay of events says, and `Samples` some runs.
 #![tactic(auto)]
 
 mod answered;
