@@ -118,7 +118,11 @@ fn get(
 // its records are too few for a solution.
 fn there_and_back(alloc: Global, size: usize, times: u8) -> Result<bool, Fail> {
     let file = file_of(alloc, size)?;
-    let want = if size < 20 { HEADER.as_slice() } else { file.as_slice() };
+    let want = if size < 20 {
+        HEADER.as_slice()
+    } else {
+        file.as_slice()
+    };
     let mut server = Server::new(alloc, 6969);
     let mut wire = wire_of(alloc, &[4000, 4001, 4002, 4003])?;
     let copy = Vec::from_slice(alloc, file.as_slice())?;
