@@ -17,7 +17,7 @@ use Rattle.archive_world.specs.Headline.{HasOwnPorts, Headline}
 use Rattle.archive_world.specs.Restarts.{EventKeeps, RunKeeps}
 use Rattle.archive_world.specs.Kept.{event_of, events_of}
 use Rattle.archive_world.specs.Outcomes.{Outcome, outcome_of}
-use Rattle.archive_world.specs.Replays.{HasHappened, Makes, IsReady, HasRun, IsBadAt, IsReusedAt, IsNotLoadedAt, HasStopped}
+use Rattle.archive_world.specs.Replays.{HasHappened, Makes, IsReady, HasRun, IsReusedAt, HasStopped}
 use Rattle.archive_world.specs.Exits.{IsKept, MakesKept, Comes, fault_of, Ends}
 use Rattle.archive_world.proofs.Collecting.{best-collected, start-best, run_from-best}
 use Rattle.archive_world.proofs.Concluding.{run-headline}
@@ -208,18 +208,5 @@ module _ (events : List Event) (told now : Option (List Keeping)) (v : World) wh
         happened = subst (λ (es : List Event). HasHappened es told now v) (sym all) h;
       }
 
-  module _ (f : WorldFault) (ends : IsReady told events → Ends (Err f) events told now v) where
-    ends_by : (g : WorldFault) → f ≡ g → IsReady told events → Ends (Err g) events told now v
-    ends_by g is ready = subst (λ (x : WorldFault). Ends (Err x) events told now v) is (ends ready)
-
-    pub bad-by : (i : ℕ) → f ≡ world.BadEvent i → IsReady told events → IsBadAt events told now i
-    bad-by i is ready = ends_by (world.BadEvent i) is ready
-
-    pub reused-by : (i : ℕ) → f ≡ world.PortReused i → IsReady told events → IsReusedAt events told now i
-    reused-by i is ready = ends_by (world.PortReused i) is ready
-
-    pub not_loaded-by : (i : ℕ) → f ≡ world.NotLoaded i → IsReady told events → IsNotLoadedAt events told now i
-    not_loaded-by i is ready = ends_by (world.NotLoaded i) is ready
-
-    pub stopped-by : f ≡ world.Memory → IsReady told events → HasStopped events told now
-    stopped-by is ready = ends_by world.Memory is ready
+  pub reused-by : (f : WorldFault) → (IsReady told events → Ends (Err f) events told now v) → (i : ℕ) → f ≡ world.PortReused i → IsReady told events → IsReusedAt events told now i
+  reused-by f ends i is ready = subst (λ (x : WorldFault). Ends (Err x) events told now v) is (ends ready)
