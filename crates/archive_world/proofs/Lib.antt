@@ -45,5 +45,6 @@ pub mod Searches
 pub mod Steps
 pub mod Firsts
 pub mod Clients
+pub mod Entering
 pub mod Exiting
 pub mod Replaying

@@ -1,12 +1,12 @@
 -- What holds of every run: of the operations that began, the files that were taken, sent and fetched, and the collections.
-use Rattle.std.specs.Prelude.{◌≡◌, ◌⊎◌, ℕ, ◌≤◌, List, ◌∷◌, ◌++◌, map, take, length, slice_get, Contains, Some}
+use Rattle.std.specs.Prelude.{◌≡◌, ◌⊎◌, ℕ, ◌≤◌, List, [], ◌∷◌, ◌++◌, map, take, length, slice_get, Contains, Some}
 use Rattle.tftp_packet.specs.declared.endpoint.Endpoint.{Endpoint}
 use Rattle.tws_file.specs.declared.«ruleset».Ruleset.{Ruleset}
 use Rattle.tws_file.specs.declared.«ruleset».Ruleset.TheVariants.{Lynx, Ms}
 use Rattle.tws_best.specs.Best.{Collected, IsCollectionOf, collection_text}
 use Rattle.archive_table.specs.Server.{Taken}
 use Rattle.archive_client.specs.Client.{put, get}
-use Rattle.archive_world.specs.World.{Datagram, Begun, begin, Step, run, Opening, to_read, Got, World}
+use Rattle.archive_world.specs.World.{Datagram, Begun, begin, stray, Step, run, Opening, to_read, Got, World}
 
 -- ---- own ports
 
@@ -104,3 +104,8 @@ pub record BeganBy (steps : List Step) (b : Begun) : Type 0 where
   pub split : steps ≡ before ++ step ∷ after
   pub event : step.event ≡ begin b.client b.operation
   pub counted : b.taken ≡ length (run before).taken
+
+-- The datagram entered the network by one of these steps.
+abbrev pub StraysBy : List Step → Datagram → Type 0
+StraysBy [] d = ⊥
+StraysBy (s ∷ steps) d = (s.event ≡ stray d) ⊎ StraysBy steps d

@@ -10,7 +10,7 @@ ghost use Rattle.archive_table.specs.Server.{Grant, Maps, Taken};
 ghost use Rattle.archive_table.specs.Keeper.{Keeping};
 ghost use Rattle.archive_world.specs.Restarts.{HasKept, StepStaysKept, LoadsTheSame, RunKeeps, RestartsFrom};
 ghost use Rattle.archive_world.specs.Traces.{Member, trace_from, trace_steps, AllDeedsMerged};
-ghost use Rattle.archive_world.specs.Headline.{HasOwnPorts, Headline, FetchesSent, BeganBy};
+ghost use Rattle.archive_world.specs.Headline.{HasOwnPorts, Headline, FetchesSent, BeganBy, StraysBy};
 
 /// Of every list of begins, deliveries of any datagram ever sent, losses, time-outs, strangers' datagrams and restarts,
 /// whatever memory is refused and whatever is not kept: where no port pair serves two transfers and no stranger has the
@@ -21,6 +21,8 @@ pub fn network_law()
     ensures headline { (steps : List Step) → HasOwnPorts (run steps) → AllMerged steps start → Headline (run steps) }
     // What has begun are operations of the events, each with the number of files that were taken before its event.
     ensures began { (steps : List Step) (b : Begun) → Contains (run steps).begun b → BeganBy steps b }
+    // The strays are those of the events.
+    ensures strays { (steps : List Step) (d : Datagram) → Contains (run steps).strays d → StraysBy steps d }
     // So a put that was counted as sent before a get began is in what that has fetched.
     ensures since { (before after : List Step) (s : Step) → HasOwnPorts (run (before ++ s ∷ after)) → AllMerged (before ++ s ∷ after) start → FetchesSent before after s }
     // For all events and grants there are collections that the server's contract says, and the world after them is one.

@@ -1,4 +1,5 @@
 use Rattle.archive_world.proofs.Counting.{began-by}
+use Rattle.archive_world.proofs.Entering.{strays-by}
 use Rattle.archive_world.proofs.Concluding.{run-headline}
 use Rattle.archive_world.proofs.Fetching.{fetches-sent}
 use Rattle.archive_world.proofs.Totality.{run-total, run-one}
@@ -18,3 +19,6 @@ returns-clause-total c = run-total
 
 pub returns-clause-one : goal.returns-clause-one
 returns-clause-one c = run-one
+
+pub returns-clause-strays : goal.returns-clause-strays
+returns-clause-strays c = strays-by
