@@ -48,7 +48,8 @@ fn file_of(alloc: Global, size: usize) -> Result<Vec<u8>, AllocError> {
         }
         return Ok(bytes);
     }
-    bytes.extend_from_slice(&((size - 4) as u32).to_le_bytes())?;
+    let record = ((size - 4) % 0x1_0000_0000) as u32;
+    bytes.extend_from_slice(&record.to_le_bytes())?;
     bytes.extend_from_slice(b"\x01\0BDHP\0\0\0\0\0\0\x64\0\0\0")?;
     for _ in 20..size {
         bytes.push(0x61)?;
