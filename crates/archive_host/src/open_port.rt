@@ -1,4 +1,6 @@
-ghost use Rattle.std.specs.Prelude.{◌≡◌, ◌≤◌, true, false, IfOk, OnErr, IfSome, IfNone};
+ghost use Rattle.std.specs.Prelude.{◌≡◌, ◌≤◌, IfOk, OnErr, IfSome, IfNone};
+ghost use Rattle.archive_host.specs.declared.open_port.Arrival.TheVariants.{Nothing, Perhaps, Reported};
+ghost use Rattle.archive_host.specs.Arrivals.{is_reported};
 
 use archive_turns::RECEIVE_SIZE;
 use mio::net::UdpSocket;
@@ -8,12 +10,23 @@ use std::io::ErrorKind;
 use std::net::{Ipv4Addr, Net, SocketAddr};
 use tftp_packet::{Endpoint, Out};
 
+/// What is known of the datagrams that have come to a port and were not read. The system reports an arrival once.
+#[derive(Clone, Copy, Debug, PartialEq, Eq)]
+pub enum Arrival {
+    /// There is none of which the system has reported.
+    Nothing,
+    /// One was read since the last report, so there may be more.
+    Perhaps,
+    /// One was reported and none was read since.
+    Reported,
+}
+
 /// A port that is open, and its socket.
 #[derive(Drop)]
 pub struct OpenPort {
     port: u16,
     socket: UdpSocket,
-    ready: bool,
+    arrival: Arrival,
 }
 
 impl OpenPort {
@@ -33,7 +46,7 @@ impl OpenPort {
         Ok(OpenPort {
             port,
             socket,
-            ready: false,
+            arrival: Arrival::Nothing,
         })
     }
 
@@ -44,19 +57,28 @@ impl OpenPort {
         self.port
     }
 
-    /// Whether a datagram may have come that was not read. The system reports an arrival once, so this holds until a read
-    /// finds nothing.
-    pub fn is_ready(&self) -> bool
-        ensures { result ≡ self.now.ready }
+    /// What is known of datagrams that were not read.
+    pub fn arrival(&self) -> Arrival
+        ensures { result ≡ self.now.arrival }
     {
-        self.ready
+        self.arrival
+    }
+
+    /// Whether a datagram was reported and none was read since.
+    pub fn is_ready(&self) -> bool
+        ensures { result ≡ is_reported self.now.arrival }
+    {
+        match self.arrival {
+            Arrival::Reported => true,
+            Arrival::Nothing | Arrival::Perhaps => false,
+        }
     }
 
     /// Notes that a datagram has come.
     pub fn mark(&mut self)
-        ensures { self.new ≡ record self.old { ready = true } }
+        ensures { self.new ≡ record self.old { arrival = Reported } }
     {
-        self.ready = true;
+        self.arrival = Arrival::Reported;
     }
 
     /// The oldest datagram that was not read: how many of its bytes are in the buffer, and where it came from. None if
@@ -68,12 +90,13 @@ impl OpenPort {
     pub fn read(&mut self, buffer: &mut [u8; RECEIVE_SIZE]) -> io::Result<Option<(usize, Endpoint)>>
         ensures count { IfOk result (λ got. IfSome got (λ g. g.0 ≤ RECEIVE_SIZE)) }
         ensures port { self.new.port ≡ self.old.port }
-        ensures came { IfOk result (λ got. IfSome got (λ _. self.new.ready ≡ self.old.ready)) }
-        ensures nothing { IfOk result (λ got. IfNone got (self.new.ready ≡ false)) }
-        ensures failed { OnErr result (self.new.ready ≡ self.old.ready) }
+        ensures came { IfOk result (λ got. IfSome got (λ _. self.new.arrival ≡ Perhaps)) }
+        ensures nothing { IfOk result (λ got. IfNone got (self.new.arrival ≡ Nothing)) }
+        ensures failed { OnErr result (self.new.arrival ≡ self.old.arrival) }
     {
         match self.socket.recv_from(&mut buffer[..]) {
             Ok((count, SocketAddr::V4(from))) => {
+                self.arrival = Arrival::Perhaps;
                 let host = from.ip().to_bits();
                 let port = from.port();
                 Ok(Some((count, Endpoint { host, port })))
@@ -81,7 +104,7 @@ impl OpenPort {
             Ok(_) => Err(io::Error::from(ErrorKind::InvalidData)),
             Err(e) => {
                 if e.kind() == ErrorKind::WouldBlock {
-                    self.ready = false;
+                    self.arrival = Arrival::Nothing;
                     Ok(None)
                 } else {
                     Err(e)

@@ -1,6 +1,7 @@
-ghost use Rattle.std.specs.Prelude.{◌≡◌, ◌<◌, ◌⊎◌, length, IfSome, slice_get, Some};
+ghost use Rattle.std.specs.Prelude.{◌≡◌, ◌<◌, ◌++◌, ◌∷◌, [], length, IfSome, OnOk, OnErr, slice_get, Some};
+ghost use Rattle.archive_host.specs.Arrivals.{lesser, ready_least, ready_above};
 
-use crate::open_port::OpenPort;
+use crate::open_port::{Arrival, OpenPort};
 use std::alloc::{AllocError, Global};
 
 /// The ports that are open, in the order in which they were opened.
@@ -11,17 +12,11 @@ pub struct OpenPorts {
 
 // The lesser of a port and the least so far.
 fn lesser(least: Option<u16>, port: u16) -> Option<u16>
-    ensures { IfSome result (λ m. (m ≡ port) ⊎ (Some m ≡ least)) }
+    ensures { result ≡ lesser least port }
 {
     match least {
-        Some(least) => {
-            if least < port {
-                Some(least)
-            } else {
-                Some(port)
-            }
-        }
         None => Some(port),
+        Some(least) => Some(least.min(port)),
     }
 }
 
@@ -38,7 +33,10 @@ impl OpenPorts {
     /// # Errors
     ///
     /// Out of memory: the port is closed again, the others are as they were.
-    pub fn push(&mut self, port: OpenPort) -> Result<(), AllocError> {
+    pub fn push(&mut self, port: OpenPort) -> Result<(), AllocError>
+        ensures ok { OnOk result (self.new.ports.items ≡ self.old.ports.items ++ port ∷ []) }
+        ensures err { OnErr result (self.new.ports.items ≡ self.old.ports.items) }
+    {
         self.ports.push(port)?;
         Ok(())
     }
@@ -80,7 +78,7 @@ impl OpenPorts {
 
     /// The least port above this one that is ready.
     pub fn ready_above(&self, after: u16) -> Option<u16>
-        ensures { IfSome result (λ port. after < port) }
+        ensures { result ≡ ready_above after self.now.ports.items }
     {
         let mut least = None;
         for open in &self.ports {
@@ -92,7 +90,9 @@ impl OpenPorts {
     }
 
     /// The least port that is ready.
-    pub fn ready_least(&self) -> Option<u16> {
+    pub fn ready_least(&self) -> Option<u16>
+        ensures { result ≡ ready_least self.now.ports.items }
+    {
         let mut least = None;
         for open in &self.ports {
             if open.is_ready() {
@@ -100,5 +100,21 @@ impl OpenPorts {
             }
         }
         least
+    }
+
+    /// Whether a datagram may have come to a port that was not read.
+    pub fn may_have_more(&self) -> bool {
+        self.ports
+            .iter()
+            .any(|open| open.arrival() != Arrival::Nothing)
+    }
+
+    /// Marks the ports that were read since the last report, so that they are read again.
+    pub fn mark_read(&mut self) {
+        for open in &mut self.ports {
+            if open.arrival() == Arrival::Perhaps {
+                open.mark();
+            }
+        }
     }
 }

@@ -254,6 +254,31 @@ fn a_busy_port_starves_no_other(rt: HostRuntime) -> Result<(), Fail> {
     Ok(())
 }
 
+// Two datagrams have come to the upper port. It is read twice within five laps, though another comes to the lower port before
+// each.
+#[test]
+fn a_second_datagram_is_not_kept_back(rt: HostRuntime) -> Result<(), Fail> {
+    let (mut wire, low) = listening(rt)?;
+    let high = wire.open()?;
+    let mut peer = UdpWire::new(rt);
+    let from = peer.open()?;
+    peer.send(&ack(from, high, 1))?;
+    peer.send(&ack(from, high, 2))?;
+    let mut last = 0;
+    let mut visits = 0_u32;
+    for block in 0..10 {
+        peer.send(&ack(from, low, block))?;
+        let ready = wire.wait(last, None);
+        let got = visit(&mut wire, ready.port)?;
+        if ready.port == Some(high) && got.is_some() {
+            visits = visits.wrapping_add(1);
+        }
+        last = ready.port.unwrap_or(0);
+    }
+    assert_eq!(rt; visits, 2);
+    Ok(())
+}
+
 // A new folder among the temporary ones.
 fn folder(rt: &HostRuntime, name: &str) -> Result<String, Fail> {
     let process = process::id(rt.process());

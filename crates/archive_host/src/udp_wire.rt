@@ -2,6 +2,7 @@
 
 ghost use Rattle.std.specs.Prelude.{◌≡◌, ◌==◌, ◌≤◌, ◌<◌, ◌+◌, ◌-◌, ◌^◌, None, IfOk, IfSome, IfErr, OnErr, if◌then◌else◌};
 ghost use Rattle.archive_table.specs.Keeper.{FailsAt};
+ghost use Rattle.archive_host.specs.declared.udp_wire.TheConstants.{LAPS};
 
 use crate::open_port::OpenPort;
 use crate::open_ports::OpenPorts;
@@ -21,6 +22,9 @@ const WAIT: u64 = 5;
 // or reports fail would end none.
 const LOOKS: u32 = 1000;
 
+// In one of so many laps over the ports, those that were read are read again.
+const LAPS: u8 = 4;
+
 /// A wire over UDP and IPv4, whose ports are open at every address of this host. `receive` waits 5 ms at most, and not at
 /// all at the port that `wait` has just given. Its clock is in milliseconds. It does not tell its log.
 #[derive(Drop)]
@@ -30,8 +34,10 @@ pub struct UdpWire<R: Net + Clock + AllocGlobal + Copy> {
     ports: OpenPorts,
     range: PortRange,
     given: Option<u16>,
+    lap: u8,
     time: u64,
     failures: u64,
+    ghost laps: { lap < LAPS },
 }
 
 // A place that differs from one start of a program to the next, so that a port that was open before a restart is seldom
@@ -54,6 +60,7 @@ impl<R: Net + Clock + AllocGlobal + Copy> UdpWire<R> {
             ports: OpenPorts::new(rt.alloc()),
             range: PortRange::from_place(place(&rt)),
             given: None,
+            lap: 0,
             time: 0,
             failures: 0,
         }
@@ -175,27 +182,39 @@ impl<R: Net + Clock + AllocGlobal + Copy> UdpWire<R> {
         Ok(None)
     }
 
-    // How long to wait for a moment, if nothing is ready.
+    // How long to wait for a moment, if nothing is left to be read.
     fn until(&mut self, until: Option<u64>) -> Option<u64>
         ensures failures { self.new.failures ≡ self.old.failures }
     {
-        if self.ports.ready_least().is_some() {
+        if self.ports.may_have_more() {
             return Some(0);
         }
         let now = self.now();
         until.map(|until| until.saturating_sub(now))
     }
 
-    // The next ready port. Once no port above this one is ready the system is looked at, so that in each round over the
-    // ports it is looked at once, however busy they are.
+    // Begins a lap over the ports: the system is looked at. A port that was read mostly has no second datagram, so it is
+    // read again where no other is ready, and in each fourth lap, so that what has come to it is not kept back for long.
+    fn begin_lap(&mut self, until: Option<u64>)
+        ensures failures { self.new.failures ≡ self.old.failures }
+    {
+        let millis = self.until(until);
+        self.look(millis);
+        self.lap = (self.lap + 1) % LAPS;
+        if self.lap == 0 || self.ports.ready_least().is_none() {
+            self.ports.mark_read();
+        }
+    }
+
+    // The next ready port. Once no port above this one is ready a lap begins, so that the system is looked at once in each,
+    // however busy the ports are.
     fn next_ready(&mut self, after: u16, until: Option<u64>) -> Option<u16>
         ensures failures { self.new.failures ≡ self.old.failures }
     {
         if let Some(port) = self.ports.ready_above(after) {
             return Some(port);
         }
-        let millis = self.until(until);
-        self.look(millis);
+        self.begin_lap(until);
         match self.ports.ready_above(after) {
             Some(port) => Some(port),
             None => self.ports.ready_least(),

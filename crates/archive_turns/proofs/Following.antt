@@ -9,8 +9,8 @@ use Rattle.archive_table.specs.Server.{Server, IsServer, server_request, server_
 use Rattle.archive_turns.specs.declared.change.Change.{Change}
 use Rattle.archive_turns.specs.declared.timer.Timer.{Timer}
 use Rattle.archive_turns.specs.Wire.{Entry, Grows}
-use Rattle.archive_turns.specs.Timers.{ports_of, live_ports, with_timer, timed, timed_out, HasRoom}
-use Rattle.archive_turns.specs.Parts.{IsTimeout, Walks, Tracks}
+use Rattle.archive_turns.specs.Timers.{ports_of, live_ports, with_timer, timed, timed_out, HasRoom, Tracks}
+use Rattle.archive_turns.specs.Parts.{IsTimeout, Walks}
 use Rattle.archive_turns.specs.Turn.{Replies, Receipt, datagram, nothing, fault, Answers, Visited, transfer_change, transfer_visit, transfer_received, timeout_visit, request_change, request_visit, request_received, request_spared, request_used, is_usable, Walk, walk, walk_on}
 use Rattle.archive_turns.proofs.Log.{grows_none, grows_join}
 use Rattle.archive_turns.proofs.Ports.{insert_port, remove_port, ports_with, ports_without, ports_due, length_with}
@@ -22,7 +22,6 @@ use Rattle.archive_turns.proofs.Visits.{usable_free}
 pub record Keeps (s : Server) (v : Visited) : Type 0 where
   pub tracks : (due : ℕ) (timers : List Timer) → ports_of timers ≡ live_ports s → ports_of (timed v.change due timers) ≡ live_ports v.server
   pub room : (timers : List Timer) → ports_of timers ≡ live_ports s → length v.server.live ≤ LIVE → HasRoom v.change timers
-  pub request : v.server.request ≡ s.request
 
 transfer_tracks : (closed : Bool) (out : Option Out) (port : ℕ) (s new : Server) → live_ports new ≡ cond closed (remove_port port (live_ports s)) (live_ports s) → (due : ℕ) (timers : List Timer) → ports_of timers ≡ live_ports s → ports_of (timed (transfer_change closed out port) due timers) ≡ live_ports new
 transfer_tracks true out port s new e due timers same = ports_without port timers ∙ ap (remove_port port) same ∙ sym e
@@ -41,12 +40,11 @@ received_keeps (datagram from bytes) a port s =
     record {
       tracks = transfer_tracks made.told.closed made.told.out port s made.server step.ports;
       room = λ timers same few. transfer_room made.told.closed made.told.out port timers;
-      request = step.request;
     }
 received_keeps nothing a port s =
-    record { tracks = λ due timers same. same; room = λ timers same few. tt; request = refl }
+    record { tracks = λ due timers same. same; room = λ timers same few. tt }
 received_keeps fault a port s =
-    record { tracks = λ due timers same. same; room = λ timers same few. tt; request = refl }
+    record { tracks = λ due timers same. same; room = λ timers same few. tt }
 
 pub transfer_keeps : (a : Answers) (port : ℕ) (s : Server) → Keeps s (transfer_visit a port s)
 transfer_keeps a port s = received_keeps a.receipt a port s
@@ -76,24 +74,23 @@ used_keeps true spare a from bytes s e =
     record {
       tracks = request_tracks made.told.opened spare s made.server step.ports;
       room = request_room made.told.opened spare s made.server step.ports;
-      request = step.request;
     }
 used_keeps false spare a from bytes s e =
-    record { tracks = λ due timers same. same; room = λ timers same few. tt; request = refl }
+    record { tracks = λ due timers same. same; room = λ timers same few. tt }
 
 spared_keeps : (o : Option ℕ) (a : Answers) (from : _) (bytes : List ℕ) (s : Server) → Keeps s (request_spared o a.verdict a.replies from bytes s)
 spared_keeps (Some spare) a from bytes s = used_keeps (is_usable spare s) spare a from bytes s refl
 spared_keeps None a from bytes s =
-    record { tracks = λ due timers same. same; room = λ timers same few. tt; request = refl }
+    record { tracks = λ due timers same. same; room = λ timers same few. tt }
 
 request_keeps_at : (r : Receipt) (a : Answers) (s : Server) → Keeps s (request_received r a s)
 request_keeps_at (datagram from bytes) a s =
     let kept = spared_keeps a.spare a from bytes s in
-    record { tracks = kept.tracks; room = kept.room; request = kept.request }
+    record { tracks = kept.tracks; room = kept.room }
 request_keeps_at nothing a s =
-    record { tracks = λ due timers same. same; room = λ timers same few. tt; request = refl }
+    record { tracks = λ due timers same. same; room = λ timers same few. tt }
 request_keeps_at fault a s =
-    record { tracks = λ due timers same. same; room = λ timers same few. tt; request = refl }
+    record { tracks = λ due timers same. same; room = λ timers same few. tt }
 
 pub request_keeps : (a : Answers) (s : Server) → Keeps s (request_visit a s)
 request_keeps a s = request_keeps_at a.receipt a s
@@ -140,11 +137,10 @@ walks_at {before} {mid} {after} items i d due s old new timers left now change s
     let here : Walks (take (i + 1) items) due s new timers (timed_out change (get_or items i d) due left) before after = subst (λ (ps : List ℕ). Walks ps due s new timers (timed_out change (get_or items i d) due left) before after) (sym (take_more items i d small)) more in
     subst (λ (l : List Timer). Walks (take (i + 1) items) due s new timers l before after) (sym now-is) here
 
-pub tracks_at : {before after : Option (List Entry)} (port : ℕ) (due : ℕ) (s old new : Server) (left now : List Timer) (change : Change) → Tracks s old left → IsTimeout (λ r. timeout_visit r port old) new change before after → now ≡ timed_out change port due left → IsServer new → Tracks s new now
-tracks_at port due s old new left now change tracks timeout now-is fits =
+pub tracks_at : {before after : Option (List Entry)} (port : ℕ) (due : ℕ) (old new : Server) (left now : List Timer) (change : Change) → Tracks old left → IsTimeout (λ r. timeout_visit r port old) new change before after → now ≡ timed_out change port due left → IsServer new → Tracks new now
+tracks_at port due old new left now change tracks timeout now-is fits =
     let made = timeout_visit timeout.replies port old in
     record {
       fits = fits;
       tracks = ap ports_of now-is ∙ ap (λ (c : Change). ports_of (timed_out c port due left)) timeout.change_is ∙ timeout_tracks timeout.replies port old due left tracks.tracks ∙ ap live_ports (sym timeout.server);
-      request = ap (λ (x : Server). x.request) timeout.server ∙ (server_timeout_step port old).request ∙ tracks.request;
     }

@@ -23,7 +23,7 @@ port_keeps false port a s = transfer_keeps a port s
 pub ready_keeps : (port : Option ℕ) (a : Answers) (s : Server) → Keeps s (ready_visit port a s)
 ready_keeps (Some port) a s = port_keeps (port == s.request) port a s
 ready_keeps None a s =
-    record { tracks = λ due timers same. same; room = λ timers same few. tt; request = refl }
+    record { tracks = λ due timers same. same; room = λ timers same few. tt }
 
 -- no port is ready
 pub visit_none : (log : Option (List Entry)) (kept : Option (List Keeping)) (port : Option ℕ) (s : Server) → port ≡ None → IsVisit (λ a. ready_visit port a s) (λ a. ready_asks port a s) s s false Nothing log log kept kept
@@ -40,10 +40,6 @@ pub ready_room : {before after : Option (List Entry)} {kept now : Option (List K
 ready_room port s new taken change timers visit same fits =
     let few : length (ready_visit port visit.answers s).server.live ≤ LIVE = subst (λ (x : Server). length x.live ≤ LIVE) visit.server fits.few in
     subst (λ (c : Change). HasRoom c timers) (sym visit.change_is) ((ready_keeps port visit.answers s).room timers same few)
-
-pub ready_request_port : {before after : Option (List Entry)} {kept now : Option (List Keeping)} (port : Option ℕ) (s new : Server) (taken : Bool) (change : Change) → IsVisit (λ a. ready_visit port a s) (λ a. ready_asks port a s) s new taken change before after kept now → new.request ≡ s.request
-ready_request_port port s new taken change visit =
-    ap (λ (x : Server). x.request) visit.server ∙ (ready_keeps port visit.answers s).request
 
 -- ---- the round
 

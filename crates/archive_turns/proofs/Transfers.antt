@@ -15,19 +15,18 @@ use Rattle.archive_turns.proofs.Ports.{remove_port, keys_set, keys_remove}
 
 pub record TransferStep (port : ℕ) (s : Server) (a : Answer) : Type 0 where
   pub ports : live_ports a.server ≡ cond a.told.closed (remove_port port (live_ports s)) (live_ports s)
-  pub request : a.server.request ≡ s.request
 
 stays_step : (port : ℕ) (s : Server) → TransferStep port s (stays s)
-stays_step port s = record { ports = refl; request = refl }
+stays_step port s = record { ports = refl }
 
 goes_step : (port : ℕ) (peer : Endpoint) (end : End) (out : Option (List ℕ)) (s : Server) → TransferStep port s (goes_on port peer end out s)
-goes_step port peer end out s = record { ports = keys_set port s.live _; request = refl }
+goes_step port peer end out s = record { ports = keys_set port s.live _ }
 
 closes_step : (port : ℕ) (peer : Endpoint) (out : Option (List ℕ)) (s : Server) → TransferStep port s (closes port peer out s)
-closes_step port peer out s = record { ports = keys_remove port s.live; request = refl }
+closes_step port peer out s = record { ports = keys_remove port s.live }
 
 come_step : (g : Grant) (maps : Maps) (port : ℕ) (peer : Endpoint) (file : List ℕ) (r : Receiver) (out : Option (List ℕ)) (s : Server) → TransferStep port s (file_come g maps port peer file r out s)
-come_step all maps port peer file r out s = record { ports = keys_set port s.live _; request = refl }
+come_step all maps port peer file r out s = record { ports = keys_set port s.live _ }
 come_step no_memory maps port peer file r out s = closes_step port peer (Some (refusal_dgram OutOfMemory)) s
 come_step unkept maps port peer file r out s = closes_step port peer (Some (refusal_dgram NotKept)) s
 
@@ -63,7 +62,7 @@ ack_step (receiving r) port peer n s = stays_step port s
 
 transfer_step : (h : Heard) (g : Grant) (maps : Maps) (port : ℕ) (from : Endpoint) (t : Transfer) (s : Server) → TransferStep port s (transfer_heard h g maps port from t s)
 transfer_step nothing g maps port from t s = stays_step port s
-transfer_step stray g maps port from t s = record { ports = refl; request = refl }
+transfer_step stray g maps port from t s = record { ports = refl }
 transfer_step ended g maps port from t s = closes_step port t.peer None s
 transfer_step (acked n) g maps port from t s = ack_step t.end port t.peer n s
 transfer_step (block n body) g maps port from t s = data_step t.end g maps port t.peer n body s

@@ -30,10 +30,6 @@ visit_room port s new taken change timers visit same fits =
     let few : length (visit_at port visit.answers s).server.live ≤ LIVE = subst (λ (x : Server). length x.live ≤ LIVE) visit.server fits.few in
     subst (λ (c : Change). HasRoom c timers) (sym visit.change_is) ((visit_keeps port visit.answers s).room timers same few)
 
-pub visit_request_port : {before after : Option (List Entry)} {kept now : Option (List Keeping)} (port : Option ℕ) (s new : Server) (taken : Bool) (change : Change) → IsVisit (λ a. visit_at port a s) (λ a. visit_asks port a s) s new taken change before after kept now → new.request ≡ s.request
-visit_request_port port s new taken change visit =
-    ap (λ (x : Server). x.request) visit.server ∙ (visit_keeps port visit.answers s).request
-
 -- ---- the end of a turn
 
 pub ends_quiet : {before after : Option (List Entry)} (change : Change) (s new : Server) (timers left : List Timer) → change ≡ Quiet → Walks (due_ports 0 (lower timers)) QUIET_TURNS s new (lower timers) left before after → Ends change s new timers left before after

@@ -1,11 +1,10 @@
 -- What private functions leave: parts of a turn and of a round.
 use Rattle.std.specs.Prelude.{◌≡◌, ℕ, Bool, List, map, Option, is_some}
 use Rattle.tftp_packet.specs.declared.out.Out.{Out}
-use Rattle.archive_table.specs.Server.{Server, Merges, IsServer}
+use Rattle.archive_table.specs.Server.{Server, Merges}
 use Rattle.archive_table.specs.Keeper.{Keeping}
 use Rattle.archive_turns.specs.declared.change.Change.{Change}
 use Rattle.archive_turns.specs.declared.timer.Timer.{Timer}
-use Rattle.archive_turns.specs.Timers.{ports_of, live_ports}
 use Rattle.archive_turns.specs.Wire.{Entry, Grows}
 use Rattle.archive_turns.specs.Turn.{Replies, Answers, Visited, Asks, KeepsAsked, sendings, step_calls, walk, is_quiet, ports_late, turn_ends}
 
@@ -43,12 +42,6 @@ pub record Walks (ports : List ℕ) (due : ℕ) (old new : Server) (timers left 
   pub server : new ≡ (walk due old timers late).server
   pub timers_are : left ≡ (walk due old timers late).timers
   pub log : Grows before after (walk due old timers late).calls
-
--- what always holds of a table and its timers
-pub record Tracks (old new : Server) (timers : List Timer) : Type 0 where
-  pub fits : IsServer new
-  pub tracks : ports_of timers ≡ live_ports new
-  pub request : new.request ≡ old.request
 
 -- what the end of a turn leaves
 pub record Ends (change : Change) (old new : Server) (timers left : List Timer) (before after : Option (List Entry)) : Type 0 where

@@ -1,10 +1,10 @@
 -- The server that waits for ready ports: a round of it. Its time is that of the wire's clock, in milliseconds.
 use Rattle.std.specs.Prelude.{◌≡◌, ℕ, ◌+◌, ◌-◌, ◌^◌, ◌==◌, min, Bool, true, false, List, [], ◌∷◌, ◌++◌, map, fold, Option, None, Some, is_some}
-use Rattle.archive_table.specs.Server.{Server, Merges, IsServer}
+use Rattle.archive_table.specs.Server.{Server, Merges}
 use Rattle.archive_table.specs.Keeper.{Keeping}
 use Rattle.archive_turns.specs.declared.limits.TheConstants.{TIMEOUT}
 use Rattle.archive_turns.specs.declared.timer.Timer.{Timer}
-use Rattle.archive_turns.specs.Timers.{ports_of, live_ports, due_ports, timed}
+use Rattle.archive_turns.specs.Timers.{due_ports, timed}
 use Rattle.archive_turns.specs.Wire.{Entry, waited, Grows}
 use Rattle.archive_turns.specs.Turn.{Replies, Answers, Visited, lost_visit, transfer_visit, request_visit, Asks, transfer_asks, KeepsAsked, Walk, walk, count_if}
 
@@ -14,11 +14,6 @@ pub record Clocked : Type 0 where
   pub last : ℕ
   -- for each live port the time at which it times out
   pub timers : List Timer
-
--- each live port has one timer, in the order of the ports
-pub record IsClocked (c : Clocked) : Type 0 where
-  pub fits : IsServer c.table
-  pub tracks : ports_of c.timers ≡ live_ports c.table
 
 -- when a port times out that was opened or has sent at this time
 abbrev pub deadline : (time : ℕ) → ℕ

@@ -1,7 +1,7 @@
 -- When each live port times out: a list of timers in the order of their ports, which has one for each live port.
-use Rattle.std.specs.Prelude.{ℕ, ◌-◌, ◌==◌, ◌<◌, nat_lt, nat_le, List, [], ◌∷◌, map, filter, length, if◌then◌else◌}
+use Rattle.std.specs.Prelude.{◌≡◌, ℕ, ◌-◌, ◌==◌, ◌<◌, nat_lt, nat_le, List, [], ◌∷◌, map, filter, length, if◌then◌else◌}
 use Rattle.archive_table.specs.declared.limits.TheConstants.{LIVE}
-use Rattle.archive_table.specs.Server.{Server}
+use Rattle.archive_table.specs.Server.{Server, IsServer}
 use Rattle.archive_turns.specs.declared.change.Change.{Change}
 use Rattle.archive_turns.specs.declared.change.Change.TheVariants.{Quiet, Nothing, Opened, Sent, Closed}
 use Rattle.archive_turns.specs.declared.timer.Timer.{Timer}
@@ -11,6 +11,11 @@ ports_of timers = map (λ t. t.port) timers
 
 abbrev pub live_ports : Server → List ℕ
 live_ports s = map (λ e. e.0) s.live
+
+-- what always holds of a server and its timers: each live port has one, in the order of the ports
+pub record Tracks (server : Server) (timers : List Timer) : Type 0 where
+  pub fits : IsServer server
+  pub tracks : ports_of timers ≡ live_ports server
 
 -- a new timer goes to its place
 abbrev pub with_timer : Timer → List Timer → List Timer

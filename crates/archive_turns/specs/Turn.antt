@@ -5,13 +5,13 @@ use Rattle.std.specs.Prelude.{◌≡◌, ℕ, ◌==◌, ◌&&◌, not, Bool, tru
 use Rattle.tftp_packet.specs.declared.endpoint.Endpoint.{Endpoint}
 use Rattle.tftp_packet.specs.declared.out.Out.{Out}
 use Rattle.tftp_ends.specs.Ends.{Verdict}
-use Rattle.archive_table.specs.Server.{Server, Maps, Taken, Answer, Grant, all, Merges, IsServer, transfer_at, port_above, server_request, server_datagram, server_timeout}
+use Rattle.archive_table.specs.Server.{Server, Maps, Taken, Answer, Grant, all, Merges, transfer_at, port_above, server_request, server_datagram, server_timeout}
 use Rattle.archive_table.specs.Keeper.{Keeping, StepKeeps}
 use Rattle.archive_turns.specs.declared.change.Change.{Change}
 use Rattle.archive_turns.specs.declared.change.Change.TheVariants.{Quiet, Nothing, Opened, Sent, Closed}
 use Rattle.archive_turns.specs.declared.limits.TheConstants.{QUIET_TURNS}
 use Rattle.archive_turns.specs.declared.timer.Timer.{Timer}
-use Rattle.archive_turns.specs.Timers.{ports_of, live_ports, lower, due_ports, timed, timed_out}
+use Rattle.archive_turns.specs.Timers.{lower, due_ports, timed, timed_out}
 use Rattle.archive_turns.specs.Wire.{Entry, opened, closed, came, quiet, failed, sent, Grows}
 
 -- ---- what is answered
@@ -196,11 +196,6 @@ pub record Counted : Type 0 where
   pub last : ℕ
   -- for each live port how many quiet turns are left until it times out
   pub timers : List Timer
-
--- each live port has one timer, in the order of the ports
-pub record IsCounted (c : Counted) : Type 0 where
-  pub fits : IsServer c.table
-  pub tracks : ports_of c.timers ≡ live_ports c.table
 
 abbrev pub visit_at : Option ℕ → Answers → Server → Visited
 visit_at (Some port) a s = transfer_visit a port s

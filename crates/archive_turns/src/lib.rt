@@ -38,14 +38,3 @@ pub use serve::{serve_ready, serve_turns};
 pub use server::Server;
 pub use wire::{RECEIVE_SIZE, Wire};
 pub use wire_fault::WireFault;
-
-#[cfg(test)]
-mod join_tests;
-#[cfg(test)]
-mod ready_tests;
-#[cfg(test)]
-mod run_tests;
-#[cfg(test)]
-mod test_wires;
-#[cfg(test)]
-mod tests;

@@ -4,8 +4,8 @@ ghost use Rattle.std.specs.Prelude.{◌≡◌, Err, IfOk, IfErr, ◌==◌, []};
 ghost use Rattle.tws_file.specs.declared.«ruleset».Ruleset.TheVariants.{Lynx, Ms};
 ghost use Rattle.archive_table.specs.Server.{IsServer};
 ghost use Rattle.archive_table.specs.Keeper.{LoadedFrom, TableFails, FailsAt};
-ghost use Rattle.archive_turns.specs.Timers.{ports_of, live_ports, due_ports, timed, HasRoom};
-ghost use Rattle.archive_turns.specs.Parts.{IsVisit, Walks, Tracks};
+ghost use Rattle.archive_turns.specs.Timers.{ports_of, live_ports, due_ports, timed, HasRoom, Tracks};
+ghost use Rattle.archive_turns.specs.Parts.{IsVisit, Walks};
 ghost use Rattle.archive_turns.specs.Ready.{MakesRound, ready_visit, ready_asks, port_visit, port_asks, noted_or, deadline};
 
 use crate::change::Change;
@@ -23,14 +23,13 @@ use std::marker::Model;
 #[derive(Drop)]
 pub struct ReadyServer<A: Allocator + Copy = Global> {
     table: Table<A>,
-    request: u16,
     last: u16,
     timers: Timers,
 }
 
 impl<A: Allocator + Copy> Model for ReadyServer<A> {
-    ghost use Rattle.std.specs.Prelude.{◌≡◌};
-    ghost use Rattle.archive_turns.specs.Ready.{Clocked, IsClocked};
+    ghost use Rattle.archive_turns.specs.Timers.{Tracks};
+    ghost use Rattle.archive_turns.specs.Ready.{Clocked};
 
     ghost Value = { Clocked };
 
@@ -38,7 +37,7 @@ impl<A: Allocator + Copy> Model for ReadyServer<A> {
 
     ghost view = { clocked_of };
 
-    ghost invariant = { λ s. IsClocked (clocked_of s) × (s.request ≡ s.table.request) };
+    ghost invariant = { λ s. Tracks s.table s.timers };
 }
 
 // When a port times out that was opened or has sent at this time.
@@ -58,20 +57,25 @@ fn noted_port(last: u16, port: Option<u16>) -> u16
     }
 }
 
+// Whether a port is the request port.
+fn is_request<A: Allocator + Copy>(table: &Table<A>, port: u16) -> bool
+    ensures { result ≡ (port == table.now.request) }
+{
+    port == table.request()
+}
+
 // A visit to a port, which may be the request port.
 fn visit_port<A: Allocator + Copy, W: Wire, K: Keeper>(
     table: &mut Table<A>,
     wire: &mut W,
     keeper: &mut K,
-    request: u16,
     port: u16,
 ) -> Visit
-    requires { request ≡ table.old.request }
     ensures visit { IsVisit (λ a. port_visit (port == table.old.request) port a table.old) (λ a. port_asks (port == table.old.request) port a table.old) table.old table.new result.taken result.change (W.log wire.old) (W.log wire.new) (K.log keeper.old) (K.log keeper.new) }
     ensures fits { IsServer table.old → IsServer table.new }
 {
-    if port == request {
-        visit_request(table, wire, request)
+    if is_request(table, port) {
+        visit_request(table, wire)
     } else {
         visit_transfer(table, wire, keeper, port)
     }
@@ -82,15 +86,13 @@ fn visit_ready<A: Allocator + Copy, W: Wire, K: Keeper>(
     table: &mut Table<A>,
     wire: &mut W,
     keeper: &mut K,
-    request: u16,
     port: Option<u16>,
 ) -> Visit
-    requires { request ≡ table.old.request }
     ensures visit { IsVisit (λ a. ready_visit port a table.old) (λ a. ready_asks port a table.old) table.old table.new result.taken result.change (W.log wire.old) (W.log wire.new) (K.log keeper.old) (K.log keeper.new) }
     ensures fits { IsServer table.old → IsServer table.new }
 {
     match port {
-        Some(port) => visit_port(table, wire, keeper, request, port),
+        Some(port) => visit_port(table, wire, keeper, port),
         None => Visit::LOST,
     }
 }
@@ -107,7 +109,7 @@ fn end_round<A: Allocator + Copy, W: Wire>(
     requires room { HasRoom change timers.old }
     requires tracks { ports_of (timed change (deadline time) timers.old) ≡ live_ports table.old }
     ensures walks { Walks (due_ports time (timed change (deadline time) timers.old)) (deadline time) table.old table.new (timed change (deadline time) timers.old) timers.new (W.log wire.old) (W.log wire.new) }
-    ensures keeps { Tracks table.old table.new timers.new }
+    ensures keeps { Tracks table.new timers.new }
 {
     let due = deadline_at(time);
     timers.apply(change, due);
@@ -125,7 +127,7 @@ impl<A: Allocator + Copy> ReadyServer<A> {
         ensures last { result.last ≡ 0 }
         ensures timers { result.timers ≡ [] }
     {
-        Self::of(Table::new(alloc, request), request)
+        Self::of(Table::new(alloc, request))
     }
 
     /// A server like that of `new`, with the collections that a keeper has, empty where it has none. Nothing is kept by
@@ -146,21 +148,19 @@ impl<A: Allocator + Copy> ReadyServer<A> {
         ensures failed { result ≡ Err (LoadFault.Keep KeepFault.Device) → FailsAt (K.failed keeper.old) (K.failed keeper.new) }
     {
         match Table::load(alloc, request, keeper) {
-            Ok(table) => Ok(Self::of(table, request)),
+            Ok(table) => Ok(Self::of(table)),
             Err(fault) => Err(fault),
         }
     }
 
-    // A server with this table, whose request port is this one, before its first round.
-    fn of(table: Table<A>, request: u16) -> Self
-        requires port { request ≡ table.request }
+    // A server with this table, before its first round.
+    fn of(table: Table<A>) -> Self
         requires idle { table.live ≡ [] }
         requires fits { IsServer table }
         ensures { result ≡ record { table = table; last = 0; timers = [] } }
     {
         ReadyServer {
             table,
-            request,
             last: 0,
             timers: Timers::new(),
         }
@@ -172,7 +172,7 @@ impl<A: Allocator + Copy> ReadyServer<A> {
         ensures { MakesRound self.old self.new result (W.log wire.old) (W.log wire.new) (K.log keeper.old) (K.log keeper.new) }
     {
         let ready = wire.wait(self.last, self.timers.earliest());
-        let visit = visit_ready(&mut self.table, wire, keeper, self.request, ready.port);
+        let visit = visit_ready(&mut self.table, wire, keeper, ready.port);
         self.last = noted_port(self.last, ready.port);
         end_round(
             &mut self.table,

@@ -4,8 +4,8 @@ ghost use Rattle.std.specs.Prelude.{◌≡◌, Err, IfOk, IfErr, []};
 ghost use Rattle.tws_file.specs.declared.«ruleset».Ruleset.TheVariants.{Lynx, Ms};
 ghost use Rattle.archive_table.specs.Server.{IsServer, port_above};
 ghost use Rattle.archive_table.specs.Keeper.{LoadedFrom, TableFails, FailsAt};
-ghost use Rattle.archive_turns.specs.Timers.{ports_of, live_ports, timed, HasRoom};
-ghost use Rattle.archive_turns.specs.Parts.{IsVisit, Ends, Tracks};
+ghost use Rattle.archive_turns.specs.Timers.{ports_of, live_ports, timed, HasRoom, Tracks};
+ghost use Rattle.archive_turns.specs.Parts.{IsVisit, Ends};
 ghost use Rattle.archive_turns.specs.Turn.{MakesTurn, visit_at, visit_asks, noted};
 
 use crate::change::Change;
@@ -22,14 +22,13 @@ use std::marker::Model;
 #[derive(Drop)]
 pub struct Server<A: Allocator + Copy = Global> {
     table: Table<A>,
-    request: u16,
     last: u16,
     timers: Timers,
 }
 
 impl<A: Allocator + Copy> Model for Server<A> {
-    ghost use Rattle.std.specs.Prelude.{◌≡◌};
-    ghost use Rattle.archive_turns.specs.Turn.{Counted, IsCounted};
+    ghost use Rattle.archive_turns.specs.Timers.{Tracks};
+    ghost use Rattle.archive_turns.specs.Turn.{Counted};
 
     ghost Value = { Counted };
 
@@ -37,7 +36,7 @@ impl<A: Allocator + Copy> Model for Server<A> {
 
     ghost view = { counted_of };
 
-    ghost invariant = { λ s. IsCounted (counted_of s) × (s.request ≡ s.table.request) };
+    ghost invariant = { λ s. Tracks s.table s.timers };
 }
 
 // The port that is visited next; none is the request port.
@@ -47,21 +46,19 @@ fn next_port<A: Allocator + Copy>(table: &Table<A>, last: u16) -> Option<u16>
     table.next_port(last)
 }
 
-// A visit to a transfer's port, or to the request port, which is this one.
+// A visit to a transfer's port, or to the request port.
 fn visit<A: Allocator + Copy, W: Wire, K: Keeper>(
     table: &mut Table<A>,
     wire: &mut W,
     keeper: &mut K,
-    request: u16,
     port: Option<u16>,
 ) -> Visit
-    requires { request ≡ table.old.request }
     ensures visit { IsVisit (λ a. visit_at port a table.old) (λ a. visit_asks port a table.old) table.old table.new result.taken result.change (W.log wire.old) (W.log wire.new) (K.log keeper.old) (K.log keeper.new) }
     ensures fits { IsServer table.old → IsServer table.new }
 {
     match port {
         Some(port) => visit_transfer(table, wire, keeper, port),
-        None => visit_request(table, wire, request),
+        None => visit_request(table, wire),
     }
 }
 
@@ -86,7 +83,7 @@ fn end_turn<A: Allocator + Copy, W: Wire>(
     requires room { HasRoom change timers.old }
     requires tracks { ports_of (timed change QUIET_TURNS timers.old) ≡ live_ports table.old }
     ensures ends { Ends change table.old table.new timers.old timers.new (W.log wire.old) (W.log wire.new) }
-    ensures keeps { Tracks table.old table.new timers.new }
+    ensures keeps { Tracks table.new timers.new }
 {
     match change {
         Change::Quiet => {
@@ -108,7 +105,7 @@ impl<A: Allocator + Copy> Server<A> {
         ensures last { result.last ≡ 0 }
         ensures timers { result.timers ≡ [] }
     {
-        Self::of(Table::new(alloc, request), request)
+        Self::of(Table::new(alloc, request))
     }
 
     /// A server like that of `new`, with the collections that a keeper has, empty where it has none. Nothing is kept by
@@ -129,21 +126,19 @@ impl<A: Allocator + Copy> Server<A> {
         ensures failed { result ≡ Err (LoadFault.Keep KeepFault.Device) → FailsAt (K.failed keeper.old) (K.failed keeper.new) }
     {
         match Table::load(alloc, request, keeper) {
-            Ok(table) => Ok(Self::of(table, request)),
+            Ok(table) => Ok(Self::of(table)),
             Err(fault) => Err(fault),
         }
     }
 
-    // A server with this table, whose request port is this one, before its first turn.
-    fn of(table: Table<A>, request: u16) -> Self
-        requires port { request ≡ table.request }
+    // A server with this table, before its first turn.
+    fn of(table: Table<A>) -> Self
         requires idle { table.live ≡ [] }
         requires fits { IsServer table }
         ensures { result ≡ record { table = table; last = 0; timers = [] } }
     {
         Server {
             table,
-            request,
             last: 0,
             timers: Timers::new(),
         }
@@ -158,7 +153,7 @@ impl<A: Allocator + Copy> Server<A> {
         ensures { MakesTurn self.old self.new result (W.log wire.old) (W.log wire.new) (K.log keeper.old) (K.log keeper.new) }
     {
         let port = next_port(&self.table, self.last);
-        let visit = visit(&mut self.table, wire, keeper, self.request, port);
+        let visit = visit(&mut self.table, wire, keeper, port);
         self.last = noted_port(port);
         end_turn(&mut self.table, wire, &mut self.timers, visit.change);
         visit.taken

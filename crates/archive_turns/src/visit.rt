@@ -2,8 +2,8 @@
 
 ghost use Rattle.std.specs.Prelude.{◌≡◌, ◌≢◌, not, is_some, None, Some};
 ghost use Rattle.archive_table.specs.Server.{IsServer, transfer_at};
-ghost use Rattle.archive_turns.specs.Timers.{ports_of, live_ports, due_ports};
-ghost use Rattle.archive_turns.specs.Parts.{IsVisit, IsTimeout, Acts, SendsOut, Walks, Tracks};
+ghost use Rattle.archive_turns.specs.Timers.{ports_of, live_ports, due_ports, Tracks};
+ghost use Rattle.archive_turns.specs.Parts.{IsVisit, IsTimeout, Acts, SendsOut, Walks};
 ghost use Rattle.archive_turns.specs.Turn.{transfer_visit, transfer_asks, timeout_visit, request_visit, request_spared, request_change, transfer_change, is_usable as usable_at};
 
 use crate::change::Change;
@@ -141,26 +141,23 @@ fn end_request<A: Allocator, W: Wire>(wire: &mut W, spare: u16, step: &Step<A>) 
 }
 
 // Whether a transfer can be opened on a port.
-fn is_usable<A: Allocator + Copy>(table: &Table<A>, request: u16, spare: u16) -> bool
-    requires { request ≡ table.now.request }
+fn is_usable<A: Allocator + Copy>(table: &Table<A>, spare: u16) -> bool
     ensures { result ≡ usable_at spare table.now }
 {
-    spare != 0 && spare != request && !table.is_live(spare)
+    spare != 0 && spare != table.request() && !table.is_live(spare)
 }
 
-/// A visit to the request port, which is this one.
+/// A visit to the request port.
 pub(crate) fn visit_request<A: Allocator + Copy, W: Wire>(
     table: &mut Table<A>,
     wire: &mut W,
-    request: u16,
 ) -> Visit
-    requires { request ≡ table.old.request }
     ensures visit { IsVisit (λ a. request_visit a table.old) (λ a. None) table.old table.new result.taken result.change (W.log wire.old) (W.log wire.new) None None }
     ensures fits { IsServer table.old → IsServer table.new }
 {
     let mut buffer = [0; RECEIVE_SIZE];
-    match wire.receive(request, &mut buffer) {
-        Ok(Some((count, from))) => { answer_request(table, wire, request, from, &buffer[..count]) }
+    match wire.receive(table.request(), &mut buffer) {
+        Ok(Some((count, from))) => answer_request(table, wire, from, &buffer[..count]),
         Ok(None) => Visit::QUIET,
         Err(_) => Visit::QUIET,
     }
@@ -170,16 +167,14 @@ pub(crate) fn visit_request<A: Allocator + Copy, W: Wire>(
 fn answer_request<A: Allocator + Copy, W: Wire>(
     table: &mut Table<A>,
     wire: &mut W,
-    request: u16,
     from: Endpoint,
     bytes: &[u8],
 ) -> Visit
-    requires { request ≡ table.old.request }
     ensures visit { IsVisit (λ a. request_spared a.spare a.verdict a.replies from bytes.now table.old) (λ a. None) table.old table.new result.taken result.change (W.log wire.old) (W.log wire.new) None None }
     ensures fits { IsServer table.old → IsServer table.new }
 {
     match wire.open() {
-        Ok(spare) if is_usable(table, request, spare) => {
+        Ok(spare) if is_usable(table, spare) => {
             let step = table.on_request(spare, from, bytes);
             end_request(wire, spare, &step)
         }
@@ -200,7 +195,7 @@ pub(crate) fn time_out_due<A: Allocator + Copy, W: Wire>(
     requires fits { IsServer table.old }
     requires tracks { ports_of timers.old ≡ live_ports table.old }
     ensures walks { Walks (due_ports now timers.old) due table.old table.new timers.old timers.new (W.log wire.old) (W.log wire.new) }
-    ensures keeps { Tracks table.old table.new timers.new }
+    ensures keeps { Tracks table.new timers.new }
 {
     let ports = timers.due(now);
     for port in ports.as_slice() {

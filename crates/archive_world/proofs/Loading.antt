@@ -2,13 +2,18 @@
 use Rattle.std.proofs.Common.{◌≡◌, ◌⊎◌, ℕ, Bool, true, false, List, [], ◌∷◌, ◌++◌, Option, None, Some, refl, ap, sym, ◌∙◌, subst, inl, inr, append-nil}
 use Rattle.tws_file.specs.declared.«ruleset».Ruleset.{Ruleset}
 use Rattle.tws_file.specs.declared.«ruleset».Ruleset.TheVariants.{Lynx, Ms}
-use Rattle.tws_file.specs.Text.{IsText}
+use Rattle.tws_file.specs.Text.{File, IsText}
+use Rattle.tws_file.proofs.Faults.{text_without_fault}
+use Rattle.tws_file.proofs.FileText.{one_file}
 use Rattle.tws_best.specs.Best.{Collected, IsCollected, collection_text}
-use Rattle.tws_best.proofs.Texts.{read_back}
+use Rattle.tws_best.proofs.Texts.{file_from, is_text, file_rules, read_back}
 use Rattle.archive_table.specs.Server.{Maps, Taken, Grant, all, no_memory, unkept}
-use Rattle.archive_table.specs.Keeper.{Keeping, keeping, same_kind, later_or, last_kept, IsLoaded, LoadedFrom, KeepsOne, KeepsMaps, RefusesKeep, FailsKeep, FailsKeepOf}
+use Rattle.archive_table.specs.Keeper.{Keeping, keeping, same_kind, later_or, last_kept, IsLoaded, LoadedFrom, KeepsOne, KeepsMaps, RefusesKeep, FailsKeep, FailsKeepOf, IsMisread, FailsToLoad}
+use Rattle.archive_table.specs.declared.load_fault.LoadFault.{LoadFault}
+use Rattle.archive_table.specs.declared.load_fault.LoadFault.TheVariants.{Keep, Unreadable, WrongRuleset}
+use Rattle.archive_table.specs.declared.load_fault.LoadFault.TheVariants as load
 use Rattle.archive_world.specs.World.{empty_maps}
-use Rattle.archive_world.specs.Restarts.{IsTextAt, HasKept, AreOwnRules, StepStaysKept, LoadsTheSame}
+use Rattle.archive_world.specs.Restarts.{IsTextAt, HasKept, AreOwnRules, StepStaysKept, LoadsTheSame, IsOutside, FailsOutside}
 
 -- ---- one more in the list
 
@@ -125,6 +130,32 @@ loaded_from kind log now loaded has fits from =
 pub loads-the_same : (log : List Keeping) (maps : Maps) → LoadsTheSame log maps
 loads-the_same log maps kept fits_lynx fits_ms lynx ms from_lynx from_ms =
     (loaded_from Lynx log maps.lynx lynx kept.lynx fits_lynx from_lynx, loaded_from Ms log maps.ms ms kept.ms fits_ms from_ms)
+
+-- ---- a load that fails
+
+-- a kept text is that of a collection, so it is a file's of its rules
+read_fails : (kind : Ruleset) (bytes : List ℕ) (now : Collected) (fault : LoadFault) → bytes ≡ collection_text now → IsCollected now → now.ruleset ≡ kind → IsMisread kind bytes fault → IsOutside fault
+read_fails kind bytes now (Keep e) text fits rules misread = tt
+read_fails kind bytes now (Unreadable e) text fits rules misread =
+    text_without_fault bytes (file_from now fits) e (subst (λ (b : List ℕ). IsText b (file_from now fits)) (sym text) (is_text now fits)) misread
+read_fails kind bytes now WrongRuleset text fits rules misread =
+    let whole : IsText bytes (file_from now fits) = subst (λ (b : List ℕ). IsText b (file_from now fits)) (sym text) (is_text now fits) in
+    misread.2 (ap (λ (f : File). f.ruleset) (one_file bytes misread.0 (file_from now fits) misread.1 whole) ∙ file_rules now fits ∙ rules)
+read_fails kind bytes now load.Memory text fits rules misread = tt
+
+fails_from : (kind : Ruleset) (log : List Keeping) (now : Collected) (fault : LoadFault) → IsTextAt kind (last_kept kind log) now → IsCollected now → now.ruleset ≡ kind → FailsToLoad kind (Some log) fault → IsOutside fault
+fails_from kind log now (Keep e) has fits rules fails = tt
+fails_from kind log now (Unreadable e) has fits rules fails =
+    read_fails kind fails.0 now (Unreadable e) (subst (λ (o : Option (List ℕ)). IsTextAt kind o now) (sym fails.1) has) fits rules fails.2
+fails_from kind log now WrongRuleset has fits rules fails =
+    read_fails kind fails.0 now WrongRuleset (subst (λ (o : Option (List ℕ)). IsTextAt kind o now) (sym fails.1) has) fits rules fails.2
+fails_from kind log now load.Memory has fits rules fails = tt
+
+pub fails-outside : (log : List Keeping) (maps : Maps) → FailsOutside log maps
+fails-outside log maps rules kept fits_lynx fits_ms fault (inl lynx) =
+    fails_from Lynx log maps.lynx fault kept.lynx fits_lynx rules.lynx lynx
+fails-outside log maps rules kept fits_lynx fits_ms fault (inr ms) =
+    fails_from Ms log maps.ms fault kept.ms fits_ms rules.ms ms.2
 
 pub start-kept : HasKept [] empty_maps
 start-kept = record { lynx = refl; ms = refl }

@@ -11,8 +11,8 @@ use Rattle.archive_world.proofs.Remaining.{timeout_leaves, StepTakes, begins_rem
 use Rattle.archive_world.proofs.Collecting.{best-collected, step-best, start-best, run_from-best}
 use Rattle.archive_world.proofs.Loading.{start-kept, step-stays_kept, loads-the_same}
 
-own_rules : (taken : List Taken) (maps : Maps) → AreBest taken maps → AreOwnRules maps
-own_rules taken maps best = record { lynx = best.lynx.kind_is; ms = best.ms.kind_is }
+pub own-rules : (taken : List Taken) (maps : Maps) → AreBest taken maps → AreOwnRules maps
+own-rules taken maps best = record { lynx = best.lynx.kind_is; ms = best.ms.kind_is }
 
 -- ---- a step
 
@@ -61,7 +61,7 @@ run_from-kept (s ∷ steps) w before last merged best keeps kept =
     let after = keeps.0 in
     let now = step-best w s merged.0 best in
     run_from-kept steps v after last merged.1 now keeps.2
-    (event_kept w s.event s.grant s.maps before after (step-takes w s) (own_rules v.taken v.server.maps now) keeps.1 kept)
+    (event_kept w s.event s.grant s.maps before after (step-takes w s) (own-rules v.taken v.server.maps now) keeps.1 kept)
 
 maps_are : (lynx ms : Collected) (maps : Maps) → lynx ≡ maps.lynx → ms ≡ maps.ms → maps ≡ record { lynx = lynx; ms = ms }
 maps_are lynx ms maps first second =

@@ -7,6 +7,7 @@ use Rattle.std.proofs.lemmas.List.{map_push, map_more, take-map, length-map}
 use Rattle.std.proofs.lemmas.Option.{slice_get-map, slice_get-get_or}
 use Rattle.tws_file.specs.declared.«ruleset».Ruleset.TheVariants.{Lynx, Ms}
 use Rattle.archive_table.specs.Keeper.{Keeping, TableFails}
+use Rattle.archive_table.specs.declared.load_fault.LoadFault.{LoadFault}
 use Rattle.archive_world.specs.declared.event.Event as events
 use Rattle.archive_world.specs.declared.event_fault.EventFault.{EventFault}
 use Rattle.archive_world.specs.declared.event_fault.EventFault.TheVariants as fault
@@ -14,7 +15,7 @@ use Rattle.archive_world.specs.declared.world_fault.WorldFault.{WorldFault}
 use Rattle.archive_world.specs.declared.world_fault.WorldFault.TheVariants as world
 use Rattle.archive_world.specs.World.{Event, restart, Step, World, start, happens, run_from, run, HasMerged, MayHappen, AllMayHappen}
 use Rattle.archive_world.specs.Headline.{HasOwnPorts, Headline}
-use Rattle.archive_world.specs.Restarts.{EventKeeps, RunKeeps}
+use Rattle.archive_world.specs.Restarts.{EventKeeps, RunKeeps, IsOutside}
 use Rattle.archive_world.specs.Kept.{event_of, events_of}
 use Rattle.archive_world.specs.Outcomes.{Outcome, outcome_of}
 use Rattle.archive_world.specs.Replays.{HaveKept, IsDue, AllDue, HasHappened, Makes, IsReady, HasRun, IsBadAt, IsReusedAt, IsNotLoadedAt, HasStopped}
@@ -22,8 +23,9 @@ use Rattle.archive_world.specs.Exits.{IsKept, MakesKept, Comes, fault_of, Ends}
 use Rattle.archive_world.proofs.Collecting.{best-collected, start-best, run_from-best}
 use Rattle.archive_world.proofs.Concluding.{run-headline}
 use Rattle.archive_world.proofs.Happening.{run-append}
+use Rattle.archive_world.proofs.Loading.{fails-outside}
 use Rattle.archive_world.proofs.Places.{Has-contains}
-use Rattle.archive_world.proofs.Persisting.{run-kept}
+use Rattle.archive_world.proofs.Persisting.{own-rules, run-kept}
 use Rattle.archive_world.proofs.Reusing.{start-own}
 use Rattle.archive_world.proofs.Tracing.{merged_append}
 
@@ -73,6 +75,7 @@ happened_kept events told now w none h =
       log = has.0;
       tells = has.1;
       kept = (run-kept h.steps has.0 h.merged (run_keeps h.steps start [] has.0 has.2)).0;
+      rules = own-rules _ _ best;
       lynx = best-collected Lynx _ (run h.steps).server.maps.lynx best.lynx;
       ms = best-collected Ms _ (run h.steps).server.maps.ms best.ms;
     } in
@@ -170,6 +173,12 @@ module _ {A : Type 0} (es : List (events.Event A)) (i : ℕ) (x : events.Event A
           happened = first_are (i + 1) told after made.0 (made_more made.0 made.1);
         }
 
+    -- a load fails where what is kept is readable
+    fails_outside : e ≡ restart → (f : LoadFault) → TableFails now f → IsOutside f
+    fails_outside is f fails =
+        let k : IsKept now w = happened_kept (events_of (take i es)) told now w (none_told is) so_far in
+        fails-outside k.log w.server.maps k.rules k.kept k.lynx k.ms f (subst (λ (o : Option (List Keeping)). TableFails o f) k.tells fails)
+
     fails_at : (f : EventFault) → Comes (Err f) e now after w v → Ends (Err (fault_of f i)) (events_of es) told after v
     fails_at fault.Bad comes =
         record {
@@ -194,6 +203,7 @@ module _ {A : Type 0} (es : List (events.Event A)) (i : ℕ) (x : events.Event A
           happened = so_before comes.0;
           fault = comes.2.0;
           fails = subst (λ (o : Option (List Keeping)). TableFails o comes.2.0) (sym comes.0) comes.2.1;
+          outside = fails_outside comes.1 comes.2.0 comes.2.1;
         }
     fails_at fault.Memory comes = stopped_by comes
 

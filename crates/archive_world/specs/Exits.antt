@@ -9,7 +9,7 @@ use Rattle.archive_world.specs.declared.world_fault.WorldFault.{WorldFault}
 use Rattle.archive_world.specs.declared.world_fault.WorldFault.TheVariants as world
 use Rattle.archive_world.specs.World.{Event, restart, World, MayHappen}
 use Rattle.archive_world.specs.Headline.{HasOwnPorts}
-use Rattle.archive_world.specs.Restarts.{HasKept}
+use Rattle.archive_world.specs.Restarts.{HasKept, AreOwnRules}
 use Rattle.archive_world.specs.Replays.{HasHappened, Makes, Reuses, IsBadAt, IsReusedAt, IsNotLoadedAt, HasStopped}
 
 -- the keeper tells its list, and what it has is what the server has
@@ -17,6 +17,7 @@ pub record IsKept (told : Option (List Keeping)) (w : World) : Type 0 where
   pub log : List Keeping
   pub tells : told ≡ Some log
   pub kept : HasKept log w.server.maps
+  pub rules : AreOwnRules w.server.maps
   pub lynx : IsCollected w.server.maps.lynx
   pub ms : IsCollected w.server.maps.ms
 

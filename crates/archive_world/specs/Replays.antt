@@ -5,7 +5,7 @@ use Rattle.archive_table.specs.Keeper.{Keeping, TableFails}
 use Rattle.archive_table.specs.declared.load_fault.LoadFault.{LoadFault}
 use Rattle.archive_world.specs.World.{Event, begin, deliver, client_times_out, server_times_out, stray, restart, Step, World, start, event_happens, happens, run, HasMerged, AllMerged, MayHappen, AllMayHappen}
 use Rattle.archive_world.specs.Headline.{HasOwnPorts, Headline}
-use Rattle.archive_world.specs.Restarts.{EventKeeps, wanted_by}
+use Rattle.archive_world.specs.Restarts.{EventKeeps, wanted_by, IsOutside}
 use Rattle.archive_world.specs.Outcomes.{Outcome, outcome_of}
 
 -- What the keeper has after these steps, where before them it had the first; a restart leaves its list.
@@ -90,13 +90,15 @@ pub record IsReusedAt (events : List Event) (told now : Option (List Keeping)) (
   pub happened : HasHappened (take i events) told now world
   pub reuses : Reuses event world
 
--- The events before this place have happened, and at the restart there the server cannot load what the keeper has.
+-- The events before this place have happened, and at the restart there the keeper fails as the server loads, or memory
+-- runs out.
 pub record IsNotLoadedAt (events : List Event) (told now : Option (List Keeping)) (i : ℕ) : Type 0 where
   pub there : slice_get events i ≡ Some restart
   pub world : World
   pub happened : HasHappened (take i events) told now world
   pub fault : LoadFault
   pub fails : TableFails now fault
+  pub outside : IsOutside fault
 
 -- Some first events have happened, and the keeper has what they have kept.
 pub record HasStopped (events : List Event) (told now : Option (List Keeping)) : Type 0 where

@@ -4,7 +4,9 @@ use Rattle.tws_file.specs.declared.«ruleset».Ruleset.{Ruleset}
 use Rattle.tws_file.specs.declared.«ruleset».Ruleset.TheVariants.{Lynx, Ms}
 use Rattle.tws_best.specs.Best.{Collected, IsCollected, collection_text}
 use Rattle.archive_table.specs.Server.{Server, Maps, Taken, Grant, all, server_datagram}
-use Rattle.archive_table.specs.Keeper.{Keeping, last_kept, LoadedFrom, StepKeeps}
+use Rattle.archive_table.specs.Keeper.{Keeping, last_kept, LoadedFrom, TableFails, StepKeeps}
+use Rattle.archive_table.specs.declared.load_fault.LoadFault.{LoadFault}
+use Rattle.archive_table.specs.declared.load_fault.LoadFault.TheVariants.{Keep, Unreadable, WrongRuleset, Memory}
 use Rattle.archive_world.specs.World.{Datagram, Event, begin, deliver, client_times_out, server_times_out, stray, restart, Step, World, server_endpoint, restarts, happens}
 
 -- the text is the collection's; where there is none, the collection is empty
@@ -31,6 +33,18 @@ StepStaysKept grant wanted old new before after =
 abbrev pub LoadsTheSame : List Keeping → Maps → Type 0
 LoadsTheSame log maps =
     HasKept log maps → IsCollected maps.lynx → IsCollected maps.ms → (lynx ms : Collected) → LoadedFrom Lynx (Some log) lynx → LoadedFrom Ms (Some log) ms → (lynx ≡ maps.lynx) × (ms ≡ maps.ms)
+
+-- The keeper failed, or memory ran out. What was kept is not at fault.
+abbrev pub IsOutside : LoadFault → Type 0
+IsOutside (Keep fault) = Unit {0}
+IsOutside (Unreadable fault) = ⊥
+IsOutside WrongRuleset = ⊥
+IsOutside Memory = Unit {0}
+
+-- a load that fails
+abbrev pub FailsOutside : List Keeping → Maps → Type 0
+FailsOutside log maps =
+    AreOwnRules maps → HasKept log maps → IsCollected maps.lynx → IsCollected maps.ms → (fault : LoadFault) → TableFails (Some log) fault → IsOutside fault
 
 -- ---- over a run
 

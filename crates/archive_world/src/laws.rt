@@ -8,7 +8,7 @@ ghost use Rattle.archive_world.specs.Reuse.{BeginKeepsOwn, OpeningKeepsOwn, Stra
 ghost use Rattle.archive_world.specs.World.{Begun, Datagram, Opening, to_write, World, Event, Step, happens, start, run, server_endpoint, empty_maps, AllMerged, asked_by, AllMayHappen};
 ghost use Rattle.archive_table.specs.Server.{Grant, Maps, Taken};
 ghost use Rattle.archive_table.specs.Keeper.{Keeping};
-ghost use Rattle.archive_world.specs.Restarts.{HasKept, StepStaysKept, LoadsTheSame, RunKeeps, RestartsFrom};
+ghost use Rattle.archive_world.specs.Restarts.{HasKept, StepStaysKept, LoadsTheSame, FailsOutside, RunKeeps, RestartsFrom};
 ghost use Rattle.archive_world.specs.Traces.{Member, trace_from, trace_steps, AllDeedsMerged};
 ghost use Rattle.archive_world.specs.Headline.{HasOwnPorts, Headline, FetchesSent, BeganBy, StraysBy};
 
@@ -79,12 +79,13 @@ pub fn own_ports()
 
 /// What a keeper has is, after each step, what the server has, and what a table loads from it is that: so a restart leaves
 /// the collections as they are. A keeper that holds nothing has the empty collections; each step of the server keeps what
-/// it changes; a load gives what was kept last. So over every run whose steps keep as the server's contract says, what is
+/// it changes; a load gives what was kept last, and where it fails the keeper has failed or memory has run out. So over every run whose steps keep as the server's contract says, what is
 /// loaded at a restart is what the world has after it.
 pub fn restart_law()
     ensures start { HasKept [] empty_maps }
     ensures step { (grant : Grant) (wanted : Option Taken) (old new : Maps) (before after : List Keeping) → StepStaysKept grant wanted old new before after }
     ensures load { (log : List Keeping) (maps : Maps) → LoadsTheSame log maps }
+    ensures fails { (log : List Keeping) (maps : Maps) → FailsOutside log maps }
     // Over every run, from a keeper that holds nothing. The beginning of a run is a run, so this holds at each restart.
     ensures run { (steps : List Step) (log : List Keeping) → AllMerged steps start → RunKeeps steps start [] log → HasKept log (run steps).server.maps × RestartsFrom log (run steps) }
     // Every run with merged collections has such a list.

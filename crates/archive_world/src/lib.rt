@@ -43,6 +43,3 @@ pub use schedule::replay;
 pub use server_endpoint::SERVER;
 pub use taken_file::TakenFile;
 pub use world_fault::WorldFault;
-
-#[cfg(test)]
-mod tests;

@@ -1,5 +1,5 @@
-//! Tests alone: each request for memory is refused in turn, in runs of the calls of the ends, of the clients, of the
-//! server's table and of a wire in memory that take memory, and in replays.
+//! Tests alone: each request for memory is refused in turn, in runs of the calls of the ends, of the clients and
+//! of the server's table that take memory.
 //!
 //! Each run answers that memory ran out, or gives the full answer, and leaves nothing changed where it says so.
 #![tactic(auto)]
@@ -10,7 +10,3 @@ mod client;
 mod ends;
 #[cfg(test)]
 mod table;
-#[cfg(test)]
-mod turns;
-#[cfg(test)]
-mod world;

@@ -310,91 +310,55 @@ fn put_wire(rt: &HostRuntime) -> Result<MemoryWire, Fail> {
     Ok(wire)
 }
 
-#[test]
-fn serving_turns(rt: HostRuntime) -> Result<(), Fail> {
-    let mut wire = put_wire(&rt)?;
-    let mut server = Server::new(rt.alloc(), 6969);
-    let mut out = Vec::new(rt.alloc());
-    serve_counted(
-        rt.alloc(),
-        &mut wire,
-        &mut NoKeeper,
-        &mut server,
-        6969,
-        2,
-        &mut out,
-    )?;
-    assert_eq!(rt; out.as_slice(), LINES.as_slice());
-    assert_eq!(rt; sent(&wire, CLIENT, ACK_1), 1);
-    Ok(())
+// Two turns of a new server, or two rounds of one that waits, whose lines go there.
+fn serve_two<W: io::Write>(
+    rt: &HostRuntime,
+    waits: bool,
+    wire: &mut MemoryWire,
+    out: &mut W,
+) -> Result<(), ToolFault> {
+    let alloc = rt.alloc();
+    if waits {
+        let mut server = ReadyServer::new(alloc, 6969);
+        serve_waiting(alloc, wire, &mut NoKeeper, &mut server, 6969, 2, out)
+    } else {
+        let mut server = Server::new(alloc, 6969);
+        serve_counted(alloc, wire, &mut NoKeeper, &mut server, 6969, 2, out)
+    }
 }
 
 #[test]
-fn serving_rounds(rt: HostRuntime) -> Result<(), Fail> {
-    let mut wire = put_wire(&rt)?;
-    let mut server = ReadyServer::new(rt.alloc(), 6969);
-    let mut out = Vec::new(rt.alloc());
-    serve_waiting(
-        rt.alloc(),
-        &mut wire,
-        &mut NoKeeper,
-        &mut server,
-        6969,
-        2,
-        &mut out,
-    )?;
-    assert_eq!(rt; out.as_slice(), LINES.as_slice());
-    assert_eq!(rt; sent(&wire, CLIENT, ACK_1), 1);
-    Ok(())
-}
-
-// Where the first line is not written no turn is made, and else all are. Either line is printed up to the writer's end.
-#[test]
-fn serving_that_is_not_said(rt: HostRuntime) -> Result<(), Fail> {
-    for room in 0..LINES.len() {
-        let taken = if room < 21 { 0 } else { 1 };
+fn serving(rt: HostRuntime) -> Result<(), Fail> {
+    for waits in [false, true] {
         let mut wire = put_wire(&rt)?;
-        let mut server = Server::new(rt.alloc(), 6969);
-        let mut space = [0u8; 29];
-        let mut out = &mut space[..room];
-        let done = serve_counted(
-            rt.alloc(),
-            &mut wire,
-            &mut NoKeeper,
-            &mut server,
-            6969,
-            2,
-            &mut out,
-        );
-        assert_eq!(rt; done, Err(ToolFault::Write));
-        assert_eq!(rt; space.get(..room), LINES.get(..room));
-        assert_eq!(rt; sent(&wire, CLIENT, ACK_1), taken);
-        assert_eq!(rt; wire.log().is_empty(), taken == 0);
+        let mut out = Vec::new(rt.alloc());
+        serve_two(&rt, waits, &mut wire, &mut out)?;
+        assert_eq!(rt; out.as_slice(), LINES.as_slice());
+        assert_eq!(rt; sent(&wire, CLIENT, ACK_1), 1);
     }
     Ok(())
 }
 
+// Where the first line is not written no turn is made, and else all are. Either line is printed up to the writer's end.
+fn serve_with_room(rt: &HostRuntime, waits: bool, room: usize) -> Result<bool, Fail> {
+    let taken = if room < 21 { 0 } else { 1 };
+    let mut wire = put_wire(rt)?;
+    let mut space = [0u8; 29];
+    let mut out = &mut space[..room];
+    let done = serve_two(rt, waits, &mut wire, &mut out);
+    Ok(
+        done == Err(ToolFault::Write)
+            && space.get(..room) == LINES.get(..room)
+            && sent(&wire, CLIENT, ACK_1) == taken
+            && wire.log().is_empty() == (taken == 0),
+    )
+}
+
 #[test]
-fn rounds_that_are_not_said(rt: HostRuntime) -> Result<(), Fail> {
+fn serving_that_is_not_said(rt: HostRuntime) -> Result<(), Fail> {
     for room in 0..LINES.len() {
-        let taken = if room < 21 { 0 } else { 1 };
-        let mut wire = put_wire(&rt)?;
-        let mut server = ReadyServer::new(rt.alloc(), 6969);
-        let mut space = [0u8; 29];
-        let mut out = &mut space[..room];
-        let done = serve_waiting(
-            rt.alloc(),
-            &mut wire,
-            &mut NoKeeper,
-            &mut server,
-            6969,
-            2,
-            &mut out,
-        );
-        assert_eq!(rt; done, Err(ToolFault::Write));
-        assert_eq!(rt; space.get(..room), LINES.get(..room));
-        assert_eq!(rt; sent(&wire, CLIENT, ACK_1), taken);
-        assert_eq!(rt; wire.log().is_empty(), taken == 0);
+        assert!(rt; serve_with_room(&rt, false, room)?, "turns, {room}");
+        assert!(rt; serve_with_room(&rt, true, room)?, "rounds, {room}");
     }
     Ok(())
 }

@@ -1,6 +1,6 @@
 // The promises of every run, tested on one outcome: slowly, and from the list of its events alone.
-use crate::{Asked, Event, GotFile, Op, OpKind, Opening, Outcome, TakenFile, replay};
 use archive_table::MemoryKeeper;
+use archive_world::{Asked, Event, GotFile, Op, OpKind, Opening, Outcome, TakenFile, replay};
 use std::alloc::Global;
 use std::test::Fail;
 use tftp_packet::Endpoint;
@@ -54,7 +54,7 @@ fn is_stranger(events: &[Event], e: Endpoint) -> bool {
 }
 
 // How many puts and how many gets begin.
-pub(super) fn begin_counts(events: &[Event]) -> (usize, usize) {
+pub(crate) fn begin_counts(events: &[Event]) -> (usize, usize) {
     let mut puts = 0_usize;
     let mut gets = 0_usize;
     for event in events {
@@ -240,7 +240,7 @@ fn has_error_three(events: &[Event], outcome: &Outcome) -> bool {
 }
 
 // The promise that an outcome of these events breaks, if it breaks one. `fails` is the call of the keeper that has failed.
-pub(super) fn broken_promise(
+pub(crate) fn broken_promise(
     alloc: Global,
     events: &[Event],
     outcome: &Outcome,

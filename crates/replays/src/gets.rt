@@ -1,11 +1,11 @@
 // Gets.
-use crate::tests::cast::{
+use crate::cast::{
     ACK_0, ACK_1, BUSY, C1, C2, C3, C4, DATA_EMPTY_LYNX, DATA_EMPTY_MS, DATA_HUNDRED, DATA_NINETY,
     EMPTY_LYNX, EMPTY_MS, HUNDRED, NINETY, RRQ_LYNX, RRQ_MS, WRQ, at,
 };
-use crate::tests::scene::{Act, Wanted, is_datagram, other_part, run, was_given};
-use crate::{Asked, Outcome, SERVER};
+use crate::scene::{Act, NO_CALL, NOTHING, Wanted, is_datagram, other_after, run};
 use archive_table::MemoryKeeper;
+use archive_world::{Asked, Outcome, SERVER};
 use std::alloc::Global;
 use std::test::Fail;
 use tftp_packet::Endpoint;
@@ -13,29 +13,28 @@ use tws_file::Ruleset;
 
 const READ: Asked = Asked::Read(Ruleset::Lynx);
 
-// A put comes between the request and the first block of a get: that get still has the collection as it was when it was
-// opened, and the next one has the new one.
+// A put comes between the request and the first block of a get, and another get comes after it.
+const ACROSS: [Act<'static>; 15] = [
+    Act::Put(C1, HUNDRED),
+    Act::Ask(0, 4000),
+    Act::Deliver(1),
+    Act::Deliver(2),
+    Act::Deliver(3),
+    Act::Get(C2, Ruleset::Lynx),
+    Act::Ask(4, 4001),
+    Act::Put(C3, NINETY),
+    Act::Ask(6, 4002),
+    Act::Deliver(7),
+    Act::Deliver(8),
+    Act::Deliver(5),
+    Act::Get(C4, Ruleset::Lynx),
+    Act::Ask(11, 4003),
+    Act::Deliver(12),
+];
+
+// The first get still has the collection as it was when it was opened, and the second one has the new one.
 #[test]
 fn a_get_across_a_put(rt: HostRuntime) -> Result<(), Fail> {
-    let mut keeper = MemoryKeeper::new(rt.alloc());
-    let acts = [
-        Act::Put(C1, HUNDRED),
-        Act::Ask(0, 4000),
-        Act::Deliver(1),
-        Act::Deliver(2),
-        Act::Deliver(3),
-        Act::Get(C2, Ruleset::Lynx),
-        Act::Ask(4, 4001),
-        Act::Put(C3, NINETY),
-        Act::Ask(6, 4002),
-        Act::Deliver(7),
-        Act::Deliver(8),
-        Act::Deliver(5),
-        Act::Get(C4, Ruleset::Lynx),
-        Act::Ask(11, 4003),
-        Act::Deliver(12),
-    ];
-    let outcome = run(rt.alloc(), &mut keeper, &acts)?;
     let wanted = Wanted {
         taken: &[(C1, HUNDRED), (C3, NINETY)],
         // The last ACK of the second put is never delivered.
@@ -48,7 +47,6 @@ fn a_get_across_a_put(rt: HostRuntime) -> Result<(), Fail> {
             (C4, 4003, READ, 2),
         ],
         lynx: NINETY,
-        ms: EMPTY_MS,
         datagrams: &[
             (C1, SERVER, WRQ),
             (at(4000), C1, ACK_0),
@@ -65,40 +63,35 @@ fn a_get_across_a_put(rt: HostRuntime) -> Result<(), Fail> {
             (at(4003), C4, DATA_NINETY),
             (C4, at(4003), ACK_1),
         ],
+        given: &[
+            (Ruleset::Lynx, HUNDRED, true),
+            (Ruleset::Lynx, NINETY, true),
+        ],
+        ..NOTHING
     };
-    assert_eq!(rt; other_part(&outcome, &wanted), None);
-    let given = [
-        (Ruleset::Lynx, HUNDRED.as_slice(), true),
-        (Ruleset::Lynx, NINETY.as_slice(), true),
-    ];
-    assert!(rt; was_given(&keeper, &given));
+    assert_eq!(rt; other_after(rt.alloc(), &ACROSS, NO_CALL, &wanted)?, None);
     Ok(())
 }
 
 #[test]
 fn a_get_of_an_empty_collection(rt: HostRuntime) -> Result<(), Fail> {
-    let mut keeper = MemoryKeeper::new(rt.alloc());
     let acts = [
         Act::Get(C1, Ruleset::Ms),
         Act::Ask(0, 4000),
         Act::Deliver(1),
         Act::Deliver(2),
     ];
-    let outcome = run(rt.alloc(), &mut keeper, &acts)?;
     let wanted = Wanted {
-        taken: &[],
-        sent: &[],
         got: &[(C1, EMPTY_MS)],
         opened: &[(C1, 4000, Asked::Read(Ruleset::Ms), 0)],
-        lynx: EMPTY_LYNX,
-        ms: EMPTY_MS,
         datagrams: &[
             (C1, SERVER, RRQ_MS),
             (at(4000), C1, DATA_EMPTY_MS),
             (C1, at(4000), ACK_1),
         ],
+        ..NOTHING
     };
-    assert_eq!(rt; other_part(&outcome, &wanted), None);
+    assert_eq!(rt; other_after(rt.alloc(), &acts, NO_CALL, &wanted)?, None);
     Ok(())
 }
 

@@ -1,7 +1,7 @@
 // The ready server over wires in memory, whose clock the test sets.
-use super::*;
-use crate::test_wires::*;
+use crate::wires::*;
 use archive_table::NoKeeper;
+use archive_turns::{RECEIVE_SIZE, Ready, ReadyServer, ReadyWire, Wire, serve_ready};
 use std::test::Fail;
 use tws_file::Ruleset;
 

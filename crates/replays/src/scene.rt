@@ -1,8 +1,9 @@
 // Lists of events in short, and what they are wanted to leave.
-use crate::{
+use crate::cast::{EMPTY_LYNX, EMPTY_MS};
+use archive_table::MemoryKeeper;
+use archive_world::{
     Asked, Datagram, Event, GotFile, Op, OpKind, Opening, Outcome, TakenFile, WorldFault, replay,
 };
-use archive_table::MemoryKeeper;
 use std::alloc::Global;
 use std::test::Fail;
 use tftp_packet::Endpoint;
@@ -10,7 +11,7 @@ use tws_file::{Bytes, Ruleset};
 
 // An event in short.
 #[derive(Clone, Copy)]
-pub(super) enum Act<'a> {
+pub(crate) enum Act<'a> {
     Put(Endpoint, &'a [u8]),
     Get(Endpoint, Ruleset),
     // The datagram at this place comes to a client or to a transfer.
@@ -24,7 +25,7 @@ pub(super) enum Act<'a> {
     Restart,
 }
 
-pub(super) fn bytes_of(alloc: Global, bytes: &[u8]) -> Result<Bytes, Fail> {
+pub(crate) fn bytes_of(alloc: Global, bytes: &[u8]) -> Result<Bytes, Fail> {
     Ok(Bytes::of(Vec::from_slice(alloc, bytes)?))
 }
 
@@ -32,7 +33,7 @@ fn begin(client: Endpoint, kind: OpKind) -> Event {
     Event::Begin(Op { client, kind })
 }
 
-pub(super) fn event_of(alloc: Global, act: Act<'_>) -> Result<Event, Fail> {
+pub(crate) fn event_of(alloc: Global, act: Act<'_>) -> Result<Event, Fail> {
     Ok(match act {
         Act::Put(client, file) => begin(client, OpKind::Put(bytes_of(alloc, file)?)),
         Act::Get(client, kind) => begin(client, OpKind::Get(kind)),
@@ -49,7 +50,7 @@ pub(super) fn event_of(alloc: Global, act: Act<'_>) -> Result<Event, Fail> {
     })
 }
 
-pub(super) fn events_of(alloc: Global, acts: &[Act<'_>]) -> Result<Vec<Event>, Fail> {
+pub(crate) fn events_of(alloc: Global, acts: &[Act<'_>]) -> Result<Vec<Event>, Fail> {
     let mut events = Vec::new(alloc);
     for act in acts {
         events.push(event_of(alloc, *act)?)?;
@@ -58,7 +59,7 @@ pub(super) fn events_of(alloc: Global, acts: &[Act<'_>]) -> Result<Vec<Event>, F
 }
 
 // What these events leave, by this keeper.
-pub(super) fn run(
+pub(crate) fn run(
     alloc: Global,
     keeper: &mut MemoryKeeper,
     acts: &[Act<'_>],
@@ -68,7 +69,7 @@ pub(super) fn run(
 }
 
 // Why these events have no run, by this keeper.
-pub(super) fn fault_by(
+pub(crate) fn fault_by(
     alloc: Global,
     keeper: &mut MemoryKeeper,
     acts: &[Act<'_>],
@@ -80,24 +81,40 @@ pub(super) fn fault_by(
     }
 }
 
-pub(super) fn fault(alloc: Global, acts: &[Act<'_>]) -> Result<Option<WorldFault>, Fail> {
+pub(crate) fn fault(alloc: Global, acts: &[Act<'_>]) -> Result<Option<WorldFault>, Fail> {
     fault_by(alloc, &mut MemoryKeeper::new(alloc), acts)
 }
 
+// The call of a keeper that fails, where none does.
+pub(crate) const NO_CALL: u64 = 0;
+
 // What a run is to leave: a file with its peer or client; an opening's peer, port, request and count of files taken; a
-// datagram's source, target and bytes.
+// datagram's source, target and bytes; the texts that the keeper was given, and whether it kept each.
 #[derive(Clone, Copy)]
-pub(super) struct Wanted<'a> {
-    pub(super) taken: &'a [(Endpoint, &'a [u8])],
-    pub(super) sent: &'a [Endpoint],
-    pub(super) got: &'a [(Endpoint, &'a [u8])],
-    pub(super) opened: &'a [(Endpoint, u16, Asked, usize)],
-    pub(super) lynx: &'a [u8],
-    pub(super) ms: &'a [u8],
-    pub(super) datagrams: &'a [(Endpoint, Endpoint, &'a [u8])],
+pub(crate) struct Wanted<'a> {
+    pub(crate) taken: &'a [(Endpoint, &'a [u8])],
+    pub(crate) sent: &'a [Endpoint],
+    pub(crate) got: &'a [(Endpoint, &'a [u8])],
+    pub(crate) opened: &'a [(Endpoint, u16, Asked, usize)],
+    pub(crate) lynx: &'a [u8],
+    pub(crate) ms: &'a [u8],
+    pub(crate) datagrams: &'a [(Endpoint, Endpoint, &'a [u8])],
+    pub(crate) given: &'a [(Ruleset, &'a [u8], bool)],
 }
 
-pub(super) fn are_taken(taken: &[TakenFile], wanted: &[(Endpoint, &[u8])]) -> bool {
+// What no event at all leaves.
+pub(crate) const NOTHING: Wanted<'static> = Wanted {
+    taken: &[],
+    sent: &[],
+    got: &[],
+    opened: &[],
+    lynx: EMPTY_LYNX,
+    ms: EMPTY_MS,
+    datagrams: &[],
+    given: &[],
+};
+
+fn are_taken(taken: &[TakenFile], wanted: &[(Endpoint, &[u8])]) -> bool {
     for (one, (peer, file)) in taken.iter().zip(wanted) {
         if one.peer != *peer || one.file.as_slice() != *file {
             return false;
@@ -106,7 +123,7 @@ pub(super) fn are_taken(taken: &[TakenFile], wanted: &[(Endpoint, &[u8])]) -> bo
     taken.len() == wanted.len()
 }
 
-pub(super) fn are_got(got: &[GotFile], wanted: &[(Endpoint, &[u8])]) -> bool {
+fn are_got(got: &[GotFile], wanted: &[(Endpoint, &[u8])]) -> bool {
     for (one, (client, file)) in got.iter().zip(wanted) {
         if one.client != *client || one.file.as_slice() != *file {
             return false;
@@ -115,7 +132,7 @@ pub(super) fn are_got(got: &[GotFile], wanted: &[(Endpoint, &[u8])]) -> bool {
     got.len() == wanted.len()
 }
 
-pub(super) fn are_opened(opened: &[Opening], wanted: &[(Endpoint, u16, Asked, usize)]) -> bool {
+fn are_opened(opened: &[Opening], wanted: &[(Endpoint, u16, Asked, usize)]) -> bool {
     for (one, (peer, port, asked, taken)) in opened.iter().zip(wanted) {
         let is_peer = one.peer == *peer && one.port == *port;
         if !is_peer || one.asked != *asked || one.taken != *taken {
@@ -125,29 +142,21 @@ pub(super) fn are_opened(opened: &[Opening], wanted: &[(Endpoint, u16, Asked, us
     opened.len() == wanted.len()
 }
 
-pub(super) fn is_datagram(one: &Datagram, from: Endpoint, to: Endpoint, bytes: &[u8]) -> bool {
+pub(crate) fn is_datagram(one: &Datagram, from: Endpoint, to: Endpoint, bytes: &[u8]) -> bool {
     one.from == from && one.to == to && one.bytes.as_slice() == bytes
 }
 
-// The first datagram that is another one than wanted; how many there are to be, if that is all.
-pub(super) fn other_datagram(
-    datagrams: &[Datagram],
-    wanted: &[(Endpoint, Endpoint, &[u8])],
-) -> Option<usize> {
-    for (i, (one, (from, to, bytes))) in datagrams.iter().zip(wanted).enumerate() {
+fn are_datagrams(datagrams: &[Datagram], wanted: &[(Endpoint, Endpoint, &[u8])]) -> bool {
+    for (one, (from, to, bytes)) in datagrams.iter().zip(wanted) {
         if !is_datagram(one, *from, *to, bytes) {
-            return Some(i);
+            return false;
         }
     }
-    if datagrams.len() == wanted.len() {
-        None
-    } else {
-        Some(wanted.len())
-    }
+    datagrams.len() == wanted.len()
 }
 
 // The part of an outcome that is not as wanted, if there is one.
-pub(super) fn other_part(outcome: &Outcome, wanted: &Wanted<'_>) -> Option<&'static str> {
+fn other_part(outcome: &Outcome, wanted: &Wanted<'_>) -> Option<&'static str> {
     if !are_taken(outcome.taken.as_slice(), wanted.taken) {
         return Some("taken");
     }
@@ -166,14 +175,14 @@ pub(super) fn other_part(outcome: &Outcome, wanted: &Wanted<'_>) -> Option<&'sta
     if outcome.ms.as_slice() != wanted.ms {
         return Some("ms");
     }
-    if other_datagram(outcome.datagrams.as_slice(), wanted.datagrams).is_some() {
+    if !are_datagrams(outcome.datagrams.as_slice(), wanted.datagrams) {
         return Some("datagrams");
     }
     None
 }
 
 // Whether a keeper was given just these texts, and kept each or not.
-pub(super) fn was_given(keeper: &MemoryKeeper, wanted: &[(Ruleset, &[u8], bool)]) -> bool {
+pub(crate) fn was_given(keeper: &MemoryKeeper, wanted: &[(Ruleset, &[u8], bool)]) -> bool {
     let kept = keeper.kept();
     for (one, (kind, text, ok)) in kept.iter().zip(wanted) {
         if one.kind != *kind || one.text.as_slice() != *text || one.ok != *ok {
@@ -181,4 +190,20 @@ pub(super) fn was_given(keeper: &MemoryKeeper, wanted: &[(Ruleset, &[u8], bool)]
         }
     }
     kept.len() == wanted.len()
+}
+
+// The part that is not as wanted of what these events leave, if there is one. This call of the keeper fails.
+pub(crate) fn other_after(
+    alloc: Global,
+    acts: &[Act<'_>],
+    fails: u64,
+    wanted: &Wanted<'_>,
+) -> Result<Option<&'static str>, Fail> {
+    let mut keeper = MemoryKeeper::new(alloc);
+    keeper.fail_at(fails);
+    let outcome = run(alloc, &mut keeper, acts)?;
+    if !was_given(&keeper, wanted.given) {
+        return Ok(Some("given"));
+    }
+    Ok(other_part(&outcome, wanted))
 }

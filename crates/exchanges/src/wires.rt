@@ -1,5 +1,5 @@
 // Wires in memory for the tests, the datagrams of a put and a get by hand, RFC 1350, and what a log has.
-use crate::{Entry, MemoryWire};
+use archive_turns::{Entry, MemoryWire};
 use std::alloc::Global;
 use std::test::Fail;
 use tftp_packet::Endpoint;
@@ -8,6 +8,11 @@ pub(crate) const SERVER: Endpoint = Endpoint {
     host: 1,
     port: 6969,
 };
+
+// A port of the server's host.
+pub(crate) fn at(port: u16) -> Endpoint {
+    Endpoint { host: 1, port }
+}
 
 pub(crate) const C1: Endpoint = Endpoint {
     host: 2,

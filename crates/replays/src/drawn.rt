@@ -1,9 +1,9 @@
 // Lists of events that are drawn: six operations at six endpoints, whose datagrams are mostly delivered, and now and then
 // lost, repeated or overtaken; time-outs, strangers' datagrams and restarts.
-use crate::tests::cast::{ACK_0, ACK_1, ACK_2, STRANGER, WRQ, at};
-use crate::tests::scene::{Act, bytes_of, event_of};
-use crate::{Datagram, Event, Op, OpKind, Outcome, SERVER, WorldFault, replay};
+use crate::cast::{ACK_0, ACK_1, ACK_2, STRANGER, WRQ, at};
+use crate::scene::{Act, bytes_of, event_of};
 use archive_table::MemoryKeeper;
+use archive_world::{Datagram, Event, Op, OpKind, Outcome, SERVER, WorldFault, replay};
 use std::alloc::Global;
 use std::test::Fail;
 use tftp_packet::Endpoint;
@@ -21,10 +21,10 @@ const MOVES: [u16; 8] = [0, 0, 2, 300, 484, 700, 996, 1200];
 
 // Numbers by a linear congruence, from a fixed seed.
 #[derive(Drop)]
-pub(super) struct Draws(pub(super) u64);
+pub(crate) struct Draws(pub(crate) u64);
 
 impl Draws {
-    pub(super) fn below(&mut self, n: u16) -> u16 {
+    pub(crate) fn below(&mut self, n: u16) -> u16 {
         self.0 = self
             .0
             .wrapping_mul(6364136223846793005)
@@ -47,10 +47,10 @@ impl Draws {
 
 // A list that is being drawn.
 #[derive(Drop)]
-pub(super) struct Drawn {
-    pub(super) events: Vec<Event>,
+pub(crate) struct Drawn {
+    pub(crate) events: Vec<Event>,
     // The call of the keeper that fails; 0 where none does.
-    pub(super) fails: u64,
+    pub(crate) fails: u64,
     // For each datagram that was sent by the last round, whether it was delivered or lost.
     gone: Vec<bool>,
     begun: u16,
@@ -304,7 +304,7 @@ fn round(
 }
 
 // A list, and what it leaves. In one of eight lists a call of the keeper fails.
-pub(super) fn draw(alloc: Global, draws: &mut Draws) -> Result<(Drawn, Outcome), Fail> {
+pub(crate) fn draw(alloc: Global, draws: &mut Draws) -> Result<(Drawn, Outcome), Fail> {
     let fails = if draws.once_in(8) {
         1 + u64::from(draws.below(4))
     } else {

@@ -1,10 +1,7 @@
 // Puts.
-use crate::tests::cast::{
-    ACK_0, ACK_1, ACK_2, C1, C2, C3, DATA_HUNDRED, EMPTY_LYNX, EMPTY_MS, HUNDRED, UNKNOWN, WRQ, at,
-};
-use crate::tests::scene::{Act, Wanted, other_part, run, was_given};
-use crate::{Asked, SERVER};
-use archive_table::MemoryKeeper;
+use crate::cast::{ACK_0, ACK_1, ACK_2, C1, C2, C3, DATA_HUNDRED, HUNDRED, UNKNOWN, WRQ, at};
+use crate::scene::{Act, NO_CALL, NOTHING, Wanted, other_after};
+use archive_world::{Asked, SERVER};
 use std::test::Fail;
 use tws_file::Ruleset;
 
@@ -14,7 +11,6 @@ fn a_put_of_one_whole_block(rt: HostRuntime) -> Result<(), Fail> {
     let file = [7; 512];
     let mut data = [7; 516];
     data[..4].copy_from_slice(b"\0\x03\0\x01");
-    let mut keeper = MemoryKeeper::new(rt.alloc());
     let acts = [
         Act::Put(C1, &file),
         Act::Ask(0, 4000),
@@ -24,14 +20,10 @@ fn a_put_of_one_whole_block(rt: HostRuntime) -> Result<(), Fail> {
         Act::Deliver(4),
         Act::Deliver(5),
     ];
-    let outcome = run(rt.alloc(), &mut keeper, &acts)?;
     let wanted = Wanted {
         taken: &[(C1, &file)],
         sent: &[C1],
-        got: &[],
         opened: &[(C1, 4000, Asked::Write, 0)],
-        lynx: EMPTY_LYNX,
-        ms: EMPTY_MS,
         datagrams: &[
             (C1, SERVER, WRQ),
             (at(4000), C1, ACK_0),
@@ -40,9 +32,9 @@ fn a_put_of_one_whole_block(rt: HostRuntime) -> Result<(), Fail> {
             (C1, at(4000), b"\0\x03\0\x02"),
             (at(4000), C1, ACK_2),
         ],
+        ..NOTHING
     };
-    assert_eq!(rt; other_part(&outcome, &wanted), None);
-    assert!(rt; was_given(&keeper, &[]));
+    assert_eq!(rt; other_after(rt.alloc(), &acts, NO_CALL, &wanted)?, None);
     Ok(())
 }
 
@@ -50,7 +42,6 @@ fn a_put_of_one_whole_block(rt: HostRuntime) -> Result<(), Fail> {
 // is taken once.
 #[test]
 fn a_request_that_comes_twice(rt: HostRuntime) -> Result<(), Fail> {
-    let mut keeper = MemoryKeeper::new(rt.alloc());
     let acts = [
         Act::Put(C1, HUNDRED),
         Act::Ask(0, 4000),
@@ -61,14 +52,11 @@ fn a_request_that_comes_twice(rt: HostRuntime) -> Result<(), Fail> {
         Act::Deliver(3),
         Act::Deliver(5),
     ];
-    let outcome = run(rt.alloc(), &mut keeper, &acts)?;
     let wanted = Wanted {
         taken: &[(C1, HUNDRED)],
         sent: &[C1],
-        got: &[],
         opened: &[(C1, 4000, Asked::Write, 0), (C1, 4001, Asked::Write, 0)],
         lynx: HUNDRED,
-        ms: EMPTY_MS,
         datagrams: &[
             (C1, SERVER, WRQ),
             (at(4000), C1, ACK_0),
@@ -77,16 +65,16 @@ fn a_request_that_comes_twice(rt: HostRuntime) -> Result<(), Fail> {
             (C1, at(4001), UNKNOWN),
             (at(4000), C1, ACK_1),
         ],
+        given: &[(Ruleset::Lynx, HUNDRED, true)],
+        ..NOTHING
     };
-    assert_eq!(rt; other_part(&outcome, &wanted), None);
-    assert!(rt; was_given(&keeper, &[(Ruleset::Lynx, HUNDRED, true)]));
+    assert_eq!(rt; other_after(rt.alloc(), &acts, NO_CALL, &wanted)?, None);
     Ok(())
 }
 
 // The client sends its block again three times, and each copy is acknowledged. The file is taken once.
 #[test]
 fn a_last_ack_that_comes_late(rt: HostRuntime) -> Result<(), Fail> {
-    let mut keeper = MemoryKeeper::new(rt.alloc());
     let acts = [
         Act::Put(C1, HUNDRED),
         Act::Ask(0, 4000),
@@ -100,14 +88,11 @@ fn a_last_ack_that_comes_late(rt: HostRuntime) -> Result<(), Fail> {
         Act::Deliver(8),
         Act::Deliver(9),
     ];
-    let outcome = run(rt.alloc(), &mut keeper, &acts)?;
     let wanted = Wanted {
         taken: &[(C1, HUNDRED)],
         sent: &[C1],
-        got: &[],
         opened: &[(C1, 4000, Asked::Write, 0)],
         lynx: HUNDRED,
-        ms: EMPTY_MS,
         datagrams: &[
             (C1, SERVER, WRQ),
             (at(4000), C1, ACK_0),
@@ -120,16 +105,16 @@ fn a_last_ack_that_comes_late(rt: HostRuntime) -> Result<(), Fail> {
             (C1, at(4000), DATA_HUNDRED),
             (at(4000), C1, ACK_1),
         ],
+        given: &[(Ruleset::Lynx, HUNDRED, true)],
+        ..NOTHING
     };
-    assert_eq!(rt; other_part(&outcome, &wanted), None);
-    assert!(rt; was_given(&keeper, &[(Ruleset::Lynx, HUNDRED, true)]));
+    assert_eq!(rt; other_after(rt.alloc(), &acts, NO_CALL, &wanted)?, None);
     Ok(())
 }
 
 // Four time-outs send the request again. The fifth ends the client, which is silent from then on.
 #[test]
 fn a_put_that_is_never_answered(rt: HostRuntime) -> Result<(), Fail> {
-    let mut keeper = MemoryKeeper::new(rt.alloc());
     let acts = [
         Act::Put(C1, HUNDRED),
         Act::ClientWaits(C1),
@@ -139,54 +124,46 @@ fn a_put_that_is_never_answered(rt: HostRuntime) -> Result<(), Fail> {
         Act::ClientWaits(C1),
         Act::ClientWaits(C1),
     ];
-    let outcome = run(rt.alloc(), &mut keeper, &acts)?;
     let request = (C1, SERVER, WRQ.as_slice());
     let wanted = Wanted {
-        taken: &[],
-        sent: &[],
-        got: &[],
-        opened: &[],
-        lynx: EMPTY_LYNX,
-        ms: EMPTY_MS,
-        datagrams: &[request, request, request, request, request],
+        datagrams: &[request; 5],
+        ..NOTHING
     };
-    assert_eq!(rt; other_part(&outcome, &wanted), None);
+    assert_eq!(rt; other_after(rt.alloc(), &acts, NO_CALL, &wanted)?, None);
     Ok(())
 }
 
-// The same file by three clients: it is taken three times, and kept once.
+// The same file by three clients, one after another.
+const THREE_PUTS: [Act<'static>; 15] = [
+    Act::Put(C1, HUNDRED),
+    Act::Ask(0, 4000),
+    Act::Deliver(1),
+    Act::Deliver(2),
+    Act::Deliver(3),
+    Act::Put(C2, HUNDRED),
+    Act::Ask(4, 4001),
+    Act::Deliver(5),
+    Act::Deliver(6),
+    Act::Deliver(7),
+    Act::Put(C3, HUNDRED),
+    Act::Ask(8, 4002),
+    Act::Deliver(9),
+    Act::Deliver(10),
+    Act::Deliver(11),
+];
+
+// It is taken three times, and kept once.
 #[test]
 fn one_file_of_three_clients(rt: HostRuntime) -> Result<(), Fail> {
-    let mut keeper = MemoryKeeper::new(rt.alloc());
-    let acts = [
-        Act::Put(C1, HUNDRED),
-        Act::Ask(0, 4000),
-        Act::Deliver(1),
-        Act::Deliver(2),
-        Act::Deliver(3),
-        Act::Put(C2, HUNDRED),
-        Act::Ask(4, 4001),
-        Act::Deliver(5),
-        Act::Deliver(6),
-        Act::Deliver(7),
-        Act::Put(C3, HUNDRED),
-        Act::Ask(8, 4002),
-        Act::Deliver(9),
-        Act::Deliver(10),
-        Act::Deliver(11),
-    ];
-    let outcome = run(rt.alloc(), &mut keeper, &acts)?;
     let wanted = Wanted {
         taken: &[(C1, HUNDRED), (C2, HUNDRED), (C3, HUNDRED)],
         sent: &[C1, C2, C3],
-        got: &[],
         opened: &[
             (C1, 4000, Asked::Write, 0),
             (C2, 4001, Asked::Write, 1),
             (C3, 4002, Asked::Write, 2),
         ],
         lynx: HUNDRED,
-        ms: EMPTY_MS,
         datagrams: &[
             (C1, SERVER, WRQ),
             (at(4000), C1, ACK_0),
@@ -201,9 +178,13 @@ fn one_file_of_three_clients(rt: HostRuntime) -> Result<(), Fail> {
             (C3, at(4002), DATA_HUNDRED),
             (at(4002), C3, ACK_1),
         ],
+        given: &[(Ruleset::Lynx, HUNDRED, true)],
+        ..NOTHING
     };
-    assert_eq!(rt; other_part(&outcome, &wanted), None);
-    assert!(rt; was_given(&keeper, &[(Ruleset::Lynx, HUNDRED, true)]));
+    assert_eq!(rt;
+        other_after(rt.alloc(), &THREE_PUTS, NO_CALL, &wanted)?,
+        None
+    );
     Ok(())
 }
 
@@ -212,7 +193,6 @@ fn one_file_of_three_clients(rt: HostRuntime) -> Result<(), Fail> {
 #[test]
 fn a_file_that_is_no_solution_file(rt: HostRuntime) -> Result<(), Fail> {
     let file = b"\x35\x33\x9B\x98\x02\0\0";
-    let mut keeper = MemoryKeeper::new(rt.alloc());
     let acts = [
         Act::Put(C1, file),
         Act::Ask(0, 4000),
@@ -220,22 +200,18 @@ fn a_file_that_is_no_solution_file(rt: HostRuntime) -> Result<(), Fail> {
         Act::Deliver(2),
         Act::Deliver(3),
     ];
-    let outcome = run(rt.alloc(), &mut keeper, &acts)?;
     let wanted = Wanted {
         taken: &[(C1, file)],
         sent: &[C1],
-        got: &[],
         opened: &[(C1, 4000, Asked::Write, 0)],
-        lynx: EMPTY_LYNX,
-        ms: EMPTY_MS,
         datagrams: &[
             (C1, SERVER, WRQ),
             (at(4000), C1, ACK_0),
             (C1, at(4000), b"\0\x03\0\x01\x35\x33\x9B\x98\x02\0\0"),
             (at(4000), C1, ACK_1),
         ],
+        ..NOTHING
     };
-    assert_eq!(rt; other_part(&outcome, &wanted), None);
-    assert!(rt; was_given(&keeper, &[]));
+    assert_eq!(rt; other_after(rt.alloc(), &acts, NO_CALL, &wanted)?, None);
     Ok(())
 }

@@ -1,9 +1,9 @@
 // A server and a client, each at a wire in memory, with what one sends carried to the other: files of many sizes, and the
 // same with each datagram carried twice.
-use super::*;
-use crate::test_wires::*;
+use crate::wires::*;
 use archive_client::State;
 use archive_table::NoKeeper;
+use archive_turns::{Entry, GetRun, MemoryWire, PutRun, Server};
 use std::alloc::{AllocError, Global};
 use std::test::Fail;
 use tftp_packet::Endpoint;
@@ -57,6 +57,39 @@ fn file_of(alloc: Global, size: usize) -> Result<Vec<u8>, AllocError> {
     Ok(bytes)
 }
 
+// A client's wire, and how much of its log and of the server's was carried.
+#[derive(Drop)]
+struct Line {
+    wire: MemoryWire,
+    sent: usize,
+    answered: usize,
+}
+
+impl Line {
+    // A wire that opens this port, beside this wire of the server.
+    fn new(alloc: Global, port: u16, server: &MemoryWire) -> Result<Self, Fail> {
+        Ok(Line {
+            wire: wire_of(alloc, &[port])?,
+            sent: 0,
+            answered: server.log().len(),
+        })
+    }
+
+    // What the client has sent is carried, the server makes a turn, and what it has sent is carried. Whether it took a file.
+    fn exchange(
+        &mut self,
+        alloc: Global,
+        server: &mut Server,
+        wire: &mut MemoryWire,
+        times: u8,
+    ) -> Result<bool, Fail> {
+        self.sent = carry(alloc, &self.wire, 2, self.sent, times, wire)?;
+        let taken = server.turn(wire, &mut NoKeeper);
+        self.answered = carry(alloc, wire, 1, self.answered, times, &mut self.wire)?;
+        Ok(taken)
+    }
+}
+
 // Puts a file: how many files the server took.
 fn put(
     alloc: Global,
@@ -65,18 +98,16 @@ fn put(
     file: Vec<u8>,
     times: u8,
 ) -> Result<u64, Fail> {
-    let mut line = wire_of(alloc, &[5000])?;
-    let Ok(mut run) = PutRun::begin(&mut line, SERVER, file) else {
+    let mut line = Line::new(alloc, 5000, wire)?;
+    let Ok(mut run) = PutRun::begin(&mut line.wire, SERVER, file) else {
         return Err(Fail::new("not begun"));
     };
-    let (mut sent, mut answered, mut taken) = (0, wire.log().len(), 0u64);
+    let mut taken = 0u64;
     for _ in 0..TURNS {
-        sent = carry(alloc, &line, 2, sent, times, wire)?;
-        if server.turn(wire, &mut NoKeeper) {
+        if line.exchange(alloc, server, wire, times)? {
             taken = taken.saturating_add(1);
         }
-        answered = carry(alloc, wire, 1, answered, times, &mut line)?;
-        run.turn(&mut line);
+        run.turn(&mut line.wire);
         if run.client().over() {
             break;
         }
@@ -95,23 +126,20 @@ fn get(
     wire: &mut MemoryWire,
     times: u8,
 ) -> Result<Vec<u8>, Fail> {
-    let mut line = wire_of(alloc, &[5001])?;
-    let Ok(mut run) = GetRun::begin(alloc, &mut line, SERVER, Ruleset::Lynx) else {
+    let mut line = Line::new(alloc, 5001, wire)?;
+    let Ok(mut run) = GetRun::begin(alloc, &mut line.wire, SERVER, Ruleset::Lynx) else {
         return Err(Fail::new("not begun"));
     };
-    let (mut sent, mut answered) = (0, wire.log().len());
     for _ in 0..TURNS {
-        sent = carry(alloc, &line, 2, sent, times, wire)?;
-        server.turn(wire, &mut NoKeeper);
-        answered = carry(alloc, wire, 1, answered, times, &mut line)?;
-        run.turn(&mut line);
+        let _taken = line.exchange(alloc, server, wire, times)?;
+        run.turn(&mut line.wire);
         if run.client().state() == State::Got {
             break;
         }
     }
-    match run.into_client().into_file() {
-        Ok(file) => Ok(file.to_vec(alloc)?),
-        Err(_) => Err(Fail::new("not fetched")),
+    match run.client().file() {
+        Some(file) => Ok(file.to_vec(alloc)?),
+        None => Err(Fail::new("not fetched")),
     }
 }
 

@@ -1,25 +1,15 @@
 // Lists of events without a run.
-use crate::tests::cast::{C1, C2, EMPTY_LYNX, EMPTY_MS, HUNDRED, RRQ_MS, WRQ, at};
-use crate::tests::scene::{Act, Wanted, fault, fault_by, other_part, run, was_given};
-use crate::{SERVER, WorldFault};
+use crate::cast::{C1, C2, HUNDRED, RRQ_MS, WRQ, at};
+use crate::scene::{Act, NO_CALL, NOTHING, Wanted, fault, fault_by, other_after, was_given};
 use archive_table::MemoryKeeper;
+use archive_world::{SERVER, WorldFault};
 use std::test::Fail;
 use tftp_packet::Endpoint;
 use tws_file::Ruleset;
 
 #[test]
 fn no_events(rt: HostRuntime) -> Result<(), Fail> {
-    let outcome = run(rt.alloc(), &mut MemoryKeeper::new(rt.alloc()), &[])?;
-    let wanted = Wanted {
-        taken: &[],
-        sent: &[],
-        got: &[],
-        opened: &[],
-        lynx: EMPTY_LYNX,
-        ms: EMPTY_MS,
-        datagrams: &[],
-    };
-    assert_eq!(rt; other_part(&outcome, &wanted), None);
+    assert_eq!(rt; other_after(rt.alloc(), &[], NO_CALL, &NOTHING)?, None);
     Ok(())
 }
 
@@ -127,16 +117,10 @@ fn events_that_change_nothing(rt: HostRuntime) -> Result<(), Fail> {
         Act::Deliver(1),
         Act::PortWaits(6969),
     ];
-    let outcome = run(rt.alloc(), &mut MemoryKeeper::new(rt.alloc()), &acts)?;
     let wanted = Wanted {
-        taken: &[],
-        sent: &[],
-        got: &[],
-        opened: &[],
-        lynx: EMPTY_LYNX,
-        ms: EMPTY_MS,
         datagrams: &[(C1, SERVER, WRQ), (C2, nobody, RRQ_MS)],
+        ..NOTHING
     };
-    assert_eq!(rt; other_part(&outcome, &wanted), None);
+    assert_eq!(rt; other_after(rt.alloc(), &acts, NO_CALL, &wanted)?, None);
     Ok(())
 }

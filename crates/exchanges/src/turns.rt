@@ -1,8 +1,8 @@
 // The counted server over wires in memory.
-use super::*;
-use crate::test_wires::*;
+use crate::wires::*;
 use archive_client::State;
 use archive_table::NoKeeper;
+use archive_turns::{Entry, MemoryWire, PutRun, ReadyServer, Server, Wire, run_get, serve_turns};
 use std::test::Fail;
 use tftp_packet::Endpoint;
 use tws_file::Ruleset;
@@ -195,14 +195,7 @@ fn a_request_that_comes_twice(rt: HostRuntime) -> Result<(), Fail> {
         assert!(rt; sent_last(&wire, spare, C1, ACK_0));
         assert_eq!(rt; server.table().live(), live);
     }
-    let first = Endpoint {
-        host: 1,
-        port: 4000,
-    };
-    let second = Endpoint {
-        host: 1,
-        port: 4001,
-    };
+    let (first, second) = (at(4000), at(4001));
     mine.arrive(alloc, 5000, first, ACK_0)?;
     run.turn(&mut mine);
     assert!(rt; sent_last(&mine, 5000, first, DATA_F1));
@@ -255,7 +248,7 @@ fn a_get_across_a_put(rt: HostRuntime) -> Result<(), Fail> {
             1
         );
         let mut mine = wire_of(alloc, &[5000])?;
-        mine.arrive(alloc, 5000, Endpoint { host: 1, port }, data)?;
+        mine.arrive(alloc, 5000, at(port), data)?;
         let mut out = Vec::new(alloc);
         let got = run_get(alloc, &mut mine, SERVER, Ruleset::Lynx, 1, &mut out);
         assert_eq!(rt; got, Ok(28));

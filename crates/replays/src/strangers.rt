@@ -1,19 +1,18 @@
 // Datagrams that enter the network from nowhere.
-use crate::tests::cast::{
-    ACK_0, ACK_1, C1, DATA_HUNDRED, DATA_NINETY, EMPTY_LYNX, EMPTY_MS, HUNDRED, NINETY, STRANGER,
-    UNKNOWN, WRQ, at,
+use crate::cast::{
+    ACK_0, ACK_1, C1, DATA_HUNDRED, DATA_NINETY, HUNDRED, NINETY, STRANGER, UNKNOWN, WRQ, at,
 };
-use crate::tests::scene::{Act, Wanted, fault, other_part, run, was_given};
-use crate::{Asked, SERVER, WorldFault};
-use archive_table::MemoryKeeper;
+use crate::scene::{Act, NO_CALL, NOTHING, Wanted, fault, other_after};
+use archive_world::{Asked, SERVER, WorldFault};
 use std::test::Fail;
 use tws_file::Ruleset;
+
+const PUT: Asked = Asked::Write;
 
 // A stranger's ACK to another one's transfer has no effect there. A transfer of its own is served, and its file counts in
 // the collection, beside that of the put, which goes on.
 #[test]
 fn a_stranger_beside_a_put(rt: HostRuntime) -> Result<(), Fail> {
-    let mut keeper = MemoryKeeper::new(rt.alloc());
     let acts = [
         Act::Put(C1, HUNDRED),
         Act::Ask(0, 4000),
@@ -27,17 +26,11 @@ fn a_stranger_beside_a_put(rt: HostRuntime) -> Result<(), Fail> {
         Act::Deliver(8),
         Act::Deliver(9),
     ];
-    let outcome = run(rt.alloc(), &mut keeper, &acts)?;
     let wanted = Wanted {
         taken: &[(STRANGER, NINETY), (C1, HUNDRED)],
         sent: &[C1],
-        got: &[],
-        opened: &[
-            (C1, 4000, Asked::Write, 0),
-            (STRANGER, 4001, Asked::Write, 0),
-        ],
+        opened: &[(C1, 4000, PUT, 0), (STRANGER, 4001, PUT, 0)],
         lynx: NINETY,
-        ms: EMPTY_MS,
         datagrams: &[
             (C1, SERVER, WRQ),
             (at(4000), C1, ACK_0),
@@ -50,33 +43,27 @@ fn a_stranger_beside_a_put(rt: HostRuntime) -> Result<(), Fail> {
             (C1, at(4000), DATA_HUNDRED),
             (at(4000), C1, ACK_1),
         ],
+        // The second file is not better, so nothing is kept for it.
+        given: &[(Ruleset::Lynx, NINETY, true)],
+        ..NOTHING
     };
-    assert_eq!(rt; other_part(&outcome, &wanted), None);
-    // The second file is not better, so nothing is kept for it.
-    assert!(rt; was_given(&keeper, &[(Ruleset::Lynx, NINETY, true)]));
+    assert_eq!(rt; other_after(rt.alloc(), &acts, NO_CALL, &wanted)?, None);
     Ok(())
 }
 
 // A client hears the server's host alone.
 #[test]
 fn a_stranger_that_answers_a_client(rt: HostRuntime) -> Result<(), Fail> {
-    let mut keeper = MemoryKeeper::new(rt.alloc());
     let acts = [
         Act::Put(C1, HUNDRED),
         Act::Stray(STRANGER, C1, ACK_0),
         Act::Deliver(1),
     ];
-    let outcome = run(rt.alloc(), &mut keeper, &acts)?;
     let wanted = Wanted {
-        taken: &[],
-        sent: &[],
-        got: &[],
-        opened: &[],
-        lynx: EMPTY_LYNX,
-        ms: EMPTY_MS,
         datagrams: &[(C1, SERVER, WRQ), (STRANGER, C1, ACK_0)],
+        ..NOTHING
     };
-    assert_eq!(rt; other_part(&outcome, &wanted), None);
+    assert_eq!(rt; other_after(rt.alloc(), &acts, NO_CALL, &wanted)?, None);
     Ok(())
 }
 

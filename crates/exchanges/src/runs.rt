@@ -1,20 +1,15 @@
 // Runs of clients over wires in memory.
-use super::*;
-use crate::test_wires::*;
+use crate::wires::*;
 use archive_client::Cause;
+use archive_turns::{Entry, RunFault, Wire, run_get, run_put};
 use std::test::Fail;
-use tftp_packet::Endpoint;
 use tws_file::Ruleset;
 
 #[test]
 fn a_put_of_one_whole_block(rt: HostRuntime) -> Result<(), Fail> {
     let mut wire = wire_of(rt.alloc(), &[5000])?;
-    let peer = Endpoint {
-        host: 1,
-        port: 4000,
-    };
     for ack in [ACK_0, ACK_1, ACK_2] {
-        wire.arrive(rt.alloc(), 5000, peer, ack)?;
+        wire.arrive(rt.alloc(), 5000, at(4000), ack)?;
     }
     let file = vec![in rt.alloc(); 7; 512]?;
     assert_eq!(rt; run_put(&mut wire, SERVER, file, 3), Ok(512));
@@ -25,11 +20,7 @@ fn a_put_of_one_whole_block(rt: HostRuntime) -> Result<(), Fail> {
 #[test]
 fn a_get_in_one_turn(rt: HostRuntime) -> Result<(), Fail> {
     let mut wire = wire_of(rt.alloc(), &[5000])?;
-    let peer = Endpoint {
-        host: 1,
-        port: 4000,
-    };
-    wire.arrive(rt.alloc(), 5000, peer, DATA_F1)?;
+    wire.arrive(rt.alloc(), 5000, at(4000), DATA_F1)?;
     let mut out = Vec::new(rt.alloc());
     let got = run_get(rt.alloc(), &mut wire, SERVER, Ruleset::Lynx, 1, &mut out);
     assert_eq!(rt; got, Ok(28));
@@ -42,11 +33,7 @@ fn a_get_in_one_turn(rt: HostRuntime) -> Result<(), Fail> {
 fn a_get_to_a_writer_that_fails(rt: HostRuntime) -> Result<(), Fail> {
     for j in 0..28usize {
         let mut wire = wire_of(rt.alloc(), &[5000])?;
-        let peer = Endpoint {
-            host: 1,
-            port: 4000,
-        };
-        wire.arrive(rt.alloc(), 5000, peer, DATA_F1)?;
+        wire.arrive(rt.alloc(), 5000, at(4000), DATA_F1)?;
         let mut room = [0u8; 28];
         let mut out = &mut room[..j];
         let got = run_get(rt.alloc(), &mut wire, SERVER, Ruleset::Lynx, 1, &mut out);

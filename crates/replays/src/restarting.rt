@@ -1,17 +1,16 @@
 // A server that starts again, and a keeper that fails.
-use crate::tests::cast::{
-    ACK_0, ACK_1, C1, C2, DATA_HUNDRED, EMPTY_LYNX, EMPTY_MS, HUNDRED, NOT_KEPT, RRQ_LYNX, WRQ, at,
+use crate::cast::{
+    ACK_0, ACK_1, C1, C2, DATA_HUNDRED, EMPTY_MS, HUNDRED, NOT_KEPT, RRQ_LYNX, WRQ, at,
 };
-use crate::tests::scene::{Act, Wanted, fault, fault_by, other_part, run, was_given};
-use crate::{Asked, SERVER, WorldFault};
+use crate::scene::{Act, NO_CALL, NOTHING, Wanted, fault, fault_by, other_after, was_given};
 use archive_table::MemoryKeeper;
+use archive_world::{Asked, SERVER, WorldFault};
 use std::test::Fail;
 use tws_file::Ruleset;
 
 // What was taken before the restart is fetched after it. A time-out of the port that had a transfer changes nothing.
 #[test]
 fn a_restart_between_a_put_and_a_get(rt: HostRuntime) -> Result<(), Fail> {
-    let mut keeper = MemoryKeeper::new(rt.alloc());
     let acts = [
         Act::Put(C1, HUNDRED),
         Act::Ask(0, 4000),
@@ -24,7 +23,6 @@ fn a_restart_between_a_put_and_a_get(rt: HostRuntime) -> Result<(), Fail> {
         Act::Ask(4, 4001),
         Act::Deliver(5),
     ];
-    let outcome = run(rt.alloc(), &mut keeper, &acts)?;
     let wanted = Wanted {
         taken: &[(C1, HUNDRED)],
         sent: &[C1],
@@ -34,7 +32,6 @@ fn a_restart_between_a_put_and_a_get(rt: HostRuntime) -> Result<(), Fail> {
             (C2, 4001, Asked::Read(Ruleset::Lynx), 1),
         ],
         lynx: HUNDRED,
-        ms: EMPTY_MS,
         datagrams: &[
             (C1, SERVER, WRQ),
             (at(4000), C1, ACK_0),
@@ -44,9 +41,10 @@ fn a_restart_between_a_put_and_a_get(rt: HostRuntime) -> Result<(), Fail> {
             (at(4001), C2, DATA_HUNDRED),
             (C2, at(4001), ACK_1),
         ],
+        given: &[(Ruleset::Lynx, HUNDRED, true)],
+        ..NOTHING
     };
-    assert_eq!(rt; other_part(&outcome, &wanted), None);
-    assert!(rt; was_given(&keeper, &[(Ruleset::Lynx, HUNDRED, true)]));
+    assert_eq!(rt; other_after(rt.alloc(), &acts, NO_CALL, &wanted)?, None);
     Ok(())
 }
 
@@ -69,8 +67,6 @@ fn a_port_from_before_the_restart(rt: HostRuntime) -> Result<(), Fail> {
 // The first keep fails: nothing is taken, and the client is told so. The next one's file is taken.
 #[test]
 fn a_keep_that_fails(rt: HostRuntime) -> Result<(), Fail> {
-    let mut keeper = MemoryKeeper::new(rt.alloc());
-    keeper.fail_at(1);
     let acts = [
         Act::Put(C1, HUNDRED),
         Act::Ask(0, 4000),
@@ -85,14 +81,11 @@ fn a_keep_that_fails(rt: HostRuntime) -> Result<(), Fail> {
         Act::Deliver(6),
         Act::Deliver(7),
     ];
-    let outcome = run(rt.alloc(), &mut keeper, &acts)?;
     let wanted = Wanted {
         taken: &[(C2, HUNDRED)],
         sent: &[C2],
-        got: &[],
         opened: &[(C1, 4000, Asked::Write, 0), (C2, 4001, Asked::Write, 0)],
         lynx: HUNDRED,
-        ms: EMPTY_MS,
         datagrams: &[
             (C1, SERVER, WRQ),
             (at(4000), C1, ACK_0),
@@ -103,13 +96,13 @@ fn a_keep_that_fails(rt: HostRuntime) -> Result<(), Fail> {
             (C2, at(4001), DATA_HUNDRED),
             (at(4001), C2, ACK_1),
         ],
+        given: &[
+            (Ruleset::Lynx, HUNDRED, false),
+            (Ruleset::Lynx, HUNDRED, true),
+        ],
+        ..NOTHING
     };
-    assert_eq!(rt; other_part(&outcome, &wanted), None);
-    let given = [
-        (Ruleset::Lynx, HUNDRED.as_slice(), false),
-        (Ruleset::Lynx, HUNDRED.as_slice(), true),
-    ];
-    assert!(rt; was_given(&keeper, &given));
+    assert_eq!(rt; other_after(rt.alloc(), &acts, 1, &wanted)?, None);
     Ok(())
 }
 
@@ -125,49 +118,44 @@ const PUT_AND_RESTART: [Act<'static>; 5] = [
 // The keep fails: nothing was taken, and the server finds nothing as it starts again.
 #[test]
 fn a_restart_after_a_keep_that_fails(rt: HostRuntime) -> Result<(), Fail> {
-    let mut keeper = MemoryKeeper::new(rt.alloc());
-    keeper.fail_at(1);
-    let outcome = run(rt.alloc(), &mut keeper, &PUT_AND_RESTART)?;
     let wanted = Wanted {
-        taken: &[],
-        sent: &[],
-        got: &[],
         opened: &[(C1, 4000, Asked::Write, 0)],
-        lynx: EMPTY_LYNX,
-        ms: EMPTY_MS,
         datagrams: &[
             (C1, SERVER, WRQ),
             (at(4000), C1, ACK_0),
             (C1, at(4000), DATA_HUNDRED),
             (at(4000), C1, NOT_KEPT),
         ],
+        given: &[(Ruleset::Lynx, HUNDRED, false)],
+        ..NOTHING
     };
-    assert_eq!(rt; other_part(&outcome, &wanted), None);
-    assert!(rt; was_given(&keeper, &[(Ruleset::Lynx, HUNDRED, false)]));
+    assert_eq!(rt;
+        other_after(rt.alloc(), &PUT_AND_RESTART, 1, &wanted)?,
+        None
+    );
     Ok(())
 }
 
 // No call fails: the file was taken, and the server has it again.
 #[test]
 fn a_restart_after_a_put(rt: HostRuntime) -> Result<(), Fail> {
-    let mut keeper = MemoryKeeper::new(rt.alloc());
-    let outcome = run(rt.alloc(), &mut keeper, &PUT_AND_RESTART)?;
     let wanted = Wanted {
         taken: &[(C1, HUNDRED)],
-        sent: &[],
-        got: &[],
         opened: &[(C1, 4000, Asked::Write, 0)],
         lynx: HUNDRED,
-        ms: EMPTY_MS,
         datagrams: &[
             (C1, SERVER, WRQ),
             (at(4000), C1, ACK_0),
             (C1, at(4000), DATA_HUNDRED),
             (at(4000), C1, ACK_1),
         ],
+        given: &[(Ruleset::Lynx, HUNDRED, true)],
+        ..NOTHING
     };
-    assert_eq!(rt; other_part(&outcome, &wanted), None);
-    assert!(rt; was_given(&keeper, &[(Ruleset::Lynx, HUNDRED, true)]));
+    assert_eq!(rt;
+        other_after(rt.alloc(), &PUT_AND_RESTART, NO_CALL, &wanted)?,
+        None
+    );
     Ok(())
 }
 

@@ -1,0 +1,27 @@
+-- Which port is read next.
+use Rattle.std.specs.Prelude.{ℕ, min, nat_lt, Bool, true, false, ◌&&◌, List, fold, Option, None, Some}
+use Rattle.archive_host.specs.declared.open_port.OpenPort.{OpenPort}
+use Rattle.archive_host.specs.declared.open_port.Arrival.{Arrival}
+use Rattle.archive_host.specs.declared.open_port.Arrival.TheVariants.{Nothing, Perhaps, Reported}
+
+abbrev pub is_reported : Arrival → Bool
+is_reported Nothing = false
+is_reported Perhaps = false
+is_reported Reported = true
+
+-- the lesser of a port and the least so far
+abbrev pub lesser : Option ℕ → ℕ → Option ℕ
+lesser None port = Some port
+lesser (Some least) port = Some (min least port)
+
+abbrev pub lesser_if : Bool → Option ℕ → ℕ → Option ℕ
+lesser_if true least port = lesser least port
+lesser_if false least port = least
+
+-- the least of the ports that are ready, and the least of those above this one
+abbrev pub ready_least : List OpenPort → Option ℕ
+ready_least ports = fold (λ least o. lesser_if (is_reported o.arrival) least o.port) None ports
+
+abbrev pub ready_above : (after : ℕ) → List OpenPort → Option ℕ
+ready_above after ports =
+    fold (λ least o. lesser_if (is_reported o.arrival && nat_lt after o.port) least o.port) None ports

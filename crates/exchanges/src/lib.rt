@@ -1,0 +1,13 @@
+//! Tests alone: servers and clients over wires in memory, by hand and joined. RFC 1350 sections 2, 4 and 5.
+#![tactic(auto)]
+
+#[cfg(test)]
+mod joined;
+#[cfg(test)]
+mod rounds;
+#[cfg(test)]
+mod runs;
+#[cfg(test)]
+mod turns;
+#[cfg(test)]
+mod wires;
