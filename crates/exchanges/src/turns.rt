@@ -240,13 +240,7 @@ fn a_get_across_a_put(rt: HostRuntime) -> Result<(), Fail> {
     }
     for (port, host, data) in [(4001, 3, DATA_F1), (4003, 5, DATA_F2)] {
         let to = Endpoint { host, port: 5000 };
-        assert_eq!(rt;
-            wire.log()
-                .iter()
-                .filter(|entry| is_sent(entry, port, to, data, true))
-                .count(),
-            1
-        );
+        assert_eq!(rt; sent_times(&wire, port, to, data), 1);
         let mut mine = wire_of(alloc, &[5000])?;
         mine.arrive(alloc, 5000, at(port), data)?;
         let mut out = Vec::new(alloc);

@@ -106,6 +106,17 @@ pub(crate) fn send_count(wire: &MemoryWire) -> usize {
     wire.log().iter().filter(|entry| is_send(entry)).count()
 }
 
+// How often this was sent.
+pub(crate) fn sent_times(wire: &MemoryWire, from: u16, to: Endpoint, what: &[u8]) -> usize {
+    let mut times = 0_usize;
+    for entry in wire.log() {
+        if is_sent(entry, from, to, what, true) {
+            times = times.wrapping_add(1);
+        }
+    }
+    times
+}
+
 // Whether this was sent last.
 pub(crate) fn sent_last(wire: &MemoryWire, from: u16, to: Endpoint, what: &[u8]) -> bool {
     let mut last = false;

@@ -42,8 +42,6 @@ pub(crate) const ACK_1: &[u8; 4] = b"\0\x04\0\x01";
 
 pub(crate) const ACK_2: &[u8; 4] = b"\0\x04\0\x02";
 
-pub(crate) const ACK_3: &[u8; 4] = b"\0\x04\0\x03";
-
 pub(crate) const UNKNOWN: &[u8; 21] = b"\0\x05\0\x05unknown transfer\0";
 
 pub(crate) const NOT_KEPT: &[u8; 13] = b"\0\x05\0\0not kept\0";

@@ -1,5 +1,7 @@
 // Puts.
-use crate::cast::{ACK_0, ACK_1, ACK_2, C1, C2, C3, DATA_HUNDRED, HUNDRED, UNKNOWN, WRQ, at};
+use crate::cast::{
+    ACK_0, ACK_1, ACK_2, C1, C2, C3, DATA_HUNDRED, EMPTY_LYNX, EMPTY_MS, HUNDRED, UNKNOWN, WRQ, at,
+};
 use crate::scene::{Act, NO_CALL, NOTHING, Wanted, other_after};
 use archive_world::{Asked, SERVER};
 use std::test::Fail;
@@ -23,7 +25,10 @@ fn a_put_of_one_whole_block(rt: HostRuntime) -> Result<(), Fail> {
     let wanted = Wanted {
         taken: &[(C1, &file)],
         sent: &[C1],
+        got: &[],
         opened: &[(C1, 4000, Asked::Write, 0)],
+        lynx: EMPTY_LYNX,
+        ms: EMPTY_MS,
         datagrams: &[
             (C1, SERVER, WRQ),
             (at(4000), C1, ACK_0),
@@ -32,7 +37,7 @@ fn a_put_of_one_whole_block(rt: HostRuntime) -> Result<(), Fail> {
             (C1, at(4000), b"\0\x03\0\x02"),
             (at(4000), C1, ACK_2),
         ],
-        ..NOTHING
+        given: &[],
     };
     assert_eq!(rt; other_after(rt.alloc(), &acts, NO_CALL, &wanted)?, None);
     Ok(())

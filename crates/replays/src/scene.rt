@@ -114,7 +114,7 @@ pub(crate) const NOTHING: Wanted<'static> = Wanted {
     given: &[],
 };
 
-fn are_taken(taken: &[TakenFile], wanted: &[(Endpoint, &[u8])]) -> bool {
+pub(crate) fn are_taken(taken: &[TakenFile], wanted: &[(Endpoint, &[u8])]) -> bool {
     for (one, (peer, file)) in taken.iter().zip(wanted) {
         if one.peer != *peer || one.file.as_slice() != *file {
             return false;
@@ -123,7 +123,7 @@ fn are_taken(taken: &[TakenFile], wanted: &[(Endpoint, &[u8])]) -> bool {
     taken.len() == wanted.len()
 }
 
-fn are_got(got: &[GotFile], wanted: &[(Endpoint, &[u8])]) -> bool {
+pub(crate) fn are_got(got: &[GotFile], wanted: &[(Endpoint, &[u8])]) -> bool {
     for (one, (client, file)) in got.iter().zip(wanted) {
         if one.client != *client || one.file.as_slice() != *file {
             return false;
@@ -132,7 +132,7 @@ fn are_got(got: &[GotFile], wanted: &[(Endpoint, &[u8])]) -> bool {
     got.len() == wanted.len()
 }
 
-fn are_opened(opened: &[Opening], wanted: &[(Endpoint, u16, Asked, usize)]) -> bool {
+pub(crate) fn are_opened(opened: &[Opening], wanted: &[(Endpoint, u16, Asked, usize)]) -> bool {
     for (one, (peer, port, asked, taken)) in opened.iter().zip(wanted) {
         let is_peer = one.peer == *peer && one.port == *port;
         if !is_peer || one.asked != *asked || one.taken != *taken {

@@ -1,11 +1,11 @@
 // A thousand lists of up to sixty events, each outcome tested against every promise. The first two lists are fixed, each a
 // test of its own.
-use crate::cast::{ACK_0, ACK_1, ACK_2, ACK_3, C1, C2, C3, C4, NOT_KEPT, RRQ_LYNX, WRQ, at};
+use crate::cast::{C1, C2, C3, C4, EMPTY_MS, NOT_KEPT, RRQ_LYNX, WRQ, at};
 use crate::drawn::{Draws, draw};
 use crate::promises::{begin_counts, broken_promise};
-use crate::scene::{Act, NO_CALL, NOTHING, Wanted, events_of, other_after};
+use crate::scene::{Act, are_got, are_opened, are_taken, events_of};
 use archive_table::MemoryKeeper;
-use archive_world::{Asked, Event, Outcome, SERVER, replay};
+use archive_world::{Asked, Datagram, Event, Outcome, SERVER, replay};
 use std::alloc::Global;
 use std::test::Fail;
 use tftp_packet::Endpoint;
@@ -36,42 +36,80 @@ fn fast_file() -> [u8; 728] {
     file
 }
 
-// DATA with this number and these bytes.
-fn data(alloc: Global, number: u8, block: &[u8]) -> Result<Vec<u8>, Fail> {
-    let mut bytes = Vec::from_slice(alloc, &[0, 3, 0, number])?;
-    bytes.extend_from_slice(block)?;
-    Ok(bytes)
+// DATA 1 with the slow file's first block.
+fn slow_first() -> [u8; 516] {
+    let mut data = [1; 516];
+    data[..4].copy_from_slice(b"\0\x03\0\x01");
+    data[4..32].copy_from_slice(
+        b"\x35\x33\x9B\x99\x01\0\0\0\xC0\x04\0\0\x01\0BDHP\0\0\0\0\0\0\x64\0\0\0",
+    );
+    data
 }
 
-// The DATA packets of both files.
-#[derive(Drop)]
-struct Blocks {
-    slow: [Vec<u8>; 3],
-    fast: [Vec<u8>; 2],
+// DATA 1 with the fast file's first block.
+fn fast_first() -> [u8; 516] {
+    let mut data = [1; 516];
+    data[..4].copy_from_slice(b"\0\x03\0\x01");
+    data[4..32].copy_from_slice(
+        b"\x35\x33\x9B\x99\x01\0\0\0\xCC\x02\0\0\x01\0BDHP\0\0\0\0\0\0\x5A\0\0\0",
+    );
+    data
 }
 
-impl Blocks {
-    fn new(alloc: Global) -> Result<Self, Fail> {
-        let (slow, fast) = (slow_file(), fast_file());
-        Ok(Blocks {
-            slow: [
-                data(alloc, 1, &slow[..512])?,
-                data(alloc, 2, &slow[512..1024])?,
-                data(alloc, 3, &slow[1024..])?,
-            ],
-            fast: [data(alloc, 1, &fast[..512])?, data(alloc, 2, &fast[512..])?],
-        })
+// DATA 2 with the slow file's second block.
+fn slow_second() -> [u8; 516] {
+    let mut data = [1; 516];
+    data[..4].copy_from_slice(b"\0\x03\0\x02");
+    data
+}
+
+// DATA 3 with the last 204 bytes of the slow file.
+fn slow_third() -> [u8; 208] {
+    let mut data = [1; 208];
+    data[..4].copy_from_slice(b"\0\x03\0\x03");
+    data
+}
+
+// DATA 2 with the last 216 bytes of the fast file.
+fn fast_second() -> [u8; 220] {
+    let mut data = [1; 220];
+    data[..4].copy_from_slice(b"\0\x03\0\x02");
+    data
+}
+
+// A packet of the fixed lists; the number is that of an ACK or of a block.
+#[derive(Clone, Copy)]
+enum Line {
+    Write,
+    Read,
+    Ack(u8),
+    Slow(u8),
+    Fast(u8),
+}
+
+fn is_line(bytes: &[u8], line: Line) -> bool {
+    match line {
+        Line::Write => bytes == WRQ.as_slice(),
+        Line::Read => bytes == RRQ_LYNX.as_slice(),
+        Line::Ack(n) => bytes == [0, 4, 0, n].as_slice(),
+        Line::Slow(1) => bytes == slow_first().as_slice(),
+        Line::Slow(2) => bytes == slow_second().as_slice(),
+        Line::Slow(3) => bytes == slow_third().as_slice(),
+        Line::Fast(1) => bytes == fast_first().as_slice(),
+        Line::Fast(2) => bytes == fast_second().as_slice(),
+        Line::Slow(_) | Line::Fast(_) => false,
     }
 }
 
-// A datagram that is wanted: its source, its target and its bytes.
-type Line<'a> = (Endpoint, Endpoint, &'a [u8]);
-
-// The promise that a run of these events breaks, if it breaks one.
-fn broken_by(alloc: Global, acts: &[Act<'_>]) -> Result<Option<&'static str>, Fail> {
-    let events = events_of(alloc, acts)?;
-    let outcome = replay(alloc, &mut MemoryKeeper::new(alloc), &events)?;
-    broken_promise(alloc, &events, &outcome, NO_CALL)
+// Whether just these were sent, each from there to there.
+fn were_sent(datagrams: &[Datagram], wanted: &[(Endpoint, Endpoint, Line)]) -> bool {
+    for (one, (from, to, line)) in datagrams.iter().zip(wanted) {
+        let is_sent = one.from == *from && one.to == *to;
+        if !is_sent || !is_line(one.bytes.as_slice(), *line) {
+            return false;
+        }
+    }
+    datagrams.len() == wanted.len()
 }
 
 // A put, and then a get: each datagram is delivered once, in order.
@@ -97,45 +135,37 @@ fn put_and_get(file: &[u8]) -> [Act<'_>; 17] {
     ]
 }
 
-// What is sent in it.
-fn put_and_get_lines(blocks: &Blocks) -> [Line<'_>; 15] {
-    let [one, two, three] = &blocks.slow;
-    [
-        (C1, SERVER, WRQ),
-        (at(4000), C1, ACK_0),
-        (C1, at(4000), one),
-        (at(4000), C1, ACK_1),
-        (C1, at(4000), two),
-        (at(4000), C1, ACK_2),
-        (C1, at(4000), three),
-        (at(4000), C1, ACK_3),
-        (C2, SERVER, RRQ_LYNX),
-        (at(4001), C2, one),
-        (C2, at(4001), ACK_1),
-        (at(4001), C2, two),
-        (C2, at(4001), ACK_2),
-        (at(4001), C2, three),
-        (C2, at(4001), ACK_3),
-    ]
-}
-
 #[test]
 fn a_get_after_a_put(rt: HostRuntime) -> Result<(), Fail> {
     let file = slow_file();
-    let blocks = Blocks::new(rt.alloc())?;
-    let acts = put_and_get(&file);
-    let wanted = Wanted {
-        taken: &[(C1, &file)],
-        sent: &[C1],
-        got: &[(C2, &file)],
-        opened: &[(C1, 4000, Asked::Write, 0), (C2, 4001, READ, 1)],
-        lynx: &file,
-        datagrams: &put_and_get_lines(&blocks),
-        given: &[(Ruleset::Lynx, &file, true)],
-        ..NOTHING
-    };
-    assert_eq!(rt; other_after(rt.alloc(), &acts, NO_CALL, &wanted)?, None);
-    assert_eq!(rt; broken_by(rt.alloc(), &acts)?, None);
+    let events = events_of(rt.alloc(), &put_and_get(&file))?;
+    let outcome = replay(rt.alloc(), &mut MemoryKeeper::new(rt.alloc()), &events)?;
+    let sent = [
+        (C1, SERVER, Line::Write),
+        (at(4000), C1, Line::Ack(0)),
+        (C1, at(4000), Line::Slow(1)),
+        (at(4000), C1, Line::Ack(1)),
+        (C1, at(4000), Line::Slow(2)),
+        (at(4000), C1, Line::Ack(2)),
+        (C1, at(4000), Line::Slow(3)),
+        (at(4000), C1, Line::Ack(3)),
+        (C2, SERVER, Line::Read),
+        (at(4001), C2, Line::Slow(1)),
+        (C2, at(4001), Line::Ack(1)),
+        (at(4001), C2, Line::Slow(2)),
+        (C2, at(4001), Line::Ack(2)),
+        (at(4001), C2, Line::Slow(3)),
+        (C2, at(4001), Line::Ack(3)),
+    ];
+    assert!(rt; were_sent(outcome.datagrams.as_slice(), &sent));
+    assert!(rt; are_taken(outcome.taken.as_slice(), &[(C1, &file)]));
+    assert_eq!(rt; outcome.sent.as_slice(), [C1].as_slice());
+    assert!(rt; are_got(outcome.got.as_slice(), &[(C2, &file)]));
+    let opened = [(C1, 4000, Asked::Write, 0), (C2, 4001, READ, 1)];
+    assert!(rt; are_opened(outcome.opened.as_slice(), &opened));
+    assert_eq!(rt; outcome.lynx.as_slice(), file.as_slice());
+    assert_eq!(rt; outcome.ms.as_slice(), EMPTY_MS.as_slice());
+    assert_eq!(rt; broken_promise(rt.alloc(), &events, &outcome, 0)?, None);
     Ok(())
 }
 
@@ -180,64 +210,63 @@ fn crossing<'a>(slow: &'a [u8], fast: &'a [u8]) -> [Act<'a>; 32] {
 }
 
 // What is sent in the crossing.
-fn crossing_lines(blocks: &Blocks) -> [Line<'_>; 28] {
-    let [slow_1, slow_2, slow_3] = &blocks.slow;
-    let [fast_1, fast_2] = &blocks.fast;
+fn crossed_lines() -> [(Endpoint, Endpoint, Line); 28] {
     [
-        (C1, SERVER, WRQ),
-        (at(4000), C1, ACK_0),
-        (C1, at(4000), slow_1),
-        (at(4000), C1, ACK_1),
-        (C1, at(4000), slow_2),
-        (at(4000), C1, ACK_2),
-        (C1, at(4000), slow_3),
-        (at(4000), C1, ACK_3),
-        (C2, SERVER, RRQ_LYNX),
-        (C3, SERVER, WRQ),
-        (at(4001), C2, slow_1),
-        (at(4002), C3, ACK_0),
-        (C2, at(4001), ACK_1),
-        (C3, at(4002), fast_1),
-        (C4, SERVER, RRQ_LYNX),
-        (at(4002), C3, ACK_1),
-        (at(4003), C4, slow_1),
-        (at(4001), C2, slow_2),
-        (C3, at(4002), fast_2),
-        (C2, at(4001), ACK_2),
-        (at(4002), C3, ACK_2),
-        (C4, at(4003), ACK_1),
-        (at(4003), C4, slow_2),
-        (at(4001), C2, slow_3),
-        (C2, at(4001), ACK_3),
-        (C4, at(4003), ACK_2),
-        (at(4003), C4, slow_3),
-        (C4, at(4003), ACK_3),
+        (C1, SERVER, Line::Write),
+        (at(4000), C1, Line::Ack(0)),
+        (C1, at(4000), Line::Slow(1)),
+        (at(4000), C1, Line::Ack(1)),
+        (C1, at(4000), Line::Slow(2)),
+        (at(4000), C1, Line::Ack(2)),
+        (C1, at(4000), Line::Slow(3)),
+        (at(4000), C1, Line::Ack(3)),
+        (C2, SERVER, Line::Read),
+        (C3, SERVER, Line::Write),
+        (at(4001), C2, Line::Slow(1)),
+        (at(4002), C3, Line::Ack(0)),
+        (C2, at(4001), Line::Ack(1)),
+        (C3, at(4002), Line::Fast(1)),
+        (C4, SERVER, Line::Read),
+        (at(4002), C3, Line::Ack(1)),
+        (at(4003), C4, Line::Slow(1)),
+        (at(4001), C2, Line::Slow(2)),
+        (C3, at(4002), Line::Fast(2)),
+        (C2, at(4001), Line::Ack(2)),
+        (at(4002), C3, Line::Ack(2)),
+        (C4, at(4003), Line::Ack(1)),
+        (at(4003), C4, Line::Slow(2)),
+        (at(4001), C2, Line::Slow(3)),
+        (C2, at(4001), Line::Ack(3)),
+        (C4, at(4003), Line::Ack(2)),
+        (at(4003), C4, Line::Slow(3)),
+        (C4, at(4003), Line::Ack(3)),
     ]
 }
 
-// Both files are taken. The gets still have the slow one.
+// The files of the crossing: which are taken, and which are fetched. The gets still have the slow one.
+fn has_crossed(outcome: &Outcome, slow: &[u8], fast: &[u8]) -> bool {
+    are_taken(outcome.taken.as_slice(), &[(C1, slow), (C3, fast)])
+        && are_got(outcome.got.as_slice(), &[(C2, slow), (C4, slow)])
+        && outcome.lynx.as_slice() == fast
+}
+
 #[test]
 fn two_gets_across_a_put(rt: HostRuntime) -> Result<(), Fail> {
     let (slow, fast) = (slow_file(), fast_file());
-    let blocks = Blocks::new(rt.alloc())?;
-    let acts = crossing(&slow, &fast);
-    let wanted = Wanted {
-        taken: &[(C1, &slow), (C3, &fast)],
-        sent: &[C1, C3],
-        got: &[(C2, &slow), (C4, &slow)],
-        opened: &[
-            (C1, 4000, Asked::Write, 0),
-            (C2, 4001, READ, 1),
-            (C3, 4002, Asked::Write, 1),
-            (C4, 4003, READ, 1),
-        ],
-        lynx: &fast,
-        datagrams: &crossing_lines(&blocks),
-        given: &[(Ruleset::Lynx, &slow, true), (Ruleset::Lynx, &fast, true)],
-        ..NOTHING
-    };
-    assert_eq!(rt; other_after(rt.alloc(), &acts, NO_CALL, &wanted)?, None);
-    assert_eq!(rt; broken_by(rt.alloc(), &acts)?, None);
+    let events = events_of(rt.alloc(), &crossing(&slow, &fast))?;
+    let outcome = replay(rt.alloc(), &mut MemoryKeeper::new(rt.alloc()), &events)?;
+    assert!(rt; were_sent(outcome.datagrams.as_slice(), &crossed_lines()));
+    assert!(rt; has_crossed(&outcome, &slow, &fast));
+    assert_eq!(rt; outcome.sent.as_slice(), [C1, C3].as_slice());
+    let opened = [
+        (C1, 4000, Asked::Write, 0),
+        (C2, 4001, READ, 1),
+        (C3, 4002, Asked::Write, 1),
+        (C4, 4003, READ, 1),
+    ];
+    assert!(rt; are_opened(outcome.opened.as_slice(), &opened));
+    assert_eq!(rt; outcome.ms.as_slice(), EMPTY_MS.as_slice());
+    assert_eq!(rt; broken_promise(rt.alloc(), &events, &outcome, 0)?, None);
     Ok(())
 }
 

@@ -1,4 +1,6 @@
 // The commands of the archive over wires in memory: what goes out, what is printed, and each fault.
+ghost use Rattle.std.specs.Prelude.{◌≤◌};
+
 use super::*;
 use crate::test_streams::*;
 use archive_client::Cause;
@@ -340,7 +342,9 @@ fn serving(rt: HostRuntime) -> Result<(), Fail> {
 }
 
 // Where the first line is not written no turn is made, and else all are. Either line is printed up to the writer's end.
-fn serve_with_room(rt: &HostRuntime, waits: bool, room: usize) -> Result<bool, Fail> {
+fn serve_with_room(rt: &HostRuntime, waits: bool, room: usize) -> Result<bool, Fail>
+    requires { room ≤ 29 }
+{
     let taken = if room < 21 { 0 } else { 1 };
     let mut wire = put_wire(rt)?;
     let mut space = [0u8; 29];
