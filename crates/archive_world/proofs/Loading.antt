@@ -151,7 +151,7 @@ fails_from kind log now WrongRuleset has fits rules fails =
     read_fails kind fails.0 now WrongRuleset (subst (λ (o : Option (List ℕ)). IsTextAt kind o now) (sym fails.1) has) fits rules fails.2
 fails_from kind log now load.Memory has fits rules fails = tt
 
-pub fails-outside : (log : List Keeping) (maps : Maps) → FailsOutside log maps
+pub fails-outside : (log : List Keeping) (maps : Maps) → AreOwnRules maps → HasKept log maps → IsCollected maps.lynx → IsCollected maps.ms → FailsOutside log
 fails-outside log maps rules kept fits_lynx fits_ms fault (inl lynx) =
     fails_from Lynx log maps.lynx fault kept.lynx fits_lynx rules.lynx lynx
 fails-outside log maps rules kept fits_lynx fits_ms fault (inr ms) =

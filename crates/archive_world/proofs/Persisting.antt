@@ -5,11 +5,11 @@ use Rattle.tws_best.specs.Best.{Collected}
 use Rattle.archive_table.specs.Server.{Maps, Taken, Grant, all, transfer_at}
 use Rattle.archive_table.specs.Keeper.{Keeping}
 use Rattle.archive_world.specs.World.{Event, begin, deliver, client_times_out, server_times_out, stray, restart, World, Step, server_endpoint, client_at, has_begun, is_too_long, start, run_from, run, happens, event_happens, AllMerged}
-use Rattle.archive_world.specs.Restarts.{IsTextAt, HasKept, AreOwnRules, DeliveryKeeps, AreAlike, EventKeeps, RunKeeps, loaded_server, RestartsFrom}
+use Rattle.archive_world.specs.Restarts.{IsTextAt, HasKept, AreOwnRules, DeliveryKeeps, AreAlike, EventKeeps, RunKeeps, loaded_server, RestartsFrom, FailsOutside}
 use Rattle.archive_world.proofs.Invariant.{AreBest}
 use Rattle.archive_world.proofs.Remaining.{timeout_leaves, StepTakes, begins_remain, waits_remain, strays_remain, step-takes}
 use Rattle.archive_world.proofs.Collecting.{best-collected, step-best, start-best, run_from-best}
-use Rattle.archive_world.proofs.Loading.{start-kept, step-stays_kept, loads-the_same}
+use Rattle.archive_world.proofs.Loading.{start-kept, step-stays_kept, loads-the_same, fails-outside}
 
 pub own-rules : (taken : List Taken) (maps : Maps) → AreBest taken maps → AreOwnRules maps
 own-rules taken maps best = record { lynx = best.lynx.kind_is; ms = best.ms.kind_is }
@@ -78,3 +78,9 @@ pub run-kept : (steps : List Step) (log : List Keeping) → AllMerged steps star
 run-kept steps log merged keeps =
     let kept = run_from-kept steps start [] log merged start-best keeps start-kept in
     (kept, loads-from (run steps) log (run_from-best steps start merged start-best) kept)
+
+pub run-fails : (steps : List Step) (log : List Keeping) → AllMerged steps start → RunKeeps steps start [] log → FailsOutside log
+run-fails steps log merged keeps =
+    let best = run_from-best steps start merged start-best in
+    let maps = (run steps).server.maps in
+    fails-outside log maps (own-rules _ maps best) (run-kept steps log merged keeps).0 (best-collected Lynx _ maps.lynx best.lynx) (best-collected Ms _ maps.ms best.ms)

@@ -41,10 +41,9 @@ IsOutside (Unreadable fault) = ⊥
 IsOutside WrongRuleset = ⊥
 IsOutside Memory = Unit {0}
 
--- a load that fails
-abbrev pub FailsOutside : List Keeping → Maps → Type 0
-FailsOutside log maps =
-    AreOwnRules maps → HasKept log maps → IsCollected maps.lynx → IsCollected maps.ms → (fault : LoadFault) → TableFails (Some log) fault → IsOutside fault
+-- what is kept is readable, so a load fails only so
+abbrev pub FailsOutside : List Keeping → Type 0
+FailsOutside log = (fault : LoadFault) → TableFails (Some log) fault → IsOutside fault
 
 -- ---- over a run
 

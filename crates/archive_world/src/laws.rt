@@ -79,15 +79,16 @@ pub fn own_ports()
 
 /// What a keeper has is, after each step, what the server has, and what a table loads from it is that: so a restart leaves
 /// the collections as they are. A keeper that holds nothing has the empty collections; each step of the server keeps what
-/// it changes; a load gives what was kept last, and where it fails the keeper has failed or memory has run out. So over every run whose steps keep as the server's contract says, what is
-/// loaded at a restart is what the world has after it.
+/// it changes; a load gives what was kept last. So over every run whose steps keep as the server's contract says, what is
+/// loaded at a restart is what the world has after it, and where nothing is loaded the keeper has failed or memory has run
+/// out.
 pub fn restart_law()
     ensures start { HasKept [] empty_maps }
     ensures step { (grant : Grant) (wanted : Option Taken) (old new : Maps) (before after : List Keeping) → StepStaysKept grant wanted old new before after }
     ensures load { (log : List Keeping) (maps : Maps) → LoadsTheSame log maps }
-    ensures fails { (log : List Keeping) (maps : Maps) → FailsOutside log maps }
     // Over every run, from a keeper that holds nothing. The beginning of a run is a run, so this holds at each restart.
     ensures run { (steps : List Step) (log : List Keeping) → AllMerged steps start → RunKeeps steps start [] log → HasKept log (run steps).server.maps × RestartsFrom log (run steps) }
+    ensures fails { (steps : List Step) (log : List Keeping) → AllMerged steps start → RunKeeps steps start [] log → FailsOutside log }
     // Every run with merged collections has such a list.
     ensures list { (steps : List Step) → AllMerged steps start → (log : List Keeping) × RunKeeps steps start [] log }
 {}

@@ -1,5 +1,5 @@
-use Rattle.archive_world.proofs.Loading.{start-kept, step-stays_kept, loads-the_same, fails-outside}
-use Rattle.archive_world.proofs.Persisting.{run-kept}
+use Rattle.archive_world.proofs.Loading.{start-kept, step-stays_kept, loads-the_same}
+use Rattle.archive_world.proofs.Persisting.{run-kept, run-fails}
 use Rattle.archive_world.proofs.Lists.{run-list}
 use Rattle.archive_world.proofs.laws.restart_law.Goals as goal
 
@@ -12,11 +12,11 @@ returns-clause-step c = step-stays_kept
 pub returns-clause-load : goal.returns-clause-load
 returns-clause-load c = loads-the_same
 
-pub returns-clause-fails : goal.returns-clause-fails
-returns-clause-fails c = fails-outside
-
 pub returns-clause-run : goal.returns-clause-run
 returns-clause-run c = run-kept
+
+pub returns-clause-fails : goal.returns-clause-fails
+returns-clause-fails c = run-fails
 
 pub returns-clause-list : goal.returns-clause-list
 returns-clause-list c = run-list
