@@ -1,13 +1,27 @@
 -- Which port is read next.
 use Rattle.std.specs.Prelude.{ℕ, min, nat_lt, Bool, true, false, ◌&&◌, List, fold, Option, None, Some}
 use Rattle.archive_host.specs.declared.open_port.OpenPort.{OpenPort}
-use Rattle.archive_host.specs.declared.open_port.Arrival.{Arrival}
-use Rattle.archive_host.specs.declared.open_port.Arrival.TheVariants.{Nothing, Perhaps, Reported}
+use Rattle.archive_host.specs.declared.arrival.Arrival.{Arrival}
+use Rattle.archive_host.specs.declared.arrival.Arrival.TheVariants.{Nothing, Perhaps, Reported}
 
 abbrev pub is_reported : Arrival → Bool
 is_reported Nothing = false
 is_reported Perhaps = false
 is_reported Reported = true
+
+abbrev pub may_have_more : Arrival → Bool
+may_have_more Nothing = false
+may_have_more Perhaps = true
+may_have_more Reported = true
+
+abbrev pub marked : Arrival → Arrival
+marked Nothing = Nothing
+marked Perhaps = Reported
+marked Reported = Reported
+
+-- a port that was read is to be read again
+abbrev pub marked_read : OpenPort → OpenPort
+marked_read o = record o { arrival = marked o.arrival }
 
 -- the lesser of a port and the least so far
 abbrev pub lesser : Option ℕ → ℕ → Option ℕ

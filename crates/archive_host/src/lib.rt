@@ -4,6 +4,7 @@
 //! name of its call, and that failures are counted. The rest is tested.
 #![tactic(auto)]
 
+mod arrival;
 mod dir_keeper;
 mod open_port;
 mod open_ports;

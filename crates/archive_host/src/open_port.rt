@@ -1,7 +1,8 @@
 ghost use Rattle.std.specs.Prelude.{◌≡◌, ◌≤◌, IfOk, OnErr, IfSome, IfNone};
-ghost use Rattle.archive_host.specs.declared.open_port.Arrival.TheVariants.{Nothing, Perhaps, Reported};
-ghost use Rattle.archive_host.specs.Arrivals.{is_reported};
+ghost use Rattle.archive_host.specs.declared.arrival.Arrival.TheVariants.{Nothing, Perhaps, Reported};
+ghost use Rattle.archive_host.specs.Arrivals.{is_reported, may_have_more, marked_read};
 
+use crate::arrival::Arrival;
 use archive_turns::RECEIVE_SIZE;
 use mio::net::UdpSocket;
 use mio::{Interest, Poll, Token};
@@ -10,20 +11,9 @@ use std::io::ErrorKind;
 use std::net::{Ipv4Addr, Net, SocketAddr};
 use tftp_packet::{Endpoint, Out};
 
-/// What is known of the datagrams that have come to a port and were not read. The system reports an arrival once.
-#[derive(Clone, Copy, Debug, PartialEq, Eq)]
-pub enum Arrival {
-    /// There is none of which the system has reported.
-    Nothing,
-    /// One was read since the last report, so there may be more.
-    Perhaps,
-    /// One was reported and none was read since.
-    Reported,
-}
-
 /// A port that is open, and its socket.
 #[derive(Drop)]
-pub struct OpenPort {
+pub(crate) struct OpenPort {
     port: u16,
     socket: UdpSocket,
     arrival: Arrival,
@@ -35,7 +25,7 @@ impl OpenPort {
     /// # Errors
     ///
     /// Those of the system. The port is not open then.
-    pub fn open<N: Net>(net: &N, poll: &Poll, port: u16) -> io::Result<Self>
+    pub(crate) fn open<N: Net>(net: &N, poll: &Poll, port: u16) -> io::Result<Self>
         ensures { IfOk result (λ o. o.port ≡ port) }
     {
         let address = SocketAddr::from((Ipv4Addr::UNSPECIFIED, port));
@@ -51,21 +41,14 @@ impl OpenPort {
     }
 
     /// The number of the port.
-    pub fn port(&self) -> u16
+    pub(crate) fn port(&self) -> u16
         ensures { result ≡ self.now.port }
     {
         self.port
     }
 
-    /// What is known of datagrams that were not read.
-    pub fn arrival(&self) -> Arrival
-        ensures { result ≡ self.now.arrival }
-    {
-        self.arrival
-    }
-
     /// Whether a datagram was reported and none was read since.
-    pub fn is_ready(&self) -> bool
+    pub(crate) fn is_ready(&self) -> bool
         ensures { result ≡ is_reported self.now.arrival }
     {
         match self.arrival {
@@ -75,10 +58,29 @@ impl OpenPort {
     }
 
     /// Notes that a datagram has come.
-    pub fn mark(&mut self)
+    pub(crate) fn mark(&mut self)
         ensures { self.new ≡ record self.old { arrival = Reported } }
     {
         self.arrival = Arrival::Reported;
+    }
+
+    /// Whether a datagram may have come that was not read.
+    pub(crate) fn may_have_more(&self) -> bool
+        ensures { result ≡ may_have_more self.now.arrival }
+    {
+        match self.arrival {
+            Arrival::Reported | Arrival::Perhaps => true,
+            Arrival::Nothing => false,
+        }
+    }
+
+    /// A port that was read is to be read again.
+    pub(crate) fn mark_read(&mut self)
+        ensures { self.new ≡ marked_read self.old }
+    {
+        if let Arrival::Perhaps = self.arrival {
+            self.arrival = Arrival::Reported;
+        }
     }
 
     /// The oldest datagram that was not read: how many of its bytes are in the buffer, and where it came from. None if
@@ -87,7 +89,10 @@ impl OpenPort {
     /// # Errors
     ///
     /// Those of the system. A later call may give a datagram.
-    pub fn read(&mut self, buffer: &mut [u8; RECEIVE_SIZE]) -> io::Result<Option<(usize, Endpoint)>>
+    pub(crate) fn read(
+        &mut self,
+        buffer: &mut [u8; RECEIVE_SIZE],
+    ) -> io::Result<Option<(usize, Endpoint)>>
         ensures count { IfOk result (λ got. IfSome got (λ g. g.0 ≤ RECEIVE_SIZE)) }
         ensures port { self.new.port ≡ self.old.port }
         ensures came { IfOk result (λ got. IfSome got (λ _. self.new.arrival ≡ Perhaps)) }
@@ -114,7 +119,7 @@ impl OpenPort {
     }
 
     /// Sends a datagram from this port. Answers whether the system took it whole.
-    pub fn send(&self, out: &Out) -> bool {
+    pub(crate) fn send(&self, out: &Out) -> bool {
         let bytes = out.dgram.bytes();
         let target = SocketAddr::from((Ipv4Addr::from_bits(out.to.host), out.to.port));
         match self.socket.send_to(bytes, target) {

@@ -1,12 +1,12 @@
-ghost use Rattle.std.specs.Prelude.{◌≡◌, ◌<◌, ◌++◌, ◌∷◌, [], length, IfSome, OnOk, OnErr, slice_get, Some};
-ghost use Rattle.archive_host.specs.Arrivals.{lesser, ready_least, ready_above};
+ghost use Rattle.std.specs.Prelude.{◌≡◌, ◌<◌, ◌++◌, ◌∷◌, [], length, map, IfSome, OnOk, OnErr, slice_get, Some};
+ghost use Rattle.archive_host.specs.Arrivals.{lesser, ready_least, ready_above, marked_read};
 
-use crate::open_port::{Arrival, OpenPort};
+use crate::open_port::OpenPort;
 use std::alloc::{AllocError, Global};
 
 /// The ports that are open, in the order in which they were opened.
 #[derive(Drop)]
-pub struct OpenPorts {
+pub(crate) struct OpenPorts {
     ports: Vec<OpenPort>,
 }
 
@@ -20,9 +20,18 @@ fn lesser(least: Option<u16>, port: u16) -> Option<u16>
     }
 }
 
+// Marks those that were read.
+fn mark_read_in(ports: &mut [OpenPort])
+    ensures { ports.new ≡ map marked_read ports.old }
+{
+    for open in ports.iter_mut() {
+        open.mark_read();
+    }
+}
+
 impl OpenPorts {
     /// No port. It takes no memory by this.
-    pub fn new(alloc: Global) -> Self {
+    pub(crate) fn new(alloc: Global) -> Self {
         OpenPorts {
             ports: Vec::new(alloc),
         }
@@ -33,7 +42,7 @@ impl OpenPorts {
     /// # Errors
     ///
     /// Out of memory: the port is closed again, the others are as they were.
-    pub fn push(&mut self, port: OpenPort) -> Result<(), AllocError>
+    pub(crate) fn push(&mut self, port: OpenPort) -> Result<(), AllocError>
         ensures ok { OnOk result (self.new.ports.items ≡ self.old.ports.items ++ port ∷ []) }
         ensures err { OnErr result (self.new.ports.items ≡ self.old.ports.items) }
     {
@@ -50,7 +59,7 @@ impl OpenPorts {
     }
 
     /// The open port of this number.
-    pub fn get(&self, port: u16) -> Option<&OpenPort>
+    pub(crate) fn get(&self, port: u16) -> Option<&OpenPort>
         ensures { IfSome result (λ o. o.now.port ≡ port) }
     {
         let place = self.place(port)?;
@@ -58,7 +67,7 @@ impl OpenPorts {
     }
 
     /// The open port of this number, to be changed.
-    pub fn get_mut(&mut self, port: u16) -> Option<&mut OpenPort>
+    pub(crate) fn get_mut(&mut self, port: u16) -> Option<&mut OpenPort>
         ensures { IfSome result (λ o. o.now.port ≡ port) }
     {
         let place = self.place(port)?;
@@ -66,7 +75,7 @@ impl OpenPorts {
     }
 
     /// Closes a port. Answers whether it was open.
-    pub fn close(&mut self, port: u16) -> bool {
+    pub(crate) fn close(&mut self, port: u16) -> bool {
         match self.place(port) {
             Some(place) => {
                 self.ports.remove(place);
@@ -77,7 +86,7 @@ impl OpenPorts {
     }
 
     /// The least port above this one that is ready.
-    pub fn ready_above(&self, after: u16) -> Option<u16>
+    pub(crate) fn ready_above(&self, after: u16) -> Option<u16>
         ensures { result ≡ ready_above after self.now.ports.items }
     {
         let mut least = None;
@@ -90,7 +99,7 @@ impl OpenPorts {
     }
 
     /// The least port that is ready.
-    pub fn ready_least(&self) -> Option<u16>
+    pub(crate) fn ready_least(&self) -> Option<u16>
         ensures { result ≡ ready_least self.now.ports.items }
     {
         let mut least = None;
@@ -103,18 +112,14 @@ impl OpenPorts {
     }
 
     /// Whether a datagram may have come to a port that was not read.
-    pub fn may_have_more(&self) -> bool {
-        self.ports
-            .iter()
-            .any(|open| open.arrival() != Arrival::Nothing)
+    pub(crate) fn may_have_more(&self) -> bool {
+        self.ports.iter().any(|open| open.may_have_more())
     }
 
     /// Marks the ports that were read since the last report, so that they are read again.
-    pub fn mark_read(&mut self) {
-        for open in &mut self.ports {
-            if open.arrival() == Arrival::Perhaps {
-                open.mark();
-            }
-        }
+    pub(crate) fn mark_read(&mut self)
+        ensures { self.new.ports.items ≡ map marked_read self.old.ports.items }
+    {
+        mark_read_in(&mut self.ports[..]);
     }
 }

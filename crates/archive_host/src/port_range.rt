@@ -9,17 +9,17 @@ const COUNT: u16 = 16384;
 
 /// The ports for private use, 49152 to 65535, in turn: each comes again only after all others.
 #[derive(Drop)]
-pub struct PortRange {
+pub(crate) struct PortRange {
     next: u16,
     ghost range: { FIRST ≤ next },
 }
 
 impl PortRange {
     /// How many ports there are.
-    pub const LEN: u16 = COUNT;
+    pub(crate) const LEN: u16 = COUNT;
 
     /// The ports from this place on, where places begin again after the last.
-    pub fn from_place(place: u32) -> Self
+    pub(crate) fn from_place(place: u32) -> Self
         ensures { result.next ≡ FIRST + place % COUNT }
     {
         PortRange {
@@ -28,7 +28,7 @@ impl PortRange {
     }
 
     /// The next port. After the greatest comes the least.
-    pub fn take(&mut self) -> u16
+    pub(crate) fn take(&mut self) -> u16
         ensures port { result ≡ self.old.next }
         ensures next { self.old.next < 65535 → self.new.next ≡ self.old.next + 1 }
         ensures again { self.old.next ≡ 65535 → self.new.next ≡ FIRST }

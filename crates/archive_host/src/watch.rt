@@ -12,7 +12,7 @@ const REPORTS: usize = 64;
 
 /// What the system reports of open ports.
 #[derive(Drop)]
-pub struct Watch {
+pub(crate) struct Watch {
     poll: Poll,
     events: Events,
 }
@@ -23,7 +23,7 @@ impl Watch {
     /// # Errors
     ///
     /// Those of the system, and out of memory.
-    pub fn new<N: Net>(net: &N, alloc: Global) -> io::Result<Self> {
+    pub(crate) fn new<N: Net>(net: &N, alloc: Global) -> io::Result<Self> {
         let poll = Poll::new(net)?;
         match Events::with_capacity(alloc, REPORTS) {
             Ok(events) => Ok(Watch { poll, events }),
@@ -36,13 +36,13 @@ impl Watch {
     /// # Errors
     ///
     /// Those of the system. The port is not open then.
-    pub fn open<N: Net>(&self, net: &N, port: u16) -> io::Result<OpenPort> {
+    pub(crate) fn open<N: Net>(&self, net: &N, port: u16) -> io::Result<OpenPort> {
         OpenPort::open(net, &self.poll, port)
     }
 
     /// Waits until something has come to a port or this many milliseconds are over, without end if none are given, and
     /// marks the ports to which something has come. Where the system fails it marks none.
-    pub fn look(&mut self, ports: &mut OpenPorts, millis: Option<u64>) {
+    pub(crate) fn look(&mut self, ports: &mut OpenPorts, millis: Option<u64>) {
         let limit = millis.map(Duration::from_millis);
         if self.poll.poll(&mut self.events, limit).is_err() {
             return;
