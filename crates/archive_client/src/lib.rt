@@ -44,8 +44,3 @@ pub use laws::{client_bounds, last_ack, one_port, other_host, over_client};
 pub use put::Put;
 pub use state::State;
 pub use too_long::TooLong;
-
-#[cfg(test)]
-mod drawn_clients;
-#[cfg(test)]
-mod tests;

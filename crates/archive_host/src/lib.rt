@@ -14,6 +14,3 @@ mod watch;
 
 pub use dir_keeper::DirKeeper;
 pub use udp_wire::UdpWire;
-
-#[cfg(test)]
-mod tests;

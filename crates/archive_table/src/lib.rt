@@ -33,6 +33,3 @@ pub use no_keeper::NoKeeper;
 pub use step::Step;
 pub use table::Table;
 pub use taken::Taken;
-
-#[cfg(test)]
-mod tests;

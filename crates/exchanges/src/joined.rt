@@ -90,6 +90,28 @@ impl Line {
     }
 }
 
+// Turns of a put until it is over: how many files the server took.
+fn finish_put(
+    alloc: Global,
+    server: &mut Server,
+    wire: &mut MemoryWire,
+    line: &mut Line,
+    run: &mut PutRun,
+    times: u8,
+) -> Result<u64, Fail> {
+    let mut taken = 0u64;
+    for _ in 0..TURNS {
+        if line.exchange(alloc, server, wire, times)? {
+            taken = taken.saturating_add(1);
+        }
+        run.turn(&mut line.wire);
+        if run.client().over() {
+            break;
+        }
+    }
+    Ok(taken)
+}
+
 // Puts a file: how many files the server took.
 fn put(
     alloc: Global,
@@ -102,21 +124,31 @@ fn put(
     let Ok(mut run) = PutRun::begin(&mut line.wire, SERVER, file) else {
         return Err(Fail::new("not begun"));
     };
-    let mut taken = 0u64;
-    for _ in 0..TURNS {
-        if line.exchange(alloc, server, wire, times)? {
-            taken = taken.saturating_add(1);
-        }
-        run.turn(&mut line.wire);
-        if run.client().over() {
-            break;
-        }
-    }
+    let taken = finish_put(alloc, server, wire, &mut line, &mut run, times)?;
     if run.client().state() == State::Sent {
         Ok(taken)
     } else {
         Err(Fail::new("not sent"))
     }
+}
+
+// Turns of a get until it has the file.
+fn finish_get(
+    alloc: Global,
+    server: &mut Server,
+    wire: &mut MemoryWire,
+    line: &mut Line,
+    run: &mut GetRun,
+    times: u8,
+) -> Result<(), Fail> {
+    for _ in 0..TURNS {
+        let _taken = line.exchange(alloc, server, wire, times)?;
+        run.turn(&mut line.wire);
+        if run.client().state() == State::Got {
+            break;
+        }
+    }
+    Ok(())
 }
 
 // Gets the Lynx collection.
@@ -130,35 +162,34 @@ fn get(
     let Ok(mut run) = GetRun::begin(alloc, &mut line.wire, SERVER, Ruleset::Lynx) else {
         return Err(Fail::new("not begun"));
     };
-    for _ in 0..TURNS {
-        let _taken = line.exchange(alloc, server, wire, times)?;
-        run.turn(&mut line.wire);
-        if run.client().state() == State::Got {
-            break;
-        }
-    }
+    finish_get(alloc, server, wire, &mut line, &mut run, times)?;
     match run.client().file() {
         Some(file) => Ok(file.to_vec(alloc)?),
         None => Err(Fail::new("not fetched")),
     }
 }
 
+// What a new server gives after a put of this file, which it takes once.
+fn fetched_after_put(alloc: Global, file: Vec<u8>, times: u8) -> Result<Vec<u8>, Fail> {
+    let mut server = Server::new(alloc, 6969);
+    let mut wire = wire_of(alloc, &[4000, 4001, 4002, 4003])?;
+    if put(alloc, &mut server, &mut wire, file, times)? != 1 {
+        return Err(Fail::new("not taken once"));
+    }
+    get(alloc, &mut server, &mut wire, times)
+}
+
 // A put and a get of a file with so many bytes of records. What is fetched is the file, or no more than its header where
 // its records are too few for a solution.
 fn there_and_back(alloc: Global, size: usize, times: u8) -> Result<bool, Fail> {
     let file = file_of(alloc, size)?;
+    let copy = Vec::from_slice(alloc, file.as_slice())?;
+    let got = fetched_after_put(alloc, copy, times)?;
     let want = if size < 20 {
         HEADER.as_slice()
     } else {
         file.as_slice()
     };
-    let mut server = Server::new(alloc, 6969);
-    let mut wire = wire_of(alloc, &[4000, 4001, 4002, 4003])?;
-    let copy = Vec::from_slice(alloc, file.as_slice())?;
-    if put(alloc, &mut server, &mut wire, copy, times)? != 1 {
-        return Ok(false);
-    }
-    let got = get(alloc, &mut server, &mut wire, times)?;
     Ok(got.as_slice() == want)
 }
 

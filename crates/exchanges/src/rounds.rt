@@ -1,45 +1,64 @@
 // The ready server over wires in memory, whose clock the test sets.
 use crate::wires::*;
 use archive_table::NoKeeper;
-use archive_turns::{RECEIVE_SIZE, Ready, ReadyServer, ReadyWire, Wire, serve_ready};
+use archive_turns::{MemoryWire, RECEIVE_SIZE, Ready, ReadyServer, ReadyWire, Wire, serve_ready};
+use std::alloc::Global;
 use std::test::Fail;
 use tws_file::Ruleset;
 
+// One round of the server: how many files it takes, and whether it has sent this to the client last.
+fn acks(wire: &mut MemoryWire, server: &mut ReadyServer, ack: &[u8; 4]) -> (u64, bool) {
+    let taken = serve_ready(wire, &mut NoKeeper, server, 1);
+    (taken, sent_last(wire, 4000, C1, ack))
+}
+
+// One round of the server: how many transfers are live after it.
+fn lives(wire: &mut MemoryWire, server: &mut ReadyServer) -> usize {
+    serve_ready(wire, &mut NoKeeper, server, 1);
+    server.table().live()
+}
+
 #[test]
 fn a_put_to_the_ready_server(rt: HostRuntime) -> Result<(), Fail> {
-    let mut wire = wire_of(rt.alloc(), &[4000])?;
+    let mut wire = request_wire(rt.alloc(), 4000)?;
     let mut server = ReadyServer::new(rt.alloc(), 6969);
-    wire.arrive(rt.alloc(), 6969, C1, WRQ)?;
-    assert_eq!(rt; serve_ready(&mut wire, &mut NoKeeper, &mut server, 1), 0);
-    assert!(rt; sent_last(&wire, 4000, C1, ACK_0));
+    assert_eq!(rt; acks(&mut wire, &mut server, ACK_0), (0, true));
     wire.set_time(999);
     wire.arrive(rt.alloc(), 4000, C1, DATA_F1)?;
-    assert_eq!(rt; serve_ready(&mut wire, &mut NoKeeper, &mut server, 1), 1);
-    assert!(rt; sent_last(&wire, 4000, C1, ACK_1));
-    assert_eq!(rt; send_count(&wire), 2);
-    assert_eq!(rt; server.table().collection(Ruleset::Lynx).len(), 1);
+    assert_eq!(rt; acks(&mut wire, &mut server, ACK_1), (1, true));
+    let solutions = server.table().collection(Ruleset::Lynx).len();
+    assert_eq!(rt; (send_count(&wire), solutions), (2, 1));
     // It waits for the last block twice, and is closed.
-    serve_ready(&mut wire, &mut NoKeeper, &mut server, 1);
-    assert_eq!(rt; server.table().live(), 1);
-    serve_ready(&mut wire, &mut NoKeeper, &mut server, 1);
-    assert_eq!(rt; server.table().live(), 0);
-    assert_eq!(rt; send_count(&wire), 2);
+    let live = (lives(&mut wire, &mut server), lives(&mut wire, &mut server));
+    assert_eq!(rt; (live, send_count(&wire)), ((1, 0), 2));
     Ok(())
+}
+
+// One round at each of these times, before which something comes to the request port that is no packet: whether so many
+// datagrams were sent by then.
+fn are_sent_in_time(
+    alloc: Global,
+    wire: &mut MemoryWire,
+    server: &mut ReadyServer,
+) -> Result<bool, Fail> {
+    for (time, sent) in [(1, 1), (999, 1), (1000, 2), (1999, 2), (2000, 3), (2001, 3)] {
+        wire.set_time(time);
+        wire.arrive(alloc, 6969, C1, b"no packet")?;
+        serve_ready(wire, &mut NoKeeper, server, 1);
+        if send_count(wire) != sent {
+            return Ok(false);
+        }
+    }
+    Ok(true)
 }
 
 // A transfer times out one second after it last sent, however much comes to the request port meanwhile.
 #[test]
 fn a_busy_request_port(rt: HostRuntime) -> Result<(), Fail> {
-    let mut wire = wire_of(rt.alloc(), &[4000])?;
+    let mut wire = request_wire(rt.alloc(), 4000)?;
     let mut server = ReadyServer::new(rt.alloc(), 6969);
-    wire.arrive(rt.alloc(), 6969, C1, WRQ)?;
     serve_ready(&mut wire, &mut NoKeeper, &mut server, 1);
-    for (time, sent) in [(1, 1), (999, 1), (1000, 2), (1999, 2), (2000, 3), (2001, 3)] {
-        wire.set_time(time);
-        wire.arrive(rt.alloc(), 6969, C1, b"no packet")?;
-        serve_ready(&mut wire, &mut NoKeeper, &mut server, 1);
-        assert_eq!(rt; send_count(&wire), sent);
-    }
+    assert!(rt; are_sent_in_time(rt.alloc(), &mut wire, &mut server)?);
     Ok(())
 }
 
@@ -53,30 +72,21 @@ fn ports_that_are_ready(rt: HostRuntime) -> Result<(), Fail> {
     let mut after = 5;
     for port in [7, 9, 5, 5, 5] {
         let ready = wire.wait(after, None);
-        assert_eq!(rt;
-            ready,
-            Ready {
-                port: Some(port),
-                time: 0
-            }
-        );
         let mut buffer = [0; RECEIVE_SIZE];
-        assert_eq!(rt; wire.receive(port, &mut buffer), Ok(Some((4, C1))));
+        let received = wire.receive(port, &mut buffer);
+        assert_eq!(rt;
+            (ready.port, ready.time, received),
+            (Some(port), 0, Ok(Some((4, C1))))
+        );
         after = port;
     }
+    let quiet = Ready {
+        port: None,
+        time: 70,
+    };
     assert_eq!(rt;
-        wire.wait(after, Some(70)),
-        Ready {
-            port: None,
-            time: 70
-        }
-    );
-    assert_eq!(rt;
-        wire.wait(after, Some(60)),
-        Ready {
-            port: None,
-            time: 70
-        }
+        (wire.wait(after, Some(70)), wire.wait(after, Some(60))),
+        (quiet, quiet)
     );
     Ok(())
 }

@@ -1,7 +1,8 @@
 // Runs of clients over wires in memory.
 use crate::wires::*;
 use archive_client::Cause;
-use archive_turns::{Entry, RunFault, Wire, run_get, run_put};
+use archive_turns::{Entry, MemoryWire, RunFault, Wire, run_get, run_put};
+use std::alloc::Global;
 use std::test::Fail;
 use tws_file::Ruleset;
 
@@ -12,19 +13,24 @@ fn a_put_of_one_whole_block(rt: HostRuntime) -> Result<(), Fail> {
         wire.arrive(rt.alloc(), 5000, at(4000), ack)?;
     }
     let file = vec![in rt.alloc(); 7; 512]?;
-    assert_eq!(rt; run_put(&mut wire, SERVER, file, 3), Ok(512));
-    assert_eq!(rt; send_count(&wire), 3);
+    let put = run_put(&mut wire, SERVER, file, 3);
+    assert_eq!(rt; (put, send_count(&wire)), (Ok(512), 3));
     Ok(())
+}
+
+// A wire to which the only block of F1 has come.
+fn answered_wire(alloc: Global) -> Result<MemoryWire, Fail> {
+    let mut wire = wire_of(alloc, &[5000])?;
+    wire.arrive(alloc, 5000, at(4000), DATA_F1)?;
+    Ok(wire)
 }
 
 #[test]
 fn a_get_in_one_turn(rt: HostRuntime) -> Result<(), Fail> {
-    let mut wire = wire_of(rt.alloc(), &[5000])?;
-    wire.arrive(rt.alloc(), 5000, at(4000), DATA_F1)?;
+    let mut wire = answered_wire(rt.alloc())?;
     let mut out = Vec::new(rt.alloc());
     let got = run_get(rt.alloc(), &mut wire, SERVER, Ruleset::Lynx, 1, &mut out);
-    assert_eq!(rt; got, Ok(28));
-    assert_eq!(rt; out.as_slice(), F1.as_slice());
+    assert_eq!(rt; (got, out.as_slice()), (Ok(28), F1.as_slice()));
     Ok(())
 }
 
@@ -32,13 +38,11 @@ fn a_get_in_one_turn(rt: HostRuntime) -> Result<(), Fail> {
 #[test]
 fn a_get_to_a_writer_that_fails(rt: HostRuntime) -> Result<(), Fail> {
     for j in 0..28usize {
-        let mut wire = wire_of(rt.alloc(), &[5000])?;
-        wire.arrive(rt.alloc(), 5000, at(4000), DATA_F1)?;
+        let mut wire = answered_wire(rt.alloc())?;
         let mut room = [0u8; 28];
         let mut out = &mut room[..j];
         let got = run_get(rt.alloc(), &mut wire, SERVER, Ruleset::Lynx, 1, &mut out);
-        assert_eq!(rt; got, Err(RunFault::Write));
-        assert_eq!(rt; &room[..j], &F1[..j]);
+        assert_eq!(rt; (got, &room[..j]), (Err(RunFault::Write), &F1[..j]));
     }
     Ok(())
 }
@@ -61,8 +65,7 @@ fn a_put_whose_request_is_not_sent(rt: HostRuntime) -> Result<(), Fail> {
         let file = Vec::from_slice(rt.alloc(), F1)?;
         let answer = run_put(&mut wire, SERVER, file, turns);
         assert_eq!(rt; answer, Err(RunFault::Transfer(Cause::TimedOut)));
-        assert_eq!(rt; send_count(&wire), sent);
-        assert_eq!(rt; wire.failures(), 1);
+        assert_eq!(rt; (send_count(&wire), wire.failures()), (sent, 1));
     }
     Ok(())
 }

@@ -3,28 +3,42 @@ use crate::wires::*;
 use archive_client::State;
 use archive_table::NoKeeper;
 use archive_turns::{Entry, MemoryWire, PutRun, ReadyServer, Server, Wire, run_get, serve_turns};
+use std::alloc::Global;
 use std::test::Fail;
 use tftp_packet::Endpoint;
 use tws_file::Ruleset;
+
+// Whether the calls of a wire were those of a put in two turns.
+fn has_put(wire: &MemoryWire) -> bool {
+    let [came, opened, first, next, last] = wire.log() else {
+        return false;
+    };
+    is_came(came, 6969, C1, WRQ)
+        && is_opened(opened, Some(4000))
+        && is_sent(first, 4000, C1, ACK_0, true)
+        && is_came(next, 4000, C1, DATA_F1)
+        && is_sent(last, 4000, C1, ACK_1, true)
+}
 
 #[test]
 fn a_put_in_two_turns(rt: HostRuntime) -> Result<(), Fail> {
     let mut wire = put_wire(rt.alloc(), 4000)?;
     let mut server = Server::new(rt.alloc(), 6969);
-    assert_eq!(rt; serve_turns(&mut wire, &mut NoKeeper, &mut server, 2), 1);
-    let [came, opened, first, next, last] = wire.log() else {
-        return Err(Fail::new("other calls"));
-    };
-    assert!(rt; is_came(came, 6969, C1, WRQ));
-    assert!(rt; is_opened(opened, Some(4000)));
-    assert!(rt; is_sent(first, 4000, C1, ACK_0, true));
-    assert!(rt; is_came(next, 4000, C1, DATA_F1));
-    assert!(rt; is_sent(last, 4000, C1, ACK_1, true));
-    assert!(rt; wire.telling());
-    assert_eq!(rt; wire.failures(), 0);
-    assert_eq!(rt; server.table().live(), 1);
-    assert_eq!(rt; server.table().collection(Ruleset::Lynx).len(), 1);
+    let taken = serve_turns(&mut wire, &mut NoKeeper, &mut server, 2);
+    assert_eq!(rt; (taken, wire.failures()), (1, 0));
+    assert!(rt; wire.telling() && has_put(&wire));
+    let table = server.table();
+    let solutions = table.collection(Ruleset::Lynx).len();
+    assert_eq!(rt; (table.live(), solutions), (1, 1));
     Ok(())
+}
+
+// Whether a request came, this port was opened for it, and nothing more came.
+fn has_opened_alone(wire: &MemoryWire, port: Option<u16>) -> bool {
+    let [came, opened, quiet] = wire.log() else {
+        return false;
+    };
+    is_came(came, 6969, C1, WRQ) && is_opened(opened, port) && is_quiet(quiet, 6969)
 }
 
 #[test]
@@ -32,29 +46,40 @@ fn a_spare_port_of_0(rt: HostRuntime) -> Result<(), Fail> {
     let mut wire = put_wire(rt.alloc(), 0)?;
     let mut server = Server::new(rt.alloc(), 6969);
     assert_eq!(rt; serve_turns(&mut wire, &mut NoKeeper, &mut server, 2), 0);
-    let [came, opened, quiet] = wire.log() else {
-        return Err(Fail::new("other calls"));
-    };
-    assert!(rt; is_came(came, 6969, C1, WRQ));
-    assert!(rt; is_opened(opened, Some(0)));
-    assert!(rt; is_quiet(quiet, 6969));
+    assert!(rt; has_opened_alone(&wire, Some(0)));
     Ok(())
 }
 
 // A keeper that has nothing gives empty collections.
 #[test]
-fn servers_from_a_keeper(rt: HostRuntime) -> Result<(), Fail> {
+fn a_server_from_a_keeper(rt: HostRuntime) -> Result<(), Fail> {
     let Ok(server) = Server::load(rt.alloc(), 6969, &mut NoKeeper) else {
         return Err(Fail::new("not loaded"));
     };
-    assert!(rt; server.table().collection(Ruleset::Lynx).is_empty());
-    assert_eq!(rt; server.table().live(), 0);
-    let Ok(ready) = ReadyServer::load(rt.alloc(), 6969, &mut NoKeeper) else {
+    let table = server.table();
+    let is_empty = table.collection(Ruleset::Lynx).is_empty();
+    assert_eq!(rt; (is_empty, table.live()), (true, 0));
+    Ok(())
+}
+
+#[test]
+fn a_ready_server_from_a_keeper(rt: HostRuntime) -> Result<(), Fail> {
+    let Ok(server) = ReadyServer::load(rt.alloc(), 6969, &mut NoKeeper) else {
         return Err(Fail::new("not loaded"));
     };
-    assert!(rt; ready.table().collection(Ruleset::Ms).is_empty());
-    assert_eq!(rt; ready.table().live(), 0);
+    let table = server.table();
+    let is_empty = table.collection(Ruleset::Ms).is_empty();
+    assert_eq!(rt; (is_empty, table.live()), (true, 0));
     Ok(())
+}
+
+// Whether the last of four calls sent an error to the client and closed its spare port.
+fn has_refused(wire: &MemoryWire) -> bool {
+    let [_, _, sent, closed] = wire.log() else {
+        return false;
+    };
+    is_sent(sent, 6969, C1, b"\0\x05\0\x01no such file\0", true)
+        && matches!(closed, Entry::Closed(4000, true))
 }
 
 // The spare port of a request that is refused is closed again.
@@ -63,13 +88,9 @@ fn a_request_that_is_refused(rt: HostRuntime) -> Result<(), Fail> {
     let mut wire = wire_of(rt.alloc(), &[4000])?;
     wire.arrive(rt.alloc(), 6969, C1, b"\0\x01MS.TWS\0octet\0")?;
     let mut server = Server::new(rt.alloc(), 6969);
-    assert!(rt; !server.turn(&mut wire, &mut NoKeeper));
-    let [_, _, sent, closed] = wire.log() else {
-        return Err(Fail::new("other calls"));
-    };
-    assert!(rt; is_sent(sent, 6969, C1, b"\0\x05\0\x01no such file\0", true));
-    assert!(rt; matches!(closed, Entry::Closed(4000, true)));
-    assert_eq!(rt; server.table().live(), 0);
+    let taken = server.turn(&mut wire, &mut NoKeeper);
+    assert_eq!(rt; (taken, server.table().live()), (false, 0));
+    assert!(rt; has_refused(&wire));
     Ok(())
 }
 
@@ -80,12 +101,11 @@ fn each_call_failing(rt: HostRuntime) -> Result<(), Fail> {
         let mut wire = put_wire(rt.alloc(), 4000)?;
         wire.fail_at(n);
         let mut server = Server::new(rt.alloc(), 6969);
+        let taken = serve_turns(&mut wire, &mut NoKeeper, &mut server, 2);
         assert_eq!(rt;
-            serve_turns(&mut wire, &mut NoKeeper, &mut server, 2),
-            answer
+            (taken, server.table().live(), wire.failures()),
+            (answer, live, 1)
         );
-        assert_eq!(rt; server.table().live(), live);
-        assert_eq!(rt; wire.failures(), 1);
     }
     Ok(())
 }
@@ -117,12 +137,7 @@ fn a_failing_receive(rt: HostRuntime) -> Result<(), Fail> {
 #[test]
 fn a_failing_open(rt: HostRuntime) -> Result<(), Fail> {
     let wire = failing_wire(&rt, 2)?;
-    let [came, opened, quiet] = wire.log() else {
-        return Err(Fail::new("other calls"));
-    };
-    assert!(rt; is_came(came, 6969, C1, WRQ));
-    assert!(rt; is_opened(opened, None));
-    assert!(rt; is_quiet(quiet, 6969));
+    assert!(rt; has_opened_alone(&wire, None));
     Ok(())
 }
 
@@ -159,8 +174,7 @@ fn failing_sends(rt: HostRuntime) -> Result<(), Fail> {
 // What is sent to a receiver is sent again after 200 quiet turns, four times; then the transfer is closed.
 #[test]
 fn a_transfer_that_stays_quiet(rt: HostRuntime) -> Result<(), Fail> {
-    let mut wire = wire_of(rt.alloc(), &[4000])?;
-    wire.arrive(rt.alloc(), 6969, C1, WRQ)?;
+    let mut wire = request_wire(rt.alloc(), 4000)?;
     let mut server = Server::new(rt.alloc(), 6969);
     for (turns, sent, live) in [
         (200, 1, 1),
@@ -171,59 +185,79 @@ fn a_transfer_that_stays_quiet(rt: HostRuntime) -> Result<(), Fail> {
         (1, 5, 0),
     ] {
         serve_turns(&mut wire, &mut NoKeeper, &mut server, turns);
-        assert_eq!(rt; send_count(&wire), sent);
-        assert_eq!(rt; server.table().live(), live);
+        assert_eq!(rt; (send_count(&wire), server.table().live()), (sent, live));
     }
     Ok(())
 }
 
-// The request of a put comes twice and opens two transfers. The client stays with the first, and tells the second that it
-// is unknown; that one closes, and one file is taken.
+// The request of a put comes to a server twice, then an error, and the block: for each the port it comes to, how many files
+// are taken in four turns, how many transfers are live then, from which port was sent last, and what.
+fn serves_twice(alloc: Global, wire: &mut MemoryWire, server: &mut Server) -> Result<bool, Fail> {
+    for (port, bytes, taken, live, from, ack) in [
+        (6969, WRQ.as_slice(), 0, 1, 4000, ACK_0),
+        (6969, WRQ.as_slice(), 0, 2, 4001, ACK_0),
+        (4001, UNKNOWN.as_slice(), 0, 1, 4001, ACK_0),
+        (4000, DATA_F1.as_slice(), 1, 1, 4000, ACK_1),
+    ] {
+        wire.arrive(alloc, port, C1, bytes)?;
+        let is_taken = serve_turns(wire, &mut NoKeeper, server, 4) == taken;
+        if !is_taken || server.table().live() != live || !sent_last(wire, from, C1, ack) {
+            return Ok(false);
+        }
+    }
+    Ok(true)
+}
+
+// The second request opens a second transfer. The client tells that one that it is unknown; it closes, and one file is
+// taken.
 #[test]
 fn a_request_that_comes_twice(rt: HostRuntime) -> Result<(), Fail> {
-    let alloc = rt.alloc();
-    let mut wire = wire_of(alloc, &[4000, 4001])?;
-    let mut server = Server::new(alloc, 6969);
-    let mut mine = wire_of(alloc, &[5000])?;
-    let Ok(mut run) = PutRun::begin(&mut mine, SERVER, Vec::from_slice(alloc, F1)?) else {
-        return Err(Fail::new("not begun"));
-    };
-    assert!(rt; sent_last(&mine, 5000, SERVER, WRQ));
-    for (spare, live) in [(4000, 1), (4001, 2)] {
-        wire.arrive(alloc, 6969, C1, WRQ)?;
-        assert_eq!(rt; serve_turns(&mut wire, &mut NoKeeper, &mut server, 4), 0);
-        assert!(rt; sent_last(&wire, spare, C1, ACK_0));
-        assert_eq!(rt; server.table().live(), live);
-    }
-    let (first, second) = (at(4000), at(4001));
-    mine.arrive(alloc, 5000, first, ACK_0)?;
-    run.turn(&mut mine);
-    assert!(rt; sent_last(&mine, 5000, first, DATA_F1));
-    mine.arrive(alloc, 5000, second, ACK_0)?;
-    run.turn(&mut mine);
-    assert!(rt; sent_last(&mine, 5000, second, UNKNOWN));
-    wire.arrive(alloc, 4001, C1, UNKNOWN)?;
-    assert_eq!(rt; serve_turns(&mut wire, &mut NoKeeper, &mut server, 4), 0);
-    assert_eq!(rt; server.table().live(), 1);
-    wire.arrive(alloc, 4000, C1, DATA_F1)?;
-    assert_eq!(rt; serve_turns(&mut wire, &mut NoKeeper, &mut server, 4), 1);
-    assert!(rt; sent_last(&wire, 4000, C1, ACK_1));
-    assert_eq!(rt; run.client().state(), State::Running);
-    mine.arrive(alloc, 5000, first, ACK_1)?;
-    run.turn(&mut mine);
-    assert_eq!(rt; run.client().state(), State::Sent);
-    assert_eq!(rt; send_count(&mine), 3);
+    let mut wire = wire_of(rt.alloc(), &[4000, 4001])?;
+    let mut server = Server::new(rt.alloc(), 6969);
+    assert!(rt; serves_twice(rt.alloc(), &mut wire, &mut server)?);
     assert_eq!(rt; send_count(&wire), 3);
     Ok(())
 }
 
-// A put by the third host, of the file with 90 ticks, comes between the request and the first block of a get: that get
-// still has the collection as it was, and the next one has the new one.
+// A put of F1 that has sent its request.
+fn begun_put(alloc: Global, wire: &mut MemoryWire) -> Result<PutRun, Fail> {
+    match PutRun::begin(wire, SERVER, Vec::from_slice(alloc, F1)?) {
+        Ok(run) => Ok(run),
+        Err(_) => Err(Fail::new("not begun")),
+    }
+}
+
+// ACKs come to a put from two ports: for each the port, the port to which was sent last after one turn, what, and how far
+// the client is.
+fn stays_with_first(alloc: Global, wire: &mut MemoryWire, run: &mut PutRun) -> Result<bool, Fail> {
+    for (from, ack, to, bytes, state) in [
+        (4000, ACK_0, 4000, DATA_F1.as_slice(), State::Running),
+        (4001, ACK_0, 4001, UNKNOWN.as_slice(), State::Running),
+        (4000, ACK_1, 4001, UNKNOWN.as_slice(), State::Sent),
+    ] {
+        wire.arrive(alloc, 5000, at(from), ack)?;
+        run.turn(wire);
+        if run.client().state() != state || !sent_last(wire, 5000, at(to), bytes) {
+            return Ok(false);
+        }
+    }
+    Ok(true)
+}
+
+// The same from the side of the client, which stays with the first that answers.
 #[test]
-fn a_get_across_a_put(rt: HostRuntime) -> Result<(), Fail> {
-    let alloc = rt.alloc();
-    let mut wire = wire_of(alloc, &[4000, 4001, 4002, 4003])?;
-    let mut server = Server::new(alloc, 6969);
+fn two_answers_to_one_request(rt: HostRuntime) -> Result<(), Fail> {
+    let mut wire = wire_of(rt.alloc(), &[5000])?;
+    let mut run = begun_put(rt.alloc(), &mut wire)?;
+    assert!(rt; sent_last(&wire, 5000, SERVER, WRQ));
+    assert!(rt; stays_with_first(rt.alloc(), &mut wire, &mut run)?);
+    assert_eq!(rt; send_count(&wire), 3);
+    Ok(())
+}
+
+// A put, a get, a put by the third host of the file with 90 ticks, and another get: for each datagram the port it comes to,
+// the host it comes from, and how many files are taken in six turns.
+fn serves_across(alloc: Global, wire: &mut MemoryWire, server: &mut Server) -> Result<bool, Fail> {
     for (port, host, bytes, taken) in [
         (6969, 2, WRQ.as_slice(), 0),
         (4000, 2, DATA_F1.as_slice(), 1),
@@ -233,21 +267,41 @@ fn a_get_across_a_put(rt: HostRuntime) -> Result<(), Fail> {
         (6969, 5, RRQ.as_slice(), 0),
     ] {
         wire.arrive(alloc, port, Endpoint { host, port: 5000 }, bytes)?;
-        assert_eq!(rt;
-            serve_turns(&mut wire, &mut NoKeeper, &mut server, 6),
-            taken
-        );
+        if serve_turns(wire, &mut NoKeeper, server, 6) != taken {
+            return Ok(false);
+        }
     }
+    Ok(true)
+}
+
+// Whether a get that this block answers from this port has just the bytes of the block.
+fn is_fetched(alloc: Global, port: u16, data: &[u8; 32]) -> Result<bool, Fail> {
+    let mut wire = wire_of(alloc, &[5000])?;
+    wire.arrive(alloc, 5000, at(port), data)?;
+    let mut out = Vec::new(alloc);
+    let got = run_get(alloc, &mut wire, SERVER, Ruleset::Lynx, 1, &mut out);
+    Ok(got == Ok(28) && Some(out.as_slice()) == data.get(4..))
+}
+
+// Whether each get was sent its block once, and can fetch it.
+fn are_fetched(alloc: Global, wire: &MemoryWire) -> Result<bool, Fail> {
     for (port, host, data) in [(4001, 3, DATA_F1), (4003, 5, DATA_F2)] {
-        let to = Endpoint { host, port: 5000 };
-        assert_eq!(rt; sent_times(&wire, port, to, data), 1);
-        let mut mine = wire_of(alloc, &[5000])?;
-        mine.arrive(alloc, 5000, at(port), data)?;
-        let mut out = Vec::new(alloc);
-        let got = run_get(alloc, &mut mine, SERVER, Ruleset::Lynx, 1, &mut out);
-        assert_eq!(rt; got, Ok(28));
-        assert_eq!(rt; Some(out.as_slice()), data.get(4..));
+        let times = sent_times(wire, port, Endpoint { host, port: 5000 }, data);
+        if times != 1 || !is_fetched(alloc, port, data)? {
+            return Ok(false);
+        }
     }
+    Ok(true)
+}
+
+// The second put comes between the request and the first block of a get: that get still has the collection as it was, and
+// the next one has the new one.
+#[test]
+fn a_get_across_a_put(rt: HostRuntime) -> Result<(), Fail> {
+    let mut wire = wire_of(rt.alloc(), &[4000, 4001, 4002, 4003])?;
+    let mut server = Server::new(rt.alloc(), 6969);
+    assert!(rt; serves_across(rt.alloc(), &mut wire, &mut server)?);
+    assert!(rt; are_fetched(rt.alloc(), &wire)?);
     assert_eq!(rt; send_count(&wire), 6);
     Ok(())
 }

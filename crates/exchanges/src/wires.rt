@@ -47,10 +47,16 @@ pub(crate) fn wire_of(alloc: Global, opens: &[u16]) -> Result<MemoryWire, Fail> 
     Ok(MemoryWire::new(alloc, Vec::from_slice(alloc, opens)?))
 }
 
-// A wire that opens 4000, with a put of F1 by C1 in two datagrams.
-pub(crate) fn put_wire(alloc: Global, opens: u16) -> Result<MemoryWire, Fail> {
+// A wire that opens this port, with a request by C1.
+pub(crate) fn request_wire(alloc: Global, opens: u16) -> Result<MemoryWire, Fail> {
     let mut wire = wire_of(alloc, &[opens])?;
     wire.arrive(alloc, 6969, C1, WRQ)?;
+    Ok(wire)
+}
+
+// The same with the whole put of F1, whose block comes to 4000.
+pub(crate) fn put_wire(alloc: Global, opens: u16) -> Result<MemoryWire, Fail> {
+    let mut wire = request_wire(alloc, opens)?;
     wire.arrive(alloc, 4000, C1, DATA_F1)?;
     Ok(wire)
 }

@@ -83,17 +83,22 @@ fn goes_on<A: Allocator + Copy>(table: &mut Table<A>) -> bool {
     goes(&step.out, 4000, FIRST, b"\0\x04\0\0") && !step.closed
 }
 
+// Opens another transfer beside the one that is live.
+fn open_second<A: Allocator + Copy>(table: &mut Table<A>, request: &[u8]) -> Outcome {
+    match open(table, 4001, SECOND, request) {
+        Ok(()) => Outcome::of(goes_on(table) && table.live() == 2),
+        Err(Outcome::OutOfMemory) => Outcome::refused(goes_on(table) && table.live() == 1),
+        Err(outcome) => outcome,
+    }
+}
+
 fn open_two(refusing: &Refusing<Global>, second: &[u8]) -> Outcome {
     let mut table = Table::new(refusing, REQUEST);
     if refusing.requests() != 0 {
         return Outcome::Wrong;
     }
-    if let Err(outcome) = open(&mut table, 4000, FIRST, TO_WRITE) {
-        return outcome;
-    }
-    match open(&mut table, 4001, SECOND, second) {
-        Ok(()) => Outcome::of(goes_on(&mut table) && table.live() == 2),
-        Err(Outcome::OutOfMemory) => Outcome::refused(goes_on(&mut table) && table.live() == 1),
+    match open(&mut table, 4000, FIRST, TO_WRITE) {
+        Ok(()) => open_second(&mut table, second),
         Err(outcome) => outcome,
     }
 }
@@ -129,17 +134,31 @@ fn is_let_go<A: Allocator + Copy>(table: &Table<A>, step: &Step<A>) -> bool {
         && table.collection(Ruleset::Lynx).is_empty()
 }
 
-fn take_one(refusing: &Refusing<Global>) -> Outcome {
-    let mut table = Table::new(refusing, REQUEST);
-    if let Err(outcome) = open(&mut table, 4000, FIRST, TO_WRITE) {
-        return outcome;
-    }
+// Gives an open transfer the block that completes its file. Whether it is taken and acknowledged; an outcome, where it is
+// not.
+fn give_file<A: Allocator + Copy>(table: &mut Table<A>) -> Result<(), Outcome> {
     let step = table.on_datagram(&mut NoKeeper, 4000, FIRST, FILE_DATA);
     if step.taken.is_none() {
-        return Outcome::refused(is_let_go(&table, &step));
+        return Err(Outcome::refused(is_let_go(table, &step)));
     }
-    let is_sent = goes(&step.out, 4000, FIRST, b"\0\x04\0\x01");
-    Outcome::of(is_sent && !step.closed && table.collection(Ruleset::Lynx).len() == 1)
+    if step.closed || !goes(&step.out, 4000, FIRST, b"\0\x04\0\x01") {
+        return Err(Outcome::Wrong);
+    }
+    Ok(())
+}
+
+// Opens a transfer and gives it a file in one block. An outcome, where the file is not taken.
+fn take<A: Allocator + Copy>(table: &mut Table<A>) -> Result<(), Outcome> {
+    open(table, 4000, FIRST, TO_WRITE)?;
+    give_file(table)
+}
+
+fn take_one(refusing: &Refusing<Global>) -> Outcome {
+    let mut table = Table::new(refusing, REQUEST);
+    match take(&mut table) {
+        Ok(()) => Outcome::of(table.collection(Ruleset::Lynx).len() == 1),
+        Err(outcome) => outcome,
+    }
 }
 
 // The block that completes a file.
@@ -197,14 +216,10 @@ fn read_file<A: Allocator + Copy>(
 
 fn read_one(global: Global, refusing: &Refusing<Global>, refused: &Cell<u64>) -> Outcome {
     let mut table = Table::new(refusing, REQUEST);
-    if let Err(outcome) = open(&mut table, 4000, FIRST, TO_WRITE) {
-        return outcome;
+    match take(&mut table) {
+        Ok(()) => read_file(global, &mut table, refused),
+        Err(outcome) => outcome,
     }
-    let step = table.on_datagram(&mut NoKeeper, 4000, FIRST, FILE_DATA);
-    if step.taken.is_none() {
-        return Outcome::refused(is_let_go(&table, &step));
-    }
-    read_file(global, &mut table, refused)
 }
 
 // The collection is not empty, so that what a reader is to be sent takes memory.
@@ -273,19 +288,29 @@ fn is_given_up<A: Allocator + Copy>(
         && keeper.kept().is_empty()
 }
 
+// Gives an open transfer the block that completes its file, which is to be kept.
+fn keep_file<A: Allocator + Copy>(
+    global: Global,
+    table: &mut Table<A>,
+    keeper: &mut MemoryKeeper<A>,
+    not_kept: &Cell<u64>,
+) -> Outcome {
+    let step = table.on_datagram(keeper, 4000, FIRST, FILE_DATA);
+    if step.taken.is_some() {
+        let is_right = is_taken(global, table, keeper, &step);
+        return Outcome::of(is_right && starts_with(global, keeper, FILE));
+    }
+    let is_as_before = is_given_up(global, table, keeper, &step, not_kept);
+    Outcome::refused(is_as_before && starts_with(global, keeper, EMPTY_LYNX))
+}
+
 fn keep_one(global: Global, refusing: &Refusing<Global>, not_kept: &Cell<u64>) -> Outcome {
     let mut table = Table::new(refusing, REQUEST);
     let mut keeper = MemoryKeeper::new(refusing);
-    if let Err(outcome) = open(&mut table, 4000, FIRST, TO_WRITE) {
-        return outcome;
+    match open(&mut table, 4000, FIRST, TO_WRITE) {
+        Ok(()) => keep_file(global, &mut table, &mut keeper, not_kept),
+        Err(outcome) => outcome,
     }
-    let step = table.on_datagram(&mut keeper, 4000, FIRST, FILE_DATA);
-    if step.taken.is_some() {
-        let is_right = is_taken(global, &table, &keeper, &step);
-        return Outcome::of(is_right && starts_with(global, &mut keeper, FILE));
-    }
-    let is_as_before = is_given_up(global, &table, &keeper, &step, not_kept);
-    Outcome::refused(is_as_before && starts_with(global, &mut keeper, EMPTY_LYNX))
 }
 
 // The block that completes a file, where the keeper takes its memory from the same place: the file is taken and kept, or

@@ -1,6 +1,6 @@
 // Lists of events that are drawn: six operations at six endpoints, whose datagrams are mostly delivered, and now and then
 // lost, repeated or overtaken; time-outs, strangers' datagrams and restarts.
-use crate::cast::{ACK_0, ACK_1, ACK_2, STRANGER, WRQ, at};
+use crate::cast::{ACK_0, ACK_1, ACK_2, STRANGER, WRQ, at, client};
 use crate::scene::{Act, bytes_of, event_of};
 use archive_table::MemoryKeeper;
 use archive_world::{Datagram, Event, Op, OpKind, Outcome, SERVER, WorldFault, replay};
@@ -54,14 +54,6 @@ pub(crate) struct Drawn {
     // For each datagram that was sent by the last round, whether it was delivered or lost.
     gone: Vec<bool>,
     begun: u16,
-}
-
-// The client with this number, counted from 0.
-fn client(number: u16) -> Endpoint {
-    Endpoint {
-        host: 2 + u32::from(number),
-        port: 5000,
-    }
 }
 
 // A file of one solution of one of three levels, of either rules. One in twelve is cut, and so is no solution file.
@@ -262,12 +254,17 @@ fn step(
     Ok(())
 }
 
+// What the events so far leave, if they have a run.
+fn run(alloc: Global, drawn: &Drawn) -> Result<Outcome, WorldFault> {
+    let mut keeper = MemoryKeeper::new(alloc);
+    keeper.fail_at(drawn.fails);
+    replay(alloc, &mut keeper, &drawn.events)
+}
+
 // What the events so far leave. An event that has no run is left out.
 fn settle(alloc: Global, drawn: &mut Drawn) -> Result<Outcome, Fail> {
     for _ in 0..EVENTS {
-        let mut keeper = MemoryKeeper::new(alloc);
-        keeper.fail_at(drawn.fails);
-        match replay(alloc, &mut keeper, &drawn.events) {
+        match run(alloc, drawn) {
             Ok(outcome) => return Ok(outcome),
             Err(WorldFault::Memory) => return Err(Fail::new("out of memory")),
             Err(WorldFault::BadEvent(i) | WorldFault::PortReused(i) | WorldFault::NotLoaded(i)) => {
@@ -303,6 +300,20 @@ fn round(
     Ok(())
 }
 
+// Rounds until the list is long enough. What it leaves.
+fn fill(alloc: Global, draws: &mut Draws, drawn: &mut Drawn) -> Result<Outcome, Fail> {
+    begin(alloc, draws, drawn)?;
+    let mut outcome = settle(alloc, drawn)?;
+    for _ in 0..EVENTS {
+        if drawn.events.len() >= EVENTS {
+            break;
+        }
+        round(alloc, draws, drawn, &outcome)?;
+        outcome = settle(alloc, drawn)?;
+    }
+    Ok(outcome)
+}
+
 // A list, and what it leaves. In one of eight lists a call of the keeper fails.
 pub(crate) fn draw(alloc: Global, draws: &mut Draws) -> Result<(Drawn, Outcome), Fail> {
     let fails = if draws.once_in(8) {
@@ -316,14 +327,6 @@ pub(crate) fn draw(alloc: Global, draws: &mut Draws) -> Result<(Drawn, Outcome),
         gone: Vec::new(alloc),
         begun: 0,
     };
-    begin(alloc, draws, &mut drawn)?;
-    let mut outcome = settle(alloc, &mut drawn)?;
-    for _ in 0..EVENTS {
-        if drawn.events.len() >= EVENTS {
-            break;
-        }
-        round(alloc, draws, &mut drawn, &outcome)?;
-        outcome = settle(alloc, &mut drawn)?;
-    }
+    let outcome = fill(alloc, draws, &mut drawn)?;
     Ok((drawn, outcome))
 }

@@ -1,6 +1,8 @@
 // Lists of events without a run.
 use crate::cast::{C1, C2, HUNDRED, RRQ_MS, WRQ, at};
-use crate::scene::{Act, NO_CALL, NOTHING, Wanted, fault, fault_by, other_after, was_given};
+use crate::scene::{
+    Act, NO_CALL, NOTHING, ONE_PUT, Wanted, fault, fault_by, other_after, was_given,
+};
 use archive_table::MemoryKeeper;
 use archive_world::{SERVER, WorldFault};
 use std::test::Fail;
@@ -99,7 +101,7 @@ fn a_fault_after_a_file_was_taken(rt: HostRuntime) -> Result<(), Fail> {
         fault_by(rt.alloc(), &mut keeper, &acts)?,
         Some(WorldFault::BadEvent(4))
     );
-    assert!(rt; was_given(&keeper, &[(Ruleset::Lynx, HUNDRED, true)]));
+    assert!(rt; was_given(&keeper, ONE_PUT.given));
     Ok(())
 }
 

@@ -1,14 +1,13 @@
 // Gets.
 use crate::cast::{
     ACK_0, ACK_1, BUSY, C1, C2, C3, C4, DATA_EMPTY_LYNX, DATA_EMPTY_MS, DATA_HUNDRED, DATA_NINETY,
-    EMPTY_LYNX, EMPTY_MS, HUNDRED, NINETY, RRQ_LYNX, RRQ_MS, WRQ, at,
+    EMPTY_LYNX, EMPTY_MS, HUNDRED, NINETY, RRQ_LYNX, RRQ_MS, WRQ, at, client,
 };
 use crate::scene::{Act, NO_CALL, NOTHING, Wanted, is_datagram, other_after, run};
 use archive_table::MemoryKeeper;
 use archive_world::{Asked, Outcome, SERVER};
 use std::alloc::Global;
 use std::test::Fail;
-use tftp_packet::Endpoint;
 use tws_file::Ruleset;
 
 const READ: Asked = Asked::Read(Ruleset::Lynx);
@@ -95,14 +94,6 @@ fn a_get_of_an_empty_collection(rt: HostRuntime) -> Result<(), Fail> {
     Ok(())
 }
 
-// The client with this number, counted from 0.
-fn client(number: u16) -> Endpoint {
-    Endpoint {
-        host: 2 + u32::from(number),
-        port: 5000,
-    }
-}
-
 // 65 gets begin, and all their requests come. The last client hears the answer, and waits.
 fn crowd(alloc: Global) -> Result<Vec<Act<'static>>, Fail> {
     let mut acts = Vec::new(alloc);
@@ -115,6 +106,11 @@ fn crowd(alloc: Global) -> Result<Vec<Act<'static>>, Fail> {
     acts.push(Act::Deliver(129))?;
     acts.push(Act::ClientWaits(client(64)))?;
     Ok(acts)
+}
+
+// What that leaves.
+fn after_crowd(alloc: Global) -> Result<Outcome, Fail> {
+    run(alloc, &mut MemoryKeeper::new(alloc), &crowd(alloc)?)
 }
 
 // Whether this get was requested, as datagram i, and answered as datagram 65 + i by DATA 1 of the empty collection.
@@ -138,29 +134,40 @@ fn is_served(outcome: &Outcome, i: u16) -> bool {
         && is_datagram(answer, at(port), peer, DATA_EMPTY_LYNX)
 }
 
+// Whether the first 64 gets were served, each of its own client.
+fn are_served(outcome: &Outcome) -> bool {
+    for i in 0..64 {
+        let Some(opening) = outcome.opened.get(usize::from(i)) else {
+            return false;
+        };
+        if opening.peer != client(i) || !is_served(outcome, i) {
+            return false;
+        }
+    }
+    outcome.opened.len() == 64
+}
+
+// Whether the last client asked, was refused, and sent nothing more.
+fn is_one_refused(outcome: &Outcome) -> bool {
+    let datagrams = outcome.datagrams.as_slice();
+    let (Some(request), Some(refusal)) = (datagrams.get(64), datagrams.get(129)) else {
+        return false;
+    };
+    datagrams.len() == 130
+        && is_datagram(request, client(64), SERVER, RRQ_LYNX)
+        && is_datagram(refusal, SERVER, client(64), BUSY)
+}
+
 // The server has room for 64 transfers. The client that is refused sends nothing more.
 #[test]
 fn a_get_too_many(rt: HostRuntime) -> Result<(), Fail> {
-    let mut keeper = MemoryKeeper::new(rt.alloc());
-    let outcome = run(rt.alloc(), &mut keeper, &crowd(rt.alloc())?)?;
-    assert_eq!(rt; outcome.datagrams.len(), 130);
-    assert_eq!(rt; outcome.opened.len(), 64);
-    for i in 0..64 {
-        assert!(rt; is_served(&outcome, i), "{i}");
-        let peer = outcome
-            .opened
-            .get(usize::from(i))
-            .map(|opening| opening.peer);
-        assert_eq!(rt; peer, Some(client(i)));
-    }
-    let (Some(request), Some(refusal)) = (outcome.datagrams.get(64), outcome.datagrams.get(129))
-    else {
-        return Err(Fail::new("too few datagrams"));
-    };
-    assert!(rt; is_datagram(request, client(64), SERVER, RRQ_LYNX));
-    assert!(rt; is_datagram(refusal, SERVER, client(64), BUSY));
+    let outcome = after_crowd(rt.alloc())?;
+    assert!(rt; are_served(&outcome));
+    assert!(rt; is_one_refused(&outcome));
     assert!(rt; outcome.taken.is_empty() && outcome.sent.is_empty() && outcome.got.is_empty());
-    assert_eq!(rt; outcome.lynx.as_slice(), EMPTY_LYNX.as_slice());
-    assert_eq!(rt; outcome.ms.as_slice(), EMPTY_MS.as_slice());
+    assert_eq!(rt;
+        (outcome.lynx.as_slice(), outcome.ms.as_slice()),
+        (EMPTY_LYNX.as_slice(), EMPTY_MS.as_slice())
+    );
     Ok(())
 }

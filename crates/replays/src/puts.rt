@@ -1,8 +1,9 @@
 // Puts.
 use crate::cast::{
-    ACK_0, ACK_1, ACK_2, C1, C2, C3, DATA_HUNDRED, EMPTY_LYNX, EMPTY_MS, HUNDRED, UNKNOWN, WRQ, at,
+    ACK_0, ACK_1, ACK_2, C1, C2, C3, DATA_HUNDRED, DATA_NO_SOLUTION_FILE, EMPTY_LYNX, EMPTY_MS,
+    HUNDRED, NO_SOLUTION_FILE, UNKNOWN, WRQ, at,
 };
-use crate::scene::{Act, NO_CALL, NOTHING, Wanted, other_after};
+use crate::scene::{Act, NO_CALL, NOTHING, ONE_PUT, Wanted, other_after};
 use archive_world::{Asked, SERVER};
 use std::test::Fail;
 use tws_file::Ruleset;
@@ -58,10 +59,7 @@ fn a_request_that_comes_twice(rt: HostRuntime) -> Result<(), Fail> {
         Act::Deliver(5),
     ];
     let wanted = Wanted {
-        taken: &[(C1, HUNDRED)],
-        sent: &[C1],
         opened: &[(C1, 4000, Asked::Write, 0), (C1, 4001, Asked::Write, 0)],
-        lynx: HUNDRED,
         datagrams: &[
             (C1, SERVER, WRQ),
             (at(4000), C1, ACK_0),
@@ -70,8 +68,7 @@ fn a_request_that_comes_twice(rt: HostRuntime) -> Result<(), Fail> {
             (C1, at(4001), UNKNOWN),
             (at(4000), C1, ACK_1),
         ],
-        given: &[(Ruleset::Lynx, HUNDRED, true)],
-        ..NOTHING
+        ..ONE_PUT
     };
     assert_eq!(rt; other_after(rt.alloc(), &acts, NO_CALL, &wanted)?, None);
     Ok(())
@@ -94,10 +91,6 @@ fn a_last_ack_that_comes_late(rt: HostRuntime) -> Result<(), Fail> {
         Act::Deliver(9),
     ];
     let wanted = Wanted {
-        taken: &[(C1, HUNDRED)],
-        sent: &[C1],
-        opened: &[(C1, 4000, Asked::Write, 0)],
-        lynx: HUNDRED,
         datagrams: &[
             (C1, SERVER, WRQ),
             (at(4000), C1, ACK_0),
@@ -110,8 +103,7 @@ fn a_last_ack_that_comes_late(rt: HostRuntime) -> Result<(), Fail> {
             (C1, at(4000), DATA_HUNDRED),
             (at(4000), C1, ACK_1),
         ],
-        given: &[(Ruleset::Lynx, HUNDRED, true)],
-        ..NOTHING
+        ..ONE_PUT
     };
     assert_eq!(rt; other_after(rt.alloc(), &acts, NO_CALL, &wanted)?, None);
     Ok(())
@@ -193,26 +185,24 @@ fn one_file_of_three_clients(rt: HostRuntime) -> Result<(), Fail> {
     Ok(())
 }
 
-// Seven bytes, of which the fourth is another one than a solution file has: they are taken like any file, and change no
-// collection.
+// The bytes are taken like any file, and change no collection.
 #[test]
 fn a_file_that_is_no_solution_file(rt: HostRuntime) -> Result<(), Fail> {
-    let file = b"\x35\x33\x9B\x98\x02\0\0";
     let acts = [
-        Act::Put(C1, file),
+        Act::Put(C1, NO_SOLUTION_FILE),
         Act::Ask(0, 4000),
         Act::Deliver(1),
         Act::Deliver(2),
         Act::Deliver(3),
     ];
     let wanted = Wanted {
-        taken: &[(C1, file)],
+        taken: &[(C1, NO_SOLUTION_FILE)],
         sent: &[C1],
         opened: &[(C1, 4000, Asked::Write, 0)],
         datagrams: &[
             (C1, SERVER, WRQ),
             (at(4000), C1, ACK_0),
-            (C1, at(4000), b"\0\x03\0\x01\x35\x33\x9B\x98\x02\0\0"),
+            (C1, at(4000), DATA_NO_SOLUTION_FILE),
             (at(4000), C1, ACK_1),
         ],
         ..NOTHING

@@ -1,8 +1,11 @@
 // A server that starts again, and a keeper that fails.
 use crate::cast::{
-    ACK_0, ACK_1, C1, C2, DATA_HUNDRED, EMPTY_MS, HUNDRED, NOT_KEPT, RRQ_LYNX, WRQ, at,
+    ACK_0, ACK_1, C1, C2, DATA_HUNDRED, EMPTY_MS, HUNDRED, NO_SOLUTION_FILE, NOT_KEPT, RRQ_LYNX,
+    WRQ, at,
 };
-use crate::scene::{Act, NO_CALL, NOTHING, Wanted, fault, fault_by, other_after, was_given};
+use crate::scene::{
+    Act, NO_CALL, NOTHING, ONE_PUT, Wanted, fault, fault_by, other_after, was_given,
+};
 use archive_table::MemoryKeeper;
 use archive_world::{Asked, SERVER, WorldFault};
 use std::test::Fail;
@@ -24,14 +27,11 @@ fn a_restart_between_a_put_and_a_get(rt: HostRuntime) -> Result<(), Fail> {
         Act::Deliver(5),
     ];
     let wanted = Wanted {
-        taken: &[(C1, HUNDRED)],
-        sent: &[C1],
         got: &[(C2, HUNDRED)],
         opened: &[
             (C1, 4000, Asked::Write, 0),
             (C2, 4001, Asked::Read(Ruleset::Lynx), 1),
         ],
-        lynx: HUNDRED,
         datagrams: &[
             (C1, SERVER, WRQ),
             (at(4000), C1, ACK_0),
@@ -41,8 +41,7 @@ fn a_restart_between_a_put_and_a_get(rt: HostRuntime) -> Result<(), Fail> {
             (at(4001), C2, DATA_HUNDRED),
             (C2, at(4001), ACK_1),
         ],
-        given: &[(Ruleset::Lynx, HUNDRED, true)],
-        ..NOTHING
+        ..ONE_PUT
     };
     assert_eq!(rt; other_after(rt.alloc(), &acts, NO_CALL, &wanted)?, None);
     Ok(())
@@ -136,21 +135,18 @@ fn a_restart_after_a_keep_that_fails(rt: HostRuntime) -> Result<(), Fail> {
     Ok(())
 }
 
-// No call fails: the file was taken, and the server has it again.
+// No call fails: the file was taken, and the server has it again. The client has not heard the last ACK.
 #[test]
 fn a_restart_after_a_put(rt: HostRuntime) -> Result<(), Fail> {
     let wanted = Wanted {
-        taken: &[(C1, HUNDRED)],
-        opened: &[(C1, 4000, Asked::Write, 0)],
-        lynx: HUNDRED,
+        sent: &[],
         datagrams: &[
             (C1, SERVER, WRQ),
             (at(4000), C1, ACK_0),
             (C1, at(4000), DATA_HUNDRED),
             (at(4000), C1, ACK_1),
         ],
-        given: &[(Ruleset::Lynx, HUNDRED, true)],
-        ..NOTHING
+        ..ONE_PUT
     };
     assert_eq!(rt;
         other_after(rt.alloc(), &PUT_AND_RESTART, NO_CALL, &wanted)?,
@@ -176,7 +172,7 @@ fn a_restart_that_fails(rt: HostRuntime) -> Result<(), Fail> {
             fault_by(rt.alloc(), &mut keeper, &PUT_AND_RESTART)?,
             Some(WorldFault::NotLoaded(4))
         );
-        assert!(rt; was_given(&keeper, &[(Ruleset::Lynx, HUNDRED, true)]));
+        assert!(rt; was_given(&keeper, ONE_PUT.given));
     }
     Ok(())
 }
@@ -185,7 +181,7 @@ fn a_restart_that_fails(rt: HostRuntime) -> Result<(), Fail> {
 #[test]
 fn a_restart_with_bytes_that_are_no_collection(rt: HostRuntime) -> Result<(), Fail> {
     let alloc = rt.alloc();
-    for text in [b"\x35\x33\x9B\x98\x02\0\0".as_slice(), EMPTY_MS.as_slice()] {
+    for text in [NO_SOLUTION_FILE.as_slice(), EMPTY_MS.as_slice()] {
         let text = Vec::from_slice(alloc, text)?;
         let mut keeper = MemoryKeeper::with(alloc, Some(text), None)?;
         let acts = [Act::Put(C1, HUNDRED), Act::Restart];

@@ -1,5 +1,5 @@
 // Lists of events in short, and what they are wanted to leave.
-use crate::cast::{EMPTY_LYNX, EMPTY_MS};
+use crate::cast::{C1, EMPTY_LYNX, EMPTY_MS, HUNDRED};
 use archive_table::MemoryKeeper;
 use archive_world::{
     Asked, Datagram, Event, GotFile, Op, OpKind, Opening, Outcome, TakenFile, WorldFault, replay,
@@ -112,6 +112,18 @@ pub(crate) const NOTHING: Wanted<'static> = Wanted {
     ms: EMPTY_MS,
     datagrams: &[],
     given: &[],
+};
+
+// What a put by the first client leaves, beside its datagrams: of the file of 100 ticks, with its transfer at port 4000.
+pub(crate) const ONE_PUT: Wanted<'static> = Wanted {
+    taken: &[(C1, HUNDRED)],
+    sent: &[C1],
+    got: &[],
+    opened: &[(C1, 4000, Asked::Write, 0)],
+    lynx: HUNDRED,
+    ms: EMPTY_MS,
+    datagrams: &[],
+    given: &[(Ruleset::Lynx, HUNDRED, true)],
 };
 
 pub(crate) fn are_taken(taken: &[TakenFile], wanted: &[(Endpoint, &[u8])]) -> bool {

@@ -112,6 +112,16 @@ fn were_sent(datagrams: &[Datagram], wanted: &[(Endpoint, Endpoint, Line)]) -> b
     datagrams.len() == wanted.len()
 }
 
+// What these events leave, which breaks no promise.
+fn outcome_of(alloc: Global, acts: &[Act<'_>]) -> Result<Outcome, Fail> {
+    let events = events_of(alloc, acts)?;
+    let outcome = replay(alloc, &mut MemoryKeeper::new(alloc), &events)?;
+    match broken_promise(alloc, &events, &outcome, 0)? {
+        Some(promise) => Err(Fail::new(promise)),
+        None => Ok(outcome),
+    }
+}
+
 // A put, and then a get: each datagram is delivered once, in order.
 fn put_and_get(file: &[u8]) -> [Act<'_>; 17] {
     [
@@ -135,12 +145,9 @@ fn put_and_get(file: &[u8]) -> [Act<'_>; 17] {
     ]
 }
 
-#[test]
-fn a_get_after_a_put(rt: HostRuntime) -> Result<(), Fail> {
-    let file = slow_file();
-    let events = events_of(rt.alloc(), &put_and_get(&file))?;
-    let outcome = replay(rt.alloc(), &mut MemoryKeeper::new(rt.alloc()), &events)?;
-    let sent = [
+// What is sent in it.
+fn put_and_get_lines() -> [(Endpoint, Endpoint, Line); 15] {
+    [
         (C1, SERVER, Line::Write),
         (at(4000), C1, Line::Ack(0)),
         (C1, at(4000), Line::Slow(1)),
@@ -156,16 +163,26 @@ fn a_get_after_a_put(rt: HostRuntime) -> Result<(), Fail> {
         (C2, at(4001), Line::Ack(2)),
         (at(4001), C2, Line::Slow(3)),
         (C2, at(4001), Line::Ack(3)),
-    ];
-    assert!(rt; were_sent(outcome.datagrams.as_slice(), &sent));
-    assert!(rt; are_taken(outcome.taken.as_slice(), &[(C1, &file)]));
-    assert_eq!(rt; outcome.sent.as_slice(), [C1].as_slice());
-    assert!(rt; are_got(outcome.got.as_slice(), &[(C2, &file)]));
+    ]
+}
+
+// Whether the file was taken, counts as sent, and was fetched.
+fn has_gone_round(outcome: &Outcome, file: &[u8]) -> bool {
+    are_taken(outcome.taken.as_slice(), &[(C1, file)])
+        && outcome.sent.as_slice() == [C1].as_slice()
+        && are_got(outcome.got.as_slice(), &[(C2, file)])
+        && outcome.lynx.as_slice() == file
+        && outcome.ms.as_slice() == EMPTY_MS.as_slice()
+}
+
+#[test]
+fn a_get_after_a_put(rt: HostRuntime) -> Result<(), Fail> {
+    let file = slow_file();
+    let outcome = outcome_of(rt.alloc(), &put_and_get(&file))?;
+    assert!(rt; were_sent(outcome.datagrams.as_slice(), &put_and_get_lines()));
+    assert!(rt; has_gone_round(&outcome, &file));
     let opened = [(C1, 4000, Asked::Write, 0), (C2, 4001, READ, 1)];
     assert!(rt; are_opened(outcome.opened.as_slice(), &opened));
-    assert_eq!(rt; outcome.lynx.as_slice(), file.as_slice());
-    assert_eq!(rt; outcome.ms.as_slice(), EMPTY_MS.as_slice());
-    assert_eq!(rt; broken_promise(rt.alloc(), &events, &outcome, 0)?, None);
     Ok(())
 }
 
@@ -243,21 +260,21 @@ fn crossed_lines() -> [(Endpoint, Endpoint, Line); 28] {
     ]
 }
 
-// The files of the crossing: which are taken, and which are fetched. The gets still have the slow one.
+// The files of the crossing: which are taken, count as sent, and are fetched. The gets still have the slow one.
 fn has_crossed(outcome: &Outcome, slow: &[u8], fast: &[u8]) -> bool {
     are_taken(outcome.taken.as_slice(), &[(C1, slow), (C3, fast)])
+        && outcome.sent.as_slice() == [C1, C3].as_slice()
         && are_got(outcome.got.as_slice(), &[(C2, slow), (C4, slow)])
         && outcome.lynx.as_slice() == fast
+        && outcome.ms.as_slice() == EMPTY_MS.as_slice()
 }
 
 #[test]
 fn two_gets_across_a_put(rt: HostRuntime) -> Result<(), Fail> {
     let (slow, fast) = (slow_file(), fast_file());
-    let events = events_of(rt.alloc(), &crossing(&slow, &fast))?;
-    let outcome = replay(rt.alloc(), &mut MemoryKeeper::new(rt.alloc()), &events)?;
+    let outcome = outcome_of(rt.alloc(), &crossing(&slow, &fast))?;
     assert!(rt; were_sent(outcome.datagrams.as_slice(), &crossed_lines()));
     assert!(rt; has_crossed(&outcome, &slow, &fast));
-    assert_eq!(rt; outcome.sent.as_slice(), [C1, C3].as_slice());
     let opened = [
         (C1, 4000, Asked::Write, 0),
         (C2, 4001, READ, 1),
@@ -265,8 +282,6 @@ fn two_gets_across_a_put(rt: HostRuntime) -> Result<(), Fail> {
         (C4, 4003, READ, 1),
     ];
     assert!(rt; are_opened(outcome.opened.as_slice(), &opened));
-    assert_eq!(rt; outcome.ms.as_slice(), EMPTY_MS.as_slice());
-    assert_eq!(rt; broken_promise(rt.alloc(), &events, &outcome, 0)?, None);
     Ok(())
 }
 

@@ -44,6 +44,3 @@ pub use recv_fault::RecvFault;
 pub use recv_state::RecvState;
 pub use send_state::SendState;
 pub use sender::Sender;
-
-#[cfg(test)]
-mod tests;

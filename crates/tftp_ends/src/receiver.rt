@@ -11,9 +11,6 @@ use std::alloc::{Allocator, Global};
 use std::marker::Model;
 use tftp_packet::{BLOCK_SIZE, Dgram, encode_ack};
 
-#[cfg(test)]
-mod pairs;
-
 /// The end of a transfer that receives a file.
 ///
 /// It acknowledges each block, RFC 1350 section 2, and waits after the last one, section 6. Only `on_data` takes memory.

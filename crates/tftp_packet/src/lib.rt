@@ -49,6 +49,3 @@ pub use packet::Packet;
 pub use packet_fault::PacketFault;
 pub use refusal::Refusal;
 pub use sizes::{BLOCK_SIZE, MAX_DATAGRAM};
-
-#[cfg(test)]
-mod tests;

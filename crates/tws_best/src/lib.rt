@@ -37,6 +37,3 @@ pub use laws::{
 };
 pub use rank::Rank;
 pub use snapshot::Snapshot;
-
-#[cfg(test)]
-mod tests;

@@ -57,6 +57,3 @@ pub use solution::Solution;
 pub use tws_file::TwsFile;
 pub use upload_name::upload_file_name;
 pub use writing::write_file;
-
-#[cfg(test)]
-mod tests;

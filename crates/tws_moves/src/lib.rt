@@ -48,8 +48,3 @@ pub use pack::pack_moves;
 pub use reading::read_moves;
 pub use spell_fault::SpellFault;
 pub use writing::write_moves;
-
-#[cfg(test)]
-mod tests;
-#[cfg(test)]
-mod write_tests;

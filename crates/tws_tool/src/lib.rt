@@ -34,14 +34,3 @@ pub use serve::{serve_counted, serve_waiting};
 pub use show::run_show;
 pub use target::Target;
 pub use tool_fault::ToolFault;
-
-#[cfg(test)]
-mod address_tests;
-#[cfg(test)]
-mod archive_tests;
-#[cfg(test)]
-mod job_tests;
-#[cfg(test)]
-mod test_streams;
-#[cfg(test)]
-mod tests;

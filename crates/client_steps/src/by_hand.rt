@@ -1,0 +1,167 @@
+// Transfers by hand, from the client's side: RFC 1350 sections 2, 4 and 5.
+use archive_client::{Cause, Get, Put, State, TooLong};
+use std::alloc::Global;
+use std::test::Fail;
+use tftp_packet::{Endpoint, Out};
+use tws_file::Ruleset;
+
+const SERVER: Endpoint = Endpoint {
+    host: 1,
+    port: 6969,
+};
+
+const WRQ: &[u8; 19] = b"\0\x02upload.tws\0octet\0";
+
+// A Lynx file: level 1, BDHP, 100 ticks, no moves.
+const FILE: &[u8; 28] = b"\x35\x33\x9B\x99\x01\0\0\0\x10\0\0\0\x01\0BDHP\0\0\0\0\0\0\x64\0\0\0";
+
+fn at(port: u16) -> Endpoint {
+    Endpoint { host: 1, port }
+}
+
+fn goes(out: &Option<Out>, port: u16, bytes: &[u8]) -> bool {
+    match out {
+        Some(out) => { out.from_port == 5000 && out.to == at(port) && out.dgram.bytes() == bytes }
+        None => false,
+    }
+}
+
+fn filled(alloc: Global, len: usize) -> Result<Vec<u8>, Fail> {
+    Ok(vec![in alloc; 7; len]?)
+}
+
+#[test]
+fn a_put_of_one_whole_block(rt: HostRuntime) -> Result<(), Fail> {
+    let file = filled(rt.alloc(), 512)?;
+    let Ok((mut put, request)) = Put::start(5000, SERVER, file) else {
+        return Err(Fail::new("too long"));
+    };
+    assert!(rt; goes(&Some(request), 6969, WRQ));
+    let mut first = [7; 516];
+    first[..4].copy_from_slice(b"\0\x03\0\x01");
+    let out = put.on_datagram(at(4000), b"\0\x04\0\0");
+    assert!(rt; goes(&out, 4000, &first));
+    let out = put.on_datagram(at(4000), b"\0\x04\0\x01");
+    assert!(rt; goes(&out, 4000, b"\0\x03\0\x02"));
+    assert_eq!(rt; put.state(), State::Running);
+    assert!(rt; put.on_datagram(at(4000), b"\0\x04\0\x02").is_none());
+    assert_eq!(rt; (put.state(), put.over()), (State::Sent, true));
+    Ok(())
+}
+
+// Two copies of the request opened two transfers: the client stays with the port that it bound to.
+#[test]
+fn a_put_that_two_ports_answer(rt: HostRuntime) -> Result<(), Fail> {
+    let file = Vec::from_slice(rt.alloc(), FILE)?;
+    let Ok((mut put, _)) = Put::start(5000, SERVER, file) else {
+        return Err(Fail::new("too long"));
+    };
+    let mut first = [0; 32];
+    first[..4].copy_from_slice(b"\0\x03\0\x01");
+    first[4..].copy_from_slice(FILE);
+    let out = put.on_datagram(at(4000), b"\0\x04\0\0");
+    assert!(rt; goes(&out, 4000, &first));
+    let out = put.on_datagram(at(4001), b"\0\x04\0\0");
+    assert!(rt; goes(&out, 4001, b"\0\x05\0\x05unknown transfer\0"));
+    assert!(rt; put.on_datagram(at(4000), b"\0\x04\0\x01").is_none());
+    assert_eq!(rt; put.state(), State::Sent);
+    Ok(())
+}
+
+#[test]
+fn a_put_that_is_never_answered(rt: HostRuntime) -> Result<(), Fail> {
+    let Ok((mut put, request)) = Put::start(5000, SERVER, filled(rt.alloc(), 1)?) else {
+        return Err(Fail::new("too long"));
+    };
+    assert!(rt; goes(&Some(request), 6969, WRQ));
+    for _ in 0..4 {
+        assert!(rt; goes(&put.on_timeout(), 6969, WRQ));
+        assert_eq!(rt; put.state(), State::Running);
+    }
+    assert!(rt; put.on_timeout().is_none());
+    assert_eq!(rt;
+        (put.state(), put.over()),
+        (State::Failed(Cause::TimedOut), true)
+    );
+    Ok(())
+}
+
+// Whether a put of so many bytes begins.
+fn starts(alloc: Global, len: usize) -> Result<bool, Fail> {
+    let file = filled(alloc, len)?;
+    match Put::start(5000, SERVER, file) {
+        Ok((put, request)) => {
+            Ok(put.state() == State::Running && goes(&Some(request), 6969, WRQ))
+        }
+        Err(_fault) => Ok(false),
+    }
+}
+
+// It has 8,191 whole blocks, and an empty one will end it.
+#[test]
+fn a_file_of_many_whole_blocks(rt: HostRuntime) -> Result<(), Fail> {
+    assert!(rt; starts(rt.alloc(), 4193792)?);
+    Ok(())
+}
+
+#[test]
+fn the_greatest_file(rt: HostRuntime) -> Result<(), Fail> {
+    assert!(rt; starts(rt.alloc(), 33553919)?);
+    Ok(())
+}
+
+#[test]
+fn a_file_that_is_too_long(rt: HostRuntime) -> Result<(), Fail> {
+    let file = filled(rt.alloc(), 33553920)?;
+    let Err(TooLong { file }) = Put::start(5000, SERVER, file) else {
+        return Err(Fail::new("not too long"));
+    };
+    assert_eq!(rt; file.len(), 33553920);
+    assert!(rt; file.iter().all(|b| *b == 7));
+    Ok(())
+}
+
+// The client that comes back where its file is asked for too early.
+fn asked_too_early(get: Get) -> Result<Get, Fail> {
+    match get.into_file() {
+        Ok(_file) => Err(Fail::new("a file before any answer")),
+        Err(get) => Ok(get),
+    }
+}
+
+fn hands_out(alloc: Global, get: Get, bytes: &[u8]) -> Result<bool, Fail> {
+    match get.into_file() {
+        Ok(file) => Ok(file.to_vec(alloc)?.as_slice() == bytes),
+        Err(_get) => Ok(false),
+    }
+}
+
+// The file is asked for before any answer, and the client that comes back goes on.
+#[test]
+fn a_get(rt: HostRuntime) -> Result<(), Fail> {
+    let (get, request) = Get::start(rt.alloc(), 5000, SERVER, Ruleset::Lynx);
+    assert!(rt; goes(&Some(request), 6969, b"\0\x01lynx.tws\0octet\0"));
+    let mut get = asked_too_early(get)?;
+    assert_eq!(rt; get.state(), State::Running);
+    let mut first = [0; 32];
+    first[..4].copy_from_slice(b"\0\x03\0\x01");
+    first[4..].copy_from_slice(FILE);
+    assert!(rt; goes(&get.on_datagram(at(4001), &first), 4001, b"\0\x04\0\x01"));
+    assert_eq!(rt; (get.state(), get.over()), (State::Got, false));
+    assert!(rt; get.on_datagram(at(4001), b"\0\x05\0\0\0").is_none());
+    assert!(rt; hands_out(rt.alloc(), get, FILE)?);
+    Ok(())
+}
+
+#[test]
+fn causes_by_name(rt: HostRuntime) -> Result<(), Fail> {
+    for (cause, name) in [
+        (Cause::Refused(1), "refused 1"),
+        (Cause::TimedOut, "timed out"),
+        (Cause::TooLong, "too long"),
+        (Cause::Memory, "out of memory"),
+    ] {
+        assert_eq!(rt; format!(in rt.alloc(); "{cause}")?.as_str(), name);
+    }
+    Ok(())
+}

@@ -1,0 +1,457 @@
+// Files from outside, and what is kept of them. The texts that are wanted are written out by hand.
+use byte_output::OutFault;
+use std::alloc::Global;
+use std::io;
+use std::io::Write;
+use std::test::Fail;
+use tws_best::{Collection, Rank};
+use tws_file::{Key, Ruleset, read_file};
+
+pub(crate) const LYNX: [u8; 8] = [0x35, 0x33, 0x9B, 0x99, 1, 0, 0, 0];
+
+pub(crate) const MS: [u8; 8] = [0x35, 0x33, 0x9B, 0x99, 2, 0, 0, 0];
+
+// Level 1, BDHP, 100 ticks, no moves.
+pub(crate) const HUNDRED: [u8; 28] = [
+    0x35, 0x33, 0x9B, 0x99, 1, 0, 0, 0, 0x10, 0, 0, 0, 1, 0, 0x42, 0x44, 0x48, 0x50, 0, 0, 0, 0, 0,
+    0, 100, 0, 0, 0,
+];
+
+// The same with 90 ticks.
+pub(crate) const NINETY: [u8; 28] = [
+    0x35, 0x33, 0x9B, 0x99, 1, 0, 0, 0, 0x10, 0, 0, 0, 1, 0, 0x42, 0x44, 0x48, 0x50, 0, 0, 0, 0, 0,
+    0, 90, 0, 0, 0,
+];
+
+// Level 2 in 20 ticks, a pad, and level 1 in 10 ticks; and the text that is kept of it.
+pub(crate) const UNORDERED: [u8; 52] = [
+    0x35, 0x33, 0x9B, 0x99, 1, 0, 0, 0, 0x10, 0, 0, 0, 2, 0, 0x42, 0x42, 0x42, 0x42, 0, 0, 0, 0, 0,
+    0, 0x14, 0, 0, 0, 0, 0, 0, 0, 0x10, 0, 0, 0, 1, 0, 0x43, 0x43, 0x43, 0x43, 0, 0, 0, 0, 0, 0,
+    0x0A, 0, 0, 0,
+];
+
+const ORDERED: [u8; 48] = [
+    0x35, 0x33, 0x9B, 0x99, 1, 0, 0, 0, 0x10, 0, 0, 0, 1, 0, 0x43, 0x43, 0x43, 0x43, 0, 0, 0, 0, 0,
+    0, 0x0A, 0, 0, 0, 0x10, 0, 0, 0, 2, 0, 0x42, 0x42, 0x42, 0x42, 0, 0, 0, 0, 0, 0, 0x14, 0, 0, 0,
+];
+
+// The parts, one after the other.
+pub(crate) fn join(alloc: Global, first: &[u8], others: &[&[u8]]) -> Result<Vec<u8>, Fail> {
+    let mut bytes = Vec::from_slice(alloc, first)?;
+    for one in others {
+        bytes.extend_from_slice(one)?;
+    }
+    Ok(bytes)
+}
+
+// A solution's record as a file has it: its size, and then its body.
+pub(crate) fn record(
+    alloc: Global,
+    number: u16,
+    password: &[u8; 4],
+    seed: u32,
+    ticks: u32,
+    moves: &[u8],
+) -> Result<Vec<u8>, Fail> {
+    let size = 16 + u32::try_from(moves.len())?.min(10_000);
+    let parts: [&[u8]; 6] = [
+        &number.to_le_bytes(),
+        password,
+        &[0, 0],
+        &seed.to_le_bytes(),
+        &ticks.to_le_bytes(),
+        moves,
+    ];
+    join(alloc, &size.to_le_bytes(), &parts)
+}
+
+// So many moves of one byte.
+pub(crate) fn moves(alloc: Global, count: usize) -> Result<Vec<u8>, Fail> {
+    let mut bytes = Vec::new(alloc);
+    for _ in 0..count {
+        bytes.push(1)?;
+    }
+    Ok(bytes)
+}
+
+// The record of level 1, BDHP, with so many moves of one byte.
+fn level_1(alloc: Global, ticks: u32, count: usize) -> Result<Vec<u8>, Fail> {
+    record(alloc, 1, b"BDHP", 0, ticks, &moves(alloc, count)?)
+}
+
+// A file of one record, of level 1, BDHP, with 100 ticks.
+fn file_of_level_1(alloc: Global, seed: u32, moves: &[u8]) -> Result<Vec<u8>, Fail> {
+    let record = record(alloc, 1, b"BDHP", seed, 100, moves)?;
+    join(alloc, &LYNX, &[record.as_slice()])
+}
+
+// A file of solutions without moves: for each its number, its password and its ticks.
+fn solutions(alloc: Global, rows: &[(u16, [u8; 4], u32)]) -> Result<Vec<u8>, Fail> {
+    let mut text = Vec::from_slice(alloc, &LYNX)?;
+    for (number, password, ticks) in rows {
+        let record = record(alloc, *number, password, 0, *ticks, &[])?;
+        text.extend_from_slice(&record)?;
+    }
+    Ok(text)
+}
+
+pub(crate) fn load(alloc: Global, text: &[u8]) -> Result<Collection, Fail> {
+    Ok(Collection::load(alloc, &read_file(alloc, text)?)?)
+}
+
+pub(crate) fn merge(alloc: Global, collection: &mut Collection, text: &[u8]) -> Result<bool, Fail> {
+    let file = read_file(alloc, text)?;
+    Ok(collection.merge(&file)?)
+}
+
+pub(crate) fn has_text(alloc: Global, collection: &Collection, wanted: &[u8]) -> bool {
+    let mut text = Vec::new(alloc);
+    collection.write_text(&mut text).is_ok() && text.as_slice() == wanted
+}
+
+// Whether the files, merged one after the other into a collection of these rules, give this text.
+fn are_merged_to(
+    alloc: Global,
+    rules: Ruleset,
+    files: &[&[u8]],
+    wanted: &[u8],
+) -> Result<bool, Fail> {
+    let mut collection = Collection::new(alloc, rules);
+    for file in files {
+        merge(alloc, &mut collection, file)?;
+    }
+    Ok(has_text(alloc, &collection, wanted))
+}
+
+#[test]
+fn a_collection_of_no_file(rt: HostRuntime) {
+    let collection = Collection::new(rt.alloc(), Ruleset::Lynx);
+    assert!(rt; collection.is_empty());
+    assert!(rt; has_text(rt.alloc(), &collection, &LYNX));
+}
+
+#[test]
+fn a_collection_that_is_loaded(rt: HostRuntime) -> Result<(), Fail> {
+    let loaded = load(rt.alloc(), &HUNDRED)?;
+    assert!(rt; has_text(rt.alloc(), &loaded, &HUNDRED));
+    Ok(())
+}
+
+// Merges four files that follow the one of 100 ticks, and tells whether the second alone changed the collection.
+fn second_alone_changes(alloc: Global, collection: &mut Collection) -> Result<bool, Fail> {
+    let files: [(&[u8], bool); 4] = [
+        (&HUNDRED, false),
+        (&NINETY, true),
+        (&HUNDRED, false),
+        (&MS, false),
+    ];
+    for (file, is_changed) in files {
+        if merge(alloc, collection, file)? != is_changed {
+            return Ok(false);
+        }
+    }
+    Ok(true)
+}
+
+#[test]
+fn answers_of_merges(rt: HostRuntime) -> Result<(), Fail> {
+    let mut collection = Collection::new(rt.alloc(), Ruleset::Lynx);
+    assert!(rt; merge(rt.alloc(), &mut collection, &HUNDRED)?);
+    assert!(rt; second_alone_changes(rt.alloc(), &mut collection)?);
+    assert!(rt; has_text(rt.alloc(), &collection, &NINETY));
+    assert_eq!(rt;
+        (
+            collection.len(),
+            collection.text_len(),
+            collection.ruleset()
+        ),
+        (1, 28, Ruleset::Lynx)
+    );
+    Ok(())
+}
+
+#[test]
+fn copies_stay(rt: HostRuntime) -> Result<(), Fail> {
+    let mut collection = Collection::new(rt.alloc(), Ruleset::Lynx);
+    assert!(rt; merge(rt.alloc(), &mut collection, &HUNDRED)?);
+    let early = collection.copy()?;
+    assert!(rt; second_alone_changes(rt.alloc(), &mut collection)?);
+    assert!(rt; has_text(rt.alloc(), &early, &HUNDRED));
+    Ok(())
+}
+
+#[test]
+fn files_of_other_rules(rt: HostRuntime) -> Result<(), Fail> {
+    let texts: [&[u8]; 2] = [&HUNDRED, &NINETY];
+    assert!(rt; are_merged_to(rt.alloc(), Ruleset::Lynx, &texts, &NINETY)?);
+    assert!(rt; are_merged_to(rt.alloc(), Ruleset::Ms, &texts, &MS)?);
+    Ok(())
+}
+
+#[test]
+fn records_in_order(rt: HostRuntime) -> Result<(), Fail> {
+    let alloc = rt.alloc();
+    let mut collection = Collection::new(alloc, Ruleset::Lynx);
+    assert!(rt; merge(alloc, &mut collection, &UNORDERED)?);
+    assert!(rt; has_text(alloc, &collection, &ORDERED));
+    assert_eq!(rt; collection.text_len(), 48);
+    assert!(rt; merge(alloc, &mut collection, &HUNDRED)?);
+    assert_eq!(rt; (collection.len(), collection.text_len()), (3, 68));
+    Ok(())
+}
+
+#[test]
+fn records_by_key(rt: HostRuntime) -> Result<(), Fail> {
+    let mut collection = load(rt.alloc(), &UNORDERED)?;
+    assert!(rt; merge(rt.alloc(), &mut collection, &HUNDRED)?);
+    let key = Key {
+        number: 2,
+        password: *b"BBBB",
+    };
+    assert_eq!(rt; collection.get(key), Some(&ORDERED[32..]));
+    let other = Key {
+        number: 2,
+        password: *b"CCCC",
+    };
+    assert_eq!(rt; collection.get(other), None);
+    Ok(())
+}
+
+#[test]
+fn long_texts(rt: HostRuntime) -> Result<(), Fail> {
+    // More bytes than are gathered before some are written.
+    let mut text = Vec::from_slice(rt.alloc(), &LYNX)?;
+    let moves = moves(rt.alloc(), 9000)?;
+    for number in 1..10u16 {
+        let record = record(rt.alloc(), number, b"AAAA", 0, 0, &moves)?;
+        text.extend_from_slice(&record)?;
+    }
+    assert!(rt; are_merged_to(rt.alloc(), Ruleset::Lynx, &[&text], &text)?);
+    Ok(())
+}
+
+// Whether each order of three files gives this text.
+fn all_orders_give(alloc: Global, files: [&[u8]; 3], wanted: &[u8]) -> Result<bool, Fail> {
+    let [a, b, c] = files;
+    let orders = [
+        [a, b, c],
+        [a, c, b],
+        [b, a, c],
+        [b, c, a],
+        [c, a, b],
+        [c, b, a],
+    ];
+    for order in orders {
+        if !are_merged_to(alloc, Ruleset::Lynx, &order, wanted)? {
+            return Ok(false);
+        }
+    }
+    Ok(true)
+}
+
+fn long_file(alloc: Global) -> Result<Vec<u8>, Fail> {
+    file_of_level_1(alloc, 0, &[1; 4])
+}
+
+fn short_file(alloc: Global) -> Result<Vec<u8>, Fail> {
+    file_of_level_1(alloc, 0, &[1; 2])
+}
+
+fn fast_file(alloc: Global) -> Result<Vec<u8>, Fail> {
+    let record = level_1(alloc, 99, 384)?;
+    join(alloc, &LYNX, &[record.as_slice()])
+}
+
+#[test]
+fn fewer_ticks(rt: HostRuntime) -> Result<(), Fail> {
+    let long = long_file(rt.alloc())?;
+    let short = short_file(rt.alloc())?;
+    let fast = fast_file(rt.alloc())?;
+    assert!(rt; all_orders_give(rt.alloc(), [&long, &short, &fast], &fast)?);
+    Ok(())
+}
+
+#[test]
+fn shorter_in_as_many_ticks(rt: HostRuntime) -> Result<(), Fail> {
+    let long = long_file(rt.alloc())?;
+    let short = short_file(rt.alloc())?;
+    assert!(rt; all_orders_give(rt.alloc(), [&long, &short, &long], &short)?);
+    Ok(())
+}
+
+// As numbers 1 is below 256. Their bytes in a file are 01 00 00 00 and 00 01 00 00.
+#[test]
+fn bytes_and_not_numbers(rt: HostRuntime) -> Result<(), Fail> {
+    let one = file_of_level_1(rt.alloc(), 1, &[])?;
+    let more = file_of_level_1(rt.alloc(), 256, &[])?;
+    assert!(rt; all_orders_give(rt.alloc(), [&one, &more, &one], &more)?);
+    Ok(())
+}
+
+#[test]
+fn a_last_byte_that_differs(rt: HostRuntime) -> Result<(), Fail> {
+    let low = file_of_level_1(rt.alloc(), 1, &[1, 1])?;
+    let high = file_of_level_1(rt.alloc(), 1, &[1, 0x61])?;
+    assert!(rt; all_orders_give(rt.alloc(), [&high, &low, &high], &low)?);
+    Ok(())
+}
+
+#[test]
+fn keys_that_are_close(rt: HostRuntime) -> Result<(), Fail> {
+    let capital = (255, *b"ABCD", 9);
+    let small = (255, *b"aBCD", 8);
+    let seven = (256, [0x41, 0x42, 0x43, 0x7F], 7);
+    let eight = (256, [0x41, 0x42, 0x43, 0x80], 6);
+    let last = (65535, [0xFF, 0xFF, 0xFF, 0xFF], 5);
+    let wanted = solutions(rt.alloc(), &[capital, small, seven, eight, last])?;
+    let first = solutions(rt.alloc(), &[last, small])?;
+    let second = solutions(rt.alloc(), &[eight, capital])?;
+    let third = solutions(rt.alloc(), &[seven, last])?;
+    assert!(rt; all_orders_give(rt.alloc(), [&first, &second, &third], &wanted)?);
+    Ok(())
+}
+
+// A file that is its own best, and the same three times.
+#[test]
+fn the_same_file_again(rt: HostRuntime) -> Result<(), Fail> {
+    assert!(rt; are_merged_to(rt.alloc(), Ruleset::Lynx, &[&ORDERED], &ORDERED)?);
+    assert!(rt; all_orders_give(rt.alloc(), [&ORDERED, &ORDERED, &ORDERED], &ORDERED)?);
+    Ok(())
+}
+
+// A record that is worse than each that is kept.
+#[test]
+fn nothing_better(rt: HostRuntime) -> Result<(), Fail> {
+    let worse = solutions(rt.alloc(), &[(1, *b"CCCC", 11)])?;
+    assert!(rt; all_orders_give(rt.alloc(), [&ORDERED, &worse, &worse], &ORDERED)?);
+    let mut collection = load(rt.alloc(), &ORDERED)?;
+    assert!(rt; !merge(rt.alloc(), &mut collection, &worse)?);
+    Ok(())
+}
+
+#[test]
+fn no_other_record_is_kept(rt: HostRuntime) -> Result<(), Fail> {
+    let alloc = rt.alloc();
+    // A pad, the record of the set with its name, and a level without a solution.
+    let pad: [u8; 4] = [0; 4];
+    let set: [u8; 21] = [
+        0x11, 0, 0, 0, 0, 0, 0, 0, 0, 0, 0, 0, 0, 0, 0, 0, 0, 0, 0, 0, 0,
+    ];
+    let bare: [u8; 10] = [6, 0, 0, 0, 1, 0, 0x42, 0x44, 0x48, 0x50];
+    let text = join(alloc, &LYNX, &[&set, &pad, &bare, &HUNDRED[8..], &pad])?;
+    assert!(rt; are_merged_to(alloc, Ruleset::Lynx, &[&text], &HUNDRED)?);
+    let none = join(alloc, &LYNX, &[&set, &pad, &bare])?;
+    assert!(rt; are_merged_to(alloc, Ruleset::Lynx, &[&none], &LYNX)?);
+    Ok(())
+}
+
+// Adds a solution without moves.
+fn push_level(alloc: Global, text: &mut Vec<u8>, number: u16, ticks: u32) -> Result<(), Fail> {
+    let record = record(alloc, number, b"BDHP", 0, ticks, &[])?;
+    Ok(text.extend_from_slice(&record)?)
+}
+
+// The levels from the last to the first.
+fn slow_levels(alloc: Global) -> Result<Vec<u8>, Fail> {
+    let mut text = Vec::from_slice(alloc, &LYNX)?;
+    for number in 1..200u16 {
+        push_level(alloc, &mut text, 200 - number, 500)?;
+    }
+    Ok(text)
+}
+
+// Every second level, and faster.
+fn fast_levels(alloc: Global) -> Result<Vec<u8>, Fail> {
+    let mut text = Vec::from_slice(alloc, &LYNX)?;
+    for number in 1..200u16 {
+        if number % 2 == 0 {
+            push_level(alloc, &mut text, number, 400)?;
+        }
+    }
+    Ok(text)
+}
+
+fn best_levels(alloc: Global) -> Result<Vec<u8>, Fail> {
+    let mut text = Vec::from_slice(alloc, &LYNX)?;
+    for number in 1..200u16 {
+        let ticks = if number % 2 == 0 { 400 } else { 500 };
+        push_level(alloc, &mut text, number, ticks)?;
+    }
+    Ok(text)
+}
+
+#[test]
+fn many_levels(rt: HostRuntime) -> Result<(), Fail> {
+    let slow = slow_levels(rt.alloc())?;
+    let fast = fast_levels(rt.alloc())?;
+    let wanted = best_levels(rt.alloc())?;
+    assert!(rt; all_orders_give(rt.alloc(), [&slow, &fast, &slow], &wanted)?);
+    Ok(())
+}
+
+// Whether the first of two different ranks is the lesser one, by each operator.
+fn is_lesser(first: Rank, second: Rank) -> bool {
+    first < second && second > first && first == first && first != second
+}
+
+#[test]
+fn ranks(rt: HostRuntime) -> Result<(), Fail> {
+    let fast = level_1(rt.alloc(), 99, 384)?;
+    let short = level_1(rt.alloc(), 100, 2)?;
+    assert!(rt; fast.len() == 404 && short.len() == 22);
+    assert!(rt; is_lesser(Rank::of(&fast[4..]), Rank::of(&short[4..])));
+    Ok(())
+}
+
+// A writer that takes three bytes at a time, and fails once it has taken so many.
+#[derive(Drop)]
+struct Narrow {
+    taken: Vec<u8>,
+    limit: usize,
+}
+
+impl Write for Narrow {
+    fn write(&mut self, buf: &[u8]) -> io::Result<usize> {
+        let room = self.limit.saturating_sub(self.taken.len());
+        let count = room.min(3).min(buf.len());
+        if count == 0 {
+            return Err(io::Error::from(io::ErrorKind::Other));
+        }
+        self.taken.extend_from_slice(&buf[..count])?;
+        Ok(count)
+    }
+
+    fn flush(&mut self) -> io::Result<()> {
+        Ok(())
+    }
+}
+
+// Whether a writer of this limit takes these bytes, and the collection then answers so.
+fn is_written(
+    alloc: Global,
+    collection: &Collection,
+    limit: usize,
+    answer: Result<(), OutFault>,
+    bytes: &[u8],
+) -> bool {
+    let taken = Vec::new(alloc);
+    let mut out = Narrow { taken, limit };
+    collection.write_text(&mut out) == answer && out.taken.as_slice() == bytes
+}
+
+#[test]
+fn writers_that_fail(rt: HostRuntime) -> Result<(), Fail> {
+    let collection = load(rt.alloc(), &UNORDERED)?;
+    for limit in 0..48usize {
+        let bytes = &ORDERED[..limit];
+        assert!(rt; is_written(rt.alloc(), &collection, limit, Err(OutFault::Io), bytes));
+    }
+    Ok(())
+}
+
+#[test]
+fn a_writer_of_just_enough_room(rt: HostRuntime) -> Result<(), Fail> {
+    let collection = load(rt.alloc(), &UNORDERED)?;
+    assert!(rt; is_written(rt.alloc(), &collection, 48, Ok(()), &ORDERED));
+    Ok(())
+}

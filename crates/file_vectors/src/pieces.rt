@@ -1,0 +1,80 @@
+// Files that come in pieces, most of them byte by byte.
+use crate::files::{CUT, LYNX, join};
+use std::alloc::Allocator;
+use std::test::Fail;
+use tws_file::{FileFault, Reader};
+
+// Pushes a byte at a time, and tells at which push the first fault came.
+fn push_bytes<A: Allocator + Copy>(alloc: A, bytes: &[u8]) -> (Option<usize>, Reader<A>) {
+    let mut reader = Reader::new(alloc);
+    let mut first = None;
+    for i in 0..bytes.len() {
+        if reader.push(&bytes[i..i + 1]).is_err() && first.is_none() {
+            first = Some(i + 1);
+        }
+    }
+    (first, reader)
+}
+
+// Two bare levels.
+const LEVELS: [u8; 29] = [
+    0x35, 0x33, 0x9B, 0x99, 1, 7, 8, 1, 0x21, 6, 0, 0, 0, 1, 0, 0x42, 0x44, 0x48, 0x50, 6, 0, 0, 0,
+    2, 0, 0x42, 0x44, 0x48, 0x50,
+];
+
+#[test]
+fn a_file_that_comes_byte_by_byte(rt: HostRuntime) -> Result<(), Fail> {
+    let (first, reader) = push_bytes(rt.alloc(), &LEVELS);
+    assert_eq!(rt; first, None);
+    let file = reader.finish()?;
+    assert_eq!(rt; (file.word, file.records.len()), ([7, 8], 2));
+    assert_eq!(rt; file.extra.as_slice(), [0x21].as_slice());
+    Ok(())
+}
+
+#[test]
+fn a_file_that_ends_early_byte_by_byte(rt: HostRuntime) {
+    let cuts = [
+        (28, FileFault::ShortRecord(19)),
+        (8, FileFault::ShortHeader(8)),
+    ];
+    for (count, fault) in cuts {
+        let (first, reader) = push_bytes(rt.alloc(), LEVELS.get(..count).unwrap_or(&[]));
+        assert_eq!(rt; (first, reader.finish().err()), (None, Some(fault)));
+    }
+}
+
+#[test]
+fn moves_that_are_cut_byte_by_byte(rt: HostRuntime) {
+    let (first, reader) = push_bytes(rt.alloc(), &CUT);
+    assert_eq!(rt; first, Some(30));
+    assert_eq!(rt; reader.finish().err(), Some(FileFault::MoveCut(29)));
+}
+
+#[test]
+fn moves_that_are_cut_between_pieces(rt: HostRuntime) {
+    let mut reader = Reader::new(rt.alloc());
+    assert_eq!(rt; reader.push(&CUT[..29]), Ok(()));
+    assert_eq!(rt; reader.push(&CUT[29..]), Err(FileFault::MoveCut(29)));
+    assert_eq!(rt; reader.push(&[0xFF]), Err(FileFault::MoveCut(29)));
+    assert_eq!(rt; reader.finish().err(), Some(FileFault::MoveCut(29)));
+}
+
+#[test]
+fn a_fault_of_a_record_is_kept(rt: HostRuntime) -> Result<(), Fail> {
+    let bytes = join(rt.alloc(), &LYNX, &[0, 0, 0, 0, 7, 0, 0, 0, 1, 2, 3])?;
+    let (first, reader) = push_bytes(rt.alloc(), &bytes);
+    assert_eq!(rt; first, Some(16));
+    assert_eq!(rt; reader.finish().err(), Some(FileFault::BadSize(12)));
+    Ok(())
+}
+
+#[test]
+fn a_fault_of_the_header_is_kept(rt: HostRuntime) {
+    let mut reader = Reader::new(rt.alloc());
+    let mut wrong = LYNX;
+    wrong[3] = 0x98;
+    assert_eq!(rt; reader.push(&wrong), Err(FileFault::BadSignature));
+    assert_eq!(rt; reader.push(&LYNX), Err(FileFault::BadSignature));
+    assert_eq!(rt; reader.finish().err(), Some(FileFault::BadSignature));
+}

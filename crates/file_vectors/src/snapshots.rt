@@ -1,0 +1,162 @@
+// Snapshots of collections, and the blocks that are sent of them. The texts that are wanted are written out by hand.
+use crate::collections::{
+    HUNDRED, LYNX, MS, NINETY, UNORDERED, has_text, join, load, merge, moves, record,
+};
+use std::alloc::Global;
+use std::process::Abort;
+use std::test::Fail;
+use tftp_packet::Blocks;
+use tws_best::{Collection, Snapshot};
+use tws_file::Ruleset;
+
+// The snapshot of a collection whose text is not too long.
+fn snapshot_of(rt: &impl Abort, collection: &Collection) -> Result<Snapshot, Fail> {
+    assert!(rt; collection.text_len() <= 1_000_000);
+    Ok(collection.snapshot()?)
+}
+
+// All blocks, one after the other.
+fn joined_blocks(alloc: Global, snapshot: &Snapshot) -> Option<Vec<u8>> {
+    let mut text = Vec::new(alloc);
+    let mut out = [0; 512];
+    let count = u16::try_from(snapshot.file_len() / 512 + 1).ok()?;
+    for before in 0..count {
+        let size = snapshot.block(before + 1, &mut out);
+        text.extend_from_slice(&out[..size]).ok()?;
+    }
+    Some(text)
+}
+
+fn has_blocks(alloc: Global, snapshot: &Snapshot, wanted: &[u8]) -> bool {
+    match joined_blocks(alloc, snapshot) {
+        Some(text) => text.as_slice() == wanted,
+        None => false,
+    }
+}
+
+// The record of level 1 ends two bytes before the end of the first block.
+fn long_record(alloc: Global) -> Result<Vec<u8>, Fail> {
+    record(alloc, 1, b"AAAA", 0, 0, &moves(alloc, 482)?)
+}
+
+fn short_record(alloc: Global) -> Result<Vec<u8>, Fail> {
+    record(alloc, 2, b"BBBB", 0, 0, &[])
+}
+
+// A collection of both records, loaded from a file with the second one first.
+fn two_records(alloc: Global) -> Result<Collection, Fail> {
+    let first = long_record(alloc)?;
+    let second = short_record(alloc)?;
+    let text = join(alloc, &LYNX, &[second.as_slice(), first.as_slice()])?;
+    load(alloc, &text)
+}
+
+// The text of both records in order.
+fn text_in_order(alloc: Global) -> Result<Vec<u8>, Fail> {
+    let first = long_record(alloc)?;
+    let second = short_record(alloc)?;
+    join(alloc, &LYNX, &[first.as_slice(), second.as_slice()])
+}
+
+#[test]
+fn text_of_two_records(rt: HostRuntime) -> Result<(), Fail> {
+    let collection = two_records(rt.alloc())?;
+    assert_eq!(rt; collection.text_len(), 530);
+    let wanted = text_in_order(rt.alloc())?;
+    assert!(rt; has_text(rt.alloc(), &collection, &wanted));
+    Ok(())
+}
+
+#[test]
+fn sizes_in_the_text_of_two_records(rt: HostRuntime) -> Result<(), Fail> {
+    let mut text = Vec::new(rt.alloc());
+    two_records(rt.alloc())?.write_text(&mut text)?;
+    assert_eq!(rt; text.len(), 530);
+    assert_eq!(rt; &text[8..12], [0xF2, 1, 0, 0].as_slice());
+    assert_eq!(rt; &text[510..514], [0x10, 0, 0, 0].as_slice());
+    Ok(())
+}
+
+#[test]
+fn snapshot_of_two_records(rt: HostRuntime) -> Result<(), Fail> {
+    let collection = two_records(rt.alloc())?;
+    let snapshot = snapshot_of(&rt, &collection)?;
+    assert_eq!(rt; snapshot.record_count(), 2);
+    assert_eq!(rt; (snapshot.start(0), snapshot.start(1)), (8, 510));
+    assert_eq!(rt; (snapshot.body(0).len(), snapshot.body(1).len()), (498, 16));
+    Ok(())
+}
+
+#[test]
+fn blocks_of_two_records(rt: HostRuntime) -> Result<(), Fail> {
+    let collection = two_records(rt.alloc())?;
+    let snapshot = snapshot_of(&rt, &collection)?;
+    assert_eq!(rt; snapshot.file_len(), 530);
+    let mut out = [0; 512];
+    assert_eq!(rt; snapshot.block(1, &mut out), 512);
+    assert_eq!(rt; &out[510..], [0x10, 0].as_slice());
+    assert_eq!(rt; snapshot.block(2, &mut out), 18);
+    assert_eq!(rt; &out[..8], [0, 0, 2, 0, 0x42, 0x42, 0x42, 0x42].as_slice());
+    Ok(())
+}
+
+// Whether the blocks of a new snapshot of the collection are what it writes.
+fn has_own_blocks(rt: &impl Abort, alloc: Global, collection: &Collection) -> Result<bool, Fail> {
+    let snapshot = snapshot_of(rt, collection)?;
+    let mut text = Vec::new(alloc);
+    collection.write_text(&mut text)?;
+    Ok(has_blocks(alloc, &snapshot, &text))
+}
+
+#[test]
+fn snapshots_stay(rt: HostRuntime) -> Result<(), Fail> {
+    let alloc = rt.alloc();
+    let mut collection = load(alloc, &HUNDRED)?;
+    let early = snapshot_of(&rt, &collection)?;
+    assert!(rt; merge(alloc, &mut collection, &NINETY)?);
+    assert!(rt; merge(alloc, &mut collection, &UNORDERED)?);
+    assert!(rt; has_blocks(alloc, &early, &HUNDRED));
+    assert!(rt; has_own_blocks(&rt, alloc, &collection)?);
+    Ok(())
+}
+
+#[test]
+fn the_snapshot_of_no_file(rt: HostRuntime) -> Result<(), Fail> {
+    let empty = snapshot_of(&rt, &Collection::new(rt.alloc(), Ruleset::Ms))?;
+    assert!(rt; has_blocks(rt.alloc(), &empty, &MS));
+    Ok(())
+}
+
+// The levels from 1 to 2000 with two moves each.
+fn two_thousand(alloc: Global) -> Result<Vec<u8>, Fail> {
+    let mut text = Vec::from_slice(alloc, &LYNX)?;
+    for number in 1..2001u16 {
+        text.extend_from_slice(&record(alloc, number, b"BDHP", 0, 500, &[1, 1])?)?;
+    }
+    Ok(text)
+}
+
+// Whether a copy of the collection, and a snapshot of the copy, have this text.
+fn copy_has_text(
+    rt: &impl Abort,
+    alloc: Global,
+    collection: &Collection,
+    wanted: &[u8],
+) -> Result<bool, Fail> {
+    let copy = collection.copy()?;
+    let snapshot = snapshot_of(rt, &copy)?;
+    Ok(has_text(alloc, &copy, wanted) && has_blocks(alloc, &snapshot, wanted))
+}
+
+#[test]
+fn two_thousand_records(rt: HostRuntime) -> Result<(), Fail> {
+    let alloc = rt.alloc();
+    let wanted = two_thousand(alloc)?;
+    let mut collection = Collection::new(alloc, Ruleset::Lynx);
+    assert!(rt; merge(alloc, &mut collection, &wanted)?);
+    assert!(rt; !merge(alloc, &mut collection, &wanted)?);
+    assert_eq!(rt; collection.len(), 2000);
+    assert!(rt; has_text(alloc, &collection, &wanted));
+    assert!(rt; copy_has_text(&rt, alloc, &collection, &wanted)?);
+    Ok(())
+}

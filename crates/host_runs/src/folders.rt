@@ -1,0 +1,188 @@
+// The keeper over folders of the system.
+use crate::samples::*;
+use archive_host::DirKeeper;
+use archive_table::{KeepFault, Keeper};
+use archive_turns::{MemoryWire, Server, serve_turns};
+use std::test::Fail;
+use std::{env, fs, process};
+use tws_best::Collection;
+use tws_file::{Ruleset, read_file};
+
+// A new folder among the temporary ones.
+fn folder(rt: &HostRuntime, name: &str) -> Result<String, Fail> {
+    let process = process::id(rt.process());
+    let name = format!(in rt.alloc(); "tws-host-{process}-{name}")?;
+    let path = env::temp_dir(rt)?.join(rt.alloc(), name.as_str())?;
+    fs::create_dir(rt, path.as_path())?;
+    Ok(path.into_string())
+}
+
+fn file_in(rt: &HostRuntime, dir: &str, name: &str) -> Result<String, Fail> {
+    Ok(format!(in rt.alloc(); "{dir}/{name}")?)
+}
+
+fn keeper_of(rt: HostRuntime, dir: &str) -> Result<DirKeeper<HostRuntime>, Fail> {
+    Ok(DirKeeper::new(rt, String::from_str(rt.alloc(), dir)?))
+}
+
+// Keeps the Lynx collection of a file, and answers what the keeper did.
+fn keep(
+    rt: HostRuntime,
+    keeper: &mut DirKeeper<HostRuntime>,
+    text: &[u8],
+) -> Result<Result<(), KeepFault>, Fail> {
+    let file = read_file(rt.alloc(), text)?;
+    let collection = Collection::load(rt.alloc(), &file)?;
+    Ok(keeper.keep(Ruleset::Lynx, &collection))
+}
+
+fn loads(
+    rt: HostRuntime,
+    keeper: &mut DirKeeper<HostRuntime>,
+    kind: Ruleset,
+    text: &[u8],
+) -> Result<bool, Fail> {
+    match keeper.load(rt.alloc(), kind)? {
+        Some(loaded) => Ok(loaded.as_slice() == text),
+        None => Ok(false),
+    }
+}
+
+fn loads_none(
+    rt: HostRuntime,
+    keeper: &mut DirKeeper<HostRuntime>,
+    kind: Ruleset,
+) -> Result<bool, Fail> {
+    Ok(keeper.load(rt.alloc(), kind)?.is_none())
+}
+
+// A keeper over a new folder loads nothing. It keeps the first file and loads it, and keeps the second.
+fn keeps_both(rt: HostRuntime, dir: &str) -> Result<bool, Fail> {
+    let mut keeper = keeper_of(rt, dir)?;
+    let empty = loads_none(rt, &mut keeper, Ruleset::Lynx)?;
+    let first = keep(rt, &mut keeper, F1)?;
+    let loaded = loads(rt, &mut keeper, Ruleset::Lynx, F1)?;
+    let second = keep(rt, &mut keeper, F2)?;
+    Ok(empty && first.is_ok() && loaded && second.is_ok() && keeper.failures() == 0)
+}
+
+// Another keeper over that folder loads the second file, and nothing of the other ruleset.
+fn loads_the_second(rt: HostRuntime, dir: &str) -> Result<bool, Fail> {
+    let mut keeper = keeper_of(rt, dir)?;
+    let second = loads(rt, &mut keeper, Ruleset::Lynx, F2)?;
+    let none = loads_none(rt, &mut keeper, Ruleset::Ms)?;
+    Ok(second && none && keeper.failures() == 0)
+}
+
+// In the folder is the second file, and none that was not renamed.
+fn has_the_second(rt: HostRuntime, dir: &str) -> Result<bool, Fail> {
+    let kept = file_in(&rt, dir, "lynx.tws")?;
+    let new = file_in(&rt, dir, "lynx.new")?;
+    let text = fs::read(&rt, kept.as_str())?;
+    Ok(text.as_slice() == F2.as_slice() && fs::metadata(&rt, new.as_str()).is_err())
+}
+
+#[test]
+fn a_folder_keeps_the_last_collection(rt: HostRuntime) -> Result<(), Fail> {
+    let dir = folder(&rt, "keeps")?;
+    let kept = keeps_both(rt, &dir)?;
+    let loaded = loads_the_second(rt, &dir)?;
+    assert_eq!(rt;
+        (kept, loaded, has_the_second(rt, &dir)?),
+        (true, true, true)
+    );
+    fs::remove_dir_all(&rt, dir.as_str())?;
+    Ok(())
+}
+
+// A keeper loads nothing from this folder. It keeps an empty collection, and loads that.
+fn keeps_an_empty_one(rt: HostRuntime, dir: &str) -> Result<bool, Fail> {
+    let mut keeper = keeper_of(rt, dir)?;
+    let none = loads_none(rt, &mut keeper, Ruleset::Ms)?;
+    keeper.keep(Ruleset::Ms, &Collection::new(rt.alloc(), Ruleset::Ms))?;
+    Ok(none && loads(rt, &mut keeper, Ruleset::Ms, b"\x35\x33\x9B\x99\x02\0\0\0")?)
+}
+
+#[test]
+fn a_new_file_that_is_left_is_harmless(rt: HostRuntime) -> Result<(), Fail> {
+    let dir = folder(&rt, "stale")?;
+    let stale = file_in(&rt, &dir, "ms.new")?;
+    fs::write(&rt, stale.as_str(), [7u8; 100].as_slice())?;
+    assert!(rt; keeps_an_empty_one(rt, &dir)?);
+    assert!(rt; fs::metadata(&rt, stale.as_str()).is_err());
+    fs::remove_dir_all(&rt, dir.as_str())?;
+    Ok(())
+}
+
+// There is no folder: a keep fails, and a load finds nothing.
+fn fails_to_keep(rt: HostRuntime, keeper: &mut DirKeeper<HostRuntime>) -> Result<bool, Fail> {
+    let kept = keep(rt, keeper, F1)?;
+    let counted = keeper.failures() == 1;
+    let none = loads_none(rt, keeper, Ruleset::Lynx)?;
+    Ok(kept == Err(KeepFault::Device) && counted && none)
+}
+
+// The collection's file is a folder: a load fails, and a keep.
+fn fails_at_both(rt: HostRuntime, keeper: &mut DirKeeper<HostRuntime>) -> Result<bool, Fail> {
+    let loaded = matches!(
+        keeper.load(rt.alloc(), Ruleset::Lynx),
+        Err(KeepFault::Device)
+    );
+    let kept = keep(rt, keeper, F1)?;
+    Ok(loaded && kept == Err(KeepFault::Device) && keeper.failures() == 3)
+}
+
+// A folder with a folder in the place of the collection's file.
+fn obstruct(rt: &HostRuntime, dir: &str) -> Result<(), Fail> {
+    fs::create_dir(rt, dir)?;
+    fs::create_dir(rt, file_in(rt, dir, "lynx.tws")?.as_str())?;
+    Ok(())
+}
+
+#[test]
+fn a_folder_that_fails(rt: HostRuntime) -> Result<(), Fail> {
+    let dir = folder(&rt, "fails")?;
+    fs::remove_dir_all(&rt, dir.as_str())?;
+    let mut keeper = keeper_of(rt, &dir)?;
+    assert!(rt; fails_to_keep(rt, &mut keeper)?);
+    obstruct(&rt, &dir)?;
+    assert!(rt; fails_at_both(rt, &mut keeper)?);
+    fs::remove_dir_all(&rt, dir.as_str())?;
+    Ok(())
+}
+
+// A server's wire, to which a put of the file has come in two datagrams.
+fn put_wire(rt: HostRuntime) -> Result<MemoryWire, Fail> {
+    let mut wire = MemoryWire::new(rt.alloc(), vec![in rt.alloc(); 4000u16]?);
+    wire.arrive(rt.alloc(), 6969, at(5000), b"\0\x02upload.tws\0octet\0")?;
+    wire.arrive(rt.alloc(), 4000, at(5000), DATA_F1)?;
+    Ok(wire)
+}
+
+// How many files a server with this folder takes in two turns.
+fn taken(rt: HostRuntime, dir: &str) -> Result<u64, Fail> {
+    let mut wire = put_wire(rt)?;
+    let mut keeper = keeper_of(rt, dir)?;
+    let mut server = Server::new(rt.alloc(), 6969);
+    Ok(serve_turns(&mut wire, &mut keeper, &mut server, 2))
+}
+
+// The Lynx collection of a server that loads this folder.
+fn loaded(rt: HostRuntime, dir: &str) -> Result<Vec<u8>, Fail> {
+    let server = Server::load(rt.alloc(), 6969, &mut keeper_of(rt, dir)?)?;
+    let mut text = Vec::new(rt.alloc());
+    server
+        .table()
+        .collection(Ruleset::Lynx)
+        .write_text(&mut text)?;
+    Ok(text)
+}
+
+#[test]
+fn a_restart_finds_what_was_taken(rt: HostRuntime) -> Result<(), Fail> {
+    let dir = folder(&rt, "restart")?;
+    assert_eq!(rt; taken(rt, &dir)?, 1);
+    assert_eq!(rt; loaded(rt, &dir)?.as_slice(), F1.as_slice());
+    fs::remove_dir_all(&rt, dir.as_str())?;
+    Ok(())
+}

@@ -1,0 +1,9 @@
+//! Tests alone: the wire over loopback and the keeper over a folder.
+#![tactic(auto)]
+
+#[cfg(test)]
+mod folders;
+#[cfg(test)]
+mod samples;
+#[cfg(test)]
+mod wires;

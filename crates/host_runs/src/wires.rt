@@ -1,0 +1,368 @@
+// The wire over sockets of the system.
+ghost use Rattle.std.specs.Prelude.{None};
+
+use crate::samples::*;
+use archive_host::UdpWire;
+use archive_table::NoKeeper;
+use archive_turns::{RECEIVE_SIZE, ReadyWire, Server, Wire, WireFault, run_get, run_put};
+use std::net::{Ipv4Addr, SocketAddr, UdpSocket};
+use std::test::Fail;
+use std::time::Instant;
+use tftp_packet::{Endpoint, Out, encode_ack};
+use tws_file::Ruleset;
+
+// What a read of a port answers: the bytes of a datagram, and where it came from.
+type Came = Option<(usize, Endpoint)>;
+
+// A wire that listens, and its port.
+fn listening(rt: HostRuntime) -> Result<(UdpWire<HostRuntime>, u16), Fail> {
+    for port in 47000..48000u16 {
+        if let Ok(wire) = UdpWire::listen(rt, port) {
+            return Ok((wire, port));
+        }
+    }
+    Err(Fail::new("no port is free"))
+}
+
+fn ack(from_port: u16, to: u16, block: u16) -> Out {
+    Out {
+        from_port,
+        to: at(to),
+        dgram: encode_ack(block),
+    }
+}
+
+// A client's wire with a server at its other end: before each receive the server makes a turn.
+#[derive(Drop)]
+struct Ends {
+    client: UdpWire<HostRuntime>,
+    wire: UdpWire<HostRuntime>,
+    server: Server,
+    taken: bool,
+}
+
+impl Wire for Ends {
+    ghost log = { λ _. None };
+
+    ghost failed = { λ w. w.client.failures };
+
+    fn open(&mut self) -> Result<u16, WireFault> {
+        self.client.open()
+    }
+
+    fn close(&mut self, port: u16) -> Result<(), WireFault> {
+        self.client.close(port)
+    }
+
+    fn receive(
+        &mut self,
+        port: u16,
+        buffer: &mut [u8; RECEIVE_SIZE],
+    ) -> Result<Option<(usize, Endpoint)>, WireFault> {
+        if self.server.turn(&mut self.wire, &mut NoKeeper) {
+            self.taken = true;
+        }
+        self.client.receive(port, buffer)
+    }
+
+    fn send(&mut self, out: &Out) -> Result<(), WireFault> {
+        self.client.send(out)
+    }
+
+    fn failures(&self) -> u64 {
+        self.client.failures()
+    }
+}
+
+// A client's wire with a server at a free port, and the server's address.
+fn connected(rt: HostRuntime) -> Result<(Ends, Endpoint), Fail> {
+    let (wire, port) = listening(rt)?;
+    let ends = Ends {
+        client: UdpWire::new(rt),
+        wire,
+        server: Server::new(rt.alloc(), port),
+        taken: false,
+    };
+    Ok((ends, at(port)))
+}
+
+// Whether the server takes a put of the file.
+fn puts_the_file(rt: HostRuntime, ends: &mut Ends, server: Endpoint) -> Result<bool, Fail> {
+    let file = Vec::from_slice(rt.alloc(), F1)?;
+    let sent = run_put(ends, server, file, 100);
+    Ok(sent == Ok(28) && ends.taken)
+}
+
+// Whether a get brings the file.
+fn gets_the_file(rt: HostRuntime, ends: &mut Ends, server: Endpoint) -> bool {
+    let mut got = Vec::new(rt.alloc());
+    let answer = run_get(rt.alloc(), ends, server, Ruleset::Lynx, 100, &mut got);
+    answer == Ok(28) && got.as_slice() == F1.as_slice()
+}
+
+// Whether a put and a get go well, and how many calls of either wire failed.
+fn put_and_get(rt: HostRuntime) -> Result<(bool, bool, u64, u64), Fail> {
+    let (mut ends, server) = connected(rt)?;
+    let put = puts_the_file(rt, &mut ends, server)?;
+    let got = gets_the_file(rt, &mut ends, server);
+    Ok((put, got, ends.failures(), ends.wire.failures()))
+}
+
+#[test]
+fn loopback_put_get(rt: HostRuntime) -> Result<(), Fail> {
+    assert_eq!(rt; put_and_get(rt)?, (true, true, 0, 0));
+    Ok(())
+}
+
+// A port that was open.
+fn past_port(wire: &mut UdpWire<HostRuntime>) -> Result<u16, WireFault> {
+    let port = wire.open()?;
+    wire.close(port)?;
+    Ok(port)
+}
+
+// Whether each of twenty ports is above the one before it, or near the least that a wire opens.
+fn come_in_turn(wire: &mut UdpWire<HostRuntime>) -> Result<bool, WireFault> {
+    let mut last = past_port(wire)?;
+    for _ in 0..20 {
+        let port = past_port(wire)?;
+        if port <= last && port >= 50000 {
+            return Ok(false);
+        }
+        last = port;
+    }
+    Ok(true)
+}
+
+#[test]
+fn ports_come_in_turn(rt: HostRuntime) -> Result<(), Fail> {
+    let mut wire = UdpWire::new(rt);
+    let in_turn = come_in_turn(&mut wire)?;
+    assert_eq!(rt; (in_turn, wire.failures()), (true, 0));
+    Ok(())
+}
+
+#[test]
+fn a_taken_port_is_not_opened(rt: HostRuntime) -> Result<(), Fail> {
+    let (_other, taken) = listening(rt)?;
+    assert!(rt; matches!(UdpWire::listen(rt, taken), Err(WireFault::Open)));
+    Ok(())
+}
+
+#[test]
+fn calls_that_fail_are_counted(rt: HostRuntime) -> Result<(), Fail> {
+    let (_other, taken) = listening(rt)?;
+    let mut wire = UdpWire::new(rt);
+    let closed = wire.close(5);
+    let sent = wire.send(&ack(5, taken, 1));
+    let received = wire.receive(5, &mut [0; RECEIVE_SIZE]);
+    assert_eq!(rt;
+        (closed, sent),
+        (Err(WireFault::Close), Err(WireFault::Send))
+    );
+    assert_eq!(rt; (received, wire.failures()), (Err(WireFault::Receive), 3));
+    let port = past_port(&mut wire)?;
+    let sent = wire.send(&ack(port, taken, 1));
+    assert_eq!(rt; (sent, wire.failures()), (Err(WireFault::Send), 4));
+    Ok(())
+}
+
+// Whether nothing comes to a port in twenty reads.
+fn is_quiet(wire: &mut UdpWire<HostRuntime>, port: u16) -> bool {
+    let mut buffer = [0; RECEIVE_SIZE];
+    for _ in 0..20 {
+        if wire.receive(port, &mut buffer) != Ok(None) {
+            return false;
+        }
+    }
+    true
+}
+
+#[test]
+fn a_quiet_port_is_waited_at(rt: HostRuntime) -> Result<(), Fail> {
+    let (mut wire, port) = listening(rt)?;
+    let start = Instant::now(&rt)?;
+    let quiet = is_quiet(&mut wire, port);
+    let millis = start.elapsed(&rt)?.as_millis();
+    assert_eq!(rt; (quiet, millis >= 80, millis < 2000), (true, true, true));
+    Ok(())
+}
+
+// Sends to a port a datagram that is too long for a packet, an empty one, and one of the greatest length, and answers where
+// they come from.
+fn send_three(rt: HostRuntime, port: u16) -> Result<Endpoint, Fail> {
+    let peer = UdpSocket::bind(&rt, SocketAddr::from((Ipv4Addr::LOCALHOST, 0)))?;
+    let target = SocketAddr::from((Ipv4Addr::LOCALHOST, port));
+    peer.send_to(&[7; 600], target)?;
+    peer.send_to(&[], target)?;
+    peer.send_to(&[8; 516], target)?;
+    Ok(at(peer.local_addr()?.port()))
+}
+
+// Whether three reads of a port give these datagrams.
+fn reads_three(
+    wire: &mut UdpWire<HostRuntime>,
+    port: u16,
+    from: Endpoint,
+) -> Result<bool, WireFault> {
+    let mut buffer = [0; RECEIVE_SIZE];
+    let long = wire.receive(port, &mut buffer)? == Some((517, from)) && buffer[516] == 7;
+    let empty = wire.receive(port, &mut buffer)? == Some((0, from));
+    let greatest = wire.receive(port, &mut buffer)? == Some((516, from)) && buffer[515] == 8;
+    Ok(long && empty && greatest)
+}
+
+#[test]
+fn long_and_empty_datagrams(rt: HostRuntime) -> Result<(), Fail> {
+    let (mut wire, port) = listening(rt)?;
+    let from = send_three(rt, port)?;
+    assert!(rt; reads_three(&mut wire, port, from)?);
+    Ok(())
+}
+
+// A wire with two ports, and a peer that sends to them.
+#[derive(Drop)]
+struct Pair {
+    wire: UdpWire<HostRuntime>,
+    low: u16,
+    high: u16,
+    peer: UdpWire<HostRuntime>,
+    from: u16,
+}
+
+impl Pair {
+    fn open(rt: HostRuntime) -> Result<Self, Fail> {
+        let (mut wire, low) = listening(rt)?;
+        let high = wire.open()?;
+        let mut peer = UdpWire::new(rt);
+        let from = peer.open()?;
+        Ok(Pair {
+            wire,
+            low,
+            high,
+            peer,
+            from,
+        })
+    }
+
+    fn send(&mut self, to: u16, block: u16) -> Result<(), WireFault> {
+        self.peer.send(&ack(self.from, to, block))
+    }
+
+    // Waits for the next port after this one, however long, and reads it.
+    fn visit(&mut self, after: u16) -> Result<(u16, Came), Fail> {
+        let Some(port) = self.wire.wait(after, None).port else {
+            return Err(Fail::new("no port is ready"));
+        };
+        Ok((port, self.wire.receive(port, &mut [0; RECEIVE_SIZE])?))
+    }
+}
+
+// Three datagrams go to each port.
+fn send_to_both(pair: &mut Pair) -> Result<(), WireFault> {
+    for block in 0..3 {
+        pair.send(pair.low, block)?;
+        pair.send(pair.high, block)?;
+    }
+    Ok(())
+}
+
+// Whether the next visits are to these ports, and find an ACK at each.
+fn visits(pair: &mut Pair, ports: [u16; 6]) -> Result<bool, Fail> {
+    let mut last = 0;
+    for port in ports {
+        if pair.visit(last)? != (port, Some((4, at(pair.from)))) {
+            return Ok(false);
+        }
+        last = port;
+    }
+    Ok(true)
+}
+
+#[test]
+fn ready_ports_in_turn(rt: HostRuntime) -> Result<(), Fail> {
+    let mut pair = Pair::open(rt)?;
+    let (low, high) = (pair.low, pair.high);
+    send_to_both(&mut pair)?;
+    assert!(rt; visits(&mut pair, [low, high, low, high, low, high])?);
+    Ok(())
+}
+
+#[test]
+fn a_wait_ends_at_its_moment(rt: HostRuntime) -> Result<(), Fail> {
+    let (mut wire, port) = listening(rt)?;
+    let first = wire.wait(0, Some(0));
+    assert_eq!(rt; first.port, None);
+    let until = first.time.saturating_add(30);
+    let second = wire.wait(port, Some(until));
+    assert_eq!(rt; second.port, None);
+    assert!(rt; second.time >= until);
+    Ok(())
+}
+
+// The ports that three waits give. Three datagrams have come to the upper port, and one comes to the lower once the upper
+// one was read.
+fn three_waits(pair: &mut Pair) -> Result<(u16, u16, Option<u16>), Fail> {
+    let (low, high) = (pair.low, pair.high);
+    for block in [1, 2, 3] {
+        pair.send(high, block)?;
+    }
+    let (first, _) = pair.visit(0)?;
+    pair.send(low, 4)?;
+    let (second, _) = pair.visit(high)?;
+    Ok((first, second, pair.wire.wait(low, None).port))
+}
+
+#[test]
+fn a_busy_port_starves_no_other(rt: HostRuntime) -> Result<(), Fail> {
+    let mut pair = Pair::open(rt)?;
+    let (low, high) = (pair.low, pair.high);
+    assert_eq!(rt; three_waits(&mut pair)?, (high, low, Some(high)));
+    Ok(())
+}
+
+// Closes the upper port. Answers what the next wait gives, what a read of the lower port does, and what the wait after it
+// gives.
+fn after_close(pair: &mut Pair) -> Result<(Option<u16>, Came, Option<u16>), WireFault> {
+    pair.wire.close(pair.high)?;
+    let ready = pair.wire.wait(pair.high, Some(0)).port;
+    let got = pair.wire.receive(pair.low, &mut [0; RECEIVE_SIZE])?;
+    let last = pair.wire.wait(pair.low, Some(0)).port;
+    Ok((ready, got, last))
+}
+
+// The upper port is closed while it is ready. The lower one is read again, and then none is ready.
+#[test]
+fn a_closed_port_is_not_given(rt: HostRuntime) -> Result<(), Fail> {
+    let mut pair = Pair::open(rt)?;
+    let low = pair.low;
+    three_waits(&mut pair)?;
+    assert_eq!(rt; after_close(&mut pair)?, (Some(low), None, None));
+    Ok(())
+}
+
+// How often the upper port is read in ten visits. Two datagrams have come to it, and before each visit another comes to the
+// lower port.
+fn visits_above(pair: &mut Pair) -> Result<u32, Fail> {
+    pair.send(pair.high, 1)?;
+    pair.send(pair.high, 2)?;
+    let mut last = 0;
+    let mut visits = 0_u32;
+    for block in 0..10 {
+        pair.send(pair.low, block)?;
+        let (port, got) = pair.visit(last)?;
+        if port == pair.high && got.is_some() {
+            visits = visits.wrapping_add(1);
+        }
+        last = port;
+    }
+    Ok(visits)
+}
+
+// The upper port is read twice within five laps.
+#[test]
+fn a_second_datagram_is_not_kept_back(rt: HostRuntime) -> Result<(), Fail> {
+    let mut pair = Pair::open(rt)?;
+    assert_eq!(rt; visits_above(&mut pair)?, 2);
+    Ok(())
+}

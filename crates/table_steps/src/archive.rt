@@ -1,0 +1,207 @@
+// A table whose requests come to port 6969, and what a call of it is wanted to tell.
+use archive_table::{Keeper, LoadFault, Step, Table};
+use std::alloc::Global;
+use std::marker::Model;
+use std::test::Fail;
+use tftp_packet::{Endpoint, Out};
+use tws_file::Ruleset;
+
+pub(crate) const REQUEST: u16 = 6969;
+
+#[derive(Drop)]
+pub(crate) struct Archive {
+    table: Table,
+}
+
+impl Model for Archive {
+    ghost use Rattle.std.specs.Prelude.{◌≡◌};
+    ghost use Rattle.archive_table.specs.Server.{Server};
+
+    ghost Value = { Server };
+
+    ghost view = { λ a. a.table };
+
+    ghost invariant = { λ a. a.table.request ≡ 6969 };
+}
+
+impl Archive {
+    pub(crate) fn new(alloc: Global) -> Self {
+        Archive {
+            table: Table::new(alloc, REQUEST),
+        }
+    }
+
+    // With what the keeper has.
+    pub(crate) fn load<K: Keeper>(alloc: Global, keeper: &mut K) -> Result<Self, LoadFault> {
+        match Table::load(alloc, REQUEST, keeper) {
+            Ok(table) => Ok(Archive { table }),
+            Err(fault) => Err(fault),
+        }
+    }
+
+    // A datagram comes to the request port. The spare port is to be free.
+    #[tactic(auto, using(archive_table::proofs::SamePort::request_same))]
+    pub(crate) fn ask(&mut self, spare: u16, from: Endpoint, bytes: &[u8]) -> Result<Step, Fail> {
+        if spare == REQUEST || self.table.is_live(spare) {
+            return Err(Fail::new("a spare port that is not free"));
+        }
+        Ok(self.table.on_request(spare, from, bytes))
+    }
+
+    // A datagram comes to a transfer's port.
+    #[tactic(auto, using(archive_table::proofs::SamePort::datagram_same))]
+    pub(crate) fn hear<K: Keeper>(
+        &mut self,
+        keeper: &mut K,
+        port: u16,
+        from: Endpoint,
+        bytes: &[u8],
+    ) -> Step {
+        self.table.on_datagram(keeper, port, from, bytes)
+    }
+
+    // Nothing comes to a port for a while.
+    #[tactic(auto, using(archive_table::proofs::SamePort::timeout_same))]
+    pub(crate) fn wait(&mut self, port: u16) -> Step {
+        self.table.on_timeout(port)
+    }
+
+    pub(crate) fn table(&self) -> &Table {
+        &self.table
+    }
+
+    // The text of a collection.
+    pub(crate) fn text(&self, alloc: Global, kind: Ruleset) -> Result<Vec<u8>, Fail> {
+        let mut text = Vec::new(alloc);
+        self.table.collection(kind).write_text(&mut text)?;
+        Ok(text)
+    }
+}
+
+// What a call tells: what it sends, from which port and to whom; whether it opens; what it takes, and from whom; whether it closes.
+#[derive(Clone, Copy)]
+pub(crate) struct Wanted<'a> {
+    pub(crate) out: Option<(u16, Endpoint, &'a [u8])>,
+    pub(crate) opened: bool,
+    pub(crate) taken: Option<(Endpoint, &'a [u8])>,
+    pub(crate) closed: bool,
+}
+
+// The same of a step by hand, by what it does: it sends these bytes from this port to the client with this host, opens a
+// transfer by it, takes the file that is named last, or closes its transfer.
+#[derive(Clone, Copy)]
+pub(crate) enum Told<'a> {
+    Nothing,
+    Sends(u16, u32, &'a [u8]),
+    Opens(u16, u32, &'a [u8]),
+    Takes(u16, u32, &'a [u8], &'a [u8]),
+    Closes(u16, u32, &'a [u8]),
+    Ends,
+}
+
+fn wanted_of(told: Told<'_>) -> Wanted<'_> {
+    let (out, opened, taken, closed) = match told {
+        Told::Nothing => (None, false, None, false),
+        Told::Sends(port, host, bytes) => (Some((port, client(host), bytes)), false, None, false),
+        Told::Opens(port, host, bytes) => (Some((port, client(host), bytes)), true, None, false),
+        Told::Takes(port, host, bytes, file) => {
+            let to = client(host);
+            (Some((port, to, bytes)), false, Some((to, file)), false)
+        }
+        Told::Closes(port, host, bytes) => (Some((port, client(host), bytes)), false, None, true),
+        Told::Ends => (None, false, None, true),
+    };
+    Wanted {
+        out,
+        opened,
+        taken,
+        closed,
+    }
+}
+
+fn is_out(out: &Option<Out>, wanted: Option<(u16, Endpoint, &[u8])>) -> bool {
+    match (out, wanted) {
+        (None, None) => true,
+        (Some(out), Some((port, to, bytes))) => {
+            out.from_port == port && out.to == to && out.dgram.bytes() == bytes
+        }
+        _ => false,
+    }
+}
+
+// Whether a call tells just this.
+pub(crate) fn is_step(alloc: Global, step: &Step, wanted: Wanted<'_>) -> Result<bool, Fail> {
+    let is_taken = match (&step.taken, wanted.taken) {
+        (None, None) => true,
+        (Some(taken), Some((peer, file))) => {
+            taken.peer == peer && taken.file.to_vec(alloc)?.as_slice() == file
+        }
+        _ => false,
+    };
+    Ok(
+        is_taken
+            && is_out(&step.out, wanted.out)
+            && step.opened == wanted.opened
+            && step.closed == wanted.closed,
+    )
+}
+
+pub(crate) fn has_told(alloc: Global, step: &Step, told: Told<'_>) -> Result<bool, Fail> {
+    is_step(alloc, step, wanted_of(told))
+}
+
+// The endpoints of the clients: host 2 is the first.
+pub(crate) fn client(host: u32) -> Endpoint {
+    Endpoint { host, port: 5000 }
+}
+
+// What comes: to the request port with this spare port, to a transfer's port, or nothing for a while. The number is the
+// client's host.
+#[derive(Clone, Copy)]
+pub(crate) enum Input<'a> {
+    Ask(u16, u32, &'a [u8]),
+    Hear(u16, u32, &'a [u8]),
+    Wait(u16),
+}
+
+fn step<K: Keeper>(archive: &mut Archive, keeper: &mut K, input: Input<'_>) -> Result<Step, Fail> {
+    match input {
+        Input::Ask(spare, host, bytes) => archive.ask(spare, client(host), bytes),
+        Input::Hear(port, host, bytes) => Ok(archive.hear(keeper, port, client(host), bytes)),
+        Input::Wait(port) => Ok(archive.wait(port)),
+    }
+}
+
+// The first of these inputs that tells something else than wanted, if there is one.
+pub(crate) fn first_other<K: Keeper>(
+    alloc: Global,
+    archive: &mut Archive,
+    keeper: &mut K,
+    rows: &[(Input<'_>, Told<'_>)],
+) -> Result<Option<usize>, Fail> {
+    for (i, (input, told)) in rows.iter().enumerate() {
+        let step = step(archive, keeper, *input)?;
+        if !has_told(alloc, &step, *told)? {
+            return Ok(Some(i));
+        }
+    }
+    Ok(None)
+}
+
+// The collections' texts are these.
+pub(crate) fn has_texts(
+    alloc: Global,
+    archive: &Archive,
+    lynx: &[u8],
+    ms: &[u8],
+) -> Result<bool, Fail> {
+    Ok(
+        archive.text(alloc, Ruleset::Lynx)?.as_slice() == lynx
+            && archive.text(alloc, Ruleset::Ms)?.as_slice() == ms,
+    )
+}
+
+// How many transfers there are, and the least port of one.
+pub(crate) fn is_live(archive: &Archive, count: usize, least: Option<u16>) -> bool {
+    archive.table().live() == count && archive.table().next_port(0) == least
+}

@@ -1,0 +1,331 @@
+// What comes to a transfer's port.
+use crate::archive::{Archive, Input, Told, client, first_other, has_texts, has_told, is_live};
+use archive_table::{NoKeeper, Step};
+use std::alloc::Global;
+use std::test::Fail;
+use tws_file::Ruleset;
+
+const WRQ: &[u8; 19] = b"\0\x02upload.tws\0octet\0";
+
+const RRQ: &[u8; 17] = b"\0\x01lynx.tws\0octet\0";
+
+// A Lynx file: level 1, BDHP, 100 ticks, no moves; and the same in 90 ticks.
+const HUNDRED: &[u8; 28] = b"\x35\x33\x9B\x99\x01\0\0\0\x10\0\0\0\x01\0BDHP\0\0\0\0\0\0\x64\0\0\0";
+
+const NINETY: &[u8; 28] = b"\x35\x33\x9B\x99\x01\0\0\0\x10\0\0\0\x01\0BDHP\0\0\0\0\0\0\x5A\0\0\0";
+
+const EMPTY_LYNX: &[u8; 8] = b"\x35\x33\x9B\x99\x01\0\0\0";
+
+const EMPTY_MS: &[u8; 8] = b"\x35\x33\x9B\x99\x02\0\0\0";
+
+// DATA 1 with each of them.
+const FIRST: &[u8; 32] =
+    b"\0\x03\0\x01\x35\x33\x9B\x99\x01\0\0\0\x10\0\0\0\x01\0BDHP\0\0\0\0\0\0\x64\0\0\0";
+
+const BETTER: &[u8; 32] =
+    b"\0\x03\0\x01\x35\x33\x9B\x99\x01\0\0\0\x10\0\0\0\x01\0BDHP\0\0\0\0\0\0\x5A\0\0\0";
+
+const ACK_0: &[u8; 4] = b"\0\x04\0\0";
+
+const ACK_1: &[u8; 4] = b"\0\x04\0\x01";
+
+const STRAY: &[u8; 21] = b"\0\x05\0\x05unknown transfer\0";
+
+const TOO_LONG: &[u8; 24] = b"\0\x05\0\0collection too long\0";
+
+const FILE_TOO_LONG: &[u8; 18] = b"\0\x05\0\x03file too long\0";
+
+// How DATA 1 of a Lynx file begins whose solution has password AAAA. The record's size and its level are not yet in it.
+const LONG_HEADER: &[u8; 32] =
+    b"\0\x03\0\x01\x35\x33\x9B\x99\x01\0\0\0\0\0\0\0\0\0AAAA\0\0\0\0\0\0\0\0\0\0";
+
+// Whether of two transfers that one request opened the client ends the one that it is not bound to, and by the other its
+// file is taken once, though its last block comes twice.
+fn takes_once(alloc: Global, archive: &mut Archive) -> Result<bool, Fail> {
+    let rows = [
+        (Input::Ask(4000, 2, WRQ), Told::Opens(4000, 2, ACK_0)),
+        (Input::Ask(4001, 2, WRQ), Told::Opens(4001, 2, ACK_0)),
+        (Input::Hear(4001, 2, STRAY), Told::Ends),
+        (
+            Input::Hear(4000, 2, FIRST),
+            Told::Takes(4000, 2, ACK_1, HUNDRED),
+        ),
+        (Input::Hear(4000, 2, FIRST), Told::Sends(4000, 2, ACK_1)),
+        (Input::Wait(4000), Told::Nothing),
+    ];
+    Ok(first_other(alloc, archive, &mut NoKeeper, &rows)?.is_none())
+}
+
+#[test]
+fn a_request_that_came_twice(rt: HostRuntime) -> Result<(), Fail> {
+    let mut archive = Archive::new(rt.alloc());
+    assert!(rt; takes_once(rt.alloc(), &mut archive)?);
+    assert!(rt; has_texts(rt.alloc(), &archive, HUNDRED, EMPTY_MS)?);
+    assert!(rt; is_live(&archive, 1, Some(4000)));
+    assert!(rt; has_told(rt.alloc(), &archive.wait(4000), Told::Ends)?);
+    assert!(rt; is_live(&archive, 0, None));
+    Ok(())
+}
+
+// A datagram of another source changes nothing: the transfer goes on as if it had not come.
+#[test]
+fn another_source(rt: HostRuntime) -> Result<(), Fail> {
+    let mut archive = Archive::new(rt.alloc());
+    let empty = b"\0\x03\0\x01\x35\x33\x9B\x99\x01\0\0\0";
+    let rows = [
+        (Input::Ask(4000, 2, RRQ), Told::Opens(4000, 2, empty)),
+        (Input::Hear(4000, 3, ACK_1), Told::Sends(4000, 3, STRAY)),
+        (Input::Hear(4000, 3, b"\0\x05\0\0\0"), Told::Nothing),
+        (Input::Hear(4000, 3, b"\0\x04\0"), Told::Nothing),
+        (Input::Wait(4000), Told::Sends(4000, 2, empty)),
+        (Input::Hear(4000, 2, ACK_1), Told::Ends),
+    ];
+    assert_eq!(rt;
+        first_other(rt.alloc(), &mut archive, &mut NoKeeper, &rows)?,
+        None
+    );
+    Ok(())
+}
+
+#[test]
+fn malformed_datagrams_of_the_peer(rt: HostRuntime) -> Result<(), Fail> {
+    let mut archive = Archive::new(rt.alloc());
+    let rows = [
+        (Input::Ask(4000, 2, WRQ), Told::Opens(4000, 2, ACK_0)),
+        (Input::Hear(4000, 2, &[0; 517]), Told::Nothing),
+        (Input::Hear(4000, 2, b"\0\x05\0\0\x61"), Told::Nothing),
+        (Input::Hear(4000, 2, b"\0\x04\0\0\0"), Told::Nothing),
+        (Input::Hear(4000, 2, WRQ), Told::Nothing),
+        (Input::Wait(4000), Told::Sends(4000, 2, ACK_0)),
+        (Input::Hear(4000, 2, b"\0\x05\0\0\0"), Told::Ends),
+        (Input::Hear(4000, 2, FIRST), Told::Nothing),
+        (Input::Wait(4000), Told::Nothing),
+    ];
+    assert_eq!(rt;
+        first_other(rt.alloc(), &mut archive, &mut NoKeeper, &rows)?,
+        None
+    );
+    assert!(rt; has_texts(rt.alloc(), &archive, EMPTY_LYNX, EMPTY_MS)?);
+    Ok(())
+}
+
+// Opens a download at each port from 4101 to 4163, or lets each wait: whether each sends DATA 1 with the first file.
+fn each_sends(alloc: Global, archive: &mut Archive, opened: bool) -> Result<bool, Fail> {
+    for port in 4101..4164 {
+        let (input, wanted) = if opened {
+            (Input::Wait(port), Told::Sends(port, 2, FIRST))
+        } else {
+            (Input::Ask(port, 2, RRQ), Told::Opens(port, 2, FIRST))
+        };
+        if first_other(alloc, archive, &mut NoKeeper, &[(input, wanted)])?.is_some() {
+            return Ok(false);
+        }
+    }
+    Ok(true)
+}
+
+// Whether the first file is taken, and its transfer ends.
+fn takes_first(alloc: Global, archive: &mut Archive) -> Result<bool, Fail> {
+    let rows = [
+        (Input::Ask(4000, 2, WRQ), Told::Opens(4000, 2, ACK_0)),
+        (
+            Input::Hear(4000, 2, FIRST),
+            Told::Takes(4000, 2, ACK_1, HUNDRED),
+        ),
+        (Input::Wait(4000), Told::Nothing),
+        (Input::Wait(4000), Told::Ends),
+    ];
+    Ok(first_other(alloc, archive, &mut NoKeeper, &rows)?.is_none())
+}
+
+// Whether the better file is taken.
+fn takes_better(alloc: Global, archive: &mut Archive) -> Result<bool, Fail> {
+    let rows = [
+        (Input::Ask(4200, 3, WRQ), Told::Opens(4200, 3, ACK_0)),
+        (
+            Input::Hear(4200, 3, BETTER),
+            Told::Takes(4200, 3, ACK_1, NINETY),
+        ),
+    ];
+    let other = first_other(alloc, archive, &mut NoKeeper, &rows)?;
+    Ok(other.is_none() && has_texts(alloc, archive, NINETY, EMPTY_MS)?)
+}
+
+// What a download sends is the collection as it was when it began.
+#[test]
+fn downloads_beside_an_upload(rt: HostRuntime) -> Result<(), Fail> {
+    let mut archive = Archive::new(rt.alloc());
+    assert!(rt; takes_first(rt.alloc(), &mut archive)?);
+    assert!(rt; each_sends(rt.alloc(), &mut archive, false)?);
+    assert!(rt; takes_better(rt.alloc(), &mut archive)?);
+    assert!(rt; is_live(&archive, 64, Some(4101)));
+    assert!(rt; each_sends(rt.alloc(), &mut archive, true)?);
+    Ok(())
+}
+
+// Whether a whole block of sevens with this number is acknowledged.
+fn takes_sevens(alloc: Global, archive: &mut Archive, number: u16) -> Result<bool, Fail> {
+    let [high, low] = number.to_be_bytes();
+    let mut data = [7; 516];
+    data[..4].copy_from_slice(&[0, 3, high, low]);
+    let step = archive.hear(&mut NoKeeper, 4000, client(2), &data);
+    has_told(alloc, &step, Told::Sends(4000, 2, &[0, 4, high, low]))
+}
+
+// A transfer to which 65,534 whole blocks of sevens have come.
+fn nearly_full(alloc: Global) -> Result<Archive, Fail> {
+    let mut archive = Archive::new(alloc);
+    archive.ask(4000, client(2), WRQ)?;
+    for number in 1..65535_u16 {
+        if !takes_sevens(alloc, &mut archive, number)? {
+            return Err(Fail::new("another answer to a whole block"));
+        }
+    }
+    Ok(archive)
+}
+
+#[test]
+fn a_block_too_many(rt: HostRuntime) -> Result<(), Fail> {
+    let mut archive = nearly_full(rt.alloc())?;
+    let mut data = [7; 516];
+    data[..4].copy_from_slice(b"\0\x03\xFF\xFF");
+    let rows = [(
+        Input::Hear(4000, 2, &data),
+        Told::Closes(4000, 2, FILE_TOO_LONG),
+    )];
+    assert_eq!(rt;
+        first_other(rt.alloc(), &mut archive, &mut NoKeeper, &rows)?,
+        None
+    );
+    assert!(rt; is_live(&archive, 0, None));
+    Ok(())
+}
+
+// Whether the last block completes a file of sevens, and comes again. After it no number comes next: block 0 and block 1 are
+// not taken.
+fn takes_the_last(alloc: Global, archive: &mut Archive, file: &[u8]) -> Result<bool, Fail> {
+    let mut data = [7; 515];
+    data[..4].copy_from_slice(b"\0\x03\xFF\xFF");
+    let last = b"\0\x04\xFF\xFF";
+    let rows = [
+        (
+            Input::Hear(4000, 2, &data),
+            Told::Takes(4000, 2, last, file),
+        ),
+        (Input::Hear(4000, 2, &data), Told::Sends(4000, 2, last)),
+        (Input::Hear(4000, 2, b"\0\x03\0\0end"), Told::Nothing),
+        (Input::Hear(4000, 2, b"\0\x03\0\x01end"), Told::Nothing),
+    ];
+    Ok(first_other(alloc, archive, &mut NoKeeper, &rows)?.is_none())
+}
+
+#[test]
+fn the_greatest_file(rt: HostRuntime) -> Result<(), Fail> {
+    let mut archive = nearly_full(rt.alloc())?;
+    let file = vec![in rt.alloc(); 7; 33553919]?;
+    assert!(rt; takes_the_last(rt.alloc(), &mut archive, &file)?);
+    assert!(rt; has_texts(rt.alloc(), &archive, EMPTY_LYNX, EMPTY_MS)?);
+    Ok(())
+}
+
+// A file of so many bytes comes: one solution of this level, whose moves have one byte each.
+fn long_file(archive: &mut Archive, port: u16, level: u8, size: u32) -> Result<bool, Fail> {
+    let host = client(u32::from(level));
+    archive.ask(port, host, WRQ)?;
+    let mut data = [1; 516];
+    data[..32].copy_from_slice(LONG_HEADER);
+    data[12..16].copy_from_slice(&size.wrapping_sub(12).to_le_bytes());
+    data[16] = level;
+    let whole_blocks = (size / 512 % 65536) as u16;
+    for n in 0..whole_blocks {
+        data[2..4].copy_from_slice(&n.wrapping_add(1).to_be_bytes());
+        let step = archive.hear(&mut NoKeeper, port, host, &data);
+        if step.out.is_none() || step.closed {
+            return Ok(false);
+        }
+        data = [1; 516];
+        data[..2].copy_from_slice(b"\0\x03");
+    }
+    data[2..4].copy_from_slice(&whole_blocks.wrapping_add(1).to_be_bytes());
+    let rest = (size % 512) as usize;
+    let step = archive.hear(&mut NoKeeper, port, host, &data[..4 + rest]);
+    match step.taken {
+        Some(taken) => Ok(taken.file.len() == u64::from(size)),
+        None => Ok(false),
+    }
+}
+
+// An archive to which two files of so many bytes have come.
+fn with_two_files(alloc: Global, size: u32) -> Result<Archive, Fail> {
+    let mut archive = Archive::new(alloc);
+    if long_file(&mut archive, 4000, 1, size)? && long_file(&mut archive, 4002, 2, size)? {
+        Ok(archive)
+    } else {
+        Err(Fail::new("a long file is not taken"))
+    }
+}
+
+// Two files whose collection would be too long to be sent: 34,000,048 bytes.
+#[test]
+fn a_collection_too_long(rt: HostRuntime) -> Result<(), Fail> {
+    let mut archive = with_two_files(rt.alloc(), 17_000_028)?;
+    let empty = b"\0\x03\0\x01\x35\x33\x9B\x99\x02\0\0\0";
+    let rows = [
+        (Input::Ask(4003, 9, RRQ), Told::Sends(6969, 9, TOO_LONG)),
+        (
+            Input::Ask(4003, 9, b"\0\x01ms.tws\0octet\0"),
+            Told::Opens(4003, 9, empty),
+        ),
+    ];
+    assert_eq!(rt;
+        first_other(rt.alloc(), &mut archive, &mut NoKeeper, &rows)?,
+        None
+    );
+    assert!(rt; is_live(&archive, 3, Some(4000)));
+    Ok(())
+}
+
+// Whether a step sends this DATA and leaves its transfer open.
+fn is_block(step: &Step, number: [u8; 2], body: &[u8]) -> bool {
+    match &step.out {
+        Some(out) => {
+            let bytes = out.dgram.bytes();
+            !step.closed
+                && bytes.len() == body.len().wrapping_add(4)
+                && bytes.starts_with(&[0, 3, number[0], number[1]])
+                && bytes.ends_with(body)
+        }
+        None => false,
+    }
+}
+
+// Whether a transfer that began with this step sends this text block by block, each by the ACK of the one before it, and
+// ends with the last ACK.
+fn is_served(archive: &mut Archive, port: u16, first: Step, text: &[u8]) -> bool {
+    let mut step = first;
+    for (i, body) in text.chunks(512).enumerate() {
+        let number = ((i % 65536) as u16).wrapping_add(1).to_be_bytes();
+        if !is_block(&step, number, body) {
+            return false;
+        }
+        let ack = [0, 4, number[0], number[1]];
+        step = archive.hear(&mut NoKeeper, port, client(9), &ack);
+    }
+    step.closed && step.out.is_none()
+}
+
+// Whether the collection of Lynx has so many bytes, and a request to read it is served.
+fn serves(alloc: Global, archive: &mut Archive, size: usize) -> Result<bool, Fail> {
+    let text = archive.text(alloc, Ruleset::Lynx)?;
+    let first = archive.ask(4003, client(9), RRQ)?;
+    Ok(text.len() == size && first.opened && is_served(archive, 4003, first, &text))
+}
+
+// Two files whose collection is long, and is sent: 4,200,048 bytes, in 8,204 blocks.
+#[test]
+fn a_long_collection(rt: HostRuntime) -> Result<(), Fail> {
+    let mut archive = with_two_files(rt.alloc(), 2_100_028)?;
+    assert!(rt; serves(rt.alloc(), &mut archive, 4_200_048)?);
+    assert!(rt; is_live(&archive, 2, Some(4000)));
+    Ok(())
+}

@@ -1,0 +1,21 @@
+//! Tests alone: the steps of the server's table, by hand and drawn. RFC 1350 sections 2, 4 and 5.
+//!
+//! What is wanted of a step by hand is written out as bytes. Drawn steps are compared with a plain server over lists.
+#![tactic(auto)]
+
+#[cfg(test)]
+mod archive;
+#[cfg(test)]
+mod choosing;
+#[cfg(test)]
+mod datagrams;
+#[cfg(test)]
+mod keeping;
+#[cfg(test)]
+mod plain;
+#[cfg(test)]
+mod plain_file;
+#[cfg(test)]
+mod requests;
+#[cfg(test)]
+mod schedules;

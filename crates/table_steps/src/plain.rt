@@ -1,0 +1,412 @@
+// A server as plain lists, slow and simple, written from the tables of docs/FORMATS.md.
+use crate::plain_file::{Solution, block_of, improves, join, read, text};
+use std::alloc::Global;
+use std::mem;
+use std::test::Fail;
+use tftp_packet::Endpoint;
+use tws_file::Ruleset;
+
+const REQUEST: u16 = 6969;
+
+const MAX_FILE: usize = 33_553_919;
+
+#[derive(Drop)]
+pub(crate) enum Packet {
+    Malformed,
+    Read { name: Vec<u8>, mode: Vec<u8> },
+    Write { mode: Vec<u8> },
+    Data { n: usize, body: Vec<u8> },
+    Ack { n: usize },
+    Error,
+}
+
+#[derive(Drop)]
+pub(crate) enum End {
+    Sending {
+        text: Vec<u8>,
+        block: usize,
+        misses: usize,
+    },
+    Receiving {
+        file: Vec<u8>,
+        count: usize,
+        misses: usize,
+    },
+    // The file is taken.
+    Waiting {
+        count: usize,
+        misses: usize,
+    },
+}
+
+#[derive(Drop)]
+pub(crate) struct Transfer {
+    pub(crate) port: u16,
+    pub(crate) peer: Endpoint,
+    pub(crate) end: End,
+}
+
+// What a step tells.
+#[derive(Drop)]
+pub(crate) struct Said {
+    pub(crate) out: Option<(u16, Endpoint, Vec<u8>)>,
+    pub(crate) opened: bool,
+    pub(crate) taken: Option<(Endpoint, Vec<u8>)>,
+    pub(crate) closed: bool,
+}
+
+#[derive(Drop)]
+pub(crate) struct Plain {
+    alloc: Global,
+    lynx: Vec<Solution>,
+    ms: Vec<Solution>,
+    pub(crate) live: Vec<Transfer>,
+}
+
+fn silent() -> Said {
+    Said {
+        out: None,
+        opened: false,
+        taken: None,
+        closed: false,
+    }
+}
+
+fn says(port: u16, to: Endpoint, bytes: Vec<u8>) -> Said {
+    Said {
+        out: Some((port, to, bytes)),
+        opened: false,
+        taken: None,
+        closed: false,
+    }
+}
+
+fn byte_at(bytes: &[u8], i: usize) -> usize {
+    usize::from(bytes.get(i).copied().unwrap_or(0))
+}
+
+fn number_at(bytes: &[u8], i: usize) -> usize {
+    let high = bytes.get(i).copied().unwrap_or(0);
+    let low = bytes.get(i.wrapping_add(1)).copied().unwrap_or(0);
+    usize::from(u16::from_be_bytes([high, low]))
+}
+
+// The text from this place up to the next zero byte, if there is one.
+fn text_at(alloc: Global, bytes: &[u8], from: usize) -> Result<Option<Vec<u8>>, Fail> {
+    let mut text = Vec::new(alloc);
+    for b in bytes.iter().skip(from) {
+        if *b == 0 {
+            return Ok(Some(text));
+        }
+        text.push(*b)?;
+    }
+    Ok(None)
+}
+
+fn parse_request(alloc: Global, bytes: &[u8]) -> Result<Packet, Fail> {
+    let Some(name) = text_at(alloc, bytes, 2)? else {
+        return Ok(Packet::Malformed);
+    };
+    let Some(mode) = text_at(alloc, bytes, name.len().wrapping_add(3))? else {
+        return Ok(Packet::Malformed);
+    };
+    if byte_at(bytes, 1) == 1 {
+        Ok(Packet::Read { name, mode })
+    } else {
+        Ok(Packet::Write { mode })
+    }
+}
+
+fn parse_data(alloc: Global, bytes: &[u8], n: usize) -> Result<Packet, Fail> {
+    let mut body = Vec::new(alloc);
+    for b in bytes.iter().skip(4) {
+        body.push(*b)?;
+    }
+    Ok(Packet::Data { n, body })
+}
+
+fn parse(alloc: Global, bytes: &[u8]) -> Result<Packet, Fail> {
+    if bytes.len() < 2 || bytes.len() > 516 || byte_at(bytes, 0) != 0 {
+        return Ok(Packet::Malformed);
+    }
+    let n = number_at(bytes, 2);
+    match byte_at(bytes, 1) {
+        1 | 2 => parse_request(alloc, bytes),
+        3 if bytes.len() >= 4 => parse_data(alloc, bytes, n),
+        4 if bytes.len() == 4 => Ok(Packet::Ack { n }),
+        5 => match text_at(alloc, bytes, 4)? {
+            Some(_text) => Ok(Packet::Error),
+            None => Ok(Packet::Malformed),
+        },
+        _ => Ok(Packet::Malformed),
+    }
+}
+
+fn ack(alloc: Global, n: usize) -> Result<Vec<u8>, Fail> {
+    let number = ((n % 65536) as u16).to_be_bytes();
+    Ok(Vec::from_slice(alloc, &[0, 4, number[0], number[1]])?)
+}
+
+fn data(alloc: Global, file: &[u8], n: usize) -> Result<Vec<u8>, Fail> {
+    let number = ((n % 65536) as u16).to_be_bytes();
+    let mut bytes = Vec::from_slice(alloc, &[0, 3, number[0], number[1]])?;
+    bytes.extend_from_slice(&block_of(alloc, file, n)?)?;
+    Ok(bytes)
+}
+
+impl Plain {
+    pub(crate) fn new(alloc: Global) -> Self {
+        Plain {
+            alloc,
+            lynx: Vec::new(alloc),
+            ms: Vec::new(alloc),
+            live: Vec::new(alloc),
+        }
+    }
+
+    pub(crate) fn text(&self, kind: Ruleset) -> Result<Vec<u8>, Fail> {
+        match kind {
+            Ruleset::Lynx => text(self.alloc, 1, &self.lynx),
+            Ruleset::Ms => text(self.alloc, 2, &self.ms),
+        }
+    }
+
+    pub(crate) fn place(&self, port: u16) -> Option<usize> {
+        for (i, transfer) in self.live.iter().enumerate() {
+            if transfer.port == port {
+                return Some(i);
+            }
+        }
+        None
+    }
+
+    // The least live port above this one.
+    pub(crate) fn next_port(&self, after: u16) -> Option<u16> {
+        let mut least = None;
+        for transfer in &self.live {
+            if transfer.port > after && least.is_none_or(|port| transfer.port < port) {
+                least = Some(transfer.port);
+            }
+        }
+        least
+    }
+
+    fn refuse(&self, to: Endpoint, error: &[u8]) -> Result<Said, Fail> {
+        Ok(says(REQUEST, to, Vec::from_slice(self.alloc, error)?))
+    }
+
+    fn open(&mut self, port: u16, peer: Endpoint, end: End, first: Vec<u8>) -> Result<Said, Fail> {
+        self.live.push(Transfer { port, peer, end })?;
+        let mut said = says(port, peer, first);
+        said.opened = true;
+        Ok(said)
+    }
+
+    fn close(&mut self, i: usize, error: Option<&[u8]>) -> Result<Said, Fail> {
+        if i >= self.live.len() {
+            return Ok(silent());
+        }
+        let transfer = self.live.remove(i);
+        let mut said = match error {
+            Some(error) => says(
+                transfer.port,
+                transfer.peer,
+                Vec::from_slice(self.alloc, error)?,
+            ),
+            None => silent(),
+        };
+        said.closed = true;
+        Ok(said)
+    }
+
+    pub(crate) fn on_request(
+        &mut self,
+        spare: u16,
+        from: Endpoint,
+        bytes: &[u8],
+    ) -> Result<Said, Fail> {
+        match parse(self.alloc, bytes)? {
+            Packet::Read { name, mode } => {
+                if !mode.eq_ignore_ascii_case(b"octet") {
+                    return self.refuse(from, b"\0\x05\0\0octet only\0");
+                }
+                self.on_read(spare, from, &name)
+            }
+            Packet::Write { mode } => {
+                if !mode.eq_ignore_ascii_case(b"octet") {
+                    return self.refuse(from, b"\0\x05\0\0octet only\0");
+                }
+                if self.live.len() == 64 {
+                    return self.refuse(from, b"\0\x05\0\0server busy\0");
+                }
+                let end = End::Receiving {
+                    file: Vec::new(self.alloc),
+                    count: 0,
+                    misses: 0,
+                };
+                self.open(spare, from, end, ack(self.alloc, 0)?)
+            }
+            _ => Ok(silent()),
+        }
+    }
+
+    fn on_read(&mut self, spare: u16, from: Endpoint, name: &[u8]) -> Result<Said, Fail> {
+        let text = if name == b"lynx.tws".as_slice() {
+            self.text(Ruleset::Lynx)?
+        } else if name == b"ms.tws".as_slice() {
+            self.text(Ruleset::Ms)?
+        } else {
+            return self.refuse(from, b"\0\x05\0\x01no such file\0");
+        };
+        if self.live.len() == 64 {
+            return self.refuse(from, b"\0\x05\0\0server busy\0");
+        }
+        if text.len() > MAX_FILE {
+            return self.refuse(from, b"\0\x05\0\0collection too long\0");
+        }
+        let first = data(self.alloc, &text, 1)?;
+        let end = End::Sending {
+            text,
+            block: 1,
+            misses: 0,
+        };
+        self.open(spare, from, end, first)
+    }
+
+    // `keeps` is whether a collection that has to be kept is kept.
+    pub(crate) fn on_datagram(
+        &mut self,
+        port: u16,
+        from: Endpoint,
+        bytes: &[u8],
+        keeps: bool,
+    ) -> Result<Said, Fail> {
+        let Some(i) = self.place(port) else {
+            return Ok(silent());
+        };
+        let is_peer = match self.live.get(i) {
+            Some(transfer) => transfer.peer == from,
+            None => false,
+        };
+        match parse(self.alloc, bytes)? {
+            Packet::Malformed => Ok(silent()),
+            Packet::Error if is_peer => self.close(i, None),
+            Packet::Error => Ok(silent()),
+            _ if !is_peer => {
+                let error = b"\0\x05\0\x05unknown transfer\0";
+                Ok(says(port, from, Vec::from_slice(self.alloc, error)?))
+            }
+            Packet::Ack { n } => self.on_ack(i, n),
+            Packet::Data { n, body } => self.on_data(i, n, &body, keeps),
+            Packet::Read { .. } | Packet::Write { .. } => Ok(silent()),
+        }
+    }
+
+    fn on_ack(&mut self, i: usize, n: usize) -> Result<Said, Fail> {
+        let Some(transfer) = self.live.get_mut(i) else {
+            return Ok(silent());
+        };
+        let End::Sending {
+            text,
+            block,
+            misses,
+        } = &mut transfer.end
+        else {
+            return Ok(silent());
+        };
+        if n != *block {
+            return Ok(silent());
+        }
+        if n == text.len() / 512 + 1 {
+            return self.close(i, None);
+        }
+        *block = n.wrapping_add(1);
+        *misses = 0;
+        let bytes = data(self.alloc, text, *block)?;
+        Ok(says(transfer.port, transfer.peer, bytes))
+    }
+
+    fn on_data(&mut self, i: usize, n: usize, body: &[u8], keeps: bool) -> Result<Said, Fail> {
+        let Some(transfer) = self.live.get_mut(i) else {
+            return Ok(silent());
+        };
+        let (port, peer) = (transfer.port, transfer.peer);
+        match &mut transfer.end {
+            End::Receiving {
+                file,
+                count,
+                misses,
+            } if n == count.wrapping_add(1) => {
+                if n == 65535 && body.len() == 512 {
+                    return self.close(i, Some(b"\0\x05\0\x03file too long\0"));
+                }
+                file.extend_from_slice(body)?;
+                *count = n;
+                *misses = 0;
+                if body.len() < 512 {
+                    let file = mem::replace(file, Vec::new(self.alloc));
+                    return self.on_file(i, n, file, keeps);
+                }
+                Ok(says(port, peer, ack(self.alloc, n)?))
+            }
+            End::Receiving { count, .. } | End::Waiting { count, .. } if n == *count && n > 0 => {
+                Ok(says(port, peer, ack(self.alloc, n)?))
+            }
+            _ => Ok(silent()),
+        }
+    }
+
+    fn collection(&mut self, kind: Ruleset) -> &mut Vec<Solution> {
+        match kind {
+            Ruleset::Lynx => &mut self.lynx,
+            Ruleset::Ms => &mut self.ms,
+        }
+    }
+
+    // The file of the transfer at this place of the list is whole.
+    fn on_file(&mut self, i: usize, n: usize, file: Vec<u8>, keeps: bool) -> Result<Said, Fail> {
+        if let Some((kind, solutions)) = read(self.alloc, &file)? {
+            let collection = self.collection(kind);
+            let changes = solutions.iter().any(|one| improves(collection, one));
+            if changes && !keeps {
+                return self.close(i, Some(b"\0\x05\0\0not kept\0"));
+            }
+            join(self.collection(kind), solutions)?;
+        }
+        let Some(transfer) = self.live.get_mut(i) else {
+            return Ok(silent());
+        };
+        transfer.end = End::Waiting {
+            count: n,
+            misses: 0,
+        };
+        let mut said = says(transfer.port, transfer.peer, ack(self.alloc, n)?);
+        said.taken = Some((transfer.peer, file));
+        Ok(said)
+    }
+
+    pub(crate) fn on_timeout(&mut self, port: u16) -> Result<Said, Fail> {
+        let Some(i) = self.place(port) else {
+            return Ok(silent());
+        };
+        let Some(transfer) = self.live.get_mut(i) else {
+            return Ok(silent());
+        };
+        let peer = transfer.peer;
+        let (misses, most) = match &mut transfer.end {
+            End::Sending { misses, .. } | End::Receiving { misses, .. } => (misses, 4),
+            End::Waiting { misses, .. } => (misses, 1),
+        };
+        if *misses == most {
+            return self.close(i, None);
+        }
+        *misses = misses.wrapping_add(1);
+        match &transfer.end {
+            End::Sending { text, block, .. } => {
+                Ok(says(port, peer, data(self.alloc, text, *block)?))
+            }
+            End::Receiving { count, .. } => Ok(says(port, peer, ack(self.alloc, *count)?)),
+            End::Waiting { .. } => Ok(silent()),
+        }
+    }
+}

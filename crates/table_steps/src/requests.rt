@@ -1,0 +1,141 @@
+// What comes to the request port.
+use crate::archive::{Archive, Input, Told, client, first_other, has_told, is_live};
+use archive_table::{LIVE, NoKeeper};
+use std::alloc::Global;
+use std::test::Fail;
+
+// A request to read `ms.tws` in mode `OCTET`, with an option after it.
+const RRQ: &[u8; 28] = b"\0\x01ms.tws\0OCTET\0blksize\x001428\0";
+
+const WRQ: &[u8; 19] = b"\0\x02upload.tws\0octet\0";
+
+// DATA 1 of the MS collection without solutions.
+const EMPTY_MS: &[u8; 12] = b"\0\x03\0\x01\x35\x33\x9B\x99\x02\0\0\0";
+
+const OCTET_ONLY: &[u8; 15] = b"\0\x05\0\0octet only\0";
+
+const NO_SUCH_FILE: &[u8; 17] = b"\0\x05\0\x01no such file\0";
+
+const BUSY: &[u8; 16] = b"\0\x05\0\0server busy\0";
+
+#[test]
+fn a_request_to_read(rt: HostRuntime) -> Result<(), Fail> {
+    let mut archive = Archive::new(rt.alloc());
+    let rows = [
+        (Input::Ask(4000, 2, RRQ), Told::Opens(4000, 2, EMPTY_MS)),
+        (Input::Hear(4000, 2, b"\0\x04\0\x01"), Told::Ends),
+    ];
+    assert_eq!(rt;
+        first_other(rt.alloc(), &mut archive, &mut NoKeeper, &rows)?,
+        None
+    );
+    assert!(rt; is_live(&archive, 0, None));
+    Ok(())
+}
+
+// A refused request leaves neither a transfer nor its port: the mode is looked at before the name.
+#[test]
+fn requests_refused(rt: HostRuntime) -> Result<(), Fail> {
+    let mut archive = Archive::new(rt.alloc());
+    let octet_only = Told::Sends(6969, 2, OCTET_ONLY);
+    let no_such_file = Told::Sends(6969, 2, NO_SUCH_FILE);
+    let rows = [
+        (Input::Ask(4000, 2, b"\0\x01ms.tws\0netascii\0"), octet_only),
+        (Input::Ask(4000, 2, b"\0\x01MS.TWS\0netascii\0"), octet_only),
+        (Input::Ask(4000, 2, b"\0\x02upload.tws\0mail\0"), octet_only),
+        (Input::Ask(4000, 2, b"\0\x01MS.TWS\0octet\0"), no_such_file),
+        (Input::Ask(4000, 2, b"\0\x01\0octet\0"), no_such_file),
+    ];
+    assert_eq!(rt;
+        first_other(rt.alloc(), &mut archive, &mut NoKeeper, &rows)?,
+        None
+    );
+    assert!(rt; is_live(&archive, 0, None));
+    Ok(())
+}
+
+// Nothing else that comes to the request port has an effect.
+#[test]
+fn no_requests(rt: HostRuntime) -> Result<(), Fail> {
+    let mut archive = Archive::new(rt.alloc());
+    let rows = [
+        (Input::Ask(4000, 2, b""), Told::Nothing),
+        (Input::Ask(4000, 2, b"\0\x03\0\x01"), Told::Nothing),
+        (Input::Ask(4000, 2, b"\0\x04\0\0"), Told::Nothing),
+        (Input::Ask(4000, 2, b"\0\x05\0\0\0"), Told::Nothing),
+        (Input::Ask(4000, 2, b"\0\x06\0\0"), Told::Nothing),
+        (
+            Input::Ask(4000, 2, b"\0\x02upload.tws\0octet"),
+            Told::Nothing,
+        ),
+        (Input::Ask(4000, 2, &[0; 517]), Told::Nothing),
+    ];
+    assert_eq!(rt;
+        first_other(rt.alloc(), &mut archive, &mut NoKeeper, &rows)?,
+        None
+    );
+    assert!(rt; is_live(&archive, 0, None));
+    Ok(())
+}
+
+// Whether the first bytes of the request have no effect, or open a transfer once they have the byte that ends its mode.
+fn is_answered(alloc: Global, count: usize) -> Result<bool, Fail> {
+    let mut archive = Archive::new(alloc);
+    let step = archive.ask(4000, client(2), &RRQ[..count.min(28)])?;
+    if count < 15 {
+        has_told(alloc, &step, Told::Nothing)
+    } else {
+        has_told(alloc, &step, Told::Opens(4000, 2, EMPTY_MS))
+    }
+}
+
+// A request that is cut short has no effect up to the byte that ends its mode; what follows that has none either.
+#[test]
+fn a_request_cut_short(rt: HostRuntime) -> Result<(), Fail> {
+    for count in 0..29 {
+        assert!(rt; is_answered(rt.alloc(), count)?, "{count}");
+    }
+    Ok(())
+}
+
+// A server with 64 transfers, at the ports from 4001 on.
+fn full(alloc: Global) -> Result<Archive, Fail> {
+    let mut archive = Archive::new(alloc);
+    for port in 4001..4065 {
+        let step = archive.ask(port, client(2), WRQ)?;
+        if !has_told(alloc, &step, Told::Opens(port, 2, b"\0\x04\0\0"))? {
+            return Err(Fail::new("not opened"));
+        }
+    }
+    Ok(archive)
+}
+
+// With so many transfers a request in another mode or for another file is still refused for that; any other, as busy.
+#[test]
+fn a_busy_server(rt: HostRuntime) -> Result<(), Fail> {
+    let mut archive = full(rt.alloc())?;
+    assert!(rt; is_live(&archive, 64, Some(4001)));
+    assert_eq!(rt; LIVE, 64);
+    let busy = Told::Sends(6969, 3, BUSY);
+    let rows = [
+        (Input::Ask(4065, 3, WRQ), busy),
+        (Input::Ask(4065, 3, RRQ), busy),
+        (
+            Input::Ask(4065, 3, b"\0\x01MS.TWS\0octet\0"),
+            Told::Sends(6969, 3, NO_SUCH_FILE),
+        ),
+        (
+            Input::Ask(4065, 3, b"\0\x02upload.tws\0mail\0"),
+            Told::Sends(6969, 3, OCTET_ONLY),
+        ),
+        (Input::Hear(4001, 2, b"\0\x05\0\0\0"), Told::Ends),
+        (Input::Ask(4065, 3, RRQ), Told::Opens(4065, 3, EMPTY_MS)),
+        (Input::Ask(4066, 3, RRQ), busy),
+    ];
+    assert_eq!(rt;
+        first_other(rt.alloc(), &mut archive, &mut NoKeeper, &rows)?,
+        None
+    );
+    assert!(rt; is_live(&archive, 64, Some(4002)));
+    Ok(())
+}

@@ -1,0 +1,432 @@
+// Transfers by hand: which datagrams go out at which call, by RFC 1350 sections 2, 5 and 6 and RFC 1123 section 4.2.3.1.
+ghost use Rattle.std.specs.Prelude.{◌≤◌, length};
+
+use std::alloc::Global;
+use std::test::Fail;
+use tftp_ends::{Received, Receiver, RecvFault, RecvState, SendState, Sender};
+use tftp_packet::{Dgram, Owned};
+
+// A Lynx file: level 1, BDHP, 100 ticks, no moves.
+const FILE: &[u8; 28] = b"\x35\x33\x9B\x99\x01\0\0\0\x10\0\0\0\x01\0BDHP\0\0\0\0\0\0\x64\0\0\0";
+
+// The blocks of a file. Each byte of block n is n, and the last block has fewer than 512 bytes.
+#[derive(Clone, Copy)]
+struct Blocks {
+    count: u16,
+    last: usize,
+}
+
+// A block's bytes, and how many of them the block has.
+fn block(blocks: Blocks, n: u16) -> ([u8; 512], usize)
+    ensures { result.1 ≤ 512 }
+{
+    let size = if n < blocks.count {
+        512
+    } else {
+        blocks.last.min(511)
+    };
+    ([n.to_be_bytes()[1]; 512], size)
+}
+
+// A sender of these blocks, and what it sends first.
+fn start(alloc: Global, blocks: Blocks) -> Result<(Sender<Owned>, Dgram), Fail> {
+    let mut file = Vec::new(alloc);
+    for n in 1..=blocks.count {
+        let (bytes, size) = block(blocks, n);
+        file.extend_from_slice(&bytes[..size])?;
+    }
+    if file.len() > 33_553_919 {
+        return Err(Fail::new("too long"));
+    }
+    Ok(Sender::start(Owned::of(file)))
+}
+
+fn is_data(dgram: &Dgram, n: u16, body: &[u8]) -> bool {
+    let [high, low] = n.to_be_bytes();
+    let bytes = dgram.bytes();
+    bytes.len() == 4 + body.len() && bytes.starts_with(&[0, 3, high, low]) && bytes.ends_with(body)
+}
+
+fn sends_data(out: &Option<Dgram>, n: u16, body: &[u8]) -> bool {
+    match out {
+        Some(dgram) => is_data(dgram, n, body),
+        None => false,
+    }
+}
+
+fn sends_ack(out: &Option<Dgram>, n: u16) -> bool {
+    let [high, low] = n.to_be_bytes();
+    match out {
+        Some(dgram) => dgram.bytes() == [0, 4, high, low].as_slice(),
+        None => false,
+    }
+}
+
+// What a sender hears: an ACK of this number, or nothing for a while.
+#[derive(Clone, Copy)]
+enum Heard {
+    Ack(u16),
+    Nothing,
+}
+
+// What a receiver is given: DATA of this number, or nothing for a while.
+#[derive(Clone, Copy)]
+enum Given {
+    Data(u16),
+    Nothing,
+}
+
+fn sends_block(out: &Option<Dgram>, blocks: Blocks, n: u16) -> bool {
+    let (bytes, size) = block(blocks, n);
+    sends_data(out, n, &bytes[..size])
+}
+
+// Whether a sender answers these rows, of what it hears and the block that it sends then, and is in this state after
+// them.
+fn plays_sender(
+    sender: &mut Sender<Owned>,
+    blocks: Blocks,
+    rows: &[(Heard, Option<u16>)],
+    state: SendState,
+) -> bool {
+    for (heard, answer) in rows {
+        let out = match *heard {
+            Heard::Ack(n) => sender.on_ack(n),
+            Heard::Nothing => sender.on_timeout(),
+        };
+        let is_right = match *answer {
+            Some(n) => sends_block(&out, blocks, n),
+            None => out.is_none(),
+        };
+        if !is_right {
+            return false;
+        }
+    }
+    sender.state() == state
+}
+
+// Whether a receiver answers these rows, of what it is given and the ACK that it sends then, and is in this state after
+// them. All DATA have this body.
+fn plays_receiver(
+    receiver: &mut Receiver,
+    body: &[u8],
+    rows: &[(Given, Option<u16>)],
+    state: RecvState,
+) -> bool
+    requires { length body.now ≤ 512 }
+{
+    for (given, answer) in rows {
+        let out = match *given {
+            Given::Data(n) => receiver.on_data(n, body),
+            Given::Nothing => Ok(receiver.on_timeout()),
+        };
+        let is_right = match (out, *answer) {
+            (Ok(out), Some(n)) => sends_ack(&out, n),
+            (Ok(out), None) => out.is_none(),
+            (Err(_fault), _) => false,
+        };
+        if !is_right {
+            return false;
+        }
+    }
+    receiver.state() == state
+}
+
+#[test]
+fn a_repeated_ack_sends_nothing(rt: HostRuntime) -> Result<(), Fail> {
+    let blocks = Blocks {
+        count: 4,
+        last: 464,
+    };
+    let (mut sender, first) = start(rt.alloc(), blocks)?;
+    assert!(rt; is_data(&first, 1, &[1; 512]));
+    let rows = [
+        (Heard::Ack(1), Some(2)),
+        (Heard::Ack(2), Some(3)),
+        (Heard::Ack(3), Some(4)),
+        (Heard::Ack(3), None),
+        (Heard::Ack(3), None),
+        (Heard::Ack(3), None),
+        (Heard::Ack(3), None),
+        (Heard::Nothing, Some(4)),
+    ];
+    assert!(rt; plays_sender(&mut sender, blocks, &rows, SendState::Running));
+    let rows = [(Heard::Ack(4), None)];
+    assert!(rt; plays_sender(&mut sender, blocks, &rows, SendState::Finished));
+    let rows = [(Heard::Ack(4), None), (Heard::Nothing, None)];
+    assert!(rt; plays_sender(&mut sender, blocks, &rows, SendState::Finished));
+    Ok(())
+}
+
+// No other ACK than that of the current block is progress.
+#[test]
+fn a_sender_gives_up(rt: HostRuntime) -> Result<(), Fail> {
+    let blocks = Blocks { count: 2, last: 88 };
+    let (mut sender, _) = start(rt.alloc(), blocks)?;
+    let rows = [
+        (Heard::Nothing, Some(1)),
+        (Heard::Nothing, Some(1)),
+        (Heard::Nothing, Some(1)),
+        (Heard::Nothing, Some(1)),
+        (Heard::Ack(1), Some(2)),
+    ];
+    assert!(rt; plays_sender(&mut sender, blocks, &rows, SendState::Running));
+    let rows = [
+        (Heard::Nothing, Some(2)),
+        (Heard::Ack(0), None),
+        (Heard::Ack(1), None),
+        (Heard::Ack(3), None),
+    ];
+    for _ in 0..4 {
+        assert!(rt; plays_sender(&mut sender, blocks, &rows, SendState::Running));
+    }
+    let rows = [(Heard::Nothing, None)];
+    assert!(rt; plays_sender(&mut sender, blocks, &rows, SendState::TimedOut));
+    let rows = [(Heard::Ack(2), None)];
+    assert!(rt; plays_sender(&mut sender, blocks, &rows, SendState::TimedOut));
+    Ok(())
+}
+
+// Whether a block of 512 bytes is sent, and its receiver waits for another.
+fn passes_the_whole_block(first: &Dgram, receiver: &mut Receiver) -> bool {
+    let rows = [(Given::Data(1), Some(1))];
+    is_data(first, 1, &[1; 512])
+        && plays_receiver(receiver, &[1; 512], &rows, RecvState::Running)
+        && receiver.take_file().is_none()
+}
+
+// Whether an empty block follows, and both ends are through.
+fn passes_the_empty_block(sender: &mut Sender<Owned>, receiver: &mut Receiver) -> bool {
+    let rows = [(Given::Data(2), Some(2))];
+    sends_data(&sender.on_ack(1), 2, b"")
+        && plays_receiver(receiver, b"", &rows, RecvState::Complete)
+        && sender.on_ack(2).is_none()
+        && sender.state() == SendState::Finished
+}
+
+// Whether the file is taken out and sent on in the same two blocks.
+fn sends_on(receiver: &mut Receiver) -> bool {
+    let Some(received) = receiver.take_file() else {
+        return false;
+    };
+    let (mut sender, first) = Sender::start(received);
+    is_data(&first, 1, &[1; 512]) && sends_data(&sender.on_ack(1), 2, b"")
+}
+
+// A file of 512 bytes ends with an empty block, and what was received is sent on.
+#[test]
+fn a_whole_block_and_an_empty_one(rt: HostRuntime) -> Result<(), Fail> {
+    let (mut sender, first) = start(rt.alloc(), Blocks { count: 2, last: 0 })?;
+    let mut receiver = Receiver::new(rt.alloc());
+    assert!(rt; passes_the_whole_block(&first, &mut receiver));
+    assert!(rt; passes_the_empty_block(&mut sender, &mut receiver));
+    assert!(rt; sends_on(&mut receiver));
+    Ok(())
+}
+
+// The bytes of a file, which are the same in a list and as they are written.
+fn bytes_of(alloc: Global, received: &Received) -> Result<Vec<u8>, Fail> {
+    let bytes = received.to_vec(alloc)?;
+    let mut out = Vec::new(alloc);
+    received.write_to(&mut out)?;
+    if out != bytes {
+        return Err(Fail::new("other bytes were written"));
+    }
+    Ok(bytes)
+}
+
+// Whether what was received is the file, in one chunk.
+fn is_file(alloc: Global, received: &Received) -> Result<bool, Fail> {
+    let is_counted = received.len() == 28 && received.chunk_count() == 1;
+    Ok(is_counted && bytes_of(alloc, received)?.as_slice() == FILE.as_slice())
+}
+
+// Whether a receiver gives the file, and gives it once.
+fn gives_file(alloc: Global, receiver: &mut Receiver) -> Result<bool, Fail> {
+    let received = receiver.take_file().ok_or("no file")?;
+    Ok(receiver.take_file().is_none() && is_file(alloc, &received)?)
+}
+
+#[test]
+fn a_file_is_given_once(rt: HostRuntime) -> Result<(), Fail> {
+    let mut receiver = Receiver::new(rt.alloc());
+    let rows = [(Given::Data(1), Some(1))];
+    assert!(rt; plays_receiver(&mut receiver, FILE, &rows, RecvState::Complete));
+    assert!(rt; gives_file(rt.alloc(), &mut receiver)?);
+    Ok(())
+}
+
+// The last block that comes again is acknowledged, but does not make the receiver wait longer.
+#[test]
+fn a_receiver_waits_after_the_last_block(rt: HostRuntime) -> Result<(), Fail> {
+    let mut receiver = Receiver::new(rt.alloc());
+    let rows = [
+        (Given::Data(1), Some(1)),
+        (Given::Nothing, None),
+        (Given::Data(1), Some(1)),
+        (Given::Data(2), None),
+    ];
+    assert!(rt; plays_receiver(&mut receiver, FILE, &rows, RecvState::Complete));
+    let rows = [(Given::Nothing, None)];
+    assert!(rt; plays_receiver(&mut receiver, FILE, &rows, RecvState::Over));
+    let rows = [(Given::Data(1), None), (Given::Nothing, None)];
+    assert!(rt; plays_receiver(&mut receiver, FILE, &rows, RecvState::Over));
+    assert!(rt; gives_file(rt.alloc(), &mut receiver)?);
+    Ok(())
+}
+
+// Whether a receiver goes on after four rounds of these rows.
+fn goes_on(receiver: &mut Receiver, rows: &[(Given, Option<u16>)]) -> bool {
+    for _ in 0..4 {
+        if !plays_receiver(receiver, &[1; 512], rows, RecvState::Running) {
+            return false;
+        }
+    }
+    true
+}
+
+// Whether a receiver gives up at the next time-out, for good and with no file.
+fn gives_up(receiver: &mut Receiver) -> bool {
+    let timeout = [(Given::Nothing, None)];
+    let next = [(Given::Data(2), None)];
+    plays_receiver(receiver, &[1; 512], &timeout, RecvState::TimedOut)
+        && plays_receiver(receiver, &[1; 512], &next, RecvState::TimedOut)
+        && receiver.take_file().is_none()
+}
+
+// Only the next block is progress. Block 0 is none.
+#[test]
+fn a_receiver_gives_up(rt: HostRuntime) {
+    let mut receiver = Receiver::new(rt.alloc());
+    let rows = [
+        (Given::Nothing, Some(0)),
+        (Given::Data(0), None),
+        (Given::Data(2), None),
+    ];
+    assert!(rt; goes_on(&mut receiver, &rows));
+    let rows = [(Given::Data(1), Some(1))];
+    assert!(rt; plays_receiver(&mut receiver, &[1; 512], &rows, RecvState::Running));
+    let rows = [(Given::Nothing, Some(1)), (Given::Data(1), Some(1))];
+    assert!(rt; goes_on(&mut receiver, &rows));
+    assert!(rt; gives_up(&mut receiver));
+}
+
+// Gives a receiver the 65,534 full blocks of the greatest file. Whether it goes on after each.
+fn takes_full_blocks(receiver: &mut Receiver) -> bool {
+    for n in 1..65_535 {
+        let rows = [(Given::Data(n), Some(n))];
+        let body = [n.to_be_bytes()[1]; 512];
+        if !plays_receiver(receiver, &body, &rows, RecvState::Running) {
+            return false;
+        }
+    }
+    true
+}
+
+// Whether one byte too many is refused, and the file ends without it.
+fn takes_the_last_block(receiver: &mut Receiver) -> bool {
+    let rows = [(Given::Data(65_535), Some(65_535))];
+    receiver.on_data(65_535, &[255; 512]).err() == Some(RecvFault::TooLong)
+        && receiver.state() == RecvState::Running
+        && plays_receiver(receiver, &[255; 511], &rows, RecvState::Complete)
+}
+
+// Whether no number follows that of the last block.
+fn is_past_all_numbers(receiver: &mut Receiver) -> bool {
+    let again = [(Given::Data(65_535), Some(65_535))];
+    let others = [(Given::Data(0), None), (Given::Data(1), None)];
+    plays_receiver(receiver, &[255; 511], &again, RecvState::Complete)
+        && plays_receiver(receiver, &[1; 512], &others, RecvState::Complete)
+}
+
+// Whether each byte of the greatest file is the number of its block.
+fn is_the_greatest(alloc: Global, received: &Received) -> Result<bool, Fail> {
+    let bytes = bytes_of(alloc, received)?;
+    let is_right = bytes
+        .iter()
+        .enumerate()
+        .all(|(i, b)| usize::from(*b) == (i / 512 + 1) % 256);
+    Ok(is_right && received.len() == 33_553_919 && bytes.len() == 33_553_919)
+}
+
+// 65,534 full blocks and one of 511 bytes; one byte more cannot be numbered.
+#[test]
+fn the_greatest_file(rt: HostRuntime) -> Result<(), Fail> {
+    let mut receiver = Receiver::new(rt.alloc());
+    assert!(rt; takes_full_blocks(&mut receiver));
+    assert!(rt; takes_the_last_block(&mut receiver));
+    assert!(rt; is_past_all_numbers(&mut receiver));
+    let received = receiver.take_file().ok_or("no file")?;
+    assert!(rt; is_the_greatest(rt.alloc(), &received)?);
+    Ok(())
+}
+
+// What is received of these blocks.
+fn received(alloc: Global, blocks: Blocks) -> Result<Received, Fail> {
+    let mut receiver = Receiver::new(alloc);
+    for n in 1..=blocks.count {
+        let (bytes, size) = block(blocks, n);
+        let _ = receiver.on_data(n, &bytes[..size])?;
+    }
+    Ok(receiver.take_file().ok_or("no file")?)
+}
+
+// The bytes of a file, from one of them on, are the numbers of their blocks.
+fn are_numbers(bytes: &[u8], from: usize) -> bool {
+    bytes.iter().enumerate().all(|(i, b)| usize::from(*b) == i.wrapping_add(from) / 512 % 256 + 1)
+}
+
+// Whether a file has so many chunks, the last one of this size, and each byte of them is the number of its block.
+fn has_chunks(received: &Received, count: usize, last: usize) -> bool {
+    for i in 0..received.chunk_count() {
+        let chunk = received.chunk(i);
+        let is_last = i.wrapping_add(1) == count;
+        if !are_numbers(chunk, i.wrapping_mul(16_384)) || (is_last && chunk.len() != last) {
+            return false;
+        }
+    }
+    received.chunk_count() == count
+}
+
+// Whether a file has so many bytes, each the number of its block.
+fn has_numbers(alloc: Global, received: &Received, length: usize) -> Result<bool, Fail> {
+    let bytes = received.to_vec(alloc)?;
+    Ok(bytes.len() == length && are_numbers(&bytes, 0))
+}
+
+// A chunk has 16,384 bytes, and the last one at least 1.
+#[test]
+fn files_in_chunks(rt: HostRuntime) -> Result<(), Fail> {
+    let rows = [
+        (1, 0, 0, 0),
+        (1, 511, 1, 511),
+        (2, 0, 1, 512),
+        (2, 1, 1, 513),
+        (33, 0, 1, 16_384),
+        (33, 1, 2, 1),
+    ];
+    for (block_count, last, count, last_chunk) in rows {
+        let blocks = Blocks {
+            count: block_count,
+            last,
+        };
+        let received = received(rt.alloc(), blocks)?;
+        let length = (usize::from(block_count).wrapping_sub(1))
+            .wrapping_mul(512)
+            .wrapping_add(last);
+        assert!(rt; has_numbers(rt.alloc(), &received, length)?, "at {length}");
+        assert!(rt; has_chunks(&received, count, last_chunk), "at {length}");
+    }
+    Ok(())
+}
+
+#[test]
+fn faults_by_name(rt: HostRuntime) -> Result<(), Fail> {
+    for (fault, name) in [
+        (RecvFault::Memory, "Memory"),
+        (RecvFault::TooLong, "TooLong"),
+    ] {
+        assert_eq!(rt; format!(in rt.alloc(); "{fault}")?.as_str(), name);
+    }
+    Ok(())
+}

@@ -1,0 +1,464 @@
+// The commands as the program runs them: what is printed, and the status.
+use crate::streams::*;
+use std::test::Fail;
+use std::{env, fs, io, process};
+use tws_file::{FileFault, Ruleset};
+use tws_tool::{INPUT_READS, ToolFault, run_best, run_show, run_words};
+
+// The same with two bytes of moves, the second of which begins a move that is cut.
+const CUT: [u8; 30] = [
+    0x35, 0x33, 0x9B, 0x99, 0x01, 0x00, 0x00, 0x00, 0x12, 0x00, 0x00, 0x00, 0x01, 0x00, 0x42, 0x44,
+    0x48, 0x50, 0x00, 0x00, 0x00, 0x00, 0x00, 0x00, 0x64, 0x00, 0x00, 0x00, 0x01, 0xFE,
+];
+
+// The same with four moves in two bytes.
+const MOVED: [u8; 30] = [
+    0x35, 0x33, 0x9B, 0x99, 0x01, 0x00, 0x00, 0x00, 0x12, 0x00, 0x00, 0x00, 0x01, 0x00, 0x42, 0x44,
+    0x48, 0x50, 0x00, 0x00, 0x00, 0x00, 0x00, 0x00, 0x64, 0x00, 0x00, 0x00, 0x00, 0x61,
+];
+
+// What a run of the program printed and answered.
+#[derive(Drop)]
+struct Outcome {
+    status: u8,
+    out: Vec<u8>,
+    errors: Vec<u8>,
+}
+
+fn owned(rt: &HostRuntime, words: &[&str]) -> Result<Vec<String>, Fail> {
+    let mut owned = Vec::new(rt.alloc());
+    for word in words {
+        owned.push(String::from_str(rt.alloc(), word)?)?;
+    }
+    Ok(owned)
+}
+
+fn run(rt: &HostRuntime, words: &[&str], input: &[u8]) -> Result<Outcome, Fail> {
+    let owned = owned(rt, words)?;
+    let mut input = input;
+    let mut out = Vec::new(rt.alloc());
+    let mut errors = Vec::new(rt.alloc());
+    let status = run_words(rt, rt.alloc(), &owned, &mut input, &mut out, &mut errors);
+    Ok(Outcome {
+        status,
+        out,
+        errors,
+    })
+}
+
+const LISTING: &str =
+    "ruleset lynx word 0000 extra 0\nlevel 1 BDHP ticks 100 flags 00 start 00 seed 0 bytes 0\nrecords 1\n";
+
+#[test]
+fn show_lists_a_file(rt: HostRuntime) -> Result<(), Fail> {
+    let outcome = run(&rt, &["tws", "show"], &SOLUTION)?;
+    assert_eq!(rt; outcome.out.as_slice(), LISTING.as_bytes());
+    assert_eq!(rt; (outcome.status, outcome.errors.is_empty()), (0, true));
+    Ok(())
+}
+
+#[test]
+fn show_lists_moves(rt: HostRuntime) -> Result<(), Fail> {
+    let outcome = run(&rt, &["tws", "show", "--moves"], &MOVED)?;
+    let listing =
+        "ruleset lynx word 0000 extra 0\nlevel 1 BDHP ticks 100 flags 00 start 00 seed 0 bytes 2\n at 3 step 0\n at 7 step 0\n at 11 step 0\n at 15 step 0\nrecords 1\n";
+    assert_eq!(rt; outcome.out.as_slice(), listing.as_bytes());
+    assert_eq!(rt; outcome.status, 0);
+    Ok(())
+}
+
+#[test]
+fn show_counts_bytes_of_moves(rt: HostRuntime) -> Result<(), Fail> {
+    let outcome = run(&rt, &["tws", "show"], &MOVED)?;
+    let listing =
+        "ruleset lynx word 0000 extra 0\nlevel 1 BDHP ticks 100 flags 00 start 00 seed 0 bytes 2\nrecords 1\n";
+    assert_eq!(rt; outcome.out.as_slice(), listing.as_bytes());
+    Ok(())
+}
+
+// The solution with four moves in four bytes.
+fn long_moves(rt: &HostRuntime) -> Result<Vec<u8>, Fail> {
+    let mut bytes = Vec::from_slice(rt.alloc(), &SOLUTION)?;
+    bytes.extend_from_slice(&[0x61, 0x61, 0x61, 0x61])?;
+    bytes[8] = 0x14;
+    Ok(bytes)
+}
+
+#[test]
+fn pack_writes_the_fewest_bytes(rt: HostRuntime) -> Result<(), Fail> {
+    let bytes = long_moves(&rt)?;
+    let outcome = run(&rt, &["tws", "pack"], &bytes)?;
+    assert_eq!(rt; (outcome.status, outcome.out.len()), (0, 30));
+    let size = outcome.out.get(8).copied();
+    let moves = outcome.out.get(28..);
+    assert_eq!(rt; (size, moves), (Some(0x12), Some([0x00, 0x61].as_slice())));
+    Ok(())
+}
+
+#[test]
+fn pack_leaves_what_is_packed(rt: HostRuntime) -> Result<(), Fail> {
+    for packed in [SOLUTION.as_slice(), &MOVED] {
+        let outcome = run(&rt, &["tws", "pack"], packed)?;
+        assert_eq!(rt; (outcome.status, outcome.out.as_slice()), (0, packed));
+    }
+    Ok(())
+}
+
+// Whether a run ended with this status, and printed nothing but this fault.
+fn fails_with(outcome: &Outcome, status: u8, line: &str) -> bool {
+    outcome.status == status
+        && outcome.out.is_empty()
+        && outcome.errors.as_slice() == line.as_bytes()
+}
+
+#[test]
+fn pack_refuses_what_is_no_file(rt: HostRuntime) -> Result<(), Fail> {
+    let outcome = run(&rt, &["tws", "pack"], &[0x35, 0x33, 0x9B, 0x98, 2, 0, 0, 0])?;
+    let line = "tws: standard input: unreadable: BadSignature\n";
+    assert!(rt; fails_with(&outcome, 3, line));
+    Ok(())
+}
+
+// The same solution in 90 ticks.
+const FASTER: [u8; 28] = [
+    0x35, 0x33, 0x9B, 0x99, 0x01, 0x00, 0x00, 0x00, 0x10, 0x00, 0x00, 0x00, 0x01, 0x00, 0x42, 0x44,
+    0x48, 0x50, 0x00, 0x00, 0x00, 0x00, 0x00, 0x00, 0x5A, 0x00, 0x00, 0x00,
+];
+
+#[test]
+fn best_keeps_the_faster_solution(rt: HostRuntime) -> Result<(), Fail> {
+    let mut files = [SOLUTION.as_slice(), FASTER.as_slice(), SOLUTION.as_slice()];
+    let mut out = Vec::new(rt.alloc());
+    run_best(rt.alloc(), Ruleset::Lynx, &mut files, &mut out)?;
+    assert_eq!(rt; out.as_slice(), FASTER.as_slice());
+    Ok(())
+}
+
+#[test]
+fn best_has_no_solution_of_other_rules(rt: HostRuntime) -> Result<(), Fail> {
+    let mut files = [SOLUTION.as_slice(), FASTER.as_slice()];
+    let mut out = Vec::new(rt.alloc());
+    run_best(rt.alloc(), Ruleset::Ms, &mut files, &mut out)?;
+    assert_eq!(rt;
+        out.as_slice(),
+        [0x35, 0x33, 0x9B, 0x99, 2, 0, 0, 0].as_slice()
+    );
+    Ok(())
+}
+
+#[test]
+fn best_names_the_first_unreadable_input(rt: HostRuntime) -> Result<(), Fail> {
+    let mut files = [
+        SOLUTION.as_slice(),
+        CUT.as_slice(),
+        SOLUTION.get(..7).unwrap_or(&[]),
+    ];
+    let mut out = Vec::new(rt.alloc());
+    let fault = ToolFault::Unreadable {
+        index: 1,
+        fault: FileFault::MoveCut(29),
+    };
+    assert_eq!(rt;
+        run_best(rt.alloc(), Ruleset::Lynx, &mut files, &mut out),
+        Err(fault)
+    );
+    assert!(rt; out.is_empty());
+    Ok(())
+}
+
+#[test]
+fn show_refuses_what_is_no_file(rt: HostRuntime) -> Result<(), Fail> {
+    let faults: [(&[u8], &str); 4] = [
+        (&[], "tws: standard input: unreadable: ShortHeader(0)\n"),
+        (
+            &SOLUTION[..27],
+            "tws: standard input: unreadable: ShortRecord(8)\n",
+        ),
+        (
+            &[0x35, 0x33, 0x9B, 0x98, 2, 0, 0, 0],
+            "tws: standard input: unreadable: BadSignature\n",
+        ),
+        (&CUT, "tws: standard input: unreadable: MoveCut(29)\n"),
+    ];
+    for (bytes, line) in faults {
+        let outcome = run(&rt, &["tws", "show"], bytes)?;
+        assert!(rt; fails_with(&outcome, 3, line), "{line}");
+    }
+    Ok(())
+}
+
+#[test]
+fn words_that_ask_for_nothing(rt: HostRuntime) -> Result<(), Fail> {
+    let wrong: [&[&str]; 7] = [
+        &["tws", "best"],
+        &["tws", "best", "lynx"],
+        &["tws", "best", "atari", "x"],
+        &["tws"],
+        &["tws", "list"],
+        &["tws", "show", "x"],
+        &["tws", "show", "--all"],
+    ];
+    for words in wrong {
+        let outcome = run(&rt, words, &SOLUTION)?;
+        let is_error = outcome.errors.starts_with(b"error: ");
+        assert_eq!(rt; (outcome.status, outcome.out.len(), is_error), (1, 0, true));
+    }
+    Ok(())
+}
+
+#[test]
+fn words_that_ask_for_help(rt: HostRuntime) -> Result<(), Fail> {
+    let help: [&[&str]; 3] = [&["tws", "--help"], &["tws", "help"], &["tws", "show", "-h"]];
+    for words in help {
+        let outcome = run(&rt, words, &SOLUTION)?;
+        let is_text = !outcome.out.is_empty();
+        assert_eq!(rt;
+            (outcome.status, is_text, outcome.errors.len()),
+            (0, true, 0)
+        );
+    }
+    Ok(())
+}
+
+#[test]
+fn an_input_that_fails(rt: HostRuntime) -> Result<(), Fail> {
+    let words = owned(&rt, &["tws", "show"])?;
+    let mut out = Vec::new(rt.alloc());
+    let mut errors = Vec::new(rt.alloc());
+    let status = run_words(&rt, rt.alloc(), &words, &mut Broken, &mut out, &mut errors);
+    assert_eq!(rt; (status, out.is_empty()), (2, true));
+    assert_eq!(rt; errors.as_slice(), b"tws: read fault\n".as_slice());
+    Ok(())
+}
+
+#[test]
+fn an_output_that_fails(rt: HostRuntime) -> Result<(), Fail> {
+    let words = owned(&rt, &["tws", "show"])?;
+    let mut input = SOLUTION.as_slice();
+    let mut errors = Vec::new(rt.alloc());
+    let status = run_words(
+        &rt,
+        rt.alloc(),
+        &words,
+        &mut input,
+        &mut Broken,
+        &mut errors,
+    );
+    assert_eq!(rt; status, 2);
+    assert_eq!(rt; errors.as_slice(), b"tws: write fault\n".as_slice());
+    Ok(())
+}
+
+// Whatever is written before the writer fails is a proper prefix of the listing.
+#[test]
+fn show_to_a_writer_with_little_room(rt: HostRuntime) {
+    let listing = LISTING.as_bytes();
+    for j in 0..listing.len() {
+        let mut room = [0u8; 97];
+        let mut out = &mut room[..j];
+        let mut input = SOLUTION.as_slice();
+        assert_eq!(rt;
+            run_show(rt.alloc(), &mut input, &mut out, false),
+            Err(ToolFault::Write)
+        );
+        assert_eq!(rt; room.get(..j), listing.get(..j));
+    }
+}
+
+// The reader fails after a part of a record, and after a header that would be a file.
+#[test]
+fn an_input_that_breaks(rt: HostRuntime) {
+    for bytes in [&SOLUTION[..10], &SOLUTION[..8]] {
+        let mut out = Vec::new(rt.alloc());
+        let mut input = Breaks {
+            bytes: Some(bytes),
+            kind: io::ErrorKind::Other,
+        };
+        assert_eq!(rt;
+            run_show(rt.alloc(), &mut input, &mut out, false),
+            Err(ToolFault::Read)
+        );
+        assert!(rt; out.is_empty());
+    }
+}
+
+#[test]
+fn show_answers_its_faults(rt: HostRuntime) {
+    let mut out = Vec::new(rt.alloc());
+    let mut input = &SOLUTION[..9];
+    let fault = ToolFault::Unreadable {
+        index: 0,
+        fault: FileFault::ShortRecord(8),
+    };
+    assert_eq!(rt;
+        run_show(rt.alloc(), &mut input, &mut out, false),
+        Err(fault)
+    );
+}
+
+#[test]
+fn an_input_that_does_not_end(rt: HostRuntime) {
+    let mut out = Vec::new(rt.alloc());
+    let mut input = Drops { left: u32::MAX };
+    assert_eq!(rt;
+        run_show(rt.alloc(), &mut input, &mut out, false),
+        Err(ToolFault::Read)
+    );
+    assert_eq!(rt; input.left, u32::MAX - INPUT_READS);
+    assert!(rt; out.is_empty());
+}
+
+// The last read that is allowed finds the end.
+#[test]
+fn an_input_that_ends_at_the_last_read(rt: HostRuntime) {
+    let mut out = Vec::new(rt.alloc());
+    let mut input = Drops {
+        left: INPUT_READS - 1,
+    };
+    let fault = ToolFault::Unreadable {
+        index: 0,
+        fault: FileFault::BadSignature,
+    };
+    assert_eq!(rt;
+        run_show(rt.alloc(), &mut input, &mut out, false),
+        Err(fault)
+    );
+    assert!(rt; out.is_empty());
+}
+
+// Gives bytes, or fails.
+#[derive(Drop)]
+enum Input<'a> {
+    Whole(&'a [u8]),
+    Failing,
+}
+
+impl io::Read for Input<'_> {
+    fn read(&mut self, buf: &mut [u8]) -> io::Result<usize> {
+        match self {
+            Input::Whole(bytes) => bytes.read(buf),
+            Input::Failing => Err(io::Error::from(io::ErrorKind::Other)),
+        }
+    }
+}
+
+#[test]
+fn best_answers_the_first_input_that_fails(rt: HostRuntime) {
+    let mut out = Vec::new(rt.alloc());
+    let unsigned = [0x35, 0x33, 0x9B, 0x98, 2, 0, 0, 0];
+    let fault = ToolFault::Unreadable {
+        index: 0,
+        fault: FileFault::BadSignature,
+    };
+    let mut files = [Input::Whole(&unsigned), Input::Failing];
+    assert_eq!(rt;
+        run_best(rt.alloc(), Ruleset::Lynx, &mut files, &mut out),
+        Err(fault)
+    );
+    assert!(rt; out.is_empty());
+}
+
+#[test]
+fn best_answers_a_later_input_that_fails(rt: HostRuntime) {
+    let mut out = Vec::new(rt.alloc());
+    let mut files = [Input::Whole(&SOLUTION), Input::Failing];
+    assert_eq!(rt;
+        run_best(rt.alloc(), Ruleset::Lynx, &mut files, &mut out),
+        Err(ToolFault::Read)
+    );
+    assert!(rt; out.is_empty());
+}
+
+// A Lynx file of so many records, which say only that a level has a password, and its listing.
+fn passwords(rt: &HostRuntime, count: u32) -> Result<(Vec<u8>, Vec<u8>), Fail> {
+    let mut bytes = Vec::from_slice(rt.alloc(), &SOLUTION[..8])?;
+    let mut listing = Vec::from_slice(rt.alloc(), b"ruleset lynx word 0000 extra 0\n")?;
+    for _ in 0..count {
+        bytes.extend_from_slice(&[6, 0, 0, 0, 1, 0, 0x42, 0x44, 0x48, 0x50])?;
+        listing.extend_from_slice(b"level 1 BDHP\n")?;
+    }
+    Ok((bytes, listing))
+}
+
+#[test]
+fn show_to_a_writer_that_fails_late(rt: HostRuntime) -> Result<(), Fail> {
+    let (bytes, listing) = passwords(&rt, 6000)?;
+    let mut room = [0u8; 70_000];
+    let mut out = room.as_mut_slice();
+    let mut input = bytes.as_slice();
+    assert_eq!(rt;
+        run_show(rt.alloc(), &mut input, &mut out, false),
+        Err(ToolFault::Write)
+    );
+    assert_eq!(rt; Some(room.as_slice()), listing.get(..70_000));
+    Ok(())
+}
+
+#[test]
+fn help_to_a_full_writer(rt: HostRuntime) -> Result<(), Fail> {
+    let words = owned(&rt, &["tws", "--help"])?;
+    let mut room = [0u8; 10];
+    let mut out = room.as_mut_slice();
+    let mut input = SOLUTION.as_slice();
+    let mut errors = Vec::new(rt.alloc());
+    let status = run_words(&rt, rt.alloc(), &words, &mut input, &mut out, &mut errors);
+    assert_eq!(rt; (status, room), (2, *b"Lists, pac"));
+    assert_eq!(rt; errors.as_slice(), b"tws: write fault\n".as_slice());
+    Ok(())
+}
+
+// The name of a file of these bytes among the temporary ones.
+fn file(rt: &HostRuntime, name: &str, bytes: &[u8]) -> Result<String, Fail> {
+    let process = process::id(rt.process());
+    let name = format!(in rt.alloc(); "tws-{process}-{name}")?;
+    let path = env::temp_dir(rt)?.join(rt.alloc(), name.as_str())?;
+    let path = String::from_str(rt.alloc(), path.as_str())?;
+    fs::write(rt, path.as_str(), bytes)?;
+    Ok(path)
+}
+
+// The solution in 100 ticks and in 90, each in a file.
+fn two_files(rt: &HostRuntime) -> Result<(String, String), Fail> {
+    let slow = file(rt, "slow", &SOLUTION)?;
+    let fast = file(rt, "fast", &FASTER)?;
+    Ok((slow, fast))
+}
+
+fn remove(rt: &HostRuntime, first: &str, second: &str) -> Result<(), Fail> {
+    fs::remove_file(rt, first)?;
+    fs::remove_file(rt, second)?;
+    Ok(())
+}
+
+#[test]
+fn best_of_files(rt: HostRuntime) -> Result<(), Fail> {
+    let (slow, fast) = two_files(&rt)?;
+    let lynx = run(&rt, &["tws", "best", "lynx", &slow, &fast], &[])?;
+    let ms = run(&rt, &["tws", "best", "ms", &slow, &fast], &[])?;
+    remove(&rt, &slow, &fast)?;
+    let empty = [0x35, 0x33, 0x9B, 0x99, 2, 0, 0, 0];
+    assert_eq!(rt; (lynx.status, lynx.out.as_slice()), (0, FASTER.as_slice()));
+    assert_eq!(rt; (ms.status, ms.out.as_slice()), (0, empty.as_slice()));
+    Ok(())
+}
+
+#[test]
+fn best_of_a_file_that_is_unreadable(rt: HostRuntime) -> Result<(), Fail> {
+    let whole = file(&rt, "whole", &SOLUTION)?;
+    let short = file(&rt, "short", &[0x35, 0x33, 0x9B, 0x98, 2, 0, 0])?;
+    let outcome = run(&rt, &["tws", "best", "lynx", &whole, &short], &[])?;
+    remove(&rt, &whole, &short)?;
+    let line = format!(in rt.alloc(); "tws: {short}: unreadable: ShortHeader(7)\n")?;
+    assert!(rt; fails_with(&outcome, 3, &line));
+    Ok(())
+}
+
+#[test]
+fn best_of_a_file_that_is_missing(rt: HostRuntime) -> Result<(), Fail> {
+    let path = file(&rt, "missing", &SOLUTION)?;
+    fs::remove_file(&rt, path.as_str())?;
+    let outcome = run(&rt, &["tws", "best", "lynx", &path], &[])?;
+    assert_eq!(rt; outcome.status, 2);
+    assert_eq!(rt; outcome.errors.as_slice(), b"tws: read fault\n".as_slice());
+    Ok(())
+}
