@@ -1,5 +1,5 @@
 -- Which port is read next.
-use Rattle.std.specs.Prelude.{ℕ, min, nat_lt, Bool, true, false, ◌&&◌, List, fold, Option, None, Some}
+use Rattle.std.specs.Prelude.{ℕ, min, nat_lt, Bool, true, false, ◌&&◌, ◌||◌, List, fold, Option, None, Some}
 use Rattle.archive_host.specs.declared.open_port.OpenPort.{OpenPort}
 use Rattle.archive_host.specs.declared.arrival.Arrival.{Arrival}
 use Rattle.archive_host.specs.declared.arrival.Arrival.TheVariants.{Nothing, Perhaps, Reported}
@@ -39,3 +39,7 @@ ready_least ports = fold (λ least o. lesser_if (is_reported o.arrival) least o.
 abbrev pub ready_above : (after : ℕ) → List OpenPort → Option ℕ
 ready_above after ports =
     fold (λ least o. lesser_if (is_reported o.arrival && nat_lt after o.port) least o.port) None ports
+
+-- whether a datagram may have come to one of the ports that was not read
+abbrev pub one_may_have_more : List OpenPort → Bool
+one_may_have_more ports = fold (λ found o. may_have_more o.arrival || found) false ports

@@ -1,5 +1,5 @@
 ghost use Rattle.std.specs.Prelude.{◌≡◌, ◌<◌, ◌++◌, ◌∷◌, [], length, map, IfSome, OnOk, OnErr, slice_get, Some};
-ghost use Rattle.archive_host.specs.Arrivals.{lesser, ready_least, ready_above, marked_read};
+ghost use Rattle.archive_host.specs.Arrivals.{lesser, ready_least, ready_above, one_may_have_more, marked_read};
 
 use crate::open_port::OpenPort;
 use std::alloc::{AllocError, Global};
@@ -112,8 +112,16 @@ impl OpenPorts {
     }
 
     /// Whether a datagram may have come to a port that was not read.
-    pub(crate) fn may_have_more(&self) -> bool {
-        self.ports.iter().any(|open| open.may_have_more())
+    pub(crate) fn may_have_more(&self) -> bool
+        ensures { result ≡ one_may_have_more self.now.ports.items }
+    {
+        let mut is_found = false;
+        for open in &self.ports {
+            if open.may_have_more() {
+                is_found = true;
+            }
+        }
+        is_found
     }
 
     /// Marks the ports that were read since the last report, so that they are read again.
