@@ -1,5 +1,6 @@
--- Which port is read next.
-use Rattle.std.specs.Prelude.{ℕ, min, nat_lt, Bool, true, false, ◌&&◌, ◌||◌, List, fold, Option, None, Some}
+-- Which port is read next, and which are open.
+use Rattle.std.specs.Prelude.{ℕ, min, nat_lt, Bool, true, false, ◌&&◌, ◌||◌, ◌≡◌, ◌≢◌, List, All, fold, slice_get, Option, None, Some}
+use Rattle.std.specs.List.{remove}
 use Rattle.archive_host.specs.declared.open_port.OpenPort.{OpenPort}
 use Rattle.archive_host.specs.declared.arrival.Arrival.{Arrival}
 use Rattle.archive_host.specs.declared.arrival.Arrival.TheVariants.{Nothing, Perhaps, Reported}
@@ -43,3 +44,9 @@ ready_above after ports =
 -- whether a datagram may have come to one of the ports that was not read
 abbrev pub one_may_have_more : List OpenPort → Bool
 one_may_have_more ports = fold (λ found o. may_have_more o.arrival || found) false ports
+
+-- the port of this number is open no more, or there was none
+abbrev pub Closes : (port : ℕ) (was_open : Bool) (old new : List OpenPort) → Type 0
+Closes port true old new =
+    (i : ℕ) × (o : OpenPort) × (slice_get old i ≡ Some o) × (o.port ≡ port) × (new ≡ remove old i)
+Closes port false old new = All (λ o. o.port ≢ port) old × (new ≡ old)

@@ -1,5 +1,5 @@
-ghost use Rattle.std.specs.Prelude.{◌≡◌, ◌<◌, ◌++◌, ◌∷◌, [], length, map, IfSome, OnOk, OnErr, slice_get, Some};
-ghost use Rattle.archive_host.specs.Arrivals.{lesser, ready_least, ready_above, one_may_have_more, marked_read};
+ghost use Rattle.std.specs.Prelude.{◌≡◌, ◌≢◌, ◌<◌, ◌++◌, ◌∷◌, [], length, map, All, IfSome, IfNone, OnOk, OnErr, slice_get, Some};
+ghost use Rattle.archive_host.specs.Arrivals.{lesser, ready_least, ready_above, one_may_have_more, marked_read, Closes};
 
 use crate::open_port::OpenPort;
 use std::alloc::{AllocError, Global};
@@ -54,6 +54,7 @@ impl OpenPorts {
     fn place(&self, port: u16) -> Option<usize>
         ensures within { IfSome result (λ i. i < length self.now.ports.items) }
         ensures port { IfSome result (λ i. (o : _) → slice_get self.now.ports.items i ≡ Some o → o.port ≡ port) }
+        ensures none { IfNone result (All (λ o. o.port ≢ port) self.now.ports.items) }
     {
         self.ports.iter().position(|open| open.port() == port)
     }
@@ -75,7 +76,9 @@ impl OpenPorts {
     }
 
     /// Closes a port. Answers whether it was open.
-    pub(crate) fn close(&mut self, port: u16) -> bool {
+    pub(crate) fn close(&mut self, port: u16) -> bool
+        ensures { Closes port result self.old.ports.items self.new.ports.items }
+    {
         match self.place(port) {
             Some(place) => {
                 self.ports.remove(place);

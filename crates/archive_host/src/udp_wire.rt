@@ -1,6 +1,7 @@
 //! A wire over UDP sockets.
 
-ghost use Rattle.std.specs.Prelude.{◌≡◌, ◌==◌, ◌≤◌, ◌<◌, ◌+◌, ◌-◌, ◌^◌, None, IfOk, IfSome, IfErr, OnErr, if◌then◌else◌};
+ghost use Rattle.std.specs.Prelude.{◌≡◌, ◌==◌, ◌≤◌, ◌<◌, ◌+◌, ◌-◌, ◌^◌, true, false, Some, None, IfOk, IfSome, IfErr, OnErr, if◌then◌else◌};
+ghost use Rattle.archive_host.specs.Arrivals.{one_may_have_more};
 ghost use Rattle.archive_table.specs.Keeper.{FailsAt};
 ghost use Rattle.archive_host.specs.declared.udp_wire.TheConstants.{LAPS};
 
@@ -23,7 +24,7 @@ const WAIT: u64 = 5;
 const LOOKS: u32 = 1000;
 
 // In one of so many laps over the ports, those that were read are read again.
-const LAPS: u8 = 4;
+const LAPS: u8 = 16;
 
 /// A wire over UDP and IPv4, whose ports are open at every address of this host. `receive` waits 5 ms at most, and not at
 /// all at the port that `wait` has just given. Its clock is in milliseconds. It does not tell its log.
@@ -185,6 +186,8 @@ impl<R: Net + Clock + AllocGlobal + Copy> UdpWire<R> {
     // How long to wait for a moment, if nothing is left to be read.
     fn until(&mut self, until: Option<u64>) -> Option<u64>
         ensures failures { self.new.failures ≡ self.old.failures }
+        ensures at_once { one_may_have_more self.old.ports.ports.items ≡ true → result ≡ Some 0 }
+        ensures without_end { one_may_have_more self.old.ports.ports.items ≡ false → until ≡ None → result ≡ None }
     {
         if self.ports.may_have_more() {
             return Some(0);
@@ -194,7 +197,7 @@ impl<R: Net + Clock + AllocGlobal + Copy> UdpWire<R> {
     }
 
     // Begins a lap over the ports: the system is looked at. A port that was read mostly has no second datagram, so it is
-    // read again where no other is ready, and in each fourth lap, so that what has come to it is not kept back for long.
+    // read again where no other is ready, and in each sixteenth lap, so that what has come to it is not kept back for long.
     fn begin_lap(&mut self, until: Option<u64>)
         ensures failures { self.new.failures ≡ self.old.failures }
     {

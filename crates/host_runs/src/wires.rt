@@ -341,14 +341,14 @@ fn a_closed_port_is_not_given(rt: HostRuntime) -> Result<(), Fail> {
     Ok(())
 }
 
-// How often the upper port is read in ten visits. Two datagrams have come to it, and before each visit another comes to the
+// How often the upper port is read in forty visits. Two datagrams have come to it, and before each visit another comes to the
 // lower port.
 fn visits_above(pair: &mut Pair) -> Result<u32, Fail> {
     pair.send(pair.high, 1)?;
     pair.send(pair.high, 2)?;
     let mut last = 0;
     let mut visits = 0_u32;
-    for block in 0..10 {
+    for block in 0..40 {
         pair.send(pair.low, block)?;
         let (port, got) = pair.visit(last)?;
         if port == pair.high && got.is_some() {
@@ -359,7 +359,7 @@ fn visits_above(pair: &mut Pair) -> Result<u32, Fail> {
     Ok(visits)
 }
 
-// The upper port is read twice within five laps.
+// The upper port is read twice within twenty laps.
 #[test]
 fn a_second_datagram_is_not_kept_back(rt: HostRuntime) -> Result<(), Fail> {
     let mut pair = Pair::open(rt)?;
