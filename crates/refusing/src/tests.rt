@@ -13,87 +13,85 @@ fn lengths<A: Allocator + Copy>(alloc: A) -> Result<Vec<usize, A>, AllocError> {
     Ok(lengths)
 }
 
+// Whether it has refused a request, and how many it has had.
+fn state<A: Allocator>(refusing: &Refusing<A>) -> (bool, u64) {
+    (refusing.has_refused(), refusing.requests())
+}
+
 #[test]
-fn refuses_the_first_push_alone(rt: HostRuntime) -> Result<(), Fail> {
+fn refuses_the_first_push_alone(rt: HostRuntime) {
     let refusing = Refusing::new(rt.alloc(), 1);
     let mut numbers = Vec::new(&refusing);
-    assert!(rt; !refusing.has_refused());
-
-    assert!(rt; numbers.push(7u8).is_err());
-    assert!(rt; numbers.is_empty());
-    assert!(rt; refusing.has_refused());
-    assert_eq!(rt; refusing.requests(), 1);
-
-    numbers.push(8)?;
+    let before = state(&refusing);
+    let first = numbers.push(7u8).is_err();
+    let between = (numbers.is_empty(), state(&refusing));
+    let second = numbers.push(8).is_ok();
+    assert_eq!(rt;
+        (before, first, between, second, state(&refusing)),
+        ((false, 0), true, (true, (true, 1)), true, (true, 2))
+    );
     assert_eq!(rt; numbers.as_slice(), [8].as_slice());
-    assert!(rt; refusing.has_refused());
-    assert_eq!(rt; refusing.requests(), 2);
-    Ok(())
 }
 
 #[test]
 fn refuses_nothing_at_zero(rt: HostRuntime) -> Result<(), Fail> {
     let refusing = Refusing::new(rt.alloc(), 0);
     let lengths = lengths(&refusing)?;
-    assert_eq!(rt; lengths.as_slice(), [3, 5].as_slice());
-    assert!(rt; !refusing.has_refused());
-    assert_eq!(rt; refusing.requests(), 3);
+    assert_eq!(rt;
+        (lengths.as_slice(), state(&refusing)),
+        ([3, 5].as_slice(), (false, 3))
+    );
     Ok(())
 }
 
 #[test]
 fn a_refused_growth_keeps_the_items(rt: HostRuntime) -> Result<(), Fail> {
     let refusing = Refusing::new(rt.alloc(), 2);
-    let mut numbers = Vec::with_capacity(&refusing, 2)?;
-    numbers.push(1u8)?;
-    numbers.push(2)?;
-    assert!(rt; !refusing.has_refused());
-    assert_eq!(rt; refusing.requests(), 1);
-
-    assert!(rt; numbers.push(3).is_err());
-    assert_eq!(rt; numbers.as_slice(), [1, 2].as_slice());
-    assert!(rt; refusing.has_refused());
-    assert_eq!(rt; refusing.requests(), 2);
-
-    numbers.push(3)?;
-    assert_eq!(rt; numbers.as_slice(), [1, 2, 3].as_slice());
+    let mut numbers = Vec::from_slice(&refusing, &[1u8, 2])?;
+    let before = state(&refusing);
+    let third = numbers.push(3).is_err();
+    assert_eq!(rt;
+        (before, third, numbers.as_slice(), state(&refusing)),
+        ((false, 1), true, [1, 2].as_slice(), (true, 2))
+    );
+    let again = numbers.push(3).is_ok();
+    assert_eq!(rt; (again, numbers.as_slice()), (true, [1, 2, 3].as_slice()));
     Ok(())
 }
 
+// Whether a request for one byte is granted.
+fn is_granted<A: Allocator>(alloc: A) -> bool {
+    Box::new(alloc, 7u8).is_ok()
+}
+
 #[test]
-fn refuses_a_request_that_is_set_anew(rt: HostRuntime) -> Result<(), Fail> {
+fn refuses_a_request_that_is_set_anew(rt: HostRuntime) {
     let mut refusing = Refusing::new(rt.alloc(), 1);
-    assert!(rt; Box::new(&refusing, 7u8).is_err());
-
+    let first = is_granted(&refusing);
     refusing.nth = 3;
-    assert!(rt; !refusing.has_refused());
-    assert!(rt; Box::new(&refusing, 7u8).is_ok());
-    assert!(rt; Box::new(&refusing, 7u8).is_err());
-    assert!(rt; refusing.has_refused());
-    assert!(rt; Box::new(&refusing, 7u8).is_ok());
-    assert_eq!(rt; refusing.requests(), 4);
-    Ok(())
+    let before = state(&refusing);
+    let second = is_granted(&refusing);
+    let third = is_granted(&refusing);
+    let fourth = is_granted(&refusing);
+    assert_eq!(rt;
+        ((first, second, third, fourth), before, state(&refusing)),
+        ((false, true, false, true), (false, 1), (true, 4))
+    );
 }
 
 #[test]
-fn passes_on_what_the_inner_allocator_refuses(rt: HostRuntime) -> Result<(), Fail> {
+fn passes_on_what_the_inner_allocator_refuses(rt: HostRuntime) {
     let inner = Refusing::new(rt.alloc(), 1);
     let outer = Refusing::new(&inner, 2);
-    let mut numbers = Vec::new(&outer);
-
-    assert!(rt; numbers.push(1u8).is_err());
-    assert!(rt; inner.has_refused());
-    assert!(rt; !outer.has_refused());
-
-    assert!(rt; numbers.push(1).is_err());
-    assert!(rt; outer.has_refused());
-    assert_eq!(rt; inner.requests(), 1);
-
-    numbers.push(1)?;
-    assert_eq!(rt; numbers.as_slice(), [1].as_slice());
-    assert_eq!(rt; inner.requests(), 2);
-    assert_eq!(rt; outer.requests(), 3);
-    Ok(())
+    let first = is_granted(&outer);
+    let by_inner = (state(&inner), state(&outer));
+    let second = is_granted(&outer);
+    let by_outer = (state(&inner), state(&outer));
+    let third = is_granted(&outer);
+    let at_last = (state(&inner), state(&outer));
+    assert_eq!(rt; (first, by_inner), (false, ((true, 1), (false, 1))));
+    assert_eq!(rt; (second, by_outer), (false, ((true, 1), (true, 2))));
+    assert_eq!(rt; (third, at_last), (true, ((true, 2), (true, 3))));
 }
 
 #[test]

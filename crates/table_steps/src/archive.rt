@@ -1,5 +1,5 @@
 // A table whose requests come to port 6969, and what a call of it is wanted to tell.
-use archive_table::{Keeper, LoadFault, Step, Table};
+use archive_table::{Keeper, LoadFault, NoKeeper, Step, Table};
 use std::alloc::Global;
 use std::marker::Model;
 use std::test::Fail;
@@ -204,4 +204,49 @@ pub(crate) fn has_texts(
 // How many transfers there are, and the least port of one.
 pub(crate) fn is_live(archive: &Archive, count: usize, least: Option<u16>) -> bool {
     archive.table().live() == count && archive.table().next_port(0) == least
+}
+
+// What inputs leave: the collections' texts, how many transfers there are, and the least port of one.
+#[derive(Clone, Copy)]
+pub(crate) struct Left<'a> {
+    pub(crate) lynx: &'a [u8],
+    pub(crate) ms: &'a [u8],
+    pub(crate) live: usize,
+    pub(crate) least: Option<u16>,
+}
+
+// What is left of a new archive to which nothing came that counts.
+pub(crate) const NOTHING: Left<'static> = Left {
+    lynx: b"\x35\x33\x9B\x99\x01\0\0\0",
+    ms: b"\x35\x33\x9B\x99\x02\0\0\0",
+    live: 0,
+    least: None,
+};
+
+// The first of these inputs to this archive that tells something else than wanted; the number of all where they leave
+// something else.
+pub(crate) fn other_of<K: Keeper>(
+    alloc: Global,
+    archive: Archive,
+    keeper: &mut K,
+    rows: &[(Input<'_>, Told<'_>)],
+    left: Left<'_>,
+) -> Result<Option<usize>, Fail> {
+    let mut archive = archive;
+    let other = first_other(alloc, &mut archive, keeper, rows)?;
+    if other.is_some() {
+        return Ok(other);
+    }
+    let is_left = is_live(&archive, left.live, left.least)
+        && has_texts(alloc, &archive, left.lynx, left.ms)?;
+    Ok(if is_left { None } else { Some(rows.len()) })
+}
+
+// The same of a new archive that keeps nothing.
+pub(crate) fn other_of_new(
+    alloc: Global,
+    rows: &[(Input<'_>, Told<'_>)],
+    left: Left<'_>,
+) -> Result<Option<usize>, Fail> {
+    other_of(alloc, Archive::new(alloc), &mut NoKeeper, rows, left)
 }

@@ -1,5 +1,8 @@
 // What comes to a transfer's port.
-use crate::archive::{Archive, Input, Told, client, first_other, has_texts, has_told, is_live};
+use crate::archive::{
+    Archive, Input, Left, NOTHING, Told, client, first_other, has_told, is_live, other_of,
+    other_of_new,
+};
 use archive_table::{NoKeeper, Step};
 use std::alloc::Global;
 use std::test::Fail;
@@ -13,10 +16,6 @@ const RRQ: &[u8; 17] = b"\0\x01lynx.tws\0octet\0";
 const HUNDRED: &[u8; 28] = b"\x35\x33\x9B\x99\x01\0\0\0\x10\0\0\0\x01\0BDHP\0\0\0\0\0\0\x64\0\0\0";
 
 const NINETY: &[u8; 28] = b"\x35\x33\x9B\x99\x01\0\0\0\x10\0\0\0\x01\0BDHP\0\0\0\0\0\0\x5A\0\0\0";
-
-const EMPTY_LYNX: &[u8; 8] = b"\x35\x33\x9B\x99\x01\0\0\0";
-
-const EMPTY_MS: &[u8; 8] = b"\x35\x33\x9B\x99\x02\0\0\0";
 
 // DATA 1 with each of them.
 const FIRST: &[u8; 32] =
@@ -39,9 +38,10 @@ const FILE_TOO_LONG: &[u8; 18] = b"\0\x05\0\x03file too long\0";
 const LONG_HEADER: &[u8; 32] =
     b"\0\x03\0\x01\x35\x33\x9B\x99\x01\0\0\0\0\0\0\0\0\0AAAA\0\0\0\0\0\0\0\0\0\0";
 
-// Whether of two transfers that one request opened the client ends the one that it is not bound to, and by the other its
-// file is taken once, though its last block comes twice.
-fn takes_once(alloc: Global, archive: &mut Archive) -> Result<bool, Fail> {
+// Of two transfers that one request opened the client ends the one that it is not bound to, and by the other its file is
+// taken once, though its last block comes twice.
+#[test]
+fn a_request_that_came_twice(rt: HostRuntime) -> Result<(), Fail> {
     let rows = [
         (Input::Ask(4000, 2, WRQ), Told::Opens(4000, 2, ACK_0)),
         (Input::Ask(4001, 2, WRQ), Told::Opens(4001, 2, ACK_0)),
@@ -52,25 +52,19 @@ fn takes_once(alloc: Global, archive: &mut Archive) -> Result<bool, Fail> {
         ),
         (Input::Hear(4000, 2, FIRST), Told::Sends(4000, 2, ACK_1)),
         (Input::Wait(4000), Told::Nothing),
+        (Input::Wait(4000), Told::Ends),
     ];
-    Ok(first_other(alloc, archive, &mut NoKeeper, &rows)?.is_none())
-}
-
-#[test]
-fn a_request_that_came_twice(rt: HostRuntime) -> Result<(), Fail> {
-    let mut archive = Archive::new(rt.alloc());
-    assert!(rt; takes_once(rt.alloc(), &mut archive)?);
-    assert!(rt; has_texts(rt.alloc(), &archive, HUNDRED, EMPTY_MS)?);
-    assert!(rt; is_live(&archive, 1, Some(4000)));
-    assert!(rt; has_told(rt.alloc(), &archive.wait(4000), Told::Ends)?);
-    assert!(rt; is_live(&archive, 0, None));
+    let left = Left {
+        lynx: HUNDRED,
+        ..NOTHING
+    };
+    assert_eq!(rt; other_of_new(rt.alloc(), &rows, left)?, None);
     Ok(())
 }
 
 // A datagram of another source changes nothing: the transfer goes on as if it had not come.
 #[test]
 fn another_source(rt: HostRuntime) -> Result<(), Fail> {
-    let mut archive = Archive::new(rt.alloc());
     let empty = b"\0\x03\0\x01\x35\x33\x9B\x99\x01\0\0\0";
     let rows = [
         (Input::Ask(4000, 2, RRQ), Told::Opens(4000, 2, empty)),
@@ -80,16 +74,12 @@ fn another_source(rt: HostRuntime) -> Result<(), Fail> {
         (Input::Wait(4000), Told::Sends(4000, 2, empty)),
         (Input::Hear(4000, 2, ACK_1), Told::Ends),
     ];
-    assert_eq!(rt;
-        first_other(rt.alloc(), &mut archive, &mut NoKeeper, &rows)?,
-        None
-    );
+    assert_eq!(rt; other_of_new(rt.alloc(), &rows, NOTHING)?, None);
     Ok(())
 }
 
 #[test]
 fn malformed_datagrams_of_the_peer(rt: HostRuntime) -> Result<(), Fail> {
-    let mut archive = Archive::new(rt.alloc());
     let rows = [
         (Input::Ask(4000, 2, WRQ), Told::Opens(4000, 2, ACK_0)),
         (Input::Hear(4000, 2, &[0; 517]), Told::Nothing),
@@ -101,65 +91,56 @@ fn malformed_datagrams_of_the_peer(rt: HostRuntime) -> Result<(), Fail> {
         (Input::Hear(4000, 2, FIRST), Told::Nothing),
         (Input::Wait(4000), Told::Nothing),
     ];
-    assert_eq!(rt;
-        first_other(rt.alloc(), &mut archive, &mut NoKeeper, &rows)?,
-        None
-    );
-    assert!(rt; has_texts(rt.alloc(), &archive, EMPTY_LYNX, EMPTY_MS)?);
+    assert_eq!(rt; other_of_new(rt.alloc(), &rows, NOTHING)?, None);
     Ok(())
 }
 
-// Opens a download at each port from 4101 to 4163, or lets each wait: whether each sends DATA 1 with the first file.
-fn each_sends(alloc: Global, archive: &mut Archive, opened: bool) -> Result<bool, Fail> {
+type Row = (Input<'static>, Told<'static>);
+
+// The first file is taken, and its transfer ends.
+const TAKES_FIRST: [Row; 4] = [
+    (Input::Ask(4000, 2, WRQ), Told::Opens(4000, 2, ACK_0)),
+    (
+        Input::Hear(4000, 2, FIRST),
+        Told::Takes(4000, 2, ACK_1, HUNDRED),
+    ),
+    (Input::Wait(4000), Told::Nothing),
+    (Input::Wait(4000), Told::Ends),
+];
+
+// The better file is taken.
+const TAKES_BETTER: [Row; 2] = [
+    (Input::Ask(4200, 3, WRQ), Told::Opens(4200, 3, ACK_0)),
+    (
+        Input::Hear(4200, 3, BETTER),
+        Told::Takes(4200, 3, ACK_1, NINETY),
+    ),
+];
+
+// A download begins at each port from 4101 to 4163, and after the better file was taken each sends its first block again.
+fn downloads(alloc: Global) -> Result<Vec<Row>, Fail> {
+    let mut rows = Vec::from_slice(alloc, &TAKES_FIRST)?;
     for port in 4101..4164 {
-        let (input, wanted) = if opened {
-            (Input::Wait(port), Told::Sends(port, 2, FIRST))
-        } else {
-            (Input::Ask(port, 2, RRQ), Told::Opens(port, 2, FIRST))
-        };
-        if first_other(alloc, archive, &mut NoKeeper, &[(input, wanted)])?.is_some() {
-            return Ok(false);
-        }
+        rows.push((Input::Ask(port, 2, RRQ), Told::Opens(port, 2, FIRST)))?;
     }
-    Ok(true)
-}
-
-// Whether the first file is taken, and its transfer ends.
-fn takes_first(alloc: Global, archive: &mut Archive) -> Result<bool, Fail> {
-    let rows = [
-        (Input::Ask(4000, 2, WRQ), Told::Opens(4000, 2, ACK_0)),
-        (
-            Input::Hear(4000, 2, FIRST),
-            Told::Takes(4000, 2, ACK_1, HUNDRED),
-        ),
-        (Input::Wait(4000), Told::Nothing),
-        (Input::Wait(4000), Told::Ends),
-    ];
-    Ok(first_other(alloc, archive, &mut NoKeeper, &rows)?.is_none())
-}
-
-// Whether the better file is taken.
-fn takes_better(alloc: Global, archive: &mut Archive) -> Result<bool, Fail> {
-    let rows = [
-        (Input::Ask(4200, 3, WRQ), Told::Opens(4200, 3, ACK_0)),
-        (
-            Input::Hear(4200, 3, BETTER),
-            Told::Takes(4200, 3, ACK_1, NINETY),
-        ),
-    ];
-    let other = first_other(alloc, archive, &mut NoKeeper, &rows)?;
-    Ok(other.is_none() && has_texts(alloc, archive, NINETY, EMPTY_MS)?)
+    rows.extend_from_slice(&TAKES_BETTER)?;
+    for port in 4101..4164 {
+        rows.push((Input::Wait(port), Told::Sends(port, 2, FIRST)))?;
+    }
+    Ok(rows)
 }
 
 // What a download sends is the collection as it was when it began.
 #[test]
 fn downloads_beside_an_upload(rt: HostRuntime) -> Result<(), Fail> {
-    let mut archive = Archive::new(rt.alloc());
-    assert!(rt; takes_first(rt.alloc(), &mut archive)?);
-    assert!(rt; each_sends(rt.alloc(), &mut archive, false)?);
-    assert!(rt; takes_better(rt.alloc(), &mut archive)?);
-    assert!(rt; is_live(&archive, 64, Some(4101)));
-    assert!(rt; each_sends(rt.alloc(), &mut archive, true)?);
+    let rows = downloads(rt.alloc())?;
+    let left = Left {
+        lynx: NINETY,
+        live: 64,
+        least: Some(4101),
+        ..NOTHING
+    };
+    assert_eq!(rt; other_of_new(rt.alloc(), &rows, left)?, None);
     Ok(())
 }
 
@@ -184,26 +165,27 @@ fn nearly_full(alloc: Global) -> Result<Archive, Fail> {
     Ok(archive)
 }
 
-#[test]
-fn a_block_too_many(rt: HostRuntime) -> Result<(), Fail> {
-    let mut archive = nearly_full(rt.alloc())?;
+// Whether the block after those is refused, and closes the transfer.
+fn refuses_a_block(alloc: Global) -> Result<bool, Fail> {
     let mut data = [7; 516];
     data[..4].copy_from_slice(b"\0\x03\xFF\xFF");
     let rows = [(
         Input::Hear(4000, 2, &data),
         Told::Closes(4000, 2, FILE_TOO_LONG),
     )];
-    assert_eq!(rt;
-        first_other(rt.alloc(), &mut archive, &mut NoKeeper, &rows)?,
-        None
-    );
-    assert!(rt; is_live(&archive, 0, None));
+    let archive = nearly_full(alloc)?;
+    Ok(other_of(alloc, archive, &mut NoKeeper, &rows, NOTHING)?.is_none())
+}
+
+#[test]
+fn a_block_too_many(rt: HostRuntime) -> Result<(), Fail> {
+    assert!(rt; refuses_a_block(rt.alloc())?);
     Ok(())
 }
 
 // Whether the last block completes a file of sevens, and comes again. After it no number comes next: block 0 and block 1 are
 // not taken.
-fn takes_the_last(alloc: Global, archive: &mut Archive, file: &[u8]) -> Result<bool, Fail> {
+fn takes_the_last(alloc: Global, file: &[u8]) -> Result<bool, Fail> {
     let mut data = [7; 515];
     data[..4].copy_from_slice(b"\0\x03\xFF\xFF");
     let last = b"\0\x04\xFF\xFF";
@@ -216,15 +198,19 @@ fn takes_the_last(alloc: Global, archive: &mut Archive, file: &[u8]) -> Result<b
         (Input::Hear(4000, 2, b"\0\x03\0\0end"), Told::Nothing),
         (Input::Hear(4000, 2, b"\0\x03\0\x01end"), Told::Nothing),
     ];
-    Ok(first_other(alloc, archive, &mut NoKeeper, &rows)?.is_none())
+    let left = Left {
+        live: 1,
+        least: Some(4000),
+        ..NOTHING
+    };
+    let archive = nearly_full(alloc)?;
+    Ok(other_of(alloc, archive, &mut NoKeeper, &rows, left)?.is_none())
 }
 
 #[test]
 fn the_greatest_file(rt: HostRuntime) -> Result<(), Fail> {
-    let mut archive = nearly_full(rt.alloc())?;
     let file = vec![in rt.alloc(); 7; 33553919]?;
-    assert!(rt; takes_the_last(rt.alloc(), &mut archive, &file)?);
-    assert!(rt; has_texts(rt.alloc(), &archive, EMPTY_LYNX, EMPTY_MS)?);
+    assert!(rt; takes_the_last(rt.alloc(), &file)?);
     Ok(())
 }
 
@@ -265,10 +251,8 @@ fn with_two_files(alloc: Global, size: u32) -> Result<Archive, Fail> {
     }
 }
 
-// Two files whose collection would be too long to be sent: 34,000,048 bytes.
-#[test]
-fn a_collection_too_long(rt: HostRuntime) -> Result<(), Fail> {
-    let mut archive = with_two_files(rt.alloc(), 17_000_028)?;
+// Whether a collection that is too long is not sent, and the other one is.
+fn sends_the_other(alloc: Global) -> Result<bool, Fail> {
     let empty = b"\0\x03\0\x01\x35\x33\x9B\x99\x02\0\0\0";
     let rows = [
         (Input::Ask(4003, 9, RRQ), Told::Sends(6969, 9, TOO_LONG)),
@@ -277,11 +261,15 @@ fn a_collection_too_long(rt: HostRuntime) -> Result<(), Fail> {
             Told::Opens(4003, 9, empty),
         ),
     ];
-    assert_eq!(rt;
-        first_other(rt.alloc(), &mut archive, &mut NoKeeper, &rows)?,
-        None
-    );
-    assert!(rt; is_live(&archive, 3, Some(4000)));
+    let mut archive = with_two_files(alloc, 17_000_028)?;
+    let other = first_other(alloc, &mut archive, &mut NoKeeper, &rows)?;
+    Ok(other.is_none() && is_live(&archive, 3, Some(4000)))
+}
+
+// Two files whose collection would be too long to be sent: 34,000,048 bytes.
+#[test]
+fn a_collection_too_long(rt: HostRuntime) -> Result<(), Fail> {
+    assert!(rt; sends_the_other(rt.alloc())?);
     Ok(())
 }
 
@@ -314,18 +302,18 @@ fn is_served(archive: &mut Archive, port: u16, first: Step, text: &[u8]) -> bool
     step.closed && step.out.is_none()
 }
 
-// Whether the collection of Lynx has so many bytes, and a request to read it is served.
-fn serves(alloc: Global, archive: &mut Archive, size: usize) -> Result<bool, Fail> {
+// Whether the collection of two files of these sizes has so many bytes, and a request to read it is served.
+fn serves(alloc: Global, file: u32, size: usize) -> Result<bool, Fail> {
+    let mut archive = with_two_files(alloc, file)?;
     let text = archive.text(alloc, Ruleset::Lynx)?;
     let first = archive.ask(4003, client(9), RRQ)?;
-    Ok(text.len() == size && first.opened && is_served(archive, 4003, first, &text))
+    let is_whole = text.len() == size && first.opened;
+    Ok(is_whole && is_served(&mut archive, 4003, first, &text) && is_live(&archive, 2, Some(4000)))
 }
 
 // Two files whose collection is long, and is sent: 4,200,048 bytes, in 8,204 blocks.
 #[test]
 fn a_long_collection(rt: HostRuntime) -> Result<(), Fail> {
-    let mut archive = with_two_files(rt.alloc(), 2_100_028)?;
-    assert!(rt; serves(rt.alloc(), &mut archive, 4_200_048)?);
-    assert!(rt; is_live(&archive, 2, Some(4000)));
+    assert!(rt; serves(rt.alloc(), 2_100_028, 4_200_048)?);
     Ok(())
 }

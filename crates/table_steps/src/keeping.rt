@@ -1,5 +1,5 @@
 // Collections that are kept, or not, and found again by a server that starts.
-use crate::archive::{Archive, Input, Told, client, first_other, has_texts, is_live};
+use crate::archive::{Archive, Input, Left, NOTHING, Told, client, has_texts, is_live, other_of};
 use archive_table::{KeepFault, LoadFault, MemoryKeeper};
 use std::alloc::Global;
 use std::test::Fail;
@@ -37,49 +37,51 @@ fn was_given(keeper: &MemoryKeeper, wanted: &[bool]) -> bool {
     kept.len() == wanted.len()
 }
 
-// Whether a file that is not kept is refused, and joins no collection.
-fn is_not_taken(
+// The first of these inputs to a new archive that tells something else than wanted, where this call of its keeper fails and
+// no other; the number of all where they leave something else, or the keeper was given something else.
+fn other_kept(
     alloc: Global,
-    archive: &mut Archive,
-    keeper: &mut MemoryKeeper,
-) -> Result<bool, Fail> {
+    failing: u64,
+    rows: &[(Input<'_>, Told<'_>)],
+    left: Left<'_>,
+    given: &[bool],
+) -> Result<Option<usize>, Fail> {
+    let mut keeper = MemoryKeeper::new(alloc);
+    keeper.fail_at(failing);
+    let other = other_of(alloc, Archive::new(alloc), &mut keeper, rows, left)?;
+    if other.is_none() && !was_given(&keeper, given) {
+        return Ok(Some(rows.len()));
+    }
+    Ok(other)
+}
+
+// A file that is not kept is refused, and joins no collection: the same of another client is given to the keeper again.
+#[test]
+fn a_keep_that_fails(rt: HostRuntime) -> Result<(), Fail> {
     let rows = [
         (Input::Ask(4000, 2, WRQ), Told::Opens(4000, 2, ACK_0)),
         (Input::Hear(4000, 2, FIRST), Told::Closes(4000, 2, NOT_KEPT)),
         (Input::Wait(4000), Told::Nothing),
-    ];
-    let other = first_other(alloc, archive, keeper, &rows)?;
-    Ok(other.is_none() && has_texts(alloc, archive, EMPTY_LYNX, EMPTY_MS)?)
-}
-
-// Whether the same file is taken, by another client.
-fn is_taken(alloc: Global, archive: &mut Archive, keeper: &mut MemoryKeeper) -> Result<bool, Fail> {
-    let rows = [
         (Input::Ask(4001, 3, WRQ), Told::Opens(4001, 3, ACK_0)),
         (
             Input::Hear(4001, 3, FIRST),
             Told::Takes(4001, 3, ACK_1, HUNDRED),
         ),
     ];
-    Ok(first_other(alloc, archive, keeper, &rows)?.is_none())
-}
-
-#[test]
-fn a_keep_that_fails(rt: HostRuntime) -> Result<(), Fail> {
-    let mut archive = Archive::new(rt.alloc());
-    let mut keeper = MemoryKeeper::new(rt.alloc());
-    keeper.fail_at(1);
-    assert!(rt; is_not_taken(rt.alloc(), &mut archive, &mut keeper)?);
-    assert!(rt; is_taken(rt.alloc(), &mut archive, &mut keeper)?);
-    assert!(rt; was_given(&keeper, &[false, true]));
+    let left = Left {
+        lynx: HUNDRED,
+        live: 1,
+        least: Some(4001),
+        ..NOTHING
+    };
+    let other = other_kept(rt.alloc(), 1, &rows, left, &[false, true])?;
+    assert_eq!(rt; other, None);
     Ok(())
 }
 
 // The second file changes nothing, and nothing is kept for it; nor for bytes that are no file.
 #[test]
 fn nothing_to_keep(rt: HostRuntime) -> Result<(), Fail> {
-    let mut archive = Archive::new(rt.alloc());
-    let mut keeper = MemoryKeeper::new(rt.alloc());
     let cut = b"\x35\x33\x9B\x98\x02\0\0";
     let rows = [
         (Input::Ask(4000, 2, WRQ), Told::Opens(4000, 2, ACK_0)),
@@ -95,12 +97,13 @@ fn nothing_to_keep(rt: HostRuntime) -> Result<(), Fail> {
         (Input::Ask(4002, 4, WRQ), Told::Opens(4002, 4, ACK_0)),
         (Input::Hear(4002, 4, CUT), Told::Takes(4002, 4, ACK_1, cut)),
     ];
-    assert_eq!(rt;
-        first_other(rt.alloc(), &mut archive, &mut keeper, &rows)?,
-        None
-    );
-    assert!(rt; was_given(&keeper, &[true]));
-    assert!(rt; has_texts(rt.alloc(), &archive, HUNDRED, EMPTY_MS)?);
+    let left = Left {
+        lynx: HUNDRED,
+        live: 3,
+        least: Some(4000),
+        ..NOTHING
+    };
+    assert_eq!(rt; other_kept(rt.alloc(), 0, &rows, left, &[true])?, None);
     Ok(())
 }
 
@@ -111,23 +114,29 @@ fn fault(alloc: Global, keeper: &mut MemoryKeeper) -> Option<LoadFault> {
     }
 }
 
+// Why nothing is loaded from a keeper with this text for Lynx, of which this call fails.
+fn fault_of(alloc: Global, lynx: Option<&[u8]>, failing: u64) -> Result<Option<LoadFault>, Fail> {
+    let text = match lynx {
+        Some(bytes) => Some(Vec::from_slice(alloc, bytes)?),
+        None => None,
+    };
+    let mut keeper = MemoryKeeper::with(alloc, text, None)?;
+    keeper.fail_at(failing);
+    Ok(fault(alloc, &mut keeper))
+}
+
 #[test]
 fn loading_refused(rt: HostRuntime) -> Result<(), Fail> {
-    let alloc = rt.alloc();
-    let cut = Vec::from_slice(alloc, b"\x35\x33\x9B\x98\x02\0\0")?;
-    let mut keeper = MemoryKeeper::with(alloc, Some(cut), None)?;
-    let wanted = LoadFault::Unreadable(FileFault::ShortHeader(7));
-    assert_eq!(rt; fault(alloc, &mut keeper), Some(wanted));
-    let other = Vec::from_slice(alloc, EMPTY_MS)?;
-    let mut keeper = MemoryKeeper::with(alloc, Some(other), None)?;
-    assert_eq!(rt; fault(alloc, &mut keeper), Some(LoadFault::WrongRuleset));
-    for n in [1, 2] {
-        let mut keeper = MemoryKeeper::new(alloc);
-        keeper.fail_at(n);
-        assert_eq!(rt;
-            fault(alloc, &mut keeper),
-            Some(LoadFault::Keep(KeepFault::Device))
-        );
+    let device = LoadFault::Keep(KeepFault::Device);
+    let short = LoadFault::Unreadable(FileFault::ShortHeader(7));
+    let rows: [(Option<&[u8]>, u64, LoadFault); 4] = [
+        (Some(b"\x35\x33\x9B\x98\x02\0\0"), 0, short),
+        (Some(EMPTY_MS), 0, LoadFault::WrongRuleset),
+        (None, 1, device),
+        (None, 2, device),
+    ];
+    for (lynx, failing, wanted) in rows {
+        assert_eq!(rt; fault_of(rt.alloc(), lynx, failing)?, Some(wanted));
     }
     Ok(())
 }
@@ -140,16 +149,19 @@ fn loads(alloc: Global, keeper: &mut MemoryKeeper, lynx: &[u8], ms: &[u8]) -> Re
     }
 }
 
+// Whether both texts are loaded of a keeper that has them.
+fn loads_both(alloc: Global, lynx: &[u8], ms: &[u8]) -> Result<bool, Fail> {
+    let one = Vec::from_slice(alloc, lynx)?;
+    let other = Vec::from_slice(alloc, ms)?;
+    let mut keeper = MemoryKeeper::with(alloc, Some(one), Some(other))?;
+    Ok(keeper.kept().len() == 2 && loads(alloc, &mut keeper, lynx, ms)?)
+}
+
 #[test]
 fn loading(rt: HostRuntime) -> Result<(), Fail> {
-    let alloc = rt.alloc();
-    let lynx = Vec::from_slice(alloc, HUNDRED)?;
-    let ms = Vec::from_slice(alloc, EMPTY_MS)?;
-    let mut keeper = MemoryKeeper::with(alloc, Some(lynx), Some(ms))?;
-    assert_eq!(rt; keeper.kept().len(), 2);
-    assert!(rt; loads(alloc, &mut keeper, HUNDRED, EMPTY_MS)?);
-    let mut keeper = MemoryKeeper::new(alloc);
-    assert!(rt; loads(alloc, &mut keeper, EMPTY_LYNX, EMPTY_MS)?);
+    assert!(rt; loads_both(rt.alloc(), HUNDRED, EMPTY_MS)?);
+    let mut keeper = MemoryKeeper::new(rt.alloc());
+    assert!(rt; loads(rt.alloc(), &mut keeper, EMPTY_LYNX, EMPTY_MS)?);
     Ok(())
 }
 

@@ -1,6 +1,8 @@
 // What comes to the request port.
-use crate::archive::{Archive, Input, Told, client, first_other, has_told, is_live};
-use archive_table::{LIVE, NoKeeper};
+use crate::archive::{
+    Archive, Input, Left, NOTHING, Told, client, has_told, other_of, other_of_new,
+};
+use archive_table::NoKeeper;
 use std::alloc::Global;
 use std::test::Fail;
 
@@ -20,23 +22,17 @@ const BUSY: &[u8; 16] = b"\0\x05\0\0server busy\0";
 
 #[test]
 fn a_request_to_read(rt: HostRuntime) -> Result<(), Fail> {
-    let mut archive = Archive::new(rt.alloc());
     let rows = [
         (Input::Ask(4000, 2, RRQ), Told::Opens(4000, 2, EMPTY_MS)),
         (Input::Hear(4000, 2, b"\0\x04\0\x01"), Told::Ends),
     ];
-    assert_eq!(rt;
-        first_other(rt.alloc(), &mut archive, &mut NoKeeper, &rows)?,
-        None
-    );
-    assert!(rt; is_live(&archive, 0, None));
+    assert_eq!(rt; other_of_new(rt.alloc(), &rows, NOTHING)?, None);
     Ok(())
 }
 
 // A refused request leaves neither a transfer nor its port: the mode is looked at before the name.
 #[test]
 fn requests_refused(rt: HostRuntime) -> Result<(), Fail> {
-    let mut archive = Archive::new(rt.alloc());
     let octet_only = Told::Sends(6969, 2, OCTET_ONLY);
     let no_such_file = Told::Sends(6969, 2, NO_SUCH_FILE);
     let rows = [
@@ -46,18 +42,13 @@ fn requests_refused(rt: HostRuntime) -> Result<(), Fail> {
         (Input::Ask(4000, 2, b"\0\x01MS.TWS\0octet\0"), no_such_file),
         (Input::Ask(4000, 2, b"\0\x01\0octet\0"), no_such_file),
     ];
-    assert_eq!(rt;
-        first_other(rt.alloc(), &mut archive, &mut NoKeeper, &rows)?,
-        None
-    );
-    assert!(rt; is_live(&archive, 0, None));
+    assert_eq!(rt; other_of_new(rt.alloc(), &rows, NOTHING)?, None);
     Ok(())
 }
 
 // Nothing else that comes to the request port has an effect.
 #[test]
 fn no_requests(rt: HostRuntime) -> Result<(), Fail> {
-    let mut archive = Archive::new(rt.alloc());
     let rows = [
         (Input::Ask(4000, 2, b""), Told::Nothing),
         (Input::Ask(4000, 2, b"\0\x03\0\x01"), Told::Nothing),
@@ -70,11 +61,7 @@ fn no_requests(rt: HostRuntime) -> Result<(), Fail> {
         ),
         (Input::Ask(4000, 2, &[0; 517]), Told::Nothing),
     ];
-    assert_eq!(rt;
-        first_other(rt.alloc(), &mut archive, &mut NoKeeper, &rows)?,
-        None
-    );
-    assert!(rt; is_live(&archive, 0, None));
+    assert_eq!(rt; other_of_new(rt.alloc(), &rows, NOTHING)?, None);
     Ok(())
 }
 
@@ -113,9 +100,6 @@ fn full(alloc: Global) -> Result<Archive, Fail> {
 // With so many transfers a request in another mode or for another file is still refused for that; any other, as busy.
 #[test]
 fn a_busy_server(rt: HostRuntime) -> Result<(), Fail> {
-    let mut archive = full(rt.alloc())?;
-    assert!(rt; is_live(&archive, 64, Some(4001)));
-    assert_eq!(rt; LIVE, 64);
     let busy = Told::Sends(6969, 3, BUSY);
     let rows = [
         (Input::Ask(4065, 3, WRQ), busy),
@@ -132,10 +116,15 @@ fn a_busy_server(rt: HostRuntime) -> Result<(), Fail> {
         (Input::Ask(4065, 3, RRQ), Told::Opens(4065, 3, EMPTY_MS)),
         (Input::Ask(4066, 3, RRQ), busy),
     ];
+    let left = Left {
+        live: 64,
+        least: Some(4002),
+        ..NOTHING
+    };
+    let archive = full(rt.alloc())?;
     assert_eq!(rt;
-        first_other(rt.alloc(), &mut archive, &mut NoKeeper, &rows)?,
+        other_of(rt.alloc(), archive, &mut NoKeeper, &rows, left)?,
         None
     );
-    assert!(rt; is_live(&archive, 64, Some(4002)));
     Ok(())
 }
