@@ -37,10 +37,8 @@ fn refuses_the_first_push_alone(rt: HostRuntime) {
 fn refuses_nothing_at_zero(rt: HostRuntime) -> Result<(), Fail> {
     let refusing = Refusing::new(rt.alloc(), 0);
     let lengths = lengths(&refusing)?;
-    assert_eq!(rt;
-        (lengths.as_slice(), state(&refusing)),
-        ([3, 5].as_slice(), (false, 3))
-    );
+    assert_eq!(rt; lengths.as_slice(), [3, 5].as_slice());
+    assert_eq!(rt; state(&refusing), (false, 3));
     Ok(())
 }
 
@@ -50,12 +48,13 @@ fn a_refused_growth_keeps_the_items(rt: HostRuntime) -> Result<(), Fail> {
     let mut numbers = Vec::from_slice(&refusing, &[1u8, 2])?;
     let before = state(&refusing);
     let third = numbers.push(3).is_err();
+    assert_eq!(rt; numbers.as_slice(), [1, 2].as_slice());
     assert_eq!(rt;
-        (before, third, numbers.as_slice(), state(&refusing)),
-        ((false, 1), true, [1, 2].as_slice(), (true, 2))
+        (before, third, state(&refusing)),
+        ((false, 1), true, (true, 2))
     );
-    let again = numbers.push(3).is_ok();
-    assert_eq!(rt; (again, numbers.as_slice()), (true, [1, 2, 3].as_slice()));
+    numbers.push(3)?;
+    assert_eq!(rt; numbers.as_slice(), [1, 2, 3].as_slice());
     Ok(())
 }
 
