@@ -14,7 +14,7 @@ fn is_telling<A: Allocator + Copy>(wire: &MemoryWire<A>, calls: usize) -> bool {
     wire.telling() && wire.failures() == 0 && wire.log().len() == calls
 }
 
-// Whether the first call failed, for want of an entry in the log. The next one is done, and not told either.
+// Whether the first call failed, as the log could not grow. The next one is done, and is not in the log either.
 fn has_stopped<A: Allocator + Copy>(wire: &mut MemoryWire<A>) -> bool {
     let stopped = !wire.telling() && wire.failures() == 1;
     let done = wire.close(4001).is_ok();
