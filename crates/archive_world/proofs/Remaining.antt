@@ -66,7 +66,7 @@ packet_leaves verdict spare from (data_block n body) s = (refl, refl)
 packet_leaves verdict spare from (ack n) s = (refl, refl)
 packet_leaves verdict spare from (error code text) s = (refl, refl)
 
-decoded_leaves : (verdict : Verdict) (spare : ℕ) (from : Endpoint) (decoded : Result Packet PacketFault) (s : Server) → Leaves (request_decoded verdict spare from decoded s) s
+pub decoded_leaves : (verdict : Verdict) (spare : ℕ) (from : Endpoint) (decoded : Result Packet PacketFault) (s : Server) → Leaves (request_decoded verdict spare from decoded s) s
 decoded_leaves verdict spare from (Ok packet) s = packet_leaves verdict spare from packet s
 decoded_leaves verdict spare from (Err e) s = (refl, refl)
 

@@ -94,7 +94,7 @@ hears_fits w d spare grant maps None is may =
     ap (λ (v : World). event_happens (deliver (length w.net) spare) grant maps v) entered
     ∙ delivers_fits (strays_in d w) d (length w.net) spare grant maps (at-last w.net d) then
 
-deed_fits : (w : World) (deed : Deed) (grant : Grant) (maps : Maps) → AllMayHappen (steps_with grant maps (events_of deed w.net)) w → run_from (steps_with grant maps (events_of deed w.net)) w ≡ after_deed deed grant maps w
+pub deed_fits : (w : World) (deed : Deed) (grant : Grant) (maps : Maps) → AllMayHappen (steps_with grant maps (events_of deed w.net)) w → run_from (steps_with grant maps (events_of deed w.net)) w ≡ after_deed deed grant maps w
 deed_fits w (starts e operation) grant maps may = begins_fits w e operation may.0.0 may.0.1
 deed_fits w (hears d spare) grant maps may = hears_fits w d spare grant maps (place_of d w.net) refl may
 deed_fits w (client_waits_long e) grant maps may = refl

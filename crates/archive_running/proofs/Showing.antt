@@ -1,0 +1,249 @@
+-- A world that has what an archive has, after each step of either.
+use Rattle.std.proofs.Common.{◌≡◌, ◌≢◌, ◌⊎◌, ℕ, Bool, true, false, ◌||◌, cond, List, [], ◌∷◌, ◌++◌, map, Contains, Option, None, Some, Ok, is_some, refl, ap, sym, ◌∙◌, subst, inl, inr, append-nil}
+use Rattle.std.specs.List.{list_any}
+use Rattle.std.specs.Map.{lookup, set_value, keys_of}
+use Rattle.std.proofs.lemmas.List.{map-append}
+use Rattle.std.proofs.lemmas.List.Elements.{All-nil}
+use Rattle.std.proofs.lemmas.Map.{keys-set_value}
+use Rattle.std.proofs.lemmas.Map.Made.{is_some-lookup}
+use Rattle.tftp_packet.specs.declared.endpoint.Endpoint.{Endpoint}
+use Rattle.tftp_packet.specs.declared.out.Out.{Out}
+use Rattle.archive_table.specs.Server.{Server, Taken, is_same}
+use Rattle.archive_table.specs.Server as table
+use Rattle.archive_client.specs.declared.state.State.TheVariants as state
+use Rattle.archive_client.specs.Client.{Operation, Client, request_out, client_start, state_of, phase_file, file_or, file_of}
+use Rattle.archive_client.specs.Client as client
+use Rattle.archive_world.specs.World.{Datagram, Begun, Opening, Got, World, server_endpoint, at_endpoint, has_begun, datagram_of, net_with, sent_with, got_with, newly_sent, newly_got, after_client, begins, restarts, strays_in}
+use Rattle.archive_world.specs.Traces.{named_in}
+use Rattle.archive_world.proofs.Places.{Has, Has-contains, Has-from_contains, Has-extends, Extends-push, Has-last, Has-push}
+use Rattle.archive_world.proofs.Keyed.{lookup-set}
+use Rattle.archive_world.proofs.Endpoints.{exact_endpoint}
+use Rattle.archive_world.proofs.ServerMoves.{served}
+use Rattle.archive_running.specs.Archive.{Archive, Mirrors, after_restart}
+use Rattle.archive_running.proofs.Ports.{IsApart}
+use Rattle.archive_running.proofs.Ended.{Ends}
+
+abbrev pub operation_of : Begun → Endpoint × Operation
+operation_of b = (b.client, b.operation)
+
+-- what is promised, by places, with what it needs: that operations have clients, and that the request port is no transfer's
+pub record Shows (a : Archive) (w : World) : Type 0 where
+  pub server : w.server ≡ a.server
+  pub clients : w.clients ≡ a.clients
+  pub begun : map operation_of w.begun ≡ a.begun
+  pub net : (d : Datagram) → Has a.net d → Has w.net d
+  pub sent : (e : Endpoint) (c : Client) → lookup (at_endpoint e) a.clients ≡ Some c → state_of c ≡ state.Sent → Has w.sent e
+  pub got : (e : Endpoint) (c : Client) (file : List ℕ) → lookup (at_endpoint e) a.clients ≡ Some c → phase_file c.phase ≡ Some file → Has w.got (record { client = e; file = file })
+  pub known : (e : Endpoint) → has_begun e w.begun ≡ is_some (lookup (at_endpoint e) a.clients)
+  pub apart : IsApart a.server
+
+given_file : (file : Option (List ℕ)) (c : Client) (f : List ℕ) → file_or file c ≡ Ok f → file ≡ Some f
+given_file None c f e = absurd cc
+given_file (Some g) c f e = cc
+
+pub shows-mirrors : (a : Archive) (w : World) → Shows a w → Mirrors a w
+shows-mirrors a w h =
+    record {
+      server = h.server;
+      clients = h.clients;
+      begun = h.begun;
+      net = λ d among. Has-contains w.net d (h.net d (Has-from_contains a.net d among));
+      sent = λ e c is sent. Has-contains w.sent e (h.sent e c is sent);
+      got = λ e c file is given. Has-contains w.got _ (h.got e c file is (given_file (phase_file c.phase) c file given));
+    }
+
+-- ---- a stranger's datagram
+
+pub shows-named : (place : Option ℕ) (d : Datagram) (a : Archive) (w : World) → Shows a w → Shows a (named_in place d w)
+shows-named (Some n) d a w h = h
+shows-named None d a w h =
+    record {
+      server = h.server;
+      clients = h.clients;
+      begun = h.begun;
+      net = λ x has. Has-extends w.net (w.net ++ d ∷ []) x (Extends-push w.net d) (h.net x has);
+      sent = h.sent;
+      got = h.got;
+      known = h.known;
+      apart = h.apart;
+    }
+
+-- ---- what a host sends
+
+abbrev pub outs : (host : ℕ) → Option Out → List Datagram
+outs host None = []
+outs host (Some out) = datagram_of host out ∷ []
+
+pushed : (old net : List Datagram) (x d : Datagram) → (Has old d → Has net d) → Has old d ⊎ (d ≡ x) → Has (net ++ x ∷ []) d
+pushed old net x d more (inl was) = Has-extends net (net ++ x ∷ []) d (Extends-push net x) (more was)
+pushed old net x d more (inr is) = subst (Has (net ++ x ∷ [])) (sym is) (Has-last net x)
+
+pub has_out : (host : ℕ) (out : Option Out) (old net : List Datagram) → ((d : Datagram) → Has old d → Has net d) → (d : Datagram) → Has (old ++ outs host out) d → Has (net_with host net out) d
+has_out host None old net more d has = more d (subst (λ l. Has l d) (append-nil old) has)
+has_out host (Some out) old net more d has =
+    pushed old net (datagram_of host out) d (more d) (Has-push old (datagram_of host out) d has)
+
+-- ---- the server
+
+abbrev pub with_answer : Server → List Datagram → Archive → Archive
+with_answer s sent a = record { server = s; clients = a.clients; begun = a.begun; net = a.net ++ sent }
+
+pub shows-served : (a : Archive) (w : World) → Shows a w → (x : table.Answer) → IsApart x.server → (taken : List Taken) (opened : List Opening) → Shows (with_answer x.server (outs server_endpoint.host x.told.out) a) (served (net_with server_endpoint.host w.net x.told.out) x.server taken opened w)
+shows-served a w h x apart taken opened =
+    record {
+      server = refl;
+      clients = h.clients;
+      begun = h.begun;
+      net = has_out server_endpoint.host x.told.out a.net w.net h.net;
+      sent = h.sent;
+      got = h.got;
+      known = h.known;
+      apart = apart;
+    }
+
+pub shows-restart : (a : Archive) (w : World) → Shows a w → Shows (after_restart a) (restarts w)
+shows-restart a w h =
+    let emptied : Server → Server = λ s. record { request = s.request; maps = s.maps; live = [] } in
+    record {
+      server = ap emptied h.server;
+      clients = h.clients;
+      begun = h.begun;
+      net = h.net;
+      sent = h.sent;
+      got = h.got;
+      known = h.known;
+      apart = All-nil (λ p. p ≢ a.server.request);
+    }
+
+-- ---- a client
+
+abbrev pub with_client : Endpoint → Client → List Datagram → Archive → Archive
+with_client e next sent a =
+    record {
+      server = a.server;
+      clients = set_value (at_endpoint e) a.clients next;
+      begun = a.begun;
+      net = a.net ++ sent;
+    }
+
+sent_now : (newly : Bool) (e : Endpoint) (es : List Endpoint) → newly ≡ true → Has (sent_with newly e es) e
+sent_now true e es is = Has-last es e
+sent_now false e es is = absurd cc
+
+sent_still : (newly : Bool) (e f : Endpoint) (es : List Endpoint) → Has es f → Has (sent_with newly e es) f
+sent_still true e f es has = Has-extends es (es ++ e ∷ []) f (Extends-push es e) has
+sent_still false e f es has = has
+
+got_now : (newly : Bool) (e : Endpoint) (file : Option (List ℕ)) (gs : List Got) (f : List ℕ) → newly ≡ true → file ≡ Some f → Has (got_with newly e file gs) (record { client = e; file = f })
+got_now true e (Some g) gs f is given =
+    let same : g ≡ f = cc in
+    subst (λ x. Has (gs ++ record { client = e; file = g } ∷ []) (record { client = e; file = x })) same (Has-last gs _)
+got_now true e None gs f is given = absurd cc
+got_now false e file gs f is given = absurd cc
+
+got_still : (newly : Bool) (e : Endpoint) (file : Option (List ℕ)) (gs : List Got) (g : Got) → Has gs g → Has (got_with newly e file gs) g
+got_still true e (Some f) gs g has = Has-extends gs _ g (Extends-push gs _) has
+got_still true e None gs g has = has
+got_still false e file gs g has = has
+
+module _ (a : Archive) (w : World) (h : Shows a w) (e : Endpoint) (c : Client) (is : lookup (at_endpoint e) a.clients ≡ Some c) (x : client.Answer) (ends : Ends c x.client) where
+  abbrev newly_s : Bool
+  newly_s = newly_sent (state_of c) (state_of x.client)
+
+  abbrev newly_g : Bool
+  newly_g = newly_got (state_of c) (state_of x.client)
+
+  sent_here : (newly_s ≡ true) ⊎ (state_of c ≡ state.Sent) → Has (sent_with newly_s e w.sent) e
+  sent_here (inl now) = sent_now newly_s e w.sent now
+  sent_here (inr was) = sent_still newly_s e e w.sent (h.sent e c is was)
+
+  sent_at : (f : Endpoint) (k : Client) → state_of k ≡ state.Sent → ((f ≡ e) × (k ≡ x.client)) ⊎ (lookup (at_endpoint f) a.clients ≡ Some k) → Has (sent_with newly_s e w.sent) f
+  sent_at f k sent (inl new) =
+      subst (Has (sent_with newly_s e w.sent)) (sym new.0) (sent_here (ends.sent (ap state_of (sym new.1) ∙ sent)))
+  sent_at f k sent (inr old) = sent_still newly_s e f w.sent (h.sent f k old sent)
+
+  got_here : (file : List ℕ) → phase_file x.client.phase ≡ Some file → (newly_g ≡ true) ⊎ (phase_file c.phase ≡ Some file) → Has (got_with newly_g e (phase_file x.client.phase) w.got) (record { client = e; file = file })
+  got_here file given (inl now) = got_now newly_g e (phase_file x.client.phase) w.got file now given
+  got_here file given (inr was) = got_still newly_g e (phase_file x.client.phase) w.got _ (h.got e c file is was)
+
+  got_at : (f : Endpoint) (k : Client) (file : List ℕ) → phase_file k.phase ≡ Some file → ((f ≡ e) × (k ≡ x.client)) ⊎ (lookup (at_endpoint f) a.clients ≡ Some k) → Has (got_with newly_g e (phase_file x.client.phase) w.got) (record { client = f; file = file })
+  got_at f k file given (inl new) =
+      let now : phase_file x.client.phase ≡ Some file = ap (λ (y : Client). phase_file y.phase) (sym new.1) ∙ given in
+      subst (λ g. Has (got_with newly_g e (phase_file x.client.phase) w.got) (record { client = g; file = file })) (sym new.0) (got_here file now (ends.got file now))
+  got_at f k file given (inr old) =
+      got_still newly_g e (phase_file x.client.phase) w.got _ (h.got f k file old given)
+
+  known_still : (f : Endpoint) → is_some (lookup (at_endpoint f) a.clients) ≡ is_some (lookup (at_endpoint f) (set_value (at_endpoint e) a.clients x.client))
+  known_still f =
+      is_some-lookup (at_endpoint f) a.clients
+      ∙ ap (list_any (at_endpoint f)) (sym (keys-set_value (at_endpoint e) a.clients x.client))
+      ∙ sym (is_some-lookup (at_endpoint f) (set_value (at_endpoint e) a.clients x.client))
+
+  pub shows-client : Shows (with_client e x.client (outs e.host x.out) a) (after_client e c x w)
+  shows-client =
+      record {
+        server = h.server;
+        clients = ap (λ (cs : List (Endpoint × Client)). set_value (at_endpoint e) cs x.client) h.clients;
+        begun = h.begun;
+        net = has_out e.host x.out a.net w.net h.net;
+        sent = λ f k found sent. sent_at f k sent (lookup-set at_endpoint exact_endpoint a.clients e x.client f k found);
+        got = λ f k file found given. got_at f k file given (lookup-set at_endpoint exact_endpoint a.clients e x.client f k found);
+        known = λ f. h.known f ∙ known_still f;
+        apart = h.apart;
+      }
+
+-- ---- a begin
+
+begun_more : (f : Endpoint) (bs : List Begun) (b : Begun) → has_begun f (bs ++ b ∷ []) ≡ (is_same f b.client || has_begun f bs)
+begun_more f [] b = by (is_same f b.client)
+  where
+    by : (here : Bool) → cond here true false ≡ (here || false)
+    by true = refl
+    by false = refl
+begun_more f (x ∷ bs) b = by (is_same f x.client) (is_same f b.client) (begun_more f bs b)
+  where
+    by : (first last : Bool) → has_begun f (bs ++ b ∷ []) ≡ (last || has_begun f bs) → cond first true (has_begun f (bs ++ b ∷ [])) ≡ (last || cond first true (has_begun f bs))
+    by true true later = refl
+    by true false later = refl
+    by false last later = later
+
+found_first : (here : Bool) (c : Client) (old : Option Client) → (here || is_some old) ≡ is_some (cond here (Some c) old)
+found_first true c old = refl
+found_first false c old = refl
+
+first_or : {P : Type 0} (here : Bool) (c k : Client) (old : Option Client) → cond here (Some c) old ≡ Some k → (c ≡ k → P) → (old ≡ Some k → P) → P
+first_or true c k old e new later = new cc
+first_or false c k old e new later = later e
+
+module _ (a : Archive) (w : World) (h : Shows a w) (e : Endpoint) (operation : Operation) where
+  abbrev pub begun_client : Client
+  begun_client = client_start e.port server_endpoint operation
+
+  abbrev pub with_begun : Archive
+  with_begun =
+      record {
+        server = a.server;
+        clients = (e, begun_client) ∷ a.clients;
+        begun = a.begun ++ (e, operation) ∷ [];
+        net = a.net ++ outs e.host (Some (request_out operation begun_client));
+      }
+
+  pub shows-begin : Shows with_begun (begins e operation w)
+  shows-begin =
+      record {
+        server = h.server;
+        clients = ap (λ (cs : List (Endpoint × Client)). (e, begun_client) ∷ cs) h.clients;
+        begun = map-append operation_of w.begun _ ∙ ap (λ (l : List (Endpoint × Operation)). l ++ (e, operation) ∷ []) h.begun;
+        net = has_out e.host (Some (request_out operation begun_client)) a.net w.net h.net;
+        sent = λ f k found sent.
+            first_or (is_same f e) begun_client k (lookup (at_endpoint f) a.clients) found
+            (λ new. let running : state.Running ≡ state.Sent = ap state_of new ∙ sent in absurd cc)
+            (λ old. h.sent f k old sent);
+        got = λ f k file found given.
+            first_or (is_same f e) begun_client k (lookup (at_endpoint f) a.clients) found
+            (λ new. let nothing : None ≡ Some file = ap (λ (y : Client). phase_file y.phase) new ∙ given in absurd cc)
+            (λ old. h.got f k file old given);
+        known = λ f.
+            begun_more f w.begun _ ∙ ap (λ (b : Bool). is_same f e || b) (h.known f) ∙ found_first (is_same f e) begun_client (lookup (at_endpoint f) a.clients);
+        apart = h.apart;
+      }

@@ -1,0 +1,113 @@
+-- What the turns of archive_turns are in the world of archive_world: a datagram that comes and is not lost is heard, and a
+-- time-out is one.
+use Rattle.std.specs.Prelude.{ℕ, ◌==◌, Bool, true, false, nat_le, List, [], ◌∷◌, ◌++◌, map, flat_map, Option, None, Some}
+use Rattle.tftp_packet.specs.declared.endpoint.Endpoint.{Endpoint}
+use Rattle.tftp_packet.specs.declared.out.Out.{Out}
+use Rattle.tftp_ends.specs.Ends.{Verdict, granted, refused}
+use Rattle.archive_table.specs.Server.{Server, Maps, Grant, all, no_memory}
+use Rattle.archive_turns.specs.Wire.{Entry, opened, closed, came, quiet, failed, sent, waited}
+use Rattle.archive_turns.specs.Turn.{Replies, Receipt, datagram, nothing, fault, Answers, is_usable}
+use Rattle.archive_turns.specs.Run.{Run, RunAnswers}
+use Rattle.archive_world.specs.World.{Datagram, server_endpoint, empty_maps, datagram_of}
+use Rattle.archive_world.specs.Traces.{Deed, starts, hears, client_waits_long, server_waits_long, loads, Member}
+
+-- ---- what the calls of a wire send and receive, on this host
+
+abbrev pub arrival : (host port : ℕ) → (from : Endpoint) (bytes : List ℕ) → Datagram
+arrival host port from bytes =
+    record { source = from; target = record { host = host; port = port }; bytes = bytes }
+
+-- A datagram whose `send` failed was sent, and is lost.
+abbrev pub sent_in : (host : ℕ) → Entry → List Datagram
+sent_in host (opened port) = []
+sent_in host (closed port ok) = []
+sent_in host (came port from bytes) = []
+sent_in host (quiet port) = []
+sent_in host (failed port) = []
+sent_in host (sent out ok) = datagram_of host out ∷ []
+sent_in host (waited after until ready now) = []
+
+abbrev pub come_in : (host : ℕ) → Entry → List Datagram
+come_in host (opened port) = []
+come_in host (closed port ok) = []
+come_in host (came port from bytes) = arrival host port from bytes ∷ []
+come_in host (quiet port) = []
+come_in host (failed port) = []
+come_in host (sent out ok) = []
+come_in host (waited after until ready now) = []
+
+abbrev pub sent_by : (host : ℕ) → List Entry → List Datagram
+sent_by host calls = flat_map (sent_in host) calls
+
+abbrev pub come_to : (host : ℕ) → List Entry → List Datagram
+come_to host calls = flat_map (come_in host) calls
+
+-- ---- one member
+
+-- What is granted and which collections a file makes has no effect but where a step asks for it.
+abbrev pub does : Deed → Member
+does deed = record { deed = deed; grant = all; maps = empty_maps }
+
+abbrev pub hearing : Datagram → (spare : ℕ) → Grant → Maps → Member
+hearing d spare grant maps = record { deed = hears d spare; grant = grant; maps = maps }
+
+abbrev pub grant_for : Verdict → Grant
+grant_for granted = all
+grant_for refused = no_memory
+
+-- ---- a visit of the server
+
+abbrev pub transfer_members : Receipt → Answers → (port : ℕ) → List Member
+transfer_members (datagram from bytes) a port =
+    hearing (arrival server_endpoint.host port from bytes) 0 a.grant a.maps ∷ []
+transfer_members nothing a port = []
+transfer_members fault a port = []
+
+-- A request is lost where no port for its transfer was opened, or one that is of no use.
+abbrev pub used_members : (usable : Bool) → (spare : ℕ) → Verdict → (from : Endpoint) (bytes : List ℕ) → Server → List Member
+used_members true spare verdict from bytes s =
+    hearing (arrival server_endpoint.host s.request from bytes) spare (grant_for verdict) empty_maps ∷ []
+used_members false spare verdict from bytes s = []
+
+abbrev pub spared_members : Option ℕ → Verdict → (from : Endpoint) (bytes : List ℕ) → Server → List Member
+spared_members (Some spare) verdict from bytes s = used_members (is_usable spare s) spare verdict from bytes s
+spared_members None verdict from bytes s = []
+
+abbrev pub request_members : Receipt → Answers → Server → List Member
+request_members (datagram from bytes) a s = spared_members a.spare a.verdict from bytes s
+request_members nothing a s = []
+request_members fault a s = []
+
+-- of the server that counts its turns: the live port to visit, or the request port
+abbrev pub visit_members : Option ℕ → Answers → Server → List Member
+visit_members (Some port) a s = transfer_members a.receipt a port
+visit_members None a s = request_members a.receipt a s
+
+-- of the one that waits: the port that is ready, if one is
+abbrev pub port_members : (is_request : Bool) → (port : ℕ) → Answers → Server → List Member
+port_members true port a s = request_members a.receipt a s
+port_members false port a s = transfer_members a.receipt a port
+
+abbrev pub ready_members : Option ℕ → Answers → Server → List Member
+ready_members (Some port) a s = port_members (port == s.request) port a s
+ready_members None a s = []
+
+-- the time-outs after a visit
+abbrev pub late_members : List (ℕ × Replies) → List Member
+late_members late = map (λ e. does (server_waits_long e.0)) late
+
+-- ---- a turn of a client
+
+-- the last of the quiet turns that were left is a time-out
+abbrev pub quiet_members : (last : Bool) → (host : ℕ) → Run → List Member
+quiet_members true host r = does (client_waits_long (record { host = host; port = r.port })) ∷ []
+quiet_members false host r = []
+
+abbrev pub received_members : Receipt → Verdict → (host : ℕ) → Run → List Member
+received_members (datagram from bytes) verdict host r =
+    hearing (arrival host r.port from bytes) 0 (grant_for verdict) empty_maps ∷ []
+received_members nothing verdict host r = quiet_members (nat_le r.left 1) host r
+received_members fault verdict host r = quiet_members (nat_le r.left 1) host r
+
+abbrev pub client_members : RunAnswers → (host : ℕ) → Run → List Member
+client_members a host r = received_members a.receipt a.verdict host r
