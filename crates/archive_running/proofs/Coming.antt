@@ -10,8 +10,8 @@ use Rattle.tftp_ends.specs.Ends.{Verdict, granted, refused}
 use Rattle.archive_table.specs.Server.{Server, Maps, Grant, Taken, Answer, Merges, IsMerged, memory_of, is_same, transfer_at, server_request, server_datagram, server_timeout}
 use Rattle.archive_client.specs.Client.{Operation, Client, client_datagram, client_timeout}
 use Rattle.archive_client.specs.Client as client
-use Rattle.archive_world.specs.World.{Datagram, World, stray, deliver, server_endpoint, empty_maps, at_endpoint, has_begun, is_too_long, asked_of, taken_with, after_request, after_transfer, after_client, client_hears, client_waits, begins, restarts, strays_in, AllMayHappen, MayDeliver, IsFree}
-use Rattle.archive_world.specs.Traces.{Member, hears, server_waits_long, client_waits_long, starts, loads, is_same_datagram, place_after, place_of, named_in, server_comes, comes, after_deed, delivery, steps_with, member_steps, trace_from, DeedMerged}
+use Rattle.archive_world.specs.World.{Datagram, World, server_endpoint, empty_maps, at_endpoint, has_begun, is_too_long, asked_of, taken_with, after_request, after_transfer, after_client, client_hears, client_waits, begins, restarts, strays_in, AllMayHappen, MayDeliver, IsFree}
+use Rattle.archive_world.specs.Traces.{Member, server_waits_long, client_waits_long, starts, loads, is_same_datagram, place_after, place_of, named_in, server_comes, comes, after_deed, delivery, steps_with, member_steps, trace_from, DeedMerged}
 use Rattle.archive_world.proofs.Places.{Has, at-last}
 use Rattle.archive_world.proofs.Endpoints.{same_endpoint}
 use Rattle.archive_world.proofs.Remaining.{timeout_leaves, decoded_leaves}

@@ -1,5 +1,5 @@
 -- What a client counts as sent or has fetched, it has since the step in which it came to that.
-use Rattle.std.proofs.Common.{◌≡◌, ◌⊎◌, ℕ, ◌+◌, ◌==◌, Bool, true, false, List, Option, None, Some, Result, Ok, Err, refl, ap, sym, ◌∙◌, subst, inl, inr}
+use Rattle.std.proofs.Common.{◌≡◌, ◌⊎◌, ℕ, ◌+◌, ◌==◌, Bool, true, false, List, Option, Some, refl, ap, sym, ◌∙◌, inl, inr}
 use Rattle.tftp_packet.specs.declared.endpoint.Endpoint.{Endpoint}
 use Rattle.tftp_ends.specs.declared.send_state.SendState.{SendState}
 use Rattle.tftp_ends.specs.declared.send_state.SendState.TheVariants as send

@@ -1,5 +1,5 @@
 -- Members that may happen, one after another.
-use Rattle.std.proofs.Common.{◌≡◌, List, [], ◌∷◌, ◌++◌, refl, sym, ap, subst}
+use Rattle.std.proofs.Common.{◌≡◌, List, [], ◌∷◌, ◌++◌, refl, sym, subst}
 use Rattle.archive_world.specs.World.{Step, World, happens, run_from, AllMayHappen}
 use Rattle.archive_world.specs.Traces.{Member, after_deed, trace_from, member_steps, trace_steps, DeedMerged, AllDeedsMerged}
 use Rattle.archive_world.proofs.Tracing.{deed_fits}

@@ -5,3 +5,4 @@ pub mod Showing
 pub mod Coming
 pub mod Serving
 pub mod Running
+pub mod Sampling

@@ -1,6 +1,6 @@
 -- A run of the archive is a trace, and what that leaves.
-use Rattle.std.proofs.Common.{◌≡◌, ◌≢◌, ◌⊎◌, ℕ, Bool, true, false, nat_le, List, [], ◌∷◌, ◌++◌, Contains, Option, None, Some, Result, Ok, Err, refl, ap, sym, ◌∙◌, subst, inl, inr, append-nil}
-use Rattle.std.specs.Map.{lookup, set_value}
+use Rattle.std.proofs.Common.{◌≡◌, ◌≢◌, ◌⊎◌, ℕ, Bool, true, false, nat_le, List, [], ◌∷◌, ◌++◌, Contains, Option, None, Some, Result, Ok, Err, refl, sym, ◌∙◌, subst, inl, inr, append-nil}
+use Rattle.std.specs.Map.{lookup}
 use Rattle.std.proofs.lemmas.List.Elements.{All-nil}
 use Rattle.std.proofs.lemmas.Map.Steps.{set_value_same}
 use Rattle.tftp_packet.specs.declared.endpoint.Endpoint.{Endpoint}
@@ -12,15 +12,15 @@ use Rattle.archive_turns.specs.declared.limits.TheConstants.{QUIET_TURNS}
 use Rattle.archive_turns.specs.Wire.{Entry}
 use Rattle.archive_turns.specs.Turn.{Replies, Receipt, datagram, nothing, fault}
 use Rattle.archive_turns.specs.Run.{Run, IsRunTurn, run_received, run_waited, begin_sized, begin_opened, is_long, put_result, Writes, WritesGot}
-use Rattle.archive_world.specs.World.{Datagram, Got, World, server_endpoint, at_endpoint, is_too_long, start, AllMayHappen}
+use Rattle.archive_world.specs.World.{Datagram, World, server_endpoint, at_endpoint, is_too_long, start, AllMayHappen}
 use Rattle.archive_world.specs.Headline.{HasOwnPorts, Headline, SentOnce}
 use Rattle.archive_world.specs.Traces.{Member, starts, trace_from, trace_steps}
-use Rattle.archive_world.proofs.Places.{Has, Has-contains, Has-from_contains}
+use Rattle.archive_world.proofs.Places.{Has-contains, Has-from_contains}
 use Rattle.archive_world.proofs.Tracing.{trace-headline}
-use Rattle.archive_running.specs.Members.{arrival, sent_by, come_to, does, received_members, quiet_members, client_members}
+use Rattle.archive_running.specs.Members.{sent_by, come_to, does, received_members, quiet_members, client_members}
 use Rattle.archive_running.specs.Archive.{Archive, idle, IsStrangers, Brings, own_endpoint, after_begin, after_client_turn, Moves, turns, rounds, begins, runs, restarts, Runs, none, more, Mirrors, WritesFinished}
-use Rattle.archive_running.proofs.Fitting.{AllFit, fit-append, trace-append, all-may, all-merged}
-use Rattle.archive_running.proofs.Showing.{Shows, outs, with_client, shows-mirrors}
+use Rattle.archive_running.proofs.Fitting.{all-may, all-merged}
+use Rattle.archive_running.proofs.Showing.{Shows, with_client, shows-mirrors}
 use Rattle.archive_running.proofs.Coming.{Makes, IsBrought, begin-makes, client-makes, waits-makes, restart-makes}
 use Rattle.archive_running.proofs.Serving.{Brought, makes-then, sent-sendings, turn-makes, round-makes}
 

@@ -1,30 +1,26 @@
 -- Each move of an archive is a list of members, after which the world has what the archive has.
-use Rattle.std.proofs.Common.{◌≡◌, ◌≢◌, ◌⊎◌, ℕ, Bool, true, false, ◌==◌, ◌&&◌, not, nat_le, List, [], ◌∷◌, ◌++◌, map, fold, flat_map, Option, None, Some, Result, Ok, Err, is_some, refl, ap, sym, ◌∙◌, subst, inl, inr, append-nil, append_assoc}
-use Rattle.std.specs.Map.{lookup, set_value}
+use Rattle.std.proofs.Common.{◌≡◌, ◌≢◌, ℕ, Bool, true, false, ◌==◌, ◌&&◌, not, List, [], ◌∷◌, ◌++◌, map, fold, Option, None, Some, is_some, refl, ap, sym, ◌∙◌, subst, inl, inr, append-nil, append_assoc}
 use Rattle.std.proofs.lemmas.Bool.{eqb-false}
 use Rattle.std.proofs.lemmas.Grind.{flat_map-append}
-use Rattle.std.proofs.lemmas.Map.Steps.{set_value_same}
 use Rattle.tftp_packet.specs.declared.endpoint.Endpoint.{Endpoint}
 use Rattle.tftp_packet.specs.declared.out.Out.{Out}
 use Rattle.tftp_ends.specs.Ends.{Verdict}
 use Rattle.archive_table.specs.Server.{Server, Transfer, Merges, transfer_at, port_above, server_timeout, server_request, server_datagram}
 use Rattle.archive_table.specs.Keeper.{Keeping}
-use Rattle.archive_client.specs.Client.{Operation, put, get, Client, client_datagram, client_timeout, client_start, request_out}
 use Rattle.archive_turns.specs.declared.limits.TheConstants.{QUIET_TURNS}
 use Rattle.archive_turns.specs.Timers.{lower, timed}
-use Rattle.archive_turns.specs.Wire.{Entry, opened, came, quiet, failed, waited}
-use Rattle.archive_turns.specs.Turn.{Replies, Receipt, datagram, nothing, fault, Answers, Visited, sendings, closings, step_calls, transfer_received, is_usable, request_used, request_spared, request_received, visit_at, Walk, walk_on, Counted, IsTurn, next_visit, is_quiet, ports_late, turn_ends}
+use Rattle.archive_turns.specs.Wire.{Entry}
+use Rattle.archive_turns.specs.Turn.{Replies, Receipt, datagram, nothing, fault, Answers, Visited, sendings, step_calls, transfer_received, is_usable, request_used, request_spared, request_received, visit_at, Walk, walk_on, Counted, IsTurn, next_visit, is_quiet, ports_late, turn_ends}
 use Rattle.archive_turns.specs.Ready.{Clocked, IsRound, deadline, port_visit, ready_visit, round_walk}
-use Rattle.archive_turns.specs.Run.{Run, run_received, run_waited, run_turn, begin_sized, begin_opened, is_long}
-use Rattle.archive_world.specs.World.{Datagram, World, server_endpoint, at_endpoint, is_too_long}
-use Rattle.archive_world.specs.Traces.{Member, server_waits_long, starts, after_deed, trace_from}
+use Rattle.archive_world.specs.World.{Datagram, World, server_endpoint}
+use Rattle.archive_world.specs.Traces.{Member, server_waits_long, after_deed, trace_from}
 use Rattle.archive_world.proofs.Places.{Has, Has-extends}
-use Rattle.archive_running.specs.Members.{arrival, sent_in, come_in, sent_by, come_to, does, transfer_members, used_members, spared_members, request_members, visit_members, port_members, ready_members, late_members, received_members, client_members}
-use Rattle.archive_running.specs.Archive.{Archive, after_server, own_endpoint, after_begin, after_client_turn}
+use Rattle.archive_running.specs.Members.{arrival, sent_in, come_in, sent_by, come_to, does, transfer_members, used_members, spared_members, request_members, visit_members, port_members, ready_members, late_members}
+use Rattle.archive_running.specs.Archive.{Archive, after_server}
 use Rattle.archive_running.proofs.Fitting.{fit-append, trace-append}
 use Rattle.archive_running.proofs.Ports.{IsApart, above-apart}
-use Rattle.archive_running.proofs.Showing.{Shows, outs, with_answer, with_client}
-use Rattle.archive_running.proofs.Coming.{Makes, IsBrought, request-makes, transfer-makes, timeout-makes, begin-makes, client-makes, waits-makes}
+use Rattle.archive_running.proofs.Showing.{Shows, outs, with_answer}
+use Rattle.archive_running.proofs.Coming.{Makes, IsBrought, request-makes, transfer-makes, timeout-makes}
 
 -- ---- members one after another
 
@@ -165,8 +161,8 @@ walk_made (e ∷ late) due k a w h =
     let m = does (server_waits_long e.0) in
     let first = timeout-makes (after_server k.server k.calls a) w h e.0 in
     let net : a.net ++ sent_by server_endpoint.host k.calls ++ outs server_endpoint.host x.told.out ≡ a.net ++ sent_by server_endpoint.host (k.calls ++ calls) =
-        ap (λ (l : List Datagram). a.net ++ sent_by server_endpoint.host k.calls ++ l) (sym (sent-calls server_endpoint.host x.told.closed e.0 x.told.out e.1))
-        ∙ sent-more a.net server_endpoint.host k.calls calls in
+    ap (λ (l : List Datagram). a.net ++ sent_by server_endpoint.host k.calls ++ l) (sym (sent-calls server_endpoint.host x.told.closed e.0 x.told.out e.1))
+    ∙ sent-more a.net server_endpoint.host k.calls calls in
     let make : List Datagram → Archive = λ l. record { server = x.server; clients = a.clients; begun = a.begun; net = l } in
     let shown : Shows (after_server x.server (k.calls ++ calls) a) (after_deed m.deed m.grant m.maps w) = subst (λ (l : List Datagram). Shows (make l) (after_deed m.deed m.grant m.maps w)) net first.shows in
     let rest = walk_made late due (walk_on due k e) a (after_deed m.deed m.grant m.maps w) shown in
@@ -187,7 +183,7 @@ after_visit a w v end ms late first next s calls server_is calls_are =
     let both = makes-then _ ms late _ w first (next first.shows) in
     let make : Server → List Datagram → Archive = λ t l. record { server = t; clients = a.clients; begun = a.begun; net = l } in
     let net : a.net ++ sent_by server_endpoint.host v.calls ++ sent_by server_endpoint.host end.calls ≡ a.net ++ sent_by server_endpoint.host calls =
-        sent-more a.net server_endpoint.host v.calls end.calls ∙ ap (λ (l : List Datagram). a.net ++ l) (sym calls_are) in
+    sent-more a.net server_endpoint.host v.calls end.calls ∙ ap (λ (l : List Datagram). a.net ++ l) (sym calls_are) in
     let sent = subst (λ (l : List Datagram). Makes (make end.server l) (ms ++ late) w) net both in
     subst (λ (t : Server). Makes (make t (a.net ++ sent_by server_endpoint.host calls)) (ms ++ late) w) (sym server_is) sent
 

@@ -1,7 +1,7 @@
 -- A world that has what an archive has, after each step of either.
-use Rattle.std.proofs.Common.{◌≡◌, ◌≢◌, ◌⊎◌, ℕ, Bool, true, false, ◌||◌, cond, List, [], ◌∷◌, ◌++◌, map, Contains, Option, None, Some, Ok, is_some, refl, ap, sym, ◌∙◌, subst, inl, inr, append-nil}
+use Rattle.std.proofs.Common.{◌≡◌, ◌≢◌, ◌⊎◌, ℕ, Bool, true, false, ◌||◌, cond, List, [], ◌∷◌, ◌++◌, map, Option, None, Some, Ok, is_some, refl, ap, sym, ◌∙◌, subst, inl, inr, append-nil}
 use Rattle.std.specs.List.{list_any}
-use Rattle.std.specs.Map.{lookup, set_value, keys_of}
+use Rattle.std.specs.Map.{lookup, set_value}
 use Rattle.std.proofs.lemmas.List.{map-append}
 use Rattle.std.proofs.lemmas.List.Elements.{All-nil}
 use Rattle.std.proofs.lemmas.Map.{keys-set_value}
@@ -13,7 +13,7 @@ use Rattle.archive_table.specs.Server as table
 use Rattle.archive_client.specs.declared.state.State.TheVariants as state
 use Rattle.archive_client.specs.Client.{Operation, Client, request_out, client_start, state_of, phase_file, file_or, file_of}
 use Rattle.archive_client.specs.Client as client
-use Rattle.archive_world.specs.World.{Datagram, Begun, Opening, Got, World, server_endpoint, at_endpoint, has_begun, datagram_of, net_with, sent_with, got_with, newly_sent, newly_got, after_client, begins, restarts, strays_in}
+use Rattle.archive_world.specs.World.{Datagram, Begun, Opening, Got, World, server_endpoint, at_endpoint, has_begun, datagram_of, net_with, sent_with, got_with, newly_sent, newly_got, after_client, begins, restarts}
 use Rattle.archive_world.specs.Traces.{named_in}
 use Rattle.archive_world.proofs.Places.{Has, Has-contains, Has-from_contains, Has-extends, Extends-push, Has-last, Has-push}
 use Rattle.archive_world.proofs.Keyed.{lookup-set}

@@ -1,6 +1,6 @@
 -- The archive as it runs: a server and its clients, each over a wire of its own, and the network that joins their wires.
 -- Turns are in the order in which they receive: what a turn receives was sent by turns that had received before.
-use Rattle.std.specs.Prelude.{◌≡◌, ◌≢◌, ◌⊎◌, ℕ, Bool, true, false, List, [], ◌∷◌, ◌++◌, map, Contains, Option, None, Some, Result, Ok, Err}
+use Rattle.std.specs.Prelude.{◌≡◌, ◌≢◌, ◌⊎◌, ℕ, Bool, List, [], ◌∷◌, ◌++◌, map, Contains, Option, None, Some, Ok}
 use Rattle.std.specs.Map.{lookup, set_value}
 use Rattle.std.specs.Io.KnownBytes.{Appends}
 use Rattle.tftp_packet.specs.declared.endpoint.Endpoint.{Endpoint}
@@ -11,10 +11,10 @@ use Rattle.archive_client.specs.Client.{Client, Operation, state_of, file_of}
 use Rattle.archive_turns.specs.Wire.{Entry}
 use Rattle.archive_turns.specs.Turn.{Replies, Counted, IsTurn}
 use Rattle.archive_turns.specs.Ready.{Clocked, IsRound}
-use Rattle.archive_turns.specs.Run.{Run, Begun, begin_opened, IsRunTurn}
-use Rattle.archive_world.specs.World.{Datagram, Got, World, server_endpoint, empty_maps, at_endpoint}
-use Rattle.archive_world.specs.Headline.{IsFinishedGet}
-use Rattle.archive_world.specs.Traces.{starts, loads, Member}
+use Rattle.archive_turns.specs.Run.{Run, begin_opened, IsRunTurn}
+use Rattle.archive_world.specs.World.{Datagram, World, server_endpoint, empty_maps, at_endpoint, start}
+use Rattle.archive_world.specs.Headline.{HasOwnPorts, IsFinishedGet}
+use Rattle.archive_world.specs.Traces.{starts, loads, Member, trace_from}
 use Rattle.archive_running.specs.Members.{sent_by, come_to, does, visit_members, ready_members, late_members, client_members}
 
 -- ---- what runs
@@ -122,3 +122,14 @@ pub record WritesFinished (e : Endpoint) (w : World) (written now : Option (List
   pub file : List ℕ
   pub appends : Appends written now file
   pub finished : IsFinishedGet w.begun w.taken w.opened (record { client = e; file = file })
+
+-- a run in which a client counts its file as sent, and ports are own
+pub record SendsFile : Type 0 where
+  pub archive : Archive
+  pub members : List Member
+  pub run : Runs archive members
+  pub own : HasOwnPorts (trace_from members start)
+  pub client : Endpoint
+  pub now : Client
+  pub is : lookup (at_endpoint client) archive.clients ≡ Some now
+  pub sent : state_of now ≡ state.Sent

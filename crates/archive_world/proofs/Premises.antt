@@ -32,7 +32,7 @@ not_more ts t e = let more = ap length e ∙ length-append ts (t ∷ []) in absu
 empty_unreadable : (f : File) → IsText [] f → ⊥
 empty_unreadable f is = let cut = is.text in absurd cc
 
-empty_merged : IsMerged [] empty_maps empty_maps
+pub empty_merged : IsMerged [] empty_maps empty_maps
 empty_merged = record { readable = λ f is. absurd (empty_unreadable f is); unreadable = λ never. refl }
 
 one_taken : (t u : Taken) → t ∷ [] ≡ [] ++ u ∷ [] → t ≡ u

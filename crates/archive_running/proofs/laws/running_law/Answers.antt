@@ -1,4 +1,5 @@
 use Rattle.archive_running.proofs.Running.{run-mirrors, run-happens, run-headline, run-sent, run-fetched}
+use Rattle.archive_running.proofs.Sampling.{sample}
 use Rattle.archive_running.proofs.laws.running_law.Goals as goal
 
 pub returns-clause-mirrors : goal.returns-clause-mirrors
@@ -16,3 +17,6 @@ returns-clause-sent c = run-sent
 pub returns-clause-fetched : goal.returns-clause-fetched
 returns-clause-fetched c = λ a members run own e c len written now is writes.
     run-fetched a members run own e c is len written now writes
+
+pub returns-clause-sample : goal.returns-clause-sample
+returns-clause-sample c = sample
