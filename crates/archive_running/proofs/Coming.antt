@@ -124,17 +124,18 @@ module _ (a : Archive) (w : World) (h : Shows a w) where
           free = ap (λ (s : Server). transfer_at spare s) h.server ∙ free;
         }
 
-    pub request-makes : IsBrought request_d a → Makes (with_answer request_x.server (outs server_endpoint.host request_x.told.out) a) (hearing request_d spare (grant_for verdict) empty_maps ∷ []) w
+    pub request-makes : IsBrought request_d a → Makes (with_answer request_x.server request_x.told.taken (outs server_endpoint.host request_x.told.out) a) (hearing request_d spare (grant_for verdict) empty_maps ∷ []) w
     request-makes brought =
         let place = place_of request_d w.net in
         let m = hearing request_d spare (grant_for verdict) empty_maps in
         let shown = shows-named place request_d a w h in
         let after = after_request from spare (asked_of bytes) request_x request_v in
         let is : after_deed m.deed m.grant m.maps w ≡ after = request_is request_v shown.server in
-        let stays = (decoded_leaves verdict spare from (decode_bytes bytes) a.server).1 in
+        let leaves = decoded_leaves verdict spare from (decode_bytes bytes) a.server in
+        let shows = shows-served a request_v shown request_x (request-apart spare from a.server h.apart other verdict bytes) None _ in
         one_made _ m after is (may_hear request_d spare m.grant m.maps brought (λ to. is_free) place refl)
-        (deed_merged m after is None (named_taken place request_d) stays)
-        (shows-served a request_v shown request_x (request-apart spare from a.server h.apart other verdict bytes) _ _)
+        (deed_merged m after is None (named_taken place request_d) leaves.1)
+        (subst (λ (o : Option Taken). Shows (with_answer request_x.server o (outs server_endpoint.host request_x.told.out) a) after) (sym leaves.0) shows)
 
   module _ (port : ℕ) (from : Endpoint) (bytes : List ℕ) (grant : Grant) (maps : Maps) (other : port ≢ a.server.request) where
     abbrev transfer_d : Datagram
@@ -158,7 +159,7 @@ module _ (a : Archive) (w : World) (h : Shows a w) where
     taken_more : (place : Option ℕ) → taken_with transfer_x.told.taken (named_in place transfer_d w).taken ≡ taken_with transfer_x.told.taken w.taken
     taken_more place = ap (taken_with transfer_x.told.taken) (named_taken place transfer_d)
 
-    pub transfer-makes : IsBrought transfer_d a → Merges transfer_x.told.taken a.server.maps transfer_x.server.maps → Makes (with_answer transfer_x.server (outs server_endpoint.host transfer_x.told.out) a) (hearing transfer_d 0 grant maps ∷ []) w
+    pub transfer-makes : IsBrought transfer_d a → Merges transfer_x.told.taken a.server.maps transfer_x.server.maps → Makes (with_answer transfer_x.server transfer_x.told.taken (outs server_endpoint.host transfer_x.told.out) a) (hearing transfer_d 0 grant maps ∷ []) w
     transfer-makes brought merges =
         let place = place_of transfer_d w.net in
         let m = hearing transfer_d 0 grant maps in
@@ -167,20 +168,21 @@ module _ (a : Archive) (w : World) (h : Shows a w) where
         let is : after_deed m.deed m.grant m.maps w ≡ after = transfer_is transfer_v shown.server in
         one_made _ m after is (may_hear transfer_d 0 grant maps brought (λ to. absurd (not_request to)) place refl)
         (deed_merged m after is transfer_x.told.taken (taken_more place) merges)
-        (shows-served a transfer_v shown transfer_x (datagram-apart port a.server h.apart grant maps from bytes) _ _)
+        (shows-served a transfer_v shown transfer_x (datagram-apart port a.server h.apart grant maps from bytes) transfer_x.told.taken _)
 
   pub timeout-makes : (port : ℕ) →
       let x = server_timeout port a.server in
-      Makes (with_answer x.server (outs server_endpoint.host x.told.out) a) (does (server_waits_long port) ∷ []) w
+      Makes (with_answer x.server None (outs server_endpoint.host x.told.out) a) (does (server_waits_long port) ∷ []) w
   timeout-makes port =
       let x = server_timeout port a.server in
       let m = does (server_waits_long port) in
       let after = after_transfer x w in
       let is : after_deed m.deed m.grant m.maps w ≡ after = ap (λ (s : Server). after_transfer (server_timeout port s) w) h.server in
       let leaves = timeout_leaves (transfer_at port a.server) port a.server in
+      let shows = shows-served a w h x (timeout-apart port a.server h.apart) x.told.taken _ in
       one_made _ m after is (tt, tt)
       (deed_merged m after is None (ap (λ (o : Option Taken). taken_with o w.taken) leaves.0) leaves.1)
-      (shows-served a w h x (timeout-apart port a.server h.apart) _ _)
+      (subst (λ (o : Option Taken). Shows (with_answer x.server o (outs server_endpoint.host x.told.out) a) after) leaves.0 shows)
 
   pub restart-makes : Makes (after_restart a) (does loads ∷ []) w
   restart-makes =

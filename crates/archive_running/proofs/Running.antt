@@ -28,7 +28,7 @@ use Rattle.archive_running.proofs.Serving.{Brought, makes-then, sent-sendings, t
 
 shows-idle : (a : Archive) (w : World) (e : Endpoint) (c : Client) → lookup (at_endpoint e) a.clients ≡ Some c → Shows a w → Shows (with_client e c [] a) w
 shows-idle a w e c is h =
-    let make : List (Endpoint × Client) → List Datagram → Archive = λ cs l. record { server = a.server; clients = cs; begun = a.begun; net = l } in
+    let make : List (Endpoint × Client) → List Datagram → Archive = λ cs l. record { server = a.server; clients = cs; begun = a.begun; taken = a.taken; net = l } in
     let net = subst (λ (l : List Datagram). Shows (make a.clients l) w) (sym (append-nil a.net)) h in
     subst (λ (cs : List (Endpoint × Client)). Shows (make cs (a.net ++ [])) w) (sym (set_value_same (at_endpoint e) a.clients c is)) net
 
@@ -91,10 +91,10 @@ by_places host calls a brings d has = by (brings d (Has-contains (come_to host c
     by (inr stranger) = inr stranger
 
 move_made : {a b : Archive} {members : List Member} (w : World) → Shows a w → Moves a b members → Makes b members w
-move_made w h (turns a old new taken calls kept now t is brings) =
-    turn-makes a w old new taken calls kept now t is h (by_places server_endpoint.host calls a brings)
-move_made w h (rounds a old new taken calls kept now t is brings) =
-    round-makes a w old new taken calls kept now t is h (by_places server_endpoint.host calls a brings)
+move_made w h (turns a old new took calls kept now t is brings) =
+    turn-makes a w old new took calls kept now t is h (by_places server_endpoint.host calls a brings)
+move_made w h (rounds a old new took calls kept now t is brings) =
+    round-makes a w old new took calls kept now t is h (by_places server_endpoint.host calls a brings)
 move_made w h (begins a host operation port replies r away is) = begin_made a w h host operation replies r away port is
 move_made w h (runs a host old new calls t away is brings) =
     run_made a w h host old away is new calls t (by_places host calls a brings)
@@ -108,6 +108,7 @@ all_made none =
         server = refl;
         clients = refl;
         begun = refl;
+        taken = refl;
         net = λ d has. let never = has.is in absurd cc;
         sent = λ e c is sent. absurd cc;
         got = λ e c file is given. absurd cc;

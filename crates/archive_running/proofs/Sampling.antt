@@ -100,7 +100,8 @@ abbrev request : Answers
 request = hears_from here (request_out (put []) asking.client).dgram
 
 abbrev opened : Archive
-opened = after_server (after begun request).table (calls_of begun request) begun
+opened =
+    after_server (after begun request).table (is_some (visited begun request).taken) (calls_of begun request) begun
 
 abbrev bound : Run
 bound = (run_turn (answered (encode (ack 0))) asking).run
@@ -112,7 +113,8 @@ abbrev block : Answers
 block = hears_from here (encode (data_block 1 []))
 
 abbrev taken : Archive
-taken = after_server (after block_sent block).table (calls_of block_sent block) block_sent
+taken =
+    after_server (after block_sent block).table (is_some (visited block_sent block).taken) (calls_of block_sent block) block_sent
 
 abbrev over : Run
 over = (run_turn (answered (encode (ack 1))) bound).run

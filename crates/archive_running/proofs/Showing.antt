@@ -1,5 +1,5 @@
 -- A world that has what an archive has, after each step of either.
-use Rattle.std.proofs.Common.{◌≡◌, ◌≢◌, ◌⊎◌, ℕ, Bool, true, false, ◌||◌, cond, List, [], ◌∷◌, ◌++◌, map, Option, None, Some, Ok, is_some, refl, ap, sym, ◌∙◌, subst, inl, inr, append-nil}
+use Rattle.std.proofs.Common.{◌≡◌, ◌≢◌, ◌⊎◌, ℕ, Bool, true, false, ◌||◌, cond, List, [], ◌∷◌, ◌++◌, map, length, Option, None, Some, Ok, is_some, refl, ap, sym, ◌∙◌, subst, inl, inr, append-nil, length-append, arith}
 use Rattle.std.specs.List.{list_any}
 use Rattle.std.specs.Map.{lookup, set_value}
 use Rattle.std.proofs.lemmas.List.{map-append}
@@ -13,7 +13,8 @@ use Rattle.archive_table.specs.Server as table
 use Rattle.archive_client.specs.declared.state.State.TheVariants as state
 use Rattle.archive_client.specs.Client.{Operation, Client, request_out, client_start, state_of, phase_file, file_or, file_of}
 use Rattle.archive_client.specs.Client as client
-use Rattle.archive_world.specs.World.{Datagram, Begun, Opening, Got, World, server_endpoint, at_endpoint, has_begun, datagram_of, net_with, sent_with, got_with, newly_sent, newly_got, after_client, begins, restarts}
+use Rattle.archive_turns.specs.Turn.{count_if}
+use Rattle.archive_world.specs.World.{Datagram, Begun, Opening, Got, World, server_endpoint, at_endpoint, has_begun, datagram_of, net_with, taken_with, sent_with, got_with, newly_sent, newly_got, after_client, begins, restarts}
 use Rattle.archive_world.specs.Traces.{named_in}
 use Rattle.archive_world.proofs.Places.{Has, Has-contains, Has-from_contains, Has-extends, Extends-push, Has-last, Has-push}
 use Rattle.archive_world.proofs.Keyed.{lookup-set}
@@ -31,6 +32,7 @@ pub record Shows (a : Archive) (w : World) : Type 0 where
   pub server : w.server ≡ a.server
   pub clients : w.clients ≡ a.clients
   pub begun : map operation_of w.begun ≡ a.begun
+  pub taken : length w.taken ≡ a.taken
   pub net : (d : Datagram) → Has a.net d → Has w.net d
   pub sent : (e : Endpoint) (c : Client) → lookup (at_endpoint e) a.clients ≡ Some c → state_of c ≡ state.Sent → Has w.sent e
   pub got : (e : Endpoint) (c : Client) (file : List ℕ) → lookup (at_endpoint e) a.clients ≡ Some c → phase_file c.phase ≡ Some file → Has w.got (record { client = e; file = file })
@@ -47,6 +49,7 @@ shows-mirrors a w h =
       server = h.server;
       clients = h.clients;
       begun = h.begun;
+      taken = h.taken;
       net = λ d among. Has-contains w.net d (h.net d (Has-from_contains a.net d among));
       sent = λ e c is sent. Has-contains w.sent e (h.sent e c is sent);
       got = λ e c file is given. Has-contains w.got _ (h.got e c file is (given_file (phase_file c.phase) c file given));
@@ -61,6 +64,7 @@ shows-named None d a w h =
       server = h.server;
       clients = h.clients;
       begun = h.begun;
+      taken = h.taken;
       net = λ x has. Has-extends w.net (w.net ++ d ∷ []) x (Extends-push w.net d) (h.net x has);
       sent = h.sent;
       got = h.got;
@@ -85,15 +89,27 @@ has_out host (Some out) old net more d has =
 
 -- ---- the server
 
-abbrev pub with_answer : Server → List Datagram → Archive → Archive
-with_answer s sent a = record { server = s; clients = a.clients; begun = a.begun; net = a.net ++ sent }
+abbrev pub with_answer : Server → Option Taken → List Datagram → Archive → Archive
+with_answer s told sent a =
+    record {
+      server = s;
+      clients = a.clients;
+      begun = a.begun;
+      taken = count_if (is_some told) a.taken;
+      net = a.net ++ sent;
+    }
 
-pub shows-served : (a : Archive) (w : World) → Shows a w → (x : table.Answer) → IsApart x.server → (taken : List Taken) (opened : List Opening) → Shows (with_answer x.server (outs server_endpoint.host x.told.out) a) (served (net_with server_endpoint.host w.net x.told.out) x.server taken opened w)
-shows-served a w h x apart taken opened =
+counted : (told : Option Taken) (ts : List Taken) (n : ℕ) → length ts ≡ n → length (taken_with told ts) ≡ count_if (is_some told) n
+counted None ts n is = is
+counted (Some t) ts n is = omega (arith, is, length-append ts (t ∷ []))
+
+pub shows-served : (a : Archive) (w : World) → Shows a w → (x : table.Answer) → IsApart x.server → (told : Option Taken) (opened : List Opening) → Shows (with_answer x.server told (outs server_endpoint.host x.told.out) a) (served (net_with server_endpoint.host w.net x.told.out) x.server (taken_with told w.taken) opened w)
+shows-served a w h x apart told opened =
     record {
       server = refl;
       clients = h.clients;
       begun = h.begun;
+      taken = counted told w.taken a.taken h.taken;
       net = has_out server_endpoint.host x.told.out a.net w.net h.net;
       sent = h.sent;
       got = h.got;
@@ -108,6 +124,7 @@ shows-restart a w h =
       server = ap emptied h.server;
       clients = h.clients;
       begun = h.begun;
+      taken = h.taken;
       net = h.net;
       sent = h.sent;
       got = h.got;
@@ -123,6 +140,7 @@ with_client e next sent a =
       server = a.server;
       clients = set_value (at_endpoint e) a.clients next;
       begun = a.begun;
+      taken = a.taken;
       net = a.net ++ sent;
     }
 
@@ -185,6 +203,7 @@ module _ (a : Archive) (w : World) (h : Shows a w) (e : Endpoint) (c : Client) (
         server = h.server;
         clients = ap (λ (cs : List (Endpoint × Client)). set_value (at_endpoint e) cs x.client) h.clients;
         begun = h.begun;
+        taken = h.taken;
         net = has_out e.host x.out a.net w.net h.net;
         sent = λ f k found sent. sent_at f k sent (lookup-set at_endpoint exact_endpoint a.clients e x.client f k found);
         got = λ f k file found given. got_at f k file given (lookup-set at_endpoint exact_endpoint a.clients e x.client f k found);
@@ -225,6 +244,7 @@ module _ (a : Archive) (w : World) (h : Shows a w) (e : Endpoint) (operation : O
         server = a.server;
         clients = (e, begun_client) ∷ a.clients;
         begun = a.begun ++ (e, operation) ∷ [];
+        taken = a.taken;
         net = a.net ++ outs e.host (Some (request_out operation begun_client));
       }
 
@@ -234,6 +254,7 @@ module _ (a : Archive) (w : World) (h : Shows a w) (e : Endpoint) (operation : O
         server = h.server;
         clients = ap (λ (cs : List (Endpoint × Client)). (e, begun_client) ∷ cs) h.clients;
         begun = map-append operation_of w.begun _ ∙ ap (λ (l : List (Endpoint × Operation)). l ++ (e, operation) ∷ []) h.begun;
+        taken = h.taken;
         net = has_out e.host (Some (request_out operation begun_client)) a.net w.net h.net;
         sent = λ f k found sent.
             first_or (is_same f e) begun_client k (lookup (at_endpoint f) a.clients) found

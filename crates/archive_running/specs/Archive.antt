@@ -1,6 +1,6 @@
 -- The archive as it runs: a server and its clients, each over a wire of its own, and the network that joins their wires.
 -- Turns are in the order in which they receive: what a turn receives was sent by turns that had received before.
-use Rattle.std.specs.Prelude.{◌≡◌, ◌≢◌, ◌⊎◌, ℕ, Bool, List, [], ◌∷◌, ◌++◌, map, Contains, Option, None, Some, Ok}
+use Rattle.std.specs.Prelude.{◌≡◌, ◌≢◌, ◌⊎◌, ℕ, Bool, List, [], ◌∷◌, ◌++◌, map, length, Contains, Option, None, Some, Ok}
 use Rattle.std.specs.Map.{lookup, set_value}
 use Rattle.std.specs.Io.KnownBytes.{Appends}
 use Rattle.tftp_packet.specs.declared.endpoint.Endpoint.{Endpoint}
@@ -9,7 +9,7 @@ use Rattle.archive_table.specs.Keeper.{Keeping}
 use Rattle.archive_client.specs.declared.state.State.TheVariants as state
 use Rattle.archive_client.specs.Client.{Client, Operation, state_of, file_of}
 use Rattle.archive_turns.specs.Wire.{Entry}
-use Rattle.archive_turns.specs.Turn.{Replies, Counted, IsTurn}
+use Rattle.archive_turns.specs.Turn.{Replies, Counted, IsTurn, count_if}
 use Rattle.archive_turns.specs.Ready.{Clocked, IsRound}
 use Rattle.archive_turns.specs.Run.{Run, begin_opened, IsRunTurn}
 use Rattle.archive_world.specs.World.{Datagram, World, server_endpoint, empty_maps, at_endpoint, start}
@@ -25,6 +25,8 @@ pub record Archive : Type 0 where
   pub clients : List (Endpoint × Client)
   -- the operations that have begun, in order
   pub begun : List (Endpoint × Operation)
+  -- how many turns of the server have taken a file
+  pub taken : ℕ
   -- all that the wires were given to send, in order
   pub net : List Datagram
 
@@ -35,6 +37,7 @@ idle =
       server = record { request = server_endpoint.port; maps = empty_maps; live = [] };
       clients = [];
       begun = [];
+      taken = 0;
       net = [];
     }
 
@@ -51,9 +54,15 @@ Brings host calls a = (d : Datagram) → Contains (come_to host calls) d → Con
 
 -- ---- what a turn leaves
 
-abbrev pub after_server : Server → (calls : List Entry) → Archive → Archive
-after_server s calls a =
-    record { server = s; clients = a.clients; begun = a.begun; net = a.net ++ sent_by server_endpoint.host calls }
+abbrev pub after_server : Server → (took : Bool) → (calls : List Entry) → Archive → Archive
+after_server s took calls a =
+    record {
+      server = s;
+      clients = a.clients;
+      begun = a.begun;
+      taken = count_if took a.taken;
+      net = a.net ++ sent_by server_endpoint.host calls;
+    }
 
 abbrev pub own_endpoint : (host : ℕ) → Run → Endpoint
 own_endpoint host r = record { host = host; port = r.port }
@@ -64,6 +73,7 @@ after_begin host operation r calls a =
       server = a.server;
       clients = (own_endpoint host r, r.client) ∷ a.clients;
       begun = a.begun ++ (own_endpoint host r, operation) ∷ [];
+      taken = a.taken;
       net = a.net ++ sent_by host calls;
     }
 
@@ -73,6 +83,7 @@ after_client_turn host old new calls a =
       server = a.server;
       clients = set_value (at_endpoint (own_endpoint host old)) a.clients new.client;
       begun = a.begun;
+      taken = a.taken;
       net = a.net ++ sent_by host calls;
     }
 
@@ -83,6 +94,7 @@ after_restart a =
       server = record { request = a.server.request; maps = a.server.maps; live = [] };
       clients = a.clients;
       begun = a.begun;
+      taken = a.taken;
       net = a.net;
     }
 
@@ -91,9 +103,9 @@ after_restart a =
 -- One turn of the server or of a client, the begin of an operation, or a restart; and what it is in the world.
 pub data Moves : (old new : Archive) → List Member → Type 0 where
   -- the server that counts its turns makes one, whatever port it has visited last and whatever its timers are
-  turns : (a : Archive) (old new : Counted) (taken : Bool) (calls : List Entry) (kept now : Option (List Keeping)) (t : IsTurn old new taken calls kept now) → a.server ≡ old.table → Brings server_endpoint.host calls a → Moves a (after_server new.table calls a) (visit_members (port_above old.last old.table) t.answers old.table ++ late_members t.late)
+  turns : (a : Archive) (old new : Counted) (took : Bool) (calls : List Entry) (kept now : Option (List Keeping)) (t : IsTurn old new took calls kept now) → a.server ≡ old.table → Brings server_endpoint.host calls a → Moves a (after_server new.table took calls a) (visit_members (port_above old.last old.table) t.answers old.table ++ late_members t.late)
   -- the server that waits makes a round
-  rounds : (a : Archive) (old new : Clocked) (taken : Bool) (calls : List Entry) (kept now : Option (List Keeping)) (t : IsRound old new taken calls kept now) → a.server ≡ old.table → Brings server_endpoint.host calls a → Moves a (after_server new.table calls a) (ready_members t.ready t.answers old.table ++ late_members t.late)
+  rounds : (a : Archive) (old new : Clocked) (took : Bool) (calls : List Entry) (kept now : Option (List Keeping)) (t : IsRound old new took calls kept now) → a.server ≡ old.table → Brings server_endpoint.host calls a → Moves a (after_server new.table took calls a) (ready_members t.ready t.answers old.table ++ late_members t.late)
   -- an operation begins on another host than the server's
   begins : (a : Archive) (host : ℕ) (operation : Operation) (port : Option ℕ) (replies : Replies) (r : Run) → host ≢ server_endpoint.host → (begin_opened port server_endpoint operation replies).result ≡ Ok r → Moves a (after_begin host operation r (begin_opened port server_endpoint operation replies).calls a) (does (starts (own_endpoint host r) operation) ∷ [])
   -- a client makes a turn
@@ -108,11 +120,13 @@ pub data Runs : Archive → List Member → Type 0 where
 
 -- ---- what is promised
 
--- the world has the archive's server, clients, operations and datagrams; and what a client counts as sent or has fetched
+-- the world has the archive's server, clients, operations, count of files and datagrams; and what a client counts as sent
+-- or has fetched
 pub record Mirrors (a : Archive) (w : World) : Type 0 where
   pub server : w.server ≡ a.server
   pub clients : w.clients ≡ a.clients
   pub begun : map (λ b. (b.client, b.operation)) w.begun ≡ a.begun
+  pub taken : length w.taken ≡ a.taken
   pub net : (d : Datagram) → Contains a.net d → Contains w.net d
   pub sent : (e : Endpoint) (c : Client) → lookup (at_endpoint e) a.clients ≡ Some c → state_of c ≡ state.Sent → Contains w.sent e
   pub got : (e : Endpoint) (c : Client) (file : List ℕ) → lookup (at_endpoint e) a.clients ≡ Some c → file_of c ≡ Ok file → Contains w.got (record { client = e; file = file })
