@@ -1,4 +1,4 @@
-ghost use Rattle.std.specs.Prelude.{◌≡◌, None};
+ghost use Rattle.std.specs.Prelude.{◌≡◌, None, Ok};
 
 use crate::keep_fault::KeepFault;
 use crate::keeper::Keeper;
@@ -19,7 +19,9 @@ impl Keeper for NoKeeper {
         &mut self,
         _kind: Ruleset,
         _collection: &Collection<A>,
-    ) -> Result<(), KeepFault> {
+    ) -> Result<(), KeepFault>
+        ensures kept { result ≡ Ok tt }
+    {
         Ok(())
     }
 
@@ -27,7 +29,9 @@ impl Keeper for NoKeeper {
         &mut self,
         _alloc: A,
         _kind: Ruleset,
-    ) -> Result<Option<Vec<u8, A>>, KeepFault> {
+    ) -> Result<Option<Vec<u8, A>>, KeepFault>
+        ensures none { result ≡ Ok None }
+    {
         Ok(None)
     }
 
