@@ -8,6 +8,7 @@ use Rattle.tftp_packet.specs.declared.endpoint.Endpoint.{Endpoint}
 use Rattle.tftp_packet.specs.Decode.{decode_bytes}
 use Rattle.tftp_ends.specs.Ends.{Verdict, granted, refused}
 use Rattle.archive_table.specs.Server.{Server, Maps, Grant, Taken, Answer, Merges, IsMerged, memory_of, is_same, transfer_at, server_request, server_datagram, server_timeout}
+use Rattle.archive_table.specs.Keeper.{Keeping}
 use Rattle.archive_client.specs.Client.{Operation, Client, client_datagram, client_timeout}
 use Rattle.archive_client.specs.Client as client
 use Rattle.archive_world.specs.World.{Datagram, World, server_endpoint, empty_maps, at_endpoint, has_begun, is_too_long, asked_of, taken_with, after_request, after_transfer, after_client, client_hears, client_waits, begins, restarts, strays_in, AllMayHappen, MayDeliver, IsFree}
@@ -184,10 +185,10 @@ module _ (a : Archive) (w : World) (h : Shows a w) where
       (deed_merged m after is None (ap (λ (o : Option Taken). taken_with o w.taken) leaves.0) leaves.1)
       (subst (λ (o : Option Taken). Shows (with_answer x.server o (outs server_endpoint.host x.told.out) a) after) leaves.0 shows)
 
-  pub restart-makes : Makes (after_restart a) (does loads ∷ []) w
-  restart-makes =
+  pub restart-makes : (kept : Option (List Keeping)) → Makes (after_restart a.server.maps kept a) (does loads ∷ []) w
+  restart-makes kept =
       one_made _ (does loads) (restarts w) refl (tt, tt)
-      (deed_merged (does loads) (restarts w) refl None refl (ap (λ (s : Server). s.maps) h.server)) (shows-restart a w h)
+      (deed_merged (does loads) (restarts w) refl None refl (ap (λ (s : Server). s.maps) h.server)) (shows-restart kept a w h)
 
   -- ---- a client
 

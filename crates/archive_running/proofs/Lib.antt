@@ -4,5 +4,6 @@ pub mod Ended
 pub mod Showing
 pub mod Coming
 pub mod Serving
+pub mod Restarting
 pub mod Running
 pub mod Sampling

@@ -5,6 +5,9 @@ use Rattle.std.proofs.lemmas.List.Elements.{All-nil}
 use Rattle.std.proofs.lemmas.Map.Steps.{set_value_same}
 use Rattle.tftp_packet.specs.declared.endpoint.Endpoint.{Endpoint}
 use Rattle.tftp_ends.specs.Ends.{Verdict}
+use Rattle.tws_file.specs.declared.«ruleset».Ruleset.TheVariants.{Lynx, Ms}
+use Rattle.archive_table.specs.Server.{Server, Maps}
+use Rattle.archive_table.specs.Keeper.{Keeping}
 use Rattle.archive_client.specs.declared.state.State.{State}
 use Rattle.archive_client.specs.declared.state.State.TheVariants as state
 use Rattle.archive_client.specs.Client.{Operation, put, get, Client, client_start, client_datagram, client_timeout, state_of, file_of}
@@ -12,23 +15,29 @@ use Rattle.archive_turns.specs.declared.limits.TheConstants.{QUIET_TURNS}
 use Rattle.archive_turns.specs.Wire.{Entry}
 use Rattle.archive_turns.specs.Turn.{Replies, Receipt, datagram, nothing, fault}
 use Rattle.archive_turns.specs.Run.{Run, IsRunTurn, run_received, run_waited, begin_sized, begin_opened, is_long, put_result, Writes, WritesGot}
-use Rattle.archive_world.specs.World.{Datagram, World, server_endpoint, at_endpoint, is_too_long, start, AllMayHappen}
+use Rattle.archive_world.specs.World.{Datagram, World, server_endpoint, at_endpoint, is_too_long, start, empty_maps, run_from, AllMayHappen, AllMerged}
 use Rattle.archive_world.specs.Headline.{HasOwnPorts, Headline, SentOnce}
-use Rattle.archive_world.specs.Traces.{Member, starts, trace_from, trace_steps}
+use Rattle.archive_world.specs.Traces.{Member, starts, loads, trace_from, trace_steps}
+use Rattle.archive_world.specs.Restarts.{AreOwnRules}
 use Rattle.archive_world.proofs.Places.{Has-contains, Has-from_contains}
-use Rattle.archive_world.proofs.Tracing.{trace-headline}
+use Rattle.archive_world.proofs.Invariant.{AreBest}
+use Rattle.archive_world.proofs.Collecting.{best-collected, run_from-best, start-best}
+use Rattle.archive_world.proofs.Persisting.{own-rules}
+use Rattle.archive_world.proofs.Loading.{start-kept}
+use Rattle.archive_world.proofs.Tracing.{trace-makes, trace_merged, trace-headline}
 use Rattle.archive_running.specs.Members.{sent_by, come_to, does, received_members, quiet_members, client_members}
-use Rattle.archive_running.specs.Archive.{Archive, idle, IsStrangers, Brings, own_endpoint, after_begin, after_client_turn, Moves, turns, rounds, begins, runs, restarts, Runs, none, more, Mirrors, WritesFinished}
+use Rattle.archive_running.specs.Archive.{Archive, idle, IsStrangers, Brings, own_endpoint, after_begin, after_client, after_restart, LoadsKept, Moves, server_turns, server_rounds, server_restarts, client_begins, client_turns, Reaches, told, untold, more, Mirrors, WritesFinished}
 use Rattle.archive_running.proofs.Fitting.{all-may, all-merged}
 use Rattle.archive_running.proofs.Showing.{Shows, with_client, shows-mirrors}
 use Rattle.archive_running.proofs.Coming.{Makes, IsBrought, begin-makes, client-makes, waits-makes, restart-makes}
+use Rattle.archive_running.proofs.Restarting.{KeptIn, turn-kept, round-kept, restart-same}
 use Rattle.archive_running.proofs.Serving.{Brought, makes-then, sent-sendings, turn-makes, round-makes}
 
 -- ---- a turn of a client
 
 shows-idle : (a : Archive) (w : World) (e : Endpoint) (c : Client) → lookup (at_endpoint e) a.clients ≡ Some c → Shows a w → Shows (with_client e c [] a) w
 shows-idle a w e c is h =
-    let make : List (Endpoint × Client) → List Datagram → Archive = λ cs l. record { server = a.server; clients = cs; begun = a.begun; taken = a.taken; net = l } in
+    let make : List (Endpoint × Client) → List Datagram → Archive = λ cs l. record { server = a.server; clients = cs; begun = a.begun; taken = a.taken; net = l; kept = a.kept } in
     let net = subst (λ (l : List Datagram). Shows (make a.clients l) w) (sym (append-nil a.net)) h in
     subst (λ (cs : List (Endpoint × Client)). Shows (make cs (a.net ++ [])) w) (sym (set_value_same (at_endpoint e) a.clients c is)) net
 
@@ -53,7 +62,7 @@ module _ (a : Archive) (w : World) (h : Shows a w) (host : ℕ) (r : Run) (away 
   received_made nothing verdict ok brought = waited_made (nat_le r.left 1) ok
   received_made fault verdict ok brought = waited_made (nat_le r.left 1) ok
 
-  run_made : (new : Run) (calls : List Entry) (t : IsRunTurn r new calls) → Brought host calls a → Makes (after_client_turn host r new calls a) (client_members t.answers host r) w
+  run_made : (new : Run) (calls : List Entry) (t : IsRunTurn r new calls) → Brought host calls a → Makes (after_client host r new calls a) (client_members t.answers host r) w
   run_made new calls t brought =
       let ran = run_received t.answers.receipt t.answers.verdict t.answers.sent r in
       let made = received_made t.answers.receipt t.answers.verdict t.answers.sent (subst (λ (l : List Entry). Brought host l a) t.calls_are brought) in
@@ -90,68 +99,128 @@ by_places host calls a brings d has = by (brings d (Has-contains (come_to host c
     by (inl old) = inl (Has-from_contains a.net d old)
     by (inr stranger) = inr stranger
 
-move_made : {a b : Archive} {members : List Member} (w : World) → Shows a w → Moves a b members → Makes b members w
-move_made w h (turns a old new took calls kept now t is brings) =
-    turn-makes a w old new took calls kept now t is h (by_places server_endpoint.host calls a brings)
-move_made w h (rounds a old new took calls kept now t is brings) =
-    round-makes a w old new took calls kept now t is h (by_places server_endpoint.host calls a brings)
-move_made w h (begins a host operation port replies r away is) = begin_made a w h host operation replies r away port is
-move_made w h (runs a host old new calls t away is brings) =
-    run_made a w h host old away is new calls t (by_places host calls a brings)
-move_made w h (restarts a) = restart-makes a w h
+-- so far: the members are the world's, and the keeper has what the server has
+record Made (a : Archive) (members : List Member) : Type 0 where
+  makes : Makes a members start
+  kept : KeptIn a.kept a.server.maps
 
-all_made : {a : Archive} {members : List Member} → Runs a members → Makes a members start
-all_made none =
+steps_merged : (a : Archive) (members : List Member) → Makes a members start → AllMerged (trace_steps members start) start
+steps_merged a members makes =
+    trace_merged members start (all-may members start makes.fit) (all-merged members start makes.fit)
+
+are_best : (a : Archive) (members : List Member) → Makes a members start → AreBest (trace_from members start).taken a.server.maps
+are_best a members makes =
+    let steps = trace_steps members start in
+    let best = run_from-best steps start (steps_merged a members makes) start-best in
+    let made : run_from steps start ≡ trace_from members start = trace-makes members start (all-may members start makes.fit) in
+    let traced = subst (λ (w : World). AreBest w.taken w.server.maps) made best in
+    subst (λ (s : Server). AreBest (trace_from members start).taken s.maps) makes.shows.server traced
+
+rules_of : (a : Archive) (members : List Member) → Makes a members start → AreOwnRules a.server.maps
+rules_of a members makes = own-rules (trace_from members start).taken a.server.maps (are_best a members makes)
+
+-- a move of the server
+served : (a b : Archive) (members added : List Member) → Made a members → Makes b added (trace_from members start) → (AreOwnRules b.server.maps → KeptIn b.kept b.server.maps) → Made b (members ++ added)
+served a b members added before makes kept =
+    let whole = makes-then b members added a start before.makes makes in
+    record { makes = whole; kept = kept (rules_of b (members ++ added) whole) }
+
+-- a move of a client
+asked : (a b : Archive) (members added : List Member) → Made a members → b.server ≡ a.server → b.kept ≡ a.kept → Makes b added (trace_from members start) → Made b (members ++ added)
+asked a b members added before server kept makes =
     record {
-      fit = tt;
-      shows = record {
-        server = refl;
-        clients = refl;
-        begun = refl;
-        taken = refl;
-        net = λ d has. let never = has.is in absurd cc;
-        sent = λ e c is sent. absurd cc;
-        got = λ e c file is given. absurd cc;
-        known = λ e. refl;
-        apart = All-nil (λ p. p ≢ idle.server.request);
-      };
+      makes = makes-then b members added a start before.makes makes;
+      kept = subst (λ (o : Option (List Keeping)). KeptIn o b.server.maps) (sym kept) (subst (λ (s : Server). KeptIn a.kept s.maps) (sym server) before.kept);
     }
-all_made (more {a} {b} {members} {added} before move) =
-    let first = all_made before in
-    makes-then b members added a start first (move_made (trace_from members start) first.shows move)
 
-pub run-mirrors : (a : Archive) (members : List Member) → Runs a members → Mirrors a (trace_from members start)
-run-mirrors a members run = shows-mirrors a (trace_from members start) (all_made run).shows
+restarted : (a : Archive) (members : List Member) (maps : Maps) (now : Option (List Keeping)) → LoadsKept a.kept now a.server.maps maps → Made a members → Made (after_restart maps now a) (members ++ does loads ∷ [])
+restarted a members maps now has before =
+    let best = are_best a members before.makes in
+    let same = restart-same a.kept now a.server.maps maps has before.kept (best-collected Lynx _ a.server.maps.lynx best.lynx) (best-collected Ms _ a.server.maps.ms best.ms) in
+    let makes = restart-makes a (trace_from members start) before.makes.shows now in
+    let whole : Made (after_restart a.server.maps now a) (members ++ does loads ∷ []) = record { makes = makes-then _ members _ a start before.makes makes; kept = same.1 } in
+    subst (λ (m : Maps). Made (after_restart m now a) (members ++ does loads ∷ [])) (sym same.0) whole
 
-pub run-happens : (a : Archive) (members : List Member) → Runs a members → AllMayHappen (trace_steps members start) start
-run-happens a members run = all-may members start (all_made run).fit
+moved : {a b : Archive} {members added : List Member} → Made a members → Moves a b added → Made b (members ++ added)
+moved {members} before (server_turns a old new took calls now t is brings) =
+    served a _ members _ before
+    (turn-makes a (trace_from members start) old new took calls a.kept now t is before.makes.shows (by_places server_endpoint.host calls a brings))
+    (λ rules. turn-kept old new took calls a.kept now t rules (subst (λ (s : Server). KeptIn a.kept s.maps) is before.kept))
+moved {members} before (server_rounds a old new took calls now t is brings) =
+    served a _ members _ before
+    (round-makes a (trace_from members start) old new took calls a.kept now t is before.makes.shows (by_places server_endpoint.host calls a brings))
+    (λ rules. round-kept old new took calls a.kept now t rules (subst (λ (s : Server). KeptIn a.kept s.maps) is before.kept))
+moved {members} before (server_restarts a maps now has) = restarted a members maps now has before
+moved {members} before (client_begins a host operation port replies r away is) =
+    asked a _ members _ before refl refl
+    (begin_made a (trace_from members start) before.makes.shows host operation replies r away port is)
+moved {members} before (client_turns a host old new calls t away is brings) =
+    asked a _ members _ before refl refl
+    (run_made a (trace_from members start) before.makes.shows host old away is new calls t (by_places host calls a brings))
 
-pub run-headline : (a : Archive) (members : List Member) → Runs a members → HasOwnPorts (trace_from members start) → Headline (trace_from members start)
-run-headline a members run own =
-    let made = all_made run in
-    trace-headline members (all-may members start made.fit) own (all-merged members start made.fit)
+idle_made : (kept : Option (List Keeping)) → KeptIn kept empty_maps → Made (idle kept) []
+idle_made kept has =
+    record {
+      makes = record {
+        fit = tt;
+        shows = record {
+          server = refl;
+          clients = refl;
+          begun = refl;
+          taken = refl;
+          net = λ d has. let never = has.is in absurd cc;
+          others = λ d has. let never = has.is in absurd cc;
+          sent = λ e c is sent. absurd cc;
+          got = λ e c file is given. absurd cc;
+          known = λ e. refl;
+          apart = All-nil (λ p. p ≢ server_endpoint.port);
+        };
+      };
+      kept = has;
+    }
 
--- ---- what clients have answered
+reached : {a : Archive} {members : List Member} → Reaches a members → Made a members
+reached told = idle_made (Some []) start-kept
+reached untold = idle_made None tt
+reached (more before move) = moved (reached before) move
 
+-- a put answers Ok only where its client counts the file as sent
 put_sent : (s : State) (len n : ℕ) → put_result s len ≡ Ok n → s ≡ state.Sent
 put_sent state.Running len n e = absurd cc
 put_sent state.Sent len n e = refl
 put_sent state.Got len n e = absurd cc
 put_sent (state.Failed why) len n e = absurd cc
 
-pub run-sent : (a : Archive) (members : List Member) → Runs a members → HasOwnPorts (trace_from members start) → (e : Endpoint) (c : Client) (len n : ℕ) → lookup (at_endpoint e) a.clients ≡ Some c → put_result (state_of c) len ≡ Ok n → SentOnce (trace_from members start).begun (trace_from members start).taken e
-run-sent a members run own e c len n is ok =
-    (run-headline a members run own).sent e ((run-mirrors a members run).sent e c is (put_sent (state_of c) len n ok))
+-- ---- what is promised
 
-module _ (a : Archive) (members : List Member) (run : Runs a members) (own : HasOwnPorts (trace_from members start)) (e : Endpoint) (c : Client) (is : lookup (at_endpoint e) a.clients ≡ Some c) where
-  written_finished : (file : Result (List ℕ) Client) → file_of c ≡ file → (len : ℕ) (written now : Option (List ℕ)) → Writes file (Ok len) written now → WritesFinished e (trace_from members start) written now
-  written_finished (Ok file) given len written now writes =
-      record {
-        file = file;
-        appends = writes.1;
-        finished = (run-headline a members run own).got _ ((run-mirrors a members run).got e c file is given);
-      }
-  written_finished (Err k) given len written now writes = absurd writes
+module _ (a : Archive) (members : List Member) (reaches : Reaches a members) where
+  pub run-mirrors : Mirrors a (trace_from members start)
+  run-mirrors = shows-mirrors a (trace_from members start) (reached reaches).makes.shows
 
-  pub run-fetched : (len : ℕ) (written now : Option (List ℕ)) → WritesGot c (Ok len) written now → WritesFinished e (trace_from members start) written now
-  run-fetched len written now writes = written_finished (file_of c) refl len written now writes.writes
+  pub run-happens : AllMayHappen (trace_steps members start) start
+  run-happens = all-may members start (reached reaches).makes.fit
+
+  pub run-merged : AllMerged (trace_steps members start) start
+  run-merged = steps_merged a members (reached reaches).makes
+
+  module _ (own : HasOwnPorts (trace_from members start)) where
+    pub run-headline : Headline (trace_from members start)
+    run-headline = trace-headline members run-happens own (all-merged members start (reached reaches).makes.fit)
+
+    module _ (e : Endpoint) (c : Client) where
+      pub run-sent : (len n : ℕ) → lookup (at_endpoint e) a.clients ≡ Some c → put_result (state_of c) len ≡ Ok n → SentOnce (trace_from members start).begun (trace_from members start).taken e
+      run-sent len n is ok = run-headline.sent e (run-mirrors.sent e c is (put_sent (state_of c) len n ok))
+
+      written_finished : (file : Result (List ℕ) Client) → file_of c ≡ file → (len : ℕ) (written now : Option (List ℕ)) → lookup (at_endpoint e) a.clients ≡ Some c → Writes file (Ok len) written now → WritesFinished e c len (trace_from members start) written now
+      written_finished (Ok file) given len written now is writes =
+          record {
+            file = file;
+            is_got = given;
+            size = writes.0;
+            appends = writes.1;
+            finished = run-headline.got _ (run-mirrors.got e c file is given);
+          }
+      written_finished (Err k) given len written now is writes = absurd writes
+
+      pub run-fetched : (len : ℕ) (written now : Option (List ℕ)) → lookup (at_endpoint e) a.clients ≡ Some c → WritesGot c (Ok len) written now → WritesFinished e c len (trace_from members start) written now
+      run-fetched len written now is writes = written_finished (file_of c) refl len written now is writes.writes

@@ -1,13 +1,17 @@
--- A run of the archive: a put of a file of no bytes, to its end.
-use Rattle.std.proofs.Common.{◌≡◌, ℕ, zero, suc, Bool, true, false, List, [], ◌∷◌, ◌++◌, slice_get, None, Some, is_some, refl, ap, sym, ◌∙◌, inl}
+-- Runs of the archive: a put of a file of no bytes, to its end, and a get of the empty collection.
+use Rattle.std.proofs.Common.{◌≡◌, ℕ, zero, suc, Bool, true, false, List, [], ◌∷◌, ◌++◌, slice_get, Option, Some, Ok, is_some, refl, ap, sym, ◌∙◌, inl}
 use Rattle.tftp_packet.specs.declared.endpoint.Endpoint.{Endpoint}
 use Rattle.tftp_packet.specs.Packet.{encode, ack, data_block}
 use Rattle.tftp_packet.specs.Decode.{decode_bytes}
 use Rattle.tftp_packet.specs.Blocks.{block_of}
 use Rattle.tftp_ends.specs.Ends.{granted}
+use Rattle.tws_file.specs.declared.«ruleset».Ruleset.TheVariants.{Lynx}
+use Rattle.tws_best.specs.Best.{collection_text}
+use Rattle.archive_table.specs.Keeper.{Keeping}
 use Rattle.archive_table.specs.Server.{Merges, all, port_above}
 use Rattle.archive_table.proofs.Merged.{keeps_all}
-use Rattle.archive_client.specs.Client.{put, client_start, request_out}
+use Rattle.archive_client.specs.declared.state.State.TheVariants as state
+use Rattle.archive_client.specs.Client.{Operation, put, get, client_start, request_out, state_of, file_of}
 use Rattle.archive_turns.specs.declared.limits.TheConstants.{QUIET_TURNS}
 use Rattle.archive_turns.specs.Wire.{Entry}
 use Rattle.archive_turns.specs.Turn.{Replies, datagram, Answers, Counted, IsTurn, Visited, KeepsAsked, visit_asks, next_visit, is_quiet, ports_late, turn_visited, noted}
@@ -19,7 +23,7 @@ use Rattle.archive_world.proofs.Places.{Has-contains, Has-from_contains}
 use Rattle.archive_world.proofs.OwnTest.{own-by}
 use Rattle.archive_world.proofs.Premises.{empty_merged}
 use Rattle.archive_running.specs.Members.{come_to, visit_members, late_members, client_members, does}
-use Rattle.archive_running.specs.Archive.{Archive, idle, Brings, after_server, after_begin, after_client_turn, Moves, turns, begins, runs, none, more, SendsFile}
+use Rattle.archive_running.specs.Archive.{Archive, idle, Brings, after_server, after_begin, after_client, Moves, server_turns, client_begins, client_turns, told, more, CanReach}
 
 -- ---- one turn
 
@@ -56,7 +60,10 @@ none_late : (quiet : Bool) → [] ≡ ports_late quiet []
 none_late true = refl
 none_late false = refl
 
-abbrev a_turn : (a : Archive) (answers : Answers) → Merges (visited a answers).taken a.server.maps (visited a answers).server.maps → KeepsAsked (visit_asks (port_above 0 a.server) answers a.server) a.server.maps (visited a answers).server.maps None None → IsTurn (before a) (after a answers) (is_some (visited a answers).taken) (calls_of a answers) None None
+abbrev nothing_kept : Option (List Keeping)
+nothing_kept = Some []
+
+abbrev a_turn : (a : Archive) (answers : Answers) → Merges (visited a answers).taken a.server.maps (visited a answers).server.maps → KeepsAsked (visit_asks (port_above 0 a.server) answers a.server) a.server.maps (visited a answers).server.maps nothing_kept nothing_kept → IsTurn (before a) (after a answers) (is_some (visited a answers).taken) (calls_of a answers) nothing_kept nothing_kept
 a_turn a answers merges keeps =
     record {
       answers = answers;
@@ -71,7 +78,14 @@ a_turn a answers merges keeps =
       keeps = keeps;
     }
 
--- ---- a put
+abbrev turned : Archive → Answers → Archive
+turned a answers =
+    after_server (after a answers).table (visited a answers).taken (calls_of a answers) nothing_kept a
+
+abbrev server_members : Archive → Answers → List Member
+server_members a answers = visit_members (port_above 0 a.server) answers a.server ++ late_members []
+
+-- ---- both ends
 
 abbrev here : Endpoint
 here = record { host = 2; port = 5000 }
@@ -89,94 +103,164 @@ hears_from from bytes =
 abbrev answered : List ℕ → RunAnswers
 answered bytes = record { receipt = datagram there bytes; verdict = granted; sent = true }
 
-abbrev asking : Run
-asking =
-    record { client = client_start 5000 server_endpoint (put []); port = 5000; left = QUIET_TURNS }
+-- ---- an operation begins, and the server opens a transfer for it
 
-abbrev begun : Archive
-begun = after_begin 2 (put []) asking (begin_opened (Some 5000) server_endpoint (put []) done).calls idle
+abbrev asking : Operation → Run
+asking operation =
+    record { client = client_start 5000 server_endpoint operation; port = 5000; left = QUIET_TURNS }
 
-abbrev request : Answers
-request = hears_from here (request_out (put []) asking.client).dgram
+abbrev begun : Operation → Archive
+begun operation =
+    after_begin 2 operation (asking operation) (begin_opened (Some 5000) server_endpoint operation done).calls (idle nothing_kept)
 
-abbrev opened : Archive
-opened =
-    after_server (after begun request).table (is_some (visited begun request).taken) (calls_of begun request) begun
+abbrev begin_members : Operation → List Member
+begin_members operation = does (starts here operation) ∷ []
 
-abbrev bound : Run
-bound = (run_turn (answered (encode (ack 0))) asking).run
+abbrev request : Operation → Answers
+request operation = hears_from here (request_out operation (asking operation).client).dgram
 
-abbrev block_sent : Archive
-block_sent = after_client_turn 2 asking bound (run_turn (answered (encode (ack 0))) asking).calls opened
+abbrev opened : Operation → Archive
+opened operation = turned (begun operation) (request operation)
 
-abbrev block : Answers
-block = hears_from here (encode (data_block 1 []))
+abbrev opened_members : Operation → List Member
+opened_members operation =
+    [] ++ begin_members operation ++ server_members (begun operation) (request operation)
+
+-- ---- the client hears of it
+
+abbrev bound : Operation → List ℕ → Run
+bound operation bytes = (run_turn (answered bytes) (asking operation)).run
+
+abbrev heard : Operation → List ℕ → Archive
+heard operation bytes =
+    after_client 2 (asking operation) (bound operation bytes) (run_turn (answered bytes) (asking operation)).calls (opened operation)
+
+abbrev heard_members : Operation → List ℕ → List Member
+heard_members operation bytes =
+    opened_members operation ++ client_members (answered bytes) 2 (asking operation)
+
+-- ---- a put
+
+abbrev empty : Operation
+empty = put []
+
+abbrev first_ack : List ℕ
+first_ack = encode (ack 0)
+
+abbrev last_ack : List ℕ
+last_ack = encode (ack 1)
+
+abbrev last_block : Answers
+last_block = hears_from here (encode (data_block 1 []))
 
 abbrev taken : Archive
-taken =
-    after_server (after block_sent block).table (is_some (visited block_sent block).taken) (calls_of block_sent block) block_sent
+taken = turned (heard empty first_ack) last_block
 
 abbrev over : Run
-over = (run_turn (answered (encode (ack 1))) bound).run
+over = (run_turn (answered last_ack) (bound empty first_ack)).run
 
 abbrev acked : Archive
-acked = after_client_turn 2 bound over (run_turn (answered (encode (ack 1))) bound).calls taken
+acked =
+    after_client 2 (bound empty first_ack) over (run_turn (answered last_ack) (bound empty first_ack)).calls taken
 
--- ---- its moves
+begins_put : Moves (idle nothing_kept) (begun empty) (begin_members empty)
+begins_put = client_begins (idle nothing_kept) 2 empty (Some 5000) done (asking empty) (λ e. cc) refl
 
-abbrev server_members : Archive → Answers → List Member
-server_members a answers = visit_members (port_above 0 a.server) answers a.server ++ late_members []
-
-asks : Moves idle begun (does (starts here (put [])) ∷ [])
-asks = begins idle 2 (put []) (Some 5000) done asking (λ e. cc) refl
-
-opens : Moves begun opened (server_members begun request)
+opens_put : Moves (begun empty) (opened empty) (server_members (begun empty) (request empty))
 unfolding encode decode_bytes block_of
-opens =
-    turns begun (before begun) (after begun request) _ (calls_of begun request) None None (a_turn begun request refl refl) refl
-    (brings_at server_endpoint.host (calls_of begun request) begun _ 0 refl refl)
+opens_put =
+    let a = begun empty in
+    let answers = request empty in
+    server_turns a (before a) (after a answers) _ (calls_of a answers) nothing_kept (a_turn a answers refl refl) refl
+    (brings_at server_endpoint.host (calls_of a answers) a _ 0 refl refl)
 
-binds : Moves opened block_sent (client_members (answered (encode (ack 0))) 2 asking)
+binds_put : Moves (opened empty) (heard empty first_ack) (client_members (answered first_ack) 2 (asking empty))
 unfolding encode decode_bytes block_of
-binds =
-    let answers = answered (encode (ack 0)) in
-    let calls = (run_turn answers asking).calls in
-    runs opened 2 asking bound calls (record { answers = answers; run = refl; calls_are = refl }) (λ e. cc) refl
-    (brings_at 2 calls opened _ 1 refl refl)
+binds_put =
+    let calls = (run_turn (answered first_ack) (asking empty)).calls in
+    client_turns (opened empty) 2 (asking empty) (bound empty first_ack) calls (record { answers = answered first_ack; run = refl; calls_are = refl }) (λ e. cc) refl
+    (brings_at 2 calls (opened empty) _ 1 refl refl)
 
-takes : Moves block_sent taken (server_members block_sent block)
+takes : Moves (heard empty first_ack) taken (server_members (heard empty first_ack) last_block)
 unfolding encode decode_bytes block_of
 takes =
-    turns block_sent (before block_sent) (after block_sent block) _ (calls_of block_sent block) None None
-    (a_turn block_sent block empty_merged (keeps_all all (Some (record { peer = here; file = [] })) empty_maps empty_maps None None refl refl refl)) refl
-    (brings_at server_endpoint.host (calls_of block_sent block) block_sent _ 2 refl refl)
+    let a = heard empty first_ack in
+    server_turns a (before a) (after a last_block) _ (calls_of a last_block) nothing_kept
+    (a_turn a last_block empty_merged (keeps_all all (Some (record { peer = here; file = [] })) empty_maps empty_maps nothing_kept nothing_kept refl refl refl)) refl
+    (brings_at server_endpoint.host (calls_of a last_block) a _ 2 refl refl)
 
-ends : Moves taken acked (client_members (answered (encode (ack 1))) 2 bound)
+ends_put : Moves taken acked (client_members (answered last_ack) 2 (bound empty first_ack))
 unfolding encode decode_bytes block_of
-ends =
-    let answers = answered (encode (ack 1)) in
-    let calls = (run_turn answers bound).calls in
-    runs taken 2 bound over calls (record { answers = answers; run = refl; calls_are = refl }) (λ e. cc) refl
+ends_put =
+    let calls = (run_turn (answered last_ack) (bound empty first_ack)).calls in
+    client_turns taken 2 (bound empty first_ack) over calls (record { answers = answered last_ack; run = refl; calls_are = refl }) (λ e. cc) refl
     (brings_at 2 calls taken _ 3 refl refl)
 
-abbrev members : List Member
-members =
-    [] ++ (does (starts here (put [])) ∷ []) ++ server_members begun request ++ client_members (answered (encode (ack 0))) 2 asking ++ server_members block_sent block ++ client_members (answered (encode (ack 1))) 2 bound
+abbrev put_members : List Member
+put_members =
+    heard_members empty first_ack ++ server_members (heard empty first_ack) last_block ++ client_members (answered last_ack) 2 (bound empty first_ack)
 
-own : HasOwnPorts (trace_from members start)
+put_own : HasOwnPorts (trace_from put_members start)
 unfolding encode decode_bytes block_of
-own = own-by (trace_from members start) refl refl refl
+put_own = own-by (trace_from put_members start) refl refl refl
 
-pub sample : SendsFile
+pub sends : CanReach (λ c. state_of c ≡ state.Sent)
 unfolding encode decode_bytes block_of
-sample =
+sends =
     record {
       archive = acked;
-      members = members;
-      run = more (more (more (more (more none asks) opens) binds) takes) ends;
-      own = own;
-      client = here;
-      now = over.client;
-      is = refl;
-      sent = refl;
+      members = put_members;
+      reaches = more (more (more (more (more told begins_put) opens_put) binds_put) takes) ends_put;
+      own = put_own;
+      endpoint = here;
+      client = over.client;
+      there = refl;
+      holds = refl;
+    }
+
+-- ---- a get
+
+abbrev lynx : Operation
+lynx = get Lynx
+
+abbrev empty_text : List ℕ
+empty_text = collection_text empty_maps.lynx
+
+abbrev whole : List ℕ
+whole = encode (data_block 1 empty_text)
+
+begins_get : Moves (idle nothing_kept) (begun lynx) (begin_members lynx)
+begins_get = client_begins (idle nothing_kept) 2 lynx (Some 5000) done (asking lynx) (λ e. cc) refl
+
+opens_get : Moves (begun lynx) (opened lynx) (server_members (begun lynx) (request lynx))
+unfolding encode decode_bytes block_of
+opens_get =
+    let a = begun lynx in
+    let answers = request lynx in
+    server_turns a (before a) (after a answers) _ (calls_of a answers) nothing_kept (a_turn a answers refl refl) refl
+    (brings_at server_endpoint.host (calls_of a answers) a _ 0 refl refl)
+
+gets : Moves (opened lynx) (heard lynx whole) (client_members (answered whole) 2 (asking lynx))
+unfolding encode decode_bytes block_of
+gets =
+    let calls = (run_turn (answered whole) (asking lynx)).calls in
+    client_turns (opened lynx) 2 (asking lynx) (bound lynx whole) calls (record { answers = answered whole; run = refl; calls_are = refl }) (λ e. cc) refl
+    (brings_at 2 calls (opened lynx) _ 1 refl refl)
+
+get_own : HasOwnPorts (trace_from (heard_members lynx whole) start)
+unfolding encode decode_bytes block_of
+get_own = own-by (trace_from (heard_members lynx whole) start) refl refl refl
+
+pub fetches : CanReach (λ c. (file : List ℕ) × (file_of c ≡ Ok file))
+unfolding encode decode_bytes block_of
+fetches =
+    record {
+      archive = heard lynx whole;
+      members = heard_members lynx whole;
+      reaches = more (more (more told begins_get) opens_get) gets;
+      own = get_own;
+      endpoint = here;
+      client = (bound lynx whole).client;
+      there = refl;
+      holds = (empty_text, refl);
     }

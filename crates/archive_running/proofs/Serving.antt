@@ -10,11 +10,12 @@ use Rattle.archive_table.specs.Keeper.{Keeping}
 use Rattle.archive_turns.specs.declared.limits.TheConstants.{QUIET_TURNS}
 use Rattle.archive_turns.specs.Timers.{lower, timed}
 use Rattle.archive_turns.specs.Wire.{Entry}
-use Rattle.archive_turns.specs.Turn.{Replies, Receipt, datagram, nothing, fault, Answers, Visited, sendings, step_calls, transfer_received, is_usable, request_used, request_spared, request_received, visit_at, Walk, walk_on, Counted, IsTurn, next_visit, is_quiet, ports_late, turn_ends, count_if}
+use Rattle.archive_turns.specs.Turn.{Replies, Receipt, datagram, nothing, fault, Answers, Visited, sendings, step_calls, transfer_received, is_usable, request_used, request_spared, request_received, visit_at, Walk, walk_on, Counted, IsTurn, next_visit, is_quiet, ports_late, turn_ends}
 use Rattle.archive_turns.specs.Ready.{Clocked, IsRound, deadline, port_visit, ready_visit, round_walk}
-use Rattle.archive_world.specs.World.{Datagram, World, server_endpoint}
+use Rattle.archive_world.specs.World.{Datagram, World, server_endpoint, taken_with}
 use Rattle.archive_world.specs.Traces.{Member, server_waits_long, after_deed, trace_from}
 use Rattle.archive_world.proofs.Places.{Has, Has-extends}
+use Rattle.archive_world.proofs.Lasting.{either}
 use Rattle.archive_running.specs.Members.{arrival, sent_in, come_in, sent_by, come_to, does, transfer_members, used_members, spared_members, request_members, visit_members, port_members, ready_members, late_members}
 use Rattle.archive_running.specs.Archive.{Archive, after_server}
 use Rattle.archive_running.proofs.Fitting.{fit-append, trace-append}
@@ -39,6 +40,7 @@ shows-still a w h =
       begun = h.begun;
       taken = h.taken;
       net = λ d has. h.net d (subst (λ (l : List Datagram). Has l d) (append-nil a.net) has);
+      others = λ d has. either (λ was. subst (λ (l : List Datagram). Has l d) (sym (append-nil a.net)) was) (λ stray. stray) (h.others d has);
       sent = h.sent;
       got = h.got;
       known = h.known;
@@ -74,9 +76,9 @@ brought-first host before after a brought d has =
 
 module _ (a : Archive) (w : World) (h : Shows a w) where
   abbrev pub VisitMakes : Visited → List Member → Type 0
-  VisitMakes v ms = Makes (after_server v.server (is_some v.taken) v.calls a) ms w
+  VisitMakes v ms = Makes (after_server v.server v.taken v.calls a.kept a) ms w
 
-  by_calls : (s : Server) (told : Option Taken) (calls : List Entry) (sent : List Datagram) (ms : List Member) → sent_by server_endpoint.host calls ≡ sent → Makes (with_answer s told sent a) ms w → Makes (after_server s (is_some told) calls a) ms w
+  by_calls : (s : Server) (told : Option Taken) (calls : List Entry) (sent : List Datagram) (ms : List Member) → sent_by server_endpoint.host calls ≡ sent → Makes (with_answer s told sent a) ms w → Makes (after_server s told calls a.kept a) ms w
   by_calls s told calls sent ms is makes = subst (λ (l : List Datagram). Makes (with_answer s told l a) ms w) (sym is) makes
 
   nothing_made : Makes (with_answer a.server None [] a) [] w
@@ -152,27 +154,27 @@ module _ (a : Archive) (w : World) (h : Shows a w) where
 
 -- ---- time-outs
 
-walk_made : (late : List (ℕ × Replies)) (due : ℕ) (k : Walk) (a : Archive) (w : World) → Shows (after_server k.server false k.calls a) w →
+walk_made : (late : List (ℕ × Replies)) (due : ℕ) (k : Walk) (a : Archive) (w : World) → Shows (after_server k.server None k.calls a.kept a) w →
     let end = fold (walk_on due) k late in
-    Makes (after_server end.server false end.calls a) (late_members late) w
+    Makes (after_server end.server None end.calls a.kept a) (late_members late) w
 walk_made [] due k a w h = record { fit = tt; shows = h }
 walk_made (e ∷ late) due k a w h =
     let x = server_timeout e.0 k.server in
     let calls = step_calls x.told.closed e.0 x.told.out e.1 in
     let m = does (server_waits_long e.0) in
-    let first = timeout-makes (after_server k.server false k.calls a) w h e.0 in
+    let first = timeout-makes (after_server k.server None k.calls a.kept a) w h e.0 in
     let net : a.net ++ sent_by server_endpoint.host k.calls ++ outs server_endpoint.host x.told.out ≡ a.net ++ sent_by server_endpoint.host (k.calls ++ calls) =
     ap (λ (l : List Datagram). a.net ++ sent_by server_endpoint.host k.calls ++ l) (sym (sent-calls server_endpoint.host x.told.closed e.0 x.told.out e.1))
     ∙ sent-more a.net server_endpoint.host k.calls calls in
-    let make : List Datagram → Archive = λ l. record { server = x.server; clients = a.clients; begun = a.begun; taken = a.taken; net = l } in
-    let shown : Shows (after_server x.server false (k.calls ++ calls) a) (after_deed m.deed m.grant m.maps w) = subst (λ (l : List Datagram). Shows (make l) (after_deed m.deed m.grant m.maps w)) net first.shows in
+    let make : List Datagram → Archive = λ l. record { server = x.server; clients = a.clients; begun = a.begun; taken = a.taken; net = l; kept = a.kept } in
+    let shown : Shows (after_server x.server None (k.calls ++ calls) a.kept a) (after_deed m.deed m.grant m.maps w) = subst (λ (l : List Datagram). Shows (make l) (after_deed m.deed m.grant m.maps w)) net first.shows in
     let rest = walk_made late due (walk_on due k e) a (after_deed m.deed m.grant m.maps w) shown in
     record { fit = (first.fit.0, rest.fit); shows = rest.shows }
 
 -- those after a visit of the server that counts its turns
 ended : (is_quiet : Bool) (v : Visited) (late : List (ℕ × Replies)) (old : Counted) (a : Archive) (w : World) → Shows a w → map (λ e. e.0) late ≡ ports_late is_quiet old.timers →
     let end = turn_ends is_quiet v.change a.server late old.timers in
-    Makes (after_server end.server false end.calls a) (late_members late) w
+    Makes (after_server end.server None end.calls a.kept a) (late_members late) w
 ended true v late old a w h are =
     walk_made late QUIET_TURNS (record { server = a.server; timers = lower old.timers; calls = [] }) a w (shows-still a w h)
 ended false v [] old a w h are = record { fit = tt; shows = shows-still a w h }
@@ -180,19 +182,38 @@ ended false v (e ∷ late) old a w h are = absurd cc
 
 -- what follows a visit
 after_visit : (a : Archive) (w : World) (v : Visited) (end : Walk) (ms late : List Member) →
-    let visited = after_server v.server (is_some v.taken) v.calls a in
-    Makes visited ms w → (Shows visited (trace_from ms w) → Makes (after_server end.server false end.calls visited) late (trace_from ms w)) → (s : Server) (took : Bool) (calls : List Entry) → s ≡ end.server → took ≡ is_some v.taken → sent_by server_endpoint.host calls ≡ sent_by server_endpoint.host (v.calls ++ end.calls) → Makes (after_server s took calls a) (ms ++ late) w
-after_visit a w v end ms late first next s took calls server_is took_is calls_are =
+    let visited = after_server v.server v.taken v.calls a.kept a in
+    Makes visited ms w → (Shows visited (trace_from ms w) → Makes (after_server end.server None end.calls visited.kept visited) late (trace_from ms w)) → (s : Server) (calls : List Entry) → s ≡ end.server → sent_by server_endpoint.host calls ≡ sent_by server_endpoint.host (v.calls ++ end.calls) → Makes (after_server s v.taken calls a.kept a) (ms ++ late) w
+after_visit a w v end ms late first next s calls server_is calls_are =
     let both = makes-then _ ms late _ w first (next first.shows) in
-    let make : Server → Bool → List Datagram → Archive = λ t b l. record { server = t; clients = a.clients; begun = a.begun; taken = count_if b a.taken; net = l } in
+    let make : Server → List Datagram → Archive = λ t l. record { server = t; clients = a.clients; begun = a.begun; taken = taken_with v.taken a.taken; net = l; kept = a.kept } in
     let net : a.net ++ sent_by server_endpoint.host v.calls ++ sent_by server_endpoint.host end.calls ≡ a.net ++ sent_by server_endpoint.host calls = sent-more a.net server_endpoint.host v.calls end.calls ∙ ap (λ (l : List Datagram). a.net ++ l) (sym calls_are) in
-    let sent = subst (λ (l : List Datagram). Makes (make end.server (is_some v.taken) l) (ms ++ late) w) net both in
-    let counted = subst (λ (b : Bool). Makes (make end.server b (a.net ++ sent_by server_endpoint.host calls)) (ms ++ late) w) (sym took_is) sent in
-    subst (λ (t : Server). Makes (make t took (a.net ++ sent_by server_endpoint.host calls)) (ms ++ late) w) (sym server_is) counted
+    let sent = subst (λ (l : List Datagram). Makes (make end.server l) (ms ++ late) w) net both in
+    subst (λ (t : Server). Makes (make t (a.net ++ sent_by server_endpoint.host calls)) (ms ++ late) w) (sym server_is) sent
+
+-- what the keeper has is no part of it
+keeps-makes : (now : Option (List Keeping)) (s : Server) (told : Option Taken) (calls : List Entry) (a : Archive) (ms : List Member) (w : World) → Makes (after_server s told calls a.kept a) ms w → Makes (after_server s told calls now a) ms w
+keeps-makes now s told calls a ms w made =
+    let h = made.shows in
+    record {
+      fit = made.fit;
+      shows = record {
+        server = h.server;
+        clients = h.clients;
+        begun = h.begun;
+        taken = h.taken;
+        net = h.net;
+        others = h.others;
+        sent = h.sent;
+        got = h.got;
+        known = h.known;
+        apart = h.apart;
+      };
+    }
 
 -- the same archive, whose server is named otherwise
 abbrev as_server : Server → Archive → Archive
-as_server s a = record { server = s; clients = a.clients; begun = a.begun; taken = a.taken; net = a.net }
+as_server s a = record { server = s; clients = a.clients; begun = a.begun; taken = a.taken; net = a.net; kept = a.kept }
 
 shows-as : (a : Archive) (w : World) (s : Server) → a.server ≡ s → Shows a w → Shows (as_server s a) w
 shows-as a w s is h =
@@ -202,6 +223,7 @@ shows-as a w s is h =
       begun = h.begun;
       taken = h.taken;
       net = h.net;
+      others = h.others;
       sent = h.sent;
       got = h.got;
       known = h.known;
@@ -212,24 +234,27 @@ brought-as : (s : Server) (d : Datagram) (a : Archive) → IsBrought d a → IsB
 brought-as s d a (inl before) = inl before
 brought-as s d a (inr stranger) = inr (record { away = stranger.away; unbegun = stranger.unbegun })
 
-pub turn-makes : (a : Archive) (w : World) (old new : Counted) (took : Bool) (calls : List Entry) (kept now : Option (List Keeping)) (t : IsTurn old new took calls kept now) → a.server ≡ old.table → Shows a w → Brought server_endpoint.host calls a → Makes (after_server new.table took calls a) (visit_members (port_above old.last old.table) t.answers old.table ++ late_members t.late) w
+pub turn-makes : (a : Archive) (w : World) (old new : Counted) (took : Bool) (calls : List Entry) (kept now : Option (List Keeping)) (t : IsTurn old new took calls kept now) → a.server ≡ old.table → Shows a w → Brought server_endpoint.host calls a → Makes (after_server new.table (next_visit old.last t.answers old.table).taken calls now a) (visit_members (port_above old.last old.table) t.answers old.table ++ late_members t.late) w
 turn-makes a w old new took calls kept now t is h brought =
     let v = next_visit old.last t.answers old.table in
     let end = turn_ends (is_quiet v.change) v.change v.server t.late old.timers in
     let b = as_server old.table a in
     let came : Brought server_endpoint.host v.calls b = brought-first server_endpoint.host v.calls end.calls b (subst (λ (l : List Entry). Brought server_endpoint.host l b) t.calls_are (λ d has. brought-as old.table d a (brought d has))) in
-    after_visit b w v end _ _
+    keeps-makes now new.table v.taken calls b _ w
+    (after_visit b w v end _ _
     (visit_made b w (shows-as a w old.table is h) old.last (port_above old.last old.table) refl t.answers came t.merges)
     (λ shown. ended (is_quiet v.change) v t.late old _ _ shown t.late_are)
-    new.table took calls t.table t.taken_is (ap (sent_by server_endpoint.host) t.calls_are)
+    new.table calls t.table (ap (sent_by server_endpoint.host) t.calls_are))
 
-pub round-makes : (a : Archive) (w : World) (old new : Clocked) (took : Bool) (calls : List Entry) (kept now : Option (List Keeping)) (t : IsRound old new took calls kept now) → a.server ≡ old.table → Shows a w → Brought server_endpoint.host calls a → Makes (after_server new.table took calls a) (ready_members t.ready t.answers old.table ++ late_members t.late) w
+pub round-makes : (a : Archive) (w : World) (old new : Clocked) (took : Bool) (calls : List Entry) (kept now : Option (List Keeping)) (t : IsRound old new took calls kept now) → a.server ≡ old.table → Shows a w → Brought server_endpoint.host calls a → Makes (after_server new.table (ready_visit t.ready t.answers old.table).taken calls now a) (ready_members t.ready t.answers old.table ++ late_members t.late) w
 round-makes a w old new took calls kept now t is h brought =
     let v = ready_visit t.ready t.answers old.table in
     let end = round_walk v t.time t.late old.timers in
     let b = as_server old.table a in
     let came : Brought server_endpoint.host v.calls b = brought-first server_endpoint.host v.calls end.calls b (subst (λ (l : List Entry). Brought server_endpoint.host l b) t.calls_are (λ d has. brought-as old.table d a (brought d has))) in
-    after_visit b w v end _ _
+    let visited = after_server v.server v.taken v.calls b.kept b in
+    keeps-makes now new.table v.taken calls b _ w
+    (after_visit b w v end _ _
     (ready_made b w (shows-as a w old.table is h) t.ready t.answers came t.merges)
-    (λ shown. walk_made t.late (deadline t.time) (record { server = v.server; timers = timed v.change (deadline t.time) old.timers; calls = [] }) (after_server v.server (is_some v.taken) v.calls b) _ (shows-still (after_server v.server (is_some v.taken) v.calls b) _ shown))
-    new.table took calls t.table t.taken_is (ap (sent_by server_endpoint.host) t.calls_are)
+    (λ shown. walk_made t.late (deadline t.time) (record { server = v.server; timers = timed v.change (deadline t.time) old.timers; calls = [] }) visited _ (shows-still visited _ shown))
+    new.table calls t.table (ap (sent_by server_endpoint.host) t.calls_are))

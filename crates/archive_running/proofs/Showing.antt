@@ -1,39 +1,37 @@
 -- A world that has what an archive has, after each step of either.
-use Rattle.std.proofs.Common.{◌≡◌, ◌≢◌, ◌⊎◌, ℕ, Bool, true, false, ◌||◌, cond, List, [], ◌∷◌, ◌++◌, map, length, Option, None, Some, Ok, is_some, refl, ap, sym, ◌∙◌, subst, inl, inr, append-nil, length-append, arith}
+use Rattle.std.proofs.Common.{◌≡◌, ◌≢◌, ◌⊎◌, ℕ, Bool, true, false, ◌||◌, cond, List, [], ◌∷◌, ◌++◌, length, Option, None, Some, Ok, is_some, refl, ap, sym, ◌∙◌, subst, inl, inr, append-nil}
 use Rattle.std.specs.List.{list_any}
 use Rattle.std.specs.Map.{lookup, set_value}
-use Rattle.std.proofs.lemmas.List.{map-append}
 use Rattle.std.proofs.lemmas.List.Elements.{All-nil}
 use Rattle.std.proofs.lemmas.Map.{keys-set_value}
 use Rattle.std.proofs.lemmas.Map.Made.{is_some-lookup}
 use Rattle.tftp_packet.specs.declared.endpoint.Endpoint.{Endpoint}
 use Rattle.tftp_packet.specs.declared.out.Out.{Out}
 use Rattle.archive_table.specs.Server.{Server, Taken, is_same}
+use Rattle.archive_table.specs.Keeper.{Keeping}
 use Rattle.archive_table.specs.Server as table
 use Rattle.archive_client.specs.declared.state.State.TheVariants as state
 use Rattle.archive_client.specs.Client.{Operation, Client, request_out, client_start, state_of, phase_file, file_or, file_of}
 use Rattle.archive_client.specs.Client as client
-use Rattle.archive_turns.specs.Turn.{count_if}
 use Rattle.archive_world.specs.World.{Datagram, Begun, Opening, Got, World, server_endpoint, at_endpoint, has_begun, datagram_of, net_with, taken_with, sent_with, got_with, newly_sent, newly_got, after_client, begins, restarts}
 use Rattle.archive_world.specs.Traces.{named_in}
 use Rattle.archive_world.proofs.Places.{Has, Has-contains, Has-from_contains, Has-extends, Extends-push, Has-last, Has-push}
 use Rattle.archive_world.proofs.Keyed.{lookup-set}
+use Rattle.archive_world.proofs.Lasting.{either}
 use Rattle.archive_world.proofs.Endpoints.{exact_endpoint}
 use Rattle.archive_world.proofs.ServerMoves.{served}
 use Rattle.archive_running.specs.Archive.{Archive, Mirrors, after_restart}
 use Rattle.archive_running.proofs.Ports.{IsApart}
 use Rattle.archive_running.proofs.Ended.{Ends}
 
-abbrev pub operation_of : Begun → Endpoint × Operation
-operation_of b = (b.client, b.operation)
-
 -- what is promised, by places, with what it needs: that operations have clients, and that the request port is no transfer's
 pub record Shows (a : Archive) (w : World) : Type 0 where
   pub server : w.server ≡ a.server
   pub clients : w.clients ≡ a.clients
-  pub begun : map operation_of w.begun ≡ a.begun
-  pub taken : length w.taken ≡ a.taken
+  pub begun : w.begun ≡ a.begun
+  pub taken : w.taken ≡ a.taken
   pub net : (d : Datagram) → Has a.net d → Has w.net d
+  pub others : (d : Datagram) → Has w.net d → Has a.net d ⊎ Has w.strays d
   pub sent : (e : Endpoint) (c : Client) → lookup (at_endpoint e) a.clients ≡ Some c → state_of c ≡ state.Sent → Has w.sent e
   pub got : (e : Endpoint) (c : Client) (file : List ℕ) → lookup (at_endpoint e) a.clients ≡ Some c → phase_file c.phase ≡ Some file → Has w.got (record { client = e; file = file })
   pub known : (e : Endpoint) → has_begun e w.begun ≡ is_some (lookup (at_endpoint e) a.clients)
@@ -51,11 +49,17 @@ shows-mirrors a w h =
       begun = h.begun;
       taken = h.taken;
       net = λ d among. Has-contains w.net d (h.net d (Has-from_contains a.net d among));
+      others = λ d among. either (Has-contains a.net d) (Has-contains w.strays d) (h.others d (Has-from_contains w.net d among));
       sent = λ e c is sent. Has-contains w.sent e (h.sent e c is sent);
       got = λ e c file is given. Has-contains w.got _ (h.got e c file is (given_file (phase_file c.phase) c file given));
     }
 
 -- ---- a stranger's datagram
+
+strayed : (a : Archive) (w : World) → Shows a w → (d x : Datagram) → Has w.net x ⊎ (x ≡ d) → Has a.net x ⊎ Has (w.strays ++ d ∷ []) x
+strayed a w h d x (inl old) =
+    either (λ has. has) (λ has. Has-extends w.strays (w.strays ++ d ∷ []) x (Extends-push w.strays d) has) (h.others x old)
+strayed a w h d x (inr is) = inr (subst (Has (w.strays ++ d ∷ [])) (sym is) (Has-last w.strays d))
 
 pub shows-named : (place : Option ℕ) (d : Datagram) (a : Archive) (w : World) → Shows a w → Shows a (named_in place d w)
 shows-named (Some n) d a w h = h
@@ -66,6 +70,7 @@ shows-named None d a w h =
       begun = h.begun;
       taken = h.taken;
       net = λ x has. Has-extends w.net (w.net ++ d ∷ []) x (Extends-push w.net d) (h.net x has);
+      others = λ x has. strayed a w h d x (Has-push w.net d x has);
       sent = h.sent;
       got = h.got;
       known = h.known;
@@ -87,6 +92,17 @@ has_out host None old net more d has = more d (subst (λ l. Has l d) (append-nil
 has_out host (Some out) old net more d has =
     pushed old net (datagram_of host out) d (more d) (Has-push old (datagram_of host out) d has)
 
+new_or_other : (old net strays : List Datagram) (x d : Datagram) → ((y : Datagram) → Has net y → Has old y ⊎ Has strays y) → Has net d ⊎ (d ≡ x) → Has (old ++ x ∷ []) d ⊎ Has strays d
+new_or_other old net strays x d others (inl was) =
+    either (λ has. Has-extends old (old ++ x ∷ []) d (Extends-push old x) has) (λ has. has) (others d was)
+new_or_other old net strays x d others (inr is) = inl (subst (Has (old ++ x ∷ [])) (sym is) (Has-last old x))
+
+other_out : (host : ℕ) (out : Option Out) (old net strays : List Datagram) → ((d : Datagram) → Has net d → Has old d ⊎ Has strays d) → (d : Datagram) → Has (net_with host net out) d → Has (old ++ outs host out) d ⊎ Has strays d
+other_out host None old net strays others d has =
+    either (λ was. subst (λ l. Has l d) (sym (append-nil old)) was) (λ stray. stray) (others d has)
+other_out host (Some out) old net strays others d has =
+    new_or_other old net strays (datagram_of host out) d others (Has-push net (datagram_of host out) d has)
+
 -- ---- the server
 
 abbrev pub with_answer : Server → Option Taken → List Datagram → Archive → Archive
@@ -95,13 +111,10 @@ with_answer s told sent a =
       server = s;
       clients = a.clients;
       begun = a.begun;
-      taken = count_if (is_some told) a.taken;
+      taken = taken_with told a.taken;
       net = a.net ++ sent;
+      kept = a.kept;
     }
-
-counted : (told : Option Taken) (ts : List Taken) (n : ℕ) → length ts ≡ n → length (taken_with told ts) ≡ count_if (is_some told) n
-counted None ts n is = is
-counted (Some t) ts n is = omega (arith, is, length-append ts (t ∷ []))
 
 pub shows-served : (a : Archive) (w : World) → Shows a w → (x : table.Answer) → IsApart x.server → (told : Option Taken) (opened : List Opening) → Shows (with_answer x.server told (outs server_endpoint.host x.told.out) a) (served (net_with server_endpoint.host w.net x.told.out) x.server (taken_with told w.taken) opened w)
 shows-served a w h x apart told opened =
@@ -109,16 +122,17 @@ shows-served a w h x apart told opened =
       server = refl;
       clients = h.clients;
       begun = h.begun;
-      taken = counted told w.taken a.taken h.taken;
+      taken = ap (taken_with told) h.taken;
       net = has_out server_endpoint.host x.told.out a.net w.net h.net;
+      others = other_out server_endpoint.host x.told.out a.net w.net w.strays h.others;
       sent = h.sent;
       got = h.got;
       known = h.known;
       apart = apart;
     }
 
-pub shows-restart : (a : Archive) (w : World) → Shows a w → Shows (after_restart a) (restarts w)
-shows-restart a w h =
+pub shows-restart : (kept : Option (List Keeping)) (a : Archive) (w : World) → Shows a w → Shows (after_restart a.server.maps kept a) (restarts w)
+shows-restart kept a w h =
     let emptied : Server → Server = λ s. record { request = s.request; maps = s.maps; live = [] } in
     record {
       server = ap emptied h.server;
@@ -126,6 +140,7 @@ shows-restart a w h =
       begun = h.begun;
       taken = h.taken;
       net = h.net;
+      others = h.others;
       sent = h.sent;
       got = h.got;
       known = h.known;
@@ -142,6 +157,7 @@ with_client e next sent a =
       begun = a.begun;
       taken = a.taken;
       net = a.net ++ sent;
+      kept = a.kept;
     }
 
 sent_now : (newly : Bool) (e : Endpoint) (es : List Endpoint) → newly ≡ true → Has (sent_with newly e es) e
@@ -205,6 +221,7 @@ module _ (a : Archive) (w : World) (h : Shows a w) (e : Endpoint) (c : Client) (
         begun = h.begun;
         taken = h.taken;
         net = has_out e.host x.out a.net w.net h.net;
+        others = other_out e.host x.out a.net w.net w.strays h.others;
         sent = λ f k found sent. sent_at f k sent (lookup-set at_endpoint exact_endpoint a.clients e x.client f k found);
         got = λ f k file found given. got_at f k file given (lookup-set at_endpoint exact_endpoint a.clients e x.client f k found);
         known = λ f. h.known f ∙ known_still f;
@@ -243,9 +260,10 @@ module _ (a : Archive) (w : World) (h : Shows a w) (e : Endpoint) (operation : O
       record {
         server = a.server;
         clients = (e, begun_client) ∷ a.clients;
-        begun = a.begun ++ (e, operation) ∷ [];
+        begun = a.begun ++ record { client = e; operation = operation; taken = length a.taken } ∷ [];
         taken = a.taken;
         net = a.net ++ outs e.host (Some (request_out operation begun_client));
+        kept = a.kept;
       }
 
   pub shows-begin : Shows with_begun (begins e operation w)
@@ -253,9 +271,12 @@ module _ (a : Archive) (w : World) (h : Shows a w) (e : Endpoint) (operation : O
       record {
         server = h.server;
         clients = ap (λ (cs : List (Endpoint × Client)). (e, begun_client) ∷ cs) h.clients;
-        begun = map-append operation_of w.begun _ ∙ ap (λ (l : List (Endpoint × Operation)). l ++ (e, operation) ∷ []) h.begun;
+        begun =
+            ap (λ (l : List Begun). l ++ record { client = e; operation = operation; taken = length w.taken } ∷ []) h.begun
+            ∙ ap (λ (ts : List Taken). a.begun ++ record { client = e; operation = operation; taken = length ts } ∷ []) h.taken;
         taken = h.taken;
         net = has_out e.host (Some (request_out operation begun_client)) a.net w.net h.net;
+        others = other_out e.host (Some (request_out operation begun_client)) a.net w.net w.strays h.others;
         sent = λ f k found sent.
             first_or (is_same f e) begun_client k (lookup (at_endpoint f) a.clients) found
             (λ new. let running : state.Running ≡ state.Sent = ap state_of new ∙ sent in absurd cc)

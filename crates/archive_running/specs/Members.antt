@@ -1,5 +1,5 @@
--- What the turns of archive_turns are in the world of archive_world: a datagram that comes and is not lost is heard, and a
--- time-out is one.
+-- What the turns of archive_turns are in the world of archive_world: a datagram that is received and not dropped is a
+-- `hears`, and a time-out is a `client_waits_long` or a `server_waits_long`.
 use Rattle.std.specs.Prelude.{ℕ, ◌==◌, Bool, true, false, nat_le, List, [], ◌∷◌, map, flat_map, Option, None, Some}
 use Rattle.tftp_packet.specs.declared.endpoint.Endpoint.{Endpoint}
 use Rattle.tftp_ends.specs.Ends.{Verdict, granted, refused}
@@ -10,13 +10,13 @@ use Rattle.archive_turns.specs.Run.{Run, RunAnswers}
 use Rattle.archive_world.specs.World.{Datagram, server_endpoint, empty_maps, datagram_of}
 use Rattle.archive_world.specs.Traces.{Deed, hears, client_waits_long, server_waits_long, Member}
 
--- ---- what the calls of a wire send and receive, on this host
+-- ---- what calls of a wire on this host send and receive
 
 abbrev pub arrival : (host port : ℕ) → (from : Endpoint) (bytes : List ℕ) → Datagram
 arrival host port from bytes =
     record { source = from; target = record { host = host; port = port }; bytes = bytes }
 
--- A datagram whose `send` failed was sent, and is lost.
+-- A datagram whose `send` failed counts as sent, and is lost.
 abbrev pub sent_in : (host : ℕ) → Entry → List Datagram
 sent_in host (opened port) = []
 sent_in host (closed port ok) = []
@@ -43,7 +43,7 @@ come_to host calls = flat_map (come_in host) calls
 
 -- ---- one member
 
--- What is granted and which collections a file makes has no effect but where a step asks for it.
+-- The grant and the collections matter only where a step asks for them, and these deeds do not.
 abbrev pub does : Deed → Member
 does deed = record { deed = deed; grant = all; maps = empty_maps }
 
@@ -62,7 +62,7 @@ transfer_members (datagram from bytes) a port =
 transfer_members nothing a port = []
 transfer_members fault a port = []
 
--- A request is lost where no port for its transfer was opened, or one that is of no use.
+-- A request is dropped where no port could be opened for it, or where the port cannot be used.
 abbrev pub used_members : (usable : Bool) → (spare : ℕ) → Verdict → (from : Endpoint) (bytes : List ℕ) → Server → List Member
 used_members true spare verdict from bytes s =
     hearing (arrival server_endpoint.host s.request from bytes) spare (grant_for verdict) empty_maps ∷ []
@@ -77,12 +77,12 @@ request_members (datagram from bytes) a s = spared_members a.spare a.verdict fro
 request_members nothing a s = []
 request_members fault a s = []
 
--- of the server that counts its turns: the live port to visit, or the request port
+-- the visit of the server that counts its turns: to a live port, or to the request port
 abbrev pub visit_members : Option ℕ → Answers → Server → List Member
 visit_members (Some port) a s = transfer_members a.receipt a port
 visit_members None a s = request_members a.receipt a s
 
--- of the one that waits: the port that is ready, if one is
+-- that of the server that waits: to the port that is ready, if one is
 abbrev pub port_members : (is_request : Bool) → (port : ℕ) → Answers → Server → List Member
 port_members true port a s = request_members a.receipt a s
 port_members false port a s = transfer_members a.receipt a port
@@ -97,7 +97,7 @@ late_members late = map (λ e. does (server_waits_long e.0)) late
 
 -- ---- a turn of a client
 
--- the last of the quiet turns that were left is a time-out
+-- A client times out in its last quiet turn.
 abbrev pub quiet_members : (last : Bool) → (host : ℕ) → Run → List Member
 quiet_members true host r = does (client_waits_long (record { host = host; port = r.port })) ∷ []
 quiet_members false host r = []

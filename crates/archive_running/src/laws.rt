@@ -3,24 +3,28 @@
 ghost use Rattle.std.specs.Prelude.{◌≡◌, ℕ, List, Option, Some, Ok};
 ghost use Rattle.std.specs.Map.{lookup};
 ghost use Rattle.tftp_packet.specs.declared.endpoint.Endpoint.{Endpoint};
-ghost use Rattle.archive_client.specs.Client.{Client, state_of};
+ghost use Rattle.archive_client.specs.Client.{Client, state_of, file_of};
+ghost use Rattle.archive_client.specs.declared.state.State.TheVariants.{Sent};
 ghost use Rattle.archive_turns.specs.Run.{put_result, WritesGot};
-ghost use Rattle.archive_world.specs.World.{at_endpoint, start, AllMayHappen};
+ghost use Rattle.archive_world.specs.World.{at_endpoint, start, AllMayHappen, AllMerged};
 ghost use Rattle.archive_world.specs.Headline.{HasOwnPorts, Headline, SentOnce};
 ghost use Rattle.archive_world.specs.Traces.{Member, trace_from, trace_steps};
-ghost use Rattle.archive_running.specs.Archive.{Archive, Runs, Mirrors, WritesFinished, SendsFile};
+ghost use Rattle.archive_running.specs.Archive.{Archive, Reaches, Mirrors, WritesFinished, CanReach};
 
-/// Of every run of a server and its clients, turn by turn as the contracts of archive_turns say, in which what comes was
-/// sent before or is a stranger's: it is a trace each of whose events may happen, and the world after that trace has what
-/// runs. So where ports are own the headline holds of it: a put that has answered Ok was taken exactly once, and what a
-/// get that has answered Ok has written is the collection at a request of its own.
+/// Every run of a server and its clients, made of turns as archive_turns defines them, in which whatever is received was
+/// sent before or is a stranger's, is a trace whose events may all happen; the world after it mirrors the archive. So
+/// where ports are own the headline holds of it: a put that has answered Ok was taken exactly once, and what a get that
+/// has answered Ok has written is the collection at a request of its own. Openings of the world are the requests that
+/// opened a transfer, and strays are datagrams that came though no wire was given them to send.
 pub fn running_law()
-    ensures mirrors { (a : Archive) (members : List Member) → Runs a members → Mirrors a (trace_from members start) }
-    ensures happens { (a : Archive) (members : List Member) → Runs a members → AllMayHappen (trace_steps members start) start }
-    ensures headline { (a : Archive) (members : List Member) → Runs a members → HasOwnPorts (trace_from members start) → Headline (trace_from members start) }
-    // By `Mirrors` these are the operations that have begun.
-    ensures sent { (a : Archive) (members : List Member) → Runs a members → HasOwnPorts (trace_from members start) → (e : Endpoint) (c : Client) (len n : ℕ) → lookup (at_endpoint e) a.clients ≡ Some c → put_result (state_of c) len ≡ Ok n → SentOnce (trace_from members start).begun (trace_from members start).taken e }
-    ensures fetched { (a : Archive) (members : List Member) → Runs a members → HasOwnPorts (trace_from members start) → (e : Endpoint) (c : Client) (len : ℕ) (written now : Option (List ℕ)) → lookup (at_endpoint e) a.clients ≡ Some c → WritesGot c (Ok len) written now → WritesFinished e (trace_from members start) written now }
-    // There is such a run.
-    ensures sample { SendsFile }
+    ensures mirrors { (a : Archive) (members : List Member) → Reaches a members → Mirrors a (trace_from members start) }
+    ensures happens { (a : Archive) (members : List Member) → Reaches a members → AllMayHappen (trace_steps members start) start }
+    ensures merged { (a : Archive) (members : List Member) → Reaches a members → AllMerged (trace_steps members start) start }
+    ensures headline { (a : Archive) (members : List Member) → Reaches a members → HasOwnPorts (trace_from members start) → Headline (trace_from members start) }
+    // By `mirrors`, the operations and files of this world are those of the archive.
+    ensures sent { (a : Archive) (members : List Member) → Reaches a members → HasOwnPorts (trace_from members start) → (e : Endpoint) (c : Client) (len n : ℕ) → lookup (at_endpoint e) a.clients ≡ Some c → put_result (state_of c) len ≡ Ok n → SentOnce (trace_from members start).begun (trace_from members start).taken e }
+    ensures fetched { (a : Archive) (members : List Member) → Reaches a members → HasOwnPorts (trace_from members start) → (e : Endpoint) (c : Client) (len : ℕ) (written now : Option (List ℕ)) → lookup (at_endpoint e) a.clients ≡ Some c → WritesGot c (Ok len) written now → WritesFinished e c len (trace_from members start) written now }
+    // There are runs in which a client counts its file as sent, and in which one has fetched a collection.
+    ensures sends { CanReach (λ c. state_of c ≡ Sent) }
+    ensures fetches { CanReach (λ c. (file : List ℕ) × (file_of c ≡ Ok file)) }
 {}

@@ -120,7 +120,7 @@ heard_takes ended grant port from t s = leaves grant _ s (refl, refl)
 heard_takes (acked n) grant port from t s = leaves grant _ s (ack_leaves t.end port t.peer n s)
 heard_takes (block n body) grant port from t s = data_takes t.end grant port t.peer n body s
 
-found_takes : (found : Option Transfer) (grant : Grant) (port : ℕ) (from : Endpoint) (bytes : List ℕ) (s : Server) → TakesOrLeaves grant (λ maps. datagram_at found grant maps port from bytes s) s
+pub found_takes : (found : Option Transfer) (grant : Grant) (port : ℕ) (from : Endpoint) (bytes : List ℕ) (s : Server) → TakesOrLeaves grant (λ maps. datagram_at found grant maps port from bytes s) s
 found_takes (Some t) grant port from bytes s = heard_takes (heard t.peer from bytes) grant port from t s
 found_takes None grant port from bytes s = leaves grant _ s (refl, refl)
 

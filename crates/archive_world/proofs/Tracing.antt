@@ -148,7 +148,7 @@ pub merged_append : (xs ys : List Step) (w : World) → AllMerged xs w → AllMe
 merged_append [] ys w first rest = rest
 merged_append (x ∷ xs) ys w first rest = (first.0, merged_append xs ys (happens x w) first.1 rest)
 
-trace_merged : (members : List Member) (w : World) → AllMayHappen (trace_steps members w) w → AllDeedsMerged members w → AllMerged (trace_steps members w) w
+pub trace_merged : (members : List Member) (w : World) → AllMayHappen (trace_steps members w) w → AllDeedsMerged members w → AllMerged (trace_steps members w) w
 trace_merged [] w may merged = tt
 trace_merged (m ∷ members) w may merged =
     let steps = member_steps m w in

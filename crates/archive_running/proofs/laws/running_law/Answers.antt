@@ -1,5 +1,5 @@
-use Rattle.archive_running.proofs.Running.{run-mirrors, run-happens, run-headline, run-sent, run-fetched}
-use Rattle.archive_running.proofs.Sampling.{sample}
+use Rattle.archive_running.proofs.Running.{run-mirrors, run-happens, run-merged, run-headline, run-sent, run-fetched}
+use Rattle.archive_running.proofs.Sampling.{sends, fetches}
 use Rattle.archive_running.proofs.laws.running_law.Goals as goal
 
 pub returns-clause-mirrors : goal.returns-clause-mirrors
@@ -8,6 +8,9 @@ returns-clause-mirrors c = run-mirrors
 pub returns-clause-happens : goal.returns-clause-happens
 returns-clause-happens c = run-happens
 
+pub returns-clause-merged : goal.returns-clause-merged
+returns-clause-merged c = run-merged
+
 pub returns-clause-headline : goal.returns-clause-headline
 returns-clause-headline c = run-headline
 
@@ -15,8 +18,11 @@ pub returns-clause-sent : goal.returns-clause-sent
 returns-clause-sent c = run-sent
 
 pub returns-clause-fetched : goal.returns-clause-fetched
-returns-clause-fetched c = λ a members run own e c len written now is writes.
-    run-fetched a members run own e c is len written now writes
+returns-clause-fetched c = λ a members reaches own e c len written now is writes.
+    run-fetched a members reaches own e c len written now is writes
 
-pub returns-clause-sample : goal.returns-clause-sample
-returns-clause-sample c = sample
+pub returns-clause-sends : goal.returns-clause-sends
+returns-clause-sends c = sends
+
+pub returns-clause-fetches : goal.returns-clause-fetches
+returns-clause-fetches c = fetches
