@@ -6,11 +6,10 @@ use Rattle.std.proofs.lemmas.Bool.{true≢false}
 use Rattle.std.proofs.lemmas.Map.Views.{exact_unsigned_eq}
 use Rattle.tftp_packet.specs.Packet.{Packet}
 use Rattle.tftp_packet.specs.declared.sizes.TheConstants.{BLOCK_SIZE}
-use Rattle.tftp_ends.specs.declared.limits.TheConstants.{MAX_BLOCKS}
 use Rattle.tftp_ends.specs.declared.recv_fault.RecvFault.{RecvFault}
 use Rattle.tftp_ends.specs.declared.recv_state.RecvState.{RecvState}
 use Rattle.tftp_ends.specs.declared.recv_state.RecvState.TheVariants.{Running, Complete, TimedOut, Over}
-use Rattle.tftp_ends.specs.Ends.{granted, Receiver, receiver_takes, receiver_next, receiver_again, receiver_running, receiver_data_in, receiver_data, receiver_take, receiver_take_in, receiver_appends, is_past, is_last_come, answer_of, HasSize, IsReceiver, IsEnded}
+use Rattle.tftp_ends.specs.Ends.{granted, Receiver, receiver_next, receiver_again, receiver_running, receiver_data_in, receiver_data, receiver_take, receiver_take_in, receiver_appends, is_past, is_last_come, answer_of, HasSize, IsReceiver, IsEnded}
 use Rattle.tws_file.specs.Reader.{Reading, reading, stopped, HasTaken, HasRoom}
 use Rattle.archive_table.specs.Server.{IsReceiving}
 use Rattle.archive_table.specs.Incoming.{HasRead}

@@ -1,5 +1,5 @@
 -- What is at the ports, where a key is added, written or taken out.
-use Rattle.std.specs.Prelude.{◌≡◌, ◌≢◌, ℕ, suc, ◌+◌, Bool, true, false, cond, List, [], ◌∷◌, length, Option, None, Some, IsSome, is_some, IfSome}
+use Rattle.std.specs.Prelude.{◌≡◌, ◌≢◌, ℕ, suc, Bool, true, false, cond, List, [], ◌∷◌, length, Option, None, Some, IsSome, is_some, IfSome}
 use Rattle.std.proofs.Common.{refl, sym, ap, ◌∙◌, inl, inr, subst}
 use Rattle.std.specs.List.{All, filter}
 use Rattle.std.specs.BTreeMap.Range.{entries_between, range_contains}
@@ -13,8 +13,7 @@ use Rattle.std.specs.BTreeMap.{is_at, insert_entry}
 use Rattle.std.proofs.lemmas.Bool.{cases_Bool, true≢false}
 use Rattle.std.proofs.lemmas.List.Elements.{All-head, All-tail, All-cons, All-nil, All-weaker}
 use Rattle.std.proofs.lemmas.Map.Views.{All-values-insert_entry, All-map-remove_entry, IfSome-lookup_from_All}
-use Rattle.slab.specs.Slab.{Slab, get, slab_len, Updates}
-use Rattle.archive_table.specs.Ports.{entry_at, found_at, AreApart, AreHeld}
+use Rattle.archive_table.specs.Ports.{entry_at, found_at, AreApart}
 use Rattle.archive_table.proofs.Live.{if_true, if_false}
 
 pub some_none : {X Y : Type 0} {x : X} → Some x ≡ None → Y

@@ -1,17 +1,14 @@
 -- Keys and places as they are after each call on the ports.
-use Rattle.std.specs.Prelude.{◌≡◌, ◌≢◌, ℕ, suc, ◌+◌, Bool, List, [], ◌∷◌, length, Option, None, Some, IsSome}
+use Rattle.std.specs.Prelude.{◌≡◌, ℕ, ◌+◌, Bool, List, Option, None, Some, IsSome}
 use Rattle.std.proofs.Common.{refl, sym, ap, ◌∙◌, subst}
-use Rattle.std.specs.List.{All}
-use Rattle.std.specs.declared.cmp.Ordering.{Ordering}
-use Rattle.std.specs.declared.cmp.Ordering.TheVariants.{Less, Equal, Greater}
-use Rattle.std.specs.Ordering.{match_ordering, is_eq, nat_cmp}
-use Rattle.std.specs.Map.{lookup, remove_entry, set_value, values_of}
+use Rattle.std.specs.Ordering.{nat_cmp}
+use Rattle.std.specs.Map.{lookup, remove_entry, set_value}
 use Rattle.std.specs.BTreeMap.{is_at, insert_entry}
 use Rattle.std.proofs.lemmas.Map.Views.{All-values-insert_entry, All-map-remove_entry}
 use native.Mathlib.Omega.{arith}
 use Rattle.slab.specs.Slab.{Slab, get, slab_len, Updates, with_value}
 use Rattle.slab.proofs.SlabLemmas.{Updates-with_value}
-use Rattle.archive_table.specs.Ports.{found_at, AreApart, AreHeld}
+use Rattle.archive_table.specs.Ports.{found_at, AreHeld}
 use Rattle.archive_table.proofs.Found.{some_is_none, then_at, at_found, lookup_found, found_insert, found_set, found_remove, apart_insert, apart_remove, free_key, held_filled, others_left, length_inserted, length_removed}
 
 module _ {T : Type 0} (keys : List (ℕ × ℕ)) (old : Slab T) (h : AreHeld keys old) where

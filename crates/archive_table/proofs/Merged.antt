@@ -1,8 +1,7 @@
 -- What a file that was read makes of the collections, and what a keeper was given.
-use Rattle.std.specs.Prelude.{◌≡◌, ◌≢◌, ◌⊎◌, ℕ, Bool, true, false, List, [], ◌++◌, Option, None, Some}
+use Rattle.std.specs.Prelude.{◌≡◌, ◌≢◌, ℕ, Bool, true, false, List, [], Option, None, Some}
 use Rattle.std.proofs.Common.{refl, sym, ap, ◌∙◌, inl, inr, subst}
 use Rattle.std.proofs.lemmas.List.{append-nil}
-use Rattle.tws_file.specs.declared.«ruleset».Ruleset.{Ruleset}
 use Rattle.tws_file.specs.declared.«ruleset».Ruleset.TheVariants.{Lynx, Ms}
 use Rattle.tws_file.specs.declared.file_fault.FileFault.{FileFault}
 use Rattle.tws_file.specs.Text.{File, IsText}
@@ -12,10 +11,10 @@ use Rattle.tws_file.proofs.Faults.{text_without_fault}
 use Rattle.tws_best.specs.Best.{Collected}
 use Rattle.tftp_packet.specs.declared.endpoint.Endpoint.{Endpoint}
 use Rattle.tftp_packet.specs.declared.refusal.Refusal.{Refusal}
-use Rattle.tftp_packet.specs.declared.refusal.Refusal.TheVariants.{OutOfMemory, NotKept, UnknownTransfer}
+use Rattle.tftp_packet.specs.declared.refusal.Refusal.TheVariants.{NotKept, UnknownTransfer}
 use Rattle.tftp_packet.specs.Packet.{encode}
 use Rattle.archive_table.specs.Server.{Maps, Server, Taken, Grant, all, no_memory, unkept, dgram_grant, refusal_dgram, refusal_of, IsJoined, JoinsOwn, IsMerged, IsServer}
-use Rattle.archive_table.specs.Keeper.{Keeping, Grows, KeepsMaps, RefusesJoin, RefusesFile, StepKeeps}
+use Rattle.archive_table.specs.Keeper.{Keeping, Grows, RefusesJoin, RefusesFile, StepKeeps}
 use Rattle.archive_table.proofs.Replies.{memory_grant, past_grant}
 use Rattle.std.proofs.lemmas.Bool.{true≢false}
 use Rattle.tftp_ends.specs.declared.recv_fault.RecvFault.{RecvFault}

@@ -10,7 +10,7 @@ use Rattle.tftp_packet.specs.Blocks.{block_count}
 use Rattle.tftp_ends.specs.declared.send_state.SendState.{SendState}
 use Rattle.tftp_ends.specs.declared.send_state.SendState.TheVariants as sending
 use Rattle.tftp_ends.specs.Ends.{dgram_of, Sender, data_packet, sender_goes_on, sender_acked, sender_ack_in, sender_ack, Verdict, granted, refused, Receiver, receiver_takes, receiver_next, receiver_again, receiver_running, receiver_data_in, receiver_data, is_past, is_last_come, answer_of}
-use Rattle.archive_table.specs.Server.{Grant, all, no_memory, dgram_grant, reply_grant, refusal_dgram, grant_of, sends_from}
+use Rattle.archive_table.specs.Server.{all, no_memory, dgram_grant, reply_grant, refusal_dgram, grant_of, sends_from}
 use Rattle.tftp_packet.specs.declared.endpoint.Endpoint.{Endpoint}
 use Rattle.tftp_packet.specs.declared.refusal.Refusal.TheVariants.{FileTooLong, OutOfMemory}
 

@@ -1,6 +1,6 @@
 -- The plain values of a table and of what it tells, without where their bytes lie in memory, and what private functions
 -- speak of.
-use Rattle.std.specs.Prelude.{ℕ, ◌≤◌, List, length, Option, None, Some}
+use Rattle.std.specs.Prelude.{◌≤◌, length}
 use Rattle.archive_table.specs.declared.kept.Kept.TheInside as keepings
 use Rattle.archive_table.specs.declared.taken.Taken.TheInside as taking
 use Rattle.archive_table.specs.Keeper.{Keeping}
@@ -11,7 +11,7 @@ use Rattle.archive_table.specs.declared.transfer.Transfer.TheInside as transferr
 use Rattle.archive_table.specs.declared.table.Table.TheInside as tables
 use Rattle.archive_table.specs.declared.heard.Heard as borrowed
 use Rattle.archive_table.specs.declared.heard.Heard.TheVariants as hears
-use Rattle.archive_table.specs.Server.{End, sending, receiving, Transfer, Maps, Server, Taken, Told, Heard, nothing, stray, ended, acked, block}
+use Rattle.archive_table.specs.Server.{End, sending, receiving, Transfer, Server, Taken, Told, Heard, nothing, stray, ended, acked, block}
 use Rattle.tftp_ends.specs.Ends.{Sender, Receiver}
 
 abbrev pub keeping_of : {A : Type 0} → keepings.Inside A → Keeping

@@ -1,6 +1,6 @@
 -- The server: what it keeps, and what each datagram and each time-out makes of it. RFC 1350 sections 2, 4 and 6.
 -- What an end does is that of tftp_ends; docs/FORMATS.md has the rest as a table.
-use Rattle.std.specs.Prelude.{◌≡◌, ◌≢◌, ℕ, ◌<◌, ◌≤◌, Bool, true, false, ◌==◌, ◌&&◌, nat_lt, List, [], ◌∷◌, ◌++◌, length, map, Contains, Option, None, Some, IsSome, Result, Ok, Err, cond, codes}
+use Rattle.std.specs.Prelude.{◌≡◌, ◌≢◌, ℕ, ◌<◌, ◌≤◌, Bool, true, false, ◌==◌, ◌&&◌, nat_lt, List, [], ◌∷◌, ◌++◌, length, map, Contains, Option, None, Some, Result, Ok, Err, cond}
 use Rattle.std.specs.Str.{bytes_eq}
 use Rattle.std.specs.Char.{to_ascii_lowercase}
 use Rattle.std.specs.Ordering.{nat_cmp}
@@ -29,7 +29,7 @@ use Rattle.tws_file.specs.declared.«ruleset».Ruleset.{Ruleset}
 use Rattle.tws_file.specs.declared.«ruleset».Ruleset.TheVariants.{Lynx, Ms}
 use Rattle.tws_file.specs.Text.{File, IsText}
 use Rattle.tws_file.specs.Names.{file_name_of}
-use Rattle.tws_best.specs.Best.{Collected, IsBestOf, IsCollected, solutions_of, collection_text}
+use Rattle.tws_best.specs.Best.{Collected, IsBestOf, solutions_of, collection_text}
 use Rattle.archive_table.specs.declared.limits.TheConstants.{LIVE}
 
 -- ---- what a server is

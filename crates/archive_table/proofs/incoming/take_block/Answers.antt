@@ -1,8 +1,7 @@
-use Rattle.std.proofs.Common.{refl, sym, ap, ◌∙◌}
-use Rattle.std.specs.Prelude.{ℕ, ◌≡◌, ◌+◌, ◌==◌, Bool, true, false, is_some}
+use Rattle.std.proofs.Common.{sym, ap, ◌∙◌}
+use Rattle.std.specs.Prelude.{◌≡◌, ◌+◌, ◌==◌, true, is_some}
 use Rattle.tftp_ends.specs.Ends.{granted, receiver_data}
-use Rattle.archive_table.specs.Incoming.{HasRead}
-use Rattle.archive_table.proofs.Blocks.{is_answered, has_come, silent_stays, other_stays, answered_by, come_read, stay_read, same_read}
+use Rattle.archive_table.proofs.Blocks.{is_answered, has_come, silent_stays, other_stays, answered_by, come_read, same_read}
 use Rattle.archive_table.proofs.incoming.take_block.Goals as goal
 use Rattle.archive_table.proofs.incoming.take_block.Goals.{then-is_some+then-is_next+in_ok-read_block, else-is_some, else-is_some-via-then-is_some+else-is_next, else-is_some-via-else-is_some}
 

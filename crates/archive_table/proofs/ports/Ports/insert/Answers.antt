@@ -3,7 +3,7 @@ use Rattle.std.specs.Prelude.{◌≡◌, ℕ, List, None}
 use Rattle.std.specs.Map.{lookup}
 use Rattle.std.specs.BTreeMap.{insert_entry}
 use Rattle.std.specs.Ordering.{nat_cmp}
-use Rattle.slab.specs.Slab.{Slab, get}
+use Rattle.slab.specs.Slab.{get}
 use Rattle.archive_table.specs.Server.{at_port}
 use Rattle.archive_table.specs.Ports.{found_at, AreHeld}
 use Rattle.archive_table.proofs.Held.{free_port, held_room, found_inserted, held_inserted}

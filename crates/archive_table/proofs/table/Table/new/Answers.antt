@@ -1,4 +1,3 @@
-use Rattle.archive_table.specs.Kept.{server_of}
 use Rattle.archive_table.proofs.Serving.{none_fits}
 use Rattle.archive_table.proofs.table.Table.new.Goals as goal
 
