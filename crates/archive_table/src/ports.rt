@@ -36,7 +36,7 @@ impl<T, A: Allocator + Copy> Model for Ports<T, A> {
 
 impl<T: Drop, A: Allocator + Copy> Ports<T, A> {
     ghost use Rattle.std.specs.Borrow.{sem};
-    ghost use Rattle.archive_table.specs.Lends.{lends_get, lends_value};
+    ghost use Rattle.archive_table.specs.Lends.{lends_get};
 
     /// No port is live. It takes no memory.
     pub(crate) fn new(alloc: A) -> Self
@@ -91,26 +91,13 @@ impl<T: Drop, A: Allocator + Copy> Ports<T, A> {
     }
 
     /// What is at a port, for writing.
+    #[tactic(auto, using(crate::proofs::Found::lookup_found))]
     pub(crate) fn get_mut(&mut self, port: u16) -> Option<&mut T>
         ensures* writes_back { sem 𝓛 (lends_get T.row A.row A.Allocator self.entry port result) }
         ensures value { option_copied_mut result ≡ lookup (at_port port) self.old }
     {
-        if self.contains(port) {
-            Some(self.value_mut(port))
-        } else {
-            None
-        }
-    }
-
-    // What is at a live port, for writing.
-    #[tactic(auto, using(crate::proofs::Found::lookup_found))]
-    fn value_mut(&mut self, port: u16) -> &mut T
-        requires live { IsSome (lookup (at_port port) self.old) }
-        ensures* writes_back { sem 𝓛 (lends_value T.row A.row A.Allocator self.entry port result) }
-        ensures value { lookup (at_port port) self.old ≡ Some result.now }
-    {
-        let key = self.keys[&port];
-        &mut self.places[key]
+        let key = *self.keys.get(&port)?;
+        Some(&mut self.places[key])
     }
 
     /// The least live port above this one.
