@@ -17,6 +17,7 @@ mod load_fault;
 mod memory_keeper;
 mod no_keeper;
 mod ports;
+mod request;
 mod step;
 mod table;
 mod taken;

@@ -1,9 +1,7 @@
 //! The table of a server.
 
 ghost use Rattle.std.specs.Prelude.{◌≡◌, ◌≢◌, ◌≤◌, [], None, Some, Err, IfOk, IfErr, true, false, length, is_some};
-ghost use Rattle.std.specs.Str.{bytes_eq};
-ghost use Rattle.tws_file.specs.Names.{file_name_of};
-ghost use Rattle.archive_table.specs.Server.{nothing_told, refuses, opens_if, request_verdict, server_request, server_timeout, transfer_at, has_place, read_asked, read_placed, write_asked, kind_named, is_octet as octet_mode, map_of, port_above, IsEnd, IsServer, closes, ack_live, data_live, file_done, server_datagram, grant_of, reply_grant, all, Merges, refusal_of as refusal_told, sends_from};
+ghost use Rattle.archive_table.specs.Server.{nothing_told, refuses, opens_if, request_verdict, server_request, server_timeout, transfer_at, has_place, read_asked, read_placed, write_asked, is_octet as octet_mode, map_of, port_above, IsEnd, IsServer, closes, ack_live, data_live, file_done, server_datagram, grant_of, reply_grant, all, Merges, refusal_of as refusal_told, refusal_dgram, sends_from};
 ghost use Rattle.archive_table.specs.Keeper.{StepKeeps, LoadedFrom, TableFails, FailsAt};
 ghost use Rattle.archive_table.specs.Kept.{end_of};
 ghost use Rattle.tws_file.specs.Reader.{IsAnswer};
@@ -18,13 +16,14 @@ use crate::limits::LIVE;
 use crate::load::load_collection;
 use crate::load_fault::LoadFault;
 use crate::ports::Ports;
+use crate::request::{named, octet};
 use crate::step::Step;
 use crate::taken::Taken;
 use crate::transfer::Transfer;
 use std::alloc::{Allocator, Global};
 use std::marker::Model;
 use tftp_ends::{MAX_FILE, RecvFault, RecvState, SendState, Sender};
-use tftp_packet::{Dgram, Endpoint, Out, Packet, Refusal, decode, encode_ack, is_octet};
+use tftp_packet::{Dgram, Endpoint, Out, Packet, Refusal, decode, encode_ack};
 use tws_best::{Collection, Snapshot};
 use tws_file::Ruleset;
 
@@ -69,6 +68,13 @@ fn told<A: Allocator>(port: u16, to: Endpoint, dgram: Option<Dgram>) -> Step<A>
     }
 }
 
+// What a call tells that sends an error and does no more.
+fn told_error<A: Allocator>(port: u16, to: Endpoint, why: Refusal) -> Step<A>
+    ensures { result ≡ record { out = Some (record { from_port = port; to = to; dgram = refusal_dgram why }); opened = false; taken = None; closed = false } }
+{
+    told(port, to, Some(why.dgram()))
+}
+
 // The error that is sent where a block was not taken.
 fn refusal_of(fault: RecvFault) -> Refusal
     ensures { result ≡ refusal_told fault }
@@ -76,33 +82,6 @@ fn refusal_of(fault: RecvFault) -> Refusal
     match fault {
         RecvFault::Memory => Refusal::OutOfMemory,
         RecvFault::TooLong => Refusal::FileTooLong,
-    }
-}
-
-// Whether a request's mode is octet.
-fn octet(mode: &[u8]) -> bool
-    ensures { result ≡ octet_mode mode.now }
-{
-    is_octet(mode)
-}
-
-// Whether this is the name of the collection of these rules.
-fn is_name(name: &[u8], kind: Ruleset) -> bool
-    ensures { result ≡ bytes_eq name.now (file_name_of kind) }
-{
-    name == kind.file_name()
-}
-
-// The rules whose collection has this name.
-fn named(name: &[u8]) -> Option<Ruleset>
-    ensures { result ≡ kind_named name.now }
-{
-    if is_name(name, Ruleset::Lynx) {
-        Some(Ruleset::Lynx)
-    } else if is_name(name, Ruleset::Ms) {
-        Some(Ruleset::Ms)
-    } else {
-        None
     }
 }
 
@@ -157,7 +136,7 @@ impl<A: Allocator + Copy> Table<A> {
         ensures told { result ≡ (refuses why from self.now).told }
         ensures fits { IsServer self.now }
     {
-        told(self.request, from, Some(why.dgram()))
+        told_error(self.request, from, why)
     }
 
     // Opens a transfer at the spare port, which sends its first datagram from there, if there is memory for it.
@@ -300,6 +279,24 @@ impl<A: Allocator + Copy> Table<A> {
         step
     }
 
+    // The transfer at a port ends, and nothing is sent.
+    fn end(&mut self, port: u16, peer: Endpoint) -> Step<A>
+        ensures server { self.new ≡ (closes port peer None self.old).server }
+        ensures told { result ≡ (closes port peer None self.old).told }
+        ensures fits { IsServer self.new }
+    {
+        self.close(port, peer, None)
+    }
+
+    // The transfer at a port fails, and the peer is told why.
+    fn fail(&mut self, port: u16, peer: Endpoint, why: Refusal) -> Step<A>
+        ensures server { self.new ≡ (closes port peer (Some (refusal_dgram why)) self.old).server }
+        ensures told { result ≡ (closes port peer (Some (refusal_dgram why)) self.old).told }
+        ensures fits { IsServer self.new }
+    {
+        self.close(port, peer, Some(why.dgram()))
+    }
+
     // ACK `n` of the peer has come to a port.
     #[tactic(auto, using(crate::proofs::Live::remove_set, crate::proofs::Live::set_same, crate::proofs::Replies::sender_grant, crate::proofs::Replies::sent_grant))]
     fn on_ack(&mut self, port: u16, n: u16) -> Step<A>
@@ -346,7 +343,7 @@ impl<A: Allocator + Copy> Table<A> {
                 step.taken = Some(Taken { peer, file });
                 step
             }
-            Err(why) => self.close(port, peer, Some(why.dgram())),
+            Err(why) => self.fail(port, peer, why),
         }
     }
 
@@ -369,7 +366,7 @@ impl<A: Allocator + Copy> Table<A> {
         };
         let came = incoming.on_data(n, body);
         match came {
-            Err(fault) => self.close(port, peer, Some(refusal_of(fault).dgram())),
+            Err(fault) => self.fail(port, peer, refusal_of(fault)),
             Ok((ack, whole)) => match whole {
                 None => told(port, peer, ack),
                 Some(whole) => self.on_file(keeper, port, peer, whole, ack),
@@ -406,8 +403,8 @@ impl<A: Allocator + Copy> Table<A> {
         let peer = transfer.peer;
         match hear(peer, from, bytes) {
             Heard::Nothing => self.nothing(),
-            Heard::Stray => told(port, from, Some(Refusal::UnknownTransfer.dgram())),
-            Heard::Ended => self.close(port, peer, None),
+            Heard::Stray => told_error(port, from, Refusal::UnknownTransfer),
+            Heard::Ended => self.end(port, peer),
             Heard::Ack(n) => self.on_ack(port, n),
             Heard::Data { n, body } => self.on_data(keeper, port, n, body),
         }

@@ -27,8 +27,8 @@ returns-in-None-clause-fits g c = set_fits c.args.port _ (server_of c.self.insid
 -- src/table.rt:353:5
 pub returns-in-Err-clause-keeps : goal.returns-in-Err-clause-keeps
 returns-in-Err-clause-keeps g c =
-    let grant = ap (λ (t : Told). grant_of t.out) c.close.ensures.told ∙ ap dgram_grant c.dgram.ensures.bytes ∙ ap (λ (w : Refusal). dgram_grant (refusal_dgram w)) c.refusal_of.ensures in
-    keeps_same (grant_of c.close.result.out) _ c.args.self.now.maps c.close.new.self.maps _ _ (λ e. fault_grant c.in-Err.fault (sym grant ∙ e)) (ap (λ (s : Server). s.maps) (c.close.ensures.server) ∙ ap (λ (s : Server). s.maps) c.self.view_is) refl
+    let grant = ap (λ (t : Told). grant_of t.out) c.fail.ensures.told ∙ ap (λ (w : Refusal). dgram_grant (refusal_dgram w)) c.refusal_of.ensures in
+    keeps_same (grant_of c.fail.result.out) _ c.args.self.now.maps c.fail.new.self.maps _ _ (λ e. fault_grant c.in-Err.fault (sym grant ∙ e)) (ap (λ (s : Server). s.maps) (c.fail.ensures.server) ∙ ap (λ (s : Server). s.maps) c.self.view_is) refl
 
 -- src/table.rt:353:5
 pub returns-in-None-clause-keeps : goal.returns-in-None-clause-keeps

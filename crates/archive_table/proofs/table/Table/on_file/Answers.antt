@@ -1,4 +1,4 @@
-use Rattle.std.proofs.Common.{sym, ap, ◌∙◌, subst}
+use Rattle.std.proofs.Common.{sym, ap, subst}
 use Rattle.std.specs.Prelude.{◌≡◌, Some}
 use Rattle.archive_table.specs.Server.{Server, Told, Grant, IsMerged, IsServer, grant_of, dgram_grant, refusal_dgram}
 use Rattle.archive_table.specs.Keeper.{StepKeeps, RefusesFile}
@@ -34,7 +34,7 @@ returns-in-Err-clause-keeps g c =
     let wanted = Some (record { peer = c.args.peer; file = file }) in
     let was = g.K.Keeper.log c.args.keeper.now in
     let now = g.K.Keeper.log c.merge_file.new.keeper in
-    let grant : grant_of c.close.result.out ≡ dgram_grant (refusal_dgram c.in-Err.why) = ap (λ (t : Told). grant_of t.out) c.close.ensures.told ∙ ap dgram_grant c.dgram.ensures.bytes in
+    let grant : grant_of c.fail.result.out ≡ dgram_grant (refusal_dgram c.in-Err.why) = ap (λ (t : Told). grant_of t.out) c.fail.ensures.told in
     let refused : RefusesFile c.in-Err.why file c.args.self.now.maps was now = subst (λ (s : Server). RefusesFile c.in-Err.why file s.maps was now) c.self.view_is (c.in-Err.ensures.unkept file c.requires.read) in
-    subst (λ (g : Grant). StepKeeps g wanted c.args.self.now.maps c.close.new.self.maps was now) (sym grant)
-    (refused_keeps c.in-Err.why c.args.peer file c.args.self.now.maps c.close.new.self.maps was now refused)
+    subst (λ (g : Grant). StepKeeps g wanted c.args.self.now.maps c.fail.new.self.maps was now) (sym grant)
+    (refused_keeps c.in-Err.why c.args.peer file c.args.self.now.maps c.fail.new.self.maps was now refused)
