@@ -1,8 +1,9 @@
 #!/usr/bin/env python3
 """Kills servers at random moments during puts, and looks at what each has after its restart: kills.py PROGRAM FOLDER.
 
-Ten servers side by side, each with a folder of its own, are killed five times each. A put that was counted as sent must be
-in the collection after the restart; the one that was running may be in it, whole, or not. The last line counts the checks.
+Ten servers side by side, each with a folder of its own, are killed until five kills of each have met a put. A put that was
+counted as sent must be in the collection after the restart; the one that was running may be in it, whole, or not. The last
+line counts the checks.
 """
 import os
 import random
@@ -15,7 +16,9 @@ import time
 
 PROGRAM, FOLDER = sys.argv[1], sys.argv[2]
 SERVERS = 10
+# How many kills of each server are to meet a put, and how many there are at most.
 KILLS = 5
+MOST = 30
 # The puts before each moment is drawn, and how late the moment is at most, in seconds from the start of the next put.
 BEFORE = 2
 LATEST = 0.06
@@ -24,7 +27,6 @@ HEARS = 0.3
 
 lock = threading.Lock()
 counts = {True: 0, False: 0}
-met = 0
 processes = []
 
 
@@ -51,6 +53,8 @@ class Archive:
         self.kept = os.path.join(self.folder, "kept")
         os.makedirs(self.kept)
         self.made = 0
+        # How many kills have met a put.
+        self.met = 0
         # The files of which the collection is the best.
         self.taken = []
 
@@ -120,7 +124,6 @@ class Archive:
         return running
 
     def round(self):
-        global met
         for _ in range(BEFORE):
             path = self.file()
             status = self.put(path)
@@ -135,13 +138,14 @@ class Archive:
         check(f"{self.name}: after {self.made} files it has what was sent", is_after or got == self.best(self.taken))
         with open(os.path.join(self.kept, "lynx.tws"), "rb") as kept:
             check(f"{self.name}: after {self.made} files it has what is kept", got == kept.read())
-        with lock:
-            met += running is not None
+        self.met += running is not None
 
     def live(self):
         try:
             self.start()
-            for _ in range(KILLS):
+            for _ in range(MOST):
+                if self.met == KILLS:
+                    break
                 self.round()
         except BaseException as e:
             check(f"{self.name}: {e!r}", False)
@@ -159,14 +163,16 @@ def end():
 def main():
     signal.signal(signal.SIGTERM, lambda *_: sys.exit(1))
     try:
-        lives = [threading.Thread(target=Archive(k).live, daemon=True) for k in range(SERVERS)]
+        archives = [Archive(k) for k in range(SERVERS)]
+        lives = [threading.Thread(target=archive.live, daemon=True) for archive in archives]
         for life in lives:
             life.start()
         for life in lives:
             life.join()
     finally:
         end()
-    check(f"{met} of {SERVERS * KILLS} kills met a put", met >= SERVERS * KILLS // 2)
+    met = sum(archive.met for archive in archives)
+    check(f"{met} kills met a put", met == SERVERS * KILLS)
     print(f"{counts[True]} passed, {counts[False]} failed")
     sys.exit(counts[False] > 0)
 
