@@ -86,10 +86,11 @@ impl<R: Files + AllocGlobal + Copy> DirKeeper<R> {
         file.sync_all().map_err(fault_of)
     }
 
-    // Renames a file over another, and syncs the folder, so that the new name outlives a loss of power.
+    // Renames a file over another, and syncs the folder, so that the new name outlives a loss of power. The folder is opened
+    // before that: once the file has its new name, only the sync can fail.
     fn rename(&self, from: Path<'_>, to: Path<'_>) -> Result<(), KeepFault> {
-        fs::rename(&self.rt, from, to).map_err(fault_of)?;
         let folder = fs::open(&self.rt, self.dir.as_str()).map_err(fault_of)?;
+        fs::rename(&self.rt, from, to).map_err(fault_of)?;
         folder.sync_all().map_err(fault_of)
     }
 

@@ -27,7 +27,9 @@ const LOOKS: u32 = 1000;
 const LAPS: u8 = 16;
 
 /// A wire over UDP and IPv4, whose ports are open at every address of this host. `receive` waits 5 ms at most, and not at
-/// all at the port that `wait` has just given. Its clock is in milliseconds. It does not tell its log.
+/// all at the port that `wait` has just given. To `wait` a port that was just read is ready again only where no other is, or
+/// in every sixteenth lap over the ports, and it may turn out to have nothing. Its clock is in milliseconds. It does not
+/// tell its log.
 #[derive(Drop)]
 pub struct UdpWire<R: Net + Clock + AllocGlobal + Copy> {
     rt: R,

@@ -181,10 +181,13 @@ fn is_quiet(wire: &mut UdpWire<HostRuntime>, port: u16) -> bool {
 #[test]
 fn a_quiet_port_is_waited_at(rt: HostRuntime) -> Result<(), Fail> {
     let (mut wire, port) = listening(rt)?;
-    let start = Instant::now(&rt)?;
-    let quiet = is_quiet(&mut wire, port);
-    let millis = start.elapsed(&rt)?.as_millis();
-    assert_eq!(rt; (quiet, millis >= 80, millis < 2000), (true, true, true));
+    let mut least = u128::MAX;
+    for _ in 0..8 {
+        let start = Instant::now(&rt)?;
+        assert_eq!(rt; is_quiet(&mut wire, port), true);
+        least = least.min(start.elapsed(&rt)?.as_millis());
+    }
+    assert_eq!(rt; (least >= 80, least < 230), (true, true));
     Ok(())
 }
 
