@@ -4,7 +4,7 @@
 
 ghost use Rattle.std.specs.Prelude.{◌≤◌, length};
 
-use archive_table::{NoKeeper, Step, Table};
+use archive_table::{NoKeeper, Table};
 use std::alloc::{AllocError, Global};
 use std::io::{self, Read};
 use tftp_packet::{
@@ -26,11 +26,12 @@ const MOVES: usize = 100_000;
 /// The collection is of so many files.
 const FILES: u8 = 4;
 
-/// A client of the table: its port, which is that of its transfer, and what it sends next.
+/// A client of the table: its port, which is that of its transfer, and what it sends next, if there is more.
 #[derive(Drop)]
 struct Client {
     port: u16,
-    next: Option<Dgram>,
+    next: Dgram,
+    is_done: bool,
 }
 
 fn endpoint(port: u16) -> Endpoint {
@@ -78,56 +79,56 @@ fn data(file: &[u8], n: u16) -> Dgram {
     encode_data(n, first_block(left))
 }
 
-// What a client sends next, by what has come; none once all of its file is through.
-fn reply(file: &[u8], came: &Dgram) -> Option<Dgram> {
+// Sets what a client sends next, by what has come; it is done once all of its file is through.
+fn reply(client: &mut Client, file: &[u8], came: &Dgram) {
     match decode(came.bytes()) {
-        Ok(Packet::Data { block, .. }) => Some(encode_ack(block)),
-        Ok(Packet::Ack { block }) => {
-            if usize::from(block) * BLOCK_SIZE > file.len() {
-                return None;
-            }
-            Some(data(file, block.saturating_add(1)))
+        Ok(Packet::Data { block, .. }) => client.next = encode_ack(block),
+        Ok(Packet::Ack { block }) if usize::from(block) * BLOCK_SIZE <= file.len() => {
+            client.next = data(file, block.saturating_add(1));
         }
-        _ => None,
+        _ => client.is_done = true,
     }
 }
 
-// Gives a request to the table: what the client sends next.
-fn open(table: &mut Table, file: &[u8], port: u16, reads: bool) -> Option<Dgram> {
-    if port == table.request() || table.is_live(port) {
-        return None;
-    }
-    let request = if reads {
-        encode_read(b"lynx.tws")
-    } else {
-        encode_write(b"upload.tws")
-    };
-    let Step { out, .. } = table.on_request(port, endpoint(port), request.bytes());
-    match out {
-        Some(out) => reply(file, &out.dgram),
-        None => None,
-    }
-}
-
-// Gives what a client sends to the table. Whether there was something.
-fn turn(table: &mut Table, file: &[u8], client: &mut Client) -> bool {
-    let Some(dgram) = &client.next else {
-        return false;
-    };
+// Gives what a client sends to the table, and takes in what it answers.
+fn turn(table: &mut Table, file: &[u8], client: &mut Client) {
     let from = endpoint(client.port);
-    let step = table.on_datagram(&mut NoKeeper, client.port, from, dgram.bytes());
-    client.next = match &step.out {
-        Some(out) => reply(file, &out.dgram),
-        None => None,
+    let step = table.on_datagram(&mut NoKeeper, client.port, from, client.next.bytes());
+    match &step.out {
+        Some(out) => reply(client, file, &out.dgram),
+        None => client.is_done = true,
+    }
+}
+
+// A client that has asked the table for a transfer at its port.
+fn open(table: &mut Table, file: &[u8], port: u16, reads: bool) -> Client {
+    let mut client = Client {
+        port,
+        next: if reads {
+            encode_read(b"lynx.tws")
+        } else {
+            encode_write(b"upload.tws")
+        },
+        is_done: false,
     };
-    true
+    if port == table.request() || table.is_live(port) {
+        client.is_done = true;
+        return client;
+    }
+    let step = table.on_request(port, endpoint(port), client.next.bytes());
+    match &step.out {
+        Some(out) => reply(&mut client, file, &out.dgram),
+        None => client.is_done = true,
+    }
+    client
 }
 
 // One turn of each client: how many datagrams they sent.
 fn turns(table: &mut Table, file: &[u8], clients: &mut [Client]) -> u64 {
     let mut sent: u64 = 0;
     for client in clients.iter_mut() {
-        if turn(table, file, client) {
+        if !client.is_done {
+            turn(table, file, client);
             sent = sent.wrapping_add(1);
         }
     }
@@ -153,8 +154,7 @@ fn round(
     let mut clients = Vec::new(alloc);
     for i in 0..live {
         let port = FIRST.wrapping_add(i);
-        let next = open(table, file, port, (i % 2 == 0) == reads);
-        clients.push(Client { port, next })?;
+        clients.push(open(table, file, port, (i % 2 == 0) == reads))?;
     }
     let mut sent: u64 = 0;
     for _ in 0..u64::from(u32::MAX) {

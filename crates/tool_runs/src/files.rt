@@ -249,14 +249,20 @@ fn an_output_that_fails(rt: HostRuntime) -> Result<(), Fail> {
     Ok(())
 }
 
+// A level that is not solved, and a pad.
+const UNSOLVED: [u8; 22] = [
+    0x35, 0x33, 0x9B, 0x99, 0x01, 0x00, 0x00, 0x00, 0x06, 0x00, 0x00, 0x00, 0x01, 0x00, 0x42, 0x44,
+    0x48, 0x50, 0x00, 0x00, 0x00, 0x00,
+];
+
 // Whatever is written before the writer fails is a proper prefix of the listing.
 #[test]
 fn show_to_a_writer_with_little_room(rt: HostRuntime) {
-    let listing = LISTING.as_bytes();
+    let listing = b"ruleset lynx word 0000 extra 0\nlevel 1 BDHP\npad\nrecords 2\n";
     for j in 0..listing.len() {
-        let mut room = [0u8; 97];
+        let mut room = [0u8; 58];
         let mut out = &mut room[..j];
-        let mut input = SOLUTION.as_slice();
+        let mut input = UNSOLVED.as_slice();
         assert_eq!(rt;
             run_show(rt.alloc(), &mut input, &mut out, false),
             Err(ToolFault::Write)
@@ -265,10 +271,14 @@ fn show_to_a_writer_with_little_room(rt: HostRuntime) {
     }
 }
 
-// The reader fails after a part of a record, and after a header that would be a file.
+// The first eight bytes of no file: the signature is another.
+const UNSIGNED: [u8; 8] = [0x35, 0x33, 0x9B, 0x98, 2, 0, 0, 0];
+
+// The reader fails after a part of a record, after a header that would be a file, and after bytes that have a fault, which
+// then is not the one that is answered.
 #[test]
 fn an_input_that_breaks(rt: HostRuntime) {
-    for bytes in [&SOLUTION[..10], &SOLUTION[..8]] {
+    for bytes in [&SOLUTION[..10], &SOLUTION[..8], &UNSIGNED[..8]] {
         let mut out = Vec::new(rt.alloc());
         let mut input = Breaks {
             bytes: Some(bytes),

@@ -1,4 +1,5 @@
-//! The commands of the program `tws`, over any reader and writer.
+//! The commands of the program `tws`, over any reader and writer. `specs/Inputs.antt`, then `specs/Jobs.antt`, are the files
+//! to read first.
 #![tactic(auto)]
 
 mod address;
@@ -21,6 +22,11 @@ mod target;
 mod tool_fault;
 
 pub use address::Address;
+pub use archive_host::{DirKeeper, UdpWire};
+pub use archive_turns::{
+    Entry, GetRun, MemoryWire, PutRun, RunFault, Server, Wire, WireFault, run_get, run_put,
+    serve_turns,
+};
 pub use best::run_best;
 pub use get::get_file;
 pub use input::INPUT_READS;
