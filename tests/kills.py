@@ -2,8 +2,9 @@
 """Kills servers at random moments during puts, and looks at what each has after its restart: kills.py PROGRAM FOLDER.
 
 Ten servers side by side, each with a folder of its own, are killed until five kills of each have met a put. A put that was
-counted as sent must be in the collection after the restart; the one that was running may be in it, whole, or not. The last
-line counts the checks.
+counted as sent must be in the collection after the restart; the one that was running may be in it, whole, or not. On a disk
+that is busy a keep may take longer than all time-outs of a client, which then gives up: whether its file was taken is open,
+as for one that is killed. The last line counts the checks.
 """
 import os
 import random
@@ -24,6 +25,9 @@ BEFORE = 2
 LATEST = 0.06
 # How long a client that has no server any more may take to hear what is sent already.
 HEARS = 0.3
+# How often a file is put whose client gives up, and what such a client prints.
+TRIES = 3
+GIVES_UP = b"tws: transfer failed: timed out\n"
 
 lock = threading.Lock()
 counts = {True: 0, False: 0}
@@ -37,8 +41,8 @@ def check(name, holds):
             print(f"check failed: {name}", flush=True)
 
 
-def run(*words, out=subprocess.PIPE):
-    process = subprocess.Popen([PROGRAM, *map(str, words)], stdin=subprocess.DEVNULL, stdout=out, stderr=subprocess.DEVNULL)
+def run(*words, out=subprocess.PIPE, errors=subprocess.DEVNULL):
+    process = subprocess.Popen([PROGRAM, *map(str, words)], stdin=subprocess.DEVNULL, stdout=out, stderr=errors)
     with lock:
         processes.append(process)
     return process
@@ -82,8 +86,19 @@ class Archive:
         sys.exit(f"{self.name} does not start")
 
     def put(self, path):
-        self.client = run("put", "127.0.0.1", path, "--port", self.port, out=subprocess.DEVNULL)
-        return self.client.wait()
+        """Puts a file: the client's status, and what it printed as an error."""
+        self.client = run("put", "127.0.0.1", path, "--port", self.port, out=subprocess.DEVNULL, errors=subprocess.PIPE)
+        _, errors = self.client.communicate()
+        return self.client.returncode, errors
+
+    def send(self, path):
+        """Puts a file until it counts as sent."""
+        for _ in range(TRIES):
+            status, errors = self.put(path)
+            if errors != GIVES_UP:
+                break
+        check(f"{self.name}: put, status {status}, {errors}", status == 0)
+        self.taken.append(path)
 
     def best(self, files):
         return subprocess.run([PROGRAM, "best", "lynx", *files], stdout=subprocess.PIPE, check=True).stdout
@@ -110,25 +125,22 @@ class Archive:
         path = self.file()
         killer = threading.Thread(target=self.kill, args=(self.draw.uniform(0, LATEST),), daemon=True)
         killer.start()
-        running, status = None, 0
+        running, status, errors = None, 0, b""
         while not running and not self.killed.is_set():
-            status = self.put(path)
+            status, errors = self.put(path)
             if status == 0:
                 self.taken.append(path)
                 path = self.file()
             else:
                 running = path
         killer.join()
-        # A put is sent, or its client was killed after the server was.
-        check(f"{self.name}: the last put, status {status}", status in (0, -signal.SIGKILL))
+        # A put is sent, or its client was killed after the server was, or gave up since the server hung in a keep.
+        check(f"{self.name}: the last put, status {status}, {errors}", status in (0, -signal.SIGKILL) or errors == GIVES_UP)
         return running
 
     def round(self):
         for _ in range(BEFORE):
-            path = self.file()
-            status = self.put(path)
-            check(f"{self.name}: put, status {status}", status == 0)
-            self.taken.append(path)
+            self.send(self.file())
         running = self.puts_until_killed()
         self.start()
         got = self.get()

@@ -18,7 +18,7 @@ use Rattle.tftp_ends.specs.Ends.{Verdict, granted, refused, Sender, SendAnswer, 
 use Rattle.tftp_ends.proofs.Steps.{sender_ack-keeps, sender_timeout-keeps, IsSender-start, receiver_data-keeps, receiver_timeout-keeps, IsReceiver-start}
 use Rattle.archive_client.proofs.Machine.{client_at}
 use Rattle.archive_client.specs.Client.{Operation, put, get, Phase, asking, sending, receiving, failed, Client, Heard, nothing, stray, refusal, acked, block, IsOperation, IsPhase, IsClient, is_over, heard_from_peer, heard_from_other, heard_bound, heard_packet, heard_decoded, heard_at, heard, phase_peer, client_heard, client_unless_over, client_datagram, client_timeout, asks_again, put_answered, put_waited, get_took, get_answered, get_refused, get_waited}
-use Rattle.archive_client.specs.Kept.{IsHeard}
+use Rattle.archive_client.specs.View.{IsHeard}
 
 -- ---- a body that is heard is no longer than a block
 

@@ -1,2 +1,2 @@
 pub mod Client
-pub mod Kept
+pub mod View

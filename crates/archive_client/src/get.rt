@@ -33,7 +33,7 @@ impl<A: Allocator + Copy> Model for Get<A> {
 
     ghost Value = { Client };
 
-    ghost use Rattle.archive_client.specs.Kept.{get_of};
+    ghost use Rattle.archive_client.specs.View.{get_of};
 
     ghost view = { get_of };
 

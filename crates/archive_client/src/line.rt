@@ -4,7 +4,7 @@ ghost use Rattle.std.specs.Prelude.{◌≡◌};
 ghost use Rattle.archive_client.specs.Client.{heard, heard_from_peer, heard_from_other};
 ghost use Rattle.tftp_packet.specs.Packet.{HasFields};
 ghost use Rattle.tftp_packet.specs.View.{packet_of};
-ghost use Rattle.archive_client.specs.Kept.{heard_of, IsHeard};
+ghost use Rattle.archive_client.specs.View.{heard_of, IsHeard};
 
 use crate::heard::Heard;
 use tftp_packet::{Dgram, Endpoint, Out, Packet, decode};

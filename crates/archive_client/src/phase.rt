@@ -1,5 +1,5 @@
 ghost use Rattle.std.specs.Prelude.{◌≡◌};
-ghost use Rattle.archive_client.specs.Kept.{kept_peer};
+ghost use Rattle.archive_client.specs.View.{kept_peer};
 
 use crate::cause::Cause;
 

@@ -33,7 +33,7 @@ impl<A: Allocator + Copy> Model for Put<A> {
 
     ghost Value = { Client };
 
-    ghost use Rattle.archive_client.specs.Kept.{put_of};
+    ghost use Rattle.archive_client.specs.View.{put_of};
 
     ghost view = { put_of };
 

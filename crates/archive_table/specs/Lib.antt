@@ -3,4 +3,4 @@ pub mod Keeper
 pub mod Incoming
 pub mod Ports
 pub mod Lends
-pub mod Kept
+pub mod View

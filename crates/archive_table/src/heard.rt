@@ -4,7 +4,7 @@ ghost use Rattle.std.specs.Prelude.{◌≡◌};
 ghost use Rattle.tftp_packet.specs.Packet.{HasFields};
 ghost use Rattle.tftp_packet.specs.View.{packet_of};
 ghost use Rattle.archive_table.specs.Server.{heard, heard_from_peer, heard_from_other};
-ghost use Rattle.archive_table.specs.Kept.{heard_of, IsHeard};
+ghost use Rattle.archive_table.specs.View.{heard_of, IsHeard};
 
 use tftp_packet::{Endpoint, Packet, decode};
 

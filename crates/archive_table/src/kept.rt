@@ -19,7 +19,7 @@ impl<A: Allocator> Model for Kept<A> {
 
     ghost Value = { Keeping };
 
-    ghost use Rattle.archive_table.specs.Kept.{keeping_of};
+    ghost use Rattle.archive_table.specs.View.{keeping_of};
 
     ghost view = { keeping_of };
 }

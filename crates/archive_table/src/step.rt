@@ -25,7 +25,7 @@ impl<A: Allocator> Model for Step<A> {
 
     ghost Value = { Told };
 
-    ghost use Rattle.archive_table.specs.Kept.{told_of};
+    ghost use Rattle.archive_table.specs.View.{told_of};
 
     ghost view = { told_of };
 }

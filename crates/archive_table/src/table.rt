@@ -3,7 +3,7 @@
 ghost use Rattle.std.specs.Prelude.{◌≡◌, ◌≢◌, ◌≤◌, [], None, Some, Err, IfOk, IfErr, true, false, length, is_some};
 ghost use Rattle.archive_table.specs.Server.{nothing_told, refuses, opens_if, request_verdict, server_request, server_timeout, transfer_at, has_place, read_asked, read_placed, write_asked, is_octet as octet_mode, map_of, port_above, IsEnd, IsServer, closes, ack_live, data_live, file_done, server_datagram, grant_of, reply_grant, all, Merges, refusal_of as refusal_told, refusal_dgram, sends_from};
 ghost use Rattle.archive_table.specs.Keeper.{StepKeeps, LoadedFrom, TableFails, FailsAt};
-ghost use Rattle.archive_table.specs.Kept.{end_of};
+ghost use Rattle.archive_table.specs.View.{end_of};
 ghost use Rattle.tws_file.specs.Reader.{IsAnswer};
 
 use crate::end::End;
@@ -42,7 +42,7 @@ impl<A: Allocator + Copy> Model for Table<A> {
 
     ghost Value = { Server };
 
-    ghost use Rattle.archive_table.specs.Kept.{server_of};
+    ghost use Rattle.archive_table.specs.View.{server_of};
 
     ghost view = { server_of };
 

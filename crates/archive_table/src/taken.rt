@@ -18,7 +18,7 @@ impl<A: Allocator> Model for Taken<A> {
 
     ghost Value = { Took };
 
-    ghost use Rattle.archive_table.specs.Kept.{taken_of};
+    ghost use Rattle.archive_table.specs.View.{taken_of};
 
     ghost view = { taken_of };
 }

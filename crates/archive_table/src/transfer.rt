@@ -20,7 +20,7 @@ impl<A: Allocator + Copy> Model for Transfer<A> {
 
     ghost Value = { Transferring };
 
-    ghost use Rattle.archive_table.specs.Kept.{transfer_of};
+    ghost use Rattle.archive_table.specs.View.{transfer_of};
 
     ghost view = { transfer_of };
 }

@@ -5,4 +5,4 @@ pub mod Turn
 pub mod Parts
 pub mod Run
 pub mod Ready
-pub mod Kept
+pub mod View

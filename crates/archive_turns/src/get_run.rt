@@ -30,7 +30,7 @@ impl<A: Allocator + Copy> Model for GetRun<A> {
 
     ghost Value = { Run };
 
-    ghost use Rattle.archive_turns.specs.Kept.{run_of_get};
+    ghost use Rattle.archive_turns.specs.View.{run_of_get};
 
     ghost view = { run_of_get };
 }

@@ -29,7 +29,7 @@ impl<A: Allocator + Copy> Model for PutRun<A> {
 
     ghost Value = { Run };
 
-    ghost use Rattle.archive_turns.specs.Kept.{run_of_put};
+    ghost use Rattle.archive_turns.specs.View.{run_of_put};
 
     ghost view = { run_of_put };
 }

@@ -33,7 +33,7 @@ impl<A: Allocator + Copy> Model for ReadyServer<A> {
 
     ghost Value = { Clocked };
 
-    ghost use Rattle.archive_turns.specs.Kept.{clocked_of};
+    ghost use Rattle.archive_turns.specs.View.{clocked_of};
 
     ghost view = { clocked_of };
 

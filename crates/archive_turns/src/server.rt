@@ -32,7 +32,7 @@ impl<A: Allocator + Copy> Model for Server<A> {
 
     ghost Value = { Counted };
 
-    ghost use Rattle.archive_turns.specs.Kept.{counted_of};
+    ghost use Rattle.archive_turns.specs.View.{counted_of};
 
     ghost view = { counted_of };
 

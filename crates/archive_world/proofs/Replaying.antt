@@ -16,7 +16,7 @@ use Rattle.archive_world.specs.declared.world_fault.WorldFault.TheVariants as wo
 use Rattle.archive_world.specs.World.{Event, restart, Step, World, start, happens, run_from, run, HasMerged, MayHappen, AllMayHappen}
 use Rattle.archive_world.specs.Headline.{HasOwnPorts, Headline}
 use Rattle.archive_world.specs.Restarts.{EventKeeps, RunKeeps, IsOutside}
-use Rattle.archive_world.specs.Kept.{event_of, events_of}
+use Rattle.archive_world.specs.View.{event_of, events_of}
 use Rattle.archive_world.specs.Outcomes.{Outcome, outcome_of}
 use Rattle.archive_world.specs.Replays.{HaveKept, IsDue, AllDue, HasHappened, Makes, IsReady, HasRun, IsBadAt, IsReusedAt, IsNotLoadedAt, HasStopped}
 use Rattle.archive_world.specs.Exits.{IsKept, MakesKept, Comes, fault_of, Ends}

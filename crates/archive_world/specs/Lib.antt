@@ -5,7 +5,7 @@ pub mod Samples
 pub mod Reuse
 pub mod Restarts
 pub mod Outcomes
-pub mod Kept
+pub mod View
 pub mod Inside
 pub mod Replays
 pub mod Exits

@@ -22,7 +22,7 @@ impl<A: Allocator> Model for Datagram<A> {
 
     ghost Value = { Sent };
 
-    ghost use Rattle.archive_world.specs.Kept.{datagram_of};
+    ghost use Rattle.archive_world.specs.View.{datagram_of};
 
     ghost view = { datagram_of };
 }

@@ -6,7 +6,7 @@ ghost use Rattle.archive_table.specs.Keeper.{Keeping, TableFails};
 ghost use Rattle.tws_best.specs.Best.{IsCollected};
 ghost use Rattle.archive_world.specs.Restarts.{HasKept};
 ghost use Rattle.tftp_ends.specs.Ends.{granted};
-ghost use Rattle.archive_world.specs.Kept.{operation_of};
+ghost use Rattle.archive_world.specs.View.{operation_of};
 ghost use Rattle.archive_world.specs.Reuse.{IsUnused, was_opened};
 ghost use Rattle.archive_world.specs.World.{begin, client_times_out, server_times_out, stray, empty_maps, is_too_long, server_endpoint, event_happens, after_request, asked_of, restarts, IsFree, MayHappen};
 

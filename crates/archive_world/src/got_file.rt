@@ -18,7 +18,7 @@ impl<A: Allocator> Model for GotFile<A> {
 
     ghost Value = { Got };
 
-    ghost use Rattle.archive_world.specs.Kept.{got_of};
+    ghost use Rattle.archive_world.specs.View.{got_of};
 
     ghost view = { got_of };
 }

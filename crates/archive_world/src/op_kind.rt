@@ -1,5 +1,5 @@
 ghost use Rattle.std.specs.Prelude.{◌≡◌, IfOk};
-ghost use Rattle.archive_world.specs.Kept.{operation_of};
+ghost use Rattle.archive_world.specs.View.{operation_of};
 
 use std::alloc::{AllocError, Allocator, Global};
 use tws_file::{Bytes, Ruleset};

@@ -20,7 +20,7 @@ impl Model for Opening {
 
     ghost Value = { Opened };
 
-    ghost use Rattle.archive_world.specs.Kept.{opening_of};
+    ghost use Rattle.archive_world.specs.View.{opening_of};
 
     ghost view = { opening_of };
 }

@@ -32,7 +32,7 @@ impl<A: Allocator> Model for Outcome<A> {
 
     ghost Value = { Left };
 
-    ghost use Rattle.archive_world.specs.Kept.{outcome_as};
+    ghost use Rattle.archive_world.specs.View.{outcome_as};
 
     ghost view = { outcome_as };
 }

@@ -2,7 +2,7 @@
 
 ghost use Rattle.std.specs.Prelude.{◌≡◌, ℕ, Err, IfOk};
 ghost use Rattle.archive_world.specs.World.{start};
-ghost use Rattle.archive_world.specs.Kept.{events_of};
+ghost use Rattle.archive_world.specs.View.{events_of};
 ghost use Rattle.archive_world.specs.Replays.{IsReady, HasRun, IsBadAt, IsReusedAt, IsNotLoadedAt, HasStopped};
 ghost use Rattle.archive_world.specs.Exits.{fault_of, Ends};
 

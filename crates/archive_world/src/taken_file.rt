@@ -18,7 +18,7 @@ impl<A: Allocator> Model for TakenFile<A> {
 
     ghost Value = { Taken };
 
-    ghost use Rattle.archive_world.specs.Kept.{taken_of};
+    ghost use Rattle.archive_world.specs.View.{taken_of};
 
     ghost view = { taken_of };
 }

@@ -1,5 +1,5 @@
 pub mod Ends
 pub mod Chunks
 pub mod Held
-pub mod Kept
+pub mod View
 pub mod Pair

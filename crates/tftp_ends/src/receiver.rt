@@ -31,7 +31,7 @@ impl<A: Allocator + Copy> Model for Receiver<A> {
 
     ghost Value = { Receiving };
 
-    ghost use Rattle.tftp_ends.specs.Kept.{receiver_of};
+    ghost use Rattle.tftp_ends.specs.View.{receiver_of};
 
     ghost view = { receiver_of };
 

@@ -28,7 +28,7 @@ impl<B: Blocks> Model for Sender<B> {
 
     ghost Value = { Sending };
 
-    ghost use Rattle.tftp_ends.specs.Kept.{sender_of};
+    ghost use Rattle.tftp_ends.specs.View.{sender_of};
 
     ghost view = { sender_of B.file };
 

@@ -1,7 +1,7 @@
 use Rattle.std.proofs.Common.{◌≡◌, length, arith}
 use Rattle.std.proofs.lemmas.List.{take_all}
 use Rattle.archive_world.specs.declared.world_fault.WorldFault.TheVariants.{BadEvent, PortReused, NotLoaded, Memory}
-use Rattle.archive_world.specs.Kept.{events_of}
+use Rattle.archive_world.specs.View.{events_of}
 use Rattle.archive_world.proofs.Replaying.{ran-to, stopped-after, bad-by, reused-by, not_loaded-by, stopped-by}
 use Rattle.archive_world.proofs.schedule.replay.Goals as goal
 

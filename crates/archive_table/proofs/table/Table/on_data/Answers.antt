@@ -1,6 +1,6 @@
 use Rattle.std.proofs.Common.{refl, sym, ap, ◌∙◌}
 use Rattle.archive_table.specs.Server.{Server, Told, grant_of, dgram_grant, refusal_dgram}
-use Rattle.archive_table.specs.Kept.{server_of}
+use Rattle.archive_table.specs.View.{server_of}
 use Rattle.tftp_ends.specs.Ends.{granted}
 use Rattle.tftp_packet.specs.declared.refusal.Refusal.{Refusal}
 use Rattle.archive_table.proofs.Merged.{keeps_same, keeps_all, fault_grant}

@@ -2,7 +2,7 @@ use Rattle.std.proofs.Common.{sym, ap, subst}
 use Rattle.std.specs.Prelude.{◌≡◌, Some}
 use Rattle.archive_table.specs.Server.{Server, Told, Grant, IsMerged, IsServer, grant_of, dgram_grant, refusal_dgram}
 use Rattle.archive_table.specs.Keeper.{StepKeeps, RefusesFile}
-use Rattle.archive_table.specs.Kept.{server_of}
+use Rattle.archive_table.specs.View.{server_of}
 use Rattle.archive_table.proofs.Merged.{both, maps_fit, refused_keeps}
 use Rattle.archive_table.proofs.table.Table.on_file.Goals as goal
 use Rattle.archive_table.proofs.table.Table.on_file.Goals.{in-Ok-2, in-Err-2}

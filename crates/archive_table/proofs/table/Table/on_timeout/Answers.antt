@@ -1,4 +1,4 @@
-use Rattle.archive_table.specs.Kept.{server_of}
+use Rattle.archive_table.specs.View.{server_of}
 use Rattle.archive_table.proofs.Serving.{set_fits}
 use Rattle.archive_table.proofs.table.Table.on_timeout.Goals as goal
 

@@ -1,7 +1,7 @@
 use Rattle.std.proofs.Common.{sym, ap, ◌∙◌, subst}
 use Rattle.std.specs.Prelude.{◌≢◌}
 use Rattle.archive_table.specs.Server.{Server, transfer_at, has_place}
-use Rattle.archive_table.specs.Kept.{server_of, end_of}
+use Rattle.archive_table.specs.View.{server_of, end_of}
 use Rattle.archive_table.proofs.Serving.{inserted_fits}
 use Rattle.archive_table.proofs.table.Table.open.Goals as goal
 
