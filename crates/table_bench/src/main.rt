@@ -26,7 +26,8 @@ const MOVES: usize = 100_000;
 /// The collection is of so many files.
 const FILES: u8 = 4;
 
-/// A client of the table: its port, which is that of its transfer, and what it sends next, if there is more.
+/// A client of the table: its port, which is that of its transfer, and what it sends next unless it is done. With a flag in
+/// place of an option a datagram is made where it stays; otherwise the copies of 516 bytes would be timed as the table's.
 #[derive(Drop)]
 struct Client {
     port: u16,
