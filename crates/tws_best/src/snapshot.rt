@@ -109,22 +109,22 @@ impl<A: Allocator> Snapshot<A> {
         (index, skip as usize)
     }
 
-    // Block `k`, as `Blocks` counts them.
-    fn gather(&self, k: u16) -> Buffer<512>
+    // Gathers block `k`, as `Blocks` counts them, in an empty buffer.
+    fn gather(&self, k: u16, block: &mut Buffer<512>)
         requires first { 1 ≤ k }
         requires last { k ≤ block_count (frozen_text self.now) }
-        ensures { result ≡ block_of (frozen_text self.now) k }
+        requires empty { block.old ≡ [] }
+        ensures bytes { block.new ≡ block_of (frozen_text self.now) k }
+        ensures most { length block.new ≤ 512 }
     {
-        let mut block = Buffer::new();
         if k == 1 {
-            push_part(&mut block, &header_bytes(self.ruleset));
-            push_bodies(&mut block, self.bodies.as_slice());
+            push_part(block, &header_bytes(self.ruleset));
+            push_bodies(block, self.bodies.as_slice());
         } else {
             let (index, skip) = self.find(512 * (u64::from(k) - 1));
-            push_record(&mut block, &self.bodies[index], skip);
-            push_bodies(&mut block, &self.bodies[index + 1..]);
+            push_record(block, &self.bodies[index], skip);
+            push_bodies(block, &self.bodies[index + 1..]);
         }
-        block
     }
 }
 
@@ -136,7 +136,8 @@ impl<A: Allocator> Blocks for Snapshot<A> {
     }
 
     fn block(&self, k: u16, out: &mut [u8; 512]) -> usize {
-        let block = self.gather(k);
+        let mut block = Buffer::new();
+        self.gather(k, &mut block);
         let bytes = block.as_slice();
         out[..bytes.len()].copy_from_slice(bytes);
         bytes.len()

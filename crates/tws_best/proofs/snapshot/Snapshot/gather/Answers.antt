@@ -12,10 +12,13 @@ pub returns-then-k-eq1 : goal.returns-then-k-eq1
 returns-then-k-eq1 g c =
     let given = c.header_bytes.result in
     let first = c.push_part.new.block in
-    first_block (collection_header c.args.self.now.ruleset) given first c.push_bodies.new.block c.args.self.now.bodies c.args.k c.if-k-eq1.true
-    (c.header_bytes.ensures ∙ ap (λ v. collection_header v.ruleset) c.self.view_is)
-    (c.push_part.ensures ∙ ap (λ (x : List ℕ). take 512 (x ++ given)) c.new-block.ensures)
-    (c.push_bodies.ensures ∙ ap (λ (bs : List (List ℕ)). take 512 (first ++ texts bs)) (c.as_slice.ensures.value ∙ ap (λ v. v.bodies) c.self.view_is))
+    record {
+      bytes = first_block (collection_header c.args.self.now.ruleset) given first c.push_bodies.new.block c.args.self.now.bodies c.args.k c.if-k-eq1.true
+          (c.header_bytes.ensures ∙ ap (λ v. collection_header v.ruleset) c.self.view_is)
+          (c.push_part.ensures ∙ ap (λ (x : List ℕ). take 512 (x ++ given)) c.requires.empty)
+          (c.push_bodies.ensures ∙ ap (λ (bs : List (List ℕ)). take 512 (first ++ texts bs)) (c.as_slice.ensures.value ∙ ap (λ v. v.bodies) c.self.view_is));
+      most = omega (arith, ap length c.push_bodies.ensures, length-take {A = ℕ});
+    }
 
 pub returns-else-k-eq1 : goal.returns-else-k-eq1
 returns-else-k-eq1 g c =
@@ -25,9 +28,12 @@ returns-else-k-eq1 g c =
     let body = c.index.result.now in
     let slice = c.deref.result.now in
     let same = ap (λ v. length v.bodies) c.self.view_is in
-    later_block (collection_header c.args.self.now.ruleset) body c.push_record.new.block c.push_bodies-else-k-eq1.new.block c.args.self.now.bodies (take (length slice - (i + 1)) (drop (i + 1) slice)) i r c.args.k refl c.find-index.ensures.inside c.find-index.ensures.within
-    (ap (λ n. 512 * (n - 1)) (sym c.from.ensures) ∙ c.find-index.ensures.is)
-    (c.index.ensures ∙ get_or_default kept i body [] (omega (arith, c.find-index.ensures.inside, same)) ∙ ap (λ v. get_or v.bodies i []) c.self.view_is)
-    (take_rest slice (i + 1) ∙ ap (drop (i + 1)) (c.deref.ensures.value ∙ ap (λ v. v.bodies) c.self.view_is))
-    (c.push_record.ensures ∙ ap (λ (x : List ℕ). take 512 (x ++ drop r (body_text body))) c.new-block.ensures)
-    c.push_bodies-else-k-eq1.ensures
+    record {
+      bytes = later_block (collection_header c.args.self.now.ruleset) body c.push_record.new.block c.push_bodies-else-k-eq1.new.block c.args.self.now.bodies (take (length slice - (i + 1)) (drop (i + 1) slice)) i r c.args.k refl c.find-index.ensures.inside c.find-index.ensures.within
+          (ap (λ n. 512 * (n - 1)) (sym c.from.ensures) ∙ c.find-index.ensures.is)
+          (c.index.ensures ∙ get_or_default kept i body [] (omega (arith, c.find-index.ensures.inside, same)) ∙ ap (λ v. get_or v.bodies i []) c.self.view_is)
+          (take_rest slice (i + 1) ∙ ap (drop (i + 1)) (c.deref.ensures.value ∙ ap (λ v. v.bodies) c.self.view_is))
+          (c.push_record.ensures ∙ ap (λ (x : List ℕ). take 512 (x ++ drop r (body_text body))) c.requires.empty)
+          c.push_bodies-else-k-eq1.ensures;
+      most = omega (arith, ap length c.push_bodies-else-k-eq1.ensures, length-take {A = ℕ});
+    }
