@@ -11,7 +11,7 @@ use Rattle.archive_table.specs.Keeper.{Keeping, same_kind, later_or, last_kept}
 pub last_of_rest : (kind : Ruleset) (i : ℕ) (ks : List Keeping) (text : List ℕ) → last_kept kind (drop i ks) ≡ Some text → last_kept kind ks ≡ Some text
 last_of_rest kind zero ks text h = h
 last_of_rest kind (suc i) [] text h = h
-last_of_rest kind (suc i) (k ∷ ks) text h = ap (λ o. later_or o (same_kind kind k.kind) k.ok k.text) (last_of_rest kind i ks text h)
+last_of_rest kind (suc i) (k ∷ ks) text h = ap (λ o. later_or o (same_kind kind k.«ruleset») k.ok k.text) (last_of_rest kind i ks text h)
 
 by_both : (mine ok : Bool) (text : List ℕ) → (mine && ok) ≡ true → later_or None mine ok text ≡ Some text
 by_both true true text h = refl
@@ -19,10 +19,10 @@ by_both true false text h = absurd (true≢false (sym h))
 by_both false ok text h = absurd (true≢false (sym h))
 
 -- an entry after which there is none
-pub last_at : (kind : Ruleset) (ks : List Keeping) (i : ℕ) (k : Keeping) → i < length ks → get_or ks i k ≡ k → last_kept kind (drop (i + 1) ks) ≡ None → (same_kind kind k.kind && k.ok) ≡ true → last_kept kind ks ≡ Some k.text
+pub last_at : (kind : Ruleset) (ks : List Keeping) (i : ℕ) (k : Keeping) → i < length ks → get_or ks i k ≡ k → last_kept kind (drop (i + 1) ks) ≡ None → (same_kind kind k.«ruleset» && k.ok) ≡ true → last_kept kind ks ≡ Some k.text
 last_at kind ks i k within is none both =
     last_of_rest kind i ks k.text
     (at_drop_more (last_kept kind) ks i k within
     ∙ ap (λ (x : Keeping). last_kept kind (x ∷ drop (i + 1) ks)) is
-    ∙ ap (λ o. later_or o (same_kind kind k.kind) k.ok k.text) none
-    ∙ by_both (same_kind kind k.kind) k.ok k.text both)
+    ∙ ap (λ o. later_or o (same_kind kind k.«ruleset») k.ok k.text) none
+    ∙ by_both (same_kind kind k.«ruleset») k.ok k.text both)

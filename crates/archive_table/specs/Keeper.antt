@@ -15,14 +15,14 @@ use Rattle.archive_table.specs.declared.load_fault.LoadFault.TheVariants as load
 use Rattle.archive_table.specs.Server.{Maps, Taken, IsJoined, IsMerged, Merges, Grant, all, no_memory, unkept}
 
 pub record Keeping : Type 0 where
-  pub kind : Ruleset
+  pub «ruleset» : Ruleset
   -- the text of the collection
   pub text : List ℕ
   -- whether it was kept
   pub ok : Bool
 
 abbrev pub keeping : (kind : Ruleset) → (text : List ℕ) → (ok : Bool) → Keeping
-keeping kind text ok = record { kind = kind; text = text; ok = ok }
+keeping kind text ok = record { «ruleset» = kind; text = text; ok = ok }
 
 -- what a call of `keep` adds, by its answer
 abbrev pub kept_by : Result (Unit {0}) KeepFault → (kind : Ruleset) → (text : List ℕ) → List Keeping
@@ -53,7 +53,7 @@ later_or None false ok text = None
 -- the text of the last entry of these rules that was kept
 abbrev pub last_kept : Ruleset → List Keeping → Option (List ℕ)
 last_kept kind [] = None
-last_kept kind (k ∷ ks) = later_or (last_kept kind ks) (same_kind kind k.kind) k.ok k.text
+last_kept kind (k ∷ ks) = later_or (last_kept kind ks) (same_kind kind k.«ruleset») k.ok k.text
 
 abbrev pub Loads : Ruleset → Option (List Keeping) → Option (List ℕ) → Type 0
 Loads kind None text = Unit {0}

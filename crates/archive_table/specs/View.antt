@@ -15,7 +15,7 @@ use Rattle.archive_table.specs.Server.{End, sending, receiving, Transfer, Server
 use Rattle.tftp_ends.specs.Ends.{Sender, Receiver}
 
 abbrev pub keeping_of : {A : Type 0} → keepings.Inside A → Keeping
-keeping_of k = record { kind = k.kind; text = k.text.items; ok = k.ok }
+keeping_of k = record { «ruleset» = k.ruleset; text = k.text.items; ok = k.ok }
 
 abbrev pub taken_of : {A : Type 0} → taking.Inside A → Taken
 taken_of t = record { peer = t.peer; file = t.file }

@@ -7,7 +7,7 @@ use tws_file::Ruleset;
 #[derive_where(Debug)]
 pub struct Kept<A: Allocator = Global> {
     /// Its rules.
-    pub kind: Ruleset,
+    pub ruleset: Ruleset,
     /// Its text.
     pub text: Vec<u8, A>,
     /// Whether it was kept.

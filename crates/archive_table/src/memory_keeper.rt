@@ -1,6 +1,7 @@
-ghost use Rattle.std.specs.Prelude.{◌≡◌, ◌++◌, ◌-◌, ◌==◌, ◌&&◌, ◌≤◌, [], true, None, Some, OnOk, IfOk, length, drop};
+ghost use Rattle.std.specs.Prelude.{◌≡◌, ◌≢◌, ◌++◌, ◌-◌, ◌==◌, ◌&&◌, ◌≤◌, [], true, false, None, Some, Err, OnOk, IfOk, length, drop};
 ghost use Rattle.std.specs.Option.{option_map};
-ghost use Rattle.archive_table.specs.Keeper.{FailsAt, given, last_kept, same_kind, texts_of};
+ghost use Rattle.tws_best.specs.Best.{collection_text};
+ghost use Rattle.archive_table.specs.Keeper.{FailsAt, given, kept_by, last_kept, same_kind, texts_of};
 
 use crate::keep_fault::KeepFault;
 use crate::keeper::Keeper;
@@ -21,9 +22,9 @@ pub struct MemoryKeeper<A: Allocator + Copy = Global> {
 
 // Whether this was kept for these rules.
 fn is_kept<A: Allocator>(one: &Kept<A>, kind: Ruleset) -> bool
-    ensures { result ≡ (same_kind kind one.now.kind && one.now.ok) }
+    ensures { result ≡ (same_kind kind one.now.ruleset && one.now.ok) }
 {
-    one.kind == kind && one.ok
+    one.ruleset == kind && one.ok
 }
 
 // The text of the last entry of these rules that was kept.
@@ -86,8 +87,11 @@ impl<A: Allocator + Copy> MemoryKeeper<A> {
         let Some(text) = text else {
             return Ok(());
         };
-        let ok = true;
-        match self.kept.push(Kept { kind, text, ok }) {
+        match self.kept.push(Kept {
+            ruleset: kind,
+            text,
+            ok: true,
+        }) {
             Ok(()) => Ok(()),
             Err(_) => Err(AllocError),
         }
@@ -114,8 +118,8 @@ impl<A: Allocator + Copy> MemoryKeeper<A> {
         ensures fails { result ≡ (self.old.fails_in == 1) }
         ensures kept { self.new.kept ≡ self.old.kept }
         ensures count { self.new.fails_in ≡ self.old.fails_in - 1 }
-        ensures more { self.old.failures ≤ self.new.failures }
         ensures failed { result ≡ true → FailsAt self.old.failures self.new.failures }
+        ensures steady { result ≡ false → self.new.failures ≡ self.old.failures }
     {
         let fails = self.fails_in == 1;
         if fails {
@@ -135,14 +139,25 @@ impl<A: Allocator + Copy> Keeper for MemoryKeeper<A> {
         &mut self,
         kind: Ruleset,
         collection: &Collection<B>,
-    ) -> Result<(), KeepFault> {
+    ) -> Result<(), KeepFault>
+        ensures log { self.new.kept.items ≡ self.old.kept.items ++ kept_by result kind (collection_text collection.now) }
+        ensures count { self.new.fails_in ≡ self.old.fails_in - 1 }
+        ensures at { self.old.fails_in ≡ 1 → IfOk result (λ _. ⊥) }
+        ensures alone { result ≡ Err KeepFault.Device → self.old.fails_in ≡ 1 }
+        ensures failed { self.old.fails_in ≡ 1 → FailsAt self.old.failures self.new.failures }
+        ensures steady { self.old.fails_in ≢ 1 → self.new.failures ≡ self.old.failures }
+    {
         let fails = self.fails();
         let mut text = Vec::new(self.alloc);
         let Ok(()) = collection.write_text(&mut text) else {
             return Err(KeepFault::Memory);
         };
-        let ok = !fails;
-        let Ok(()) = self.kept.push(Kept { kind, text, ok }) else {
+        let one = Kept {
+            ruleset: kind,
+            text,
+            ok: !fails,
+        };
+        let Ok(()) = self.kept.push(one) else {
             return Err(KeepFault::Memory);
         };
         if fails {
@@ -156,7 +171,15 @@ impl<A: Allocator + Copy> Keeper for MemoryKeeper<A> {
         &mut self,
         alloc: B,
         kind: Ruleset,
-    ) -> Result<Option<Vec<u8, B>>, KeepFault> {
+    ) -> Result<Option<Vec<u8, B>>, KeepFault>
+        ensures log { self.new.kept ≡ self.old.kept }
+        ensures text { IfOk result (λ text. texts_of text ≡ last_kept kind self.old.kept.items) }
+        ensures count { self.new.fails_in ≡ self.old.fails_in - 1 }
+        ensures at { self.old.fails_in ≡ 1 → result ≡ Err KeepFault.Device }
+        ensures alone { result ≡ Err KeepFault.Device → self.old.fails_in ≡ 1 }
+        ensures failed { self.old.fails_in ≡ 1 → FailsAt self.old.failures self.new.failures }
+        ensures steady { self.old.fails_in ≢ 1 → self.new.failures ≡ self.old.failures }
+    {
         if self.fails() {
             return Err(KeepFault::Device);
         }

@@ -18,17 +18,17 @@ use Rattle.archive_world.specs.Restarts.{IsTextAt, HasKept, AreOwnRules, StepSta
 -- ---- one more in the list
 
 -- of these rules, and kept
-last_own : (kind : Ruleset) (log : List Keeping) (k : Keeping) → same_kind kind k.kind ≡ true → k.ok ≡ true → last_kept kind (log ++ k ∷ []) ≡ Some k.text
+last_own : (kind : Ruleset) (log : List Keeping) (k : Keeping) → same_kind kind k.«ruleset» ≡ true → k.ok ≡ true → last_kept kind (log ++ k ∷ []) ≡ Some k.text
 last_own kind [] k own ok =
     ap (λ (b : Bool). later_or None b k.ok k.text) own ∙ ap (λ (b : Bool). later_or None true b k.text) ok
 last_own kind (x ∷ log) k own ok =
-    ap (λ (o : Option (List ℕ)). later_or o (same_kind kind x.kind) x.ok x.text) (last_own kind log k own ok)
+    ap (λ (o : Option (List ℕ)). later_or o (same_kind kind x.«ruleset») x.ok x.text) (last_own kind log k own ok)
 
 -- of other rules
-last_other : (kind : Ruleset) (log : List Keeping) (k : Keeping) → same_kind kind k.kind ≡ false → last_kept kind (log ++ k ∷ []) ≡ last_kept kind log
+last_other : (kind : Ruleset) (log : List Keeping) (k : Keeping) → same_kind kind k.«ruleset» ≡ false → last_kept kind (log ++ k ∷ []) ≡ last_kept kind log
 last_other kind [] k other = ap (λ (b : Bool). later_or None b k.ok k.text) other
 last_other kind (x ∷ log) k other =
-    ap (λ (o : Option (List ℕ)). later_or o (same_kind kind x.kind) x.ok x.text) (last_other kind log k other)
+    ap (λ (o : Option (List ℕ)). later_or o (same_kind kind x.«ruleset») x.ok x.text) (last_other kind log k other)
 
 same : (kind : Ruleset) → same_kind kind kind ≡ true
 same Lynx = refl
@@ -79,9 +79,9 @@ none_later false text = refl
 
 last_failed : (kind : Ruleset) (log : List Keeping) (k : Keeping) → k.ok ≡ false → last_kept kind (log ++ k ∷ []) ≡ last_kept kind log
 last_failed kind [] k failed =
-    ap (λ (b : Bool). later_or None (same_kind kind k.kind) b k.text) failed ∙ none_later (same_kind kind k.kind) k.text
+    ap (λ (b : Bool). later_or None (same_kind kind k.«ruleset») b k.text) failed ∙ none_later (same_kind kind k.«ruleset») k.text
 last_failed kind (x ∷ log) k failed =
-    ap (λ (o : Option (List ℕ)). later_or o (same_kind kind x.kind) x.ok x.text) (last_failed kind log k failed)
+    ap (λ (o : Option (List ℕ)). later_or o (same_kind kind x.«ruleset») x.ok x.text) (last_failed kind log k failed)
 
 none_added : (maps : Maps) (before after : List Keeping) → after ≡ before ++ [] → HasKept before maps → HasKept after maps
 none_added maps before after grows kept =

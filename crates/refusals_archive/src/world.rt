@@ -229,7 +229,7 @@ fn keeps_file<A: Allocator + Copy>(keeper: &MemoryKeeper<A>) -> bool {
     let [one] = keeper.kept() else {
         return false;
     };
-    one.kind == Ruleset::Lynx && one.text.as_slice() == FILE.as_slice() && one.ok
+    one.ruleset == Ruleset::Lynx && one.text.as_slice() == FILE.as_slice() && one.ok
 }
 
 // What was refused in any run, beside the growths of the replay itself.

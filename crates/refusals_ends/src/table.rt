@@ -239,7 +239,7 @@ fn reading_what_was_taken(rt: HostRuntime) -> Result<(), Fail> {
 // Whether a keeper has this text of Lynx, which was kept, and no other.
 fn has_one<A: Allocator + Copy>(keeper: &MemoryKeeper<A>, text: &[u8]) -> bool {
     match keeper.kept() {
-        [one] => one.kind == Ruleset::Lynx && one.ok && one.text.as_slice() == text,
+        [one] => one.ruleset == Ruleset::Lynx && one.ok && one.text.as_slice() == text,
         _ => false,
     }
 }

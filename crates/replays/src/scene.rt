@@ -197,7 +197,7 @@ fn other_part(outcome: &Outcome, wanted: &Wanted<'_>) -> Option<&'static str> {
 pub(crate) fn was_given(keeper: &MemoryKeeper, wanted: &[(Ruleset, &[u8], bool)]) -> bool {
     let kept = keeper.kept();
     for (one, (kind, text, ok)) in kept.iter().zip(wanted) {
-        if one.kind != *kind || one.text.as_slice() != *text || one.ok != *ok {
+        if one.ruleset != *kind || one.text.as_slice() != *text || one.ok != *ok {
             return false;
         }
     }

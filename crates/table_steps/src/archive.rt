@@ -1,5 +1,5 @@
 // A table whose requests come to port 6969, and what a call of it is wanted to tell.
-use archive_table::{Keeper, LoadFault, NoKeeper, Step, Table};
+use archive_table::{Keeper, LoadFault, MemoryKeeper, Step, Table};
 use std::alloc::Global;
 use std::marker::Model;
 use std::test::Fail;
@@ -242,11 +242,12 @@ pub(crate) fn other_of<K: Keeper>(
     Ok(if is_left { None } else { Some(rows.len()) })
 }
 
-// The same of a new archive that keeps nothing.
+// The same of a new archive, whose keeper has nothing yet.
 pub(crate) fn other_of_new(
     alloc: Global,
     rows: &[(Input<'_>, Told<'_>)],
     left: Left<'_>,
 ) -> Result<Option<usize>, Fail> {
-    other_of(alloc, Archive::new(alloc), &mut NoKeeper, rows, left)
+    let mut keeper = MemoryKeeper::new(alloc);
+    other_of(alloc, Archive::new(alloc), &mut keeper, rows, left)
 }

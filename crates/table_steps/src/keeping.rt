@@ -30,7 +30,10 @@ const ACK_1: &[u8; 4] = b"\0\x04\0\x01";
 fn was_given(keeper: &MemoryKeeper, wanted: &[bool]) -> bool {
     let kept = keeper.kept();
     for (one, ok) in kept.iter().zip(wanted) {
-        if one.kind != Ruleset::Lynx || one.text.as_slice() != HUNDRED.as_slice() || one.ok != *ok {
+        if one.ruleset != Ruleset::Lynx
+            || one.text.as_slice() != HUNDRED.as_slice()
+            || one.ok != *ok
+        {
             return false;
         }
     }
@@ -114,29 +117,62 @@ fn fault(alloc: Global, keeper: &mut MemoryKeeper) -> Option<LoadFault> {
     }
 }
 
-// Why nothing is loaded from a keeper with this text for Lynx, of which this call fails.
-fn fault_of(alloc: Global, lynx: Option<&[u8]>, failing: u64) -> Result<Option<LoadFault>, Fail> {
-    let text = match lynx {
-        Some(bytes) => Some(Vec::from_slice(alloc, bytes)?),
-        None => None,
-    };
-    let mut keeper = MemoryKeeper::with(alloc, text, None)?;
+fn copied(alloc: Global, text: Option<&[u8]>) -> Result<Option<Vec<u8>>, Fail> {
+    match text {
+        Some(bytes) => Ok(Some(Vec::from_slice(alloc, bytes)?)),
+        None => Ok(None),
+    }
+}
+
+// Why nothing is loaded from a keeper with these texts for Lynx and MS, of which this call fails.
+fn fault_of(
+    alloc: Global,
+    lynx: Option<&[u8]>,
+    ms: Option<&[u8]>,
+    failing: u64,
+) -> Result<Option<LoadFault>, Fail> {
+    let mut keeper = MemoryKeeper::with(alloc, copied(alloc, lynx)?, copied(alloc, ms)?)?;
     keeper.fail_at(failing);
     Ok(fault(alloc, &mut keeper))
 }
 
+// Seven bytes that are no file.
+const SHORT: &[u8; 7] = b"\x35\x33\x9B\x98\x02\0\0";
+
+// Of a Lynx text that is of no use, the second call is never made, so that it cannot fail.
 #[test]
-fn loading_refused(rt: HostRuntime) -> Result<(), Fail> {
+fn loading_lynx_refused(rt: HostRuntime) -> Result<(), Fail> {
+    let device = LoadFault::Keep(KeepFault::Device);
+    let short = LoadFault::Unreadable(FileFault::ShortHeader(7));
+    let rows: [(Option<&[u8]>, u64, LoadFault); 6] = [
+        (None, 1, device),
+        (Some(SHORT), 0, short),
+        (Some(SHORT), 1, device),
+        (Some(SHORT), 2, short),
+        (Some(EMPTY_MS), 0, LoadFault::WrongRuleset),
+        (Some(EMPTY_MS), 2, LoadFault::WrongRuleset),
+    ];
+    for (lynx, failing, wanted) in rows {
+        assert_eq!(rt;
+            fault_of(rt.alloc(), lynx, Some(SHORT), failing)?,
+            Some(wanted)
+        );
+    }
+    Ok(())
+}
+
+#[test]
+fn loading_ms_refused(rt: HostRuntime) -> Result<(), Fail> {
     let device = LoadFault::Keep(KeepFault::Device);
     let short = LoadFault::Unreadable(FileFault::ShortHeader(7));
     let rows: [(Option<&[u8]>, u64, LoadFault); 4] = [
-        (Some(b"\x35\x33\x9B\x98\x02\0\0"), 0, short),
-        (Some(EMPTY_MS), 0, LoadFault::WrongRuleset),
-        (None, 1, device),
         (None, 2, device),
+        (Some(SHORT), 0, short),
+        (Some(SHORT), 2, device),
+        (Some(EMPTY_LYNX), 0, LoadFault::WrongRuleset),
     ];
-    for (lynx, failing, wanted) in rows {
-        assert_eq!(rt; fault_of(rt.alloc(), lynx, failing)?, Some(wanted));
+    for (ms, failing, wanted) in rows {
+        assert_eq!(rt; fault_of(rt.alloc(), None, ms, failing)?, Some(wanted));
     }
     Ok(())
 }
