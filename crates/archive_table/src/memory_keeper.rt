@@ -118,6 +118,7 @@ impl<A: Allocator + Copy> MemoryKeeper<A> {
         ensures fails { result ≡ (self.old.fails_in == 1) }
         ensures kept { self.new.kept ≡ self.old.kept }
         ensures count { self.new.fails_in ≡ self.old.fails_in - 1 }
+        ensures more { self.old.failures ≤ self.new.failures }
         ensures failed { result ≡ true → FailsAt self.old.failures self.new.failures }
         ensures steady { result ≡ false → self.new.failures ≡ self.old.failures }
     {
@@ -141,10 +142,11 @@ impl<A: Allocator + Copy> Keeper for MemoryKeeper<A> {
         collection: &Collection<B>,
     ) -> Result<(), KeepFault>
         ensures log { self.new.kept.items ≡ self.old.kept.items ++ kept_by result kind (collection_text collection.now) }
+        ensures more { self.old.failures ≤ self.new.failures }
+        ensures failed { result ≡ Err KeepFault.Device → FailsAt self.old.failures self.new.failures }
         ensures count { self.new.fails_in ≡ self.old.fails_in - 1 }
         ensures at { self.old.fails_in ≡ 1 → IfOk result (λ _. ⊥) }
         ensures alone { result ≡ Err KeepFault.Device → self.old.fails_in ≡ 1 }
-        ensures failed { self.old.fails_in ≡ 1 → FailsAt self.old.failures self.new.failures }
         ensures steady { self.old.fails_in ≢ 1 → self.new.failures ≡ self.old.failures }
     {
         let fails = self.fails();
@@ -174,10 +176,11 @@ impl<A: Allocator + Copy> Keeper for MemoryKeeper<A> {
     ) -> Result<Option<Vec<u8, B>>, KeepFault>
         ensures log { self.new.kept ≡ self.old.kept }
         ensures text { IfOk result (λ text. texts_of text ≡ last_kept kind self.old.kept.items) }
+        ensures more { self.old.failures ≤ self.new.failures }
+        ensures failed { result ≡ Err KeepFault.Device → FailsAt self.old.failures self.new.failures }
         ensures count { self.new.fails_in ≡ self.old.fails_in - 1 }
         ensures at { self.old.fails_in ≡ 1 → result ≡ Err KeepFault.Device }
         ensures alone { result ≡ Err KeepFault.Device → self.old.fails_in ≡ 1 }
-        ensures failed { self.old.fails_in ≡ 1 → FailsAt self.old.failures self.new.failures }
         ensures steady { self.old.fails_in ≢ 1 → self.new.failures ≡ self.old.failures }
     {
         if self.fails() {
