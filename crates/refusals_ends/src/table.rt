@@ -374,10 +374,10 @@ fn starting(rt: HostRuntime) -> Result<(), Fail> {
 fn has_both<A: Allocator + Copy>(keeper: &MemoryKeeper<A>) -> bool {
     match keeper.kept() {
         [lynx, ms] => {
-            lynx.kind == Ruleset::Lynx
+            lynx.ruleset == Ruleset::Lynx
                 && lynx.ok
                 && lynx.text.as_slice() == FILE
-                && ms.kind == Ruleset::Ms
+                && ms.ruleset == Ruleset::Ms
                 && ms.ok
                 && ms.text.as_slice() == EMPTY_MS
         }
