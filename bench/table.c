@@ -1,17 +1,18 @@
 /* A server's table in memory, with downloads of a collection and uploads of files in turn: the loop of `table_bench`, to
-   time it against. The first byte of the input says how many transfers are live at a time: `1`, or else 64. */
+   time it against. The first byte of the input says how many transfers are live at a time: `1`, or else 64. The second says
+   how long the solutions of the files are: `l` for long ones, or else about as long as those that players send. */
 #include <stdio.h>
 #include <stdlib.h>
 #include <string.h>
 
 #define FIRST 7000
 #define LIVE 64
-#define SOLUTIONS 10
-#define MOVES 100000
 #define FILES 4
-#define RECORD (20 + MOVES)
-#define FILE_SIZE (8 + SOLUTIONS * RECORD)
-#define KEYS (FILES * SOLUTIONS)
+#define KEYS (FILES * 2000)
+
+/* How many solutions a file has, and how many bytes of moves each. */
+static int solutions = 2000, moves = 480;
+static size_t file_size;
 
 struct body {
     unsigned char *bytes;
@@ -60,10 +61,14 @@ static int is_better(const unsigned char *a, size_t m, const unsigned char *b, s
 /* Takes in a record, by its key: whether anything changed. */
 static int take(const unsigned char *body, size_t length)
 {
-    int i = 0, j;
-    while (i < keys && (j = (kept[i].bytes[1] << 8 | kept[i].bytes[0]) - (body[1] << 8 | body[0]),
-                        j < 0 || (j == 0 && memcmp(kept[i].bytes + 2, body + 2, 4) < 0)))
-        i++;
+    int i = 0, end = keys;
+    while (i < end) {
+        int middle = (i + end) / 2, j = (kept[middle].bytes[1] << 8 | kept[middle].bytes[0]) - (body[1] << 8 | body[0]);
+        if (j < 0 || (j == 0 && memcmp(kept[middle].bytes + 2, body + 2, 4) < 0))
+            i = middle + 1;
+        else
+            end = middle;
+    }
     if (i < keys && memcmp(kept[i].bytes, body, 6) == 0) {
         if (!is_better(body, length, kept[i].bytes, kept[i].length))
             return 0;
@@ -232,9 +237,9 @@ static size_t reply(const unsigned char *file, const unsigned char *in, size_t n
     block = in[2] << 8 | in[3];
     if (in[1] == 3)
         return ack(block, out);
-    if (in[1] != 4 || 512ul * block > FILE_SIZE)
+    if (in[1] != 4 || 512ul * block > file_size)
         return 0;
-    return data(file, FILE_SIZE, block + 1, out);
+    return data(file, file_size, block + 1, out);
 }
 
 static unsigned long rounds(const unsigned char *file, int live, int reads)
@@ -272,26 +277,32 @@ static unsigned long rounds(const unsigned char *file, int live, int reads)
 static void fill(unsigned char *file, int n)
 {
     memcpy(file, "\x35\x33\x9B\x99\x01\0\0\0", 8);
-    for (int level = 0; level < SOLUTIONS; level++) {
-        unsigned char *record = file + 8 + level * RECORD;
-        unsigned size = 16 + MOVES;
-        unsigned char head[20] = {size, size >> 8, size >> 16, size >> 24, level, n, 'A', 'B', 'C', 'D'};
+    for (int level = 0; level < solutions; level++) {
+        unsigned char *record = file + 8 + level * (20 + moves);
+        unsigned size = 16 + moves;
+        unsigned char head[20] = {size, size >> 8, size >> 16, size >> 24, level, level >> 8, n, 'B', 'C', 'D'};
         head[16] = 0x64;
         memcpy(record, head, 20);
-        memset(record + 20, 0x61, MOVES);
+        memset(record + 20, 0x61, moves);
     }
 }
 
 int main(void)
 {
-    unsigned char *file = need(malloc(FILE_SIZE));
+    unsigned char *file;
     unsigned long sent = 0;
     int one = getchar() == '1', live = one ? 1 : LIVE, times = one ? 128 : 2;
-    for (int n = 0; n < FILES; n++) {
+    if (getchar() == 'l') {
+        solutions = 10;
+        moves = 100000;
+    }
+    file_size = 8 + (size_t)solutions * (20 + moves);
+    file = need(malloc(file_size));
+    for (int n = 1; n <= FILES; n++) {
         fill(file, n);
         rounds(file, 1, 0);
     }
-    fill(file, 0);
+    fill(file, 1);
     for (int i = 0; i < times; i++)
         sent += rounds(file, live, i % 2 == 0);
     printf("%lu datagrams, %zu bytes\n", sent, text_length);

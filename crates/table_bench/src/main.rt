@@ -1,14 +1,16 @@
 //! For the benchmark: a server's table in memory, with downloads of a collection and uploads of files in turn. The first
-//! byte of the input says how many transfers are live at a time: `1`, or else 64.
+//! byte of the input says how many transfers are live at a time: `1`, or else 64. The second says how long the solutions
+//! of the files are: `l` for long ones, or else about as long as those that players send.
 #![tactic(auto)]
 
 ghost use Rattle.std.specs.Prelude.{◌≤◌, length};
+ghost use Rattle.tftp_packet.specs.declared.sizes.TheConstants.{BLOCK_SIZE};
 
 use archive_table::{NoKeeper, Table};
 use std::alloc::{AllocError, Global};
 use std::io::{self, Read};
 use tftp_packet::{
-    BLOCK_SIZE, Dgram, Endpoint, Packet, decode, encode_ack, encode_data, encode_read, encode_write,
+    BLOCK_SIZE, Dgram, Endpoint, MAX_DATAGRAM, Packet, decode, encode_read, encode_write,
 };
 use tws_file::Ruleset;
 
@@ -18,37 +20,93 @@ const REQUEST: u16 = 6969;
 /// The port of the first transfer.
 const FIRST: u16 = 7000;
 
-/// How many solutions a file has, and how many bytes of moves each.
-const SOLUTIONS: u8 = 10;
+/// The opcodes of what clients send, RFC 1350 section 5.
+const DATA: u8 = 3;
 
-const MOVES: usize = 100_000;
+const ACK: u8 = 4;
+
+/// How many solutions a file has, and how many bytes of moves each.
+#[derive(Clone, Copy)]
+struct Shape {
+    solutions: u16,
+    moves: u32,
+}
+
+const USUAL: Shape = Shape {
+    solutions: 2000,
+    moves: 480,
+};
+
+const LONG: Shape = Shape {
+    solutions: 10,
+    moves: 100_000,
+};
 
 /// The collection is of so many files.
 const FILES: u8 = 4;
 
-/// A client of the table: its port, which is that of its transfer, and what it sends next unless it is done. With a flag in
-/// place of an option a datagram is made where it stays; otherwise the copies of 516 bytes would be timed as the table's.
+/// A client of the table: its port, which is that of its transfer, and the bytes that it sends next unless it is done. They
+/// are written where they stay, as in the C program; otherwise copies of whole datagrams would be timed as the table's.
 #[derive(Drop)]
 struct Client {
     port: u16,
-    next: Dgram,
+    next: [u8; MAX_DATAGRAM],
+    len: usize,
     is_done: bool,
+}
+
+impl Client {
+    // A client that has nothing to send yet.
+    fn new(port: u16) -> Self {
+        Client {
+            port,
+            next: [0; MAX_DATAGRAM],
+            len: 0,
+            is_done: false,
+        }
+    }
+
+    // The bytes that it sends next.
+    fn bytes(&self) -> &[u8] {
+        match self.next.get(..self.len) {
+            Some(bytes) => bytes,
+            None => &[],
+        }
+    }
+
+    // Sends a request next.
+    fn request(&mut self, request: &Dgram) {
+        let bytes = request.bytes();
+        self.next[..bytes.len()].copy_from_slice(bytes);
+        self.len = bytes.len();
+    }
+
+    // Sends a packet next that has a number, with its body.
+    fn send(&mut self, opcode: u8, number: u16, body: &[u8])
+        requires { length body.now ≤ BLOCK_SIZE }
+    {
+        let [high, low] = number.to_be_bytes();
+        self.next[..4].copy_from_slice(&[0, opcode, high, low]);
+        self.next[4..4 + body.len()].copy_from_slice(body);
+        self.len = 4 + body.len();
+    }
 }
 
 fn endpoint(port: u16) -> Endpoint {
     Endpoint { host: 2, port }
 }
 
-// A file of Lynx solutions, each of a level of its own.
-fn file(alloc: Global, number: u8) -> Result<Vec<u8>, AllocError> {
+// A file of Lynx solutions, each of a level of its own. Files of different numbers have no level in common.
+fn file(alloc: Global, shape: Shape, number: u8) -> Result<Vec<u8>, AllocError> {
     let mut bytes = Vec::new(alloc);
     bytes.extend_from_slice(b"\x35\x33\x9B\x99\x01\0\0\0")?;
-    let size = (16 + MOVES as u32).to_le_bytes();
-    for level in 0..SOLUTIONS {
+    let size = shape.moves.wrapping_add(16).to_le_bytes();
+    for level in 0..shape.solutions {
         bytes.extend_from_slice(&size)?;
-        bytes.extend_from_slice(&[level, number])?;
-        bytes.extend_from_slice(b"ABCD\0\0\0\0\0\0\x64\0\0\0")?;
-        for _ in 0..MOVES {
+        bytes.extend_from_slice(&level.to_le_bytes())?;
+        bytes.push(number)?;
+        bytes.extend_from_slice(b"BCD\0\0\0\0\0\0\x64\0\0\0")?;
+        for _ in 0..shape.moves {
             bytes.push(0x61)?;
         }
     }
@@ -74,18 +132,20 @@ fn first_block(bytes: &[u8]) -> &[u8]
     }
 }
 
-// Block `n` of a file as its DATA.
-fn data(file: &[u8], n: u16) -> Dgram {
-    let left = rest(file, usize::from(n.saturating_sub(1)) * BLOCK_SIZE);
-    encode_data(n, first_block(left))
+// Block `n` of a file.
+fn block(file: &[u8], n: u16) -> &[u8]
+    ensures { length result.now ≤ 512 }
+{
+    first_block(rest(file, usize::from(n.saturating_sub(1)) * BLOCK_SIZE))
 }
 
 // Sets what a client sends next, by what has come; it is done once all of its file is through.
 fn reply(client: &mut Client, file: &[u8], came: &Dgram) {
     match decode(came.bytes()) {
-        Ok(Packet::Data { block, .. }) => client.next = encode_ack(block),
-        Ok(Packet::Ack { block }) if usize::from(block) * BLOCK_SIZE <= file.len() => {
-            client.next = data(file, block.saturating_add(1));
+        Ok(Packet::Data { block, .. }) => client.send(ACK, block, &[]),
+        Ok(Packet::Ack { block: last }) if usize::from(last) * BLOCK_SIZE <= file.len() => {
+            let next = last.saturating_add(1);
+            client.send(DATA, next, block(file, next));
         }
         _ => client.is_done = true,
     }
@@ -94,7 +154,7 @@ fn reply(client: &mut Client, file: &[u8], came: &Dgram) {
 // Gives what a client sends to the table, and takes in what it answers.
 fn turn(table: &mut Table, file: &[u8], client: &mut Client) {
     let from = endpoint(client.port);
-    let step = table.on_datagram(&mut NoKeeper, client.port, from, client.next.bytes());
+    let step = table.on_datagram(&mut NoKeeper, client.port, from, client.bytes());
     match &step.out {
         Some(out) => reply(client, file, &out.dgram),
         None => client.is_done = true,
@@ -103,20 +163,17 @@ fn turn(table: &mut Table, file: &[u8], client: &mut Client) {
 
 // A client that has asked the table for a transfer at its port.
 fn open(table: &mut Table, file: &[u8], port: u16, reads: bool) -> Client {
-    let mut client = Client {
-        port,
-        next: if reads {
-            encode_read(b"lynx.tws")
-        } else {
-            encode_write(b"upload.tws")
-        },
-        is_done: false,
-    };
+    let mut client = Client::new(port);
+    if reads {
+        client.request(&encode_read(b"lynx.tws"));
+    } else {
+        client.request(&encode_write(b"upload.tws"));
+    }
     if port == table.request() || table.is_live(port) {
         client.is_done = true;
         return client;
     }
-    let step = table.on_request(port, endpoint(port), client.next.bytes());
+    let step = table.on_request(port, endpoint(port), client.bytes());
     match &step.out {
         Some(out) => reply(&mut client, file, &out.dgram),
         None => client.is_done = true,
@@ -170,17 +227,23 @@ fn round(
 }
 
 // Puts the files of which the collection is.
-fn fill(alloc: Global, table: &mut Table) -> Result<(), AllocError> {
-    for number in 0..FILES {
-        let bytes = file(alloc, number)?;
+fn fill(alloc: Global, table: &mut Table, shape: Shape) -> Result<(), AllocError> {
+    for number in 1..=FILES {
+        let bytes = file(alloc, shape, number)?;
         round(alloc, table, bytes.as_slice(), 1, false)?;
     }
     Ok(())
 }
 
 // So many rounds of so many transfers: how many datagrams their clients sent.
-fn serve(alloc: Global, table: &mut Table, rounds: u16, live: u16) -> Result<u64, AllocError> {
-    let bytes = file(alloc, 0)?;
+fn serve(
+    alloc: Global,
+    table: &mut Table,
+    shape: Shape,
+    rounds: u16,
+    live: u16,
+) -> Result<u64, AllocError> {
+    let bytes = file(alloc, shape, 1)?;
     let mut sent: u64 = 0;
     for i in 0..rounds {
         let now = round(alloc, table, bytes.as_slice(), live, i % 2 == 0)?;
@@ -190,14 +253,19 @@ fn serve(alloc: Global, table: &mut Table, rounds: u16, live: u16) -> Result<u64
 }
 
 fn main(rt: HostRuntime) -> io::Result<()> {
-    let mut byte = [0; 1];
-    let (rounds, live) = match rt.stdin().read(&mut byte)? {
-        1 if byte[0] == b'1' => (128, 1),
+    let mut words = [0; 2];
+    rt.stdin().read(&mut words)?;
+    let (rounds, live) = match words[0] {
+        b'1' => (128, 1),
         _ => (2, 64),
     };
+    let shape = match words[1] {
+        b'l' => LONG,
+        _ => USUAL,
+    };
     let mut table = Table::new(rt.alloc(), REQUEST);
-    fill(rt.alloc(), &mut table)?;
-    let sent = serve(rt.alloc(), &mut table, rounds, live)?;
+    fill(rt.alloc(), &mut table, shape)?;
+    let sent = serve(rt.alloc(), &mut table, shape, rounds, live)?;
     let text = table.collection(Ruleset::Lynx).text_len();
     println!(rt; "{sent} datagrams, {text} bytes")
 }

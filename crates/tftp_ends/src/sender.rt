@@ -8,7 +8,7 @@ ghost use Rattle.tftp_ends.specs.Ends.{data_packet, dgram_of, sender_start, send
 use crate::limits::{MAX_FILE, MISSES};
 use crate::send_state::SendState;
 use std::marker::Model;
-use tftp_packet::{BLOCK_SIZE, Blocks, Dgram, encode_data};
+use tftp_packet::{BLOCK_SIZE, Blocks, Dgram, encode_block};
 
 /// The end of a transfer that sends a file: one block, then its ACK, then the next block, RFC 1350 section 2.
 ///
@@ -35,17 +35,6 @@ impl<B: Blocks> Model for Sender<B> {
     ghost invariant = { λ s. IsSender (sender_of B.file s) };
 }
 
-// DATA of a block.
-fn data<B: Blocks>(blocks: &B, block: u16) -> Dgram
-    requires first { 1 ≤ block }
-    requires last { block ≤ block_count (B.file blocks.now) }
-    ensures { result ≡ encode (data_packet (B.file blocks.now) block) }
-{
-    let mut body = [0; BLOCK_SIZE];
-    let count = blocks.block(block, &mut body);
-    encode_data(block, &body[..count])
-}
-
 impl<B: Blocks> Sender<B> {
     /// A sender of this file, which has at most `MAX_FILE` bytes, and DATA 1, which it sends first.
     pub fn start(blocks: B) -> (Self, Dgram)
@@ -54,7 +43,7 @@ impl<B: Blocks> Sender<B> {
         ensures sent { result.1 ≡ encode (data_packet (B.file blocks) 1) }
         ensures fits { IsSender result.0 }
     {
-        let first = data(&blocks, 1);
+        let first = encode_block(&blocks, 1);
         let sender = Sender {
             blocks,
             current: 1,
@@ -87,7 +76,7 @@ impl<B: Blocks> Sender<B> {
         }
         self.current += 1;
         self.misses = 0;
-        Some(data(&self.blocks, self.current))
+        Some(encode_block(&self.blocks, self.current))
     }
 
     /// Nothing has come for a while. The current DATA is sent again; time-out number `MISSES` in a row sends nothing and
@@ -105,7 +94,7 @@ impl<B: Blocks> Sender<B> {
             return None;
         }
         self.misses += 1;
-        Some(data(&self.blocks, self.current))
+        Some(encode_block(&self.blocks, self.current))
     }
 
     /// How far it is.

@@ -1,5 +1,7 @@
 -- Parts of bytes, and numbers of two bytes.
-use Rattle.std.proofs.Common.{◌≡◌, ℕ, ◌^◌, ◌<◌, ◌≤◌, List, ◌++◌, length, take, drop, sym, ap, ◌∙◌, arith, length-take, take-append-drop}
+use Rattle.std.proofs.Common.{◌≡◌, ℕ, ◌+◌, ◌^◌, ◌<◌, ◌≤◌, List, ◌++◌, length, take, drop, sym, ap, ◌∙◌, arith, length-take, take-append-drop}
+use Rattle.std.proofs.Math.Seq.{take-append-add}
+use Rattle.std.proofs.lemmas.List.{length-take-le}
 use Rattle.std.proofs.lemmas.Nat.{be_bytes_2}
 use Rattle.byteorder.specs.Endian.{big_bytes, big_number}
 use Rattle.byteorder.specs.Numbers.{big_from-take, big_from-lt}
@@ -18,3 +20,12 @@ number_first bytes long fits =
 
 pub big_number-fits : (bytes : List ℕ) → IsBytes bytes → big_number 2 bytes < 2 ^ 16
 big_number-fits bytes fits = big_from-lt 0 2 bytes fits
+
+-- what comes after the first bytes of a buffer was put there
+pub part_placed : (old room part : List ℕ) (from head count : ℕ) → from ≡ head → head ≤ length old → take count room ≡ part → take (head + count) (take from old ++ room) ≡ take head old ++ part
+part_placed old room part from head count same long is =
+    let size : length (take head old) ≡ head = length-take-le head old long in
+    ap (λ (n : ℕ). take (head + count) (take n old ++ room)) same
+    ∙ ap (λ (n : ℕ). take (n + count) (take head old ++ room)) (sym size)
+    ∙ take-append-add (take head old) room count
+    ∙ ap (λ (xs : List ℕ). take head old ++ xs) is

@@ -1,7 +1,9 @@
-ghost use Rattle.std.specs.Prelude.{◌≡◌, ◌+◌, ◌≤◌, [], ◌∷◌, ◌++◌, length, ⊤};
+ghost use Rattle.std.specs.Prelude.{◌≡◌, ◌+◌, ◌≤◌, [], ◌∷◌, ◌++◌, length, take, ⊤};
 ghost use Rattle.byteorder.specs.Endian.{big_bytes};
+ghost use Rattle.tftp_packet.specs.Blocks.{block_of, block_count};
 
-use crate::sizes::MAX_DATAGRAM;
+use crate::blocks::Blocks;
+use crate::sizes::{BLOCK_SIZE, MAX_DATAGRAM};
 use byteorder::{BigEndian, ByteOrder};
 use std::alloc::AllocError;
 use std::marker::Model;
@@ -24,6 +26,19 @@ impl Model for Dgram {
     ghost use Rattle.tftp_packet.specs.declared.sizes.TheConstants.{MAX_DATAGRAM};
 
     ghost invariant = { λ d. d.len ≤ MAX_DATAGRAM };
+}
+
+// Puts block `k` of a file after the first four bytes, and answers how many bytes it has.
+fn put_block<B: Blocks>(buffer: &mut [u8; MAX_DATAGRAM], blocks: &B, k: u16) -> usize
+    requires first { 1 ≤ k }
+    requires last { k ≤ block_count (B.file blocks.now) }
+    ensures bytes { take (4 + result) buffer.new ≡ take 4 buffer.old ++ block_of (B.file blocks.now) k }
+    ensures most { result ≤ BLOCK_SIZE }
+{
+    let Some(room) = buffer.last_chunk_mut::<BLOCK_SIZE>() else {
+        unreachable!();
+    };
+    blocks.block(k, room)
 }
 
 impl Dgram {
@@ -66,6 +81,16 @@ impl Dgram {
     {
         self.push_bytes(text);
         self.push_bytes(&[0]);
+    }
+
+    /// Adds block `k` of a file after the opcode and the number. The file puts it there itself.
+    pub(crate) fn push_block<B: Blocks>(&mut self, blocks: &B, k: u16)
+        requires header { length self.old ≡ 4 }
+        requires first { 1 ≤ k }
+        requires last { k ≤ block_count (B.file blocks.now) }
+        ensures { self.new ≡ self.old ++ block_of (B.file blocks.now) k }
+    {
+        self.len = 4 + put_block(&mut self.buffer, blocks, k);
     }
 
     /// The bytes, in their order.

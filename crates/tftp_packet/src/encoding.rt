@@ -1,8 +1,10 @@
 //! How packets are written.
 
 ghost use Rattle.std.specs.Prelude.{◌≡◌, ◌≤◌, [], length};
+ghost use Rattle.tftp_packet.specs.Blocks.{block_of, block_count};
 ghost use Rattle.tftp_packet.specs.Packet.{read, write, data_block, ack, error, octet, HasNoZero, IsPacket, encode, request_bytes};
 
+use crate::blocks::Blocks;
 use crate::dgram::Dgram;
 use crate::opcode::{ACK, DATA, ERROR, READ, WRITE};
 use crate::sizes::BLOCK_SIZE;
@@ -52,6 +54,21 @@ pub fn encode_data(block: u16, body: &[u8]) -> Dgram
     let mut dgram = Dgram::of_opcode(DATA);
     dgram.push_number(block);
     dgram.push_bytes(body);
+    dgram
+}
+
+/// Block `k` of a file, as `Blocks` counts them: DATA of RFC 1350 section 5. The file puts the block where it stays, so
+/// that it is copied once.
+#[tactic(auto, unfolding(crate::specs::Packet::encode))]
+pub fn encode_block<B: Blocks>(blocks: &B, k: u16) -> Dgram
+    requires first { 1 ≤ k }
+    requires last { k ≤ block_count (B.file blocks.now) }
+    ensures bytes { result ≡ encode (data_block k (block_of (B.file blocks.now) k)) }
+    ensures packet { IsPacket (data_block k (block_of (B.file blocks.now) k)) result }
+{
+    let mut dgram = Dgram::of_opcode(DATA);
+    dgram.push_number(k);
+    dgram.push_block(blocks, k);
     dgram
 }
 

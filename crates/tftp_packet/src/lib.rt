@@ -35,7 +35,9 @@ mod sizes;
 pub use blocks::Blocks;
 pub use decoding::decode;
 pub use dgram::Dgram;
-pub use encoding::{encode_ack, encode_data, encode_error, encode_read, encode_write};
+pub use encoding::{
+    encode_ack, encode_block, encode_data, encode_error, encode_read, encode_write,
+};
 pub use endpoint::Endpoint;
 pub use laws::{
     block_sizes, data_size, file_end, first_fault, function_and_relations, joined_blocks,

@@ -1,46 +1,70 @@
 //! How a block of 512 bytes is filled from the records of a text.
 
-ghost use Rattle.std.specs.Prelude.{◌≡◌, ◌≤◌, ◌++◌, length, take, drop};
+ghost use Rattle.std.specs.Prelude.{◌≡◌, ◌+◌, ◌≤◌, ◌++◌, length, take, drop};
 ghost use Rattle.std.specs.List.{flat_map};
 ghost use Rattle.tws_best.specs.Best.{body_text};
 
 use crate::body::Body;
 use crate::text::size_bytes;
-use byte_output::Buffer;
 use std::alloc::Allocator;
 
-// Adds bytes at the end, as far as there is room.
-pub(crate) fn push_part(block: &mut Buffer<512>, bytes: &[u8])
-    requires { length block.old ≤ 512 }
-    ensures { block.new ≡ take 512 (block.old ++ bytes.now) }
+// Puts bytes after the first `len` of a block, where there is room for them. How many there are then.
+fn put(block: &mut [u8; 512], len: usize, bytes: &[u8]) -> usize
+    requires { len + length bytes.now ≤ 512 }
+    ensures bytes { take result block.new ≡ take len block.old ++ bytes.now }
+    ensures count { result ≡ len + length bytes.now }
 {
-    let room = 512 - block.as_slice().len();
-    block.push(&bytes[..bytes.len().min(room)]);
+    let end = len + bytes.len();
+    block[len..end].copy_from_slice(bytes);
+    end
 }
 
-// Adds a record without its first `skip` bytes, as far as there is room.
-pub(crate) fn push_record<A: Allocator>(block: &mut Buffer<512>, body: &Body<A>, skip: usize)
-    requires room { length block.old ≤ 512 }
+// Puts bytes after the first `len` of a block, as far as there is room. How many there are then.
+pub(crate) fn put_part(block: &mut [u8; 512], len: usize, bytes: &[u8]) -> usize
+    requires { len ≤ 512 }
+    ensures bytes { take result block.new ≡ take 512 (take len block.old ++ bytes.now) }
+    ensures most { result ≤ 512 }
+{
+    let count = bytes.len().min(512 - len);
+    put(block, len, &bytes[..count])
+}
+
+// The same of a record without its first `skip` bytes.
+pub(crate) fn put_record<A: Allocator>(
+    block: &mut [u8; 512],
+    len: usize,
+    body: &Body<A>,
+    skip: usize,
+) -> usize
+    requires room { len ≤ 512 }
     requires skip { skip ≤ length (body_text body.now) }
-    ensures { block.new ≡ take 512 (block.old ++ drop skip (body_text body.now)) }
+    ensures bytes { take result block.new ≡ take 512 (take len block.old ++ drop skip (body_text body.now)) }
+    ensures most { result ≤ 512 }
 {
     if skip < 4 {
-        push_part(block, &size_bytes(body)[skip..]);
-        push_part(block, body.as_slice());
+        let with_size = put_part(block, len, &size_bytes(body)[skip..]);
+        put_part(block, with_size, body.as_slice())
     } else {
-        push_part(block, &body.as_slice()[skip - 4..]);
+        put_part(block, len, &body.as_slice()[skip - 4..])
     }
 }
 
-// Adds the records of these bodies, as far as there is room.
-pub(crate) fn push_bodies<A: Allocator>(block: &mut Buffer<512>, bodies: &[Body<A>])
-    requires { length block.old ≤ 512 }
-    ensures { block.new ≡ take 512 (block.old ++ flat_map body_text bodies.now) }
+// The same of the records of these bodies.
+pub(crate) fn put_bodies<A: Allocator>(
+    block: &mut [u8; 512],
+    len: usize,
+    bodies: &[Body<A>],
+) -> usize
+    requires { len ≤ 512 }
+    ensures bytes { take result block.new ≡ take 512 (take len block.old ++ flat_map body_text bodies.now) }
+    ensures most { result ≤ 512 }
 {
+    let mut end = len;
     for body in bodies {
-        if block.as_slice().len() == 512 {
-            return;
+        if end == 512 {
+            return end;
         }
-        push_record(block, body, 0);
+        end = put_record(block, end, body, 0);
     }
+    end
 }

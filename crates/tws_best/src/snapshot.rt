@@ -1,4 +1,4 @@
-ghost use Rattle.std.specs.Prelude.{◌≡◌, ◌+◌, ◌<◌, ◌≤◌, ◌^◌, [], length, slice_index_or, nat_le, true, false, IfOk};
+ghost use Rattle.std.specs.Prelude.{◌≡◌, ◌+◌, ◌<◌, ◌≤◌, ◌^◌, [], length, take, slice_index_or, nat_le, true, false, IfOk};
 ghost use Rattle.std.specs.List.Sorted.{IsNonDecreasing, IsPartitionPoint};
 ghost use Rattle.std.specs.List.{flat_map};
 ghost use Rattle.std.specs.BTreeMap.{values};
@@ -6,11 +6,10 @@ ghost use Rattle.tftp_packet.specs.Blocks.{block_of, block_count};
 ghost use Rattle.tws_best.specs.Best.{body_text};
 ghost use Rattle.tws_best.specs.Frozen.{frozen_text, record_start};
 
-use crate::block::{push_bodies, push_part, push_record};
+use crate::block::{put_bodies, put_part, put_record};
 use crate::body::Body;
 use crate::merging::Bodies;
 use crate::text::header_bytes;
-use byte_output::Buffer;
 use std::alloc::{AllocError, Allocator, Global};
 use std::clone::Clone;
 use std::marker::Model;
@@ -109,21 +108,20 @@ impl<A: Allocator> Snapshot<A> {
         (index, skip as usize)
     }
 
-    // Gathers block `k`, as `Blocks` counts them, in an empty buffer.
-    fn gather(&self, k: u16, block: &mut Buffer<512>)
+    // Puts block `k`, as `Blocks` counts them, at the start of `out`, and answers how many bytes it has.
+    fn gather(&self, k: u16, out: &mut [u8; 512]) -> usize
         requires first { 1 ≤ k }
         requires last { k ≤ block_count (frozen_text self.now) }
-        requires empty { block.old ≡ [] }
-        ensures bytes { block.new ≡ block_of (frozen_text self.now) k }
-        ensures most { length block.new ≤ 512 }
+        ensures bytes { take result out.new ≡ block_of (frozen_text self.now) k }
+        ensures most { result ≤ 512 }
     {
         if k == 1 {
-            push_part(block, &header_bytes(self.ruleset));
-            push_bodies(block, self.bodies.as_slice());
+            let header = put_part(out, 0, &header_bytes(self.ruleset));
+            put_bodies(out, header, self.bodies.as_slice())
         } else {
             let (index, skip) = self.find(512 * (u64::from(k) - 1));
-            push_record(block, &self.bodies[index], skip);
-            push_bodies(block, &self.bodies[index + 1..]);
+            let first = put_record(out, 0, &self.bodies[index], skip);
+            put_bodies(out, first, &self.bodies[index + 1..])
         }
     }
 }
@@ -136,10 +134,6 @@ impl<A: Allocator> Blocks for Snapshot<A> {
     }
 
     fn block(&self, k: u16, out: &mut [u8; 512]) -> usize {
-        let mut block = Buffer::new();
-        self.gather(k, &mut block);
-        let bytes = block.as_slice();
-        out[..bytes.len()].copy_from_slice(bytes);
-        bytes.len()
+        self.gather(k, out)
     }
 }

@@ -51,7 +51,7 @@ const LENGTHS: [u8; 32] = [
 pub(crate) fn piece_length(first: u8) -> usize
     ensures { result ≡ piece_length first }
 {
-    // Most pieces have one byte. The length of another is looked up: no processor foresees the outcome of tests for it.
+    // Most pieces have one byte. The length of another is looked up, since branches on it would often be mispredicted.
     if first % 4 < 2 {
         1
     } else {

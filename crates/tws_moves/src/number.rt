@@ -20,8 +20,8 @@ pub(crate) fn number_of(bytes: &[u8]) -> u64
     number
 }
 
-// The first bytes as one number, so many of them. Where eight are there they are read at once: a loop over a number of
-// bytes that no processor foresees takes longer.
+// The first bytes as one number, so many of them. Where eight are there they are read at once: a loop whose number of
+// rounds varies is often mispredicted, and takes longer.
 pub(crate) fn number_of_first(bytes: &[u8], count: usize) -> u64
     requires short { count ≤ 5 }
     requires within { count ≤ length bytes.now }

@@ -139,8 +139,8 @@ impl Piece {
         Ok(())
     }
 
-    /// Adds its bytes. Where they are several and there is room for eight they are written at once: a loop over a number
-    /// of bytes that no processor foresees takes longer.
+    /// Adds its bytes. Where they are several and there is room for eight they are written at once: a loop whose number of
+    /// rounds varies is often mispredicted, and takes longer.
     pub(crate) fn push_to<A: Allocator>(self, bytes: &mut Vec<u8, A>) -> Result<(), AllocError>
         ensures { OnOk result (bytes.new.items ≡ bytes.old.items ++ little_bytes self.length self.number) }
     {
