@@ -221,6 +221,20 @@ fn a_put_of_an_input_that_breaks(rt: HostRuntime) -> Result<(), Fail> {
     Ok(())
 }
 
+#[test]
+fn a_put_of_an_input_that_stumbles(rt: HostRuntime) -> Result<(), Fail> {
+    let mut wire = answered(&rt, &[])?;
+    let mut out = Vec::new(rt.alloc());
+    let mut input = Stumbles {
+        bytes: &SOLUTION,
+        has_failed: false,
+    };
+    let done = put_file(rt.alloc(), &mut input, &mut wire, SERVER, &mut out);
+    let sizes = (wire.log().len(), out.len());
+    assert_eq!(rt; (done, sizes), (Err(ToolFault::Read), (0, 0)));
+    Ok(())
+}
+
 // ---- get
 
 #[test]

@@ -1,7 +1,8 @@
 // The commands as the program runs them: what is printed, and the status.
+use crate::outcome::*;
 use crate::streams::*;
+use std::io;
 use std::test::Fail;
-use std::{env, fs, io, process};
 use tws_file::{FileFault, Ruleset};
 use tws_tool::{INPUT_READS, ToolFault, run_best, run_show, run_words};
 
@@ -16,35 +17,6 @@ const MOVED: [u8; 30] = [
     0x35, 0x33, 0x9B, 0x99, 0x01, 0x00, 0x00, 0x00, 0x12, 0x00, 0x00, 0x00, 0x01, 0x00, 0x42, 0x44,
     0x48, 0x50, 0x00, 0x00, 0x00, 0x00, 0x00, 0x00, 0x64, 0x00, 0x00, 0x00, 0x00, 0x61,
 ];
-
-// What a run of the program printed and answered.
-#[derive(Drop)]
-struct Outcome {
-    status: u8,
-    out: Vec<u8>,
-    errors: Vec<u8>,
-}
-
-fn owned(rt: &HostRuntime, words: &[&str]) -> Result<Vec<String>, Fail> {
-    let mut owned = Vec::new(rt.alloc());
-    for word in words {
-        owned.push(String::from_str(rt.alloc(), word)?)?;
-    }
-    Ok(owned)
-}
-
-fn run(rt: &HostRuntime, words: &[&str], input: &[u8]) -> Result<Outcome, Fail> {
-    let owned = owned(rt, words)?;
-    let mut input = input;
-    let mut out = Vec::new(rt.alloc());
-    let mut errors = Vec::new(rt.alloc());
-    let status = run_words(rt, rt.alloc(), &owned, &mut input, &mut out, &mut errors);
-    Ok(Outcome {
-        status,
-        out,
-        errors,
-    })
-}
 
 const LISTING: &str =
     "ruleset lynx word 0000 extra 0\nlevel 1 BDHP ticks 100 flags 00 start 00 seed 0 bytes 0\nrecords 1\n";
@@ -97,18 +69,11 @@ fn pack_writes_the_fewest_bytes(rt: HostRuntime) -> Result<(), Fail> {
 
 #[test]
 fn pack_leaves_what_is_packed(rt: HostRuntime) -> Result<(), Fail> {
-    for packed in [SOLUTION.as_slice(), &MOVED] {
+    for packed in [SOLUTION.as_slice(), &MOVED, &UNSOLVED] {
         let outcome = run(&rt, &["tws", "pack"], packed)?;
         assert_eq!(rt; (outcome.status, outcome.out.as_slice()), (0, packed));
     }
     Ok(())
-}
-
-// Whether a run ended with this status, and printed nothing but this fault.
-fn fails_with(outcome: &Outcome, status: u8, line: &str) -> bool {
-    outcome.status == status
-        && outcome.out.is_empty()
-        && outcome.errors.as_slice() == line.as_bytes()
 }
 
 #[test]
@@ -118,12 +83,6 @@ fn pack_refuses_what_is_no_file(rt: HostRuntime) -> Result<(), Fail> {
     assert!(rt; fails_with(&outcome, 3, line));
     Ok(())
 }
-
-// The same solution in 90 ticks.
-const FASTER: [u8; 28] = [
-    0x35, 0x33, 0x9B, 0x99, 0x01, 0x00, 0x00, 0x00, 0x10, 0x00, 0x00, 0x00, 0x01, 0x00, 0x42, 0x44,
-    0x48, 0x50, 0x00, 0x00, 0x00, 0x00, 0x00, 0x00, 0x5A, 0x00, 0x00, 0x00,
-];
 
 #[test]
 fn best_keeps_the_faster_solution(rt: HostRuntime) -> Result<(), Fail> {
@@ -292,6 +251,21 @@ fn an_input_that_breaks(rt: HostRuntime) {
     }
 }
 
+// An input that failed is not read again, though it would give a whole file then.
+#[test]
+fn an_input_that_stumbles(rt: HostRuntime) {
+    let mut out = Vec::new(rt.alloc());
+    let mut input = Stumbles {
+        bytes: &SOLUTION,
+        has_failed: false,
+    };
+    assert_eq!(rt;
+        run_show(rt.alloc(), &mut input, &mut out, false),
+        Err(ToolFault::Read)
+    );
+    assert!(rt; out.is_empty());
+}
+
 #[test]
 fn show_answers_its_faults(rt: HostRuntime) {
     let mut out = Vec::new(rt.alloc());
@@ -414,61 +388,5 @@ fn help_to_a_full_writer(rt: HostRuntime) -> Result<(), Fail> {
     let status = run_words(&rt, rt.alloc(), &words, &mut input, &mut out, &mut errors);
     assert_eq!(rt; (status, room), (2, *b"Lists, pac"));
     assert_eq!(rt; errors.as_slice(), b"tws: write fault\n".as_slice());
-    Ok(())
-}
-
-// The name of a file of these bytes among the temporary ones.
-fn file(rt: &HostRuntime, name: &str, bytes: &[u8]) -> Result<String, Fail> {
-    let process = process::id(rt.process());
-    let name = format!(in rt.alloc(); "tws-{process}-{name}")?;
-    let path = env::temp_dir(rt)?.join(rt.alloc(), name.as_str())?;
-    let path = String::from_str(rt.alloc(), path.as_str())?;
-    fs::write(rt, path.as_str(), bytes)?;
-    Ok(path)
-}
-
-// The solution in 100 ticks and in 90, each in a file.
-fn two_files(rt: &HostRuntime) -> Result<(String, String), Fail> {
-    let slow = file(rt, "slow", &SOLUTION)?;
-    let fast = file(rt, "fast", &FASTER)?;
-    Ok((slow, fast))
-}
-
-fn remove(rt: &HostRuntime, first: &str, second: &str) -> Result<(), Fail> {
-    fs::remove_file(rt, first)?;
-    fs::remove_file(rt, second)?;
-    Ok(())
-}
-
-#[test]
-fn best_of_files(rt: HostRuntime) -> Result<(), Fail> {
-    let (slow, fast) = two_files(&rt)?;
-    let lynx = run(&rt, &["tws", "best", "lynx", &slow, &fast], &[])?;
-    let ms = run(&rt, &["tws", "best", "ms", &slow, &fast], &[])?;
-    remove(&rt, &slow, &fast)?;
-    let empty = [0x35, 0x33, 0x9B, 0x99, 2, 0, 0, 0];
-    assert_eq!(rt; (lynx.status, lynx.out.as_slice()), (0, FASTER.as_slice()));
-    assert_eq!(rt; (ms.status, ms.out.as_slice()), (0, empty.as_slice()));
-    Ok(())
-}
-
-#[test]
-fn best_of_a_file_that_is_unreadable(rt: HostRuntime) -> Result<(), Fail> {
-    let whole = file(&rt, "whole", &SOLUTION)?;
-    let short = file(&rt, "short", &[0x35, 0x33, 0x9B, 0x98, 2, 0, 0])?;
-    let outcome = run(&rt, &["tws", "best", "lynx", &whole, &short], &[])?;
-    remove(&rt, &whole, &short)?;
-    let line = format!(in rt.alloc(); "tws: {short}: unreadable: ShortHeader(7)\n")?;
-    assert!(rt; fails_with(&outcome, 3, &line));
-    Ok(())
-}
-
-#[test]
-fn best_of_a_file_that_is_missing(rt: HostRuntime) -> Result<(), Fail> {
-    let path = file(&rt, "missing", &SOLUTION)?;
-    fs::remove_file(&rt, path.as_str())?;
-    let outcome = run(&rt, &["tws", "best", "lynx", &path], &[])?;
-    assert_eq!(rt; outcome.status, 2);
-    assert_eq!(rt; outcome.errors.as_slice(), b"tws: read fault\n".as_slice());
     Ok(())
 }

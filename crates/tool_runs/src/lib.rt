@@ -1,4 +1,4 @@
-//! Tests alone: the commands over words, readers, writers and wires in memory.
+//! Tests alone: the commands over words, readers, writers, files and wires in memory.
 #![tactic(auto)]
 
 #[cfg(test)]
@@ -9,5 +9,9 @@ mod archive;
 mod files;
 #[cfg(test)]
 mod jobs;
+#[cfg(test)]
+mod names;
+#[cfg(test)]
+mod outcome;
 #[cfg(test)]
 mod streams;

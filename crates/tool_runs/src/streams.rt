@@ -1,10 +1,16 @@
-// Inputs and outputs for the tests, and a file of one solution.
+// Inputs and outputs for the tests, and files of one solution.
 use std::io;
 
 // Level 1, BDHP, 100 ticks, no moves, by the rules of Lynx.
 pub(crate) const SOLUTION: [u8; 28] = [
     0x35, 0x33, 0x9B, 0x99, 0x01, 0x00, 0x00, 0x00, 0x10, 0x00, 0x00, 0x00, 0x01, 0x00, 0x42, 0x44,
     0x48, 0x50, 0x00, 0x00, 0x00, 0x00, 0x00, 0x00, 0x64, 0x00, 0x00, 0x00,
+];
+
+// The same solution in 90 ticks.
+pub(crate) const FASTER: [u8; 28] = [
+    0x35, 0x33, 0x9B, 0x99, 0x01, 0x00, 0x00, 0x00, 0x10, 0x00, 0x00, 0x00, 0x01, 0x00, 0x42, 0x44,
+    0x48, 0x50, 0x00, 0x00, 0x00, 0x00, 0x00, 0x00, 0x5A, 0x00, 0x00, 0x00,
 ];
 
 // Fails at every read and write.
@@ -24,6 +30,23 @@ impl io::Write for Broken {
 
     fn flush(&mut self) -> io::Result<()> {
         Ok(())
+    }
+}
+
+// Fails at its first read, and gives these bytes after that.
+#[derive(Drop)]
+pub(crate) struct Stumbles<'a> {
+    pub(crate) bytes: &'a [u8],
+    pub(crate) has_failed: bool,
+}
+
+impl io::Read for Stumbles<'_> {
+    fn read(&mut self, buf: &mut [u8]) -> io::Result<usize> {
+        if self.has_failed {
+            return self.bytes.read(buf);
+        }
+        self.has_failed = true;
+        Err(io::Error::from(io::ErrorKind::Other))
     }
 }
 

@@ -1,5 +1,5 @@
 -- What the commands of the archive do: over any wire, any keeper, any file and any output.
-use Rattle.std.specs.Prelude.{◌≡◌, ◌⊎◌, ℕ, List, Option, IfSome, Result, Ok, Err}
+use Rattle.std.specs.Prelude.{◌≡◌, ◌⊎◌, ℕ, List, length, Option, IfSome, Result, Ok, Err}
 use Rattle.std.specs.Io.KnownBytes.{Appends}
 use Rattle.byte_output.specs.Output.{AppendsPrefix}
 use Rattle.tws_file.specs.declared.«ruleset».Ruleset.{Ruleset}
@@ -13,7 +13,8 @@ use Rattle.archive_turns.specs.Run.{RunsPut, RunsGet}
 use Rattle.tws_tool.specs.declared.limits.TheConstants.{TURNS}
 use Rattle.tws_tool.specs.declared.tool_fault.ToolFault.{ToolFault}
 use Rattle.tws_tool.specs.declared.tool_fault.ToolFault.TheVariants.{Read, Write, Unreadable, Memory, Socket, Transfer}
-use Rattle.tws_tool.specs.Lines.{sent_line, got_line}
+use Rattle.tws_tool.specs.Inputs.{IsUnreadable}
+use Rattle.tws_tool.specs.Lines.{Transfers, sent_line, got_line}
 
 -- ---- put
 
@@ -45,9 +46,28 @@ abbrev pub PutFails : (known : Option (List ℕ)) (server : Endpoint) (before af
 PutFails known server before after old new Read = (after ≡ before) × (new ≡ old)
 PutFails known server before after old new Write = PutUnsaid known server before after old new
 PutFails known server before after old new (Unreadable index fault) = (after ≡ before) × (new ≡ old) × (index ≡ 0) × IfSome known (λ (bytes : List ℕ). HasFault bytes fault)
-PutFails known server before after old new Memory = (new ≡ old) × ((after ≡ before) ⊎ ((result : Result ℕ RunFault) × PutRuns known server result before after))
+PutFails known server before after old new Memory = (new ≡ old) × ((after ≡ before) ⊎ PutRuns known server (Err run.Memory) before after ⊎ ((len : ℕ) × PutRuns known server (Ok len) before after))
 PutFails known server before after old new Socket = (new ≡ old) × PutRuns known server (Err run.Socket) before after
 PutFails known server before after old new (Transfer why) = (new ≡ old) × PutRuns known server (Err (run.Transfer why)) before after
+
+-- the whole input is a file's text, and the line was written that so many bytes were sent
+abbrev pub SaysSent : (known old new : Option (List ℕ)) → Type 0
+SaysSent known old new = IfSome known (λ (bytes : List ℕ). IsReadable bytes × Appends old new (sent_line (length bytes)))
+
+-- an input that is called unreadable has that fault
+abbrev pub IsBlamed : (known : Option (List ℕ)) → ToolFault → Type 0
+IsBlamed known Read = Unit {0}
+IsBlamed known Write = Unit {0}
+IsBlamed known (Unreadable index fault) = IfSome known (λ (bytes : List ℕ). HasFault bytes fault)
+IsBlamed known Memory = Unit {0}
+IsBlamed known Socket = Unit {0}
+IsBlamed known (Transfer why) = Unit {0}
+
+-- what `put` of a file that has these bytes did, by the exit status
+pub record PutRan (known : Option (List ℕ)) (address : List ℕ) (status : ℕ) (old new : Option (List ℕ)) : Type 0 where
+  pub transfers : Transfers address sent_line status old new
+  pub sent : status ≡ 0 → SaysSent known old new
+  pub unreadable : status ≡ 3 → IsUnreadable known
 
 -- ---- get
 

@@ -29,6 +29,10 @@ pub record IsFirstUnreadable (texts : List (List ℕ)) (index : ℕ) (fault : Fi
   pub before : AllByRecursion IsReadable (take index texts)
   pub has_fault : HasFault (slice_index_or texts index []) fault
 
+-- some input is no file's text
+abbrev pub HasUnreadable : List (Option (List ℕ)) → Type 0
+HasUnreadable knowns = (index : ℕ) × (fault : FileFault) × ((texts : List (List ℕ)) → AreTold knowns texts → IsFirstUnreadable texts index fault)
+
 -- not all inputs were read
 abbrev pub CollectFails : List (Option (List ℕ)) → ToolFault → Type 0
 CollectFails knowns Read = Unit {0}

@@ -150,9 +150,9 @@ FindsCommand words found = (names : RuleNames) × AreRuleNames names × (fault_o
 abbrev pub WordsAskFor : RuleNames → List Text → Job → Type 0
 WordsAskFor names words job = (fault_of (tws_app names) words ≡ []) × ((command : Text × List Row) × (subcommand_of (tws_app names) words ≡ Some command) × AsksFor command job)
 
--- the words have a fault, which is a request for help or a usage error; or they ask for no job
+-- the words have a fault, which is a request for help or a usage error; or they have none, and ask for no job
 abbrev pub RefusesWords : List Text → JobFault → Type 0
-RefusesWords words (fault.Words error) = (names : RuleNames) × AreRuleNames names × (IsAmong (kind_of error) (fault_of (tws_app names) words) ⊎ ((kind_of error ≡ InvalidSubcommand) × ((job : Job) → WordsAskFor names words job → ⊥)))
+RefusesWords words (fault.Words error) = (names : RuleNames) × AreRuleNames names × (IsAmong (kind_of error) (fault_of (tws_app names) words) ⊎ ((kind_of error ≡ InvalidSubcommand) × (fault_of (tws_app names) words ≡ []) × ((job : Job) → WordsAskFor names words job → ⊥)))
 RefusesWords words fault.Memory = Unit {0}
 
 -- what the words ask for, or why they ask for nothing

@@ -1,6 +1,6 @@
 -- What a run of the program did, by its exit status: 0 where all was done, 1 for a usage error, 2 where reading, writing,
 -- a socket or memory failed, 3 for an unreadable solution file, 4 for a failed transfer.
-use Rattle.std.specs.Prelude.{◌≡◌, ◌≢◌, ◌⊎◌, ℕ, ◌≤◌, List, length, Option, Result, Ok, Err, string_bytes}
+use Rattle.std.specs.Prelude.{◌≡◌, ◌≢◌, ◌⊎◌, ℕ, ◌≤◌, List, map, Option, Result, Ok, Err, string_bytes}
 use Rattle.std.specs.Io.KnownBytes.{IsAtEnd}
 use Rattle.clap.specs.Words.{kind_of}
 use Rattle.clap.specs.declared.error.Error.{Error}
@@ -13,11 +13,11 @@ use Rattle.tws_tool.specs.declared.job.Job.{Job}
 use Rattle.tws_tool.specs.declared.job.Job.TheVariants.{Show, Pack, Best, Serve, Put, Get}
 use Rattle.tws_tool.specs.declared.job.JobFault.{JobFault}
 use Rattle.tws_tool.specs.declared.job.JobFault.TheVariants as fault
-use Rattle.tws_tool.specs.declared.tool_fault.ToolFault.{ToolFault}
-use Rattle.tws_tool.specs.declared.tool_fault.ToolFault.TheVariants.{Read, Write, Unreadable, Memory, Socket, Transfer}
 use Rattle.tws_tool.specs.Written.{Writes, WritesPrefix}
-use Rattle.tws_tool.specs.Collecting.{BestWrites, BestPrefix}
-use Rattle.tws_tool.specs.Lines.{Transfers, sent_line, got_line}
+use Rattle.tws_tool.specs.Inputs.{IsUnreadable}
+use Rattle.tws_tool.specs.Collecting.{BestWrites, BestPrefix, HasUnreadable}
+use Rattle.tws_tool.specs.Archiving.{PutRan}
+use Rattle.tws_tool.specs.Lines.{Transfers, got_line}
 use Rattle.tws_tool.specs.Serving.{Served}
 use Rattle.tws_tool.specs.Help.{WritesHelp, WritesHelpPrefix}
 
@@ -26,30 +26,18 @@ use Rattle.tws_tool.specs.Help.{WritesHelp, WritesHelpPrefix}
 pub record Ran (text : File → List ℕ) (status : ℕ) (known left old new : Option (List ℕ)) : Type 0 where
   pub done : status ≡ 0 → IsAtEnd left × Writes text known old new
   pub failed : status ≡ 2 → (new ≡ old) ⊎ WritesPrefix text known old new
-  pub unreadable : status ≡ 3 → IsAtEnd left × (new ≡ old)
+  pub unreadable : status ≡ 3 → IsAtEnd left × (new ≡ old) × IsUnreadable known
   pub never : status ≢ 1
+  pub few : status ≤ 3
 
--- the collection over as many files as were named was written
-abbrev pub BestDone : Ruleset → (files : ℕ) → (old new : Option (List ℕ)) → Type 0
-BestDone kind files old new = (knowns : List (Option (List ℕ))) × (length knowns ≡ files) × BestWrites kind knowns old new
-
--- nothing was written, or a proper prefix of that
-abbrev pub BestCut : Ruleset → (files : ℕ) → (old new : Option (List ℕ)) → Type 0
-BestCut kind files old new = (new ≡ old) ⊎ ((knowns : List (Option (List ℕ))) × (length knowns ≡ files) × BestPrefix kind knowns old new)
-
-abbrev pub BestStops : Ruleset → (files : ℕ) → (old new : Option (List ℕ)) → ToolFault → Type 0
-BestStops kind files old new Read = new ≡ old
-BestStops kind files old new Write = BestCut kind files old new
-BestStops kind files old new (Unreadable index fault) = new ≡ old
-BestStops kind files old new Memory = BestCut kind files old new
-BestStops kind files old new Socket = ⊥
-BestStops kind files old new (Transfer why) = ⊥
-
-pub record BestRan (kind : Ruleset) (files status : ℕ) (old new : Option (List ℕ)) : Type 0 where
-  pub done : status ≡ 0 → BestDone kind files old new
-  pub failed : status ≡ 2 → BestCut kind files old new
-  pub unreadable : status ≡ 3 → new ≡ old
+-- `best` over files that have these bytes: their collection was written, or nothing or a proper prefix of it; or one of them
+-- is unreadable
+pub record BestRan (kind : Ruleset) (knowns : List (Option (List ℕ))) (status : ℕ) (old new : Option (List ℕ)) : Type 0 where
+  pub done : status ≡ 0 → BestWrites kind knowns old new
+  pub failed : status ≡ 2 → (new ≡ old) ⊎ BestPrefix kind knowns old new
+  pub unreadable : status ≡ 3 → (new ≡ old) × HasUnreadable knowns
   pub never : status ≢ 1
+  pub few : status ≤ 3
 
 -- the words ask for help
 abbrev pub IsHelp : Error → Type 0
@@ -63,12 +51,13 @@ pub record Explained (error : Error) (status : ℕ) (old new : Option (List ℕ)
   pub usage : status ≡ 1 → new ≡ old
   pub few : status ≤ 2
 
-abbrev pub JobRuns : Result Job JobFault → (status : ℕ) → (known left old new : Option (List ℕ)) → Type 0
-JobRuns (Ok (Show moves)) status known left old new = Ran (listing_of moves) status known left old new
-JobRuns (Ok Pack) status known left old new = Ran packed_text status known left old new
-JobRuns (Ok (Best kind files)) status known left old new = BestRan kind (length files.items) status old new
-JobRuns (Ok (Serve port turns dir)) status known left old new = (left ≡ known) × Served port status old new
-JobRuns (Ok (Put target)) status known left old new = (left ≡ known) × Transfers (string_bytes target.address) sent_line status old new
-JobRuns (Ok (Get kind target)) status known left old new = (left ≡ known) × Transfers (string_bytes target.address) got_line status old new
-JobRuns (Err (fault.Words error)) status known left old new = Explained error status old new
-JobRuns (Err fault.Memory) status known left old new = (status ≡ 2) × (new ≡ old)
+-- what a job did, where the file of each name has the bytes that are told of it
+abbrev pub JobRuns : (bytes_of : List ℕ → Option (List ℕ)) → Result Job JobFault → (status : ℕ) → (known left old new : Option (List ℕ)) → Type 0
+JobRuns bytes_of (Ok (Show moves)) status known left old new = Ran (listing_of moves) status known left old new
+JobRuns bytes_of (Ok Pack) status known left old new = Ran packed_text status known left old new
+JobRuns bytes_of (Ok (Best kind files)) status known left old new = BestRan kind (map (λ name. bytes_of (string_bytes name)) files.items) status old new
+JobRuns bytes_of (Ok (Serve port turns dir)) status known left old new = (left ≡ known) × Served port status old new
+JobRuns bytes_of (Ok (Put target)) status known left old new = (left ≡ known) × PutRan (bytes_of (string_bytes target.file)) (string_bytes target.address) status old new
+JobRuns bytes_of (Ok (Get kind target)) status known left old new = (left ≡ known) × Transfers (string_bytes target.address) got_line status old new × (status ≢ 3)
+JobRuns bytes_of (Err (fault.Words error)) status known left old new = Explained error status old new
+JobRuns bytes_of (Err fault.Memory) status known left old new = (status ≡ 2) × (new ≡ old)

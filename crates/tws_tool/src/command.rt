@@ -165,14 +165,13 @@ fn files_command<'a>(alloc: Global, names: &'a [&'a str]) -> Result<Command<'a>,
     ensures local { IfOk result (λ command. (out-Command command).has_globals ≡ false) }
 {
     let show = show_command(alloc)?;
-    let pack = pack_command(alloc);
-    let best = best_command(alloc, names)?;
-    Command::new(alloc, "tws")
+    let command = Command::new(alloc, "tws")
         .about("Lists, packs and collects Tile World solution files, and archives them by TFTP")
         .subcommand_required(true)
         .subcommand(show)?
-        .subcommand(pack)?
-        .subcommand(best)
+        .subcommand(pack_command(alloc))?;
+    let best = best_command(alloc, names)?;
+    command.subcommand(best)
 }
 
 /// The command line of the program, with these words for the rules.
@@ -180,10 +179,9 @@ pub(crate) fn command<'a>(alloc: Global, names: &'a [&'a str]) -> Result<Command
     ensures { IfOk result (λ command. app_of command ≡ tws_app names.entry) }
 {
     let serve = serve_command(alloc)?;
+    let command = files_command(alloc, names)?.subcommand(serve)?;
     let put = put_command(alloc)?;
+    let command = command.subcommand(put)?;
     let get = get_command(alloc, names)?;
-    files_command(alloc, names)?
-        .subcommand(serve)?
-        .subcommand(put)?
-        .subcommand(get)
+    command.subcommand(get)
 }

@@ -2,11 +2,13 @@
 
 ghost use Rattle.std.specs.Prelude.{◌≡◌, ◌≢◌, ◌⊎◌, ℕ, OnOk, IfErr, string_bytes};
 ghost use Rattle.tws_tool.specs.Address.{IsAddress};
+ghost use Rattle.tws_tool.specs.Archiving.{PutRan, SaysSent, IsBlamed};
 ghost use Rattle.tws_tool.specs.Faults.{status_of};
 ghost use Rattle.tws_tool.specs.Lines.{Says, Transfers, Unless, Unsaid, got_line, sent_line};
 ghost use Rattle.tws_tool.specs.Serving.{ServeStops, Served, Serves};
 
 use crate::address::Address;
+use crate::file_system::FileSystem;
 use crate::get::get_file;
 use crate::limits::TURNS;
 use crate::program::{USAGE, finish};
@@ -45,7 +47,8 @@ fn not_loaded<E: Write>(name: &str, errors: &mut E) -> u8
 }
 
 // Sends the file of this name.
-fn send<P: Files + Net + Clock + AllocGlobal + Copy, W: Write>(
+fn send<S: FileSystem, P: Net + Clock + AllocGlobal + Copy, W: Write>(
+    system: &S,
     rt: P,
     alloc: Global,
     host: u32,
@@ -53,11 +56,13 @@ fn send<P: Files + Net + Clock + AllocGlobal + Copy, W: Write>(
     out: &mut W,
 ) -> Result<(), ToolFault>
     ensures said { OnOk result (Says sent_line (W.contents out.old) (W.contents out.new)) }
+    ensures sent { OnOk result (SaysSent (S.bytes_of system.now (string_bytes target.now.file)) (W.contents out.old) (W.contents out.new)) }
+    ensures blamed { IfErr result (IsBlamed (S.bytes_of system.now (string_bytes target.now.file))) }
     ensures fails { IfErr result (Unsaid sent_line (W.contents out.old) (W.contents out.new)) }
     ensures unwritten { IfErr result (Unless (out.new ≡ out.old)) }
 {
     let port = target.port;
-    let Ok(mut file) = fs::open(&rt, target.file.as_str()) else {
+    let Ok(mut file) = system.open(target.file.as_str()) else {
         return Err(ToolFault::Read);
     };
     let mut wire = UdpWire::new(rt);
@@ -76,6 +81,7 @@ fn fetch<P: Files + Net + Clock + AllocGlobal + Copy, W: Write>(
     ensures said { OnOk result (Says got_line (W.contents out.old) (W.contents out.new)) }
     ensures fails { IfErr result (Unsaid got_line (W.contents out.old) (W.contents out.new)) }
     ensures unwritten { IfErr result (Unless (out.new ≡ out.old)) }
+    ensures readable { IfErr result (λ e. status_of e ≢ 3) }
 {
     let port = target.port;
     let Ok(mut file) = fs::create(&rt, target.file.as_str()) else {
@@ -93,20 +99,21 @@ fn fetch<P: Files + Net + Clock + AllocGlobal + Copy, W: Write>(
 }
 
 /// Does what `put` asks for, and answers the status.
-pub(crate) fn put<P: Files + Net + Clock + AllocGlobal + Copy, W: Write, E: Write>(
+pub(crate) fn put<S: FileSystem, P: Net + Clock + AllocGlobal + Copy, W: Write, E: Write>(
+    system: &S,
     rt: P,
     alloc: Global,
     target: &Target,
     out: &mut W,
     errors: &mut E,
 ) -> u8
-    ensures transfers { Transfers (string_bytes target.now.address) sent_line result (W.contents out.old) (W.contents out.new) }
+    ensures ran { PutRan (S.bytes_of system.now (string_bytes target.now.file)) (string_bytes target.now.address) result (W.contents out.old) (W.contents out.new) }
     ensures unwritten { result ≢ 0 → result ≢ 2 → out.new ≡ out.old }
     ensures silent { result ≡ 0 → errors.new ≡ errors.old }
 {
     match Address::read(target.address.as_str()) {
         Some(address) => {
-            let done = send(rt, alloc, address.host, target, out);
+            let done = send(system, rt, alloc, address.host, target, out);
             finish(done, slice::from_ref(&target.file), errors)
         }
         None => bad_address(errors),
@@ -123,6 +130,7 @@ pub(crate) fn get<P: Files + Net + Clock + AllocGlobal + Copy, W: Write, E: Writ
     errors: &mut E,
 ) -> u8
     ensures transfers { Transfers (string_bytes target.now.address) got_line result (W.contents out.old) (W.contents out.new) }
+    ensures readable { result ≢ 3 }
     ensures unwritten { result ≢ 0 → result ≢ 2 → out.new ≡ out.old }
     ensures silent { result ≡ 0 → errors.new ≡ errors.old }
 {

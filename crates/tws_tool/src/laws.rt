@@ -5,12 +5,13 @@ ghost use Rattle.tws_tool.specs.CommandLine.{AskFor};
 ghost use Rattle.tws_tool.specs.declared.job.Job.TheVariants.{Show, Pack, Serve};
 
 use crate::input::INPUT_READS;
-use crate::limits::{PORT, TURNS};
+use crate::limits::{MAX_PORT, PORT, TURNS};
 
 /// The limits as numbers. The definitions name them.
 pub fn limit_values()
     ensures reads { INPUT_READS ≡ 67108864 }
     ensures port { PORT ≡ 6969 }
+    ensures most { MAX_PORT ≡ 65535 }
     ensures turns { TURNS ≡ 1000000000 }
 {}
 

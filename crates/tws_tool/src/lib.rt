@@ -5,6 +5,7 @@
 mod address;
 mod best;
 mod command;
+mod file_system;
 mod get;
 mod host;
 mod input;
@@ -28,13 +29,14 @@ pub use archive_turns::{
     serve_turns,
 };
 pub use best::run_best;
+pub use file_system::FileSystem;
 pub use get::get_file;
 pub use input::INPUT_READS;
 pub use job::{Job, JobFault, job_of};
 pub use laws::{limit_values, words_of_commands};
 pub use limits::{PORT, TURNS};
 pub use pack::run_pack;
-pub use program::run_words;
+pub use program::{run_words, run_words_with};
 pub use put::put_file;
 pub use serve::{serve_counted, serve_waiting};
 pub use show::run_show;

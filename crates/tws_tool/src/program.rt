@@ -1,16 +1,18 @@
 //! The whole program but for where its words and streams come from.
 
-ghost use Rattle.std.specs.Prelude.{◌≡◌, ◌≢◌, ◌⊎◌, ◌≤◌, Result, length, map, string_bytes, OnOk, IfOk, IfErr};
+ghost use Rattle.std.specs.Prelude.{◌≡◌, ◌≢◌, ◌⊎◌, ◌≤◌, None, Result, map, string_bytes, OnOk, IfOk, IfErr};
 ghost use Rattle.tws_tool.specs.declared.job.Job.{Job};
 ghost use Rattle.tws_tool.specs.declared.job.JobFault.{JobFault};
 ghost use Rattle.tws_tool.specs.Faults.{IsReadFault, status_of, answer_status};
 ghost use Rattle.tws_tool.specs.Written.{Writes, CommandText, text_by};
-ghost use Rattle.tws_tool.specs.Jobs.{BestDone, BestStops, Explained, JobRuns};
+ghost use Rattle.tws_tool.specs.Collecting.{BestWrites, BestFails};
+ghost use Rattle.tws_tool.specs.Jobs.{Explained, JobRuns};
 ghost use Rattle.tws_tool.specs.CommandLine.{AnswersWords};
 ghost use Rattle.tws_tool.specs.Serving.{Served};
 ghost use Rattle.tws_tool.specs.Help.{WritesHelp, HelpFails};
 
 use crate::best::run_best;
+use crate::file_system::{FileSystem, SystemFiles};
 use crate::host;
 use crate::job::{Job, JobFault, job_of};
 use crate::pack::run_pack;
@@ -20,7 +22,6 @@ use archive_host::DirKeeper;
 use archive_table::NoKeeper;
 use byte_output::put;
 use std::alloc::Global;
-use std::fs::OpenOptions;
 use std::io::{Read, Write};
 use std::net::Net;
 use std::rt::Files;
@@ -92,14 +93,18 @@ fn explain<W: Write, E: Write>(
     finish(write_help(alloc, error, out), &[], errors)
 }
 
-// Opens all files, before one is read.
-fn open_all<P: Files>(rt: &P, alloc: Global, names: &[String]) -> Result<Vec<P::File>, ToolFault>
-    ensures opened { IfOk result (λ files. length files.items ≡ length names.now) }
+// Opens the files of these names, before one is read.
+fn open_all<S: FileSystem>(
+    system: &S,
+    alloc: Global,
+    names: &[String],
+) -> Result<Vec<S::File>, ToolFault>
+    ensures opened { IfOk result (λ files. map (λ file. S.File.remaining file) files.items ≡ map (λ name. S.bytes_of system.now (string_bytes name)) names.now) }
     ensures fault { IfErr result IsReadFault }
 {
     let mut files = Vec::new(alloc);
     for name in names {
-        let Ok(file) = OpenOptions::new().read(true).open(rt, name.as_str()) else {
+        let Ok(file) = system.open(name.as_str()) else {
             return Err(ToolFault::Read);
         };
         files.push(file)?;
@@ -108,19 +113,19 @@ fn open_all<P: Files>(rt: &P, alloc: Global, names: &[String]) -> Result<Vec<P::
 }
 
 // Writes the collection over the files of these names.
-fn write_best<P: Files, W: Write>(
-    rt: &P,
+fn write_best<S: FileSystem, W: Write>(
+    system: &S,
     alloc: Global,
     rules: Ruleset,
     names: &[String],
     out: &mut W,
 ) -> Result<(), ToolFault>
-    ensures done { OnOk result (BestDone rules (length names.now) (W.contents out.old) (W.contents out.new)) }
-    ensures fails { IfErr result (BestStops rules (length names.now) (W.contents out.old) (W.contents out.new)) }
+    ensures collected { OnOk result (BestWrites rules (map (λ name. S.bytes_of system.now (string_bytes name)) names.now) (W.contents out.old) (W.contents out.new)) }
+    ensures fails { IfErr result (BestFails rules (map (λ name. S.bytes_of system.now (string_bytes name)) names.now) (W.contents out.old) (W.contents out.new)) }
     // Also of a writer that does not tell what it holds.
     ensures unwritten { IfErr result (λ e. e ≢ ToolFault.Write → out.new ≡ out.old) }
 {
-    let mut files = open_all(rt, alloc, names)?;
+    let mut files = open_all(system, alloc, names)?;
     run_best(alloc, rules, &mut files, out)
 }
 
@@ -160,7 +165,8 @@ fn serve_job<P: Files + Net + Clock + AllocGlobal + Copy, W: Write, E: Write>(
 }
 
 // Does a job, or says why there is none, and answers the status.
-fn run_job<P: Files + Net + Clock + AllocGlobal + Copy, R: Read, W: Write, E: Write>(
+fn run_job<S: FileSystem, P: Files + Net + Clock + AllocGlobal + Copy, R: Read, W: Write, E: Write>(
+    system: &S,
     rt: &P,
     alloc: Global,
     job: Result<Job, JobFault>,
@@ -168,7 +174,7 @@ fn run_job<P: Files + Net + Clock + AllocGlobal + Copy, R: Read, W: Write, E: Wr
     out: &mut W,
     errors: &mut E,
 ) -> u8
-    ensures ran { JobRuns job result (R.remaining input.old) (R.remaining input.new) (W.contents out.old) (W.contents out.new) }
+    ensures ran { JobRuns (S.bytes_of system.now) job result (R.remaining input.old) (R.remaining input.new) (W.contents out.old) (W.contents out.new) }
     ensures usage { result ≡ 1 → (input.new ≡ input.old) × (out.new ≡ out.old) }
     ensures status { result ≤ 4 }
     // At status 0, where input was read, a command's text of it was written.
@@ -180,23 +186,31 @@ fn run_job<P: Files + Net + Clock + AllocGlobal + Copy, R: Read, W: Write, E: Wr
         Ok(Job::Show { moves }) => finish(run_show(alloc, input, out, moves), &[], errors),
         Ok(Job::Pack) => finish(run_pack(alloc, input, out), &[], errors),
         Ok(Job::Best { rules, files }) => {
-            let done = write_best(rt, alloc, rules, &files, out);
+            let done = write_best(system, alloc, rules, &files, out);
             finish(done, &files, errors)
         }
         Ok(Job::Serve { port, turns, dir }) => serve_job(*rt, alloc, port, turns, dir, out, errors),
-        Ok(Job::Put { target }) => host::put(*rt, alloc, &target, out, errors),
+        Ok(Job::Put { target }) => host::put(system, *rt, alloc, &target, out, errors),
         Ok(Job::Get { rules, target }) => host::get(*rt, alloc, rules, &target, out, errors),
         Err(JobFault::Words(error)) => explain(alloc, &error, out, errors),
         Err(JobFault::Memory) => report(ToolFault::Memory, &[], errors),
     }
 }
 
-/// Does what the words ask for, of which the first is the program's name, and answers the exit status.
+/// Does what the words ask for, of which the first is the program's name, and answers the exit status. The files of
+/// `system` are read; what else there is to do is done by the runtime.
 ///
 /// A fault goes to `errors` as one line. The status is 0 where all was done, and for help, whose text goes to `out`;
 /// 1 for a usage error or a bad address; 2 where reading, writing, a socket or memory failed; 3 for an unreadable solution
 /// file; 4 for a failed transfer.
-pub fn run_words<P: Files + Net + Clock + AllocGlobal + Copy, R: Read, W: Write, E: Write>(
+pub fn run_words_with<
+    S: FileSystem,
+    P: Files + Net + Clock + AllocGlobal + Copy,
+    R: Read,
+    W: Write,
+    E: Write,
+>(
+    system: &S,
     rt: &P,
     alloc: Global,
     words: &[String],
@@ -204,8 +218,8 @@ pub fn run_words<P: Files + Net + Clock + AllocGlobal + Copy, R: Read, W: Write,
     out: &mut W,
     errors: &mut E,
 ) -> u8
-    // The job is the one that the words ask for.
-    ensures ran { (job : Result Job JobFault) × AnswersWords (map string_bytes words.now) job × JobRuns job result (R.remaining input.old) (R.remaining input.new) (W.contents out.old) (W.contents out.new) }
+    // The job is the one that the words ask for, with the files that they name.
+    ensures ran { (job : Result Job JobFault) × AnswersWords (map string_bytes words.now) job × JobRuns (S.bytes_of system.now) job result (R.remaining input.old) (R.remaining input.new) (W.contents out.old) (W.contents out.new) }
     // A usage error leaves input and output as they were, and an unreadable file the output.
     ensures usage { result ≡ 1 → (input.new ≡ input.old) × (out.new ≡ out.old) }
     ensures status { result ≤ 4 }
@@ -214,5 +228,24 @@ pub fn run_words<P: Files + Net + Clock + AllocGlobal + Copy, R: Read, W: Write,
     ensures unreadable { result ≡ 3 → out.new ≡ out.old }
     ensures silent { result ≡ 0 → errors.new ≡ errors.old }
 {
-    run_job(rt, alloc, job_of(alloc, words), input, out, errors)
+    run_job(system, rt, alloc, job_of(alloc, words), input, out, errors)
+}
+
+/// The same with the system's files, which do not tell what they have.
+pub fn run_words<P: Files + Net + Clock + AllocGlobal + Copy, R: Read, W: Write, E: Write>(
+    rt: &P,
+    alloc: Global,
+    words: &[String],
+    input: &mut R,
+    out: &mut W,
+    errors: &mut E,
+) -> u8
+    ensures ran { (job : Result Job JobFault) × AnswersWords (map string_bytes words.now) job × JobRuns (λ name. None) job result (R.remaining input.old) (R.remaining input.new) (W.contents out.old) (W.contents out.new) }
+    ensures usage { result ≡ 1 → (input.new ≡ input.old) × (out.new ≡ out.old) }
+    ensures status { result ≤ 4 }
+    ensures written { result ≡ 0 → (input.new ≡ input.old) ⊎ (text : CommandText) × Writes (text_by text) (R.remaining input.old) (W.contents out.old) (W.contents out.new) }
+    ensures unreadable { result ≡ 3 → out.new ≡ out.old }
+    ensures silent { result ≡ 0 → errors.new ≡ errors.old }
+{
+    run_words_with(&SystemFiles(*rt), rt, alloc, words, input, out, errors)
 }

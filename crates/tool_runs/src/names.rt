@@ -1,0 +1,110 @@
+// The files that are opened are those of the names among the words.
+ghost use Rattle.std.specs.Prelude.{Some};
+
+use crate::outcome::*;
+use crate::streams::*;
+use std::test::Fail;
+use std::{env, fs, io, process};
+use tws_tool::{FileSystem, run_words_with};
+
+// The name of a file of these bytes among the temporary ones.
+fn file(rt: &HostRuntime, name: &str, bytes: &[u8]) -> Result<String, Fail> {
+    let process = process::id(rt.process());
+    let name = format!(in rt.alloc(); "tws-{process}-{name}")?;
+    let path = env::temp_dir(rt)?.join(rt.alloc(), name.as_str())?;
+    let path = String::from_str(rt.alloc(), path.as_str())?;
+    fs::write(rt, path.as_str(), bytes)?;
+    Ok(path)
+}
+
+// The solution in 100 ticks and in 90, each in a file.
+fn two_files(rt: &HostRuntime) -> Result<(String, String), Fail> {
+    let slow = file(rt, "slow", &SOLUTION)?;
+    let fast = file(rt, "fast", &FASTER)?;
+    Ok((slow, fast))
+}
+
+fn remove(rt: &HostRuntime, first: &str, second: &str) -> Result<(), Fail> {
+    fs::remove_file(rt, first)?;
+    fs::remove_file(rt, second)?;
+    Ok(())
+}
+
+#[test]
+fn best_of_files(rt: HostRuntime) -> Result<(), Fail> {
+    let (slow, fast) = two_files(&rt)?;
+    let lynx = run(&rt, &["tws", "best", "lynx", &slow, &fast], &[])?;
+    let ms = run(&rt, &["tws", "best", "ms", &slow, &fast], &[])?;
+    remove(&rt, &slow, &fast)?;
+    let empty = [0x35, 0x33, 0x9B, 0x99, 2, 0, 0, 0];
+    assert_eq!(rt; (lynx.status, lynx.out.as_slice()), (0, FASTER.as_slice()));
+    assert_eq!(rt; (ms.status, ms.out.as_slice()), (0, empty.as_slice()));
+    Ok(())
+}
+
+// A file system that has one file, and tells what that has.
+#[derive(Drop)]
+struct One<'a> {
+    name: &'a str,
+    bytes: &'a [u8],
+}
+
+impl<'a> FileSystem for One<'a> {
+    type File = &'a [u8];
+
+    ghost bytes_of = { λ system _. Some system.bytes.now };
+
+    fn open(&self, name: &str) -> io::Result<&'a [u8]> {
+        if name == self.name {
+            Ok(self.bytes)
+        } else {
+            Err(io::Error::from(io::ErrorKind::NotFound))
+        }
+    }
+}
+
+// The collection of Lynx over these files of a system that has one.
+fn best_of_one(rt: &HostRuntime, system: &One, names: &[&str]) -> Result<Outcome, Fail> {
+    let mut words = owned(rt, &["tws", "best", "lynx"])?;
+    words.append(&mut owned(rt, names)?)?;
+    let mut input = io::empty();
+    let mut out = Vec::new(rt.alloc());
+    let mut errors = Vec::new(rt.alloc());
+    let status = run_words_with(
+        system,
+        rt,
+        rt.alloc(),
+        &words,
+        &mut input,
+        &mut out,
+        &mut errors,
+    );
+    Ok(Outcome {
+        status,
+        out,
+        errors,
+    })
+}
+
+#[test]
+fn best_of_a_file_that_is_unreadable(rt: HostRuntime) -> Result<(), Fail> {
+    let system = One {
+        name: "short",
+        bytes: &[0x35, 0x33, 0x9B, 0x98, 2, 0, 0],
+    };
+    let outcome = best_of_one(&rt, &system, &["short"])?;
+    let line = "tws: short: unreadable: ShortHeader(7)\n";
+    assert!(rt; fails_with(&outcome, 3, line));
+    Ok(())
+}
+
+#[test]
+fn best_of_a_file_that_is_missing(rt: HostRuntime) -> Result<(), Fail> {
+    let system = One {
+        name: "short",
+        bytes: &[0x35, 0x33, 0x9B, 0x98, 2, 0, 0],
+    };
+    let outcome = best_of_one(&rt, &system, &["short", "missing"])?;
+    assert!(rt; fails_with(&outcome, 2, "tws: read fault\n"));
+    Ok(())
+}
