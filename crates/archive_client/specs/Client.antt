@@ -30,7 +30,7 @@ use Rattle.archive_client.specs.declared.state.State.TheVariants as state
 pub data Operation : Type 0 where
   -- to send this file
   put : (file : List ℕ) → Operation
-  -- to fetch the collection of these rules
+  -- to fetch the collection of this ruleset
   get : (kind : Ruleset) → Operation
 
 pub data Phase : Type 0 where
@@ -281,7 +281,7 @@ client_unless_over false verdict from bytes c =
 abbrev pub client_datagram : Verdict → (from : Endpoint) (bytes : List ℕ) → Client → Answer
 client_datagram verdict from bytes c = client_unless_over (is_over c) verdict from bytes c
 
--- what was granted, by where a step has left the client: where no growth is asked for, this has no effect
+-- what was granted, by where a step has left the client: where no allocation is asked for, this has no effect
 abbrev pub cause_verdict : Cause → Verdict
 cause_verdict (cause.Refused code) = granted
 cause_verdict cause.TimedOut = granted

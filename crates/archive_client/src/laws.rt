@@ -14,7 +14,7 @@ pub fn over_client()
     ensures timeout { (c : Client) → IsClient c → is_over c ≡ true → client_timeout c ≡ stays c }
 {}
 
-/// What comes from another host than the server's changes nothing, and is not answered.
+/// What comes from a host other than the server's changes nothing, and is not answered.
 pub fn other_host()
     ensures { (verdict : Verdict) (from : Endpoint) (bytes : List ℕ) (c : Client) →
         from.host ≢ c.server.host → client_datagram verdict from bytes c ≡ stays c }

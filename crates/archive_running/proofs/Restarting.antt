@@ -1,4 +1,5 @@
--- What the keeper has is what the server has, after each move of the server; so a restart loads the collections of now.
+-- What the keeper has is what the server has, after each move of the server; so a restart loads the current
+-- collections.
 use Rattle.std.proofs.Common.{◌≡◌, ◌⊎◌, ℕ, Bool, true, false, ◌==◌, List, [], ◌∷◌, fold, Option, None, Some, refl, ap, sym, ◌∙◌, subst, inl, inr, ⊎_elim}
 use Rattle.tftp_packet.specs.declared.endpoint.Endpoint.{Endpoint}
 use Rattle.tftp_packet.specs.Decode.{decode_bytes}

@@ -1,6 +1,6 @@
--- The archive as it runs: a server and its clients, each over a wire that tells its calls, and the network that joins these
--- wires. Each move is taken at the moment at which its `receive` answers, and one that receives nothing at its first call;
--- so what a move receives was sent by moves before it.
+-- The archive as it runs: a server and its clients, each over a wire that tells its calls, and the network that joins
+-- these wires. Each move is taken at the moment at which its `receive` answers, and one that receives nothing at its
+-- first call; so what a move receives was sent by moves before it.
 use Rattle.std.specs.Prelude.{◌≡◌, ◌≢◌, ◌⊎◌, ℕ, Bool, List, [], ◌∷◌, ◌++◌, length, Contains, Option, None, Some, Ok}
 use Rattle.std.specs.Map.{lookup, set_value}
 use Rattle.std.specs.Io.KnownBytes.{Appends}
@@ -108,7 +108,7 @@ after_restart maps kept a =
     }
 
 -- What a restart loads: what the keeper has, which may be a new one that has the same of each ruleset. Of a keeper that
--- does not tell its list it is a premise that it has the collections of now.
+-- does not tell its list it is a premise that it has the current collections.
 abbrev pub LoadsKept : (before now : Option (List Keeping)) → (old new : Maps) → Type 0
 LoadsKept None now old new = (now ≡ None) × (new ≡ old)
 LoadsKept (Some log) None old new = ⊥
@@ -117,8 +117,8 @@ LoadsKept (Some log) (Some told) old new =
 
 -- ---- how it moves
 
--- One move: a turn of the server or of a client, a begin, or a restart; with the members of the trace that it is. A begin
--- that fails sends nothing and leaves no client, so it is none.
+-- One move: a turn of the server or of a client, a begin, or a restart; with the members of the trace that it is. A
+-- begin that fails sends nothing and leaves no client, so it is none.
 pub data Moves : (old new : Archive) → List Member → Type 0 where
   -- the server that counts its turns makes one; which port it visited last, and its timers, may be any
   server_turns : (a : Archive) (old new : Counted) (took : Bool) (calls : List Entry) (now : Option (List Keeping)) (t : IsTurn old new took calls a.kept now) → a.server ≡ old.table → Brings server_endpoint.host calls a → Moves a (after_server new.table (next_visit old.last t.answers old.table).taken calls now a) (visit_members (port_above old.last old.table) t.answers old.table ++ late_members t.late)
@@ -137,8 +137,8 @@ pub data Reaches : Archive → List Member → Type 0 where
 
 -- ---- what is promised
 
--- The world has the same server, clients, operations and files, and every datagram that was sent; and it lists what each
--- client counts as sent or has fetched. Any other datagram of it is a stranger's.
+-- The world has the same server, clients, operations and files, and every datagram that was sent; and it lists what
+-- each client counts as sent or has fetched. Any other datagram of it is a stranger's.
 pub record Mirrors (a : Archive) (w : World) : Type 0 where
   pub server : w.server ≡ a.server
   pub clients : w.clients ≡ a.clients

@@ -50,7 +50,7 @@ later_or None true true text = Some text
 later_or None true false text = None
 later_or None false ok text = None
 
--- the text of the last entry of these rules that was kept
+-- the text of the last entry of this ruleset that was kept
 abbrev pub last_kept : Ruleset → List Keeping → Option (List ℕ)
 last_kept kind [] = None
 last_kept kind (k ∷ ks) = later_or (last_kept kind ks) (same_kind kind k.«ruleset») k.ok k.text
@@ -59,7 +59,7 @@ abbrev pub Loads : Ruleset → Option (List Keeping) → Option (List ℕ) → T
 Loads kind None text = Unit {0}
 Loads kind (Some log) text = text ≡ last_kept kind log
 
--- a collection of these rules that was loaded from this text, empty where there is none
+-- a collection of this ruleset that was loaded from this text, empty where there is none
 abbrev pub IsLoaded : Ruleset → Option (List ℕ) → Collected → Type 0
 IsLoaded kind None c = c ≡ record { «ruleset» = kind; entries = [] }
 IsLoaded kind (Some bytes) c =

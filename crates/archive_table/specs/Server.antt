@@ -62,8 +62,8 @@ pub record Taken : Type 0 where
   pub peer : Endpoint
   pub file : List ℕ
 
--- what a call tells: at most one datagram to send, whether a transfer was opened, a file that was taken, and whether the
--- transfer at the port was closed
+-- what a call tells: at most one datagram to send, whether a transfer was opened, a file that was taken, and whether
+-- the transfer at the port was closed
 pub record Told : Type 0 where
   pub out : Option Out
   pub opened : Bool
@@ -233,7 +233,7 @@ request_verdict false = refused
 pub data Heard : Type 0 where
   -- it has no effect
   nothing : Heard
-  -- a packet, but no ERROR, from another source than the peer
+  -- a packet, but no ERROR, from a source other than the peer
   stray : Heard
   -- an ERROR of the peer
   ended : Heard

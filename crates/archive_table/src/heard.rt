@@ -13,7 +13,7 @@ use tftp_packet::{Endpoint, Packet, decode};
 pub(crate) enum Heard<'a> {
     /// It has no effect.
     Nothing,
-    /// A packet, but no ERROR, from another source than the peer.
+    /// A packet, but no ERROR, from a source other than the peer.
     Stray,
     /// An ERROR of the peer.
     Ended,

@@ -9,18 +9,18 @@ use tws_file::Ruleset;
 
 /// Where the collections are kept, so that a server finds them again after a restart.
 pub trait Keeper {
-    /// What was given to be kept, in order, if this keeper tells it. One that tells it tells it always.
+    /// What was given to be kept, in order, if this keeper tells it. One that tells it does so always.
     ghost log: { Self → Option (List Keeping) };
 
     /// How many calls of the device failed so far, up to the greatest u64.
     ghost failed: { Self → ℕ };
 
-    /// Keeps a collection of these rules in place of the last one.
+    /// Keeps a collection of this ruleset in place of the last one.
     ///
     /// # Errors
     ///
-    /// `Device` only where `failures` rose in this call or is the greatest u64; `Memory` where a growth was refused. Where
-    /// the list is told, what can be loaded is then what it was.
+    /// `Device` only where `failures` rose in this call or is the greatest u64; `Memory` where an allocation was
+    /// refused. Where the list is told, what can be loaded is then what it was.
     fn keep<A: Allocator>(
         &mut self,
         kind: Ruleset,
@@ -30,7 +30,7 @@ pub trait Keeper {
         ensures more { failed self.old ≤ failed self.new }
         ensures failed { result ≡ Err KeepFault.Device → FailsAt (failed self.old) (failed self.new) };
 
-    /// The text that was kept last for these rules; none if none was.
+    /// The text that was kept last for this ruleset; none if none was.
     ///
     /// # Errors
     ///

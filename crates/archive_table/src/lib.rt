@@ -1,4 +1,5 @@
-//! The server's table: it takes one datagram or one time-out, changes one state and answers at most one datagram.
+//! The server's table: it takes one datagram or one time-out, changes one state and returns at most one datagram to
+//! send.
 //!
 //! `specs/Server.antt` is the file to read first: what a server is, and what each call makes of it.
 #![tactic(auto)]

@@ -10,7 +10,7 @@ use std::alloc::Allocator;
 use tws_best::Collection;
 use tws_file::{FileFault, Ruleset, read_file};
 
-// The collection of these rules whose text this is.
+// The collection of this ruleset whose text this is.
 fn read_collection<A: Allocator + Copy>(
     alloc: A,
     bytes: &[u8],
@@ -35,7 +35,7 @@ fn read_collection<A: Allocator + Copy>(
     }
 }
 
-/// The collection of these rules that a keeper has, empty where it has none.
+/// The collection of this ruleset that a keeper has, empty where it has none.
 pub(crate) fn load_collection<A: Allocator + Copy, K: Keeper>(
     alloc: A,
     keeper: &mut K,

@@ -11,7 +11,7 @@ pub enum LoadFault {
     /// What was kept is no solution file.
     #[error("Unreadable({0})")]
     Unreadable(FileFault),
-    /// What was kept is a file of other rules.
+    /// What was kept is a file of the other ruleset.
     #[error("WrongRuleset")]
     WrongRuleset,
     /// Out of memory.

@@ -20,14 +20,14 @@ pub struct MemoryKeeper<A: Allocator + Copy = Global> {
     failures: u64,
 }
 
-// Whether this was kept for these rules.
+// Whether this was kept for this ruleset.
 fn is_kept<A: Allocator>(one: &Kept<A>, kind: Ruleset) -> bool
     ensures { result ≡ (same_kind kind one.now.ruleset && one.now.ok) }
 {
     one.ruleset == kind && one.ok
 }
 
-// The text of the last entry of these rules that was kept.
+// The text of the last entry of this ruleset that was kept.
 #[tactic(auto, using(crate::proofs::Lasts::last_at))]
 fn last_of<A: Allocator>(kept: &[Kept<A>], kind: Ruleset) -> Option<&[u8]>
     ensures { option_map (λ t. t.now) result ≡ last_kept kind kept.now }

@@ -15,7 +15,7 @@ pub(crate) fn octet(mode: &[u8]) -> bool
     is_octet(mode)
 }
 
-// Whether this is the name of the collection of these rules.
+// Whether this is the name of the collection of this ruleset.
 fn is_name(name: &[u8], kind: Ruleset) -> bool
     ensures { result ≡ bytes_eq name.now (file_name_of kind) }
 {

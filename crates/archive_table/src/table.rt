@@ -109,7 +109,7 @@ impl<A: Allocator + Copy> Table<A> {
     /// # Errors
     ///
     /// The first of these at Lynx, and after that at MS: the keeper fails; what was kept is no solution file; it is a
-    /// file of other rules. Out of memory at any time.
+    /// file of the other ruleset. Out of memory at any time.
     pub fn load<K: Keeper>(alloc: A, request: u16, keeper: &mut K) -> Result<Self, LoadFault>
         ensures request { IfOk result (λ t. t.request ≡ request) }
         ensures lynx { IfOk result (λ t. LoadedFrom Ruleset.Lynx (K.log keeper.old) t.maps.lynx) }
@@ -228,13 +228,13 @@ impl<A: Allocator + Copy> Table<A> {
     }
 
     /// A datagram of these bytes has come from `from` to the request port. `spare` is the port for a transfer that is
-    /// opened. What is told is to be sent.
+    /// opened: neither the request port nor a live one. The caller sends the datagram of the step, if it has one.
     ///
     /// A request to write in mode octet opens a receiver that answers ACK 0 from the spare port. A request to read
-    /// `lynx.tws` or `ms.tws` opens a sender of that collection's text as it is now, which begins with DATA 1. A request
-    /// that is refused changes nothing and is answered with an ERROR from the request port. The causes, in this order:
-    /// another mode, no such file, `LIVE` transfers are live, the text has more than `MAX_FILE` bytes, out of memory.
-    /// Any other datagram has no effect.
+    /// `lynx.tws` or `ms.tws` opens a sender of that collection's text as it is now, which begins with DATA 1. A
+    /// request that is refused changes nothing and is answered with an ERROR from the request port. The causes, in this
+    /// order: another mode, no such file, `LIVE` transfers are live, the text has more than `MAX_FILE` bytes, out of
+    /// memory. Any other datagram has no effect.
     #[tactic(auto, using(crate::proofs::SamePort::request_same))]
     pub fn on_request(&mut self, spare: u16, from: Endpoint, bytes: &[u8]) -> Step<A>
         requires other { spare ≢ self.old.request }
@@ -374,14 +374,15 @@ impl<A: Allocator + Copy> Table<A> {
         }
     }
 
-    /// A datagram of these bytes has come from `from` to a transfer's port. What is told is to be sent.
+    /// A datagram of these bytes has come from `from` to a transfer's port. The caller sends the datagram of the step,
+    /// if it has one.
     ///
-    /// From another source than the peer an ERROR has no effect, and any other packet is answered with ERROR 5, RFC 1350
-    /// section 4, and changes nothing. An ERROR of the peer closes the transfer. An ACK goes to a sender, a DATA to a
-    /// receiver. The DATA that completes a file joins its solutions with the collection of its ruleset, which is kept
-    /// where that changed it, before it is acknowledged; then the file is taken. Bytes that are no solution file are taken
-    /// and change nothing. A block that is one too many, memory that is refused and a collection that is not kept close
-    /// the transfer with an ERROR, and no collection changes. A port that is not live gives an empty step.
+    /// From a source other than the peer an ERROR has no effect, and any other packet is answered with ERROR 5, RFC
+    /// 1350 section 4, and changes nothing. An ERROR of the peer closes the transfer. An ACK goes to a sender, a DATA
+    /// to a receiver. The DATA that completes a file joins its solutions with the collection of its ruleset, which is
+    /// kept where that changed it, before it is acknowledged; then the file is taken. Bytes that are no solution file
+    /// are taken and change nothing. A block that is one too many, memory that is refused and a collection that is not
+    /// kept close the transfer with an ERROR, and no collection changes. A port that is not live gives an empty step.
     #[tactic(auto, using(crate::proofs::SamePort::live_same))]
     pub fn on_datagram<K: Keeper>(
         &mut self,
@@ -411,7 +412,8 @@ impl<A: Allocator + Copy> Table<A> {
     }
 
     /// Nothing has come to a port for a while. What its transfer sent last is sent again; the transfer is closed where
-    /// its end gives up or has waited long enough for a repeated last block. A port that is not live gives an empty step.
+    /// its end gives up or has waited long enough for a repeated last block. A port that is not live gives an empty
+    /// step.
     #[tactic(auto, using(crate::proofs::Live::remove_set, crate::proofs::Live::set_same, crate::proofs::SamePort::timeout_same))]
     pub fn on_timeout(&mut self, port: u16) -> Step<A>
         ensures server { self.new ≡ (server_timeout port self.old).server }

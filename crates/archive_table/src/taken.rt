@@ -7,7 +7,7 @@ use tftp_packet::Endpoint;
 #[derive(Drop)]
 #[derive_where(Debug)]
 pub struct Taken<A: Allocator = Global> {
-    /// Whom it came from.
+    /// The endpoint that it came from.
     pub peer: Endpoint,
     /// Its bytes.
     pub file: Received<A>,

@@ -1,4 +1,5 @@
 pub mod Log
+pub mod Inbox
 pub mod Acting
 pub mod Visits
 pub mod Requests

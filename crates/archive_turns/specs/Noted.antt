@@ -1,5 +1,7 @@
 -- The plain value of a wire in memory, without where its lists lie.
-use Rattle.std.specs.Prelude.{◌≡◌, ℕ, ◌+◌, ◌-◌, ◌^◌, min, Bool, true, false, List, [], ◌∷◌, ◌++◌, map, Option, None, Some}
+use Rattle.std.specs.Prelude.{◌≡◌, ℕ, ◌+◌, ◌-◌, ◌^◌, ◌==◌, nat_lt, min, max, Bool, true, false, List, [], ◌∷◌, ◌++◌, map, drop, fold, if◌then◌else◌, Option, None, Some}
+use Rattle.std.specs.List.{find}
+use Rattle.std.specs.Option.{option_or}
 use Rattle.tftp_packet.specs.declared.endpoint.Endpoint.{Endpoint}
 use Rattle.archive_turns.specs.declared.entry.Entry as noted
 use Rattle.archive_turns.specs.declared.entry.Entry.TheVariants.{Opened, Closed, Came, Quiet, Failed, Sent, Waited}
@@ -82,8 +84,72 @@ notes false entry w = record w { telling = false }
 abbrev pub log_of : Memory → Option (List Entry)
 log_of w = told_by w.telling w.log
 
--- what a call that writes nothing down leaves
-pub record SameLog (old new : Memory) : Type 0 where
-  pub log : new.log ≡ old.log
-  pub telling : new.telling ≡ old.telling
-  pub failures : new.failures ≡ old.failures
+-- what writing a call down leaves
+pub record SameButLog (old new : Memory) : Type 0 where
+  pub opens : new.opens ≡ old.opens
+  pub inbox : new.inbox ≡ old.inbox
+  pub fails_in : new.fails_in ≡ old.fails_in
+  pub time : new.time ≡ old.time
+
+-- ---- `open`
+
+abbrev pub first_port : List ℕ → Option ℕ
+first_port [] = None
+first_port (port ∷ ports) = Some port
+
+-- the port that it gives: the first, unless this call is to fail
+abbrev pub port_taken : Memory → Option ℕ
+port_taken w = if w.fails_in == 1 then None else first_port w.opens
+
+abbrev pub takes_port : Memory → Memory
+takes_port w = record w { opens = if w.fails_in == 1 then w.opens else drop 1 w.opens; fails_in = w.fails_in - 1 }
+
+-- ---- `receive`
+
+abbrev pub is_to : (port : ℕ) → Waiting → Bool
+is_to port one = one.port == port
+
+-- the oldest datagram that has come to a port
+abbrev pub first_to : (port : ℕ) → List Waiting → Option Waiting
+first_to port waiting = find (is_to port) waiting
+
+-- all but that one
+abbrev pub without_first : (port : ℕ) → List Waiting → List Waiting
+without_first port [] = []
+without_first port (one ∷ more) = if is_to port one then more else one ∷ without_first port more
+
+abbrev pub came_or_quiet : (port : ℕ) → Option Waiting → Entry
+came_or_quiet port None = quiet port
+came_or_quiet port (Some one) = came port one.from one.bytes
+
+-- the entry of it: the oldest datagram that has come to the port, or none, unless this call is to fail
+abbrev pub receipt : (port : ℕ) → Memory → Entry
+receipt port w = if w.fails_in == 1 then failed port else came_or_quiet port (first_to port w.inbox)
+
+abbrev pub takes_arrival : (port : ℕ) → Memory → Memory
+takes_arrival port w = record w { inbox = if w.fails_in == 1 then w.inbox else without_first port w.inbox; fails_in = w.fails_in - 1 }
+
+-- ---- `wait`
+
+-- the lesser of a port and the least so far
+abbrev pub lesser : Option ℕ → ℕ → Option ℕ
+lesser None port = Some port
+lesser (Some least) port = Some (min least port)
+
+-- the least port to which something has come
+abbrev pub least_port : List Waiting → Option ℕ
+least_port waiting = fold (λ least one. lesser least one.port) None waiting
+
+-- the least of those above this one
+abbrev pub least_above : (after : ℕ) → List Waiting → Option ℕ
+least_above after waiting = fold (λ least one. if nat_lt after one.port then lesser least one.port else least) None waiting
+
+-- the next port above this one to which something has come, or else the least
+abbrev pub next_ready : (after : ℕ) → List Waiting → Option ℕ
+next_ready after waiting = option_or (least_above after waiting) (least_port waiting)
+
+-- where nothing has come, the clock goes on to the moment that is waited for
+abbrev pub time_after : (ready until : Option ℕ) → (time : ℕ) → ℕ
+time_after (Some port) until time = time
+time_after None None time = time
+time_after None (Some moment) time = max time moment

@@ -14,7 +14,7 @@ pub enum Entry<A: Allocator = Global> {
     Came {
         /// The port.
         port: u16,
-        /// Whom it came from.
+        /// The endpoint that it came from.
         from: Endpoint,
         /// Its bytes.
         bytes: Bytes<A>,

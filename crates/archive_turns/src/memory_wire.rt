@@ -1,9 +1,11 @@
 //! A wire in memory, for tests: it gives what was put into it, and tells its log.
 
-ghost use Rattle.std.specs.Prelude.{◌≡◌, ◌==◌, ◌≤◌, ◌<◌, slice_get, [], ◌∷◌, length, true, OnOk, OnErr, IfOk, IfErr, IfSome, is_ok, if◌then◌else◌};
+ghost use Rattle.std.specs.Prelude.{◌≡◌, ◌≢◌, ◌==◌, ◌≤◌, [], ◌∷◌, length, map, drop, true, Some, OnOk, OnErr, IfOk, IfErr, IfSome, is_ok, if◌then◌else◌};
+ghost use Rattle.std.specs.List.{position};
+ghost use Rattle.std.specs.Option.{option_map};
 ghost use Rattle.archive_table.specs.Keeper.{FailsAt};
-ghost use Rattle.archive_turns.specs.Noted.{entry_of, entries_of, arrives, counts_call, rises, notes, log_of, SameLog};
-ghost use Rattle.archive_turns.specs.Wire.{Grows, received, quiet, failed};
+ghost use Rattle.archive_turns.specs.Noted.{entry_of, entries_of, waiting_of, arrives, counts_call, rises, notes, log_of, SameButLog, first_port, port_taken, takes_port, first_to, without_first, receipt, takes_arrival, lesser, next_ready, time_after};
+ghost use Rattle.archive_turns.specs.Wire.{Grows, opened, closed, sent, port_opened, was_done, came, received, quiet, failed, waited};
 
 use crate::arrival::Arrival;
 use crate::entry::Entry;
@@ -52,7 +54,8 @@ impl<A: Allocator + Copy> MemoryWire<A> {
         }
     }
 
-    /// A datagram comes to a port. `receive` gives it after those that came to the port before.
+    /// A datagram of at most `RECEIVE_SIZE` bytes comes to a port. `receive` gives it after those that came to the port
+    /// before.
     ///
     /// # Errors
     ///
@@ -73,8 +76,8 @@ impl<A: Allocator + Copy> MemoryWire<A> {
         Ok(())
     }
 
-    /// Lets call number `n` from now fail, counted from 1 over `open`, `close`, `receive` and `send`. It takes no port and
-    /// no datagram. This replaces what an earlier call of `fail_at` asked for; 0 lets none fail.
+    /// Lets call number `n` from now fail, counted from 1 over `open`, `close`, `receive` and `send`. It takes no port
+    /// and no datagram. This replaces what an earlier call of `fail_at` asked for; 0 lets none fail.
     pub fn fail_at(&mut self, n: u64)
         ensures { self.new ≡ record self.old { fails_in = n } }
     {
@@ -103,17 +106,33 @@ impl<A: Allocator + Copy> MemoryWire<A> {
     }
 }
 
+// The next port to be opened, which leaves the list.
+fn take_next<A: Allocator>(opens: &mut Vec<u16, A>) -> Option<u16>
+    ensures port { result ≡ first_port opens.old.items }
+    ensures left { opens.new.items ≡ drop 1 opens.old.items }
+{
+    if opens.is_empty() {
+        return None;
+    }
+    Some(opens.remove(0))
+}
+
 // Where the oldest datagram is that has come to a port.
 fn first_at<A: Allocator>(inbox: &[Arrival<A>], port: u16) -> Option<usize>
-    ensures within { IfSome result (λ i. i < length inbox.now) }
-    ensures port { IfSome result (λ i. (a : _) → slice_get inbox.now i ≡ Some a → a.port ≡ port) }
+    ensures { result ≡ position (λ a. a.port == port) inbox.now }
 {
-    for (i, arrival) in inbox.iter().enumerate() {
-        if arrival.port == port {
-            return Some(i);
-        }
-    }
-    None
+    inbox.iter().position(|arrival| arrival.port == port)
+}
+
+// The oldest datagram that has come to a port, which leaves the inbox.
+fn take_first<A: Allocator>(inbox: &mut Vec<Arrival<A>, A>, port: u16) -> Option<Arrival<A>>
+    ensures first { option_map waiting_of result ≡ first_to port (map waiting_of inbox.old.items) }
+    ensures left { map waiting_of inbox.new.items ≡ without_first port (map waiting_of inbox.old.items) }
+{
+    let Some(i) = first_at(inbox.as_slice(), port) else {
+        return None;
+    };
+    Some(inbox.remove(i))
 }
 
 impl<A: Allocator> MemoryWire<A> {
@@ -149,28 +168,13 @@ impl<A: Allocator> MemoryWire<A> {
         done
     }
 
-    // The next port to be opened, unless this call is to fail or there is none.
-    fn take_port(&mut self) -> Option<u16>
-        ensures { SameLog self.old self.new }
-    {
-        if self.is_failing() || self.opens.is_empty() {
-            return None;
-        }
-        Some(self.opens.remove(0))
-    }
-
-    // The oldest datagram that has come to a port, which leaves the inbox.
-    fn take_arrival(&mut self, port: u16) -> Option<Arrival<A>>
-        ensures { SameLog self.old self.new }
-    {
-        let i = first_at(self.inbox.as_slice(), port)?;
-        Some(self.inbox.remove(i))
-    }
-
     // Tells the caller of `receive` that nothing has come.
     fn give_none(&mut self, port: u16) -> Result<Option<(usize, Endpoint)>, WireFault>
         ensures log { Grows (log_of self.old) (log_of self.new) ((if is_ok result then quiet port else failed port) ∷ []) }
         ensures none { IfOk result (λ got. got ≡ None) }
+        ensures told { self.new.telling ≡ true → is_ok result ≡ true }
+        ensures left { SameButLog self.old self.new }
+        ensures steady { OnOk result (self.new.failures ≡ self.old.failures) }
         ensures fault { IfErr result (λ e. e ≡ WireFault.Receive) }
         ensures failed { OnErr result (FailsAt self.old.failures self.new.failures) }
     {
@@ -189,6 +193,10 @@ impl<A: Allocator> MemoryWire<A> {
         buffer: &mut [u8; RECEIVE_SIZE],
     ) -> Result<Option<(usize, Endpoint)>, WireFault>
         ensures log { Grows (log_of self.old) (log_of self.new) (received port result buffer.new ∷ []) }
+        ensures given { OnOk result (received port result buffer.new ≡ came port arrival.from arrival.bytes) }
+        ensures told { self.new.telling ≡ true → is_ok result ≡ true }
+        ensures left { SameButLog self.old self.new }
+        ensures steady { OnOk result (self.new.failures ≡ self.old.failures) }
         ensures count { IfOk result (λ got. IfSome got (λ g. g.0 ≤ RECEIVE_SIZE)) }
         ensures fault { IfErr result (λ e. e ≡ WireFault.Receive) }
         ensures failed { OnErr result (FailsAt self.old.failures self.new.failures) }
@@ -211,8 +219,20 @@ impl<A: Allocator> Wire for MemoryWire<A> {
 
     ghost failed = { λ w. w.failures };
 
-    fn open(&mut self) -> Result<u16, WireFault> {
-        let port = self.take_port();
+    fn open(&mut self) -> Result<u16, WireFault>
+        ensures log { Grows (log_of self.old) (log_of self.new) (opened (port_opened result) ∷ []) }
+        ensures port { IfOk result (λ port. port_taken self.old ≡ Some port) }
+        ensures told { self.new.telling ≡ true → port_opened result ≡ port_taken self.old }
+        ensures left { SameButLog (takes_port self.old) self.new }
+        ensures fault { IfErr result (λ e. e ≡ WireFault.Open) }
+        ensures failed { OnErr result (FailsAt self.old.failures self.new.failures) }
+        ensures steady { OnOk result (self.new.failures ≡ self.old.failures) }
+    {
+        let port = if self.is_failing() {
+            None
+        } else {
+            take_next(&mut self.opens)
+        };
         if self.note(Entry::Opened(port)) {
             if let Some(port) = port {
                 return Ok(port);
@@ -222,7 +242,15 @@ impl<A: Allocator> Wire for MemoryWire<A> {
         Err(WireFault::Open)
     }
 
-    fn close(&mut self, port: u16) -> Result<(), WireFault> {
+    fn close(&mut self, port: u16) -> Result<(), WireFault>
+        ensures log { Grows (log_of self.old) (log_of self.new) (closed port (was_done result) ∷ []) }
+        ensures done { OnOk result (self.old.fails_in ≢ 1) }
+        ensures told { self.new.telling ≡ true → self.old.fails_in ≢ 1 → is_ok result ≡ true }
+        ensures left { SameButLog (counts_call self.old) self.new }
+        ensures fault { IfErr result (λ e. e ≡ WireFault.Close) }
+        ensures failed { OnErr result (FailsAt self.old.failures self.new.failures) }
+        ensures steady { OnOk result (self.new.failures ≡ self.old.failures) }
+    {
         let ok = !self.is_failing();
         if self.note(Entry::Closed(port, ok)) && ok {
             return Ok(());
@@ -235,19 +263,36 @@ impl<A: Allocator> Wire for MemoryWire<A> {
         &mut self,
         port: u16,
         buffer: &mut [u8; RECEIVE_SIZE],
-    ) -> Result<Option<(usize, Endpoint)>, WireFault> {
+    ) -> Result<Option<(usize, Endpoint)>, WireFault>
+        ensures log { Grows (log_of self.old) (log_of self.new) (received port result buffer.new ∷ []) }
+        ensures given { OnOk result (received port result buffer.new ≡ receipt port self.old) }
+        ensures told { self.new.telling ≡ true → received port result buffer.new ≡ receipt port self.old }
+        ensures left { SameButLog (takes_arrival port self.old) self.new }
+        ensures count { IfOk result (λ got. IfSome got (λ g. g.0 ≤ RECEIVE_SIZE)) }
+        ensures fault { IfErr result (λ e. e ≡ WireFault.Receive) }
+        ensures failed { OnErr result (FailsAt self.old.failures self.new.failures) }
+        ensures steady { OnOk result (self.new.failures ≡ self.old.failures) }
+    {
         if self.is_failing() {
             self.note(Entry::Failed(port));
             self.rise();
             return Err(WireFault::Receive);
         }
-        match self.take_arrival(port) {
+        match take_first(&mut self.inbox, port) {
             Some(arrival) => self.give(port, arrival, buffer),
             None => self.give_none(port),
         }
     }
 
-    fn send(&mut self, out: &Out) -> Result<(), WireFault> {
+    fn send(&mut self, out: &Out) -> Result<(), WireFault>
+        ensures log { Grows (log_of self.old) (log_of self.new) (sent out.now (was_done result) ∷ []) }
+        ensures done { OnOk result (self.old.fails_in ≢ 1) }
+        ensures told { self.new.telling ≡ true → self.old.fails_in ≢ 1 → is_ok result ≡ true }
+        ensures left { SameButLog (counts_call self.old) self.new }
+        ensures fault { IfErr result (λ e. e ≡ WireFault.Send) }
+        ensures failed { OnErr result (FailsAt self.old.failures self.new.failures) }
+        ensures steady { OnOk result (self.new.failures ≡ self.old.failures) }
+    {
         let ok = !self.is_failing();
         let Ok(out) = out.clone() else {
             unreachable!();
@@ -265,7 +310,9 @@ impl<A: Allocator> Wire for MemoryWire<A> {
 }
 
 // The lesser of a port and the least so far.
-fn lesser(least: Option<u16>, port: u16) -> Option<u16> {
+fn lesser_of(least: Option<u16>, port: u16) -> Option<u16>
+    ensures { result ≡ lesser least port }
+{
     match least {
         Some(least) => Some(least.min(port)),
         None => Some(port),
@@ -273,26 +320,41 @@ fn lesser(least: Option<u16>, port: u16) -> Option<u16> {
 }
 
 // The least port above this one to which something has come, or the least of all.
-fn next_at<A: Allocator>(inbox: &[Arrival<A>], after: u16) -> Option<u16> {
+fn next_at<A: Allocator>(inbox: &[Arrival<A>], after: u16) -> Option<u16>
+    ensures { result ≡ next_ready after (map waiting_of inbox.now) }
+{
     let mut above = None;
     let mut least = None;
     for arrival in inbox {
-        least = lesser(least, arrival.port);
+        least = lesser_of(least, arrival.port);
         if arrival.port > after {
-            above = lesser(above, arrival.port);
+            above = lesser_of(above, arrival.port);
         }
     }
     above.or(least)
 }
 
+// The time when a wait ends: where nothing has come, the clock goes on to the moment that is waited for.
+fn end_of_wait(ready: Option<u16>, until: Option<u64>, time: u64) -> u64
+    ensures { result ≡ time_after ready until time }
+{
+    match (ready, until) {
+        (None, Some(until)) => time.max(until),
+        _ => time,
+    }
+}
+
 impl<A: Allocator> ReadyWire for MemoryWire<A> {
-    // Where nothing has come, the clock goes on to the moment that is waited for.
-    fn wait(&mut self, after: u16, until: Option<u64>) -> Ready {
+    fn wait(&mut self, after: u16, until: Option<u64>) -> Ready
+        ensures log { Grows (log_of self.old) (log_of self.new) (waited after until result.port result.time ∷ []) }
+        ensures ready { result.port ≡ next_ready after self.old.inbox }
+        ensures time { result.time ≡ time_after result.port until self.old.time }
+        ensures left { SameButLog (record self.old { time = result.time }) self.new }
+        ensures steady { self.new.failures ≡ self.old.failures }
+    {
         let ready = next_at(self.inbox.as_slice(), after);
-        if let (None, Some(until)) = (ready, until) {
-            self.time = self.time.max(until);
-        }
-        let now = self.time;
+        let now = end_of_wait(ready, until, self.time);
+        self.time = now;
         self.note(Entry::Waited {
             after,
             until,

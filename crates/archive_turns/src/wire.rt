@@ -8,9 +8,9 @@ use tftp_packet::{Endpoint, Out};
 /// How many bytes `receive` takes of a datagram: one more than any packet has, so that a longer one is told from it.
 pub const RECEIVE_SIZE: usize = 517;
 
-/// What datagrams go out by and come from: ports of UDP on our own host.
+/// What datagrams are sent and received by: UDP ports on this host.
 pub trait Wire {
-    /// An entry for each call in order, if this wire tells them. Once it stops telling, it never tells again.
+    /// An entry for each call in order, if this wire tells them. Once it stops telling them, it never starts again.
     ghost log: { Self → Option (List Entry) };
 
     /// How many calls failed so far, up to the greatest u64.

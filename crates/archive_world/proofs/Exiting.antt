@@ -352,7 +352,7 @@ module _ (w v : World) (d : Datagram) (index spare : ℕ) (there : slice_get w.n
         delivered grant maps may true (eq-eqb d.target.host server_endpoint.host ours)
         ∙ ap (λ (b : Bool). server_comes b spare grant maps d w) is
 
-    -- ---- to its port of requests
+    -- ---- to its request port
 
     module _ (at : d.target.port ≡ w.server.request) where
       free_may : IsFree spare w → MayDeliver index spare w

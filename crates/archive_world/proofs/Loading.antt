@@ -17,14 +17,14 @@ use Rattle.archive_world.specs.Restarts.{IsTextAt, HasKept, AreOwnRules, StepSta
 
 -- ---- one more in the list
 
--- of these rules, and kept
+-- of this ruleset, and kept
 last_own : (kind : Ruleset) (log : List Keeping) (k : Keeping) → same_kind kind k.«ruleset» ≡ true → k.ok ≡ true → last_kept kind (log ++ k ∷ []) ≡ Some k.text
 last_own kind [] k own ok =
     ap (λ (b : Bool). later_or None b k.ok k.text) own ∙ ap (λ (b : Bool). later_or None true b k.text) ok
 last_own kind (x ∷ log) k own ok =
     ap (λ (o : Option (List ℕ)). later_or o (same_kind kind x.«ruleset») x.ok x.text) (last_own kind log k own ok)
 
--- of other rules
+-- of the other ruleset
 last_other : (kind : Ruleset) (log : List Keeping) (k : Keeping) → same_kind kind k.«ruleset» ≡ false → last_kept kind (log ++ k ∷ []) ≡ last_kept kind log
 last_other kind [] k other = ap (λ (b : Bool). later_or None b k.ok k.text) other
 last_other kind (x ∷ log) k other =
@@ -41,7 +41,7 @@ unchanged : (kind : Ruleset) (before after : List Keeping) (c : Collected) → a
 unchanged kind before after c grows kept =
     subst (λ (l : List Keeping). IsTextAt kind (last_kept kind l) c) (sym (grows ∙ append-nil before)) kept
 
--- a collection of these rules was kept, or had not changed
+-- a collection of this ruleset was kept, or had not changed
 kept_own : (kind : Ruleset) (before after : List Keeping) (old new : Collected) → new.ruleset ≡ kind → KeepsOne old new (Some before) (Some after) → IsTextAt kind (last_kept kind before) old → IsTextAt kind (last_kept kind after) new
 kept_own kind before after old new rules (inl stayed) kept =
     unchanged kind before after new stayed.1 (subst (IsTextAt kind (last_kept kind before)) (sym stayed.0) kept)
@@ -51,7 +51,7 @@ kept_own kind before after old new rules (inr changed) kept =
     let last : last_kept kind after ≡ Some (collection_text new) = ap (last_kept kind) changed.1 ∙ last_own kind before k own refl in
     subst (λ (o : Option (List ℕ)). IsTextAt kind o new) (sym last) refl
 
--- that of the other rules has the text that it had
+-- that of the other ruleset has the text that it had
 kept_other : (kind : Ruleset) (before after : List Keeping) (old new c : Collected) → same_kind kind new.ruleset ≡ false → KeepsOne old new (Some before) (Some after) → IsTextAt kind (last_kept kind before) c → IsTextAt kind (last_kept kind after) c
 kept_other kind before after old new c other (inl stayed) kept = unchanged kind before after c stayed.1 kept
 kept_other kind before after old new c other (inr changed) kept =

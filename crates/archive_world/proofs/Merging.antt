@@ -12,11 +12,11 @@ use Rattle.archive_world.specs.Headline.{files_of}
 use Rattle.archive_world.proofs.Readability.{readable_or_not}
 use Rattle.archive_world.proofs.Invariant.{AreBest}
 
--- a file of these rules joins their collection
+-- a file of this ruleset joins their collection
 joins : (kind : Ruleset) (texts : List (List ℕ)) (text : List ℕ) (f : File) (old new : Collected) → IsCollectionOf kind texts old → IsText text f → IsJoined f old new → IsCollectionOf kind (texts ++ text ∷ []) new
 joins kind texts text f old new best is joined = one_more_text kind texts text f old new best is joined.kind joined.best
 
--- the collection of other rules is that over one text more
+-- the collection of the other ruleset is that over one text more
 no_solutions : (kind : Ruleset) (f : File) (c : Collected) → solved_by c.ruleset f.ruleset f.records ≡ [] → solutions_of c.ruleset (f ∷ []) ≡ []
 no_solutions kind f c none = ap (λ (es : List Entry). es ++ []) none
 

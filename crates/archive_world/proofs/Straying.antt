@@ -1,4 +1,4 @@
--- A datagram enters the network from nowhere, or the server starts again.
+-- A stranger's datagram enters the network, or the server restarts.
 use Rattle.std.proofs.Common.{◌≡◌, ◌≢◌, ◌⊎◌, ℕ, [], refl, ap, sym, ◌∙◌, subst, inl, ⊎_elim}
 use Rattle.tftp_packet.specs.declared.endpoint.Endpoint.{Endpoint}
 use Rattle.archive_table.specs.Server.{Server}

@@ -28,8 +28,8 @@ abbrev pub AllDue : List Step → World → Type 0
 AllDue [] w = Unit {0}
 AllDue (s ∷ steps) w = IsDue s.event s.grant w × AllDue steps (happens s w)
 
--- From the start, these events have led to this world. Each was one that may happen, and ports are own. A keeper that told
--- its list tells it now, and has what the steps have kept.
+-- From the start, these events have led to this world. Each was one that may happen, and ports are own. A keeper that
+-- told its list tells it now, and has what the steps have kept.
 pub record HasHappened (events : List Event) (told now : Option (List Keeping)) (w : World) : Type 0 where
   pub steps : List Step
   pub events_are : map (λ (s : Step). s.event) steps ≡ events
@@ -55,7 +55,7 @@ pub record Makes (e : Event) (told now : Option (List Keeping)) (w v : World) : 
 
 -- ---- the end of a replay
 
--- Where the server starts again, the keeper tells its list, and has nothing at first. Else any keeper will do.
+-- Where the server restarts, the keeper tells its list, and has nothing at first. Else any keeper will do.
 abbrev pub IsReady : (told : Option (List Keeping)) → List Event → Type 0
 IsReady told events = Contains events restart → told ≡ Some []
 

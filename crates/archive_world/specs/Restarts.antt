@@ -14,7 +14,7 @@ abbrev pub IsTextAt : Ruleset → Option (List ℕ) → Collected → Type 0
 IsTextAt kind None c = c ≡ record { «ruleset» = kind; entries = [] }
 IsTextAt kind (Some text) c = text ≡ collection_text c
 
--- what was kept last of each ruleset is the collection of now
+-- what was kept last of each ruleset is the current collection
 pub record HasKept (log : List Keeping) (maps : Maps) : Type 0 where
   pub lynx : IsTextAt Lynx (last_kept Lynx log) maps.lynx
   pub ms : IsTextAt Ms (last_kept Ms log) maps.ms
@@ -47,7 +47,7 @@ FailsOutside log = (fault : LoadFault) → TableFails (Some log) fault → IsOut
 
 -- ---- over a run
 
--- whether it comes to the port of requests, where no file is taken
+-- whether it comes to the request port, where no file is taken
 abbrev pub wanted_at : (request : Bool) → Datagram → World → Option Taken
 wanted_at true d w = None
 wanted_at false d w = (server_datagram all w.server.maps d.target.port d.source d.bytes w.server).told.taken
@@ -71,7 +71,7 @@ DeliveryKeeps grant wanted old new before after =
 abbrev pub AreAlike : (before after : List Keeping) → Type 0
 AreAlike before after = (kind : Ruleset) → last_kept kind after ≡ last_kept kind before
 
--- What the keeper has after an event. A server that starts again may have a new keeper, which has what was kept last.
+-- What the keeper has after an event. A server that restarts may have a new keeper, which has what was kept last.
 abbrev pub EventKeeps : Event → Grant → (w v : World) → (before after : List Keeping) → Type 0
 EventKeeps (begin e operation) grant w v before after = after ≡ before
 EventKeeps (deliver index spare) grant w v before after =

@@ -90,7 +90,7 @@ strange_put =
     ∷ from_stranger 6969 (0 ∷ 2 ∷ 0x61 ∷ 0 ∷ 0x6F ∷ 0x63 ∷ 0x74 ∷ 0x65 ∷ 0x74 ∷ 0 ∷ []) ∷ deliver 4 4001
     ∷ from_stranger 4001 (0 ∷ 3 ∷ 0 ∷ 1 ∷ sample_file 90) ∷ deliver 6 0 ∷ deliver 1 0 ∷ deliver 8 0 ∷ deliver 9 0 ∷ [])
 
--- The server starts again between a put and a get.
+-- The server restarts between a put and a get.
 abbrev pub restart_between : List Step
 restart_between =
     steps_of 100 (one_put ++ restart ∷ server_times_out 4000 ∷ begin (sample_client 2) (get Lynx) ∷ deliver 4 4001 ∷ deliver 5 0 ∷ [])

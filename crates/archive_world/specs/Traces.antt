@@ -1,5 +1,5 @@
--- Traces: what the server and the clients do, told by themselves. A trace names each datagram that comes, where a run names
--- its place in the network; nothing in it is looked up or tested. It is what a running server or client can tell.
+-- Traces: what the server and the clients do, told by themselves. A trace names each datagram that comes, where a run
+-- names its place in the network; nothing in it is looked up or tested. It is what a running server or client can tell.
 use Rattle.std.specs.Prelude.{◌≡◌, ℕ, ◌+◌, Bool, true, false, ◌==◌, ◌&&◌, List, [], ◌∷◌, ◌++◌, length, Option, None, Some}
 use Rattle.std.specs.Option.{option_map}
 use Rattle.std.specs.Str.{bytes_eq}
@@ -12,12 +12,12 @@ use Rattle.archive_world.specs.World.{Datagram, Event, begin, deliver, client_ti
 pub data Deed : Type 0 where
   -- a client starts
   starts : (client : Endpoint) (operation : Operation) → Deed
-  -- this datagram comes to its target; at the port of requests, with this spare port
+  -- this datagram comes to its target; at the request port, with this spare port
   hears : (datagram : Datagram) (spare : ℕ) → Deed
   -- nothing has come to a client, or to a port of the server
   client_waits_long : (client : Endpoint) → Deed
   server_waits_long : (port : ℕ) → Deed
-  -- the server starts again with the collections that it has kept
+  -- the server restarts with the collections that it has kept
   loads : Deed
 
 -- a deed, and what it was granted, as in a step

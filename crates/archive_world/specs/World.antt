@@ -1,5 +1,5 @@
--- The server, its clients and the network between them, and what each event makes of them. A step of the server is that of
--- archive_table, a step of a client that of archive_client.
+-- The server, its clients and the network between them, and what each event makes of them. A step of the server is that
+-- of archive_table, a step of a client that of archive_client.
 use Rattle.std.specs.Prelude.{◌≡◌, ◌≢◌, ℕ, Bool, true, false, ◌==◌, nat_lt, cond, List, [], ◌∷◌, ◌++◌, map, length, slice_get, Option, None, Some, Result, Ok, Err}
 use Rattle.std.specs.Map.{lookup, set_value}
 use Rattle.tftp_packet.specs.declared.endpoint.Endpoint.{Endpoint}
@@ -65,23 +65,23 @@ pub record World : Type 0 where
   pub got : List Got
   -- the transfers that were opened
   pub opened : List Opening
-  -- the datagrams that came from nowhere
+  -- the strangers' datagrams
   pub strays : List Datagram
 
 -- What may happen next. A loss is a datagram that is never delivered.
 pub data Event : Type 0 where
   -- an operation begins at an endpoint
   begin : (client : Endpoint) (operation : Operation) → Event
-  -- the datagram at this place of the network comes to its target; any may come again, and in any order. If the target is
-  -- the server's port of requests, this spare port is free for a transfer
+  -- the datagram at this place of the network comes to its target; any may come again, and in any order. If the target
+  -- is the server's request port, this spare port is free for a transfer
   deliver : (index spare : ℕ) → Event
   -- nothing has come to a client for a while
   client_times_out : (client : Endpoint) → Event
   -- nothing has come to this port of the server for a while
   server_times_out : (port : ℕ) → Event
-  -- a datagram enters the network from nowhere
+  -- a stranger's datagram enters the network
   stray : (datagram : Datagram) → Event
-  -- the server starts again, with the collections that it has kept
+  -- the server restarts, with the collections that it has kept
   restart : Event
 
 -- an event, and what is not in the hands of the network
@@ -92,7 +92,7 @@ pub record Step : Type 0 where
   -- where a file is taken, the collections after it
   pub maps : Maps
 
--- the server's port of requests
+-- the server's request port
 abbrev pub server_endpoint : Endpoint
 server_endpoint = record { host = 1; port = 6969 }
 
@@ -267,14 +267,14 @@ asked_decoded (Err e) = to_write
 abbrev pub asked_of : (bytes : List ℕ) → Asked
 asked_of bytes = asked_decoded (decode_bytes bytes)
 
--- The port of requests is not spare, nor is a port with a transfer.
+-- The request port is not spare, nor is a port with a transfer.
 abbrev pub request_comes : (used : Bool) → Option Transfer → (spare : ℕ) → Grant → Datagram → World → World
 request_comes true live spare grant d w = w
 request_comes false (Some t) spare grant d w = w
 request_comes false None spare grant d w =
     after_request d.source spare (asked_of d.bytes) (server_request (memory_of grant) spare d.source d.bytes w.server) w
 
--- a datagram comes to the server's host: whether to the port of requests
+-- a datagram comes to the server's host: whether to the request port
 abbrev pub server_hears : (request : Bool) → (spare : ℕ) → Grant → Maps → Datagram → World → World
 server_hears true spare grant maps d w =
     request_comes (spare == w.server.request) (transfer_at spare w.server) spare grant d w
@@ -323,8 +323,8 @@ strays_unless true begun d w = w
 strays_unless false true d w = w
 strays_unless false false d w = strays_in d w
 
--- All transfers are gone. A changed collection was kept before it replaced the old one, so the collections that were kept
--- are those of now.
+-- All transfers are gone. A changed collection was kept before it replaced the old one, so the collections that were
+-- kept are the current ones.
 abbrev pub restarts : World → World
 restarts w =
     record {
@@ -377,12 +377,12 @@ asked_by steps = map (λ (s : Step). (s.event, s.grant)) steps
 
 -- ---- which events may happen
 
--- no transfer is at the port, and it is not the port of requests
+-- no transfer is at the port, and it is not the request port
 pub record IsFree (spare : ℕ) (w : World) : Type 0 where
   pub other : spare ≢ w.server.request
   pub free : transfer_at spare w.server ≡ None
 
--- a datagram was sent, and where it goes to the port of requests, the spare port is free
+-- a datagram was sent, and where it goes to the request port, the spare port is free
 pub record MayDeliver (index spare : ℕ) (w : World) : Type 0 where
   pub datagram : Datagram
   pub is : slice_get w.net index ≡ Some datagram

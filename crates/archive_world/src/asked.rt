@@ -5,6 +5,6 @@ use tws_file::Ruleset;
 pub enum Asked {
     /// To write a file.
     Write,
-    /// To read the collection of these rules.
+    /// To read the collection of this ruleset.
     Read(Ruleset),
 }

@@ -13,12 +13,12 @@ pub enum Event<A: Allocator = Global> {
     Deliver {
         /// Which one, counted from 0 over all that were ever sent.
         index: usize,
-        /// Where it goes to the server's port of requests: the port that is free for a transfer.
+        /// Where it goes to the server's request port: the port that is free for a transfer.
         spare: u16,
     },
     /// Nothing has come to a client for a while.
     ClientTimeout {
-        /// Where the client is.
+        /// The client's endpoint.
         client: Endpoint,
     },
     /// Nothing has come to a port of the server for a while.
@@ -26,8 +26,8 @@ pub enum Event<A: Allocator = Global> {
         /// The port.
         port: u16,
     },
-    /// A datagram enters the network from nowhere.
+    /// A stranger's datagram enters the network.
     Stray(Datagram<A>),
-    /// The server starts again, with the collections that its keeper has.
+    /// The server restarts, with the collections that its keeper has.
     Restart,
 }

@@ -3,7 +3,7 @@
 pub(crate) enum EventFault {
     /// It may not happen.
     Bad,
-    /// A pair of ports would serve two transfers, or two ends have one endpoint.
+    /// A pair of endpoints would serve two transfers, or two ends have one endpoint.
     Reused,
     /// The server cannot load what its keeper has.
     NotLoaded,

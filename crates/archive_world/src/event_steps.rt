@@ -42,8 +42,8 @@ fn is_ours(e: Endpoint) -> bool
 ///
 /// # Errors
 ///
-/// `Bad` where that is on the server's host, or with a file that is too long; `Reused` where an operation or a stranger has
-/// been at its endpoint; out of memory.
+/// `Bad` where that is on the server's host, or with a file that is too long; `Reused` where an operation or a stranger
+/// has been at its endpoint; out of memory.
 pub(crate) fn begin<A: Allocator + Copy>(
     machine: &mut Machine<A>,
     op: &Op<A>,
@@ -135,12 +135,12 @@ pub(crate) fn server_timeout<A: Allocator + Copy>(
     }
 }
 
-/// A datagram comes to the server's port of requests, and this port is spare. Whether a transfer was opened there.
+/// A datagram comes to the server's request port, and this port is spare. Whether a transfer was opened there.
 ///
 /// # Errors
 ///
-/// `Bad` where the spare port is that of requests or has a transfer; `Reused` where a transfer was opened at it, as one was
-/// before for the same peer; out of memory.
+/// `Bad` where the spare port is the request port or has a transfer; `Reused` where a transfer was opened at it, as one
+/// was before for the same peer; out of memory.
 pub(crate) fn request<A: Allocator + Copy>(
     machine: &mut Machine<A>,
     spare: u16,
@@ -173,7 +173,7 @@ pub(crate) fn request<A: Allocator + Copy>(
     }
 }
 
-/// The server starts again. Where the keeper tells its list, and what it kept last is what the server has, the collections
+/// The server restarts. Where the keeper tells its list, and what it kept last is what the server has, the collections
 /// stay as they are.
 ///
 /// # Errors

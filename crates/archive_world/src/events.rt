@@ -26,7 +26,7 @@ fn hear<A: Allocator + Copy>(machine: &mut Machine<A>, d: &Datagram<A>) -> Resul
     }
 }
 
-// The datagram comes to the port of requests.
+// The datagram comes to the request port.
 fn ask<A: Allocator + Copy>(
     machine: &mut Machine<A>,
     spare: u16,
@@ -102,8 +102,8 @@ fn deliver<K: Keeper, A: Allocator + Copy>(
 ///
 /// # Errors
 ///
-/// `Bad` where it may not happen; `Reused` where ports would not be own after it; `NotLoaded` where the server cannot load
-/// its collections; out of memory.
+/// `Bad` where it may not happen; `Reused` where ports would not be own after it; `NotLoaded` where the server cannot
+/// load its collections; out of memory.
 pub(crate) fn happen<K: Keeper, A: Allocator + Copy>(
     machine: &mut Machine<A>,
     keeper: &mut K,

@@ -7,7 +7,7 @@ use tws_file::Bytes;
 #[derive(Drop)]
 #[derive_where(Debug)]
 pub struct GotFile<A: Allocator = Global> {
-    /// Where the client is.
+    /// The client's endpoint.
     pub client: Endpoint,
     /// Its bytes.
     pub file: Bytes<A>,

@@ -13,40 +13,40 @@ ghost use Rattle.archive_world.specs.Traces.{Member, trace_from, trace_steps, Al
 ghost use Rattle.archive_world.specs.Headline.{HasOwnPorts, Headline, FetchesSent, BeganBy, StraysBy};
 
 /// Of every list of begins, deliveries of any datagram ever sent, losses, time-outs, strangers' datagrams and restarts,
-/// whatever memory is refused and whatever is not kept: where no port pair serves two transfers and no stranger has the
-/// endpoint of an operation, a put's file is taken at most once and unchanged, and exactly once if its client counts it as
-/// sent; each collection is the best over the files taken; and a finished get is the collection at a request of its own.
-/// Where a step takes a file, the collections after it are those that the server's contract says.
+/// whatever memory is refused and whatever is not kept: where no pair of endpoints serves two transfers and no stranger
+/// has the endpoint of an operation, a put's file is taken at most once and unchanged, and exactly once if its client
+/// counts it as sent; each collection is the best over the files taken; and a finished get is the collection at a
+/// request of its own. Where a step takes a file, the collections after it are those that the server's contract says.
 pub fn network_law()
     ensures headline { (steps : List Step) → HasOwnPorts (run steps) → AllMerged steps start → Headline (run steps) }
     // What has begun are operations of the events, each with the number of files that were taken before its event.
     ensures began { (steps : List Step) (b : Begun) → Contains (run steps).begun b → BeganBy steps b }
     // The strays are those of the events.
     ensures strays { (steps : List Step) (d : Datagram) → Contains (run steps).strays d → StraysBy steps d }
-    // So a put that was counted as sent before a get began is in what that has fetched.
+    // So a put that was counted as sent before a get began is in what that get has fetched.
     ensures since { (before after : List Step) (s : Step) → HasOwnPorts (run (before ++ s ∷ after)) → AllMerged (before ++ s ∷ after) start → FetchesSent before after s }
     // For all events and grants there are collections that the server's contract says, and the world after them is one.
     ensures total { (asked : List (Event × Grant)) → (steps : List Step) × (asked_by steps ≡ asked) × AllMerged steps start }
     ensures one { (first second : List Step) → asked_by first ≡ asked_by second → AllMerged first start → AllMerged second start → run first ≡ run second }
 {}
 
-/// The server's host and its port of requests as numbers. The definitions name them.
+/// The server's host and its request port as numbers. The definitions name them.
 pub fn server_values()
     ensures host { server_endpoint.host ≡ 1 }
     ensures port { server_endpoint.port ≡ 6969 }
 {}
 
-/// Of every trace, which names the datagrams that come: if each event that it makes may happen, so that each datagram that
-/// it names was sent before or is a stranger's, the run of these events, with what the trace was granted, makes just the
-/// trace's deeds. So the headline holds of every such trace with own ports.
+/// Of every trace, which names the datagrams that come: if each event that it makes may happen, so that each datagram
+/// that it names was sent before or is a stranger's, the run of these events, with what the trace was granted, makes
+/// just the trace's deeds. So the headline holds of every such trace with own ports.
 pub fn trace_law()
     ensures run { (members : List Member) → AllMayHappen (trace_steps members start) start → run (trace_steps members start) ≡ trace_from members start }
     ensures headline { (members : List Member) → AllMayHappen (trace_steps members start) start → HasOwnPorts (trace_from members start) → AllDeedsMerged members start → Headline (trace_from members start) }
 {}
 
-/// Some runs, so that nobody has to take it on trust that a run does something: a request that comes twice, a last ACK that
-/// is late three times, a put that crosses a get, a put that nobody answers, a stranger, a restart, a file of no bytes, a
-/// get of nothing, strays that may not happen.
+/// Some runs, so that nobody has to take it on trust that a run does something: a request that comes twice, a last ACK
+/// that is late three times, a put that crosses a get, a put that nobody answers, a stranger, a restart, a file of no
+/// bytes, a get of nothing, strays that may not happen.
 pub fn sample_runs()
     ensures twice { summary_of (run request_twice) ≡ one_put_summary 6 (sample_opening 1 4000 to_write 0 ∷ sample_opening 1 4001 to_write 0 ∷ []) }
     ensures late { summary_of (run late_ack) ≡ one_put_summary 10 (sample_opening 1 4000 to_write 0 ∷ []) }
@@ -77,11 +77,11 @@ pub fn own_ports()
     ensures before { (w : World) (s : Step) → HasOwnPorts (happens s w) → HasOwnPorts w }
 {}
 
-/// What a keeper has is, after each step, what the server has, and what a table loads from it is that: so a restart leaves
-/// the collections as they are. A keeper that holds nothing has the empty collections; each step of the server keeps what
-/// it changes; a load gives what was kept last. So over every run whose steps keep as the server's contract says, what is
-/// loaded at a restart is what the world has after it, and where nothing is loaded the keeper has failed or memory has run
-/// out.
+/// What a keeper has is, after each step, what the server has, and what a table loads from it is that: so a restart
+/// leaves the collections as they are. A keeper that holds nothing has the empty collections; each step of the server
+/// keeps what it changes; a load gives what was kept last. So over every run whose steps keep as the server's contract
+/// says, what is loaded at a restart is what the world has after it, and where nothing is loaded the keeper has failed
+/// or memory has run out.
 pub fn restart_law()
     ensures start { HasKept [] empty_maps }
     ensures step { (grant : Grant) (wanted : Option Taken) (old new : Maps) (before after : List Keeping) → StepStaysKept grant wanted old new before after }

@@ -130,7 +130,7 @@ impl<A: Allocator + Copy> Machine<A> {
         self.tell(step)
     }
 
-    /// A datagram enters the network from nowhere.
+    /// A stranger's datagram enters the network.
     ///
     /// # Errors
     ///
@@ -145,7 +145,7 @@ impl<A: Allocator + Copy> Machine<A> {
         Ok(())
     }
 
-    /// A datagram comes to another port of the server than that of requests.
+    /// A datagram comes to a port of the server other than the request port.
     ///
     /// # Errors
     ///
@@ -163,7 +163,7 @@ impl<A: Allocator + Copy> Machine<A> {
         self.tell(step)
     }
 
-    /// The server starts again with what the keeper has.
+    /// The server restarts with what the keeper has.
     ///
     /// # Errors
     ///
@@ -300,7 +300,7 @@ impl<A: Allocator + Copy> Machine<A> {
         is_opened(self.opened.as_slice(), peer, port)
     }
 
-    /// A datagram comes to the port of requests, and this port is spare. Whether a transfer was opened there.
+    /// A datagram comes to the request port, and this port is spare. Whether a transfer was opened there.
     ///
     /// # Errors
     ///
@@ -388,7 +388,7 @@ fn asked_by(bytes: &[u8]) -> Asked
     }
 }
 
-// Whether this is the name of the collection of these rules.
+// Whether this is the name of the collection of this ruleset.
 fn is_name(name: &[u8], kind: Ruleset) -> bool
     ensures { result ≡ bytes_eq name.now (file_name_of kind) }
 {

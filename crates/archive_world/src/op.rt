@@ -6,7 +6,7 @@ use tftp_packet::Endpoint;
 #[derive(Drop)]
 #[derive_where(Debug)]
 pub struct Op<A: Allocator = Global> {
-    /// Where the client is.
+    /// The client's endpoint.
     pub client: Endpoint,
     /// What it is to do.
     pub kind: OpKind<A>,

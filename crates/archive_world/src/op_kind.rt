@@ -10,7 +10,7 @@ use tws_file::{Bytes, Ruleset};
 pub enum OpKind<A: Allocator = Global> {
     /// Sends this file.
     Put(Bytes<A>),
-    /// Fetches the collection of these rules.
+    /// Fetches the collection of this ruleset.
     Get(Ruleset),
 }
 

@@ -1,6 +1,6 @@
 use tftp_packet::Endpoint;
 
-/// The server's port of requests.
+/// The server's request port.
 pub const SERVER: Endpoint = Endpoint {
     host: 1,
     port: 6969,

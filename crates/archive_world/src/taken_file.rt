@@ -7,7 +7,7 @@ use tws_file::Bytes;
 #[derive(Drop)]
 #[derive_where(Debug)]
 pub struct TakenFile<A: Allocator = Global> {
-    /// Whom it came from.
+    /// The endpoint that it came from.
     pub peer: Endpoint,
     /// Its bytes.
     pub file: Bytes<A>,

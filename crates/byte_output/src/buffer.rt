@@ -41,7 +41,7 @@ impl<const N: usize> Buffer<N> {
         self.bytes.as_slice()
     }
 
-    /// Adds bytes at the end.
+    /// Adds bytes at the end. There must be room for them: N bytes in all.
     pub fn push(&mut self, bytes: &[u8])
         requires { length self.old + length bytes.now ≤ N }
         ensures { self.new ≡ self.old ++ bytes.now }

@@ -109,7 +109,7 @@ pub(crate) fn has_text(alloc: Global, collection: &Collection, wanted: &[u8]) ->
     collection.write_text(&mut text).is_ok() && text.as_slice() == wanted
 }
 
-// Whether the files, merged one after the other into a collection of these rules, give this text.
+// Whether the files, merged one after the other into a collection of this ruleset, give this text.
 fn are_merged_to(
     alloc: Global,
     rules: Ruleset,

@@ -1,4 +1,4 @@
-// A wire in memory: each growth of what has come, and of its log, refused in turn.
+// A wire in memory: each allocation for what has come, and for its log, refused in turn.
 use archive_turns::{MemoryWire, RECEIVE_SIZE, Wire, WireFault};
 use refusing::{Outcome, Refusing, refuse_each};
 use std::alloc::{Allocator, Global};

@@ -1,4 +1,4 @@
-// A replay of a put, each growth refused in turn.
+// A replay of a put, each allocation refused in turn.
 use archive_table::MemoryKeeper;
 use archive_world::{
     Datagram, Event, Op, OpKind, Opening, Outcome as Left, SERVER, WorldFault, replay,
@@ -131,7 +131,8 @@ fn request(global: Global, refusing: &Refusing<Global>, unopened: &Cell<bool>) -
     Outcome::of(has_nothing(&left) && is_sent && were_opened(left.opened.as_slice(), &[4000]))
 }
 
-// A request and its answer: the replay is out of memory, or the request is refused, or all is as it is with ample memory.
+// A request and its answer: the replay is out of memory, or the request is refused, or all is as it is with ample
+// memory.
 #[test]
 fn a_request_in_a_replay(rt: HostRuntime) -> Result<(), Fail> {
     let global = rt.alloc();
@@ -185,8 +186,8 @@ fn request_twice(global: Global, refusing: &Refusing<Global>, unopened: &Cell<bo
     Outcome::of(has_file(&left) && is_opened && is_sent)
 }
 
-// A request that is refused is answered, and sends no block to a second transfer: a later event is then on a datagram that
-// was not sent.
+// A request that is refused is answered, and sends no block to a second transfer: a later event is then on a datagram
+// that was not sent.
 #[test]
 fn a_request_that_comes_twice_in_a_replay(rt: HostRuntime) -> Result<(), Fail> {
     let global = rt.alloc();
@@ -232,7 +233,7 @@ fn keeps_file<A: Allocator + Copy>(keeper: &MemoryKeeper<A>) -> bool {
     one.ruleset == Ruleset::Lynx && one.text.as_slice() == FILE.as_slice() && one.ok
 }
 
-// What was refused in any run, beside the growths of the replay itself.
+// What was refused in any run, beside the allocations of the replay itself.
 #[derive(Drop)]
 struct Seen {
     request: Cell<bool>,
@@ -248,7 +249,7 @@ fn was_refused_a_keep<A: Allocator>(left: &Left<A>) -> bool {
     }
 }
 
-// The keeper's growths are refused too.
+// The keeper's allocations are refused too.
 fn put_and_restart(refusing: &Refusing<Global>, seen: &Seen) -> Outcome {
     let Ok(mut events) = put_events(refusing, &WHOLE) else {
         return Outcome::OutOfMemory;

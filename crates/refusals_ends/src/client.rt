@@ -1,4 +1,4 @@
-// A collection is fetched and a file is sent, each growth refused in turn.
+// A collection is fetched and a file is sent, each allocation refused in turn.
 use archive_client::{Cause, Get, Put, State};
 use refusing::{Outcome, Refusing, refuse_each};
 use std::alloc::{Allocator, Global};

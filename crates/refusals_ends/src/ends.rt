@@ -1,4 +1,4 @@
-// A transfer is received and copied, each growth refused in turn.
+// A transfer is received and copied, each allocation refused in turn.
 ghost use Rattle.std.specs.Prelude.{◌≤◌, length};
 
 use refusing::{Outcome, Refusing, refuse_each};

@@ -1,4 +1,5 @@
-// The server's table: a request, the block that completes a file, a keeper, and a start, each growth refused in turn.
+// The server's table: a request, the block that completes a file, a keeper, and a start, each allocation refused in
+// turn.
 use archive_table::{KeepFault, Keeper, LoadFault, MemoryKeeper, NoKeeper, Step, Table};
 use refusing::{Outcome, Refusing, refuse_each};
 use std::alloc::{Allocator, Global};
@@ -134,8 +135,8 @@ fn is_let_go<A: Allocator + Copy>(table: &Table<A>, step: &Step<A>) -> bool {
         && table.collection(Ruleset::Lynx).is_empty()
 }
 
-// Gives an open transfer the block that completes its file. Whether it is taken and acknowledged; an outcome, where it is
-// not.
+// Gives an open transfer the block that completes its file. Whether it is taken and acknowledged; an outcome, where it
+// is not.
 fn give_file<A: Allocator + Copy>(table: &mut Table<A>) -> Result<(), Outcome> {
     let step = table.on_datagram(&mut NoKeeper, 4000, FIRST, FILE_DATA);
     if step.taken.is_none() {
@@ -313,8 +314,8 @@ fn keep_one(global: Global, refusing: &Refusing<Global>, not_kept: &Cell<u64>) -
     }
 }
 
-// The block that completes a file, where the keeper takes its memory from the same place: the file is taken and kept, or
-// neither. What a server finds that starts again is what was taken.
+// The block that completes a file, where the keeper takes its memory from the same place: the file is taken and kept,
+// or neither. What a server finds that restarts is what was taken.
 #[test]
 fn the_last_block_kept(rt: HostRuntime) -> Result<(), Fail> {
     let global = rt.alloc();

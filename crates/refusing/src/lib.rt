@@ -54,7 +54,7 @@ impl<B: Allocator> Refusing<B> {
     }
 
     /// Whether the request number `nth` came, and so was refused.
-    // That it is true once that request came no clause can say.
+    // No clause can say that it is true once that request came.
     pub fn has_refused(&self) -> bool
         ensures { IsTrue result → 1 ≤ self.now.nth }
     {

@@ -26,7 +26,7 @@ fn a_delivery_of_what_was_not_sent(rt: HostRuntime) -> Result<(), Fail> {
     Ok(())
 }
 
-// The port of requests is never spare, nor is a port with a transfer.
+// The request port is never spare, nor is a port with a transfer.
 #[test]
 fn a_spare_port_that_is_not_free(rt: HostRuntime) -> Result<(), Fail> {
     let acts = [Act::Put(C1, HUNDRED), Act::Ask(0, 4000), Act::Ask(0, 4000)];

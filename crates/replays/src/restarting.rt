@@ -1,4 +1,4 @@
-// A server that starts again, and a keeper that fails.
+// A server that restarts, and a keeper that fails.
 use crate::cast::{
     ACK_0, ACK_1, C1, C2, DATA_HUNDRED, EMPTY_MS, HUNDRED, NO_SOLUTION_FILE, NOT_KEPT, RRQ_LYNX,
     WRQ, at,
@@ -177,7 +177,7 @@ fn a_restart_that_fails(rt: HostRuntime) -> Result<(), Fail> {
     Ok(())
 }
 
-// What a keeper has that is no file of these rules is not loaded.
+// What a keeper has that is no file of this ruleset is not loaded.
 #[test]
 fn a_restart_with_bytes_that_are_no_collection(rt: HostRuntime) -> Result<(), Fail> {
     let alloc = rt.alloc();

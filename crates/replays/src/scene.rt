@@ -16,7 +16,7 @@ pub(crate) enum Act<'a> {
     Get(Endpoint, Ruleset),
     // The datagram at this place comes to a client or to a transfer.
     Deliver(usize),
-    // The datagram at this place comes to the port of requests, where this port is spare.
+    // The datagram at this place comes to the request port, where this port is spare.
     Ask(usize, u16),
     ClientWaits(Endpoint),
     PortWaits(u16),
@@ -114,7 +114,8 @@ pub(crate) const NOTHING: Wanted<'static> = Wanted {
     given: &[],
 };
 
-// What a put by the first client leaves, beside its datagrams: of the file of 100 ticks, with its transfer at port 4000.
+// What a put by the first client leaves, beside its datagrams: of the file of 100 ticks, with its transfer at port
+// 4000.
 pub(crate) const ONE_PUT: Wanted<'static> = Wanted {
     taken: &[(C1, HUNDRED)],
     sent: &[C1],

@@ -1,4 +1,4 @@
-// Datagrams that enter the network from nowhere.
+// Strangers' datagrams.
 use crate::cast::{
     ACK_0, ACK_1, C1, DATA_HUNDRED, DATA_NINETY, HUNDRED, NINETY, STRANGER, UNKNOWN, WRQ, at,
 };
@@ -9,8 +9,8 @@ use tws_file::Ruleset;
 
 const PUT: Asked = Asked::Write;
 
-// A stranger's ACK to another one's transfer has no effect there. A transfer of its own is served, and its file counts in
-// the collection, beside that of the put, which goes on.
+// A stranger's ACK to another one's transfer has no effect there. A transfer of its own is served, and its file counts
+// in the collection, beside that of the put, which goes on.
 #[test]
 fn a_stranger_beside_a_put(rt: HostRuntime) -> Result<(), Fail> {
     let acts = [

@@ -9,8 +9,8 @@ ghost use Rattle.tftp_ends.specs.Pair.{Event, pair_run, HasFirstBlocks, Finishes
 use crate::chunks::CHUNK_SIZE;
 use crate::limits::{DALLY, MAX_BLOCKS, MAX_FILE, MISSES};
 
-/// Of a sender of any file and a new receiver, after any list of deliveries, each of any DATA or ACK that was ever sent,
-/// of time-outs, of growths refused and of requests for the file.
+/// Of a sender of any file and a new receiver, after any list of deliveries, each of any DATA or ACK that was ever
+/// sent, of time-outs, of allocations refused and of requests for the file.
 pub fn one_pair()
     // As long as the file was not taken out, the receiver's bytes are the blocks that it counts, joined.
     ensures blocks { (file : List ℕ) (events : List Event) → HasFirstBlocks file (pair_run file events) }

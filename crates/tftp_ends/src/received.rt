@@ -13,8 +13,8 @@ use std::io::Write;
 use std::marker::Model;
 use tftp_packet::{BLOCK_SIZE, Blocks};
 
-/// A file that was received, seen as the list of its bytes. They lie in chunks of `CHUNK_SIZE` bytes, the last of 1 to as
-/// many; an empty file has no chunk. It can be sent in blocks again.
+/// A file that was received, seen as the list of its bytes. They lie in chunks of `CHUNK_SIZE` bytes, the last of 1 to
+/// as many; an empty file has no chunk. It can be sent in blocks again.
 #[derive(Drop)]
 #[derive_where(Debug)]
 pub struct Received<A: Allocator = Global> {
@@ -68,7 +68,8 @@ impl<A: Allocator> Received<A> {
         self.chunks.chunk_count()
     }
 
-    /// Lends chunk `i`, counted from 0: the bytes from `CHUNK_SIZE * i` up to `CHUNK_SIZE * (i + 1)` or the end.
+    /// Lends chunk `i`, counted from 0 and below `chunk_count`: the bytes from `CHUNK_SIZE * i` up to
+    /// `CHUNK_SIZE * (i + 1)` or the end.
     pub fn chunk(&self, i: usize) -> &[u8]
         requires { i < chunk_count self.now }
         ensures { result.now ≡ chunk_of self.now i }
@@ -95,8 +96,8 @@ impl<A: Allocator> Received<A> {
     ///
     /// # Errors
     ///
-    /// `Io` where the writer answers an error, or takes none of the bytes that are left. A proper prefix of the bytes was
-    /// written.
+    /// `Io` where the writer answers an error, or takes none of the bytes that are left. A proper prefix of the bytes
+    /// was written.
     pub fn write_to<W: Write>(&self, out: &mut W) -> Result<(), OutFault>
         ensures ok { OnOk result (Appends (W.contents out.old) (W.contents out.new) self.now) }
         ensures err { OnErr result (AppendsPrefix (W.contents out.old) (W.contents out.new) self.now) }

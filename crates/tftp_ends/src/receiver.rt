@@ -13,7 +13,8 @@ use tftp_packet::{BLOCK_SIZE, Dgram, encode_ack};
 
 /// The end of a transfer that receives a file.
 ///
-/// It acknowledges each block, RFC 1350 section 2, and waits after the last one, section 6. Only `on_data` takes memory.
+/// It acknowledges each block, RFC 1350 section 2, and waits after the last one, section 6. Only `on_data` takes
+/// memory.
 #[derive(Drop)]
 #[derive_where(Debug)]
 pub struct Receiver<A: Allocator + Copy = Global> {
@@ -52,15 +53,15 @@ impl<A: Allocator + Copy> Receiver<A> {
         }
     }
 
-    /// Block `n` with this body has come.
+    /// Block `n` with this body, of at most `BLOCK_SIZE` bytes, has come.
     ///
-    /// The next block is taken and acknowledged; one of fewer than `BLOCK_SIZE` bytes ends the file. The last block that came
-    /// is acknowledged again, also after the end. Any other changes nothing and sends nothing.
+    /// The next block is taken and acknowledged; one of fewer than `BLOCK_SIZE` bytes ends the file. The last block
+    /// that came is acknowledged again, also after the end. Any other changes nothing and sends nothing.
     ///
     /// # Errors
     ///
-    /// `Memory` where a growth was refused, and `TooLong` where the file goes on after block `MAX_BLOCKS`. The receiver
-    /// is then as it was before, so the same block may be given again.
+    /// `Memory` where an allocation was refused, and `TooLong` where the file goes on after block `MAX_BLOCKS`. The
+    /// receiver is then as it was before, so the same block may be given again.
     pub fn on_data(&mut self, n: u16, body: &[u8]) -> Result<Option<Dgram>, RecvFault>
         requires { length body.now ≤ BLOCK_SIZE }
         ensures receiver { self.new ≡ (receiver_data (verdict_of result) n body.now self.old).receiver }
@@ -128,9 +129,9 @@ impl<A: Allocator + Copy> Receiver<A> {
         Ok(Some(encode_ack(n)))
     }
 
-    /// Nothing has come for a while. While blocks are missing, the last ACK is sent again, ACK 0 before the first block;
-    /// time-out number `MISSES` in a row sends nothing and ends the transfer. After the last block nothing is sent, and
-    /// the receiver is over at time-out number `DALLY`. After either end nothing changes any more.
+    /// Nothing has come for a while. While blocks are missing, the last ACK is sent again, ACK 0 before the first
+    /// block; time-out number `MISSES` in a row sends nothing and ends the transfer. After the last block nothing is
+    /// sent, and the receiver is over at time-out number `DALLY`. After either end nothing changes any more.
     pub fn on_timeout(&mut self) -> Option<Dgram>
         ensures receiver { self.new ≡ (receiver_timeout self.old).receiver }
         ensures sent { result ≡ dgram_of (receiver_timeout self.old).out }
@@ -174,8 +175,8 @@ impl<A: Allocator + Copy> Receiver<A> {
         }
     }
 
-    /// The file, once: where all of it has come and it was not taken out before. Nothing else changes, so the last block
-    /// is still acknowledged where it comes again.
+    /// The file, once: where all of it has come and it was not taken out before. Nothing else changes, so the last
+    /// block is still acknowledged where it comes again.
     pub fn take_file(&mut self) -> Option<Received<A>>
         ensures receiver { self.new ≡ (receiver_take self.old).receiver }
         ensures file { result ≡ (receiver_take self.old).file }

@@ -9,7 +9,7 @@ use std::alloc::AllocError;
 pub struct Out {
     /// The port of our own host that it goes out from.
     pub from_port: u16,
-    /// Whom it goes to.
+    /// The endpoint that it goes to.
     pub to: Endpoint,
     /// Its bytes.
     pub dgram: Dgram,

@@ -9,7 +9,7 @@ use crate::encoding::encode_error;
 /// them take them from here.
 #[derive(Clone, Copy, Debug, PartialEq, Eq)]
 pub enum Refusal {
-    /// A request in another mode than octet.
+    /// A request in a mode other than octet.
     OctetOnly,
     /// A request to read a file that is not offered.
     NoSuchFile,
@@ -28,8 +28,8 @@ pub enum Refusal {
 }
 
 impl Refusal {
-    /// The error code of RFC 1350 section 5: 0 not defined, 1 file not found, 3 disk full or allocation exceeded, 5 unknown
-    /// transfer ID.
+    /// The error code of RFC 1350 section 5: 0 not defined, 1 file not found, 3 disk full or allocation exceeded, 5
+    /// unknown transfer ID.
     pub fn code(self) -> u16
         ensures { result ≡ refusal_code self }
     {

@@ -1,4 +1,4 @@
--- A file of other rules has nothing for a collection.
+-- A file of the other ruleset has nothing for a collection.
 use Rattle.std.proofs.Common.{◌≡◌, true, List, [], ◌++◌, refl, ap, sym, ◌∙◌, subst, not, append-nil}
 use Rattle.std.specs.List.{Contains}
 use denote.Enum.Bare.{sameb}

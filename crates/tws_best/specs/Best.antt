@@ -42,18 +42,18 @@ solved_in (set rest ∷ rs) = solved_in rs
 solved_in (bare key ∷ rs) = solved_in rs
 solved_in (solution s ∷ rs) = entry_of s ∷ solved_in rs
 
--- the solutions of a file, if it is of these rules
+-- the solutions of a file, if it is of this ruleset
 abbrev pub solved_by : Ruleset → Ruleset → List Record → List Entry
 solved_by Lynx Lynx rs = solved_in rs
 solved_by Lynx Ms rs = []
 solved_by Ms Lynx rs = []
 solved_by Ms Ms rs = solved_in rs
 
--- the solutions of all files of these rules
+-- the solutions of all files of this ruleset
 abbrev pub solutions_of : Ruleset → List File → List Entry
 solutions_of kind files = flat_map (λ (file : File). solved_by kind file.ruleset file.records) files
 
--- a solution of these rules in a file that has its text among these. Bytes that are no file's text have no solutions.
+-- a solution of this ruleset in a file that has its text among these. Bytes that are no file's text have no solutions.
 pub record IsSolutionIn (kind : Ruleset) (texts : List (List ℕ)) (e : Entry) : Type 0 where
   pub text : List ℕ
   pub among : Contains texts text
@@ -83,7 +83,8 @@ pub record HasKey (entries : List Entry) (key : Key) : Type 0 where
   pub present : Contains entries entry
   pub key_is : entry.key ≡ key
 
--- a finite map, as its entries in the order of their keys: it has the keys that the set has, and at each key a best solution
+-- a finite map, as its entries in the order of their keys: it has the keys that the set has, and at each key a best
+-- solution
 pub record IsBestOf (IsMember : Entry → Type 0) (entries : List Entry) : Type 0 where
   pub rising : IsRising entries
   pub best : (e : Entry) → Contains entries e → IsBest IsMember e
@@ -114,11 +115,12 @@ entry_text e = body_text e.body
 abbrev pub collection_header : Ruleset → List ℕ
 collection_header kind = header_text kind (0 ∷ 0 ∷ []) []
 
--- a header without further bytes, and a record for each solution, by rising number and then by the bytes of the password
+-- a header without further bytes, and a record for each solution, by rising number and then by the bytes of the
+-- password
 abbrev pub collection_text : Collected → List ℕ
 collection_text c = collection_header c.ruleset ++ flat_map entry_text c.entries
 
--- the collection over all files of these rules that have their text among these
+-- the collection over all files of this ruleset that have their text among these
 pub record IsCollectionOf (kind : Ruleset) (texts : List (List ℕ)) (c : Collected) : Type 0 where
   pub kind_is : c.ruleset ≡ kind
   pub best : IsBestOf (IsSolutionIn kind texts) c.entries

@@ -65,7 +65,7 @@ impl<A: Allocator + Copy> Collection<A> {
     }
 
     /// Adds the solutions of a file: what was best so far and what the file has are compared, and the best of both are
-    /// kept. Whether anything changed. A file of other rules changes nothing, and takes no memory.
+    /// kept. Whether anything changed. A file of the other ruleset changes nothing, and takes no memory.
     ///
     /// # Errors
     ///
@@ -106,7 +106,8 @@ impl<A: Allocator + Copy> Collection<A> {
 }
 
 impl<A: Allocator + Copy> Collection<A> {
-    /// The text as it is now, whatever is merged later. The bodies are shared, not copied.
+    /// The text as it is now, whatever is merged later. It must have fewer than 2^64 bytes. The bodies are shared, not
+    /// copied.
     ///
     /// # Errors
     ///

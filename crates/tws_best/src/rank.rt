@@ -28,7 +28,7 @@ impl<'a> Model for Rank<'a> {
 }
 
 impl<'a> Rank<'a> {
-    /// The rank of a solution with this body, the bytes after the size of its record.
+    /// The rank of a solution with this body, the bytes after the size of its record, of which there are at least 16.
     pub fn of(body: &'a [u8]) -> Self
         requires { 16 ≤ length body.now }
         ensures { result ≡ rank_of body.now }

@@ -78,7 +78,8 @@ impl<A: Allocator> Snapshot<A> {
         self.bodies.len()
     }
 
-    /// The offset in the text of the size field of record `i`. Records are counted from 0.
+    /// The offset in the text of the size field of record `i`, which is below `record_count`. Records are counted from
+    /// 0.
     pub fn start(&self, i: usize) -> u64
         requires { i < length self.now.bodies }
         ensures { result ≡ record_start self.now i }
@@ -86,7 +87,8 @@ impl<A: Allocator> Snapshot<A> {
         self.starts[i]
     }
 
-    /// The body of record `i`, the bytes after its size field. Records are counted from 0.
+    /// The body of record `i`, the bytes after its size field. Records are counted from 0, and `i` is below
+    /// `record_count`.
     pub fn body(&self, i: usize) -> &[u8]
         requires { i < length self.now.bodies }
         ensures { result.now ≡ slice_index_or self.now.bodies i [] }

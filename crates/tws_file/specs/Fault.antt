@@ -14,7 +14,7 @@ pub record IsSigned (bytes : List ℕ) : Type 0 where
   pub long : 8 ≤ length bytes
   pub signed : take 4 bytes ≡ signature
 
--- no set of rules has this code
+-- no ruleset has this code
 abbrev pub IsUnknownRuleset : ℕ → Type 0
 IsUnknownRuleset code = (code ≢ 1) × (code ≢ 2)
 

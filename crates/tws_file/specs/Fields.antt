@@ -10,7 +10,7 @@ use Rattle.tws_file.specs.declared.«ruleset».Ruleset.TheVariants.{Lynx, Ms}
 abbrev pub signature : List ℕ
 signature = 0x35 ∷ 0x33 ∷ 0x9B ∷ 0x99 ∷ []
 
--- the byte of a set of rules
+-- the byte of a ruleset
 abbrev pub ruleset_code : Ruleset → ℕ
 ruleset_code Lynx = 1
 ruleset_code Ms = 2

@@ -15,7 +15,7 @@ pub enum FileFault {
     /// The file does not begin with the signature `35 33 9B 99`.
     #[error("BadSignature")]
     BadSignature,
-    /// Byte 4 names no set of rules. That byte.
+    /// Byte 4 names no ruleset. The value is that byte.
     #[error("BadRuleset({0})")]
     BadRuleset(u8),
     /// The file ends in a record. The offset of the record's size field.

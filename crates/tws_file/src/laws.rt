@@ -1,4 +1,5 @@
-//! What holds of every file's text and of every fault, whoever reads. These functions do nothing: each contract is a theorem.
+//! What holds of every file's text and of every fault, whoever reads. These functions do nothing: each contract is a
+//! theorem.
 
 ghost use Rattle.std.specs.Prelude.{◌≡◌, ◌⊎◌, ◌≤◌, ℕ, List, length};
 ghost use Rattle.byte_output.specs.Bytes.{IsBytes};
@@ -31,7 +32,7 @@ pub fn text_without_fault()
     ensures { (bytes : List ℕ) (f : File) (e : fault.FileFault) → IsText bytes f → HasFault bytes e → ⊥ }
 {}
 
-/// No two sets of rules have one file's name.
+/// No two rulesets have the same file name.
 pub fn one_file_name()
     ensures { (a b : Rules) → file_name_of a ≡ file_name_of b → a ≡ b }
 {}

@@ -1,8 +1,8 @@
 //! Tile World solution files (TWS): what a file is, which fault bytes have, and the listing of a file.
 //!
-//! Read `specs/Text.antt` first: it defines which values have a text, and which text. `specs/Fault.antt` defines the fault
-//! of bytes that are no file's text, `specs/Reader.antt` what a reader in pieces has taken. `specs/Steps.antt` has words of
-//! private functions alone.
+//! Read `specs/Text.antt` first: it defines which values have a text, and which text. `specs/Fault.antt` defines the
+//! fault of bytes that are no file's text, `specs/Reader.antt` what a reader in pieces has taken. `specs/Steps.antt`
+//! has definitions for private functions alone.
 //!
 //! How it is called, by a crate that lists `tws_file`; this needs no proof file:
 //!

@@ -138,7 +138,7 @@ fn show_parts<A: Allocator + Copy, B: Allocator, W: Write>(
 ///
 /// # Errors
 ///
-/// `Io` where the writer fails, `Memory` where a growth was refused. A proper prefix of the listing
+/// `Io` where the writer fails, `Memory` where an allocation was refused. A proper prefix of the listing
 /// was written.
 pub fn show<A: Allocator + Copy, B: Allocator, W: Write>(
     alloc: A,

@@ -79,7 +79,7 @@ fn pack_records<A: Allocator + Copy, B: Allocator>(
 ///
 /// # Errors
 ///
-/// Where a growth was refused.
+/// Where an allocation was refused.
 pub fn pack<A: Allocator + Copy, B: Allocator>(
     alloc: A,
     file: &TwsFile<B>,

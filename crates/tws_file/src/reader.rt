@@ -145,8 +145,8 @@ fn take_back<A: Allocator>(so_far: &mut Option<TwsFile<A>>, count: Option<usize>
     }
 }
 
-// Reads what is whole of the bytes that were kept and a piece, and keeps the rest of them. Where none were kept the piece
-// is read where it lies. On error nothing has changed.
+// Reads what is whole of the bytes that were kept and a piece, and keeps the rest of them. Where none were kept the
+// piece is read where it lies. On error nothing has changed.
 fn read_piece<A: Allocator + Copy>(
     alloc: A,
     so_far: &mut Option<TwsFile<A>>,
@@ -274,7 +274,7 @@ impl<A: Allocator + Copy> Reader<A> {
 ///
 /// # Errors
 ///
-/// The fault of the bytes, or `Memory` where a growth was refused.
+/// The fault of the bytes, or `Memory` where an allocation was refused.
 pub fn read_file<A: Allocator + Copy>(alloc: A, bytes: &[u8]) -> Result<TwsFile<A>, FileFault>
     // What is read is the file whose text the bytes are.
     ensures read { IfOk result (λ file. IsText bytes.now file) }

@@ -36,7 +36,7 @@ impl Ruleset {
         }
     }
 
-    /// The name by which the collection of these rules is fetched and kept, in ASCII.
+    /// The name by which the collection of this ruleset is fetched and kept, in ASCII.
     pub fn file_name(self) -> &'static [u8]
         ensures { result.now ≡ file_name_of self }
     {

@@ -66,7 +66,7 @@ impl<A: Allocator> Solution<A> {
     ///
     /// # Errors
     ///
-    /// Where a growth was refused.
+    /// Where an allocation was refused.
     pub fn body<B: Allocator>(&self, alloc: B) -> Result<Vec<u8, B>, AllocError>
         ensures { IfOk result (λ body. body.items ≡ body_of (solution self.now)) }
     {

@@ -86,7 +86,8 @@ fn count_next(bytes: &[u8]) -> Option<(u64, &[u8])>
     }
 }
 
-/// How many moves the bytes spell, which are at most 4,294,967,295. It agrees with `read_moves`, and takes no memory.
+/// How many moves the bytes spell. There are at most 4,294,967,295 bytes. It agrees with `read_moves`, and takes no
+/// memory.
 ///
 /// # Errors
 ///

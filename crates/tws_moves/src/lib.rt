@@ -1,8 +1,8 @@
 //! The moves of a Tile World solution, and how bytes spell them.
 //!
 //! Read `specs/Spelling.antt` first: it defines what bytes spell (`Spells`). `specs/Shortest.antt` defines which
-//! spellings are the shortest and which moves have none, `specs/Move.antt` moves and their ticks. `specs/Steps.antt` has
-//! words of private functions alone.
+//! spellings are the shortest and which moves have none, `specs/Move.antt` moves and their ticks. `specs/Steps.antt`
+//! has definitions for private functions alone.
 //!
 //! How it is called, by a crate that lists `tws_moves`; this needs no proof file:
 //!

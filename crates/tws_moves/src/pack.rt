@@ -74,8 +74,8 @@ fn pack_short<A: Allocator>(
     Ok(Pending::None)
 }
 
-// Adds the moves of a piece in any layout, which the bytes begin with. Apart from the loop over all pieces, most of which
-// are steps in one byte: the loop is faster so.
+// Adds the moves of a piece in any layout, which the bytes begin with. Apart from the loop over all pieces, most of
+// which are steps in one byte: the loop is faster so.
 #[inline(never)]
 fn pack_any<A: Allocator>(
     packed: &mut Vec<u8, A>,
@@ -114,11 +114,11 @@ fn pack_piece<A: Allocator>(
 }
 
 /// The shortest bytes that spell the same moves as these. They are those that `write_moves` gives for the moves that
-/// `read_moves` gives, without a list of the moves. The bytes are at most 4,294,967,295.
+/// `read_moves` gives, without a list of the moves. There are at most 4,294,967,295 bytes.
 ///
 /// # Errors
 ///
-/// `Cut` where the bytes end inside a move, or `Memory` where a growth was refused.
+/// `Cut` where the bytes end inside a move, or `Memory` where an allocation was refused.
 #[inline(never)]
 pub fn pack_moves<A: Allocator>(alloc: A, bytes: &[u8]) -> Result<Vec<u8, A>, MovesFault>
     requires { length bytes.now < 2 ^ 32 }

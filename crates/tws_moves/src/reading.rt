@@ -87,11 +87,11 @@ pub(crate) fn cut_before(bytes: &[u8], rest: &[u8]) -> MovesFault
     MovesFault::Cut { at }
 }
 
-/// The moves that the bytes spell. The bytes are at most 4,294,967,295.
+/// The moves that the bytes spell. There are at most 4,294,967,295 bytes.
 ///
 /// # Errors
 ///
-/// `Cut` where the bytes end inside a move, or `Memory` where a growth was refused.
+/// `Cut` where the bytes end inside a move, or `Memory` where an allocation was refused.
 pub fn read_moves<A: Allocator>(alloc: A, bytes: &[u8]) -> Result<Vec<Move, A>, MovesFault>
     requires { length bytes.now < 2 ^ 32 }
     ensures read { IfOk result (λ moves. Spells bytes.now moves.items) }

@@ -11,15 +11,15 @@ use crate::piece::Piece;
 use crate::spell_fault::SpellFault;
 use std::alloc::Allocator;
 
-/// The shortest bytes that spell the moves.
+/// The shortest bytes that spell the moves, which must be at rising ticks (`is_timed`).
 ///
 /// From the left: where the next three moves are steps 0 to 3 that wait three ticks each, they are one byte; else the
 /// next move is alone in its piece, in the shortest layout that holds it.
 ///
 /// # Errors
 ///
-/// `TooLate` where no bytes spell the moves, with the first move whose wait no layout holds; or `Memory` where a growth
-/// was refused.
+/// `TooLate` where no bytes spell the moves, with the first move whose wait no layout holds; or `Memory` where an
+/// allocation was refused.
 pub fn write_moves<A: Allocator>(alloc: A, moves: &[Move]) -> Result<Vec<u8, A>, SpellFault>
     requires { IsTimed moves.now }
     ensures written { IfOk result (λ bytes. bytes.items ≡ shortest_of moves.now) }

@@ -28,14 +28,14 @@ fn collect<R: Read>(alloc: Global, rules: Ruleset, files: &mut [R]) -> Result<Co
 }
 
 /// Reads solution files to their ends, in order, and writes the collection of the best solutions of all that were
-/// played by these rules.
+/// played under this ruleset.
 ///
 /// # Errors
 ///
 /// The first input that fails decides. `Read` where it fails or does not end within `INPUT_READS` reads, and
-/// `Unreadable` with its number, counted from 0, and the fault of its bytes: then nothing was written. `Write` where the
-/// writer fails: then a proper prefix of the collection's text was written. `Memory` where memory ran out, and nothing was
-/// written.
+/// `Unreadable` with its number, counted from 0, and the fault of its bytes: then nothing was written. `Write` where
+/// the writer fails: then a proper prefix of the collection's text was written. `Memory` where memory ran out, and
+/// nothing was written.
 pub fn run_best<R: Read, W: Write>(
     alloc: Global,
     rules: Ruleset,

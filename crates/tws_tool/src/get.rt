@@ -13,13 +13,13 @@ use std::io::Write;
 use tftp_packet::Endpoint;
 use tws_file::Ruleset;
 
-/// Fetches the collection of these rules from the archive at the host and the request port of `server` into a file, in at
-/// most `TURNS` turns; then says how many bytes it has.
+/// Fetches the collection of this ruleset from the archive at the host and the request port of `server` into a file, in
+/// at most `TURNS` turns; then says how many bytes it has.
 ///
 /// # Errors
 ///
-/// `Socket` where no port was opened, and `Transfer` with the cause of the failed transfer: then nothing is written to the
-/// file. `Write` where a writer fails, and `Memory` where a growth was refused.
+/// `Socket` where no port was opened, and `Transfer` with the cause of the failed transfer: then nothing is written to
+/// the file. `Write` where a writer fails, and `Memory` where an allocation was refused.
 pub fn get_file<N: Wire, F: Write, W: Write>(
     alloc: Global,
     wire: &mut N,

@@ -30,7 +30,7 @@ pub enum Job {
     Pack,
     /// To write the collection of the best solutions of several files.
     Best {
-        /// Of files of these rules.
+        /// Of files of this ruleset.
         rules: Ruleset,
         /// The names of the files.
         files: Vec<String>,
@@ -51,7 +51,7 @@ pub enum Job {
     },
     /// To fetch a collection from an archive.
     Get {
-        /// The one of these rules.
+        /// The one of this ruleset.
         rules: Ruleset,
         /// Into this file.
         target: Target,
@@ -264,7 +264,8 @@ fn no_command(alloc: Global) -> Result<clap::Error, JobFault>
 ///
 /// # Errors
 ///
-/// `Words` where they ask for help, have a fault, or ask for nothing that there is; `Memory` where a growth was refused.
+/// `Words` where they ask for help, have a fault, or ask for nothing that there is; `Memory` where an allocation was
+/// refused.
 pub fn job_of(alloc: Global, words: &[String]) -> Result<Job, JobFault>
     ensures { AnswersWords (map string_bytes words.now) result }
 {

@@ -15,8 +15,8 @@ use tws_file::{pack, write_file};
 /// # Errors
 ///
 /// `Read` where the reader fails or does not end within `INPUT_READS` reads, and `Unreadable` with index 0 and the
-/// fault of the bytes: then nothing was written. `Write` where the writer fails: then a proper prefix of the packed file was
-/// written. `Memory` where a growth was refused, and nothing was written.
+/// fault of the bytes: then nothing was written. `Write` where the writer fails: then a proper prefix of the packed
+/// file was written. `Memory` where an allocation was refused, and nothing was written.
 pub fn run_pack<R: Read, W: Write>(
     alloc: Global,
     input: &mut R,

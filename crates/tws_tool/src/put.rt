@@ -54,14 +54,14 @@ fn read_whole<R: Read>(alloc: Global, input: &mut R) -> Result<Vec<u8>, ToolFaul
     }
 }
 
-/// Reads a solution file to its end, and sends it to the archive at the host and the request port of `server`, in at most
-/// `TURNS` turns; then says how many bytes it has.
+/// Reads a solution file to its end, and sends it to the archive at the host and the request port of `server`, in at
+/// most `TURNS` turns; then says how many bytes it has.
 ///
 /// # Errors
 ///
-/// `Read` where the reader fails or does not end within `INPUT_READS` reads, and `Unreadable` with index 0 and the fault of
-/// the bytes: then nothing is sent. `Socket` where no port was opened, and `Transfer` with the cause of the failed transfer.
-/// `Write` where the writer fails, after the file was sent. `Memory` where a growth was refused.
+/// `Read` where the reader fails or does not end within `INPUT_READS` reads, and `Unreadable` with index 0 and the
+/// fault of the bytes: then nothing is sent. `Socket` where no port was opened, and `Transfer` with the cause of the
+/// failed transfer. `Write` where the writer fails, after the file was sent. `Memory` where an allocation was refused.
 pub fn put_file<R: Read, N: Wire, W: Write>(
     alloc: Global,
     input: &mut R,

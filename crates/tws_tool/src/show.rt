@@ -16,7 +16,7 @@ use tws_file::show;
 ///
 /// `Read` where the reader fails or does not end within `INPUT_READS` reads, and `Unreadable` with index 0 and the
 /// fault of the bytes: then nothing was written. `Write` where the writer fails: then a proper prefix of the listing
-/// was written. `Memory` where a growth was refused, and nothing or a prefix of the listing was written.
+/// was written. `Memory` where an allocation was refused, and nothing or a prefix of the listing was written.
 pub fn run_show<R: Read, W: Write>(
     alloc: Global,
     input: &mut R,
