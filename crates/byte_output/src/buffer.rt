@@ -1,4 +1,4 @@
-ghost use Rattle.std.specs.Prelude.{◌≡◌, ◌+◌, ◌≤◌, [], ◌++◌, length, OnOk, OnErr, IfErr};
+ghost use Rattle.std.specs.Prelude.{◌≡◌, ◌+◌, ◌<◌, ◌≤◌, [], ◌++◌, length, OnOk, OnErr, IfErr};
 ghost use Rattle.byte_output.specs.Output.{Sends, AppendsPrefix};
 
 use crate::out_fault::OutFault;
@@ -7,10 +7,10 @@ use arrayvec::ArrayVec;
 use std::io::Write;
 use std::marker::Model;
 
-/// How many bytes are gathered before they go out together.
+/// How many bytes are gathered before they are written together.
 pub const LARGE: usize = 1 << 16;
 
-/// At most N bytes that belong together. They lie in the value itself and take no memory.
+/// At most N bytes that belong together. They are in the value itself, so a buffer takes no memory.
 #[derive(Drop)]
 pub struct Buffer<const N: usize> {
     bytes: ArrayVec<u8, N>,
@@ -54,6 +54,7 @@ impl<const N: usize> Buffer<N> {
     // Gathers bytes in an empty buffer; bytes that no buffer of this size holds are written.
     fn send_first<W: Write>(&mut self, bytes: &[u8], out: &mut W) -> Result<(), OutFault>
         requires { self.old ≡ [] }
+        ensures gathers { length bytes.now ≤ N → (self.new ≡ bytes.now) × (out.new ≡ out.old) }
         ensures ok { OnOk result (Sends (W.contents out.old) (W.contents out.new) bytes.now self.new) }
         ensures err { OnErr result (AppendsPrefix (W.contents out.old) (W.contents out.new) bytes.now) }
         ensures io { IfErr result (λ e. e ≡ OutFault.Io) }
@@ -71,6 +72,9 @@ impl<const N: usize> Buffer<N> {
     ///
     /// `Io` where the writer fails. A proper prefix of what was gathered and these bytes was written.
     pub fn send<W: Write>(&mut self, bytes: &[u8], out: &mut W) -> Result<(), OutFault>
+        // Nothing is written where there is room, and only what was gathered before where the bytes then have room.
+        ensures gathers { length self.old + length bytes.now ≤ N → (self.new ≡ self.old ++ bytes.now) × (out.new ≡ out.old) }
+        ensures begins { N < length self.old + length bytes.now → length bytes.now ≤ N → OnOk result (self.new ≡ bytes.now) }
         ensures ok { OnOk result (Sends (W.contents out.old) (W.contents out.new) (self.old ++ bytes.now) self.new) }
         ensures err { OnErr result (AppendsPrefix (W.contents out.old) (W.contents out.new) (self.old ++ bytes.now)) }
         ensures io { IfErr result (λ e. e ≡ OutFault.Io) }

@@ -1,4 +1,5 @@
-ghost use Rattle.std.specs.Prelude.{◌≡◌, ◌≢◌, ◌<◌, true, false, IfNone, OnOk};
+ghost use Rattle.std.specs.Prelude.{◌≡◌, ◌≢◌, ◌⊎◌, ℕ, ◌<◌, ◌≤◌, true, false, IfNone, IfSome, OnOk};
+ghost use Rattle.refusing.specs.declared.each_request.Outcome.{Outcome};
 ghost use Rattle.refusing.specs.declared.each_request.Outcome.TheVariants.{Right, Wrong, OutOfMemory};
 
 use crate::Refusing;
@@ -66,6 +67,7 @@ const MANY: u64 = 200;
 fn judge(outcome: Outcome, has_refused: bool) -> Option<Complaint>
     ensures right { IfNone result (has_refused ≡ false → outcome ≡ Right) }
     ensures not_wrong { IfNone result (outcome ≢ Wrong) }
+    ensures blamed { IfSome result (λ c. ((c ≡ Complaint.WrongAnswer) × (outcome ≡ Wrong)) ⊎ ((c ≡ Complaint.NoRefusal) × (outcome ≡ OutOfMemory) × (has_refused ≡ false))) }
 {
     match outcome {
         Outcome::Right => None,
@@ -90,7 +92,9 @@ pub fn refuse_each(
 ) -> Result<(), Complaint>
     requires { IsAlwaysCallable run.now }
     // The last run, which met no refusal, gave the full answer.
-    ensures { OnOk result ((refusing : _) × (least < refusing.now.nth) × post run.now refusing Right) }
+    ensures last { OnOk result ((refusing : _) × (least < refusing.now.nth) × post run.now refusing Right) }
+    // No run before it gave a wrong one.
+    ensures each { OnOk result ((n : ℕ) → 1 ≤ n → n ≤ least → (refusing : _) × (outcome : Outcome) × (refusing.now.nth ≡ n) × (outcome ≢ Wrong) × post run.now refusing outcome) }
 {
     for nth in 1..MANY {
         let refusing = Refusing::new(global, nth);

@@ -79,7 +79,7 @@ fn is_nth(earlier: u64, nth: u64) -> bool
     nth != 0 && earlier == nth - 1
 }
 
-// Counts a request, and answers whether to refuse it.
+// Counts a request, and returns whether to refuse it.
 fn is_refused(requests: &Cell<u64>, nth: u64) -> bool
     ensures { IsTrue result → 1 ≤ nth }
 {

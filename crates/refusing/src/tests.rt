@@ -158,3 +158,26 @@ fn runs_without_end(rt: HostRuntime) {
     );
     assert_eq!(rt; endless, Err(Complaint::Endless));
 }
+
+// What its own run gives, but a wrong answer where memory ran out.
+fn asks_and_forgets(refusing: &Refusing<Global>) -> Outcome {
+    match asks(refusing) {
+        Outcome::OutOfMemory => Outcome::Wrong,
+        outcome => outcome,
+    }
+}
+
+// The full answer, whether memory ran out or not.
+fn asks_in_vain(refusing: &Refusing<Global>) -> Outcome {
+    let _outcome = asks(refusing);
+    Outcome::Right
+}
+
+#[test]
+fn runs_that_meet_a_refusal_are_judged(rt: HostRuntime) {
+    assert_eq!(rt;
+        refuse_each(rt.alloc(), 1, &asks_and_forgets),
+        Err(Complaint::WrongAnswer)
+    );
+    assert_eq!(rt; refuse_each(rt.alloc(), 1, &asks_in_vain), Ok(()));
+}
