@@ -327,8 +327,12 @@ fn a_writer_that_is_full(rt: HostRuntime) -> Result<(), Fail> {
 }
 
 #[test]
-fn the_text_of_a_fault_of_output(rt: HostRuntime) -> Result<(), Fail> {
+fn the_texts_of_faults_of_output(rt: HostRuntime) -> Result<(), Fail> {
     assert_eq!(rt; format!(in rt.alloc(); "{}", OutFault::Io)?.as_str(), "Io");
+    assert_eq!(rt;
+        format!(in rt.alloc(); "{}", OutFault::Memory)?.as_str(),
+        "Memory"
+    );
     Ok(())
 }
 

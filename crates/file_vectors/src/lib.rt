@@ -7,6 +7,8 @@ mod collections;
 #[cfg(test)]
 mod files;
 #[cfg(test)]
+mod large;
+#[cfg(test)]
 mod moves_read;
 #[cfg(test)]
 mod moves_written;

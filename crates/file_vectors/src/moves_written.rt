@@ -192,6 +192,11 @@ fn bytes_that_are_cut(rt: HostRuntime) {
         pack_moves(rt.alloc(), &[0x61, 0x61, 0x02]).err(),
         Some(MovesFault::Cut { at: 2 })
     );
+    // a code of five bytes without its last
+    assert_eq!(rt;
+        pack_moves(rt.alloc(), &[0x1F, 0x00, 0x00, 0x00]).err(),
+        Some(MovesFault::Cut { at: 0 })
+    );
 }
 
 // ---- the plain slow program: every cut of the waits into parts, each of which has some layout

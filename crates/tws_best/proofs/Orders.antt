@@ -1,9 +1,9 @@
 -- What follows from the orders of keys, ranks and entries.
-use Rattle.std.proofs.Common.{◌≡◌, ◌≢◌, ◌<◌, ℕ, true, false, List, refl, ap, sym, subst, ◌∙◌}
+use Rattle.std.proofs.Common.{◌≡◌, ◌≢◌, ℕ, true, false, List, refl, ap, sym, subst, ◌∙◌}
 use Rattle.std.specs.declared.cmp.Ordering.{Ordering}
 use Rattle.std.specs.declared.cmp.Ordering.TheVariants.{Less, Equal, Greater}
-use Rattle.std.specs.Ordering.{nat_cmp, on, then_cmp, is_lt, is_gt, ordering_then, ordering_reverse}
-use Rattle.std.specs.Cmp.{nat_cmp_is, IsTotalOrder, then_total, on_total, nat_cmp_total, upto, tied_itself}
+use Rattle.std.specs.Ordering.{nat_cmp, is_lt, is_gt, ordering_then, ordering_reverse}
+use Rattle.std.specs.Cmp.{IsTotalOrder, then_total, on_total, nat_cmp_total, upto, tied_itself}
 use Rattle.std.specs.Cmp.Lexicographic.{slice_cmp, nat_list_cmp_total}
 use Rattle.std.specs.FinMap.{nat_cmp-IsAntisymmetric, slice_cmp-IsAntisymmetric}
 use Rattle.tws_file.specs.declared.key.Key.{Key}
@@ -76,10 +76,3 @@ pub no_better : (q r s : Ranking) → (IsBelow r q → ⊥) → (IsBelow s r →
 no_better q r s first second =
     let all = upto rank_total q r s (not_above q r first) (not_above r s second) in
     less_not (rank_cmp s q) (gt_reverse (rank_cmp s q) (sym (ap is_gt (rank_total.antisymm q s)) ∙ all))
-
--- more ticks are worse
-pub more_ticks : (q r : Ranking) → r.ticks < q.ticks → IsBelow q r → ⊥
-more_ticks q r more below =
-    let greater : Greater ≡ nat_cmp q.ticks r.ticks = nat_cmp_is q.ticks r.ticks Greater more in
-    let less : Greater ≡ Less = subst (λ (o : Ordering). ordering_then o (then_cmp (on (λ r. r.size) nat_cmp) (on (λ r. r.bytes) (slice_cmp nat_cmp)) q r) ≡ Less) (sym greater) below in
-    absurd cc

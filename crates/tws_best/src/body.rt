@@ -1,12 +1,14 @@
 ghost use Rattle.std.specs.Prelude.{◌≡◌, ◌≤◌, length, IfOk};
-ghost use Rattle.tws_best.specs.Rank.{rank_of};
-ghost use Rattle.tws_best.specs.Best.{IsBody};
+ghost use Rattle.std.specs.Ordering.{is_lt};
+ghost use Rattle.tws_best.specs.Rank.{rank_of, rank_cmp};
+ghost use Rattle.tws_best.specs.Best.{IsBody, entry_of};
 
 use crate::rank::Rank;
 use std::alloc::{AllocError, Allocator};
 use std::clone::Clone;
 use std::marker::Model;
 use std::rc::RcSlice;
+use tws_file::Solution;
 
 // The body of a solution's record. Collections and snapshots share its bytes: a clone takes no memory.
 #[derive(Drop)]
@@ -53,10 +55,20 @@ impl<A: Allocator> Body<A> {
         self.bytes.len() as u32
     }
 
-    pub(crate) fn rank(&self) -> Rank<'_>
-        ensures { result ≡ rank_of self.now }
+    // Whether this solution is better: its rank is lower. Its body is not made for that.
+    pub(crate) fn is_worse_than<B: Allocator>(&self, solution: &Solution<B>) -> bool
+        ensures { result ≡ is_lt (rank_cmp (rank_of (entry_of solution.now).body) (rank_of self.now)) }
     {
-        Rank::of(self.bytes.as_slice())
+        let ticks = Rank::of(self.as_slice()).ticks();
+        let order = solution
+            .ticks
+            .cmp(&ticks)
+            .then(solution.body_len().cmp(&self.size()));
+        if order.is_eq() {
+            solution.cmp_body(self.as_slice()).is_lt()
+        } else {
+            order.is_lt()
+        }
     }
 }
 

@@ -6,13 +6,11 @@ ghost use Rattle.std.specs.List.Sorted.{IsPermutation};
 ghost use Rattle.std.specs.BTreeMap.{get, insert_entry, IsOrdered};
 ghost use Rattle.tws_file.specs.Record.{records_of};
 ghost use Rattle.tws_file.specs.Text.{IsRecord};
-ghost use Rattle.tws_best.specs.Rank.{rank_of, IsBelow};
 ghost use Rattle.tws_best.specs.Best.{IsKept, IsBestOf, entry_of, key_cmp, solved_in};
 ghost use Rattle.tws_best.specs.Bodies.{Pair, entries_of};
 ghost use Rattle.tws_best.specs.Steps.{Takes, Undoes, CanGoBack, back_to};
 
 use crate::body::Body;
-use crate::rank::Rank;
 use std::alloc::{AllocError, Allocator};
 use std::collections::BTreeMap;
 use tws_file::{Key, Record, Solution};
@@ -47,28 +45,6 @@ fn replace<A: Allocator + Copy>(
     }
 }
 
-// The body of a solution that is better than this one; none where it is not. Mostly the ticks tell, and no body is made.
-fn better_body<A: Allocator + Copy, B: Allocator>(
-    alloc: A,
-    solution: &Solution<B>,
-    old: &Body<A>,
-) -> Result<Option<Body<A>>, AllocError>
-    ensures body { IfOk result (λ r. IfSome r (λ body. body ≡ (entry_of solution.now).body)) }
-    ensures better { IfOk result (λ r. IfSome r (λ body. IsBelow (rank_of body) (rank_of old.now))) }
-    ensures worse { IfOk result (λ r. IfNone r (IsBelow (rank_of (entry_of solution.now).body) (rank_of old.now) → ⊥)) }
-{
-    let rank = old.rank();
-    if solution.ticks > rank.ticks() {
-        return Ok(None);
-    }
-    let bytes = solution.body(alloc)?;
-    if Rank::of(bytes.as_slice()) < rank {
-        Ok(Some(Body::of(bytes)?))
-    } else {
-        Ok(None)
-    }
-}
-
 // Takes a solution in, if it is better than what is kept for its key.
 fn take<A: Allocator + Copy, B: Allocator>(
     alloc: A,
@@ -81,13 +57,12 @@ fn take<A: Allocator + Copy, B: Allocator>(
 {
     let key = solution.key;
     match kept.get(&key) {
-        Some(old) => match better_body(alloc, solution, old)? {
-            Some(body) => {
-                let old = old.clone()?;
-                replace(kept, done, key, Some(old), body)
-            }
-            None => Ok(()),
-        },
+        Some(old) if old.is_worse_than(solution) => {
+            let old = old.clone()?;
+            let bytes = solution.body(alloc)?;
+            replace(kept, done, key, Some(old), Body::of(bytes)?)
+        }
+        Some(_) => Ok(()),
         None => {
             let bytes = solution.body(alloc)?;
             replace(kept, done, key, None, Body::of(bytes)?)

@@ -16,7 +16,7 @@ use std::marker::Model;
 use tftp_packet::Blocks;
 use tws_file::Ruleset;
 
-// How many of the offsets, which rise, are not above this one.
+// How many of the offsets, which rise, are at most this one.
 fn search(starts: &[u64], offset: u64) -> usize
     requires { IsNonDecreasing starts.now }
     ensures bound { result ≤ length starts.now }
@@ -110,7 +110,7 @@ impl<A: Allocator> Snapshot<A> {
         (index, skip as usize)
     }
 
-    // Puts block `k`, as `Blocks` counts them, at the start of `out`, and answers how many bytes it has.
+    // Puts block `k`, as `Blocks` counts them, at the start of `out`, and returns how many bytes it has.
     fn gather(&self, k: u16, out: &mut [u8; 512]) -> usize
         requires first { 1 ≤ k }
         requires last { k ≤ block_count (frozen_text self.now) }

@@ -5,6 +5,7 @@ pub mod FileText
 pub mod Faults
 pub mod Headers
 pub mod Bodies
+pub mod Comparing
 pub mod Listings
 pub mod Gathering
 pub mod Pieces

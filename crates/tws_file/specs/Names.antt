@@ -1,11 +1,17 @@
 -- The names of files at the server: that of the collection of some rules, and the one that a client sends a file by.
-use Rattle.std.specs.Prelude.{ℕ, List, codes}
+use Rattle.std.specs.Prelude.{ℕ, List, Option, None, Some, cond, codes}
+use Rattle.std.specs.Str.{bytes_eq}
 use Rattle.tws_file.specs.declared.«ruleset».Ruleset.{Ruleset}
 use Rattle.tws_file.specs.declared.«ruleset».Ruleset.TheVariants.{Lynx, Ms}
 
 abbrev pub file_name_of : Ruleset → List ℕ
 file_name_of Lynx = codes "lynx.tws"
 file_name_of Ms = codes "ms.tws"
+
+-- the ruleset whose collection has this name
+abbrev pub kind_named : (name : List ℕ) → Option Ruleset
+kind_named name =
+    cond (bytes_eq name (file_name_of Lynx)) (Some Lynx) (cond (bytes_eq name (file_name_of Ms)) (Some Ms) None)
 
 -- the server gives it no meaning
 abbrev pub upload_name : List ℕ

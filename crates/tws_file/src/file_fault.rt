@@ -9,7 +9,7 @@ use thiserror::Error;
 /// Offsets are counted in bytes from the start of the file. The first fault in the file decides.
 #[derive(Clone, Copy, Debug, PartialEq, Eq, Error)]
 pub enum FileFault {
-    /// The file ends in its header. Its length.
+    /// The file ends inside its header. The value is the file's length.
     #[error("ShortHeader({0})")]
     ShortHeader(u64),
     /// The file does not begin with the signature `35 33 9B 99`.
@@ -18,13 +18,13 @@ pub enum FileFault {
     /// Byte 4 names no ruleset. The value is that byte.
     #[error("BadRuleset({0})")]
     BadRuleset(u8),
-    /// The file ends in a record. The offset of the record's size field.
+    /// The file ends inside a record. The value is the offset of that record's size field.
     #[error("ShortRecord({0})")]
     ShortRecord(u64),
-    /// No record has the size that is here. The offset of that size field.
+    /// A size that no record has. The value is the offset of the size field.
     #[error("BadSize({0})")]
     BadSize(u64),
-    /// A solution's moves end inside a move. The offset of that move's first byte.
+    /// A solution's moves end inside a move. The value is the offset of that move's first byte.
     #[error("MoveCut({0})")]
     MoveCut(u64),
     /// Memory ran out, which says nothing of the bytes.

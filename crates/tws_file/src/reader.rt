@@ -65,7 +65,7 @@ fn read_from_start<A: Allocator + Copy>(
     Ok(Some((file, rest)))
 }
 
-// Reads the whole records that follow in these bytes, which are at the offset, and answers how many bytes they took.
+// Reads the whole records that follow in these bytes, which are at the offset, and returns how many bytes they took.
 // After an error nothing has changed.
 fn read_on<A: Allocator + Copy>(
     alloc: A,
@@ -85,7 +85,7 @@ fn read_on<A: Allocator + Copy>(
     Ok(bytes.len() - rest.len())
 }
 
-// Reads what is whole of these bytes, which are at the offset, and answers how many they were. After an error
+// Reads what is whole of these bytes, which are at the offset, and returns how many they were. After an error
 // nothing has changed.
 fn advance<A: Allocator + Copy>(
     alloc: A,

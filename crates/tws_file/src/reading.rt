@@ -1,7 +1,8 @@
 //! How the bytes of records are read.
 
-ghost use Rattle.std.specs.Prelude.{◌≡◌, ◌+◌, ◌<◌, ◌≤◌, ◌^◌, ◌++◌, ◌↔◌, length, take, drop, IsTrue, OnOk, IfOk, IfErr, IfSome, IfNone};
+ghost use Rattle.std.specs.Prelude.{◌≡◌, ◌+◌, ◌<◌, ◌≤◌, ◌^◌, ◌++◌, ◌↔◌, length, take, drop, Err, IsTrue, OnOk, IfOk, IfErr, IfSome, IfNone};
 ghost use Rattle.std.specs.List.{flat_map, AllByRecursion};
+ghost use Rattle.byteorder.specs.Endian.{little_number};
 ghost use Rattle.tws_moves.specs.Spelling.{IsSpelling};
 ghost use Rattle.tws_file.specs.Fields.{key_bytes, IsKey};
 ghost use Rattle.tws_file.specs.Text.{IsRecord, IsLevel, body_of, record_text, solution};
@@ -117,6 +118,8 @@ fn read_record<A: Allocator>(
     ensures bytes { IfOk result (λ r. IfSome r (λ one. bytes.now ≡ record_text (record_of one.0) ++ one.1.now)) }
     ensures cut { IfOk result (λ r. IfNone r (IsRecordCut bytes.now)) }
     ensures fault { IfErr result (RecordFails bytes.now offset) }
+    // No record has this size: that is the fault, before any memory is asked for.
+    ensures size { 4 ≤ length bytes.now → (IsSize (little_number 4 bytes.now) → ⊥) → result ≡ Err (FileFault.BadSize offset) }
 {
     if bytes.len() < 4 {
         return Ok(None);

@@ -1,20 +1,20 @@
 ghost use Rattle.std.specs.Prelude.{◌≡◌, ◌≢◌, IfSome, IfNone};
 ghost use Rattle.tws_file.specs.Fields.{ruleset_code};
-ghost use Rattle.tws_file.specs.Names.{file_name_of};
+ghost use Rattle.tws_file.specs.Names.{file_name_of, kind_named};
 
 use std::fmt;
 
 /// The rules that a file's levels were played by: byte 4 of the file.
 #[derive(Clone, Copy, Debug, PartialEq, Eq)]
 pub enum Ruleset {
-    /// The rules of the Lynx console.
+    /// The rules of the Lynx game.
     Lynx,
     /// The rules of the Windows game.
     Ms,
 }
 
 impl Ruleset {
-    /// The byte of the rules.
+    /// The byte of this ruleset.
     pub fn code(self) -> u8
         ensures { result ≡ ruleset_code self }
     {
@@ -24,7 +24,7 @@ impl Ruleset {
         }
     }
 
-    /// The rules of a byte, if it is that of any.
+    /// The ruleset with this byte, if there is one.
     pub fn from_code(code: u8) -> Option<Self>
         ensures known { IfSome result (λ kind. ruleset_code kind ≡ code) }
         ensures unknown { IfNone result ((code ≢ 1) × (code ≢ 2)) }
@@ -46,8 +46,9 @@ impl Ruleset {
         }
     }
 
-    /// The rules whose collection has this name, in exactly these bytes, if there are any.
+    /// The ruleset whose collection has this name, in exactly these bytes, if there is one.
     pub fn from_file_name(name: &[u8]) -> Option<Self>
+        ensures is { result ≡ kind_named name.now }
         ensures known { IfSome result (λ kind. file_name_of kind ≡ name.now) }
         ensures unknown { IfNone result ((kind : Ruleset) → file_name_of kind ≢ name.now) }
     {
@@ -61,7 +62,7 @@ impl Ruleset {
     }
 }
 
-/// The name of the rules, in small letters.
+/// The name of the ruleset, in small letters.
 impl fmt::Display for Ruleset {
     ghost use Rattle.std.specs.Prelude.{Some};
     ghost use Rattle.tws_file.specs.Listing.{ruleset_name};

@@ -1,4 +1,6 @@
-ghost use Rattle.std.specs.Prelude.{◌≡◌, ◌++◌, length, IfOk};
+ghost use Rattle.std.specs.Prelude.{◌≡◌, ◌≤◌, ◌++◌, length, IfOk};
+ghost use Rattle.std.specs.Cmp.Lexicographic.{slice_cmp};
+ghost use Rattle.std.specs.Ordering.{nat_cmp};
 ghost use Rattle.tws_file.specs.Text.{solution, body_of};
 
 use crate::bytes::Bytes;
@@ -6,6 +8,7 @@ use crate::fields::{push_key, push_u32};
 use crate::key::Key;
 use byte_output::Buffer;
 use std::alloc::{AllocError, Allocator, Global};
+use std::cmp::Ordering;
 use std::marker::Model;
 
 /// How a level was solved.
@@ -60,6 +63,19 @@ impl<A: Allocator> Solution<A> {
         ensures { result ≡ length (body_of (solution self.now)) }
     {
         16 + self.moves.len() as u32
+    }
+
+    /// How the body of the record compares with these bytes, of which there are at least 16, byte by byte. The body is
+    /// not made for that.
+    pub fn cmp_body(&self, bytes: &[u8]) -> Ordering
+        requires { 16 ≤ length bytes.now }
+        ensures { result ≡ slice_cmp nat_cmp (body_of (solution self.now)) bytes.now }
+    {
+        let (fields, moves) = bytes.split_at(16);
+        match self.fields().as_slice().cmp(fields) {
+            Ordering::Equal => self.moves.as_slice().cmp(moves),
+            order => order,
+        }
     }
 
     /// The body of the record, which is all after its size field.

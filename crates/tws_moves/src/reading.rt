@@ -31,7 +31,7 @@ pub(crate) fn split_piece(bytes: &[u8]) -> Option<(&[u8], &[u8])>
     Some(bytes.split_at(length))
 }
 
-// Adds a move, and answers the tick from which on a later one can be made.
+// Adds a move, and returns the tick from which on a later one can be made.
 fn push<A: Allocator>(moves: &mut Vec<Move, A>, at: u64, act: Act) -> Result<u64, AllocError>
     requires fits { IsMove (record { at = at; act = act }) }
     requires room { at + 1 < 2 ^ 64 }
@@ -57,7 +57,7 @@ fn push_three<A: Allocator>(
     push(moves, next + 3, Act::Step(bits(6, 2, number) as u8))
 }
 
-// Adds the moves of a piece, the first of which can be made from the tick `next` on, and answers from when a later one
+// Adds the moves of a piece, the first of which can be made from the tick `next` on, and returns from when a later one
 // can.
 fn push_piece<A: Allocator>(
     moves: &mut Vec<Move, A>,

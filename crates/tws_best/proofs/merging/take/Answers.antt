@@ -1,30 +1,39 @@
-use Rattle.std.proofs.Common.{ap, sym, ◌∙◌, subst, length, OnOk, inl, refl}
-use Rattle.byte_output.proofs.Lists.{at_some, at_none}
-use Rattle.tws_best.specs.Rank.{rank_of, IsBelow}
+use Rattle.std.proofs.Common.{◌≡◌, ap, sym, ◌∙◌, subst, length, OnOk, inl, refl}
+use Rattle.std.specs.declared.cmp.Ordering.TheVariants.{Less}
+use Rattle.tws_best.specs.Rank.{rank_of, rank_cmp}
 use Rattle.tws_best.specs.Best.{Entry, entry_of}
 use Rattle.tws_best.specs.Steps.{Takes}
+use Rattle.tws_best.proofs.Choices.{is_less}
 use Rattle.tws_best.proofs.Found.{entry}
+use Rattle.tws_best.proofs.Orders.{less_not}
 use Rattle.tws_best.proofs.Taking.{entry_same, enters_by, better_than_found, better_than_none, held_by_found}
 use Rattle.tws_best.proofs.merging.take.Goals as goal
 
-pub returns-in_ok-old-in-Some-2-clause-ok : goal.returns-in_ok-old-in-Some-2-clause-ok
-returns-in_ok-old-in-Some-2-clause-ok g c =
+pub returns-in_ok-of-in-Some-clause-ok : goal.returns-in_ok-of-in-Some-clause-ok
+returns-in_ok-of-in-Some-clause-ok g c =
     let key = c.solution.inside.key in
-    let body = c.in-Some-2.body in
-    let same = entry_same c.args.solution.now key body (ap (λ s. s.key) c.solution.view_is) (at_some _ _ _ c.in-Some-2.is c.in_ok-body-in-Some.ensures.body) in
-    subst (λ (x : Entry). OnOk c.replace.result (Takes x c.args.kept.now.entries c.replace.new.kept.entries (length c.args.done.now.items) (length c.replace.new.done.items))) same
-    (enters_by c.replace.result key body c.args.kept.now.entries c.replace.new.kept.entries (length c.args.done.now.items) (length c.replace.new.done.items)
-    (λ rising. better_than_found c.args.kept.now.entries key body c.in-Some.old.now rising (sym c.in-Some.ensures.value) (at_some (λ b. IsBelow (rank_of b) (rank_of c.in-Some.old.now)) _ _ c.in-Some-2.is c.in_ok-body-in-Some.ensures.better))
+    let whole = (entry_of c.args.solution.now).body in
+    let body = c.in_ok-of-in-Some.field-0 in
+    let body-is = c.in_ok-of-in-Some.ensures ∙ c.in_ok-bytes-in-Some.ensures in
+    let same = entry_same c.args.solution.now key body (ap (λ s. s.key) c.solution.view_is) body-is in
+    let order = rank_cmp (rank_of whole) (rank_of c.in-Some.old.now) in
+    let below = subst (λ b. rank_cmp (rank_of b) (rank_of c.in-Some.old.now) ≡ Less) (sym body-is) (is_less order (sym c.is_worse_than.ensures ∙ c.if-is_worse_than.true)) in
+    let new = c.replace.new.kept.entries in
+    subst (λ (x : Entry). OnOk c.replace.result (Takes x c.args.kept.now.entries new (length c.args.done.now.items) (length c.replace.new.done.items))) same
+    (enters_by c.replace.result key body c.args.kept.now.entries new (length c.args.done.now.items) (length c.replace.new.done.items)
+    (λ rising. better_than_found c.args.kept.now.entries key body c.in-Some.old.now rising (sym c.in-Some.ensures.value) below)
     c.replace.ensures.ok c.replace.ensures.noted c.replace.ensures.ordered)
 
-pub returns-in-None-2-clause-ok : goal.returns-in-None-2-clause-ok
-returns-in-None-2-clause-ok g c =
+pub returns-in-Some-2-clause-ok : goal.returns-in-Some-2-clause-ok
+returns-in-Some-2-clause-ok g c =
     let key = c.solution.inside.key in
     let body = (entry_of c.args.solution.now).body in
     let same = entry_same c.args.solution.now key body (ap (λ s. s.key) c.solution.view_is) refl in
     let kept = c.args.kept.now.entries in
     let count = length c.args.done.now.items in
-    let stays : Takes (entry key body) kept kept count count = inl (record { held = held_by_found kept key body c.in-Some.old.now (sym c.in-Some.ensures.value) (at_none _ c.in-None-2.is c.in_ok-body-in-Some.ensures.worse); same = refl; count = refl }) in
+    let order = rank_cmp (rank_of body) (rank_of c.in-Some.old.now) in
+    let worse = less_not order (sym c.is_worse_than.ensures ∙ c.if-is_worse_than.false) in
+    let stays : Takes (entry key body) kept kept count count = inl (record { held = held_by_found kept key body c.in-Some.old.now (sym c.in-Some.ensures.value) worse; same = refl; count = refl }) in
     subst (λ (x : Entry). Takes x kept kept count count) same stays
 
 pub returns-in_ok-of-in-None-clause-ok : goal.returns-in_ok-of-in-None-clause-ok
