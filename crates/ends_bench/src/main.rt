@@ -4,7 +4,7 @@
 use std::alloc::{AllocError, Global};
 use std::io;
 use tftp_ends::{MAX_BLOCKS, MAX_FILE, Receiver, Sender};
-use tftp_packet::{BLOCK_SIZE, Dgram, Owned, Packet, decode};
+use tftp_packet::{Dgram, Owned, Packet, decode};
 
 /// The greatest length of a file.
 const SIZE: usize = MAX_FILE as usize;
@@ -23,9 +23,7 @@ fn file(alloc: Global) -> Result<Vec<u8>, AllocError> {
 // Gives a DATA to the receiver, and its ACK to the sender.
 fn turn(sender: &mut Sender<Owned>, receiver: &mut Receiver, dgram: &Dgram) -> Option<Dgram> {
     let out = match decode(dgram.bytes()) {
-        Ok(Packet::Data { block, body }) if body.len() <= BLOCK_SIZE => receiver.on_data(
-            block, body,
-        ),
+        Ok(Packet::Data { block, body }) => receiver.on_data(block, body),
         _ => return None,
     };
     let Ok(Some(ack)) = out else {

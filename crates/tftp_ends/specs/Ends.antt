@@ -3,6 +3,8 @@
 use Rattle.std.specs.Prelude.{◌≡◌, ℕ, ◌+◌, ◌*◌, ◌<◌, ◌≤◌, Bool, true, false, ◌==◌, ◌&&◌, nat_lt, List, [], ◌++◌, length, Option, None, Some, IsSome, IfSome, Result, Ok, Err}
 use Rattle.std.specs.Option.{option_map}
 use Rattle.tftp_packet.specs.declared.sizes.TheConstants.{BLOCK_SIZE}
+use Rattle.tftp_packet.specs.declared.refusal.Refusal.{Refusal}
+use Rattle.tftp_packet.specs.declared.refusal.Refusal.TheVariants.{OutOfMemory, FileTooLong}
 use Rattle.tftp_packet.specs.Packet.{Packet, data_block, ack, encode}
 use Rattle.tftp_packet.specs.Blocks.{block_count, block_of, first_blocks}
 use Rattle.tftp_ends.specs.declared.limits.TheConstants.{MAX_BLOCKS, MAX_FILE, MISSES, DALLY}
@@ -111,6 +113,11 @@ abbrev pub receiver_start : Receiver
 receiver_start = record { count = 0; file = Some []; misses = 0; state = receiving.Running }
 
 -- ---- DATA
+
+-- the error that a peer is told whose block was not taken
+abbrev pub refusal_of : RecvFault → Refusal
+refusal_of fault.Memory = OutOfMemory
+refusal_of fault.TooLong = FileTooLong
 
 abbrev pub receiver_appends : Option (List ℕ) → (body : List ℕ) → Option (List ℕ)
 receiver_appends None body = None

@@ -15,7 +15,7 @@
 //!     datagram: &[u8],
 //! ) -> Result<(Option<Dgram>, Option<Received>), RecvFault> {
 //!     match decode(datagram) {
-//!         Ok(Packet::Data { block, body }) if body.len() <= BLOCK_SIZE => {
+//!         Ok(Packet::Data { block, body }) => {
 //!             let ack = receiver.on_data(block, body)?;
 //!             Ok((ack, receiver.take_file()))
 //!         }

@@ -158,7 +158,7 @@ impl<A: Allocator + Copy> Receiver<A> {
         }
     }
 
-    /// How far it is.
+    /// Its state.
     pub fn state(&self) -> RecvState
         ensures { result ≡ self.now.state }
     {

@@ -1,7 +1,9 @@
 ghost use Rattle.std.specs.Prelude.{◌≡◌};
 ghost use Rattle.tftp_ends.specs.declared.recv_fault.RecvFault.TheVariants.{Memory};
+ghost use Rattle.tftp_ends.specs.Ends.{refusal_of};
 
 use std::alloc::AllocError;
+use tftp_packet::Refusal;
 use thiserror::Error;
 
 /// Why a DATA was not taken. The receiver is as it was before.
@@ -13,6 +15,18 @@ pub enum RecvFault {
     /// Block `MAX_BLOCKS` is full, so the file goes on after it.
     #[error("TooLong")]
     TooLong,
+}
+
+impl RecvFault {
+    /// The ERROR that the peer is told, RFC 1350 section 5.
+    pub fn refusal(self) -> Refusal
+        ensures { result ≡ refusal_of self }
+    {
+        match self {
+            RecvFault::Memory => Refusal::OutOfMemory,
+            RecvFault::TooLong => Refusal::FileTooLong,
+        }
+    }
 }
 
 impl From<AllocError> for RecvFault {

@@ -1,6 +1,6 @@
 //! The end that sends.
 
-ghost use Rattle.std.specs.Prelude.{◌≡◌, ◌≤◌, ◌==◌, length};
+ghost use Rattle.std.specs.Prelude.{◌≡◌, ◌≤◌, ◌==◌, None, Some, true, false, length};
 ghost use Rattle.tftp_packet.specs.Packet.{encode};
 ghost use Rattle.tftp_packet.specs.Blocks.{block_count};
 ghost use Rattle.tftp_ends.specs.Ends.{data_packet, dgram_of, sender_start, sender_ack, sender_timeout, IsSender};
@@ -60,23 +60,46 @@ impl<B: Blocks> Sender<B> {
         u64::from(self.current) == self.blocks.file_len() / BLOCK_SIZE as u64 + 1
     }
 
-    /// ACK `n` has come. That of the current block is answered with the next DATA; that of the last block ends the
-    /// transfer. Any other changes nothing and sends nothing, also one that comes again: RFC 1123 section 4.2.3.1.
+    /// ACK `n` has come. Returns whether the next DATA is to be sent, which is then that of `data`. The ACK of the last
+    /// block ends the transfer. Any other than that of the current block changes nothing and sends nothing, also one
+    /// that comes again: RFC 1123 section 4.2.3.1.
+    pub fn advance(&mut self, n: u16) -> bool
+        ensures sender { self.new ≡ (sender_ack n self.old).sender }
+        ensures sends { result ≡ true → (sender_ack n self.old).out ≡ Some (data_packet self.new.file self.new.current) }
+        ensures silent { result ≡ false → (sender_ack n self.old).out ≡ None }
+        ensures running { result ≡ true → self.new.state ≡ SendState.Running }
+        ensures fits { IsSender self.new }
+    {
+        if self.state != SendState::Running || n != self.current {
+            return false;
+        }
+        if self.is_last() {
+            self.state = SendState::Finished;
+            return false;
+        }
+        self.current += 1;
+        self.misses = 0;
+        true
+    }
+
+    /// The DATA of the current block, which was sent last or is to be sent now.
+    pub fn data(&self) -> Dgram
+        ensures { result ≡ encode (data_packet self.now.file self.now.current) }
+    {
+        encode_block(&self.blocks, self.current)
+    }
+
+    /// ACK `n` has come: `advance`, and the DATA that is then to be sent.
     pub fn on_ack(&mut self, n: u16) -> Option<Dgram>
         ensures sender { self.new ≡ (sender_ack n self.old).sender }
         ensures sent { result ≡ dgram_of (sender_ack n self.old).out }
         ensures fits { IsSender self.new }
     {
-        if self.state != SendState::Running || n != self.current {
-            return None;
+        if self.advance(n) {
+            Some(self.data())
+        } else {
+            None
         }
-        if self.is_last() {
-            self.state = SendState::Finished;
-            return None;
-        }
-        self.current += 1;
-        self.misses = 0;
-        Some(encode_block(&self.blocks, self.current))
     }
 
     /// Nothing has come for a while. The current DATA is sent again; time-out number `MISSES` in a row sends nothing and
@@ -94,10 +117,10 @@ impl<B: Blocks> Sender<B> {
             return None;
         }
         self.misses += 1;
-        Some(encode_block(&self.blocks, self.current))
+        Some(self.data())
     }
 
-    /// How far it is.
+    /// Its state.
     pub fn state(&self) -> SendState
         ensures { result ≡ self.now.state }
     {

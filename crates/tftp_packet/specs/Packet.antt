@@ -1,6 +1,7 @@
 -- What a TFTP datagram is: the five packets, and the bytes that are each. RFC 1350 section 5; docs/FORMATS.md has it as
 -- tables. Every number is big-endian.
 use Rattle.std.specs.Prelude.{◌≡◌, ℕ, ◌+◌, ◌<◌, ◌≤◌, ◌^◌, Bool, ◌==◌, List, [], ◌∷◌, ◌++◌, length, map, count_by, codes}
+use Rattle.std.specs.Str.{bytes_eq}
 use Rattle.std.specs.Char.{to_ascii_lowercase}
 use Rattle.byteorder.specs.Endian.{big_bytes}
 use Rattle.tftp_packet.specs.declared.sizes.TheConstants.{BLOCK_SIZE, MAX_DATAGRAM}
@@ -35,6 +36,10 @@ octet = codes "octet"
 -- these five letters, each small or capital
 abbrev pub IsOctet : List ℕ → Type 0
 IsOctet mode = map to_ascii_lowercase mode ≡ octet
+
+-- the same as a test
+abbrev pub is_octet : (mode : List ℕ) → Bool
+is_octet mode = bytes_eq (map to_ascii_lowercase mode) octet
 
 -- ---- the forms of the packets
 

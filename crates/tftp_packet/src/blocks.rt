@@ -14,7 +14,7 @@ pub trait Blocks {
     fn file_len(&self) -> u64
         ensures { result ≡ length (file self.now) };
 
-    /// Puts the bytes of block `k` at the start of `out`, and answers how many they are: `BLOCK_SIZE`, or fewer in the
+    /// Puts the bytes of block `k` at the start of `out`, and returns how many they are: `BLOCK_SIZE`, or fewer in the
     /// last block. Blocks are counted from 1, and `k` is at most the number of blocks. What `out` holds after these bytes
     /// is left open.
     fn block(&self, k: u16, out: &mut [u8; BLOCK_SIZE]) -> usize

@@ -28,7 +28,7 @@ impl Model for Dgram {
     ghost invariant = { λ d. d.len ≤ MAX_DATAGRAM };
 }
 
-// Puts block `k` of a file after the first four bytes, and answers how many bytes it has.
+// Puts block `k` of a file after the first four bytes, and returns how many bytes it has.
 fn put_block<B: Blocks>(buffer: &mut [u8; MAX_DATAGRAM], blocks: &B, k: u16) -> usize
     requires first { 1 ≤ k }
     requires last { k ≤ block_count (B.file blocks.now) }
@@ -42,7 +42,7 @@ fn put_block<B: Blocks>(buffer: &mut [u8; MAX_DATAGRAM], blocks: &B, k: u16) -> 
 }
 
 impl Dgram {
-    /// A datagram that has just the opcode yet.
+    /// A datagram with only its opcode so far.
     pub(crate) fn of_opcode(opcode: u16) -> Self
         ensures { result ≡ big_bytes 2 opcode }
     {

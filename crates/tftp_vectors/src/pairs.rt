@@ -39,9 +39,7 @@ fn deliver(pair: &mut Pair, index: usize) -> Result<Option<Dgram>, Fail> {
         return Err(Fail::new("nothing was sent"));
     };
     match decode(dgram.bytes()) {
-        Ok(Packet::Data { block, body }) if body.len() <= 512 => {
-            Ok(pair.receiver.on_data(block, body)?)
-        }
+        Ok(Packet::Data { block, body }) => { Ok(pair.receiver.on_data(block, body)?) }
         Ok(Packet::Ack { block }) => Ok(pair.sender.on_ack(block)),
         _ => Err(Fail::new("neither DATA nor ACK was sent")),
     }
