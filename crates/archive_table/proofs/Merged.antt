@@ -13,7 +13,8 @@ use Rattle.tftp_packet.specs.declared.endpoint.Endpoint.{Endpoint}
 use Rattle.tftp_packet.specs.declared.refusal.Refusal.{Refusal}
 use Rattle.tftp_packet.specs.declared.refusal.Refusal.TheVariants.{NotKept, UnknownTransfer}
 use Rattle.tftp_packet.specs.Packet.{encode}
-use Rattle.archive_table.specs.Server.{Maps, Server, Taken, Grant, all, no_memory, unkept, dgram_grant, refusal_dgram, refusal_of, IsJoined, JoinsOwn, IsMerged, IsServer}
+use Rattle.archive_table.specs.Server.{Maps, Server, Taken, Grant, all, no_memory, unkept, dgram_grant, refusal_dgram, IsJoined, JoinsOwn, IsMerged, IsServer}
+use Rattle.tftp_ends.specs.Ends.{refusal_of}
 use Rattle.archive_table.specs.Keeper.{Keeping, Grows, RefusesJoin, RefusesFile, StepKeeps}
 use Rattle.archive_table.proofs.Replies.{memory_grant, past_grant}
 use Rattle.std.proofs.lemmas.Bool.{true≢false}
@@ -61,6 +62,10 @@ module _ (why : Refusal) (bytes : List ℕ) (f : File) (lynx ms : Collected) (t 
 pub unkept_grant : dgram_grant (refusal_dgram NotKept) ≡ unkept
 unfolding encode
 unkept_grant = refl
+
+-- what is not read as the refusal of a keep is another one
+pub other_refusal : (why : Refusal) (grant : Grant) → grant ≡ dgram_grant (refusal_dgram why) → grant ≢ unkept → why ≢ NotKept
+other_refusal why grant is other not = other (is ∙ (ap (λ w. dgram_grant (refusal_dgram w)) not ∙ unkept_grant))
 
 pub refused_keeps : (why : Refusal) (peer : Endpoint) (bytes : List ℕ) (old new : Maps) (before after : Option (List Keeping)) → RefusesFile why bytes old before after → StepKeeps (dgram_grant (refusal_dgram why)) (Some (record { peer = peer; file = bytes })) old new before after
 refused_keeps why peer bytes old new before after (inl (is, grows)) =

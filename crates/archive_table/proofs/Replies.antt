@@ -78,7 +78,7 @@ sent_grant port peer (Some dgram) e = e
 
 -- ---- nor is what a sender sends
 
-data_grant : (file : List ℕ) (k : ℕ) → dgram_grant (encode (data_packet file k)) ≡ all
+pub data_grant : (file : List ℕ) (k : ℕ) → dgram_grant (encode (data_packet file k)) ≡ all
 unfolding encode
 data_grant file k = refl
 

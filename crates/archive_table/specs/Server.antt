@@ -1,8 +1,7 @@
 -- The server: what it keeps, and what each datagram and each time-out makes of it. RFC 1350 sections 2, 4 and 6.
 -- What an end does is that of tftp_ends; docs/FORMATS.md has the rest as a table.
-use Rattle.std.specs.Prelude.{◌≡◌, ◌≢◌, ℕ, ◌<◌, ◌≤◌, Bool, true, false, ◌==◌, ◌&&◌, nat_lt, List, [], ◌∷◌, ◌++◌, length, map, Contains, Option, None, Some, Result, Ok, Err, cond}
+use Rattle.std.specs.Prelude.{◌≡◌, ◌≢◌, ℕ, ◌<◌, ◌≤◌, Bool, true, false, ◌==◌, ◌&&◌, nat_lt, List, [], ◌∷◌, ◌++◌, length, Contains, Option, None, Some, Result, Ok, Err}
 use Rattle.std.specs.Str.{bytes_eq}
-use Rattle.std.specs.Char.{to_ascii_lowercase}
 use Rattle.std.specs.Ordering.{nat_cmp}
 use Rattle.std.specs.List.{All}
 use Rattle.std.specs.Map.{lookup, remove_entry, set_value, keys_of, values_of}
@@ -13,8 +12,8 @@ use Rattle.tftp_packet.specs.declared.endpoint.Endpoint.{Endpoint}
 use Rattle.tftp_packet.specs.declared.out.Out.{Out}
 use Rattle.tftp_packet.specs.declared.packet_fault.PacketFault.{PacketFault}
 use Rattle.tftp_packet.specs.declared.refusal.Refusal.{Refusal}
-use Rattle.tftp_packet.specs.declared.refusal.Refusal.TheVariants.{OctetOnly, NoSuchFile, ServerBusy, CollectionTooLong, OutOfMemory, FileTooLong, UnknownTransfer, NotKept}
-use Rattle.tftp_packet.specs.Packet.{Packet, read, write, data_block, ack, error, octet, encode}
+use Rattle.tftp_packet.specs.declared.refusal.Refusal.TheVariants.{OctetOnly, NoSuchFile, ServerBusy, CollectionTooLong, OutOfMemory, UnknownTransfer, NotKept}
+use Rattle.tftp_packet.specs.Packet.{Packet, read, write, data_block, ack, error, is_octet, encode}
 use Rattle.tftp_packet.specs.Refusal.{refusal_packet}
 use Rattle.tftp_packet.specs.Decode.{decode_bytes}
 use Rattle.tftp_ends.specs.declared.limits.TheConstants.{MAX_FILE}
@@ -23,12 +22,11 @@ use Rattle.tftp_ends.specs.declared.send_state.SendState.TheVariants as send
 use Rattle.tftp_ends.specs.declared.recv_state.RecvState.{RecvState}
 use Rattle.tftp_ends.specs.declared.recv_state.RecvState.TheVariants as recv
 use Rattle.tftp_ends.specs.declared.recv_fault.RecvFault.{RecvFault}
-use Rattle.tftp_ends.specs.declared.recv_fault.RecvFault.TheVariants as fault
-use Rattle.tftp_ends.specs.Ends.{Verdict, granted, refused, dgram_of, answer_of, Sender, SendAnswer, sender_start, sender_ack, sender_timeout, data_packet, IsSender, Receiver, RecvAnswer, DataAnswer, TakeAnswer, receiver_start, receiver_data, receiver_timeout, receiver_take, IsReceiver, IsEnded}
+use Rattle.tftp_ends.specs.Ends.{Verdict, granted, refused, dgram_of, answer_of, Sender, SendAnswer, sender_start, sender_ack, sender_timeout, data_packet, IsSender, Receiver, RecvAnswer, DataAnswer, TakeAnswer, receiver_start, receiver_data, receiver_timeout, receiver_take, refusal_of, IsReceiver, IsEnded}
 use Rattle.tws_file.specs.declared.«ruleset».Ruleset.{Ruleset}
 use Rattle.tws_file.specs.declared.«ruleset».Ruleset.TheVariants.{Lynx, Ms}
 use Rattle.tws_file.specs.Text.{File, IsText}
-use Rattle.tws_file.specs.Names.{file_name_of}
+use Rattle.tws_file.specs.Names.{kind_named}
 use Rattle.tws_best.specs.Best.{Collected, IsBestOf, solutions_of, collection_text}
 use Rattle.archive_table.specs.declared.limits.TheConstants.{LIVE}
 
@@ -151,14 +149,6 @@ closes port peer out s =
 abbrev pub map_of : Ruleset → Maps → Collected
 map_of Lynx maps = maps.lynx
 map_of Ms maps = maps.ms
-
--- the rules whose collection has this name
-abbrev pub kind_named : (name : List ℕ) → Option Ruleset
-kind_named name =
-    cond (bytes_eq name (file_name_of Lynx)) (Some Lynx) (cond (bytes_eq name (file_name_of Ms)) (Some Ms) None)
-
-abbrev pub is_octet : (mode : List ℕ) → Bool
-is_octet mode = bytes_eq (map to_ascii_lowercase mode) octet
 
 abbrev pub has_place : Server → Bool
 has_place s = nat_lt (length s.live) LIVE
@@ -287,10 +277,6 @@ abbrev pub memory_of : Grant → Verdict
 memory_of all = granted
 memory_of no_memory = refused
 memory_of unkept = granted
-
-abbrev pub refusal_of : RecvFault → Refusal
-refusal_of fault.Memory = OutOfMemory
-refusal_of fault.TooLong = FileTooLong
 
 -- the file is taken: the collections are the ones that it makes, and the end waits
 abbrev pub takes : (maps : Maps) → (port : ℕ) → (peer : Endpoint) → (file : List ℕ) → Receiver → Option (List ℕ) → Server → Answer

@@ -148,6 +148,7 @@ impl<A: Allocator + Copy> Incoming<A> {
                 Ok((sent, whole))
             }
             Err(fault) => {
+                // The receiver may have the block and the reader not: they no longer agree.
                 *self = Incoming::new(self.alloc);
                 Err(fault)
             }
@@ -163,7 +164,7 @@ impl<A: Allocator + Copy> Incoming<A> {
         self.receiver.on_timeout()
     }
 
-    /// How far it is.
+    /// Its state.
     pub(crate) fn state(&self) -> RecvState
         ensures { result ≡ self.now.state }
     {

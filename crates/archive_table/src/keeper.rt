@@ -9,7 +9,7 @@ use tws_file::Ruleset;
 
 /// Where the collections are kept, so that a server finds them again after a restart.
 pub trait Keeper {
-    /// What was given to be kept, in order, if this keeper tells it. One that tells it does so always.
+    /// What it was given to keep, in order, if this keeper tells it. One that tells it does so always.
     ghost log: { Self → Option (List Keeping) };
 
     /// How many calls of the device failed so far, up to the greatest u64.

@@ -1,6 +1,6 @@
 //! A file that has come whole joins the collection of its ruleset, which is kept where that changed it.
 
-ghost use Rattle.std.specs.Prelude.{◌≡◌, ◌⊎◌, ℕ, List, OnOk, OnErr, IfErr};
+ghost use Rattle.std.specs.Prelude.{◌≡◌, ◌≢◌, ◌⊎◌, ℕ, List, Err, OnOk, OnErr, IfErr};
 ghost use Rattle.tws_file.specs.Reader.{IsAnswer};
 ghost use Rattle.archive_table.specs.Server.{IsJoined, IsMerged};
 ghost use Rattle.archive_table.specs.Keeper.{Grows, KeepsOne, KeepsMaps, RefusesJoin, RefusesFile};
@@ -23,6 +23,7 @@ fn join<A: Allocator + Copy, K: Keeper>(
     ensures refusal { IfErr result (λ e. (e ≡ Refusal.OutOfMemory) ⊎ (e ≡ Refusal.NotKept)) }
     ensures kept { OnOk result (KeepsOne collection.old collection.new (K.log keeper.old) (K.log keeper.new)) }
     ensures unkept { IfErr result (λ e. RefusesJoin e file.now collection.old (K.log keeper.old) (K.log keeper.new)) }
+    ensures untouched { result ≢ Err Refusal.NotKept → collection.new ≡ collection.old → keeper.new ≡ keeper.old }
 {
     let Ok(mut copy) = collection.copy() else {
         return Err(Refusal::OutOfMemory);
@@ -54,6 +55,7 @@ pub(crate) fn merge_file<A: Allocator + Copy, K: Keeper>(
     ensures refusal { IfErr result (λ e. (e ≡ Refusal.OutOfMemory) ⊎ (e ≡ Refusal.NotKept)) }
     ensures kept { OnOk result (KeepsMaps (record { lynx = lynx.old; ms = ms.old }) (record { lynx = lynx.new; ms = ms.new }) (K.log keeper.old) (K.log keeper.new)) }
     ensures unkept { IfErr result (λ e. (bytes : List ℕ) → IsAnswer bytes read.now → RefusesFile e bytes (record { lynx = lynx.old; ms = ms.old }) (K.log keeper.old) (K.log keeper.new)) }
+    ensures untouched { result ≢ Err Refusal.NotKept → lynx.new ≡ lynx.old → ms.new ≡ ms.old → keeper.new ≡ keeper.old }
 {
     match read {
         Ok(file) => match file.ruleset {

@@ -2,6 +2,7 @@
 //! send.
 //!
 //! `specs/Server.antt` is the file to read first: what a server is, and what each call makes of it.
+//! docs/CALLING.md says how the crate is called.
 #![tactic(auto)]
 
 mod end;
@@ -18,7 +19,6 @@ mod load_fault;
 mod memory_keeper;
 mod no_keeper;
 mod ports;
-mod request;
 mod step;
 mod table;
 mod taken;

@@ -44,7 +44,7 @@ fn last_of<A: Allocator>(kept: &[Kept<A>], kind: Ruleset) -> Option<&[u8]>
 }
 
 impl<A: Allocator + Copy> MemoryKeeper<A> {
-    /// It has nothing. It takes no memory.
+    /// A keeper that has nothing. It takes no memory.
     pub fn new(alloc: A) -> Self
         ensures kept { result.kept.items ≡ [] }
         ensures fails { result.fails_in ≡ 0 }
@@ -58,7 +58,7 @@ impl<A: Allocator + Copy> MemoryKeeper<A> {
         }
     }
 
-    /// It has these texts, as if they had been kept.
+    /// A keeper that has these texts, as if they had been kept.
     ///
     /// # Errors
     ///
@@ -73,13 +73,13 @@ impl<A: Allocator + Copy> MemoryKeeper<A> {
         ensures failures { IfOk result (λ k. k.failures ≡ 0) }
     {
         let mut keeper = MemoryKeeper::new(alloc);
-        keeper.put(Ruleset::Lynx, lynx)?;
-        keeper.put(Ruleset::Ms, ms)?;
+        keeper.add(Ruleset::Lynx, lynx)?;
+        keeper.add(Ruleset::Ms, ms)?;
         Ok(keeper)
     }
 
     // Adds a text, if there is one.
-    fn put(&mut self, kind: Ruleset, text: Option<Vec<u8, A>>) -> Result<(), AllocError>
+    fn add(&mut self, kind: Ruleset, text: Option<Vec<u8, A>>) -> Result<(), AllocError>
         ensures kept { OnOk result (self.new.kept.items ≡ self.old.kept.items ++ given kind (texts_of text)) }
         ensures fails { self.new.fails_in ≡ self.old.fails_in }
         ensures failures { self.new.failures ≡ self.old.failures }
@@ -113,8 +113,8 @@ impl<A: Allocator + Copy> MemoryKeeper<A> {
         self.kept.as_slice()
     }
 
-    // Counts a call: whether it is the one that fails.
-    fn fails(&mut self) -> bool
+    // Counts a call. Returns whether it is the one that fails.
+    fn count_call(&mut self) -> bool
         ensures fails { result ≡ (self.old.fails_in == 1) }
         ensures kept { self.new.kept ≡ self.old.kept }
         ensures count { self.new.fails_in ≡ self.old.fails_in - 1 }
@@ -149,7 +149,7 @@ impl<A: Allocator + Copy> Keeper for MemoryKeeper<A> {
         ensures alone { result ≡ Err KeepFault.Device → self.old.fails_in ≡ 1 }
         ensures steady { self.old.fails_in ≢ 1 → self.new.failures ≡ self.old.failures }
     {
-        let fails = self.fails();
+        let fails = self.count_call();
         let mut text = Vec::new(self.alloc);
         let Ok(()) = collection.write_text(&mut text) else {
             return Err(KeepFault::Memory);
@@ -183,7 +183,7 @@ impl<A: Allocator + Copy> Keeper for MemoryKeeper<A> {
         ensures alone { result ≡ Err KeepFault.Device → self.old.fails_in ≡ 1 }
         ensures steady { self.old.fails_in ≢ 1 → self.new.failures ≡ self.old.failures }
     {
-        if self.fails() {
+        if self.count_call() {
             return Err(KeepFault::Device);
         }
         let Some(text) = last_of(self.kept.as_slice(), kind) else {

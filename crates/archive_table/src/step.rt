@@ -1,12 +1,12 @@
-ghost use Rattle.std.specs.Prelude.{◌≡◌, Some};
-ghost use Rattle.archive_table.specs.Server.{nothing_told};
+ghost use Rattle.std.specs.Prelude.{◌≡◌, None};
+ghost use Rattle.archive_table.specs.Server.{nothing_told, sends_from};
 
 use crate::taken::Taken;
 use std::alloc::{Allocator, Global};
 use std::marker::Model;
-use tftp_packet::{Endpoint, Out, Refusal};
+use tftp_packet::{Dgram, Endpoint, Out};
 
-/// What a call of the table tells.
+/// What a call of the table returns.
 #[derive(Drop)]
 #[derive_where(Debug)]
 pub struct Step<A: Allocator = Global> {
@@ -40,6 +40,20 @@ impl<A: Allocator> Step<A> {
             opened: false,
             taken: None,
             closed: false,
+        }
+    }
+
+    // Sends this datagram from a port, if there is one.
+    pub(crate) fn send(&mut self, port: u16, to: Endpoint, dgram: Option<Dgram>)
+        requires silent { self.old.out ≡ None }
+        ensures { self.new ≡ record { out = sends_from port to dgram; opened = self.old.opened; taken = self.old.taken; closed = self.old.closed } }
+    {
+        if let Some(dgram) = dgram {
+            self.out = Some(Out {
+                from_port: port,
+                to,
+                dgram,
+            });
         }
     }
 }

@@ -1,7 +1,9 @@
 //! The table of a server.
 
-ghost use Rattle.std.specs.Prelude.{◌≡◌, ◌≢◌, ◌≤◌, [], None, Some, Err, IfOk, IfErr, true, false, length, is_some};
-ghost use Rattle.archive_table.specs.Server.{nothing_told, refuses, opens_if, request_verdict, server_request, server_timeout, transfer_at, has_place, read_asked, read_placed, write_asked, is_octet as octet_mode, map_of, port_above, IsEnd, IsServer, closes, ack_live, data_live, file_done, server_datagram, grant_of, reply_grant, all, Merges, refusal_of as refusal_told, refusal_dgram, sends_from};
+ghost use Rattle.std.specs.Prelude.{◌≡◌, ◌≢◌, ◌≤◌, [], None, Some, Err, IfOk, IfErr, true, length, is_some};
+ghost use Rattle.std.specs.Map.{remove_entry};
+ghost use Rattle.archive_table.specs.Server.{nothing_told, refuses, opens_if, request_verdict, server_request, server_timeout, transfer_at, has_place, read_asked, read_placed, write_asked, map_of, port_above, IsEnd, IsServer, closes, ack_live, data_live, file_done, server_datagram, grant_of, reply_grant, all, unkept, at_port, with_live, Merges, refusal_dgram};
+ghost use Rattle.tftp_packet.specs.Packet.{is_octet as octet_mode};
 ghost use Rattle.archive_table.specs.Keeper.{StepKeeps, LoadedFrom, TableFails, FailsAt};
 ghost use Rattle.archive_table.specs.View.{end_of};
 ghost use Rattle.tws_file.specs.Reader.{IsAnswer};
@@ -16,14 +18,13 @@ use crate::limits::LIVE;
 use crate::load::load_collection;
 use crate::load_fault::LoadFault;
 use crate::ports::Ports;
-use crate::request::{named, octet};
 use crate::step::Step;
 use crate::taken::Taken;
 use crate::transfer::Transfer;
 use std::alloc::{Allocator, Global};
 use std::marker::Model;
-use tftp_ends::{MAX_FILE, RecvFault, RecvState, SendState, Sender};
-use tftp_packet::{Dgram, Endpoint, Out, Packet, Refusal, decode, encode_ack};
+use tftp_ends::{MAX_FILE, RecvState, SendState, Sender};
+use tftp_packet::{Dgram, Endpoint, Out, Packet, Refusal, decode, encode_ack, is_octet};
 use tws_best::{Collection, Snapshot};
 use tws_file::Ruleset;
 
@@ -49,44 +50,8 @@ impl<A: Allocator + Copy> Model for Table<A> {
     ghost invariant = { λ t. IsServer (server_of t) };
 }
 
-// What a call tells that sends a datagram, or none, and does no more.
-fn told<A: Allocator>(port: u16, to: Endpoint, dgram: Option<Dgram>) -> Step<A>
-    ensures { result ≡ record { out = sends_from port to dgram; opened = false; taken = None; closed = false } }
-{
-    let Some(dgram) = dgram else {
-        return Step::nothing();
-    };
-    Step {
-        out: Some(Out {
-            from_port: port,
-            to,
-            dgram,
-        }),
-        opened: false,
-        taken: None,
-        closed: false,
-    }
-}
-
-// What a call tells that sends an error and does no more.
-fn told_error<A: Allocator>(port: u16, to: Endpoint, why: Refusal) -> Step<A>
-    ensures { result ≡ record { out = Some (record { from_port = port; to = to; dgram = refusal_dgram why }); opened = false; taken = None; closed = false } }
-{
-    told(port, to, Some(why.dgram()))
-}
-
-// The error that is sent where a block was not taken.
-fn refusal_of(fault: RecvFault) -> Refusal
-    ensures { result ≡ refusal_told fault }
-{
-    match fault {
-        RecvFault::Memory => Refusal::OutOfMemory,
-        RecvFault::TooLong => Refusal::FileTooLong,
-    }
-}
-
 impl<A: Allocator + Copy> Table<A> {
-    /// A server with this request port, empty collections and no transfer. It takes no memory by this.
+    /// A server with this request port, empty collections and no transfer. It takes no memory.
     pub fn new(alloc: A, request: u16) -> Self
         ensures request { result.request ≡ request }
         ensures lynx { result.maps.lynx ≡ record { «ruleset» = Ruleset.Lynx; entries = [] } }
@@ -104,7 +69,7 @@ impl<A: Allocator + Copy> Table<A> {
     }
 
     /// A server with this request port, the collections that a keeper has, empty where it has none, and no transfer.
-    /// Nothing is kept by this.
+    /// Nothing is kept.
     ///
     /// # Errors
     ///
@@ -136,7 +101,9 @@ impl<A: Allocator + Copy> Table<A> {
         ensures told { result ≡ (refuses why from self.now).told }
         ensures fits { IsServer self.now }
     {
-        told_error(self.request, from, why)
+        let mut step = Step::nothing();
+        step.send(self.request, from, Some(why.dgram()));
+        step
     }
 
     // Opens a transfer at the spare port, which sends its first datagram from there, if there is memory for it.
@@ -178,7 +145,7 @@ impl<A: Allocator + Copy> Table<A> {
         ensures told { result ≡ (write_asked (octet_mode mode.now) (request_verdict result.opened) spare from self.old).told }
         ensures fits { IsServer self.new }
     {
-        if !octet(mode) {
+        if !is_octet(mode) {
             return self.refuse(from, Refusal::OctetOnly);
         }
         if !self.has_place() {
@@ -196,10 +163,10 @@ impl<A: Allocator + Copy> Table<A> {
         ensures told { result ≡ (read_asked (octet_mode mode.now) (request_verdict result.opened) spare from name.now self.old).told }
         ensures fits { IsServer self.new }
     {
-        if !octet(mode) {
+        if !is_octet(mode) {
             return self.refuse(from, Refusal::OctetOnly);
         }
-        match named(name) {
+        match Ruleset::from_file_name(name) {
             Some(kind) => self.on_named(spare, from, kind),
             None => self.refuse(from, Refusal::NoSuchFile),
         }
@@ -247,17 +214,8 @@ impl<A: Allocator + Copy> Table<A> {
         match decode(bytes) {
             Ok(Packet::Read { name, mode }) => self.on_read(spare, from, name, mode),
             Ok(Packet::Write { mode, .. }) => self.on_write(spare, from, mode),
-            Ok(_) | Err(_) => self.nothing(),
+            Ok(_) | Err(_) => self.ignore(),
         }
-    }
-
-    // Nothing is done.
-    fn nothing(&self) -> Step<A>
-        ensures told { result ≡ nothing_told }
-        ensures fits { IsServer self.now }
-    {
-        let _request = self.request;
-        Step::nothing()
     }
 
     // Whether one more transfer can be opened.
@@ -267,55 +225,62 @@ impl<A: Allocator + Copy> Table<A> {
         self.live.len() < LIVE
     }
 
+    // Any other datagram at the request port. A field is read, since only then the invariant is known here.
+    fn ignore(&self) -> Step<A>
+        ensures told { result ≡ nothing_told }
+        ensures fits { IsServer self.now }
+    {
+        let _request = self.request;
+        Step::nothing()
+    }
+
+    // The functions from here on take part in the step of a datagram or a time-out. It is made once and written where it
+    // lies, since each of them would copy it to return it.
+
     // The transfer at a port ends.
-    fn close(&mut self, port: u16, peer: Endpoint, dgram: Option<Dgram>) -> Step<A>
-        ensures server { self.new ≡ (closes port peer dgram self.old).server }
-        ensures told { result ≡ (closes port peer dgram self.old).told }
+    fn close(&mut self, port: u16, step: &mut Step<A>)
+        ensures server { self.new ≡ with_live (remove_entry (at_port port) self.old.live) self.old }
+        ensures told { step.new ≡ record { out = step.old.out; opened = step.old.opened; taken = step.old.taken; closed = true } }
         ensures fits { IsServer self.new }
     {
         self.live.remove(port);
-        let mut step = told(port, peer, dgram);
         step.closed = true;
-        step
-    }
-
-    // The transfer at a port ends, and nothing is sent.
-    fn end(&mut self, port: u16, peer: Endpoint) -> Step<A>
-        ensures server { self.new ≡ (closes port peer None self.old).server }
-        ensures told { result ≡ (closes port peer None self.old).told }
-        ensures fits { IsServer self.new }
-    {
-        self.close(port, peer, None)
     }
 
     // The transfer at a port fails, and the peer is told why.
-    fn fail(&mut self, port: u16, peer: Endpoint, why: Refusal) -> Step<A>
+    fn fail(&mut self, port: u16, peer: Endpoint, why: Refusal, step: &mut Step<A>)
+        requires new { step.old ≡ nothing_told }
         ensures server { self.new ≡ (closes port peer (Some (refusal_dgram why)) self.old).server }
-        ensures told { result ≡ (closes port peer (Some (refusal_dgram why)) self.old).told }
+        ensures told { step.new ≡ (closes port peer (Some (refusal_dgram why)) self.old).told }
         ensures fits { IsServer self.new }
     {
-        self.close(port, peer, Some(why.dgram()))
+        step.send(port, peer, Some(why.dgram()));
+        self.close(port, step);
     }
 
     // ACK `n` of the peer has come to a port.
-    #[tactic(auto, using(crate::proofs::Live::remove_set, crate::proofs::Live::set_same, crate::proofs::Replies::sender_grant, crate::proofs::Replies::sent_grant))]
-    fn on_ack(&mut self, port: u16, n: u16) -> Step<A>
+    #[tactic(auto, using(crate::proofs::Live::remove_set, crate::proofs::Live::set_same, crate::proofs::Replies::data_grant))]
+    fn on_ack(&mut self, port: u16, n: u16, step: &mut Step<A>)
+        requires new { step.old ≡ nothing_told }
         ensures server { self.new ≡ (ack_live (transfer_at port self.old) port n self.old).server }
-        ensures told { result ≡ (ack_live (transfer_at port self.old) port n self.old).told }
-        ensures grant { grant_of result.out ≡ all }
+        ensures told { step.new ≡ (ack_live (transfer_at port self.old) port n self.old).told }
+        ensures grant { grant_of step.new.out ≡ all }
         ensures fits { IsServer self.new }
     {
         let Some(transfer) = self.live.get_mut(port) else {
-            return Step::nothing();
+            return;
         };
         let peer = transfer.peer;
         let End::Sending(sender) = &mut transfer.end else {
-            return Step::nothing();
+            return;
         };
-        let out = sender.on_ack(n);
+        if sender.advance(n) {
+            step.send(port, peer, Some(sender.data()));
+            return;
+        }
         match sender.state() {
-            SendState::Running => told(port, peer, out),
-            SendState::Finished | SendState::TimedOut => self.close(port, peer, out),
+            SendState::Running => {}
+            SendState::Finished | SendState::TimedOut => self.close(port, step),
         }
     }
 
@@ -327,50 +292,91 @@ impl<A: Allocator + Copy> Table<A> {
         peer: Endpoint,
         whole: Whole<A>,
         ack: Option<Dgram>,
-    ) -> Step<A>
+        step: &mut Step<A>,
+    )
         requires acks { reply_grant ack ≡ all }
         requires read { IsAnswer whole.file whole.read }
-        ensures server { self.new ≡ (file_done (grant_of result.out) self.new.maps port peer whole.file ack self.old).server }
-        ensures told { result ≡ (file_done (grant_of result.out) self.new.maps port peer whole.file ack self.old).told }
-        ensures merges { Merges result.taken self.old.maps self.new.maps }
-        ensures keeps { StepKeeps (grant_of result.out) (Some (record { peer = peer; file = whole.file })) self.old.maps self.new.maps (K.log keeper.old) (K.log keeper.new) }
+        requires new { step.old ≡ nothing_told }
+        ensures server { self.new ≡ (file_done (grant_of step.new.out) self.new.maps port peer whole.file ack self.old).server }
+        ensures told { step.new ≡ (file_done (grant_of step.new.out) self.new.maps port peer whole.file ack self.old).told }
+        ensures merges { Merges step.new.taken self.old.maps self.new.maps }
+        ensures keeps { StepKeeps (grant_of step.new.out) (Some (record { peer = peer; file = whole.file })) self.old.maps self.new.maps (K.log keeper.old) (K.log keeper.new) }
+        ensures untouched { grant_of step.new.out ≢ unkept → self.new.maps ≡ self.old.maps → keeper.new ≡ keeper.old }
         ensures fits { IsServer self.new }
     {
         let Whole { file, read } = whole;
         match merge_file(&mut self.lynx, &mut self.ms, keeper, &read) {
             Ok(()) => {
-                let mut step = told(port, peer, ack);
+                step.send(port, peer, ack);
                 step.taken = Some(Taken { peer, file });
-                step
             }
-            Err(why) => self.fail(port, peer, why),
+            Err(why) => self.fail(port, peer, why, step),
         }
     }
 
     // DATA `n` of the peer has come to a port.
     #[tactic(auto, using(crate::proofs::Live::remove_set, crate::proofs::Live::set_same, crate::proofs::Replies::data_reply, crate::proofs::Replies::past_grant, crate::proofs::Replies::memory_grant, crate::proofs::Replies::sent_grant, crate::proofs::Live::done_come))]
-    fn on_data<K: Keeper>(&mut self, keeper: &mut K, port: u16, n: u16, body: &[u8]) -> Step<A>
+    fn on_data<K: Keeper>(
+        &mut self,
+        keeper: &mut K,
+        port: u16,
+        n: u16,
+        body: &[u8],
+        step: &mut Step<A>,
+    )
         requires short { length body.now ≤ 512 }
-        ensures server { self.new ≡ (data_live (transfer_at port self.old) (grant_of result.out) self.new.maps port n body.now self.old).server }
-        ensures told { result ≡ (data_live (transfer_at port self.old) (grant_of result.out) self.new.maps port n body.now self.old).told }
-        ensures merges { Merges result.taken self.old.maps self.new.maps }
-        ensures keeps { StepKeeps (grant_of result.out) (data_live (transfer_at port self.old) all self.old.maps port n body.now self.old).told.taken self.old.maps self.new.maps (K.log keeper.old) (K.log keeper.new) }
+        requires new { step.old ≡ nothing_told }
+        ensures server { self.new ≡ (data_live (transfer_at port self.old) (grant_of step.new.out) self.new.maps port n body.now self.old).server }
+        ensures told { step.new ≡ (data_live (transfer_at port self.old) (grant_of step.new.out) self.new.maps port n body.now self.old).told }
+        ensures merges { Merges step.new.taken self.old.maps self.new.maps }
+        ensures keeps { StepKeeps (grant_of step.new.out) (data_live (transfer_at port self.old) all self.old.maps port n body.now self.old).told.taken self.old.maps self.new.maps (K.log keeper.old) (K.log keeper.new) }
+        ensures untouched { grant_of step.new.out ≢ unkept → self.new.maps ≡ self.old.maps → keeper.new ≡ keeper.old }
         ensures fits { IsServer self.new }
     {
         let Some(transfer) = self.live.get_mut(port) else {
-            return Step::nothing();
+            return;
         };
         let peer = transfer.peer;
         let End::Receiving(incoming) = &mut transfer.end else {
-            return Step::nothing();
+            return;
         };
         let came = incoming.on_data(n, body);
         match came {
-            Err(fault) => self.fail(port, peer, refusal_of(fault)),
+            Err(fault) => self.fail(port, peer, fault.refusal(), step),
             Ok((ack, whole)) => match whole {
-                None => told(port, peer, ack),
-                Some(whole) => self.on_file(keeper, port, peer, whole, ack),
+                None => step.send(port, peer, ack),
+                Some(whole) => self.on_file(keeper, port, peer, whole, ack, step),
             },
+        }
+    }
+
+    // A datagram of these bytes has come from `from` to a transfer's port.
+    fn hear<K: Keeper>(
+        &mut self,
+        keeper: &mut K,
+        port: u16,
+        from: Endpoint,
+        bytes: &[u8],
+        step: &mut Step<A>,
+    )
+        requires new { step.old ≡ nothing_told }
+        ensures server { self.new ≡ (server_datagram (grant_of step.new.out) self.new.maps port from bytes.now self.old).server }
+        ensures told { step.new ≡ (server_datagram (grant_of step.new.out) self.new.maps port from bytes.now self.old).told }
+        ensures merges { Merges step.new.taken self.old.maps self.new.maps }
+        ensures keeps { StepKeeps (grant_of step.new.out) (server_datagram all self.old.maps port from bytes.now self.old).told.taken self.old.maps self.new.maps (K.log keeper.old) (K.log keeper.new) }
+        ensures untouched { grant_of step.new.out ≢ unkept → self.new.maps ≡ self.old.maps → keeper.new ≡ keeper.old }
+        ensures fits { IsServer self.new }
+    {
+        let Some(transfer) = self.live.get(port) else {
+            return;
+        };
+        let peer = transfer.peer;
+        match hear(peer, from, bytes) {
+            Heard::Nothing => {}
+            Heard::Stray => step.send(port, from, Some(Refusal::UnknownTransfer.dgram())),
+            Heard::Ended => self.close(port, step),
+            Heard::Ack(n) => self.on_ack(port, n, step),
+            Heard::Data { n, body } => self.on_data(keeper, port, n, body, step),
         }
     }
 
@@ -383,7 +389,7 @@ impl<A: Allocator + Copy> Table<A> {
     /// kept where that changed it, before it is acknowledged; then the file is taken. Bytes that are no solution file
     /// are taken and change nothing. A block that is one too many, memory that is refused and a collection that is not
     /// kept close the transfer with an ERROR, and no collection changes. A port that is not live gives an empty step.
-    #[tactic(auto, using(crate::proofs::SamePort::live_same))]
+    #[tactic(auto, using(crate::proofs::SamePort::datagram_same))]
     pub fn on_datagram<K: Keeper>(
         &mut self,
         keeper: &mut K,
@@ -396,51 +402,58 @@ impl<A: Allocator + Copy> Table<A> {
         ensures merges { Merges result.taken self.old.maps self.new.maps }
         ensures request { self.new.request ≡ self.old.request }
         ensures keeps { StepKeeps (grant_of result.out) (server_datagram all self.old.maps port from bytes.now self.old).told.taken self.old.maps self.new.maps (K.log keeper.old) (K.log keeper.new) }
+        // The keeper is called only for a collection that changes, or would if it were kept.
+        ensures untouched { grant_of result.out ≢ unkept → self.new.maps ≡ self.old.maps → keeper.new ≡ keeper.old }
         ensures fits { IsServer self.new }
     {
-        let Some(transfer) = self.live.get(port) else {
-            return self.nothing();
+        let mut step = Step::nothing();
+        self.hear(keeper, port, from, bytes, &mut step);
+        step
+    }
+
+    // Nothing has come to a port for a while.
+    #[tactic(auto, using(crate::proofs::Live::remove_set, crate::proofs::Live::set_same))]
+    fn time_out(&mut self, port: u16, step: &mut Step<A>)
+        requires new { step.old ≡ nothing_told }
+        ensures server { self.new ≡ (server_timeout port self.old).server }
+        ensures told { step.new ≡ (server_timeout port self.old).told }
+        ensures fits { IsServer self.new }
+    {
+        let Some(transfer) = self.live.get_mut(port) else {
+            return;
         };
         let peer = transfer.peer;
-        match hear(peer, from, bytes) {
-            Heard::Nothing => self.nothing(),
-            Heard::Stray => told_error(port, from, Refusal::UnknownTransfer),
-            Heard::Ended => self.end(port, peer),
-            Heard::Ack(n) => self.on_ack(port, n),
-            Heard::Data { n, body } => self.on_data(keeper, port, n, body),
+        match &mut transfer.end {
+            End::Sending(sender) => {
+                step.send(port, peer, sender.on_timeout());
+                match sender.state() {
+                    SendState::Running => {}
+                    SendState::Finished | SendState::TimedOut => self.close(port, step),
+                }
+            }
+            End::Receiving(incoming) => {
+                step.send(port, peer, incoming.on_timeout());
+                match incoming.state() {
+                    RecvState::Running | RecvState::Complete => {}
+                    RecvState::TimedOut | RecvState::Over => self.close(port, step),
+                }
+            }
         }
     }
 
     /// Nothing has come to a port for a while. What its transfer sent last is sent again; the transfer is closed where
     /// its end gives up or has waited long enough for a repeated last block. A port that is not live gives an empty
     /// step.
-    #[tactic(auto, using(crate::proofs::Live::remove_set, crate::proofs::Live::set_same, crate::proofs::SamePort::timeout_same))]
+    #[tactic(auto, using(crate::proofs::SamePort::timeout_same))]
     pub fn on_timeout(&mut self, port: u16) -> Step<A>
         ensures server { self.new ≡ (server_timeout port self.old).server }
         ensures told { result ≡ (server_timeout port self.old).told }
         ensures request { self.new.request ≡ self.old.request }
         ensures fits { IsServer self.new }
     {
-        let Some(transfer) = self.live.get_mut(port) else {
-            return Step::nothing();
-        };
-        let peer = transfer.peer;
-        match &mut transfer.end {
-            End::Sending(sender) => {
-                let out = sender.on_timeout();
-                match sender.state() {
-                    SendState::Running => told(port, peer, out),
-                    SendState::Finished | SendState::TimedOut => self.close(port, peer, out),
-                }
-            }
-            End::Receiving(incoming) => {
-                let out = incoming.on_timeout();
-                match incoming.state() {
-                    RecvState::Running | RecvState::Complete => told(port, peer, out),
-                    RecvState::TimedOut | RecvState::Over => self.close(port, peer, out),
-                }
-            }
-        }
+        let mut step = Step::nothing();
+        self.time_out(port, &mut step);
+        step
     }
 
     /// The collection of a ruleset.

@@ -8,31 +8,25 @@ use Rattle.archive_table.proofs.Replies.{data_reply, sent_grant}
 use Rattle.archive_table.proofs.Serving.{set_fits}
 use Rattle.archive_table.proofs.table.Table.on_data.Goals as goal
 
--- src/table.rt:324:5
 pub invariant_of-self-in-Err : goal.invariant_of-self-in-Err
 invariant_of-self-in-Err g c = set_fits c.args.port _ (server_of c.self.inside) c.self.invariant c.on_data-came.ensures.fits
 
--- src/table.rt:324:5
 pub invariant_of-self-in-None : goal.invariant_of-self-in-None
 invariant_of-self-in-None g c = set_fits c.args.port _ (server_of c.self.inside) c.self.invariant c.on_data-came.ensures.fits
 
--- src/table.rt:324:5
 pub invariant_of-self-in-Some-whole : goal.invariant_of-self-in-Some-whole
 invariant_of-self-in-Some-whole g c = set_fits c.args.port _ (server_of c.self.inside) c.self.invariant c.on_data-came.ensures.fits
 
--- src/table.rt:324:5
 pub returns-in-None-clause-fits : goal.returns-in-None-clause-fits
 returns-in-None-clause-fits g c = set_fits c.args.port _ (server_of c.self.inside) c.self.invariant c.on_data-came.ensures.fits
 
--- src/table.rt:353:5
 pub returns-in-Err-clause-keeps : goal.returns-in-Err-clause-keeps
 returns-in-Err-clause-keeps g c =
-    let grant = ap (λ (t : Told). grant_of t.out) c.fail.ensures.told ∙ ap (λ (w : Refusal). dgram_grant (refusal_dgram w)) c.refusal_of.ensures in
-    keeps_same (grant_of c.fail.result.out) _ c.args.self.now.maps c.fail.new.self.maps _ _ (λ e. fault_grant c.in-Err.fault (sym grant ∙ e)) (ap (λ (s : Server). s.maps) (c.fail.ensures.server) ∙ ap (λ (s : Server). s.maps) c.self.view_is) refl
+    let grant = ap (λ (t : Told). grant_of t.out) c.fail.ensures.told ∙ ap (λ (w : Refusal). dgram_grant (refusal_dgram w)) c.refusal.ensures in
+    keeps_same (grant_of c.fail.new.step.out) _ c.args.self.now.maps c.fail.new.self.maps _ _ (λ e. fault_grant c.in-Err.fault (sym grant ∙ e)) (ap (λ (s : Server). s.maps) (c.fail.ensures.server) ∙ ap (λ (s : Server). s.maps) c.self.view_is) refl
 
--- src/table.rt:353:5
 pub returns-in-None-clause-keeps : goal.returns-in-None-clause-keeps
 returns-in-None-clause-keeps g c =
-    keeps_all (grant_of c.told.result.out) _ c.args.self.now.maps _ _ _
-    (ap (λ (t : Told). grant_of t.out) c.told.ensures ∙ sent_grant c.args.port _ c.in-Ok.ack (data_reply granted c.args.n c.args.body.now _ c.in-Ok.ack c.in-Ok.ensures.sent))
+    keeps_all (grant_of c.send.new.self.out) _ c.args.self.now.maps _ _ _
+    (ap (λ (t : Told). grant_of t.out) c.send.ensures ∙ sent_grant c.args.port _ c.in-Ok.ack (data_reply granted c.args.n c.args.body.now _ c.in-Ok.ack c.in-Ok.ensures.sent))
     (ap (λ (s : Server). s.maps) c.self.view_is) refl
