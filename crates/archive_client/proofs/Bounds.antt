@@ -54,7 +54,7 @@ at-short false peer port bytes is = tt
 
 -- ---- a receiver keeps its file, and gives up at a time-out alone
 
-record IsHeld (r : Receiver) : Type 0 where
+record HoldsFile (r : Receiver) : Type 0 where
   file : IsSome r.file
   alive : r.state ≢ recv.TimedOut
 
@@ -66,23 +66,23 @@ after-alive : (full : Bool) → state_after full ≢ recv.TimedOut
 after-alive true = λ e. cc
 after-alive false = λ e. cc
 
-takes-held : (verdict : Verdict) (body : List ℕ) (r : Receiver) → IsHeld r → IsHeld (receiver_takes verdict body r).receiver
+takes-held : (verdict : Verdict) (body : List ℕ) (r : Receiver) → HoldsFile r → HoldsFile (receiver_takes verdict body r).receiver
 takes-held granted body r h = record { file = appends-held r.file body h.file; alive = after-alive (length body == BLOCK_SIZE) }
 takes-held refused body r h = h
 
-next-held : (past : Bool) (verdict : Verdict) (body : List ℕ) (r : Receiver) → IsHeld r → IsHeld (receiver_next past verdict body r).receiver
+next-held : (past : Bool) (verdict : Verdict) (body : List ℕ) (r : Receiver) → HoldsFile r → HoldsFile (receiver_next past verdict body r).receiver
 next-held true verdict body r h = h
 next-held false verdict body r h = takes-held verdict body r h
 
-again-held : (last : Bool) (r : Receiver) → IsHeld r → IsHeld (receiver_again last r).receiver
+again-held : (last : Bool) (r : Receiver) → HoldsFile r → HoldsFile (receiver_again last r).receiver
 again-held true r h = h
 again-held false r h = h
 
-running-held : (next : Bool) (verdict : Verdict) (n : ℕ) (body : List ℕ) (r : Receiver) → IsHeld r → IsHeld (receiver_running next verdict n body r).receiver
+running-held : (next : Bool) (verdict : Verdict) (n : ℕ) (body : List ℕ) (r : Receiver) → HoldsFile r → HoldsFile (receiver_running next verdict n body r).receiver
 running-held true verdict n body r h = next-held (is_past n body) verdict body r h
 running-held false verdict n body r h = again-held (is_last_come n r) r h
 
-in-held : (state : RecvState) (verdict : Verdict) (n : ℕ) (body : List ℕ) (r : Receiver) → IsHeld r → IsHeld (receiver_data_in state verdict n body r).receiver
+in-held : (state : RecvState) (verdict : Verdict) (n : ℕ) (body : List ℕ) (r : Receiver) → HoldsFile r → HoldsFile (receiver_data_in state verdict n body r).receiver
 in-held recv.Running verdict n body r h = running-held (n == r.count + 1) verdict n body r h
 in-held recv.Complete verdict n body r h = again-held (is_last_come n r) r h
 in-held recv.TimedOut verdict n body r h = h
@@ -123,9 +123,9 @@ answered-fits : (first : Bool) (port own : ℕ) (server : Endpoint) (file : List
 answered-fits true port own server file misses is = record { bounds = IsSender-start file is.0; alive = λ e. cc }
 answered-fits false port own server file misses is = is
 
-took-fits : (peer : ℕ) (verdict : Verdict) (n : ℕ) (body : List ℕ) (r : Receiver) (c : Client) (answer : Result (Option Packet) RecvFault) → length body ≤ BLOCK_SIZE → IsReceiver r → IsHeld r → IsPhase (get_took peer (receiver_data verdict n body r).receiver answer c).client.phase
+took-fits : (peer : ℕ) (verdict : Verdict) (n : ℕ) (body : List ℕ) (r : Receiver) (c : Client) (answer : Result (Option Packet) RecvFault) → length body ≤ BLOCK_SIZE → IsReceiver r → HoldsFile r → IsPhase (get_took peer (receiver_data verdict n body r).receiver answer c).client.phase
 took-fits peer verdict n body r c (Ok out) short fits held =
-    let h : IsHeld (receiver_data verdict n body r).receiver = in-held r.state verdict n body r held in
+    let h : HoldsFile (receiver_data verdict n body r).receiver = in-held r.state verdict n body r held in
     record { bounds = (receiver_data-keeps verdict n body r short).fits fits; whole = h.file; alive = h.alive }
 took-fits peer verdict n body r c (Err e) short fits held = tt
 

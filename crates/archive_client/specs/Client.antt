@@ -5,7 +5,7 @@ use Rattle.tftp_packet.specs.declared.endpoint.Endpoint.{Endpoint}
 use Rattle.tftp_packet.specs.declared.out.Out.{Out}
 use Rattle.tftp_packet.specs.declared.packet_fault.PacketFault.{PacketFault}
 use Rattle.tftp_packet.specs.declared.refusal.Refusal.{Refusal}
-use Rattle.tftp_packet.specs.declared.refusal.Refusal.TheVariants.{OutOfMemory, FileTooLong, UnknownTransfer}
+use Rattle.tftp_packet.specs.declared.refusal.Refusal.TheVariants.{UnknownTransfer}
 use Rattle.tftp_packet.specs.Packet.{Packet, read, write, data_block, ack, error, octet, encode}
 use Rattle.tftp_packet.specs.Blocks.{block_count}
 use Rattle.tftp_packet.specs.Refusal.{refusal_packet}
@@ -17,7 +17,7 @@ use Rattle.tftp_ends.specs.declared.recv_state.RecvState.{RecvState}
 use Rattle.tftp_ends.specs.declared.recv_state.RecvState.TheVariants as recv
 use Rattle.tftp_ends.specs.declared.recv_fault.RecvFault.{RecvFault}
 use Rattle.tftp_ends.specs.declared.recv_fault.RecvFault.TheVariants as fault
-use Rattle.tftp_ends.specs.Ends.{Verdict, granted, refused, Sender, SendAnswer, sender_start, sender_ack, sender_timeout, data_packet, IsSender, Receiver, RecvAnswer, DataAnswer, receiver_start, receiver_data, receiver_timeout, receiver_take, IsReceiver}
+use Rattle.tftp_ends.specs.Ends.{Verdict, granted, refused, Sender, SendAnswer, sender_start, sender_ack, sender_timeout, data_packet, IsSender, Receiver, RecvAnswer, DataAnswer, receiver_start, receiver_data, receiver_timeout, receiver_take, refusal_of, IsReceiver}
 use Rattle.tws_file.specs.declared.«ruleset».Ruleset.{Ruleset}
 use Rattle.tws_file.specs.Names.{file_name_of, upload_name}
 use Rattle.archive_client.specs.declared.cause.Cause.{Cause}
@@ -220,10 +220,6 @@ ack_heard (failed why) port n c = stays c
 abbrev pub cause_of : RecvFault → Cause
 cause_of fault.Memory = cause.Memory
 cause_of fault.TooLong = cause.TooLong
-
-abbrev pub refusal_of : RecvFault → Refusal
-refusal_of fault.Memory = OutOfMemory
-refusal_of fault.TooLong = FileTooLong
 
 -- a block that is not taken fails the client, and the server is told why
 abbrev pub get_took : (peer : ℕ) → Receiver → Result (Option Packet) RecvFault → Client → Answer

@@ -13,7 +13,8 @@ pub enum Cause {
     /// Nothing came for `MISSES` time-outs in a row.
     #[error("timed out")]
     TimedOut,
-    /// The file goes on after block `MAX_BLOCKS`: of a get alone.
+    /// The file has more blocks than can be numbered: that of a get goes on after block `MAX_BLOCKS`, that of a put has more
+    /// than `MAX_FILE` bytes.
     #[error("too long")]
     TooLong,
     /// Out of memory for a block: of a get alone.

@@ -2,7 +2,8 @@
 
 ghost use Rattle.std.specs.Prelude.{◌≡◌, ◌≢◌, ◌≤◌, length, Some, None, false, IsOk, IfOk, ◌↔◌, option_copied};
 ghost use Rattle.tftp_packet.specs.Refusal.{refusal_packet};
-ghost use Rattle.archive_client.specs.Client.{get, failed, in_phase, out_to, cause_of, refusal_of as told, client_start, request_out, client_datagram, client_timeout, verdict_after, state_of, is_over, phase_peer, data_heard, file_of, phase_file, IsClient};
+ghost use Rattle.archive_client.specs.Client.{get, failed, in_phase, out_to, cause_of, client_start, request_out, client_datagram, client_timeout, verdict_after, state_of, is_over, phase_peer, data_heard, file_of, phase_file, IsClient};
+ghost use Rattle.tftp_ends.specs.Ends.{refusal_of};
 
 use crate::cause::Cause;
 use crate::heard::Heard;
@@ -40,16 +41,6 @@ impl<A: Allocator + Copy> Model for Get<A> {
     ghost invariant = { λ g. IsClient (get_of g) };
 }
 
-// The error that is sent where a block was not taken.
-fn refusal_of(fault: RecvFault) -> Refusal
-    ensures { result ≡ told fault }
-{
-    match fault {
-        RecvFault::Memory => Refusal::OutOfMemory,
-        RecvFault::TooLong => Refusal::FileTooLong,
-    }
-}
-
 impl<A: Allocator + Copy> Get<A> {
     /// A client at `port` of our own host that asks the server for the collection of this ruleset, and the request for
     /// the caller to send: RRQ of RFC 1350 section 5. The server is at the host and the request port of `server`. What
@@ -74,10 +65,10 @@ impl<A: Allocator + Copy> Get<A> {
     // A block was not taken: the client has failed, and tells the server why.
     fn refuse(&mut self, port: u16, fault: RecvFault) -> Option<Out>
         ensures client { self.new ≡ in_phase (failed (cause_of fault)) self.old }
-        ensures sent { result ≡ Some (out_to port (refusal_packet (told fault)) self.old) }
+        ensures sent { result ≡ Some (out_to port (refusal_packet (refusal_of fault)) self.old) }
     {
         self.phase = Phase::Failed(Cause::of(fault));
-        Some(self.line.out(port, refusal_of(fault).dgram()))
+        Some(self.line.out(port, fault.refusal().dgram()))
     }
 
     // Block 1 has come from a port: binds to it and takes the block.
@@ -120,13 +111,13 @@ impl<A: Allocator + Copy> Get<A> {
         }
     }
 
-    /// A datagram of these bytes has come from `from` to the client's port. What is answered is to be sent.
+    /// A datagram of these bytes has come from `from` to the client's port. Returns the datagram to send, if any.
     ///
     /// The first DATA 1 from a port of the server's host binds the client to that port. From then on a packet from
     /// another port of that host is answered with ERROR 5, RFC 1350 section 4, and changes nothing; an ERROR from there
     /// has no effect. An ERROR that is for the client fails it, unless the whole file has come. A block that is one too
-    /// many, or for which memory is refused, fails the client and is answered with ERROR 3, also where it is the first.
-    /// Nothing has any effect that comes from another host, that is no packet, or that comes once the client is `over`.
+    /// many, or for which memory is refused, fails the client and is answered with ERROR 3, also where it is the first. What
+    /// comes from another host, what is no packet, and what comes once the client is `over` has no effect.
     pub fn on_datagram(&mut self, from: Endpoint, bytes: &[u8]) -> Option<Out>
         ensures client { self.new ≡ (client_datagram (verdict_after self.new) from bytes.now self.old).client }
         ensures sent { result ≡ (client_datagram (verdict_after self.new) from bytes.now self.old).out }
@@ -176,7 +167,7 @@ impl<A: Allocator + Copy> Get<A> {
         None
     }
 
-    /// How far it is: never `Sent`.
+    /// Its state: never `Sent`.
     pub fn state(&self) -> State
         ensures is { result ≡ state_of self.now }
         ensures never { result ≢ State.Sent }

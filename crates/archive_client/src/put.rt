@@ -105,12 +105,12 @@ impl<A: Allocator + Copy> Put<A> {
         }
     }
 
-    /// A datagram of these bytes has come from `from` to the client's port. What is answered is to be sent.
+    /// A datagram of these bytes has come from `from` to the client's port. Returns the datagram to send, if any.
     ///
     /// The first ACK 0 from a port of the server's host binds the client to that port. From then on a packet from
     /// another port of that host is answered with ERROR 5, RFC 1350 section 4, and changes nothing; an ERROR from there
-    /// has no effect. An ERROR that is for the client fails it. Nothing has any effect that comes from another host,
-    /// that is no packet, or that comes once the client is `over`.
+    /// has no effect. An ERROR that is for the client fails it. What comes from another host, what is no packet, and
+    /// what comes once the client is `over` has no effect.
     pub fn on_datagram(&mut self, from: Endpoint, bytes: &[u8]) -> Option<Out>
         ensures client { self.new ≡ (client_datagram granted from bytes.now self.old).client }
         ensures sent { result ≡ (client_datagram granted from bytes.now self.old).out }
@@ -160,7 +160,7 @@ impl<A: Allocator + Copy> Put<A> {
         None
     }
 
-    /// How far it is: never `Got`.
+    /// Its state: never `Got`.
     pub fn state(&self) -> State
         ensures is { result ≡ state_of self.now }
         ensures never { result ≢ State.Got }

@@ -1,6 +1,7 @@
 -- Which port is read next, and which are open.
-use Rattle.std.specs.Prelude.{ℕ, min, nat_lt, Bool, true, false, ◌&&◌, ◌||◌, ◌≡◌, ◌≢◌, List, All, fold, slice_get, Option, None, Some}
+use Rattle.std.specs.Prelude.{ℕ, nat_lt, Bool, true, false, ◌&&◌, ◌||◌, ◌≡◌, ◌≢◌, List, All, fold, slice_get, Option, None, Some}
 use Rattle.std.specs.List.{remove}
+use Rattle.archive_turns.specs.Noted.{lesser}
 use Rattle.archive_host.specs.declared.open_port.OpenPort.{OpenPort}
 use Rattle.archive_host.specs.declared.arrival.Arrival.{Arrival}
 use Rattle.archive_host.specs.declared.arrival.Arrival.TheVariants.{Nothing, Perhaps, Reported}
@@ -23,11 +24,6 @@ marked Reported = Reported
 -- a port that was read is to be read again
 abbrev pub marked_read : OpenPort → OpenPort
 marked_read o = record o { arrival = marked o.arrival }
-
--- the lesser of a port and the least so far
-abbrev pub lesser : Option ℕ → ℕ → Option ℕ
-lesser None port = Some port
-lesser (Some least) port = Some (min least port)
 
 abbrev pub lesser_if : Bool → Option ℕ → ℕ → Option ℕ
 lesser_if true least port = lesser least port

@@ -41,7 +41,7 @@ fn fault_of(e: io::Error) -> KeepFault {
 }
 
 impl<R: Files + AllocGlobal + Copy> DirKeeper<R> {
-    /// A keeper over this folder. It touches no file and takes no memory by this.
+    /// A keeper over this folder. It touches no file and takes no memory.
     pub fn new(rt: R, dir: String) -> Self
         ensures dir { result.dir ≡ dir }
         ensures failures { result.failures ≡ 0 }

@@ -2,6 +2,9 @@
 //!
 //! No clause can say what a socket or a file gives or takes. What is proved is that each call ends, that a fault has the
 //! name of its call, and that failures are counted. The rest is tested.
+//!
+//! `specs/Arrivals.antt` is the file to read first: which port is read next, and which are open. docs/CALLING.md says how
+//! the crate is called.
 #![tactic(auto)]
 
 mod arrival;

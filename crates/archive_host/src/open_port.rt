@@ -118,7 +118,7 @@ impl OpenPort {
         }
     }
 
-    /// Sends a datagram from this port. Answers whether the system took it whole.
+    /// Sends a datagram from this port. Returns whether the system took it whole.
     pub(crate) fn send(&self, out: &Out) -> bool {
         let bytes = out.dgram.bytes();
         let target = SocketAddr::from((Ipv4Addr::from_bits(out.to.host), out.to.port));

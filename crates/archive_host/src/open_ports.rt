@@ -1,5 +1,6 @@
 ghost use Rattle.std.specs.Prelude.{◌≡◌, ◌≢◌, ◌<◌, ◌++◌, ◌∷◌, [], length, map, All, IfSome, IfNone, OnOk, OnErr, slice_get, Some};
-ghost use Rattle.archive_host.specs.Arrivals.{lesser, ready_least, ready_above, one_may_have_more, marked_read, Closes};
+ghost use Rattle.archive_turns.specs.Noted.{lesser};
+ghost use Rattle.archive_host.specs.Arrivals.{ready_least, ready_above, one_may_have_more, marked_read, Closes};
 
 use crate::open_port::OpenPort;
 use std::alloc::{AllocError, Global};
@@ -30,7 +31,7 @@ fn mark_read_in(ports: &mut [OpenPort])
 }
 
 impl OpenPorts {
-    /// No port. It takes no memory by this.
+    /// No port. It takes no memory.
     pub(crate) fn new(alloc: Global) -> Self {
         OpenPorts {
             ports: Vec::new(alloc),
@@ -75,7 +76,7 @@ impl OpenPorts {
         Some(&mut self.ports[place])
     }
 
-    /// Closes a port. Answers whether it was open.
+    /// Closes a port. Returns whether it was open.
     pub(crate) fn close(&mut self, port: u16) -> bool
         ensures { Closes port result self.old.ports.items self.new.ports.items }
     {

@@ -53,7 +53,7 @@ fn place<R: Clock>(rt: &R) -> u32 {
 }
 
 impl<R: Net + Clock + AllocGlobal + Copy> UdpWire<R> {
-    /// A wire that has no port. It takes no memory by this.
+    /// A wire that has no port. It takes no memory.
     pub fn new(rt: R) -> Self
         ensures failures { result.failures ≡ 0 }
     {

@@ -159,7 +159,7 @@ pub record WritesFinished (e : Endpoint) (c : Client) (len : ℕ) (w : World) (w
 
 -- ---- samples
 
--- the archive can come to a client of which this holds, with own ports
+-- the archive can come to a client of which this holds, and reuses no port
 pub record CanReach (P : Client → Type 0) : Type 0 where
   pub archive : Archive
   pub members : List Member

@@ -13,8 +13,8 @@ ghost use Rattle.archive_running.specs.Archive.{Archive, Reaches, Mirrors, Write
 
 /// Every run of a server and its clients, made of turns as archive_turns defines them, in which whatever is received was
 /// sent before or is a stranger's, is a trace whose events may all happen; the world after it mirrors the archive. So
-/// where ports are own the headline holds of it: a put that has answered Ok was taken exactly once, and what a get that
-/// has answered Ok has written is the collection at a request of its own. Openings of the world are the requests that
+/// where no port is reused the headline holds of it: a put that has answered Ok was taken exactly once, and what a get
+/// that has answered Ok has written is the collection at a request of its own. Openings of the world are the requests that
 /// opened a transfer, and strays are datagrams that came though no wire was given them to send.
 pub fn running_law()
     ensures mirrors { (a : Archive) (members : List Member) → Reaches a members → Mirrors a (trace_from members start) }

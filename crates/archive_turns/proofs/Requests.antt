@@ -3,12 +3,13 @@ use Rattle.std.specs.Prelude.{◌≡◌, ℕ, Bool, true, false, cond, List, Opt
 use Rattle.std.proofs.Common.{refl}
 use Rattle.tftp_packet.specs.declared.endpoint.Endpoint.{Endpoint}
 use Rattle.tftp_packet.specs.declared.packet_fault.PacketFault.{PacketFault}
-use Rattle.tftp_packet.specs.Packet.{Packet, read, write, data_block, ack, error}
+use Rattle.tftp_packet.specs.Packet.{Packet, read, write, data_block, ack, error, is_octet}
 use Rattle.tftp_packet.specs.Decode.{decode_bytes}
 use Rattle.tftp_ends.specs.Ends.{Verdict, granted, refused}
 use Rattle.tws_file.specs.declared.«ruleset».Ruleset.{Ruleset}
 use Rattle.tws_best.specs.Best.{Collected}
-use Rattle.archive_table.specs.Server.{Server, Answer, End, Merges, transfer_at, has_place, is_octet, kind_named, map_of, is_too_long, opens_if, read_fits, read_placed, read_named, read_asked, write_placed, write_asked, request_packet, request_decoded, server_request}
+use Rattle.archive_table.specs.Server.{Server, Answer, End, Merges, transfer_at, has_place, map_of, is_too_long, opens_if, read_fits, read_placed, read_named, read_asked, write_placed, write_asked, request_packet, request_decoded, server_request}
+use Rattle.tws_file.specs.Names.{kind_named}
 use Rattle.archive_turns.specs.Timers.{live_ports}
 use Rattle.archive_turns.proofs.Ports.{insert_port, keys_insert}
 

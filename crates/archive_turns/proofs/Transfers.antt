@@ -8,8 +8,8 @@ use Rattle.tftp_ends.specs.declared.send_state.SendState.TheVariants as send
 use Rattle.tftp_ends.specs.declared.recv_state.RecvState.{RecvState}
 use Rattle.tftp_ends.specs.declared.recv_state.RecvState.TheVariants as recv
 use Rattle.tftp_ends.specs.declared.recv_fault.RecvFault.{RecvFault}
-use Rattle.tftp_ends.specs.Ends.{SendAnswer, Receiver, RecvAnswer, DataAnswer, sender_ack, sender_timeout, receiver_data, receiver_timeout, receiver_take, answer_of, dgram_of}
-use Rattle.archive_table.specs.Server.{Server, Answer, End, sending, receiving, Transfer, Maps, Grant, all, no_memory, unkept, Heard, nothing, stray, ended, acked, block, heard, memory_of, refusal_of, refusal_dgram, stays, goes_on, closes, transfer_at, file_come, file_asked, block_answered, block_heard, data_at, sender_goes_on, ack_at, transfer_heard, datagram_at, server_datagram, receiver_goes_on, waits_at, timeout_at, server_timeout}
+use Rattle.tftp_ends.specs.Ends.{SendAnswer, Receiver, RecvAnswer, DataAnswer, sender_ack, sender_timeout, receiver_data, receiver_timeout, receiver_take, answer_of, dgram_of, refusal_of}
+use Rattle.archive_table.specs.Server.{Server, Answer, End, sending, receiving, Transfer, Maps, Grant, all, no_memory, unkept, Heard, nothing, stray, ended, acked, block, heard, memory_of, refusal_dgram, stays, goes_on, closes, transfer_at, file_come, file_asked, block_answered, block_heard, data_at, sender_goes_on, ack_at, transfer_heard, datagram_at, server_datagram, receiver_goes_on, waits_at, timeout_at, server_timeout}
 use Rattle.archive_turns.specs.Timers.{live_ports}
 use Rattle.archive_turns.proofs.Ports.{remove_port, keys_set, keys_remove}
 

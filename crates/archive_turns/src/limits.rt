@@ -1,5 +1,6 @@
-/// How many quiet turns in a row let a transfer or a client time out.
+/// After how many quiet turns since it was opened or last sent a transfer or a client times out. Turns that are not quiet
+/// leave the count as it is.
 pub const QUIET_TURNS: u64 = 200;
 
-/// After how many milliseconds a transfer of the ready server times out.
+/// After how many milliseconds since then a transfer of the server that waits for ready ports times out.
 pub const TIMEOUT: u64 = 1000;

@@ -118,7 +118,7 @@ fn end_round<A: Allocator + Copy, W: Wire>(
 
 impl<A: Allocator + Copy> ReadyServer<A> {
     /// A server with this request port, empty collections and no transfer, which has visited no port yet. It takes no
-    /// memory by this.
+    /// memory.
     pub fn new(alloc: A, request: u16) -> Self
         ensures request { result.table.request ≡ request }
         ensures lynx { result.table.maps.lynx ≡ record { «ruleset» = Lynx; entries = [] } }
@@ -130,8 +130,8 @@ impl<A: Allocator + Copy> ReadyServer<A> {
         Self::of(Table::new(alloc, request))
     }
 
-    /// A server like that of `new`, with the collections that a keeper has, empty where it has none. Nothing is kept by
-    /// this.
+    /// A server like that of `new`, with the collections that a keeper has, empty where it has none. Nothing is
+    /// kept.
     ///
     /// # Errors
     ///
@@ -167,7 +167,7 @@ impl<A: Allocator + Copy> ReadyServer<A> {
     }
 
     /// One round: waits for a port that is ready, visits it, and lets each transfer time out that was opened or last sent
-    /// `TIMEOUT` milliseconds ago or earlier. Answers whether a file was taken.
+    /// `TIMEOUT` milliseconds ago or earlier. Returns whether a file was taken.
     pub fn round<W: ReadyWire, K: Keeper>(&mut self, wire: &mut W, keeper: &mut K) -> bool
         ensures { MakesRound self.old self.new result (W.log wire.old) (W.log wire.new) (K.log keeper.old) (K.log keeper.new) }
     {

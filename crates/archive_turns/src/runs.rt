@@ -34,7 +34,7 @@ fn put_answer(state: State, len: u64) -> Result<u64, RunFault>
     }
 }
 
-/// Puts a file: begins, and makes turns until the client is over, at most this many. Answers how many bytes it has. The
+/// Puts a file: begins, and makes turns until the client is over, at most this many. Returns how many bytes it has. The
 /// server is at the host and the request port of `server`.
 ///
 /// # Errors
@@ -71,7 +71,7 @@ fn end_put<A: Allocator + Copy, W: Wire>(
 }
 
 /// Gets the collection of a ruleset and writes it: begins, and makes turns until the client is over, at most this many;
-/// then writes what came, if all of it came. Answers how many bytes it has.
+/// then writes what came, if all of it came. Returns how many bytes it has.
 ///
 /// # Errors
 ///

@@ -18,7 +18,7 @@ fn counted(taken: u64, took: bool) -> u64
     if took { taken + 1 } else { taken }
 }
 
-/// Makes this many turns of a server. Answers how many files were taken.
+/// Makes this many turns of a server. Returns how many files were taken.
 pub fn serve_turns<A: Allocator + Copy, W: Wire, K: Keeper>(
     wire: &mut W,
     keeper: &mut K,
@@ -34,7 +34,7 @@ pub fn serve_turns<A: Allocator + Copy, W: Wire, K: Keeper>(
     taken
 }
 
-/// Makes this many rounds of a server that waits for ready ports. Answers how many files were taken.
+/// Makes this many rounds of a server that waits for ready ports. Returns how many files were taken.
 pub fn serve_ready<A: Allocator + Copy, W: ReadyWire, K: Keeper>(
     wire: &mut W,
     keeper: &mut K,

@@ -96,7 +96,7 @@ fn end_turn<A: Allocator + Copy, W: Wire>(
 
 impl<A: Allocator + Copy> Server<A> {
     /// A server with this request port, empty collections and no transfer, which has visited no port yet. It takes no
-    /// memory by this.
+    /// memory.
     pub fn new(alloc: A, request: u16) -> Self
         ensures request { result.table.request ≡ request }
         ensures lynx { result.table.maps.lynx ≡ record { «ruleset» = Lynx; entries = [] } }
@@ -108,8 +108,8 @@ impl<A: Allocator + Copy> Server<A> {
         Self::of(Table::new(alloc, request))
     }
 
-    /// A server like that of `new`, with the collections that a keeper has, empty where it has none. Nothing is kept by
-    /// this.
+    /// A server like that of `new`, with the collections that a keeper has, empty where it has none. Nothing is
+    /// kept.
     ///
     /// # Errors
     ///
@@ -144,7 +144,7 @@ impl<A: Allocator + Copy> Server<A> {
         }
     }
 
-    /// One turn: visits the port after the last one. Answers whether a file was taken.
+    /// One turn: visits the port after the last one. Returns whether a file was taken.
     ///
     /// A datagram at the request port is answered from a spare port, which is opened for it and closed again unless a
     /// transfer was opened on it. A turn in which nothing came is quiet; a transfer times out after `QUIET_TURNS` quiet

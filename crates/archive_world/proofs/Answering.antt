@@ -12,8 +12,7 @@ use Rattle.tftp_ends.specs.declared.limits.TheConstants.{MISSES}
 use Rattle.tftp_ends.specs.Ends.{Verdict, Receiver}
 use Rattle.tws_file.specs.declared.«ruleset».Ruleset.{Ruleset}
 use Rattle.tws_file.specs.declared.«ruleset».Ruleset.TheVariants.{Lynx, Ms}
-use Rattle.tws_file.specs.Names.{file_name_of, upload_name}
-use Rattle.archive_table.specs.Server.{kind_named}
+use Rattle.tws_file.specs.Names.{file_name_of, upload_name, kind_named}
 use Rattle.archive_client.specs.declared.cause.Cause.TheVariants as cause
 use Rattle.archive_client.specs.declared.state.State.TheVariants as state
 use Rattle.archive_client.specs.Client.{Operation, put, get, Phase, asking, sending, receiving, failed, Client, Heard, nothing, stray, refusal, acked, block, request_packet, request_out, phase_state, phase_peer, is_over, heard_from_peer, heard_from_other, heard_bound, heard_packet, heard_decoded, heard_at, heard, ack_heard, data_heard, refusal_heard, client_heard, client_unless_over, client_datagram, asks_again, phase_waits, client_timeout}

@@ -10,7 +10,8 @@ use Rattle.tftp_ends.specs.declared.recv_state.RecvState.{RecvState}
 use Rattle.tftp_ends.specs.declared.recv_state.RecvState.TheVariants as recv
 use Rattle.tftp_ends.specs.Ends.{Sender, IsSender, Receiver, IsReceiver, HoldsFirst}
 use Rattle.tws_file.specs.declared.«ruleset».Ruleset.{Ruleset}
-use Rattle.archive_table.specs.Server.{Taken, End, Transfer, kind_named}
+use Rattle.archive_table.specs.Server.{Taken, End, Transfer}
+use Rattle.tws_file.specs.Names.{kind_named}
 use Rattle.archive_table.specs.Server as table
 use Rattle.archive_client.specs.Client.{Operation, put, get, Phase, Client, IsOperation}
 use Rattle.archive_client.specs.Client as client

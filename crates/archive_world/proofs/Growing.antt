@@ -1,4 +1,4 @@
--- Every event lets the lists of a world grow, so ports that are own at the end of a run are own at each moment of it.
+-- Every event lets the lists of a world grow, so where no port is reused at the end of a run, none is at any moment of it.
 use Rattle.std.proofs.Common.{ℕ, Bool, true, false, ◌==◌, List, [], ◌∷◌, slice_get, Option, None, Some}
 use Rattle.archive_table.specs.Server.{Maps, Grant, Transfer, Taken, memory_of, transfer_at, server_request, server_datagram, server_timeout}
 use Rattle.archive_table.specs.Server as table

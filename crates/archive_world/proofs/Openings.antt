@@ -13,7 +13,8 @@ use Rattle.tftp_ends.proofs.Steps.{IsSender-start, start-reads_back}
 use Rattle.tws_file.specs.declared.«ruleset».Ruleset.{Ruleset}
 use Rattle.tws_file.specs.declared.«ruleset».Ruleset.TheVariants.{Lynx, Ms}
 use Rattle.tws_best.specs.Best.{collection_text}
-use Rattle.archive_table.specs.Server.{End, Taken, Transfer, sending, at_port, with_live, transfer_at, map_of, kind_named, out_from, refuses}
+use Rattle.archive_table.specs.Server.{End, Taken, Transfer, sending, at_port, with_live, transfer_at, map_of, out_from, refuses}
+use Rattle.tws_file.specs.Names.{kind_named}
 use Rattle.archive_world.specs.World.{Datagram, World, Opening, Asked, to_write, to_read, server_endpoint, after_request}
 use Rattle.archive_world.specs.Headline.{HasOwnPorts, IsBestOver, files_of}
 use Rattle.archive_world.proofs.Places.{Has, Has-last, Has-push, at-extends, at-last, before_last, Extends-same, Extends-push}

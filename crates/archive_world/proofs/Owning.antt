@@ -1,4 +1,4 @@
--- What follows where ports are own: at one endpoint one operation, at one port one opening, and no stranger at the endpoint
+-- What follows where no port is reused: at one endpoint one operation, at one port one opening, and no stranger at the endpoint
 -- of an operation.
 use Rattle.std.proofs.Common.{◌≡◌, ℕ, List, take, refl, ap, sym, ◌∙◌, subst}
 use Rattle.tftp_packet.specs.declared.endpoint.Endpoint.{Endpoint}
@@ -19,7 +19,7 @@ pub get_begun : (w : World) (e : Endpoint) (kind : Ruleset) (count : ℕ) → Ha
 get_begun w e kind count h =
     record { begun = record { client = e; operation = get kind; taken = count }; among = h.among; client = refl }
 
--- own ports of a world are own at each moment before
+-- where no port is reused by now, none was at any moment before
 pub own-before : (w v : World) → GrowsTo w v → HasOwnPorts v → HasOwnPorts w
 own-before w v g own =
     record {

@@ -6,9 +6,9 @@ use Rattle.tftp_packet.specs.Packet.{Packet, ack}
 use Rattle.tftp_packet.specs.Blocks.{block_of}
 use Rattle.tftp_ends.specs.declared.recv_state.RecvState.TheVariants as recv
 use Rattle.tftp_ends.specs.declared.recv_fault.RecvFault.{RecvFault}
-use Rattle.tftp_ends.specs.Ends.{Receiver, DataAnswer, TakeAnswer, receiver_data, receiver_take, dgram_of, sent_of, answer_of, IsReceiver}
+use Rattle.tftp_ends.specs.Ends.{Receiver, DataAnswer, TakeAnswer, receiver_data, receiver_take, dgram_of, sent_of, answer_of, IsReceiver, refusal_of}
 use Rattle.tftp_ends.proofs.Steps.{ReadsBack, KeepsReceiver, receiver_data-keeps, receiver_take-keeps, acks-reads_back}
-use Rattle.archive_table.specs.Server.{Maps, Grant, all, no_memory, unkept, memory_of, Taken, Transfer, Answer, receiving, transfer_at, sends_from, refusal_dgram, refusal_of, file_come, file_asked, block_answered, data_at, IsMerged}
+use Rattle.archive_table.specs.Server.{Maps, Grant, all, no_memory, unkept, memory_of, Taken, Transfer, Answer, receiving, transfer_at, sends_from, refusal_dgram, file_come, file_asked, block_answered, data_at, IsMerged}
 use Rattle.archive_world.specs.World.{World, server_endpoint, after_transfer, to_write}
 use Rattle.archive_world.specs.Headline.{HasOwnPorts}
 use Rattle.archive_world.proofs.Places.{Has, Has-last, Extends-same, Extends-push}

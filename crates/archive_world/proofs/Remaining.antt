@@ -2,7 +2,7 @@
 use Rattle.std.proofs.Common.{◌≡◌, ◌⊎◌, ℕ, Bool, true, false, ◌==◌, List, [], ◌∷◌, ◌++◌, slice_get, Option, None, Some, Result, Ok, Err, refl, ap, sym, subst, inl, inr}
 use Rattle.tftp_packet.specs.declared.endpoint.Endpoint.{Endpoint}
 use Rattle.tftp_packet.specs.declared.packet_fault.PacketFault.{PacketFault}
-use Rattle.tftp_packet.specs.Packet.{Packet, read, write, data_block, ack, error}
+use Rattle.tftp_packet.specs.Packet.{Packet, read, write, data_block, ack, error, is_octet}
 use Rattle.tftp_packet.specs.Decode.{decode_bytes}
 use Rattle.tftp_ends.specs.declared.send_state.SendState.{SendState}
 use Rattle.tftp_ends.specs.declared.send_state.SendState.TheVariants as send
@@ -12,7 +12,8 @@ use Rattle.tftp_ends.specs.declared.recv_fault.RecvFault.{RecvFault}
 use Rattle.tftp_ends.specs.Ends.{Verdict, granted, refused, answer_of, Receiver, SendAnswer, RecvAnswer, receiver_data, receiver_take, receiver_timeout, sender_ack, sender_timeout}
 use Rattle.tws_file.specs.declared.«ruleset».Ruleset.{Ruleset}
 use Rattle.tws_best.specs.Best.{Collected}
-use Rattle.archive_table.specs.Server.{Server, Maps, Transfer, Taken, Answer, End, sending, receiving, Grant, all, no_memory, unkept, memory_of, map_of, is_too_long, has_place, kind_named, is_octet, opens_if, read_fits, read_placed, read_named, read_asked, write_placed, write_asked, request_packet, request_decoded, Heard, nothing, stray, ended, acked, block, heard, transfer_at, file_come, file_asked, block_answered, data_at, sender_goes_on, ack_at, transfer_heard, datagram_at, server_datagram, receiver_goes_on, waits_at, timeout_at, server_timeout}
+use Rattle.archive_table.specs.Server.{Server, Maps, Transfer, Taken, Answer, End, sending, receiving, Grant, all, no_memory, unkept, memory_of, map_of, is_too_long, has_place, opens_if, read_fits, read_placed, read_named, read_asked, write_placed, write_asked, request_packet, request_decoded, Heard, nothing, stray, ended, acked, block, heard, transfer_at, file_come, file_asked, block_answered, data_at, sender_goes_on, ack_at, transfer_heard, datagram_at, server_datagram, receiver_goes_on, waits_at, timeout_at, server_timeout}
+use Rattle.tws_file.specs.Names.{kind_named}
 use Rattle.archive_client.specs.Client.{Operation, Client}
 use Rattle.archive_world.specs.World.{Datagram, Event, begin, deliver, client_times_out, server_times_out, restart, Step, World, server_endpoint, client_at, has_begun, begins_unless, request_comes, server_hears, client_hears, arrives, delivers, client_waits, strays_unless, event_happens, happens}
 use Rattle.archive_world.specs.World as world

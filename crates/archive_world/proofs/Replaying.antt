@@ -19,7 +19,7 @@ use Rattle.archive_world.specs.Restarts.{EventKeeps, RunKeeps, IsOutside}
 use Rattle.archive_world.specs.View.{event_of, events_of}
 use Rattle.archive_world.specs.Outcomes.{Outcome, outcome_of}
 use Rattle.archive_world.specs.Replays.{HaveKept, IsDue, AllDue, HasHappened, Makes, IsReady, HasRun, IsBadAt, IsReusedAt, IsNotLoadedAt, HasStopped}
-use Rattle.archive_world.specs.Exits.{IsKept, MakesKept, Comes, fault_of, Ends}
+use Rattle.archive_world.specs.Exits.{KeeperHas, MakesKept, Comes, fault_of, Ends}
 use Rattle.archive_world.proofs.Collecting.{best-collected, start-best, run_from-best}
 use Rattle.archive_world.proofs.Concluding.{run-headline}
 use Rattle.archive_world.proofs.Happening.{run-append}
@@ -67,11 +67,11 @@ happened-start told w is =
       keeps = λ before tells. (before, tells, refl);
     }
 
-happened_kept : (events : List Event) (told now : Option (List Keeping)) (w : World) → told ≡ Some [] → HasHappened events told now w → IsKept now w
+happened_kept : (events : List Event) (told now : Option (List Keeping)) (w : World) → told ≡ Some [] → HasHappened events told now w → KeeperHas now w
 happened_kept events told now w none h =
     let best = run_from-best h.steps start h.merged start-best in
     let has = h.keeps [] none in
-    let there : IsKept now (run h.steps) = record {
+    let there : KeeperHas now (run h.steps) = record {
       log = has.0;
       tells = has.1;
       kept = (run-kept h.steps has.0 h.merged (run_keeps h.steps start [] has.0 has.2)).0;
@@ -79,7 +79,7 @@ happened_kept events told now w none h =
       lynx = best-collected Lynx _ (run h.steps).server.maps.lynx best.lynx;
       ms = best-collected Ms _ (run h.steps).server.maps.ms best.ms;
     } in
-    subst (IsKept now) (sym h.is) there
+    subst (KeeperHas now) (sym h.is) there
 
 happened_headline : (events : List Event) (told now : Option (List Keeping)) (w : World) → HasHappened events told now w → Headline w
 happened_headline events told now w h =
@@ -176,7 +176,7 @@ module _ {A : Type 0} (es : List (events.Event A)) (i : ℕ) (x : events.Event A
     -- a load fails where what is kept is readable
     fails_outside : e ≡ restart → (f : LoadFault) → TableFails now f → IsOutside f
     fails_outside is f fails =
-        let k : IsKept now w = happened_kept (events_of (take i es)) told now w (none_told is) so_far in
+        let k : KeeperHas now w = happened_kept (events_of (take i es)) told now w (none_told is) so_far in
         fails-outside k.log w.server.maps k.rules k.kept k.lynx k.ms f (subst (λ (o : Option (List Keeping)). TableFails o f) k.tells fails)
 
     fails_at : (f : EventFault) → Comes (Err f) e now after w v → Ends (Err (fault_of f i)) (events_of es) told after v

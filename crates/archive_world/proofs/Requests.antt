@@ -3,14 +3,15 @@ use Rattle.std.proofs.Common.{◌≡◌, ◌⊎◌, ℕ, ◌≤◌, Bool, true, 
 use Rattle.std.proofs.lemmas.Bool.{ltb-false}
 use Rattle.tftp_packet.specs.declared.packet_fault.PacketFault.{PacketFault}
 use Rattle.tftp_packet.specs.declared.refusal.Refusal.TheVariants.{OctetOnly, NoSuchFile, ServerBusy, CollectionTooLong, OutOfMemory}
-use Rattle.tftp_packet.specs.Packet.{Packet, read, write, data_block, ack, error, encode}
+use Rattle.tftp_packet.specs.Packet.{Packet, read, write, data_block, ack, error, encode, is_octet}
 use Rattle.tftp_packet.specs.Decode.{decode_bytes}
 use Rattle.tftp_ends.specs.declared.limits.TheConstants.{MAX_FILE}
 use Rattle.tftp_ends.specs.Ends.{Verdict, granted, refused, sender_start, data_packet, receiver_start}
 use Rattle.tftp_ends.proofs.Steps.{IsReceiver-start, ack-reads_back}
 use Rattle.tws_file.specs.declared.«ruleset».Ruleset.{Ruleset}
 use Rattle.tws_best.specs.Best.{collection_text}
-use Rattle.archive_table.specs.Server.{sending, receiving, transfer_at, map_of, kind_named, is_octet, has_place, is_too_long, read_opens, read_fits, read_placed, read_named, read_asked, write_opens, write_placed, write_asked, request_packet, request_decoded, server_request}
+use Rattle.archive_table.specs.Server.{sending, receiving, transfer_at, map_of, has_place, is_too_long, read_opens, read_fits, read_placed, read_named, read_asked, write_opens, write_placed, write_asked, request_packet, request_decoded, server_request}
+use Rattle.tws_file.specs.Names.{kind_named}
 use Rattle.archive_world.specs.World.{Datagram, World, to_write, to_read, after_request, asked_named, asked_packet, asked_decoded, asked_of}
 use Rattle.archive_world.specs.Headline.{HasOwnPorts}
 use Rattle.archive_world.proofs.Places.{Has, Has-last}

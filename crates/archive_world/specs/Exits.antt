@@ -13,7 +13,7 @@ use Rattle.archive_world.specs.Restarts.{HasKept, AreOwnRules}
 use Rattle.archive_world.specs.Replays.{HasHappened, Makes, Reuses, IsBadAt, IsReusedAt, IsNotLoadedAt, HasStopped}
 
 -- the keeper tells its list, and what it has is what the server has
-pub record IsKept (told : Option (List Keeping)) (w : World) : Type 0 where
+pub record KeeperHas (told : Option (List Keeping)) (w : World) : Type 0 where
   pub log : List Keeping
   pub tells : told ≡ Some log
   pub kept : HasKept log w.server.maps
@@ -23,7 +23,7 @@ pub record IsKept (told : Option (List Keeping)) (w : World) : Type 0 where
 
 -- what an event makes; of a restart, where the keeper has what the server has
 abbrev pub MakesKept : Event → (told now : Option (List Keeping)) → (w v : World) → Type 0
-MakesKept e told now w v = (e ≡ restart → IsKept told w) → Makes e told now w v
+MakesKept e told now w v = (e ≡ restart → KeeperHas told w) → Makes e told now w v
 
 -- By what a call for an event answers. Where memory runs out, the event was not begun, or the server made its step.
 abbrev pub Comes : Result (Unit {0}) EventFault → Event → (told now : Option (List Keeping)) → (w v : World) → Type 0

@@ -9,7 +9,7 @@ use Rattle.archive_table.specs.Server.{Taken}
 use Rattle.archive_client.specs.Client.{put, get}
 use Rattle.archive_world.specs.World.{Datagram, Begun, begin, stray, Step, run, Opening, to_read, Got, World}
 
--- ---- own ports
+-- ---- own ports: no port is reused
 
 -- an operation began at this endpoint
 abbrev pub HasOperation : List Begun → Endpoint → Type 0

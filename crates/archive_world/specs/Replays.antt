@@ -28,7 +28,7 @@ abbrev pub AllDue : List Step → World → Type 0
 AllDue [] w = Unit {0}
 AllDue (s ∷ steps) w = IsDue s.event s.grant w × AllDue steps (happens s w)
 
--- From the start, these events have led to this world. Each was one that may happen, and ports are own. A keeper that
+-- From the start, these events have led to this world. Each was one that may happen, and no port is reused. A keeper that
 -- told its list tells it now, and has what the steps have kept.
 pub record HasHappened (events : List Event) (told now : Option (List Keeping)) (w : World) : Type 0 where
   pub steps : List Step
@@ -40,7 +40,7 @@ pub record HasHappened (events : List Event) (told now : Option (List Keeping)) 
   pub due : AllDue steps start
   pub keeps : (before : List Keeping) → told ≡ Some before → (log : List Keeping) × (now ≡ Some log) × HaveKept steps start before log
 
--- what one event makes of a world and of a keeper's list, where it may happen and ports stay own
+-- what one event makes of a world and of a keeper's list, where it may happen and reuses no port
 pub record Makes (e : Event) (told now : Option (List Keeping)) (w v : World) : Type 0 where
   pub grant : Grant
   pub maps : Maps
@@ -74,7 +74,7 @@ pub record IsBadAt (events : List Event) (told now : Option (List Keeping)) (i :
   pub happened : HasHappened (take i events) told now world
   pub bad : MayHappen event world → ⊥
 
--- The event may happen, but with what it was granted ports are not own after it.
+-- The event may happen, but with what it was granted a port is reused after it.
 pub record Reuses (e : Event) (w : World) : Type 0 where
   pub may : MayHappen e w
   pub grant : Grant
@@ -82,7 +82,7 @@ pub record Reuses (e : Event) (w : World) : Type 0 where
   pub merged : HasMerged (record { event = e; grant = grant; maps = maps }) w
   pub reused : HasOwnPorts (event_happens e grant maps w) → ⊥
 
--- The events before this place have happened, and the one there makes ports that are not own.
+-- The events before this place have happened, and the one there reuses a port.
 pub record IsReusedAt (events : List Event) (told now : Option (List Keeping)) (i : ℕ) : Type 0 where
   pub event : Event
   pub there : slice_get events i ≡ Some event

@@ -1,4 +1,4 @@
--- Which events make ports that were own no longer so: the tests by which own ports are kept, event by event.
+-- Which events reuse a port: the tests, event by event.
 use Rattle.std.specs.Prelude.{◌≡◌, ◌↔◌, ℕ, Bool, true, false, ◌==◌, ◌&&◌, cond, List, [], ◌∷◌, ◌++◌}
 use Rattle.tftp_packet.specs.declared.endpoint.Endpoint.{Endpoint}
 use Rattle.archive_table.specs.Server.{is_same}

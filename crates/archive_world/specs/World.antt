@@ -10,7 +10,8 @@ use Rattle.tftp_packet.specs.Decode.{decode_bytes}
 use Rattle.tftp_ends.specs.declared.limits.TheConstants.{MAX_FILE}
 use Rattle.tws_file.specs.declared.«ruleset».Ruleset.{Ruleset}
 use Rattle.tws_file.specs.declared.«ruleset».Ruleset.TheVariants.{Lynx, Ms}
-use Rattle.archive_table.specs.Server.{Server, Maps, Transfer, Taken, Grant, memory_of, is_same, kind_named, transfer_at, server_request, server_datagram, server_timeout, IsMerged}
+use Rattle.archive_table.specs.Server.{Server, Maps, Transfer, Taken, Grant, memory_of, is_same, transfer_at, server_request, server_datagram, server_timeout, IsMerged}
+use Rattle.tws_file.specs.Names.{kind_named}
 use Rattle.archive_table.specs.Server as table
 use Rattle.archive_client.specs.declared.state.State.{State}
 use Rattle.archive_client.specs.declared.state.State.TheVariants as state

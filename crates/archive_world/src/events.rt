@@ -102,7 +102,7 @@ fn deliver<K: Keeper, A: Allocator + Copy>(
 ///
 /// # Errors
 ///
-/// `Bad` where it may not happen; `Reused` where ports would not be own after it; `NotLoaded` where the server cannot
+/// `Bad` where it may not happen; `Reused` where it would reuse a port; `NotLoaded` where the server cannot
 /// load its collections; out of memory.
 pub(crate) fn happen<K: Keeper, A: Allocator + Copy>(
     machine: &mut Machine<A>,

@@ -38,7 +38,7 @@ pub fn server_values()
 
 /// Of every trace, which names the datagrams that come: if each event that it makes may happen, so that each datagram
 /// that it names was sent before or is a stranger's, the run of these events, with what the trace was granted, makes
-/// just the trace's deeds. So the headline holds of every such trace with own ports.
+/// just the trace's deeds. So the headline holds of every such trace in which no port is reused.
 pub fn trace_law()
     ensures run { (members : List Member) → AllMayHappen (trace_steps members start) start → run (trace_steps members start) ≡ trace_from members start }
     ensures headline { (members : List Member) → AllMayHappen (trace_steps members start) start → HasOwnPorts (trace_from members start) → AllDeedsMerged members start → Headline (trace_from members start) }
@@ -62,18 +62,18 @@ pub fn sample_runs()
     ensures strange_premises { HasOwnPorts (run strange_put) × AllMerged strange_put start }
     ensures restarted_premises { HasOwnPorts (run restart_between) × AllMerged restart_between start }
     ensures premises { HasOwnPorts (run empty_put) × AllMerged empty_put start }
-    // A second opening for one peer at one port, as a restart allows, breaks own ports.
+    // A second opening for one peer at one port, as a restart allows, reuses the port.
     ensures opened_again { HasOwnPorts (run opened_again) → ⊥ }
 {}
 
-/// Where ports are own, by which tests they stay so: a begin, if neither an operation nor a stranger has been at its
+/// The tests by which no port is reused: a begin reuses none if neither an operation nor a stranger has been at its
 /// endpoint; an opening, if none before had its peer and its port; a stray, if no operation has begun at its endpoint.
 pub fn own_ports()
     ensures start { HasOwnPorts start }
     ensures begin { (w : World) → HasOwnPorts w → (e : Endpoint) (operation : Operation) → BeginKeepsOwn w e operation }
     ensures opening { (w : World) → HasOwnPorts w → (o : Opening) → OpeningKeepsOwn w o }
     ensures stray { (w : World) → HasOwnPorts w → (d : Datagram) → StrayKeepsOwn w d }
-    // What was not own stays so.
+    // A port that was reused stays so.
     ensures before { (w : World) (s : Step) → HasOwnPorts (happens s w) → HasOwnPorts w }
 {}
 

@@ -1,10 +1,10 @@
 //! The archive and its clients as one: a server, clients, and the network between them, over every schedule of begins,
-//! deliveries, time-outs, strangers' datagrams and restarts. docs/HEADLINE.md tells the promise and why it holds.
+//! deliveries, time-outs, strangers' datagrams and restarts. docs/HEADLINE.md states the promise and why it holds.
 //!
 //! `specs/World.antt` is the file to read first: what a world is, and what each event makes of it. `specs/Headline.antt`
 //! has the premise on ports and what holds of every run. `Traces` has runs as their ends tell them, `Reuse` the tests by
-//! which ports stay own, `Restarts` why a restart leaves the collections as they are, `Outcomes` what a run leaves,
-//! `Replays` what a replay of events says, and `Samples` some runs.
+//! which no port is reused, `Restarts` why a restart leaves the collections as they are, `Outcomes` what a run leaves,
+//! `Replays` what a replay of events says, and `Samples` some runs. docs/CALLING.md says how `replay` is called.
 #![tactic(auto)]
 
 mod answered;

@@ -1,16 +1,15 @@
 //! The server, the clients and the network, as a program.
 
 ghost use Rattle.std.specs.Prelude.{◌≡◌, false, true, is_some, ◌≢◌, [], OnOk, OnErr, IfOk, IfErr, Some, None, length, slice_get};
-ghost use Rattle.archive_table.specs.Server.{request_verdict, server_request, server_datagram, server_timeout, grant_of, transfer_at, kind_named, is_same, Grant};
+ghost use Rattle.archive_table.specs.Server.{request_verdict, server_request, server_datagram, server_timeout, grant_of, transfer_at, is_same, Grant};
+ghost use Rattle.tws_file.specs.Names.{kind_named};
 ghost use Rattle.archive_table.specs.Keeper.{LoadedFrom, TableFails};
 ghost use Rattle.archive_world.specs.View.{asked_as, operation_of};
 ghost use Rattle.archive_world.specs.World.{World, start, has_begun, begins, is_too_long, server_endpoint, net_with, taken_with, opened_with, got_with, asked_of, asked_named, after_request, after_transfer, strays_in, client_at, client_waits, client_hears};
 ghost use Rattle.archive_world.specs.Inside.{HearsAtPort, answered_by};
 ghost use Rattle.archive_world.specs.Outcomes.{outcome_of};
 ghost use Rattle.archive_world.specs.Reuse.{has_strayed, was_opened, is_opening_at};
-ghost use Rattle.std.specs.Str.{bytes_eq};
 ghost use Rattle.tws_best.specs.Best.{collection_text};
-ghost use Rattle.tws_file.specs.Names.{file_name_of};
 
 use crate::answered::Answered;
 use crate::asked::Asked;
@@ -388,23 +387,13 @@ fn asked_by(bytes: &[u8]) -> Asked
     }
 }
 
-// Whether this is the name of the collection of this ruleset.
-fn is_name(name: &[u8], kind: Ruleset) -> bool
-    ensures { result ≡ bytes_eq name.now (file_name_of kind) }
-{
-    name == kind.file_name()
-}
-
 // What is read by this name.
 fn asked_named(name: &[u8]) -> Asked
     ensures { asked_as result ≡ asked_named (kind_named name.now) }
 {
-    if is_name(name, Ruleset::Lynx) {
-        Asked::Read(Ruleset::Lynx)
-    } else if is_name(name, Ruleset::Ms) {
-        Asked::Read(Ruleset::Ms)
-    } else {
-        Asked::Write
+    match Ruleset::from_file_name(name) {
+        Some(kind) => Asked::Read(kind),
+        None => Asked::Write,
     }
 }
 

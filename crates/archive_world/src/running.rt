@@ -68,7 +68,7 @@ impl<A: Allocator + Copy> Running<A> {
         }
     }
 
-    /// How far it is. Only a get ever has got its file.
+    /// Its state. Only a get ever has got its file.
     pub(crate) fn state(&self) -> State
         ensures is { result ≡ state_of (running_of self.now) }
         ensures got { result ≡ State.Got → running_file self.now ≡ phase_file (running_of self.now).phase }

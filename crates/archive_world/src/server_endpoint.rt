@@ -1,6 +1,6 @@
 use tftp_packet::Endpoint;
 
-/// The server's request port.
+/// The server's endpoint: its host and its request port.
 pub const SERVER: Endpoint = Endpoint {
     host: 1,
     port: 6969,

@@ -25,7 +25,7 @@ fn keeper_of(rt: HostRuntime, dir: &str) -> Result<DirKeeper<HostRuntime>, Fail>
     Ok(DirKeeper::new(rt, String::from_str(rt.alloc(), dir)?))
 }
 
-// Keeps the Lynx collection of a file, and answers what the keeper did.
+// Keeps the Lynx collection of a file, and returns what the keeper did.
 fn keep(
     rt: HostRuntime,
     keeper: &mut DirKeeper<HostRuntime>,

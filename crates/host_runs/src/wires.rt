@@ -191,7 +191,7 @@ fn a_quiet_port_is_waited_at(rt: HostRuntime) -> Result<(), Fail> {
     Ok(())
 }
 
-// Sends to a port a datagram that is too long for a packet, an empty one, and one of the greatest length, and answers where
+// Sends to a port a datagram that is too long for a packet, an empty one, and one of the greatest length, and returns where
 // they come from.
 fn send_three(rt: HostRuntime, port: u16) -> Result<Endpoint, Fail> {
     let peer = UdpSocket::bind(&rt, SocketAddr::from((Ipv4Addr::LOCALHOST, 0)))?;
@@ -324,7 +324,7 @@ fn a_busy_port_starves_no_other(rt: HostRuntime) -> Result<(), Fail> {
     Ok(())
 }
 
-// Closes the upper port. Answers what the next wait gives, what a read of the lower port does, and what the wait after it
+// Closes the upper port. Returns what the next wait gives, what a read of the lower port does, and what the wait after it
 // gives.
 fn after_close(pair: &mut Pair) -> Result<(Option<u16>, Came, Option<u16>), WireFault> {
     pair.wire.close(pair.high)?;
