@@ -1,6 +1,8 @@
 // The commands of the archive over wires in memory: what goes out, what is printed, and each fault.
 ghost use Rattle.std.specs.Prelude.{◌≤◌};
 
+use crate::names::{One, run_with};
+use crate::outcome::owned;
 use crate::streams::*;
 use archive_client::Cause;
 use archive_table::NoKeeper;
@@ -324,6 +326,24 @@ fn a_get_that_is_refused(rt: HostRuntime) -> Result<(), Fail> {
     let mut wire = answered(&rt, &[ERROR])?;
     let refused = ToolFault::Transfer(Cause::Refused(1));
     assert_eq!(rt; get_fault(&rt, &mut wire)?, refused);
+    Ok(())
+}
+
+// A get by its arguments: its file has the name that was given, blank and all, and the request goes where they say.
+#[test]
+fn a_get_by_its_arguments(rt: HostRuntime) -> Result<(), Fail> {
+    let mut wire = answered(&rt, &[DATA])?;
+    let system = One {
+        name: "got ",
+        bytes: &[],
+    };
+    let words = owned(&rt, &["tws", "get", "0.0.0.1", "lynx", "got "])?;
+    let got = run_with(&rt, &system, &mut wire, &words)?;
+    let requests = sent(&wire, SERVER, RRQ);
+    assert_eq!(rt;
+        (got.status, got.out.as_slice(), requests),
+        (0, b"got 28 bytes\n".as_slice(), 1)
+    );
     Ok(())
 }
 

@@ -1,8 +1,9 @@
-// The files that are opened are those of the names among the words.
-ghost use Rattle.std.specs.Prelude.{Some};
+// The files that are opened and created are those of the names among the arguments.
+ghost use Rattle.std.specs.Prelude.{None, Some};
 
 use crate::outcome::*;
 use crate::streams::*;
+use archive_turns::MemoryWire;
 use std::test::Fail;
 use std::{env, fs, io, process};
 use tws_tool::{FileSystem, run_words_with};
@@ -42,17 +43,21 @@ fn best_of_files(rt: HostRuntime) -> Result<(), Fail> {
     Ok(())
 }
 
-// A file system that has one file, and tells what that has.
+// A file system of one name, which tells what its file has.
 #[derive(Drop)]
-struct One<'a> {
-    name: &'a str,
-    bytes: &'a [u8],
+pub(crate) struct One<'a> {
+    pub(crate) name: &'a str,
+    pub(crate) bytes: &'a [u8],
 }
 
 impl<'a> FileSystem for One<'a> {
     type File = &'a [u8];
 
+    type Created = io::Sink;
+
     ghost bytes_of = { λ system _. Some system.bytes.now };
+
+    ghost created_of = { λ _ _. None };
 
     fn open(&self, name: &str) -> io::Result<&'a [u8]> {
         if name == self.name {
@@ -61,20 +66,32 @@ impl<'a> FileSystem for One<'a> {
             Err(io::Error::from(io::ErrorKind::NotFound))
         }
     }
+
+    fn create(&self, name: &str) -> io::Result<io::Sink> {
+        if name == self.name {
+            Ok(io::sink())
+        } else {
+            Err(io::Error::from(io::ErrorKind::PermissionDenied))
+        }
+    }
 }
 
-// The collection of Lynx over these files of a system that has one.
-fn best_of_one(rt: &HostRuntime, system: &One, names: &[&str]) -> Result<Outcome, Fail> {
-    let mut words = owned(rt, &["tws", "best", "lynx"])?;
-    words.append(&mut owned(rt, names)?)?;
+// A run of the program with the files of such a system, over a wire in memory.
+pub(crate) fn run_with(
+    rt: &HostRuntime,
+    system: &One,
+    wire: &mut MemoryWire,
+    words: &[String],
+) -> Result<Outcome, Fail> {
     let mut input = io::empty();
     let mut out = Vec::new(rt.alloc());
     let mut errors = Vec::new(rt.alloc());
     let status = run_words_with(
         system,
+        wire,
         rt,
         rt.alloc(),
-        &words,
+        words,
         &mut input,
         &mut out,
         &mut errors,
@@ -84,6 +101,28 @@ fn best_of_one(rt: &HostRuntime, system: &One, names: &[&str]) -> Result<Outcome
         out,
         errors,
     })
+}
+
+// The collection of Lynx over these files of a system that has one.
+fn best_of_one(rt: &HostRuntime, system: &One, names: &[&str]) -> Result<Outcome, Fail> {
+    let mut words = owned(rt, &["tws", "best", "lynx"])?;
+    words.append(&mut owned(rt, names)?)?;
+    let mut wire = MemoryWire::new(rt.alloc(), Vec::new(rt.alloc()));
+    run_with(rt, system, &mut wire, &words)
+}
+
+#[test]
+fn best_of_a_hundred_names(rt: HostRuntime) -> Result<(), Fail> {
+    let system = One {
+        name: "slow",
+        bytes: &SOLUTION,
+    };
+    let outcome = best_of_one(&rt, &system, &["slow"; 100])?;
+    assert_eq!(rt;
+        (outcome.status, outcome.out.as_slice()),
+        (0, SOLUTION.as_slice())
+    );
+    Ok(())
 }
 
 #[test]

@@ -1,4 +1,4 @@
-//! The program `tws`: the process's words and streams, and its exit status.
+//! The program `tws`: the process's arguments and streams, and its exit status.
 #![tactic(auto)]
 
 use std::process::ExitCode;
@@ -11,11 +11,11 @@ fn run(rt: &HostRuntime) -> io::Result<u8> {
     Ok(run_words(rt, rt.alloc(), &words, &mut input, &mut out, &mut errors))
 }
 
-// Says why the process's words could not be read.
+// Says why the process's arguments could not be read.
 fn refuse(rt: &HostRuntime, error: io::Error) -> u8 {
     let (status, text) = match error.kind() {
         io::ErrorKind::OutOfMemory => (2, "out of memory"),
-        _ => (1, "a word is not UTF-8"),
+        _ => (1, "an argument is not UTF-8"),
     };
     // There is no place left to say that this failed.
     let _ = eprintln!(rt; "tws: {text}");

@@ -1,4 +1,4 @@
--- Which job words ask for.
+-- Which job arguments ask for.
 use Rattle.std.proofs.Common.{true, false, refl, subst, Bor, map, option_map, unwrap_or, Result, Ok, Err, ⊎_elim, inl, ◌⊎◌, ◌≡◌, ◌≢◌, ◌≤◌, ℕ, List, [], ◌∷◌, Option, Some, None, ap, sym, ◌∙◌, arith, slice_index, codes}
 use Rattle.std.proofs.lemmas.Option.{none-some}
 use Rattle.clap.specs.Words.{App, FailsBy, HasKind, HasMatchesOf, Row, Text, fault_of, first_of, is_simple, is_simple_and_free, kind_of, subcommand_of, subcommand_rows_of}
@@ -64,7 +64,7 @@ module _ (app : App) (names : RuleNames) (words : List Text) (app-is : app ≡ t
   pub its_command : (found : ArgMatches) → HasMatchesOf app words found → subcommand_rows_of found ≡ subcommand_of (tws_app names) words
   its_command found has = (has (ap is_simple app-is ∙ is_simple_app names)).1 ∙ ap (λ (a : App). subcommand_of a words) app-is
 
--- an error of the words, as it is answered
+-- an error of the arguments, as it is answered
 pub refused : (words : List Text) (names : RuleNames) (error : Error) (e : JobFault) → AreRuleNames names → HasKind (fault_of (tws_app names) words) error
     → ((kind_of error ≡ OutOfMemory) × (e ≡ Memory)) ⊎ ((kind_of error ≢ OutOfMemory) × (e ≡ Words error)) → RefusesWords words e
 refused words names error e are has gives =

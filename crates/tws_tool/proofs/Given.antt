@@ -1,4 +1,4 @@
--- What was given among the words.
+-- What was given among the arguments.
 use Rattle.std.proofs.Common.{◌≡◌, List, ℕ, Bor, Option, Some, None, IfSome, IfNone, option_map, sym}
 
 module _ (given : Option (List ℕ)) where

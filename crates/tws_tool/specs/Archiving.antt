@@ -1,5 +1,5 @@
 -- What the commands of the archive do: over any wire, any keeper, any file and any output.
-use Rattle.std.specs.Prelude.{◌≡◌, ◌⊎◌, ℕ, List, length, Option, IfSome, Result, Ok, Err}
+use Rattle.std.specs.Prelude.{◌≡◌, ◌≢◌, ◌⊎◌, ℕ, List, length, Option, IfSome, Result, Ok, Err, OnOk, IfErr}
 use Rattle.std.specs.Io.KnownBytes.{Appends}
 use Rattle.byte_output.specs.Output.{AppendsPrefix}
 use Rattle.tws_file.specs.declared.«ruleset».Ruleset.{Ruleset}
@@ -13,6 +13,8 @@ use Rattle.archive_turns.specs.Run.{RunsPut, RunsGet}
 use Rattle.tws_tool.specs.declared.limits.TheConstants.{TURNS}
 use Rattle.tws_tool.specs.declared.tool_fault.ToolFault.{ToolFault}
 use Rattle.tws_tool.specs.declared.tool_fault.ToolFault.TheVariants.{Read, Write, Unreadable, Memory, Socket, Transfer}
+use Rattle.tws_tool.specs.Address.{IsAddress}
+use Rattle.tws_tool.specs.Faults.{answer_status}
 use Rattle.tws_tool.specs.Inputs.{IsUnreadable}
 use Rattle.tws_tool.specs.Lines.{Transfers, sent_line, got_line}
 
@@ -63,11 +65,21 @@ IsBlamed known Memory = Unit {0}
 IsBlamed known Socket = Unit {0}
 IsBlamed known (Transfer why) = Unit {0}
 
--- what `put` of a file that has these bytes did, by the exit status
-pub record PutRan (known : Option (List ℕ)) (address : List ℕ) (status : ℕ) (old new : Option (List ℕ)) : Type 0 where
+-- a put of a file that has these bytes to the server at this host and port ended so
+pub record PutEnds (known : Option (List ℕ)) (server : Endpoint) (status : ℕ) (before after : Option (List Entry)) (old new : Option (List ℕ)) : Type 0 where
+  pub done : Result (Unit {0}) ToolFault
+  pub status_is : status ≡ answer_status done
+  pub puts : OnOk done (Puts known server before after old new)
+  pub fails : IfErr done (PutFails known server before after old new)
+
+-- what `put` of a file that has these bytes did, by the exit status. The server is at the host that the address writes,
+-- and at this port.
+pub record PutRan (known : Option (List ℕ)) (address : List ℕ) (port status : ℕ) (before after : Option (List Entry)) (old new : Option (List ℕ)) : Type 0 where
   pub transfers : Transfers address sent_line status old new
   pub sent : status ≡ 0 → SaysSent known old new
   pub unreadable : status ≡ 3 → IsUnreadable known
+  pub ended : status ≢ 1 → (host : ℕ) × IsAddress address host × PutEnds known (record { host = host; port = port }) status before after old new
+  pub nowhere : status ≡ 1 → after ≡ before
 
 -- ---- get
 
@@ -94,3 +106,26 @@ GetFails server kind before after written now old new (Unreadable index fault) =
 GetFails server kind before after written now old new Memory = GetRuns server kind before after written now old new run.Memory ⊎ GetUnsaid server kind before after written now (λ line. new ≡ old)
 GetFails server kind before after written now old new Socket = GetRuns server kind before after written now old new run.Socket
 GetFails server kind before after written now old new (Transfer why) = GetRuns server kind before after written now old new (run.Transfer why)
+
+-- A get into a file that has this once it is created. Where it is not created nothing is sent.
+abbrev pub Fetches : (server : Endpoint) (kind : Ruleset) (before after : Option (List Entry)) (created old new : Option (List ℕ)) → Type 0
+Fetches server kind before after created old new = (now : Option (List ℕ)) × Gets server kind before after created now old new
+
+abbrev pub FetchFails : (server : Endpoint) (kind : Ruleset) (before after : Option (List Entry)) (created old new : Option (List ℕ)) → ToolFault → Type 0
+FetchFails server kind before after created old new e =
+    ((e ≡ Write) × (after ≡ before) × (new ≡ old)) ⊎ ((now : Option (List ℕ)) × GetFails server kind before after created now old new e)
+
+-- a get of this ruleset from the server at this host and port ended so
+pub record GetEnds (server : Endpoint) (kind : Ruleset) (status : ℕ) (before after : Option (List Entry)) (created old new : Option (List ℕ)) : Type 0 where
+  pub done : Result (Unit {0}) ToolFault
+  pub status_is : status ≡ answer_status done
+  pub gets : OnOk done (Fetches server kind before after created old new)
+  pub fails : IfErr done (FetchFails server kind before after created old new)
+
+-- what `get` of this ruleset did, by the exit status, where its file has this once it is created. The server is where that
+-- of `put` is.
+pub record GetRan (kind : Ruleset) (created : Option (List ℕ)) (address : List ℕ) (port status : ℕ) (before after : Option (List Entry)) (old new : Option (List ℕ)) : Type 0 where
+  pub transfers : Transfers address got_line status old new
+  pub readable : status ≢ 3
+  pub ended : status ≢ 1 → (host : ℕ) × IsAddress address host × GetEnds (record { host = host; port = port }) kind status before after created old new
+  pub nowhere : status ≡ 1 → after ≡ before

@@ -1,4 +1,4 @@
--- The program's command line, as `clap` reads it, and which job its words ask for.
+-- The program's command line, as `clap` reads it, and which job its arguments ask for.
 use Rattle.std.specs.Prelude.{◌≡◌, ◌⊎◌, ◌≤◌, ℕ, Bool, true, false, List, [], ◌∷◌, map, Option, Some, None, option_map, unwrap_or, Result, Ok, Err, string_bytes, codes}
 use Rattle.std.specs.Borrow.{Bor}
 use Rattle.std.specs.Str.Parse.{IsNumeral, digits_value, without_leading_plus}
@@ -30,7 +30,7 @@ show_app = with_rule (new_app (codes "show")) (record (new_rule (codes "moves"))
 abbrev pub pack_app : App
 pack_app = new_app (codes "pack")
 
--- the words for the rules, as references to them
+-- the names of the rules, as references to them
 abbrev pub RuleNames : Type 0
 RuleNames = Bor (List (Bor Text))
 
@@ -90,7 +90,7 @@ tws_app names = with_subcommand (with_subcommand (with_subcommand (files_app nam
 
 -- ---- jobs
 
--- the word for the rules
+-- the name of the rules
 abbrev pub rules_word : Ruleset → Text
 rules_word Lynx = codes "lynx"
 rules_word Ms = codes "ms"
@@ -142,26 +142,26 @@ abbrev pub AnswersCommand : Text × List Row → Option Job → Type 0
 AnswersCommand command (Some job) = AsksFor command job
 AnswersCommand command None = (job : Job) → AsksFor command job → ⊥
 
--- what was found in the words, which have no fault
+-- what was found in the arguments, which have no fault
 abbrev pub FindsCommand : List Text → ArgMatches → Type 0
 FindsCommand words found = (names : RuleNames) × AreRuleNames names × (fault_of (tws_app names) words ≡ []) × (subcommand_rows_of found ≡ subcommand_of (tws_app names) words)
 
--- the words ask for the job, and have no fault
+-- the arguments ask for the job, and have no fault
 abbrev pub WordsAskFor : RuleNames → List Text → Job → Type 0
 WordsAskFor names words job = (fault_of (tws_app names) words ≡ []) × ((command : Text × List Row) × (subcommand_of (tws_app names) words ≡ Some command) × AsksFor command job)
 
--- the words have a fault, which is a request for help or a usage error; or they have none, and ask for no job
+-- the arguments have a fault, which is a request for help or a usage error; or they have none, and ask for no job
 abbrev pub RefusesWords : List Text → JobFault → Type 0
 RefusesWords words (fault.Words error) = (names : RuleNames) × AreRuleNames names × (IsAmong (kind_of error) (fault_of (tws_app names) words) ⊎ ((kind_of error ≡ InvalidSubcommand) × (fault_of (tws_app names) words ≡ []) × ((job : Job) → WordsAskFor names words job → ⊥)))
 RefusesWords words fault.Memory = Unit {0}
 
--- what the words ask for, or why they ask for nothing
+-- what the arguments ask for, or why they ask for nothing
 abbrev pub AnswersWords : List Text → Result Job JobFault → Type 0
 AnswersWords words (Ok job) = (names : RuleNames) × AreRuleNames names × WordsAskFor names words job
 AnswersWords words (Err why) = RefusesWords words why
 
 -- ---- examples
 
--- these words, after the program's name, ask for the job, whatever the name is
+-- these arguments, after the program's name, ask for the job, whatever the name is
 abbrev pub AskFor : (arguments : List Text) → Job → Type 0
 AskFor arguments job = (names : RuleNames) (program : Text) → WordsAskFor names (program ∷ arguments) job

@@ -1,6 +1,6 @@
 -- What a run of the program did, by its exit status: 0 where all was done, 1 for a usage error, 2 where reading, writing,
 -- a socket or memory failed, 3 for an unreadable solution file, 4 for a failed transfer.
-use Rattle.std.specs.Prelude.{◌≡◌, ◌≢◌, ◌⊎◌, ℕ, ◌≤◌, List, map, Option, Result, Ok, Err, string_bytes}
+use Rattle.std.specs.Prelude.{◌≡◌, ◌≢◌, ◌⊎◌, ℕ, ◌≤◌, List, map, Option, None, Result, Ok, Err, string_bytes}
 use Rattle.std.specs.Io.KnownBytes.{IsAtEnd}
 use Rattle.clap.specs.Words.{kind_of}
 use Rattle.clap.specs.declared.error.Error.{Error}
@@ -9,6 +9,7 @@ use Rattle.tws_file.specs.declared.«ruleset».Ruleset.{Ruleset}
 use Rattle.tws_file.specs.Text.{File}
 use Rattle.tws_file.specs.Listing.{listing_of}
 use Rattle.tws_file.specs.Packing.{packed_text}
+use Rattle.archive_turns.specs.Wire.{Entry}
 use Rattle.tws_tool.specs.declared.job.Job.{Job}
 use Rattle.tws_tool.specs.declared.job.Job.TheVariants.{Show, Pack, Best, Serve, Put, Get}
 use Rattle.tws_tool.specs.declared.job.JobFault.{JobFault}
@@ -16,8 +17,7 @@ use Rattle.tws_tool.specs.declared.job.JobFault.TheVariants as fault
 use Rattle.tws_tool.specs.Written.{Writes, WritesPrefix}
 use Rattle.tws_tool.specs.Inputs.{IsUnreadable}
 use Rattle.tws_tool.specs.Collecting.{BestWrites, BestPrefix, HasUnreadable}
-use Rattle.tws_tool.specs.Archiving.{PutRan}
-use Rattle.tws_tool.specs.Lines.{Transfers, got_line}
+use Rattle.tws_tool.specs.Archiving.{PutRan, GetRan}
 use Rattle.tws_tool.specs.Serving.{Served}
 use Rattle.tws_tool.specs.Help.{WritesHelp, WritesHelpPrefix}
 
@@ -39,11 +39,11 @@ pub record BestRan (kind : Ruleset) (knowns : List (Option (List ℕ))) (status 
   pub never : status ≢ 1
   pub few : status ≤ 3
 
--- the words ask for help
+-- the arguments ask for help
 abbrev pub IsHelp : Error → Type 0
 IsHelp error = (kind_of error ≡ DisplayHelp) ⊎ (kind_of error ≡ DisplayVersion)
 
--- help was written; or the words are refused, and nothing was written
+-- help was written; or the arguments are refused, and nothing was written
 pub record Explained (error : Error) (status : ℕ) (old new : Option (List ℕ)) : Type 0 where
   pub help : IsHelp error → status ≢ 1
   pub shown : status ≡ 0 → IsHelp error × WritesHelp old new
@@ -51,13 +51,14 @@ pub record Explained (error : Error) (status : ℕ) (old new : Option (List ℕ)
   pub usage : status ≡ 1 → new ≡ old
   pub few : status ≤ 2
 
--- what a job did, where the file of each name has the bytes that are told of it
-abbrev pub JobRuns : (bytes_of : List ℕ → Option (List ℕ)) → Result Job JobFault → (status : ℕ) → (known left old new : Option (List ℕ)) → Type 0
-JobRuns bytes_of (Ok (Show moves)) status known left old new = Ran (listing_of moves) status known left old new
-JobRuns bytes_of (Ok Pack) status known left old new = Ran packed_text status known left old new
-JobRuns bytes_of (Ok (Best kind files)) status known left old new = BestRan kind (map (λ name. bytes_of (string_bytes name)) files.items) status old new
-JobRuns bytes_of (Ok (Serve port turns dir)) status known left old new = (left ≡ known) × Served port status old new
-JobRuns bytes_of (Ok (Put target)) status known left old new = (left ≡ known) × PutRan (bytes_of (string_bytes target.file)) (string_bytes target.address) status old new
-JobRuns bytes_of (Ok (Get kind target)) status known left old new = (left ≡ known) × Transfers (string_bytes target.address) got_line status old new × (status ≢ 3)
-JobRuns bytes_of (Err (fault.Words error)) status known left old new = Explained error status old new
-JobRuns bytes_of (Err fault.Memory) status known left old new = (status ≡ 2) × (new ≡ old)
+-- what a job did, where the file of each name has the bytes that are told of it, and a file that is created by a name has
+-- what is told: the log of the wire before and after, what standard input had and has left, what the output held and holds
+abbrev pub JobRuns : (bytes_of created_of : List ℕ → Option (List ℕ)) → Result Job JobFault → (status : ℕ) → (before after : Option (List Entry)) → (known left old new : Option (List ℕ)) → Type 0
+JobRuns bytes_of created_of (Ok (Show moves)) status before after known left old new = (after ≡ before) × Ran (listing_of moves) status known left old new
+JobRuns bytes_of created_of (Ok Pack) status before after known left old new = (after ≡ before) × Ran packed_text status known left old new
+JobRuns bytes_of created_of (Ok (Best kind files)) status before after known left old new = (after ≡ before) × (left ≡ known) × BestRan kind (map (λ name. bytes_of (string_bytes name)) files.items) status old new
+JobRuns bytes_of created_of (Ok (Serve port turns dir)) status before after known left old new = (after ≡ before) × (left ≡ known) × Served port turns status None None old new
+JobRuns bytes_of created_of (Ok (Put target)) status before after known left old new = (left ≡ known) × PutRan (bytes_of (string_bytes target.file)) (string_bytes target.address) target.port status before after old new
+JobRuns bytes_of created_of (Ok (Get kind target)) status before after known left old new = (left ≡ known) × GetRan kind (created_of (string_bytes target.file)) (string_bytes target.address) target.port status before after old new
+JobRuns bytes_of created_of (Err (fault.Words error)) status before after known left old new = (after ≡ before) × (left ≡ known) × Explained error status old new
+JobRuns bytes_of created_of (Err fault.Memory) status before after known left old new = (after ≡ before) × (left ≡ known) × (status ≡ 2) × (new ≡ old)

@@ -1,6 +1,12 @@
 -- What the command `serve` does and prints.
-use Rattle.std.specs.Prelude.{◌≡◌, ◌⊎◌, ℕ, List, Option}
+use Rattle.std.specs.Prelude.{◌≡◌, ◌⊎◌, ℕ, ◌<◌, ◌≤◌, ◌^◌, ◌-◌, List, [], Option, None}
 use Rattle.std.specs.Io.KnownBytes.{Appends}
+use Rattle.tws_file.specs.declared.«ruleset».Ruleset.TheVariants.{Lynx, Ms}
+use Rattle.archive_table.specs.Server.{Server}
+use Rattle.archive_table.specs.Keeper.{Keeping, LoadedFrom}
+use Rattle.archive_turns.specs.Turn.{Counted, MakesTurns}
+use Rattle.archive_turns.specs.Ready.{Clocked, MakesRounds}
+use Rattle.tws_tool.specs.declared.limits.TheConstants.{TURNS}
 use Rattle.tws_tool.specs.declared.tool_fault.ToolFault.{ToolFault}
 use Rattle.tws_tool.specs.declared.tool_fault.ToolFault.TheVariants.{Socket}
 use Rattle.tws_tool.specs.Lines.{LineFails, serving_line, taken_line}
@@ -22,16 +28,49 @@ pub record ServesUnsaid (port : ℕ) (Made : (taken : ℕ) → Type 0) (old new 
   pub fails : LineFails (taken_line taken) between new e
 
 -- a line was not written: of the first one, and no turn was made, or of the last
-abbrev pub ServeFails : (port : ℕ) (None : Type 0) (Made : (taken : ℕ) → Type 0) (old new : Option (List ℕ)) → ToolFault → Type 0
-ServeFails port None Made old new e = (None × LineFails (serving_line port) old new e) ⊎ ServesUnsaid port Made old new e
+abbrev pub ServeFails : (port : ℕ) (Unmade : Type 0) (Made : (taken : ℕ) → Type 0) (old new : Option (List ℕ)) → ToolFault → Type 0
+ServeFails port Unmade Made old new e = (Unmade × LineFails (serving_line port) old new e) ⊎ ServesUnsaid port Made old new e
+
+-- ---- the servers, from their load on
+
+-- a table as it was loaded: with this request port, the collections that the keeper had, and no transfer
+pub record IsFresh (port : ℕ) (kept : Option (List Keeping)) (table : Server) : Type 0 where
+  pub request : table.request ≡ port
+  pub lynx : LoadedFrom Lynx kept table.maps.lynx
+  pub ms : LoadedFrom Ms kept table.maps.ms
+  pub live : table.live ≡ []
+
+-- the server that counts turns was loaded, and made these: what was kept before and after, and how many files were taken
+pub record CountedServed (port turns : ℕ) (kept now : Option (List Keeping)) (taken : ℕ) : Type 0 where
+  pub first : Counted
+  pub last : Counted
+  pub loaded : IsFresh port kept first.table
+  pub unvisited : first.last ≡ 0
+  pub timers : first.timers ≡ []
+  pub made : MakesTurns turns first last taken None None kept now
+
+-- the same of the server that waits for ready ports, which makes more rounds than any server lives for
+pub record WaitingServed (port : ℕ) (kept now : Option (List Keeping)) (taken : ℕ) : Type 0 where
+  pub first : Clocked
+  pub last : Clocked
+  pub loaded : IsFresh port kept first.table
+  pub unvisited : first.last ≡ 0
+  pub timers : first.timers ≡ []
+  pub made : MakesRounds (2 ^ 64 - 1) first last taken None None kept now
+
+-- a server that is given fewer turns than the most there are counts them
+abbrev pub ServerServed : (port turns : ℕ) (kept now : Option (List Keeping)) (taken : ℕ) → Type 0
+ServerServed port turns kept now taken =
+    ((turns < TURNS) × CountedServed port turns kept now taken) ⊎ ((TURNS ≤ turns) × WaitingServed port kept now taken)
 
 -- ---- by the exit status
 
--- no port was opened, and nothing was written; or a line was not
-abbrev pub ServeStops : (port : ℕ) (old new : Option (List ℕ)) → ToolFault → Type 0
-ServeStops port old new e = ((e ≡ Socket) × (new ≡ old)) ⊎ ServeFails port (Unit {0}) (λ taken. Unit {0}) old new e
+-- no port was opened, and nothing was written or kept; or a line was not written
+abbrev pub ServeStops : (port : ℕ) (Unmade : Type 0) (Made : (taken : ℕ) → Type 0) (old new : Option (List ℕ)) → ToolFault → Type 0
+ServeStops port Unmade Made old new e = ((e ≡ Socket) × (new ≡ old) × Unmade) ⊎ ServeFails port Unmade Made old new e
 
-pub record Served (port status : ℕ) (old new : Option (List ℕ)) : Type 0 where
-  pub done : status ≡ 0 → Serves port (λ taken. Unit {0}) old new
-  pub failed : status ≡ 2 → (new ≡ old) ⊎ ((e : ToolFault) × ServeStops port old new e)
+-- what `serve` on this port did, with so many turns: what its keeper had and has
+pub record Served (port turns status : ℕ) (kept now : Option (List Keeping)) (old new : Option (List ℕ)) : Type 0 where
+  pub done : status ≡ 0 → Serves port (ServerServed port turns kept now) old new
+  pub failed : status ≡ 2 → ((new ≡ old) × (now ≡ kept)) ⊎ ((e : ToolFault) × ServeStops port (now ≡ kept) (ServerServed port turns kept now) old new e)
   pub few : (status ≡ 0) ⊎ (status ≡ 2)

@@ -12,7 +12,7 @@ use std::alloc::{AllocError, Global};
 
 const RULES: [&str; 2] = ["lynx", "ms"];
 
-/// The words for the rules.
+/// The names of the rules.
 pub(crate) fn rule_names() -> &'static [&'static str]
     ensures { AreRuleNames result }
 {
@@ -174,7 +174,7 @@ fn files_command<'a>(alloc: Global, names: &'a [&'a str]) -> Result<Command<'a>,
     command.subcommand(best)
 }
 
-/// The command line of the program, with these words for the rules.
+/// The command line of the program, with these names of the rules.
 pub(crate) fn command<'a>(alloc: Global, names: &'a [&'a str]) -> Result<Command<'a>, AllocError>
     ensures { IfOk result (λ command. app_of command ≡ tws_app names.entry) }
 {

@@ -2,17 +2,23 @@
 
 ghost use Rattle.std.specs.Prelude.{◌≡◌, ℕ, List, Option, None, IfOk};
 
-use std::io::Read;
+use std::io::{Read, Write};
 use std::rt::Files;
 use std::{fs, io};
 
-/// Where files are opened by their names. It may tell what each of them has; that of the system tells nothing.
+/// Where files are opened and created by their names. It may tell what each of them has; that of the system tells nothing.
 pub trait FileSystem {
     /// A file that is open to be read.
     type File: Read + Drop;
 
+    /// A file that was created, and is open to be written.
+    type Created: Write + Drop;
+
     /// What the file of a name has, where that is told.
     ghost bytes_of: { Self → List ℕ → Option (List ℕ) };
+
+    /// What a file has that was just created by a name, where that is told.
+    ghost created_of: { Self → List ℕ → Option (List ℕ) };
 
     /// Opens the file of this name, to be read from its start.
     ///
@@ -21,6 +27,14 @@ pub trait FileSystem {
     /// Where there is no such file, or it cannot be opened.
     fn open(&self, name: &str) -> io::Result<Self::File>
         ensures { IfOk result (λ file. Self.File.remaining file ≡ bytes_of self.now name.now) };
+
+    /// Creates the file of this name, to be written from its start. What a file of the name had is gone.
+    ///
+    /// # Errors
+    ///
+    /// Where it cannot be created.
+    fn create(&self, name: &str) -> io::Result<Self::Created>
+        ensures { IfOk result (λ file. Self.Created.contents file ≡ created_of self.now name.now) };
 }
 
 /// The files of the system, as a runtime opens them.
@@ -29,7 +43,7 @@ pub(crate) struct SystemFiles<P: Files + Copy>(pub(crate) P);
 
 /// A file of the system, which does not tell what it has.
 #[derive(Drop)]
-pub(crate) struct SystemFile<F: Read>(F);
+pub(crate) struct SystemFile<F>(F);
 
 impl<F: Read> Read for SystemFile<F> {
     fn read(&mut self, buf: &mut [u8]) -> io::Result<usize> {
@@ -37,12 +51,30 @@ impl<F: Read> Read for SystemFile<F> {
     }
 }
 
+impl<F: Write> Write for SystemFile<F> {
+    fn write(&mut self, buf: &[u8]) -> io::Result<usize> {
+        self.0.write(buf)
+    }
+
+    fn flush(&mut self) -> io::Result<()> {
+        self.0.flush()
+    }
+}
+
 impl<P: Files + Copy> FileSystem for SystemFiles<P> {
     type File = SystemFile<P::File>;
 
+    type Created = SystemFile<P::File>;
+
     ghost bytes_of = { λ _ _. None };
+
+    ghost created_of = { λ _ _. None };
 
     fn open(&self, name: &str) -> io::Result<SystemFile<P::File>> {
         Ok(SystemFile(fs::open(&self.0, name)?))
+    }
+
+    fn create(&self, name: &str) -> io::Result<SystemFile<P::File>> {
+        Ok(SystemFile(fs::create(&self.0, name)?))
     }
 }

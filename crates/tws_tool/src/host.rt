@@ -1,10 +1,12 @@
-//! The commands of the archive over the system's sockets and files.
+//! The commands of the archive, as the program does them: files by their names, an address as it was typed, and the
+//! sockets of a server.
 
-ghost use Rattle.std.specs.Prelude.{◌≡◌, ◌≢◌, ◌⊎◌, ℕ, OnOk, IfErr, string_bytes};
+ghost use Rattle.std.specs.Prelude.{◌≡◌, ◌≢◌, ◌⊎◌, ◌^◌, ◌-◌, None, OnOk, IfErr, string_bytes};
+ghost use Rattle.archive_turns.specs.Ready.{MakesRounds};
+ghost use Rattle.archive_turns.specs.Turn.{MakesTurns};
 ghost use Rattle.tws_tool.specs.Address.{IsAddress};
-ghost use Rattle.tws_tool.specs.Archiving.{PutRan, SaysSent, IsBlamed};
-ghost use Rattle.tws_tool.specs.Faults.{status_of};
-ghost use Rattle.tws_tool.specs.Lines.{Says, Transfers, Unless, Unsaid, got_line, sent_line};
+ghost use Rattle.tws_tool.specs.Archiving.{Puts, PutFails, PutRan, Fetches, FetchFails, GetRan};
+ghost use Rattle.tws_tool.specs.Lines.{Unless};
 ghost use Rattle.tws_tool.specs.Serving.{ServeStops, Served, Serves};
 
 use crate::address::Address;
@@ -18,19 +20,18 @@ use crate::target::Target;
 use crate::tool_fault::ToolFault;
 use archive_host::UdpWire;
 use archive_table::Keeper;
-use archive_turns::{ReadyServer, Server};
+use archive_turns::{ReadyServer, Server, Wire};
 use std::alloc::Global;
 use std::io::Write;
 use std::net::Net;
-use std::rt::Files;
+use std::slice;
 use std::time::Clock;
-use std::{fs, slice};
 use tftp_packet::Endpoint;
 use tws_file::Ruleset;
 
 const FAILED: u8 = 2;
 
-// Says that an address is none, and answers the status.
+// Says that an address is none, and returns the status.
 fn bad_address<E: Write>(errors: &mut E) -> u8
     ensures { result ≡ 1 }
 {
@@ -38,7 +39,7 @@ fn bad_address<E: Write>(errors: &mut E) -> u8
     USAGE
 }
 
-// Says that what a folder keeps was not loaded, and answers the status.
+// Says that what a folder keeps was not loaded, and returns the status.
 fn not_loaded<E: Write>(name: &str, errors: &mut E) -> u8
     ensures { result ≡ 2 }
 {
@@ -47,103 +48,92 @@ fn not_loaded<E: Write>(name: &str, errors: &mut E) -> u8
 }
 
 // Sends the file of this name.
-fn send<S: FileSystem, P: Net + Clock + AllocGlobal + Copy, W: Write>(
+fn send<S: FileSystem, N: Wire, W: Write>(
     system: &S,
-    rt: P,
+    wire: &mut N,
     alloc: Global,
     host: u32,
     target: &Target,
     out: &mut W,
 ) -> Result<(), ToolFault>
-    ensures said { OnOk result (Says sent_line (W.contents out.old) (W.contents out.new)) }
-    ensures sent { OnOk result (SaysSent (S.bytes_of system.now (string_bytes target.now.file)) (W.contents out.old) (W.contents out.new)) }
-    ensures blamed { IfErr result (IsBlamed (S.bytes_of system.now (string_bytes target.now.file))) }
-    ensures fails { IfErr result (Unsaid sent_line (W.contents out.old) (W.contents out.new)) }
+    ensures sent { OnOk result (Puts (S.bytes_of system.now (string_bytes target.now.file)) (record { host = host; port = target.now.port }) (N.log wire.old) (N.log wire.new) (W.contents out.old) (W.contents out.new)) }
+    ensures fails { IfErr result (PutFails (S.bytes_of system.now (string_bytes target.now.file)) (record { host = host; port = target.now.port }) (N.log wire.old) (N.log wire.new) (W.contents out.old) (W.contents out.new)) }
     ensures unwritten { IfErr result (Unless (out.new ≡ out.old)) }
 {
     let port = target.port;
     let Ok(mut file) = system.open(target.file.as_str()) else {
         return Err(ToolFault::Read);
     };
-    let mut wire = UdpWire::new(rt);
-    put_file(alloc, &mut file, &mut wire, Endpoint { host, port }, out)
+    put_file(alloc, &mut file, wire, Endpoint { host, port }, out)
 }
 
-// Fetches a collection into the file of this name, which is made before a port is opened.
-fn fetch<P: Files + Net + Clock + AllocGlobal + Copy, W: Write>(
-    rt: P,
+// Fetches a collection into the file of this name, which is created before a port is opened.
+fn fetch<S: FileSystem, N: Wire, W: Write>(
+    system: &S,
+    wire: &mut N,
     alloc: Global,
     host: u32,
     rules: Ruleset,
     target: &Target,
     out: &mut W,
 ) -> Result<(), ToolFault>
-    ensures said { OnOk result (Says got_line (W.contents out.old) (W.contents out.new)) }
-    ensures fails { IfErr result (Unsaid got_line (W.contents out.old) (W.contents out.new)) }
+    ensures got { OnOk result (Fetches (record { host = host; port = target.now.port }) rules (N.log wire.old) (N.log wire.new) (S.created_of system.now (string_bytes target.now.file)) (W.contents out.old) (W.contents out.new)) }
+    ensures fails { IfErr result (FetchFails (record { host = host; port = target.now.port }) rules (N.log wire.old) (N.log wire.new) (S.created_of system.now (string_bytes target.now.file)) (W.contents out.old) (W.contents out.new)) }
     ensures unwritten { IfErr result (Unless (out.new ≡ out.old)) }
-    ensures readable { IfErr result (λ e. status_of e ≢ 3) }
 {
     let port = target.port;
-    let Ok(mut file) = fs::create(&rt, target.file.as_str()) else {
+    let Ok(mut file) = system.create(target.file.as_str()) else {
         return Err(ToolFault::Write);
     };
-    let mut wire = UdpWire::new(rt);
-    get_file(
-        alloc,
-        &mut wire,
-        Endpoint { host, port },
-        rules,
-        &mut file,
-        out,
-    )
+    get_file(alloc, wire, Endpoint { host, port }, rules, &mut file, out)
 }
 
-/// Does what `put` asks for, and answers the status.
-pub(crate) fn put<S: FileSystem, P: Net + Clock + AllocGlobal + Copy, W: Write, E: Write>(
+/// Does what `put` asks for over this wire, and returns the status.
+pub(crate) fn put<S: FileSystem, N: Wire, W: Write, E: Write>(
     system: &S,
-    rt: P,
+    wire: &mut N,
     alloc: Global,
     target: &Target,
     out: &mut W,
     errors: &mut E,
 ) -> u8
-    ensures ran { PutRan (S.bytes_of system.now (string_bytes target.now.file)) (string_bytes target.now.address) result (W.contents out.old) (W.contents out.new) }
+    ensures ran { PutRan (S.bytes_of system.now (string_bytes target.now.file)) (string_bytes target.now.address) target.now.port result (N.log wire.old) (N.log wire.new) (W.contents out.old) (W.contents out.new) }
     ensures unwritten { result ≢ 0 → result ≢ 2 → out.new ≡ out.old }
     ensures silent { result ≡ 0 → errors.new ≡ errors.old }
 {
     match Address::read(target.address.as_str()) {
         Some(address) => {
-            let done = send(system, rt, alloc, address.host, target, out);
+            let done = send(system, wire, alloc, address.host, target, out);
             finish(done, slice::from_ref(&target.file), errors)
         }
         None => bad_address(errors),
     }
 }
 
-/// Does what `get` asks for, and answers the status.
-pub(crate) fn get<P: Files + Net + Clock + AllocGlobal + Copy, W: Write, E: Write>(
-    rt: P,
+/// Does what `get` asks for over this wire, and returns the status.
+pub(crate) fn get<S: FileSystem, N: Wire, W: Write, E: Write>(
+    system: &S,
+    wire: &mut N,
     alloc: Global,
     rules: Ruleset,
     target: &Target,
     out: &mut W,
     errors: &mut E,
 ) -> u8
-    ensures transfers { Transfers (string_bytes target.now.address) got_line result (W.contents out.old) (W.contents out.new) }
-    ensures readable { result ≢ 3 }
+    ensures ran { GetRan rules (S.created_of system.now (string_bytes target.now.file)) (string_bytes target.now.address) target.now.port result (N.log wire.old) (N.log wire.new) (W.contents out.old) (W.contents out.new) }
     ensures unwritten { result ≢ 0 → result ≢ 2 → out.new ≡ out.old }
     ensures silent { result ≡ 0 → errors.new ≡ errors.old }
 {
     match Address::read(target.address.as_str()) {
         Some(address) => {
-            let done = fetch(rt, alloc, address.host, rules, target, out);
+            let done = fetch(system, wire, alloc, address.host, rules, target, out);
             finish(done, &[], errors)
         }
         None => bad_address(errors),
     }
 }
 
-// Opens the port, and makes turns of the server that counts them.
+// Opens the server's request port, and makes turns of the server that counts them.
 fn count<P: Net + Clock + AllocGlobal + Copy, K: Keeper, W: Write>(
     rt: P,
     alloc: Global,
@@ -153,8 +143,9 @@ fn count<P: Net + Clock + AllocGlobal + Copy, K: Keeper, W: Write>(
     turns: u64,
     out: &mut W,
 ) -> Result<(), ToolFault>
-    ensures served { OnOk result (Serves port (λ taken. Unit {0}) (W.contents out.old) (W.contents out.new)) }
-    ensures stops { IfErr result (ServeStops port (W.contents out.old) (W.contents out.new)) }
+    requires { server.old.table.request ≡ port }
+    ensures served { OnOk result (Serves port (λ taken. MakesTurns turns server.old server.new taken None None (K.log keeper.old) (K.log keeper.new)) (W.contents out.old) (W.contents out.new)) }
+    ensures stops { IfErr result (ServeStops port (K.log keeper.new ≡ K.log keeper.old) (λ taken. MakesTurns turns server.old server.new taken None None (K.log keeper.old) (K.log keeper.new)) (W.contents out.old) (W.contents out.new)) }
 {
     let Ok(mut wire) = UdpWire::listen(rt, port) else {
         return Err(ToolFault::Socket);
@@ -162,7 +153,7 @@ fn count<P: Net + Clock + AllocGlobal + Copy, K: Keeper, W: Write>(
     serve_counted(alloc, &mut wire, keeper, server, port, turns, out)
 }
 
-// Opens the port, and makes rounds of the server that waits: more than any server lives for.
+// Opens the server's request port, and makes rounds of the server that waits: more than any server lives for.
 fn wait<P: Net + Clock + AllocGlobal + Copy, K: Keeper, W: Write>(
     rt: P,
     alloc: Global,
@@ -171,8 +162,9 @@ fn wait<P: Net + Clock + AllocGlobal + Copy, K: Keeper, W: Write>(
     port: u16,
     out: &mut W,
 ) -> Result<(), ToolFault>
-    ensures served { OnOk result (Serves port (λ taken. Unit {0}) (W.contents out.old) (W.contents out.new)) }
-    ensures stops { IfErr result (ServeStops port (W.contents out.old) (W.contents out.new)) }
+    requires { server.old.table.request ≡ port }
+    ensures served { OnOk result (Serves port (λ taken. MakesRounds (2 ^ 64 - 1) server.old server.new taken None None (K.log keeper.old) (K.log keeper.new)) (W.contents out.old) (W.contents out.new)) }
+    ensures stops { IfErr result (ServeStops port (K.log keeper.new ≡ K.log keeper.old) (λ taken. MakesRounds (2 ^ 64 - 1) server.old server.new taken None None (K.log keeper.old) (K.log keeper.new)) (W.contents out.old) (W.contents out.new)) }
 {
     let Ok(mut wire) = UdpWire::listen(rt, port) else {
         return Err(ToolFault::Socket);
@@ -180,7 +172,7 @@ fn wait<P: Net + Clock + AllocGlobal + Copy, K: Keeper, W: Write>(
     serve_waiting(alloc, &mut wire, keeper, server, port, u64::MAX, out)
 }
 
-/// Does what `serve` asks for with this keeper, whose name is for its faults, and answers the status.
+/// Does what `serve` asks for with this keeper, whose name is for its faults, and returns the status.
 pub(crate) fn serve<P: Net + Clock + AllocGlobal + Copy, K: Keeper, W: Write, E: Write>(
     rt: P,
     alloc: Global,
@@ -191,7 +183,7 @@ pub(crate) fn serve<P: Net + Clock + AllocGlobal + Copy, K: Keeper, W: Write, E:
     out: &mut W,
     errors: &mut E,
 ) -> u8
-    ensures served { Served port result (W.contents out.old) (W.contents out.new) }
+    ensures served { Served port turns result (K.log keeper.old) (K.log keeper.new) (W.contents out.old) (W.contents out.new) }
     ensures status { (result ≡ 0) ⊎ (result ≡ 2) }
     ensures silent { result ≡ 0 → errors.new ≡ errors.old }
 {

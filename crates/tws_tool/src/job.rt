@@ -1,4 +1,4 @@
-//! What the words of a command line ask for.
+//! What the arguments of a command line ask for.
 
 ghost use Rattle.std.specs.Prelude.{◌≡◌, ◌≢◌, ◌⊎◌, ℕ, map, option_map, IfOk, IfErr, IfSome, IfNone, string_bytes, codes};
 ghost use Rattle.clap.specs.Matches.{found_of};
@@ -58,7 +58,7 @@ pub enum Job {
     },
 }
 
-/// Why words ask for nothing.
+/// Why arguments ask for nothing.
 #[derive(Drop)]
 pub enum JobFault {
     /// A usage error, or a request for help.
@@ -119,7 +119,7 @@ fn copied(alloc: Global, texts: &[&str]) -> Result<Vec<String>, JobFault>
     Ok(copies)
 }
 
-// What the words after `best` ask for; nothing if they name no rules.
+// What the arguments after `best` ask for; nothing if they name no rules.
 fn best_of(alloc: Global, words: &ArgMatches) -> Result<Option<Job>, JobFault>
     ensures asked { IfOk result (AnswersCommand (codes "best", rows_of (found_of words.now))) }
     ensures memory { IfErr result (λ e. e ≡ Memory) }
@@ -154,7 +154,7 @@ fn port_of(words: &ArgMatches) -> Option<u16>
     Some(port as u16)
 }
 
-// What the words after `serve` ask for; nothing if a number is none.
+// What the arguments after `serve` ask for; nothing if a number is none.
 fn serve_of(alloc: Global, words: &ArgMatches) -> Result<Option<Job>, JobFault>
     ensures asked { IfOk result (AnswersCommand (codes "serve", rows_of (found_of words.now))) }
     ensures memory { IfErr result (λ e. e ≡ Memory) }
@@ -169,7 +169,7 @@ fn serve_of(alloc: Global, words: &ArgMatches) -> Result<Option<Job>, JobFault>
     Ok(Some(Job::Serve { port, turns, dir }))
 }
 
-// The target that the words name; nothing if they name none, or the port is none.
+// The target that the arguments name; nothing if they name none, or the port is none.
 fn target_of(alloc: Global, words: &ArgMatches) -> Result<Option<Target>, JobFault>
     ensures asked { IfOk result (AnswersTarget (rows_of (found_of words.now))) }
     ensures memory { IfErr result (λ e. e ≡ Memory) }
@@ -190,7 +190,7 @@ fn target_of(alloc: Global, words: &ArgMatches) -> Result<Option<Target>, JobFau
     }))
 }
 
-// What the words after `put` ask for; nothing if they name no target.
+// What the arguments after `put` ask for; nothing if they name no target.
 fn put_of(alloc: Global, words: &ArgMatches) -> Result<Option<Job>, JobFault>
     ensures asked { IfOk result (AnswersCommand (codes "put", rows_of (found_of words.now))) }
     ensures memory { IfErr result (λ e. e ≡ Memory) }
@@ -201,7 +201,7 @@ fn put_of(alloc: Global, words: &ArgMatches) -> Result<Option<Job>, JobFault>
     Ok(Some(Job::Put { target }))
 }
 
-// What the words after `get` ask for; nothing if they name no rules or no target.
+// What the arguments after `get` ask for; nothing if they name no rules or no target.
 fn get_of(alloc: Global, words: &ArgMatches) -> Result<Option<Job>, JobFault>
     ensures asked { IfOk result (AnswersCommand (codes "get", rows_of (found_of words.now))) }
     ensures memory { IfErr result (λ e. e ≡ Memory) }
@@ -218,7 +218,7 @@ fn get_of(alloc: Global, words: &ArgMatches) -> Result<Option<Job>, JobFault>
     Ok(Some(Job::Get { rules, target }))
 }
 
-// What the words of a command ask for; nothing if there is no command of this name.
+// What the arguments of a command ask for; nothing if there is no command of this name.
 fn job_by(alloc: Global, name: &str, words: &ArgMatches) -> Result<Option<Job>, JobFault>
     ensures asked { IfOk result (AnswersCommand (name.now, rows_of (found_of words.now))) }
     ensures memory { IfErr result (λ e. e ≡ Memory) }
@@ -237,7 +237,7 @@ fn job_by(alloc: Global, name: &str, words: &ArgMatches) -> Result<Option<Job>, 
     }
 }
 
-// What `clap` finds in the words.
+// What `clap` finds in the arguments.
 fn found_in<'a>(
     alloc: Global,
     names: &'a [&'a str],
@@ -260,7 +260,7 @@ fn no_command(alloc: Global) -> Result<clap::Error, JobFault>
     Ok(command.error(ErrorKind::InvalidSubcommand, "no such command")?)
 }
 
-/// What the words ask for, of which the first is the program's name.
+/// What the arguments ask for, of which the first is the program's name.
 ///
 /// # Errors
 ///

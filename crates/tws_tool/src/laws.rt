@@ -15,7 +15,7 @@ pub fn limit_values()
     ensures turns { TURNS ≡ 1000000000 }
 {}
 
-/// The words `show`, `show --moves`, `pack`, `serve`, and `serve` with a port and turns.
+/// The arguments `show`, `show --moves`, `pack`, `serve`, and `serve` with a port and turns.
 pub fn words_of_commands()
     ensures show { AskFor (codes "show" ∷ []) (Show false) }
     ensures moves { AskFor (codes "show" ∷ codes "--moves" ∷ []) (Show true) }

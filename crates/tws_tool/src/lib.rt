@@ -1,5 +1,23 @@
 //! The commands of the program `tws`, over any reader and writer. `specs/Inputs.antt`, then `specs/Jobs.antt`, are the files
 //! to read first.
+//!
+//! How it is called, by a crate that lists `tws_tool` and `tws_file`; this needs no proof file:
+//!
+//! ```text
+//! ghost use Rattle.std.specs.Prelude.{[], true, IfOk, Some};
+//! ghost use Rattle.tws_file.specs.Listing.{listing_of};
+//! ghost use Rattle.tws_tool.specs.Written.{Writes};
+//!
+//! /// The listing of a solution file, with a line for each move.
+//! fn listing(alloc: Global, bytes: &[u8]) -> Result<Vec<u8>, ToolFault>
+//!     ensures { IfOk result (λ text. Writes (listing_of true) (Some bytes.now) (Some []) (Some text.items)) }
+//! {
+//!     let mut input = bytes;
+//!     let mut out = Vec::new(alloc);
+//!     run_show(alloc, &mut input, &mut out, true)?;
+//!     Ok(out)
+//! }
+//! ```
 #![tactic(auto)]
 
 mod address;
@@ -25,8 +43,8 @@ mod tool_fault;
 pub use address::Address;
 pub use archive_host::{DirKeeper, UdpWire};
 pub use archive_turns::{
-    Entry, GetRun, MemoryWire, PutRun, RunFault, Server, Wire, WireFault, run_get, run_put,
-    serve_turns,
+    Entry, GetRun, MemoryWire, PutRun, ReadyServer, RunFault, Server, Wire, WireFault, run_get,
+    run_put, serve_ready, serve_turns,
 };
 pub use best::run_best;
 pub use file_system::FileSystem;

@@ -1,4 +1,4 @@
-/// The request port where the words give none: one that needs no privileges.
+/// The request port where the arguments give none: one that needs no privileges.
 pub const PORT: u16 = 6969;
 
 /// The greatest port.

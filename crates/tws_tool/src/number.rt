@@ -1,4 +1,4 @@
-//! What was given among the words by a name.
+//! What was given among the arguments by a name.
 
 ghost use Rattle.std.specs.Prelude.{◌≡◌, ℕ, Some, None, IfSome, IfNone};
 ghost use Rattle.clap.specs.Matches.{found_of};

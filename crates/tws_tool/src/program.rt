@@ -1,4 +1,4 @@
-//! The whole program but for where its words and streams come from.
+//! The whole program but for where its arguments and streams come from.
 
 ghost use Rattle.std.specs.Prelude.{◌≡◌, ◌≢◌, ◌⊎◌, ◌≤◌, None, Result, map, string_bytes, OnOk, IfOk, IfErr};
 ghost use Rattle.tws_tool.specs.declared.job.Job.{Job};
@@ -18,8 +18,9 @@ use crate::job::{Job, JobFault, job_of};
 use crate::pack::run_pack;
 use crate::show::run_show;
 use crate::tool_fault::ToolFault;
-use archive_host::DirKeeper;
+use archive_host::{DirKeeper, UdpWire};
 use archive_table::NoKeeper;
+use archive_turns::Wire;
 use byte_output::put;
 use std::alloc::Global;
 use std::io::{Read, Write};
@@ -32,7 +33,7 @@ const DONE: u8 = 0;
 
 pub(crate) const USAGE: u8 = 1;
 
-// Says why a command failed whose inputs have these names, and answers the status. An input without a name is standard
+// Says why a command failed whose inputs have these names, and returns the status. An input without a name is standard
 // input.
 fn report<E: Write>(fault: ToolFault, names: &[String], errors: &mut E) -> u8
     ensures { result ≡ status_of fault }
@@ -51,7 +52,7 @@ fn report<E: Write>(fault: ToolFault, names: &[String], errors: &mut E) -> u8
     fault.status()
 }
 
-// Says why a command failed, if it did, and answers the status.
+// Says why a command failed, if it did, and returns the status.
 pub(crate) fn finish<E: Write>(done: Result<(), ToolFault>, names: &[String], errors: &mut E) -> u8
     ensures status { result ≡ answer_status done }
     ensures few { result ≤ 4 }
@@ -75,7 +76,7 @@ fn write_help<W: Write>(alloc: Global, error: &clap::Error, out: &mut W) -> Resu
     Ok(())
 }
 
-// Shows help, or says what is wrong with the words, and answers the status.
+// Shows help, or says what is wrong with the arguments, and returns the status.
 fn explain<W: Write, E: Write>(
     alloc: Global,
     error: &clap::Error,
@@ -139,7 +140,7 @@ fn serve_job<P: Files + Net + Clock + AllocGlobal + Copy, W: Write, E: Write>(
     out: &mut W,
     errors: &mut E,
 ) -> u8
-    ensures served { Served port result (W.contents out.old) (W.contents out.new) }
+    ensures served { Served port turns result None None (W.contents out.old) (W.contents out.new) }
     ensures status { (result ≡ 0) ⊎ (result ≡ 2) }
     ensures silent { result ≡ 0 → errors.new ≡ errors.old }
 {
@@ -164,9 +165,17 @@ fn serve_job<P: Files + Net + Clock + AllocGlobal + Copy, W: Write, E: Write>(
     }
 }
 
-// Does a job, or says why there is none, and answers the status.
-fn run_job<S: FileSystem, P: Files + Net + Clock + AllocGlobal + Copy, R: Read, W: Write, E: Write>(
+// Does a job, or says why there is none, and returns the status.
+fn run_job<
+    S: FileSystem,
+    N: Wire,
+    P: Files + Net + Clock + AllocGlobal + Copy,
+    R: Read,
+    W: Write,
+    E: Write,
+>(
     system: &S,
+    wire: &mut N,
     rt: &P,
     alloc: Global,
     job: Result<Job, JobFault>,
@@ -174,7 +183,7 @@ fn run_job<S: FileSystem, P: Files + Net + Clock + AllocGlobal + Copy, R: Read, 
     out: &mut W,
     errors: &mut E,
 ) -> u8
-    ensures ran { JobRuns (S.bytes_of system.now) job result (R.remaining input.old) (R.remaining input.new) (W.contents out.old) (W.contents out.new) }
+    ensures ran { JobRuns (S.bytes_of system.now) (S.created_of system.now) job result (N.log wire.old) (N.log wire.new) (R.remaining input.old) (R.remaining input.new) (W.contents out.old) (W.contents out.new) }
     ensures usage { result ≡ 1 → (input.new ≡ input.old) × (out.new ≡ out.old) }
     ensures status { result ≤ 4 }
     // At status 0, where input was read, a command's text of it was written.
@@ -190,27 +199,32 @@ fn run_job<S: FileSystem, P: Files + Net + Clock + AllocGlobal + Copy, R: Read, 
             finish(done, &files, errors)
         }
         Ok(Job::Serve { port, turns, dir }) => serve_job(*rt, alloc, port, turns, dir, out, errors),
-        Ok(Job::Put { target }) => host::put(system, *rt, alloc, &target, out, errors),
-        Ok(Job::Get { rules, target }) => host::get(*rt, alloc, rules, &target, out, errors),
+        Ok(Job::Put { target }) => host::put(system, wire, alloc, &target, out, errors),
+        Ok(Job::Get { rules, target }) => {
+            host::get(system, wire, alloc, rules, &target, out, errors)
+        }
         Err(JobFault::Words(error)) => explain(alloc, &error, out, errors),
         Err(JobFault::Memory) => report(ToolFault::Memory, &[], errors),
     }
 }
 
-/// Does what the words ask for, of which the first is the program's name, and answers the exit status. The files of
-/// `system` are read; what else there is to do is done by the runtime.
+/// Does what the arguments ask for, of which the first is the program's name, and returns the exit status. The files of
+/// `system` are read and created, and `put` and `get` go over `wire`; the folder and the sockets of `serve` are the
+/// runtime's.
 ///
 /// A fault goes to `errors` as one line. The status is 0 where all was done, and for help, whose text goes to `out`;
 /// 1 for a usage error or a bad address; 2 where reading, writing, a socket or memory failed; 3 for an unreadable solution
 /// file; 4 for a failed transfer.
 pub fn run_words_with<
     S: FileSystem,
+    N: Wire,
     P: Files + Net + Clock + AllocGlobal + Copy,
     R: Read,
     W: Write,
     E: Write,
 >(
     system: &S,
+    wire: &mut N,
     rt: &P,
     alloc: Global,
     words: &[String],
@@ -218,8 +232,8 @@ pub fn run_words_with<
     out: &mut W,
     errors: &mut E,
 ) -> u8
-    // The job is the one that the words ask for, with the files that they name.
-    ensures ran { (job : Result Job JobFault) × AnswersWords (map string_bytes words.now) job × JobRuns (S.bytes_of system.now) job result (R.remaining input.old) (R.remaining input.new) (W.contents out.old) (W.contents out.new) }
+    // The job is the one that the arguments ask for, with the files that they name.
+    ensures ran { (job : Result Job JobFault) × AnswersWords (map string_bytes words.now) job × JobRuns (S.bytes_of system.now) (S.created_of system.now) job result (N.log wire.old) (N.log wire.new) (R.remaining input.old) (R.remaining input.new) (W.contents out.old) (W.contents out.new) }
     // A usage error leaves input and output as they were, and an unreadable file the output.
     ensures usage { result ≡ 1 → (input.new ≡ input.old) × (out.new ≡ out.old) }
     ensures status { result ≤ 4 }
@@ -228,10 +242,19 @@ pub fn run_words_with<
     ensures unreadable { result ≡ 3 → out.new ≡ out.old }
     ensures silent { result ≡ 0 → errors.new ≡ errors.old }
 {
-    run_job(system, rt, alloc, job_of(alloc, words), input, out, errors)
+    run_job(
+        system,
+        wire,
+        rt,
+        alloc,
+        job_of(alloc, words),
+        input,
+        out,
+        errors,
+    )
 }
 
-/// The same with the system's files, which do not tell what they have.
+/// The same with the system's files and sockets, which tell nothing.
 pub fn run_words<P: Files + Net + Clock + AllocGlobal + Copy, R: Read, W: Write, E: Write>(
     rt: &P,
     alloc: Global,
@@ -240,12 +263,22 @@ pub fn run_words<P: Files + Net + Clock + AllocGlobal + Copy, R: Read, W: Write,
     out: &mut W,
     errors: &mut E,
 ) -> u8
-    ensures ran { (job : Result Job JobFault) × AnswersWords (map string_bytes words.now) job × JobRuns (λ name. None) job result (R.remaining input.old) (R.remaining input.new) (W.contents out.old) (W.contents out.new) }
+    ensures ran { (job : Result Job JobFault) × AnswersWords (map string_bytes words.now) job × JobRuns (λ name. None) (λ name. None) job result None None (R.remaining input.old) (R.remaining input.new) (W.contents out.old) (W.contents out.new) }
     ensures usage { result ≡ 1 → (input.new ≡ input.old) × (out.new ≡ out.old) }
     ensures status { result ≤ 4 }
     ensures written { result ≡ 0 → (input.new ≡ input.old) ⊎ (text : CommandText) × Writes (text_by text) (R.remaining input.old) (W.contents out.old) (W.contents out.new) }
     ensures unreadable { result ≡ 3 → out.new ≡ out.old }
     ensures silent { result ≡ 0 → errors.new ≡ errors.old }
 {
-    run_words_with(&SystemFiles(*rt), rt, alloc, words, input, out, errors)
+    let mut wire = UdpWire::new(*rt);
+    run_words_with(
+        &SystemFiles(*rt),
+        &mut wire,
+        rt,
+        alloc,
+        words,
+        input,
+        out,
+        errors,
+    )
 }

@@ -1,14 +1,13 @@
-use Rattle.std.proofs.Common.{◌∙◌, ℕ, map, string_bytes, OnOk, IfErr, sym, subst, inr}
-use Rattle.tws_file.specs.Listing.{listing_of}
+use Rattle.std.proofs.Common.{◌∙◌, ℕ, refl, map, string_bytes, OnOk, IfErr, sym, subst, inr}
 use Rattle.tws_tool.specs.Collecting.{BestFails, BestWrites}
 use Rattle.tws_tool.specs.Jobs.{BestRan}
 use Rattle.tws_tool.specs.Written.{listing}
-use Rattle.tws_tool.proofs.Statuses.{best_ran, done_written}
+use Rattle.tws_tool.proofs.Statuses.{best_ran, at_zero}
 use Rattle.tws_tool.proofs.program.run_job.Goals as goal
 
 pub returns-in-Ok-Show-clause-written : goal.returns-in-Ok-Show-clause-written
 returns-in-Ok-Show-clause-written g c = λ zero.
-    inr (listing c.in-Ok-Show.moves, done_written (listing_of c.in-Ok-Show.moves) c.run_show.result (g.R.Read.remaining c.args.input.now) (g.W.Write.contents c.args.out.now) (g.W.Write.contents c.run_show.new.out) c.run_show.ensures.listed (sym c.finish.ensures.status ∙ zero))
+    inr (listing c.in-Ok-Show.moves, at_zero c.run_show.result c.run_show.ensures.listed (sym c.finish.ensures.status ∙ zero))
 
 pub returns-in-Ok-Best-clause-ran : goal.returns-in-Ok-Best-clause-ran
 returns-in-Ok-Best-clause-ran g c =
@@ -20,4 +19,4 @@ returns-in-Ok-Best-clause-ran g c =
     let writes : OnOk done (BestWrites c.in-Ok-Best.rules knowns old new) = rw (← names) c.write_best-done.ensures.collected in
     let fails : IfErr done (BestFails c.in-Ok-Best.rules knowns old new) = rw (← names) c.write_best-done.ensures.fails in
     let ran : BestRan c.in-Ok-Best.rules knowns c.finish-in-Ok-Best.result old new = subst (λ (n : ℕ). BestRan c.in-Ok-Best.rules knowns n old new) (sym c.finish-in-Ok-Best.ensures.status) (best_ran c.in-Ok-Best.rules knowns done old new writes fails) in
-    rw (c.in-Ok-Best.is, c.in-Ok-Best.field-0-is) ran
+    rw (c.in-Ok-Best.is, c.in-Ok-Best.field-0-is) (refl {a = g.N.Wire.log c.args.wire.now}, refl {a = g.R.Read.remaining c.args.input.now}, ran)
