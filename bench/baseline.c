@@ -1,7 +1,6 @@
-/* A plain reader and printer of Tile World solution files, to time `tws show` against: the whole of standard input is
-   read into one block, its moves are checked, and each record is printed by stdio; with the word --moves each move too.
-   Its output is that of `tws show` for readable files. With the word pack the file is written back with the moves of
-   each solution in the shortest layouts, as `tws pack` writes it. */
+/* A plain C program to time `tws show` and `tws pack` against. It reads standard input into one block, checks its moves and
+   prints each record by stdio, with the argument --moves each move too; with the argument pack it writes the file back with
+   the moves of each solution in the shortest layouts. Of readable files its output is that of `tws`. */
 #include "common.h"
 #include <ctype.h>
 

@@ -1,6 +1,5 @@
-/* The best solution of each level number and password of several Tile World solution files, to time `tws best` against:
-   each file is read whole, its solutions are sorted by qsort, and the first of each key is written. Moves are not
-   checked. */
+/* A plain C program to time `tws best` against: it reads each file whole, sorts the solutions of all by qsort, and writes the
+   first of each level number and password. It does not check moves. */
 #include "common.h"
 
 struct solution {

@@ -1,4 +1,4 @@
-/* What the C programs that `tws` is timed against share. */
+/* What the C programs share that `tws` is timed against. */
 #include <stdint.h>
 #include <stdio.h>
 #include <stdlib.h>

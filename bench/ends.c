@@ -1,5 +1,5 @@
-/* One sender and one receiver of a file of the greatest length, in memory, many times: the loop of `ends_bench`, to time
-   it against. */
+/* The loop of `ends_bench` in C, to time it against: one sender and one receiver of a file of the greatest length, in memory,
+   several times. */
 #include <stdio.h>
 #include <stdlib.h>
 #include <string.h>

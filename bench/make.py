@@ -1,10 +1,12 @@
 #!/usr/bin/env python3
-"""Writes a solution file to time readers with: make.py RECORDS MOVES [KIND] > FILE.
+"""Writes a Lynx file of RECORDS solutions with MOVES bytes of moves each, to time readers with.
 
-A Lynx header, then RECORDS solutions with MOVES bytes of moves each. The fields vary from record to record. KIND says
-which moves: `plain`, steps 0 to 3 behind three ticks, in turn, as without it; `short`, any steps in one byte; `mixed`,
-each layout as often as in a few files that Tile World wrote, which have no codes; `even`, each layout as often as any
-other. Moves that are drawn are spelled as shortly as can be, but for plain steps alone, and the same for the same words.
+    make.py RECORDS MOVES [KIND] > FILE
+
+KIND says which moves: `plain`, the default, steps 0 to 3 in turn that wait three ticks each; `short`, any steps in one byte;
+`mixed`, each layout as often as in a few files that Tile World wrote, which have no codes; `even`, each layout as often as
+any other. Moves that are drawn are spelled as shortly as can be, except that plain steps stay alone; the same arguments give
+the same file.
 """
 import random
 import struct

@@ -1,8 +1,10 @@
 #!/usr/bin/env python3
-"""Writes Lynx solution files to time `tws best` with: make_many.py FOLDER FILES RECORDS [LEVELS MOVES].
+"""Writes FILES Lynx solution files of RECORDS solutions each, to time `tws best` with.
 
-Half of each file's keys are those of the file before it; the order of the keys is mixed. With LEVELS, each file has
-solutions of RECORDS of so many levels, drawn anew, with MOVES bytes of moves each: what a community of players has.
+    make_many.py FOLDER FILES RECORDS [LEVELS MOVES]
+
+Half of each file's keys are those of the file before it, in mixed order. With LEVELS each file has solutions of RECORDS out
+of that many levels, drawn anew, with MOVES bytes of moves each: about what a community of players has.
 """
 import os
 import random

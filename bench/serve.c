@@ -1,10 +1,9 @@
-/* A TFTP client that waits for each answer, with blocks of 512 bytes and no options, to time servers on this host with.
+/* A TFTP client to time servers on this host with: it waits for each answer, with blocks of 512 bytes and no options, and
+   prints the seconds from the start to the last answer and the blocks of one transfer.
 
-       serve PORT get NAME COUNT OUT     so many gets at once, each in a process of its own; OUT gets what the first got
+       serve PORT get NAME COUNT OUT     COUNT gets at once, each in a process of its own; OUT gets what the first one got
        serve PORT put FILE NAME          a put
-       serve PORT beside NAME COUNT OUT  a get while the clients of so many other gets do not answer
-
-   It prints the seconds from the start to the last answer, and the blocks of one transfer. */
+       serve PORT beside NAME COUNT OUT  a get while the clients of COUNT other gets do not answer */
 #include <arpa/inet.h>
 #include <stdio.h>
 #include <stdlib.h>

@@ -1,56 +1,57 @@
-/* A server's table in memory, with downloads of a collection and uploads of files in turn: the loop of `table_bench`, to
-   time it against. The first byte of the input says how many transfers are live at a time: `1`, or else 64. The second says
-   how long the solutions of the files are: `l` for long ones, or else about as long as those that players send. */
-#include <stdio.h>
-#include <stdlib.h>
-#include <string.h>
+/* The loop of `table_bench` in C, to time it against: a server's table in memory, with downloads of a collection and uploads
+   of files in turn. The first byte of the input says how many transfers are live at a time, `1` or otherwise 64; the second
+   how long the solutions of the files are, `l` for long ones, or otherwise about as long as those that players send. */
+#include "common.h"
+#include <strings.h>
 
 #define FIRST 7000
 #define LIVE 64
 #define FILES 4
 #define KEYS (FILES * 2000)
+#define MAX_FILE 33553919
 
 /* How many solutions a file has, and how many bytes of moves each. */
 static int solutions = 2000, moves = 480;
 static size_t file_size;
 
-struct body {
-    unsigned char *bytes;
-    size_t length;
-};
-
-/* The collection, and its text, which is made anew where it changes; a download keeps the text that it began with. */
-static struct body kept[KEYS];
-static int keys;
-static unsigned char *text;
-static size_t text_length;
-
-struct transfer {
-    int live, sends, whole, misses;
-    unsigned host, port;
-    const unsigned char *file;
-    unsigned char *bytes;
-    size_t length, room;
-    unsigned current, count;
-};
-
-static struct transfer table[LIVE];
-
 static void *need(void *p)
 {
     if (!p)
-        exit(1);
+        die("out of memory");
     return p;
 }
 
-static unsigned number(const unsigned char *b)
+/* ---- the collection */
+
+struct body {
+    uint8_t *bytes;
+    size_t length;
+};
+
+static struct body kept[KEYS];
+static int keys;
+
+/* A text of the collection, which is freed once neither the table nor a download has it. */
+struct text {
+    uint8_t *bytes;
+    size_t length;
+    int users;
+};
+
+/* That of the collection as it is, or none where it has changed since a text was made. */
+static struct text *now;
+
+static void leave(struct text *t)
 {
-    return b[0] | b[1] << 8 | b[2] << 16 | (unsigned)b[3] << 24;
+    if (t && --t->users == 0) {
+        free(t->bytes);
+        free(t);
+    }
 }
 
-static int is_better(const unsigned char *a, size_t m, const unsigned char *b, size_t n)
+static int is_better(const uint8_t *a, size_t m, const uint8_t *b, size_t n)
 {
-    unsigned s = number(a + 12), t = number(b + 12);
+    uint32_t s = number(a + 12, 4), t = number(b + 12, 4);
     if (s != t)
         return s < t;
     if (m != n)
@@ -59,11 +60,11 @@ static int is_better(const unsigned char *a, size_t m, const unsigned char *b, s
 }
 
 /* Takes in a record, by its key: whether anything changed. */
-static int take(const unsigned char *body, size_t length)
+static int take(const uint8_t *body, size_t length)
 {
     int i = 0, end = keys;
     while (i < end) {
-        int middle = (i + end) / 2, j = (kept[middle].bytes[1] << 8 | kept[middle].bytes[0]) - (body[1] << 8 | body[0]);
+        int middle = (i + end) / 2, j = (int)number(kept[middle].bytes, 2) - (int)number(body, 2);
         if (j < 0 || (j == 0 && memcmp(kept[middle].bytes + 2, body + 2, 4) < 0))
             i = middle + 1;
         else
@@ -75,7 +76,7 @@ static int take(const unsigned char *body, size_t length)
         free(kept[i].bytes);
     } else {
         if (keys == KEYS)
-            exit(1);
+            die("too many keys");
         memmove(kept + i + 1, kept + i, (keys - i) * sizeof *kept);
         keys++;
     }
@@ -85,7 +86,7 @@ static int take(const unsigned char *body, size_t length)
 }
 
 /* Whether these moves end with a whole one. */
-static int is_whole(const unsigned char *moves, size_t length)
+static int is_whole(const uint8_t *moves, size_t length)
 {
     size_t at = 0;
     while (at < length) {
@@ -96,7 +97,7 @@ static int is_whole(const unsigned char *moves, size_t length)
 }
 
 /* Whether this is a file of solutions. */
-static int is_file(const unsigned char *file, size_t length)
+static int is_file(const uint8_t *file, size_t length)
 {
     size_t at = 8;
     if (length < 8 || memcmp(file, "\x35\x33\x9B\x99\x01", 5) != 0)
@@ -105,7 +106,7 @@ static int is_file(const unsigned char *file, size_t length)
         size_t size;
         if (at + 4 > length)
             return 0;
-        size = number(file + at);
+        size = number(file + at, 4);
         if (size < 16 || at + 4 + size > length || !is_whole(file + at + 20, size - 16))
             return 0;
         at += 4 + size;
@@ -113,104 +114,152 @@ static int is_file(const unsigned char *file, size_t length)
     return 1;
 }
 
-static void merge(const unsigned char *file, size_t length)
+static void merge(const uint8_t *file, size_t length)
 {
-    size_t at = 8;
     int changed = 0;
     if (!is_file(file, length))
         return;
-    while (at < length) {
-        size_t size = number(file + at);
+    for (size_t at = 8; at < length;) {
+        size_t size = number(file + at, 4);
         changed |= take(file + at + 4, size);
         at += 4 + size;
     }
-    if (!changed)
-        return;
-    text_length = 8;
-    for (int i = 0; i < keys; i++)
-        text_length += 4 + kept[i].length;
-    text = need(malloc(text_length));
-    memcpy(text, "\x35\x33\x9B\x99\x01\0\0\0", 8);
-    at = 8;
-    for (int i = 0; i < keys; i++) {
-        unsigned n = kept[i].length;
-        unsigned char size[4] = {n, n >> 8, n >> 16, n >> 24};
-        memcpy(text + at, size, 4);
-        memcpy(text + at + 4, kept[i].bytes, n);
-        at += 4 + n;
+    if (changed) {
+        leave(now);
+        now = 0;
     }
 }
 
-static size_t data(const unsigned char *file, size_t length, unsigned block, unsigned char *dgram)
+static struct text *text(void)
 {
-    size_t at = 512ul * (block - 1), size = at < length ? length - at : 0;
-    if (size > 512)
-        size = 512;
-    dgram[0] = 0;
-    dgram[1] = 3;
-    dgram[2] = block >> 8;
-    dgram[3] = block;
-    memcpy(dgram + 4, file + at, size);
+    size_t at = 8;
+    if (now)
+        return now;
+    now = need(calloc(1, sizeof *now));
+    now->users = 1;
+    now->length = 8;
+    for (int i = 0; i < keys; i++)
+        now->length += 4 + kept[i].length;
+    now->bytes = need(malloc(now->length));
+    memcpy(now->bytes, "\x35\x33\x9B\x99\x01\0\0\0", 8);
+    for (int i = 0; i < keys; i++) {
+        unsigned n = kept[i].length;
+        uint8_t size[4] = {n, n >> 8, n >> 16, n >> 24};
+        memcpy(now->bytes + at, size, 4);
+        memcpy(now->bytes + at + 4, kept[i].bytes, n);
+        at += 4 + n;
+    }
+    return now;
+}
+
+/* ---- the transfers */
+
+struct transfer {
+    int live, sends, whole, misses;
+    uint32_t host;
+    unsigned own, port;
+    struct text *text;
+    uint8_t *bytes;
+    size_t length, room;
+    unsigned current, count;
+};
+
+static struct transfer table[LIVE];
+
+/* The transfer at a port of our own. */
+static struct transfer *find(unsigned own)
+{
+    for (int i = 0; i < LIVE; i++)
+        if (table[i].live && table[i].own == own)
+            return &table[i];
+    return 0;
+}
+
+static void closes(struct transfer *t)
+{
+    leave(t->text);
+    free(t->bytes);
+    t->live = 0;
+}
+
+static size_t packet(unsigned opcode, unsigned n, const void *body, size_t size, uint8_t *out)
+{
+    out[0] = 0;
+    out[1] = opcode;
+    out[2] = n >> 8;
+    out[3] = n;
+    memcpy(out + 4, body, size);
     return size + 4;
 }
 
-static size_t ack(unsigned block, unsigned char *dgram)
+static size_t error(unsigned code, const char *why, uint8_t *out)
 {
-    dgram[0] = 0;
-    dgram[1] = 4;
-    dgram[2] = block >> 8;
-    dgram[3] = block;
-    return 4;
+    return packet(5, code, why, strlen(why) + 1, out);
 }
 
-/* A request at the request port: what is answered from the transfer's port. */
-static size_t on_request(unsigned port, const unsigned char *in, size_t n, unsigned char *out)
+static size_t data(const uint8_t *file, size_t length, unsigned block, uint8_t *out)
 {
-    struct transfer *t = &table[port - FIRST];
-    const unsigned char *mode = memchr(in + 2, 0, n - 2);
-    if (!mode || !memchr(mode + 1, 0, in + n - mode - 1) || memcmp(mode + 1, "octet", 6) != 0 || t->live)
+    size_t at = 512ul * (block - 1), size = at < length ? length - at : 0;
+    return packet(3, block, file + at, size < 512 ? size : 512, out);
+}
+
+/* A request has come to the request port, and a spare port is free: what is answered. */
+static size_t on_request(unsigned own, uint32_t host, unsigned port, const uint8_t *in, size_t n, uint8_t *out)
+{
+    struct transfer *t = table;
+    const uint8_t *mode = memchr(in + 2, 0, n - 2);
+    int reads = in[1] == 1;
+    if ((!reads && in[1] != 2) || !mode++ || !memchr(mode, 0, in + n - mode))
         return 0;
+    if (strcasecmp((const char *)mode, "octet") != 0)
+        return error(0, "octet only", out);
+    if (reads && strcmp((const char *)in + 2, "lynx.tws") != 0)
+        return error(1, "no such file", out);
+    while (t < table + LIVE && t->live)
+        t++;
+    if (t == table + LIVE)
+        return error(0, "server busy", out);
+    if (reads && text()->length > MAX_FILE)
+        return error(0, "collection too long", out);
     memset(t, 0, sizeof *t);
     t->live = 1;
-    t->host = 2;
+    t->host = host;
+    t->own = own;
     t->port = port;
-    if (in[1] == 1) {
-        t->sends = 1;
-        t->file = text;
-        t->length = text_length;
-        t->current = 1;
-        return data(t->file, t->length, 1, out);
-    }
-    return ack(0, out);
+    if (!reads)
+        return packet(4, 0, "", 0, out);
+    t->sends = 1;
+    t->text = text();
+    t->text->users++;
+    t->current = 1;
+    return data(t->text->bytes, t->text->length, 1, out);
 }
 
-static size_t on_datagram(unsigned port, unsigned host, unsigned from, const unsigned char *in, size_t n, unsigned char *out)
+static size_t on_ack(struct transfer *t, unsigned block, uint8_t *out)
 {
-    struct transfer *t = &table[port - FIRST];
-    unsigned block;
-    if (!t->live || n < 4 || n > 516 || t->host != host || t->port != from)
+    if (block != t->current)
         return 0;
-    block = in[2] << 8 | in[3];
-    if (in[1] == 4 && t->sends) {
-        if (n != 4 || block != t->current)
-            return 0;
-        if (block == t->length / 512 + 1) {
-            t->live = 0;
-            return 0;
-        }
-        t->misses = 0;
-        return data(t->file, t->length, ++t->current, out);
+    if (block == t->text->length / 512 + 1) {
+        closes(t);
+        return 0;
     }
-    if (in[1] != 3 || t->sends)
-        return 0;
+    t->misses = 0;
+    return data(t->text->bytes, t->text->length, ++t->current, out);
+}
+
+static size_t on_data(struct transfer *t, unsigned block, const uint8_t *body, size_t n, uint8_t *out)
+{
     if (block != t->count + 1 || t->whole)
-        return block == t->count && block ? ack(block, out) : 0;
-    n -= 4;
+        return block == t->count && block ? packet(4, block, "", 0, out) : 0;
+    if (block == 65535 && n == 512) {
+        closes(t);
+        return error(3, "file too long", out);
+    }
     if (t->length + n > t->room) {
         t->room = t->room * 2 > t->length + n ? t->room * 2 : t->length + n;
         t->bytes = need(realloc(t->bytes, t->room));
     }
-    memcpy(t->bytes + t->length, in + 4, n);
+    memcpy(t->bytes + t->length, body, n);
     t->length += n;
     t->count = block;
     t->misses = 0;
@@ -220,67 +269,95 @@ static size_t on_datagram(unsigned port, unsigned host, unsigned from, const uns
         free(t->bytes);
         t->bytes = 0;
     }
-    return ack(block, out);
+    return packet(4, block, "", 0, out);
 }
+
+static size_t on_datagram(unsigned own, uint32_t host, unsigned port, const uint8_t *in, size_t n, uint8_t *out)
+{
+    struct transfer *t = find(own);
+    unsigned block;
+    if (!t || n < 4 || n > 516 || in[0] != 0 || in[1] < 1 || in[1] > 5 || (in[1] == 4 && n != 4))
+        return 0;
+    if (t->host != host || t->port != port)
+        return in[1] == 5 ? 0 : error(5, "unknown transfer", out);
+    block = in[2] << 8 | in[3];
+    if (in[1] == 5)
+        closes(t);
+    else if (in[1] == 4 && t->sends)
+        return on_ack(t, block, out);
+    else if (in[1] == 3 && !t->sends)
+        return on_data(t, block, in + 4, n - 4, out);
+    return 0;
+}
+
+/* ---- the clients */
 
 struct client {
-    unsigned port;
+    unsigned port, upload;
     size_t size;
-    unsigned char next[516];
+    uint8_t next[516];
 };
 
-static size_t reply(const unsigned char *file, const unsigned char *in, size_t n, unsigned char *out)
+/* Makes every tenth solution among these bytes of a file, which begin at an offset, better than the uploads before did. */
+static void improve(uint8_t *bytes, size_t start, size_t length, unsigned upload)
 {
-    unsigned block;
-    if (n < 4)
-        return 0;
-    block = in[2] << 8 | in[3];
-    if (in[1] == 3)
-        return ack(block, out);
-    if (in[1] != 4 || 512ul * block > file_size)
-        return 0;
-    return data(file, file_size, block + 1, out);
+    size_t size = 20 + moves, level = start <= 24 ? 0 : (start - 24 + size - 1) / size;
+    for (; level < (size_t)solutions && 24 + level * size < start + length; level++)
+        if (level % 10 == upload % 10)
+            bytes[24 + level * size - start] = 100 - upload / 10;
 }
 
-static unsigned long rounds(const unsigned char *file, int live, int reads)
+static void reply(struct client *c, const uint8_t *file, const uint8_t *in, size_t n)
+{
+    unsigned block = in[2] << 8 | in[3];
+    if (n >= 4 && in[1] == 3)
+        c->size = packet(4, block, "", 0, c->next);
+    else if (n >= 4 && in[1] == 4 && 512ul * block <= file_size) {
+        c->size = data(file, file_size, block + 1, c->next);
+        improve(c->next + 4, 512ul * block, c->size - 4, c->upload);
+    } else
+        c->size = 0;
+}
+
+static unsigned long rounds(const uint8_t *file, int live, int reads, unsigned upload)
 {
     static struct client clients[LIVE];
-    unsigned long sent = 0, now;
-    unsigned char out[516];
+    unsigned long sent = 0, turns;
+    uint8_t out[516];
     for (int i = 0; i < live; i++) {
         struct client *c = &clients[i];
         int r = (i % 2 == 0) == reads;
         size_t n = r ? 17 : 19;
         const char *request = r ? "\0\1lynx.tws\0octet" : "\0\2upload.tws\0octet";
         c->port = FIRST + i;
-        n = on_request(c->port, (const unsigned char *)request, n, out);
-        c->size = reply(file, out, n, c->next);
+        c->upload = upload + i / 2;
+        n = on_request(c->port, 2, c->port, (const uint8_t *)request, n, out);
+        reply(c, file, out, n);
     }
     do {
-        now = 0;
+        turns = 0;
         for (int i = 0; i < live; i++) {
             struct client *c = &clients[i];
-            size_t n;
             if (!c->size)
                 continue;
-            n = on_datagram(c->port, 2, c->port, c->next, c->size, out);
-            c->size = reply(file, out, n, c->next);
-            now++;
+            reply(c, file, out, on_datagram(c->port, 2, c->port, c->next, c->size, out));
+            turns++;
         }
-        sent += now;
-    } while (now);
-    for (int i = 0; i < live; i++)
-        table[i].live = 0;
+        sent += turns;
+    } while (turns);
+    for (int i = 0; i < LIVE; i++)
+        if (table[i].live)
+            closes(&table[i]);
     return sent;
 }
 
-static void fill(unsigned char *file, int n)
+static void fill(uint8_t *file, int n)
 {
     memcpy(file, "\x35\x33\x9B\x99\x01\0\0\0", 8);
     for (int level = 0; level < solutions; level++) {
-        unsigned char *record = file + 8 + level * (20 + moves);
+        uint8_t *record = file + 8 + level * (20 + moves);
         unsigned size = 16 + moves;
-        unsigned char head[20] = {size, size >> 8, size >> 16, size >> 24, level, level >> 8, n, 'B', 'C', 'D'};
+        uint8_t head[20] = {size, size >> 8, size >> 16, size >> 24, level, level >> 8, n, 'B', 'C', 'D'};
         head[16] = 0x64;
         memcpy(record, head, 20);
         memset(record + 20, 0x61, moves);
@@ -289,8 +366,8 @@ static void fill(unsigned char *file, int n)
 
 int main(void)
 {
-    unsigned char *file;
-    unsigned long sent = 0;
+    uint8_t *file;
+    unsigned long sent = 0, sum = 0;
     int one = getchar() == '1', live = one ? 1 : LIVE, times = one ? 128 : 2;
     if (getchar() == 'l') {
         solutions = 10;
@@ -298,13 +375,14 @@ int main(void)
     }
     file_size = 8 + (size_t)solutions * (20 + moves);
     file = need(malloc(file_size));
-    for (int n = 1; n <= FILES; n++) {
+    for (int n = FILES; n >= 1; n--) {
         fill(file, n);
-        rounds(file, 1, 0);
+        rounds(file, 1, 0, 0);
     }
-    fill(file, 1);
     for (int i = 0; i < times; i++)
-        sent += rounds(file, live, i % 2 == 0);
-    printf("%lu datagrams, %zu bytes\n", sent, text_length);
+        sent += rounds(file, live, i % 2 == 0, 10 + (one ? i / 2 : i * (LIVE / 2)));
+    for (size_t i = 0; i < text()->length; i++)
+        sum += text()->bytes[i];
+    printf("%lu datagrams, %zu bytes with the sum %lu\n", sent, text()->length, sum);
     return 0;
 }

@@ -1,6 +1,7 @@
-//! For the benchmark: a server's table in memory, with downloads of a collection and uploads of files in turn. The first
-//! byte of the input says how many transfers are live at a time: `1`, or else 64. The second says how long the solutions
-//! of the files are: `l` for long ones, or else about as long as those that players send.
+//! For the benchmark: a server's table in memory, with downloads of a collection and uploads of files in turn, each of
+//! which is better than the collection in every tenth solution. The first byte of the input says how many transfers are
+//! live at a time: `1`, or else 64. The second says how long the solutions of the files are: `l` for long ones, or else
+//! about as long as those that players send.
 #![tactic(auto)]
 
 ghost use Rattle.std.specs.Prelude.{◌≤◌, length};
@@ -12,6 +13,7 @@ use std::io::{self, Read};
 use tftp_packet::{
     BLOCK_SIZE, Dgram, Endpoint, MAX_DATAGRAM, Packet, decode, encode_read, encode_write,
 };
+use tws_best::Collection;
 use tws_file::Ruleset;
 
 /// The request port.
@@ -45,11 +47,16 @@ const LONG: Shape = Shape {
 /// The collection is of so many files.
 const FILES: u8 = 4;
 
-/// A client of the table: its port, which is that of its transfer, and the bytes that it sends next unless it is done. They
-/// are written where they stay, as in the C program; otherwise copies of whole datagrams would be timed as the table's.
+/// The number of the first upload that is timed. Those that fill the collection have number 0.
+const FIRST_UPLOAD: u16 = 10;
+
+/// A client of the table: its port, which is that of its transfer, which of the uploads it makes, and the bytes that it
+/// sends next unless it is done. They are written where they stay, as in the C program; otherwise copies of whole
+/// datagrams would be timed as the table's.
 #[derive(Drop)]
 struct Client {
     port: u16,
+    upload: u16,
     next: [u8; MAX_DATAGRAM],
     len: usize,
     is_done: bool,
@@ -57,9 +64,10 @@ struct Client {
 
 impl Client {
     // A client that has nothing to send yet.
-    fn new(port: u16) -> Self {
+    fn new(port: u16, upload: u16) -> Self {
         Client {
             port,
+            upload,
             next: [0; MAX_DATAGRAM],
             len: 0,
             is_done: false,
@@ -89,6 +97,26 @@ impl Client {
         self.next[..4].copy_from_slice(&[0, opcode, high, low]);
         self.next[4..4 + body.len()].copy_from_slice(body);
         self.len = 4 + body.len();
+    }
+}
+
+// The first ticks byte of a solution of a file.
+fn ticks_at(shape: Shape, level: usize) -> usize {
+    level
+        .wrapping_mul(shape.moves as usize + 20)
+        .wrapping_add(24)
+}
+
+// Makes every tenth solution among these bytes of a file, which begin at an offset, better than the uploads before did.
+fn improve(bytes: &mut [u8], start: usize, shape: Shape, upload: u16) {
+    let size = shape.moves as usize + 20;
+    for level in start.saturating_sub(24).div_ceil(size)..usize::from(shape.solutions) {
+        let Some(ticks) = bytes.get_mut(ticks_at(shape, level).wrapping_sub(start)) else {
+            return;
+        };
+        if level % 10 == usize::from(upload % 10) {
+            *ticks = 100 - (upload / 10 % 100) as u8;
+        }
     }
 }
 
@@ -140,30 +168,39 @@ fn block(file: &[u8], n: u16) -> &[u8]
 }
 
 // Sets what a client sends next, by what has come; it is done once all of its file is through.
-fn reply(client: &mut Client, file: &[u8], came: &Dgram) {
+fn reply(client: &mut Client, shape: Shape, file: &[u8], came: &Dgram) {
     match decode(came.bytes()) {
         Ok(Packet::Data { block, .. }) => client.send(ACK, block, &[]),
         Ok(Packet::Ack { block: last }) if usize::from(last) * BLOCK_SIZE <= file.len() => {
             let next = last.saturating_add(1);
             client.send(DATA, next, block(file, next));
+            let start = usize::from(last) * BLOCK_SIZE;
+            improve(&mut client.next[4..], start, shape, client.upload);
         }
         _ => client.is_done = true,
     }
 }
 
 // Gives what a client sends to the table, and takes in what it answers.
-fn turn(table: &mut Table, file: &[u8], client: &mut Client) {
+fn turn(table: &mut Table, shape: Shape, file: &[u8], client: &mut Client) {
     let from = endpoint(client.port);
     let step = table.on_datagram(&mut NoKeeper, client.port, from, client.bytes());
     match &step.out {
-        Some(out) => reply(client, file, &out.dgram),
+        Some(out) => reply(client, shape, file, &out.dgram),
         None => client.is_done = true,
     }
 }
 
 // A client that has asked the table for a transfer at its port.
-fn open(table: &mut Table, file: &[u8], port: u16, reads: bool) -> Client {
-    let mut client = Client::new(port);
+fn open(
+    table: &mut Table,
+    shape: Shape,
+    file: &[u8],
+    port: u16,
+    upload: u16,
+    reads: bool,
+) -> Client {
+    let mut client = Client::new(port, upload);
     if reads {
         client.request(&encode_read(b"lynx.tws"));
     } else {
@@ -175,18 +212,18 @@ fn open(table: &mut Table, file: &[u8], port: u16, reads: bool) -> Client {
     }
     let step = table.on_request(port, endpoint(port), client.bytes());
     match &step.out {
-        Some(out) => reply(&mut client, file, &out.dgram),
+        Some(out) => reply(&mut client, shape, file, &out.dgram),
         None => client.is_done = true,
     }
     client
 }
 
 // One turn of each client: how many datagrams they sent.
-fn turns(table: &mut Table, file: &[u8], clients: &mut [Client]) -> u64 {
+fn turns(table: &mut Table, shape: Shape, file: &[u8], clients: &mut [Client]) -> u64 {
     let mut sent: u64 = 0;
     for client in clients.iter_mut() {
         if !client.is_done {
-            turn(table, file, client);
+            turn(table, shape, file, client);
             sent = sent.wrapping_add(1);
         }
     }
@@ -201,22 +238,27 @@ fn end(table: &mut Table, clients: &[Client]) {
     }
 }
 
-// So many transfers at a time, of which every second reads: how many datagrams their clients sent.
+// So many transfers at a time, of which every second reads and the others make uploads from this number on: how many
+// datagrams their clients sent.
 fn round(
     alloc: Global,
     table: &mut Table,
+    shape: Shape,
     file: &[u8],
     live: u16,
+    upload: u16,
     reads: bool,
 ) -> Result<u64, AllocError> {
     let mut clients = Vec::new(alloc);
     for i in 0..live {
         let port = FIRST.wrapping_add(i);
-        clients.push(open(table, file, port, (i % 2 == 0) == reads))?;
+        let upload = upload.wrapping_add(i / 2);
+        let client = open(table, shape, file, port, upload, (i % 2 == 0) == reads);
+        clients.push(client)?;
     }
     let mut sent: u64 = 0;
     for _ in 0..u64::from(u32::MAX) {
-        let now = turns(table, file, clients.as_mut_slice());
+        let now = turns(table, shape, file, clients.as_mut_slice());
         if now == 0 {
             break;
         }
@@ -230,7 +272,7 @@ fn round(
 fn fill(alloc: Global, table: &mut Table, shape: Shape) -> Result<(), AllocError> {
     for number in 1..=FILES {
         let bytes = file(alloc, shape, number)?;
-        round(alloc, table, bytes.as_slice(), 1, false)?;
+        round(alloc, table, shape, bytes.as_slice(), 1, 0, false)?;
     }
     Ok(())
 }
@@ -246,10 +288,32 @@ fn serve(
     let bytes = file(alloc, shape, 1)?;
     let mut sent: u64 = 0;
     for i in 0..rounds {
-        let now = round(alloc, table, bytes.as_slice(), live, i % 2 == 0)?;
+        let upload = FIRST_UPLOAD.wrapping_add(i.wrapping_mul(live) / 2);
+        let now = round(
+            alloc,
+            table,
+            shape,
+            bytes.as_slice(),
+            live,
+            upload,
+            i % 2 == 0,
+        )?;
         sent = sent.wrapping_add(now);
     }
     Ok(sent)
+}
+
+// The sum of all bytes of a collection's text.
+fn sum_of(alloc: Global, collection: &Collection) -> io::Result<u64> {
+    let mut text = Vec::new(alloc);
+    if collection.write_text(&mut text).is_err() {
+        return Err(io::Error::from(AllocError));
+    }
+    let mut sum: u64 = 0;
+    for byte in text.as_slice() {
+        sum = sum.wrapping_add(u64::from(*byte));
+    }
+    Ok(sum)
 }
 
 fn main(rt: HostRuntime) -> io::Result<()> {
@@ -266,6 +330,8 @@ fn main(rt: HostRuntime) -> io::Result<()> {
     let mut table = Table::new(rt.alloc(), REQUEST);
     fill(rt.alloc(), &mut table, shape)?;
     let sent = serve(rt.alloc(), &mut table, shape, rounds, live)?;
-    let text = table.collection(Ruleset::Lynx).text_len();
-    println!(rt; "{sent} datagrams, {text} bytes")
+    let collection = table.collection(Ruleset::Lynx);
+    let size = collection.text_len();
+    let sum = sum_of(rt.alloc(), collection)?;
+    println!(rt; "{sent} datagrams, {size} bytes with the sum {sum}")
 }
