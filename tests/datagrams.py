@@ -1,10 +1,11 @@
 #!/usr/bin/env python3
-"""Sends datagrams to a server on this host and prints what it answers to each: datagrams.py PORT DATAGRAM..
+"""Sends datagrams to a server on this host and prints the answer to each, then closes the transfer with an ERROR.
 
-The first goes to PORT, each further one to the port that the last answer came from. `\\xHH` stands for a byte, and `@FILE`
-for DATA 1 with the first 512 bytes of a file; `stranger:` before a datagram sends it from another socket than the first.
-A line for each answer: which port it came from, `request` or `transfer`, and its bytes; `nothing` if none comes within ten
-seconds. At the end an ERROR closes the transfer.
+    datagrams.py PORT DATAGRAM..     the first goes to PORT, each further one to the port that the last answer came from
+
+In a DATAGRAM `\\xHH` is a byte, `@FILE` is DATA 1 with the first 512 bytes of a file, and `stranger:` at its start sends it
+from another socket. An answer is printed as the port that it came from, `request` or `transfer`, and its bytes; `nothing`
+means that none came within ten seconds.
 """
 import codecs
 import socket

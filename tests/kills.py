@@ -1,11 +1,9 @@
 #!/usr/bin/env python3
-"""Kills servers at random moments during puts, and looks at what each has after its restart: kills.py PROGRAM FOLDER.
+"""Kills ten servers at random moments during puts, and checks what each has after its restart: kills.py PROGRAM FOLDER.
 
-Ten servers side by side, each with a folder of its own, are killed until five kills of each have met a put. A put that was
-counted as sent must be in the collection after the restart; the one that was running may be in it, whole, or not. On a disk
-that is busy a keep may take longer than all time-outs of a client, which then gives up: whether its file was taken is open,
-as for one that is killed. Such puts are few: a server that leaves some without an answer fails here. The last line counts
-the checks.
+A put that was counted as sent must be in the collection then; the one that was running may be in it, whole, or not. On a
+busy disk a keep may take longer than all time-outs of a client, which then gives up: whether its file was taken is open too,
+but more than a few such puts are a failure. The last line counts the checks.
 """
 import os
 import random

@@ -1,12 +1,10 @@
 #!/usr/bin/env python3
 """A proxy for TFTP over UDP that loses datagrams: lossy.py PORT SEED, for a server at PORT of this host.
 
-It prints the port at which it takes requests. Each client has a socket of its own towards the server, and each port that
-answers a client has a socket of its own towards it, so that a transfer has its own ports on both sides. Of the datagrams
-of both directions it drops a tenth, repeats a tenth, delays a tenth by up to 0.2 s, and holds back a tenth until a later
-one of their direction has passed, or 1.5 s. Of a block and its ACK one datagram is dropped or held back at most: a server
-that has a whole file answers a repeated block for two seconds alone, so a client that loses the last ACK and then its next
-block too gives up, although its file was taken. At SIGTERM it prints how many of each there were.
+It prints the port at which it takes requests, and at SIGTERM how many datagrams it dropped, repeated, delayed and reordered.
+Each is done to a tenth of the datagrams of both directions: a delay is up to 0.2 s, and one that is reordered is held back
+until a later one of its direction has passed, or for 1.5 s. Of a block and its ACK at most one datagram is dropped or held
+back; docs/DECISIONS.md says why. Each transfer has ports of its own on both sides.
 """
 import heapq
 import random

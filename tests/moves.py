@@ -1,9 +1,9 @@
 #!/usr/bin/env python3
-"""Timed moves read by another program, from the table of layouts alone: each layout is the widths of its fields.
+"""Reads timed moves from a table of the layouts alone, to compare the program with: each layout is the widths of its fields.
 
-`moves.py` prints the figures of all byte strings of up to two bytes that the test `all_of_two_bytes` compares with.
-`moves.py FILE` prints the listing of a readable file with its moves. `moves.py pack FILE` writes it packed: each
-solution's moves in the fewest bytes, found by trying every way to go on from each move.
+    moves.py             prints the figures of all byte strings of up to two bytes, for the test `all_of_two_bytes`
+    moves.py FILE        prints the listing of a readable file with its moves
+    moves.py pack FILE   writes the file packed: the fewest bytes are found by trying every way to go on from each move
 """
 import sys
 

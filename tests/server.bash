@@ -1,6 +1,6 @@
 # shellcheck shell=bash disable=SC2119,SC2120
-# What the scripts share that run the built program as a server over loopback, on ports of their own choice. They source
-# it in the project's folder, and call `finish` at their end.
+# What the scripts share that test the built program as a server over loopback, on ports of their own choice. They source it
+# in the project's folder, and call `finish` at their end.
 program=$PWD/crates/tws/out/tws
 work=$(mktemp -d)
 passed=0
