@@ -7,6 +7,10 @@
 #[cfg(test)]
 mod client;
 #[cfg(test)]
+mod downloads;
+#[cfg(test)]
 mod ends;
+#[cfg(test)]
+mod requests;
 #[cfg(test)]
 mod table;

@@ -1,5 +1,4 @@
-// The server's table: a request, the block that completes a file, a keeper, and a start, each allocation refused in
-// turn.
+// The server's table: the block that completes a file, a keeper, and a start, each allocation refused in turn.
 use archive_table::{KeepFault, Keeper, LoadFault, MemoryKeeper, NoKeeper, Step, Table};
 use refusing::{Outcome, Refusing, refuse_each};
 use std::alloc::{Allocator, Global};
@@ -8,23 +7,23 @@ use std::test::Fail;
 use tftp_packet::{Endpoint, Out};
 use tws_file::Ruleset;
 
-const REQUEST: u16 = 6969;
+pub(crate) const REQUEST: u16 = 6969;
 
-const FIRST: Endpoint = Endpoint {
+pub(crate) const FIRST: Endpoint = Endpoint {
     host: 2,
     port: 5000,
 };
 
-const SECOND: Endpoint = Endpoint {
+pub(crate) const SECOND: Endpoint = Endpoint {
     host: 3,
     port: 5000,
 };
 
-const TO_WRITE: &[u8] = b"\0\x02upload.tws\0octet\0";
+pub(crate) const TO_WRITE: &[u8] = b"\0\x02upload.tws\0octet\0";
 
-const TO_READ: &[u8] = b"\0\x01lynx.tws\0octet\0";
+pub(crate) const TO_READ: &[u8] = b"\0\x01lynx.tws\0octet\0";
 
-const OUT_OF_MEMORY: &[u8] = b"\0\x05\0\x03out of memory\0";
+pub(crate) const OUT_OF_MEMORY: &[u8] = b"\0\x05\0\x03out of memory\0";
 
 const NOT_KEPT: &[u8] = b"\0\x05\0\0not kept\0";
 
@@ -40,7 +39,7 @@ const FILE_DATA: &[u8; 32] =
     b"\0\x03\0\x01\x35\x33\x9B\x99\x01\0\0\0\x10\0\0\0\x01\0BDHP\0\0\0\0\0\0\x64\0\0\0";
 
 // Whether this is sent from there to there.
-fn goes(out: &Option<Out>, from: u16, to: Endpoint, bytes: &[u8]) -> bool {
+pub(crate) fn goes(out: &Option<Out>, from: u16, to: Endpoint, bytes: &[u8]) -> bool {
     match out {
         Some(out) => out.from_port == from && out.to == to && out.dgram.bytes() == bytes,
         None => false,
@@ -48,7 +47,7 @@ fn goes(out: &Option<Out>, from: u16, to: Endpoint, bytes: &[u8]) -> bool {
 }
 
 // Gives a request to a table whose spare port is free; nothing where it is not.
-fn ask<A: Allocator + Copy>(
+pub(crate) fn ask<A: Allocator + Copy>(
     table: &mut Table<A>,
     spare: u16,
     from: Endpoint,
@@ -76,54 +75,6 @@ fn open<A: Allocator + Copy>(
     }
     let is_refused = goes(&step.out, REQUEST, from, OUT_OF_MEMORY);
     Err(Outcome::refused(is_refused && table.live() == live))
-}
-
-// Whether the transfer that was opened first goes on as it did.
-fn goes_on<A: Allocator + Copy>(table: &mut Table<A>) -> bool {
-    let step = table.on_timeout(4000);
-    goes(&step.out, 4000, FIRST, b"\0\x04\0\0") && !step.closed
-}
-
-// Opens another transfer beside the one that is live.
-fn open_second<A: Allocator + Copy>(table: &mut Table<A>, request: &[u8]) -> Outcome {
-    match open(table, 4001, SECOND, request) {
-        Ok(()) => Outcome::of(goes_on(table) && table.live() == 2),
-        Err(Outcome::OutOfMemory) => Outcome::refused(goes_on(table) && table.live() == 1),
-        Err(outcome) => outcome,
-    }
-}
-
-fn open_two(refusing: &Refusing<Global>, second: &[u8]) -> Outcome {
-    let mut table = Table::new(refusing, REQUEST);
-    if refusing.requests() != 0 {
-        return Outcome::Wrong;
-    }
-    match open(&mut table, 4000, FIRST, TO_WRITE) {
-        Ok(()) => open_second(&mut table, second),
-        Err(outcome) => outcome,
-    }
-}
-
-// A request to write, another transfer being live.
-#[test]
-fn requests_to_write(rt: HostRuntime) -> Result<(), Fail> {
-    let global = rt.alloc();
-    Ok(refuse_each(
-        global,
-        1,
-        &|refusing: &Refusing<Global>| open_two(refusing, TO_WRITE),
-    )?)
-}
-
-// A request to read, another transfer being live.
-#[test]
-fn requests_to_read(rt: HostRuntime) -> Result<(), Fail> {
-    let global = rt.alloc();
-    Ok(refuse_each(
-        global,
-        1,
-        &|refusing: &Refusing<Global>| open_two(refusing, TO_READ),
-    )?)
 }
 
 // Whether a refused block has closed its transfer and changed no collection.

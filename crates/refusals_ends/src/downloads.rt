@@ -1,0 +1,93 @@
+// A download of the server's table takes no memory after its first block.
+use crate::table::{FIRST, REQUEST, SECOND, TO_READ, TO_WRITE, ask, goes};
+use archive_table::{NoKeeper, Step, Table};
+use refusing::Refusing;
+use std::alloc::{Allocator, Global};
+use std::test::Fail;
+use tftp_packet::Endpoint;
+
+// The blocks of a Lynx file as DATA: level 1, BDHP, 100 ticks, 700 moves of a byte each.
+#[derive(Drop)]
+struct Blocks {
+    first: [u8; 516],
+    second: [u8; 220],
+}
+
+impl Blocks {
+    fn new() -> Self {
+        let mut first = [1; 516];
+        first[..4].copy_from_slice(b"\0\x03\0\x01");
+        first[4..32].copy_from_slice(
+            b"\x35\x33\x9B\x99\x01\0\0\0\xCC\x02\0\0\x01\0BDHP\0\0\0\0\0\0\x64\0\0\0",
+        );
+        let mut second = [1; 220];
+        second[..4].copy_from_slice(b"\0\x03\0\x02");
+        Blocks { first, second }
+    }
+}
+
+fn hear<A: Allocator + Copy>(
+    table: &mut Table<A>,
+    port: u16,
+    from: Endpoint,
+    bytes: &[u8],
+) -> Step<A> {
+    table.on_datagram(&mut NoKeeper, port, from, bytes)
+}
+
+// Whether a file is taken.
+fn takes<A: Allocator + Copy>(table: &mut Table<A>, file: &Blocks) -> bool {
+    let Some(step) = ask(table, 4000, FIRST, TO_WRITE) else {
+        return false;
+    };
+    step.opened
+        && hear(table, 4000, FIRST, &file.first).taken.is_none()
+        && hear(table, 4000, FIRST, &file.second).taken.is_some()
+}
+
+// Whether a download is opened, and its first block is the file's.
+fn opens<A: Allocator + Copy>(table: &mut Table<A>, file: &Blocks) -> bool {
+    match ask(table, 4001, SECOND, TO_READ) {
+        Some(step) => step.opened && goes(&step.out, 4001, SECOND, &file.first),
+        None => false,
+    }
+}
+
+// Whether a block is sent again at a time-out, ACK 0 has no effect, and a stranger is told so.
+fn repeats<A: Allocator + Copy>(table: &mut Table<A>, block: &[u8]) -> bool {
+    let stranger = b"\0\x05\0\x05unknown transfer\0";
+    goes(&table.on_timeout(4001).out, 4001, SECOND, block)
+        && hear(table, 4001, SECOND, b"\0\x04\0\0").out.is_none()
+        && goes(
+            &hear(table, 4001, FIRST, b"\0\x04\0\x01").out,
+            4001,
+            FIRST,
+            stranger,
+        )
+}
+
+// Whether the rest of the download is right: each block once more at a time-out, the second one at the ACK of the
+// first, and the end at its own.
+fn goes_on<A: Allocator + Copy>(table: &mut Table<A>, file: &Blocks) -> bool {
+    if !repeats(table, &file.first) {
+        return false;
+    }
+    let second = hear(table, 4001, SECOND, b"\0\x04\0\x01");
+    goes(&second.out, 4001, SECOND, &file.second)
+        && repeats(table, &file.second)
+        && hear(table, 4001, SECOND, b"\0\x04\0\x02").closed
+        && table.live() == 1
+}
+
+#[test]
+fn a_download_after_its_first_block(rt: HostRuntime) -> Result<(), Fail> {
+    let refusing: Refusing<Global> = Refusing::new(rt.alloc(), 0);
+    let mut table = Table::new(&refusing, REQUEST);
+    let file = Blocks::new();
+    assert!(rt; takes(&mut table, &file));
+    assert!(rt; opens(&mut table, &file));
+    let requests = refusing.requests();
+    assert!(rt; goes_on(&mut table, &file));
+    assert_eq!(rt; refusing.requests(), requests);
+    Ok(())
+}
