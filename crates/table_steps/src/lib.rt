@@ -6,9 +6,9 @@
 #[cfg(test)]
 mod archive;
 #[cfg(test)]
-mod choosing;
-#[cfg(test)]
 mod datagrams;
+#[cfg(test)]
+mod drawing;
 #[cfg(test)]
 mod keeping;
 #[cfg(test)]

@@ -1,5 +1,5 @@
 // A server as plain lists, slow and simple, written from the tables of docs/FORMATS.md.
-use crate::plain_file::{Solution, block_of, improves, join, read, text};
+use crate::plain_file::{Solution, block_of, copy, improves, join, read, text};
 use std::alloc::Global;
 use std::mem;
 use std::test::Fail;
@@ -46,13 +46,22 @@ pub(crate) struct Transfer {
     pub(crate) end: End,
 }
 
-// What a step tells.
+// A collection that a keeper is given, and whether it keeps it.
+#[derive(Drop)]
+pub(crate) struct Keeping {
+    pub(crate) kind: Ruleset,
+    pub(crate) text: Vec<u8>,
+    pub(crate) keeps: bool,
+}
+
+// What a step tells, and what the keeper is given in it.
 #[derive(Drop)]
 pub(crate) struct Said {
     pub(crate) out: Option<(u16, Endpoint, Vec<u8>)>,
     pub(crate) opened: bool,
     pub(crate) taken: Option<(Endpoint, Vec<u8>)>,
     pub(crate) closed: bool,
+    pub(crate) kept: Option<Keeping>,
 }
 
 #[derive(Drop)]
@@ -69,6 +78,7 @@ fn silent() -> Said {
         opened: false,
         taken: None,
         closed: false,
+        kept: None,
     }
 }
 
@@ -78,6 +88,7 @@ fn says(port: u16, to: Endpoint, bytes: Vec<u8>) -> Said {
         opened: false,
         taken: None,
         closed: false,
+        kept: None,
     }
 }
 
@@ -165,10 +176,7 @@ impl Plain {
     }
 
     pub(crate) fn text(&self, kind: Ruleset) -> Result<Vec<u8>, Fail> {
-        match kind {
-            Ruleset::Lynx => text(self.alloc, 1, &self.lynx),
-            Ruleset::Ms => text(self.alloc, 2, &self.ms),
-        }
+        text(self.alloc, kind, self.collection(kind))
     }
 
     pub(crate) fn place(&self, port: u16) -> Option<usize> {
@@ -356,23 +364,60 @@ impl Plain {
         }
     }
 
-    fn collection(&mut self, kind: Ruleset) -> &mut Vec<Solution> {
+    fn collection(&self, kind: Ruleset) -> &[Solution] {
         match kind {
-            Ruleset::Lynx => &mut self.lynx,
-            Ruleset::Ms => &mut self.ms,
+            Ruleset::Lynx => &self.lynx,
+            Ruleset::Ms => &self.ms,
         }
+    }
+
+    fn replace(&mut self, kind: Ruleset, collection: Vec<Solution>) {
+        match kind {
+            Ruleset::Lynx => self.lynx = collection,
+            Ruleset::Ms => self.ms = collection,
+        }
+    }
+
+    // What a keeper is given for the solutions of a file, if they change the collection, which is then as it is with them
+    // where they are kept.
+    fn merge(
+        &mut self,
+        kind: Ruleset,
+        solutions: Vec<Solution>,
+        keeps: bool,
+    ) -> Result<Option<Keeping>, Fail> {
+        if !solutions
+            .iter()
+            .any(|one| improves(self.collection(kind), one))
+        {
+            return Ok(None);
+        }
+        let mut joined = copy(self.alloc, self.collection(kind))?;
+        join(&mut joined, solutions)?;
+        let text = text(self.alloc, kind, &joined)?;
+        if keeps {
+            self.replace(kind, joined);
+        }
+        Ok(Some(Keeping { kind, text, keeps }))
     }
 
     // The file of the transfer at this place of the list is whole.
     fn on_file(&mut self, i: usize, n: usize, file: Vec<u8>, keeps: bool) -> Result<Said, Fail> {
-        if let Some((kind, solutions)) = read(self.alloc, &file)? {
-            let collection = self.collection(kind);
-            let changes = solutions.iter().any(|one| improves(collection, one));
-            if changes && !keeps {
-                return self.close(i, Some(b"\0\x05\0\0not kept\0"));
-            }
-            join(self.collection(kind), solutions)?;
-        }
+        let kept = match read(self.alloc, &file)? {
+            Some((kind, solutions)) => self.merge(kind, solutions, keeps)?,
+            None => None,
+        };
+        let mut said = if kept.is_some() && !keeps {
+            self.close(i, Some(b"\0\x05\0\0not kept\0"))?
+        } else {
+            self.take(i, n, file)?
+        };
+        said.kept = kept;
+        Ok(said)
+    }
+
+    // The file of the transfer at this place of the list is taken.
+    fn take(&mut self, i: usize, n: usize, file: Vec<u8>) -> Result<Said, Fail> {
         let Some(transfer) = self.live.get_mut(i) else {
             return Ok(silent());
         };

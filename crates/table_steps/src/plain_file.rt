@@ -178,7 +178,22 @@ pub(crate) fn join(collection: &mut Vec<Solution>, solutions: Vec<Solution>) -> 
     Ok(())
 }
 
-pub(crate) fn text(alloc: Global, rules: u8, collection: &[Solution]) -> Result<Vec<u8>, Fail> {
+pub(crate) fn copy(alloc: Global, collection: &[Solution]) -> Result<Vec<Solution>, Fail> {
+    let mut copy = Vec::new(alloc);
+    for solution in collection {
+        copy.push(Solution {
+            key: solution.key,
+            body: Vec::from_slice(alloc, &solution.body)?,
+        })?;
+    }
+    Ok(copy)
+}
+
+pub(crate) fn text(alloc: Global, kind: Ruleset, collection: &[Solution]) -> Result<Vec<u8>, Fail> {
+    let rules = match kind {
+        Ruleset::Lynx => 1,
+        Ruleset::Ms => 2,
+    };
     let mut text = Vec::from_slice(alloc, &[0x35, 0x33, 0x9B, 0x99, rules, 0, 0, 0])?;
     for solution in collection {
         let size = (solution.body.len() % 65536) as u32;
