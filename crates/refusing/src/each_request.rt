@@ -1,4 +1,4 @@
-ghost use Rattle.std.specs.Prelude.{◌≡◌, ◌≢◌, ◌⊎◌, ℕ, ◌<◌, ◌≤◌, true, false, IfNone, IfSome, OnOk};
+ghost use Rattle.std.specs.Prelude.{Err, ◌≡◌, ◌≢◌, ◌⊎◌, ℕ, ◌<◌, ◌≤◌, true, false, IfNone, IfSome, OnOk};
 ghost use Rattle.refusing.specs.declared.each_request.Outcome.{Outcome};
 ghost use Rattle.refusing.specs.declared.each_request.Outcome.TheVariants.{Right, Wrong, OutOfMemory};
 
@@ -95,6 +95,10 @@ pub fn refuse_each(
     ensures last { OnOk result ((refusing : _) × (least < refusing.now.nth) × post run.now refusing Right) }
     // No run before it gave a wrong one.
     ensures each { OnOk result ((n : ℕ) → 1 ≤ n → n ≤ least → (refusing : _) × (outcome : Outcome) × (refusing.now.nth ≡ n) × (outcome ≢ Wrong) × post run.now refusing outcome) }
+    // What is wrong is so of a run.
+    ensures wrong { result ≡ Err Complaint.WrongAnswer → (refusing : _) × post run.now refusing Wrong }
+    ensures memory { result ≡ Err Complaint.NoRefusal → (refusing : _) × post run.now refusing OutOfMemory }
+    ensures few { result ≡ Err Complaint.TooFew → (refusing : _) × (refusing.now.nth ≤ least) × post run.now refusing Right }
 {
     for nth in 1..MANY {
         let refusing = Refusing::new(global, nth);

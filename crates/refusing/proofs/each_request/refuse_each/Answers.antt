@@ -1,4 +1,4 @@
-use Rattle.std.proofs.Common.{rules, ◌≡◌, ℕ, ◌+◌, ◌<◌, ◌≤◌, arith, inl, inr, sym, subst, eq-or-lt_of_le}
+use Rattle.std.proofs.Common.{rules, ℕ, ◌+◌, ◌<◌, ◌≤◌, arith, inl, inr, sym, subst, eq-or-lt_of_le}
 use Rattle.refusing.proofs.each_request.refuse_each.Goals as goal
 
 -- what holds of all numbers up to one, and of it, holds of all up to the next
