@@ -22,15 +22,18 @@ fn lives(wire: &mut MemoryWire, server: &mut ReadyServer) -> usize {
 fn a_put_to_the_ready_server(rt: HostRuntime) -> Result<(), Fail> {
     let mut wire = request_wire(rt.alloc(), 4000)?;
     let mut server = ReadyServer::new(rt.alloc(), 6969);
-    assert_eq!(rt; acks(&mut wire, &mut server, ACK_0), (0, true));
+    let first = acks(&mut wire, &mut server, ACK_0);
     wire.set_time(999);
     wire.arrive(rt.alloc(), 4000, C1, DATA_F1)?;
-    assert_eq!(rt; acks(&mut wire, &mut server, ACK_1), (1, true));
+    let last = acks(&mut wire, &mut server, ACK_1);
+    let sent = send_count(&wire);
     let solutions = server.table().collection(Ruleset::Lynx).len();
-    assert_eq!(rt; (send_count(&wire), solutions), (2, 1));
     // It waits for the last block twice, and is closed.
     let live = (lives(&mut wire, &mut server), lives(&mut wire, &mut server));
-    assert_eq!(rt; (live, send_count(&wire)), ((1, 0), 2));
+    assert_eq!(rt;
+        (first, last, sent, solutions, live, send_count(&wire)),
+        ((0, true), (1, true), 2, 1, (1, 0), 2)
+    );
     Ok(())
 }
 

@@ -64,8 +64,10 @@ fn a_put_whose_request_is_not_sent(rt: HostRuntime) -> Result<(), Fail> {
         wire.fail_at(2);
         let file = Vec::from_slice(rt.alloc(), F1)?;
         let answer = run_put(&mut wire, SERVER, file, turns);
-        assert_eq!(rt; answer, Err(RunFault::Transfer(Cause::TimedOut)));
-        assert_eq!(rt; (send_count(&wire), wire.failures()), (sent, 1));
+        assert_eq!(rt;
+            (answer, send_count(&wire), wire.failures()),
+            (Err(RunFault::Transfer(Cause::TimedOut)), sent, 1)
+        );
     }
     Ok(())
 }
@@ -76,10 +78,20 @@ fn a_put_that_is_never_answered(rt: HostRuntime) -> Result<(), Fail> {
         let mut wire = wire_of(rt.alloc(), &[5000])?;
         let file = Vec::from_slice(rt.alloc(), F1)?;
         let answer = run_put(&mut wire, SERVER, file, turns);
-        assert_eq!(rt; answer, Err(RunFault::Transfer(Cause::TimedOut)));
-        assert_eq!(rt; send_count(&wire), sent);
+        assert_eq!(rt;
+            (answer, send_count(&wire)),
+            (Err(RunFault::Transfer(Cause::TimedOut)), sent)
+        );
     }
     Ok(())
+}
+
+// Whether all calls of a wire were that its port was opened and closed again.
+fn has_closed_alone(wire: &MemoryWire) -> bool {
+    let [opened, closed] = wire.log() else {
+        return false;
+    };
+    is_opened(opened, Some(5000)) && matches!(closed, Entry::Closed(5000, true))
 }
 
 #[test]
@@ -87,12 +99,10 @@ fn a_put_that_is_too_long(rt: HostRuntime) -> Result<(), Fail> {
     let mut wire = wire_of(rt.alloc(), &[5000])?;
     let file = vec![in rt.alloc(); 7; 33553920]?;
     let answer = run_put(&mut wire, SERVER, file, 9);
-    assert_eq!(rt; answer, Err(RunFault::Transfer(Cause::TooLong)));
-    let [opened, closed] = wire.log() else {
-        return Err(Fail::new("other calls"));
-    };
-    assert!(rt; is_opened(opened, Some(5000)));
-    assert!(rt; matches!(closed, Entry::Closed(5000, true)));
+    assert_eq!(rt;
+        (answer, has_closed_alone(&wire)),
+        (Err(RunFault::Transfer(Cause::TooLong)), true)
+    );
     Ok(())
 }
 

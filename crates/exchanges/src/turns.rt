@@ -25,11 +25,13 @@ fn a_put_in_two_turns(rt: HostRuntime) -> Result<(), Fail> {
     let mut wire = put_wire(rt.alloc(), 4000)?;
     let mut server = Server::new(rt.alloc(), 6969);
     let taken = serve_turns(&mut wire, &mut NoKeeper, &mut server, 2);
-    assert_eq!(rt; (taken, wire.failures()), (1, 0));
-    assert!(rt; wire.telling() && has_put(&wire));
+    let is_put = wire.telling() && has_put(&wire);
     let table = server.table();
     let solutions = table.collection(Ruleset::Lynx).len();
-    assert_eq!(rt; (table.live(), solutions), (1, 1));
+    assert_eq!(rt;
+        (taken, wire.failures(), is_put, table.live(), solutions),
+        (1, 0, true, 1, 1)
+    );
     Ok(())
 }
 
@@ -45,8 +47,8 @@ fn has_opened_alone(wire: &MemoryWire, port: Option<u16>) -> bool {
 fn a_spare_port_of_0(rt: HostRuntime) -> Result<(), Fail> {
     let mut wire = put_wire(rt.alloc(), 0)?;
     let mut server = Server::new(rt.alloc(), 6969);
-    assert_eq!(rt; serve_turns(&mut wire, &mut NoKeeper, &mut server, 2), 0);
-    assert!(rt; has_opened_alone(&wire, Some(0)));
+    let taken = serve_turns(&mut wire, &mut NoKeeper, &mut server, 2);
+    assert_eq!(rt; (taken, has_opened_alone(&wire, Some(0))), (0, true));
     Ok(())
 }
 
@@ -89,8 +91,10 @@ fn a_request_that_is_refused(rt: HostRuntime) -> Result<(), Fail> {
     wire.arrive(rt.alloc(), 6969, C1, b"\0\x01MS.TWS\0octet\0")?;
     let mut server = Server::new(rt.alloc(), 6969);
     let taken = server.turn(&mut wire, &mut NoKeeper);
-    assert_eq!(rt; (taken, server.table().live()), (false, 0));
-    assert!(rt; has_refused(&wire));
+    assert_eq!(rt;
+        (taken, server.table().live(), has_refused(&wire)),
+        (false, 0, true)
+    );
     Ok(())
 }
 
@@ -119,17 +123,20 @@ fn failing_wire(rt: &HostRuntime, n: u64) -> Result<MemoryWire, Fail> {
     Ok(wire)
 }
 
-// The request comes in the second turn.
+// Whether the receive fails, and the request is answered in the second turn.
+fn has_come_later(wire: &MemoryWire) -> bool {
+    let [failed, came, opened, sent] = wire.log() else {
+        return false;
+    };
+    is_failed(failed, 6969)
+        && is_came(came, 6969, C1, WRQ)
+        && is_opened(opened, Some(4000))
+        && is_sent(sent, 4000, C1, ACK_0, true)
+}
+
 #[test]
 fn a_failing_receive(rt: HostRuntime) -> Result<(), Fail> {
-    let wire = failing_wire(&rt, 1)?;
-    let [failed, came, opened, sent] = wire.log() else {
-        return Err(Fail::new("other calls"));
-    };
-    assert!(rt; is_failed(failed, 6969));
-    assert!(rt; is_came(came, 6969, C1, WRQ));
-    assert!(rt; is_opened(opened, Some(4000)));
-    assert!(rt; is_sent(sent, 4000, C1, ACK_0, true));
+    assert!(rt; has_come_later(&failing_wire(&rt, 1)?));
     Ok(())
 }
 
@@ -141,33 +148,39 @@ fn a_failing_open(rt: HostRuntime) -> Result<(), Fail> {
     Ok(())
 }
 
-// The transfer is live, and its first block waits at its port.
+// Whether a transfer is live, and its first block waits at its port.
+fn has_block_waiting(wire: &MemoryWire) -> bool {
+    let [came, opened, sent, failed] = wire.log() else {
+        return false;
+    };
+    is_came(came, 6969, C1, WRQ)
+        && is_opened(opened, Some(4000))
+        && is_sent(sent, 4000, C1, ACK_0, true)
+        && is_failed(failed, 4000)
+}
+
 #[test]
 fn a_failing_receive_of_a_transfer(rt: HostRuntime) -> Result<(), Fail> {
-    let wire = failing_wire(&rt, 4)?;
-    let [came, opened, sent, failed] = wire.log() else {
-        return Err(Fail::new("other calls"));
-    };
-    assert!(rt; is_came(came, 6969, C1, WRQ));
-    assert!(rt; is_opened(opened, Some(4000)));
-    assert!(rt; is_sent(sent, 4000, C1, ACK_0, true));
-    assert!(rt; is_failed(failed, 4000));
+    assert!(rt; has_block_waiting(&failing_wire(&rt, 4)?));
     Ok(())
 }
 
-// The ACK of the request, and that of the last block.
+// Whether the ACK of the request and that of the last block were sent so.
+fn has_acked(wire: &MemoryWire, first_ok: bool, last_ok: bool) -> bool {
+    let [_, opened, first, came, last] = wire.log() else {
+        return false;
+    };
+    is_opened(opened, Some(4000))
+        && is_sent(first, 4000, C1, ACK_0, first_ok)
+        && is_came(came, 4000, C1, DATA_F1)
+        && is_sent(last, 4000, C1, ACK_1, last_ok)
+}
+
 #[test]
 fn failing_sends(rt: HostRuntime) -> Result<(), Fail> {
-    for (n, first_ok, last_ok) in [(3, false, true), (5, true, false)] {
-        let wire = failing_wire(&rt, n)?;
-        let [_, opened, first, came, last] = wire.log() else {
-            return Err(Fail::new("other calls"));
-        };
-        assert!(rt; is_opened(opened, Some(4000)));
-        assert!(rt; is_sent(first, 4000, C1, ACK_0, first_ok));
-        assert!(rt; is_came(came, 4000, C1, DATA_F1));
-        assert!(rt; is_sent(last, 4000, C1, ACK_1, last_ok));
-    }
+    let first_fails = has_acked(&failing_wire(&rt, 3)?, false, true);
+    let last_fails = has_acked(&failing_wire(&rt, 5)?, true, false);
+    assert_eq!(rt; (first_fails, last_fails), (true, true));
     Ok(())
 }
 
@@ -214,8 +227,8 @@ fn serves_twice(alloc: Global, wire: &mut MemoryWire, server: &mut Server) -> Re
 fn a_request_that_comes_twice(rt: HostRuntime) -> Result<(), Fail> {
     let mut wire = wire_of(rt.alloc(), &[4000, 4001])?;
     let mut server = Server::new(rt.alloc(), 6969);
-    assert!(rt; serves_twice(rt.alloc(), &mut wire, &mut server)?);
-    assert_eq!(rt; send_count(&wire), 3);
+    let is_served = serves_twice(rt.alloc(), &mut wire, &mut server)?;
+    assert_eq!(rt; (is_served, send_count(&wire)), (true, 3));
     Ok(())
 }
 
@@ -249,9 +262,9 @@ fn stays_with_first(alloc: Global, wire: &mut MemoryWire, run: &mut PutRun) -> R
 fn two_answers_to_one_request(rt: HostRuntime) -> Result<(), Fail> {
     let mut wire = wire_of(rt.alloc(), &[5000])?;
     let mut run = begun_put(rt.alloc(), &mut wire)?;
-    assert!(rt; sent_last(&wire, 5000, SERVER, WRQ));
-    assert!(rt; stays_with_first(rt.alloc(), &mut wire, &mut run)?);
-    assert_eq!(rt; send_count(&wire), 3);
+    let has_begun = sent_last(&wire, 5000, SERVER, WRQ);
+    let stays = stays_with_first(rt.alloc(), &mut wire, &mut run)?;
+    assert_eq!(rt; (has_begun, stays, send_count(&wire)), (true, true, 3));
     Ok(())
 }
 
@@ -300,8 +313,11 @@ fn are_fetched(alloc: Global, wire: &MemoryWire) -> Result<bool, Fail> {
 fn a_get_across_a_put(rt: HostRuntime) -> Result<(), Fail> {
     let mut wire = wire_of(rt.alloc(), &[4000, 4001, 4002, 4003])?;
     let mut server = Server::new(rt.alloc(), 6969);
-    assert!(rt; serves_across(rt.alloc(), &mut wire, &mut server)?);
-    assert!(rt; are_fetched(rt.alloc(), &wire)?);
-    assert_eq!(rt; send_count(&wire), 6);
+    let are_served = serves_across(rt.alloc(), &mut wire, &mut server)?;
+    let are_fetched = are_fetched(rt.alloc(), &wire)?;
+    assert_eq!(rt;
+        (are_served, are_fetched, send_count(&wire)),
+        (true, true, 6)
+    );
     Ok(())
 }

@@ -153,67 +153,76 @@ fn second_alone_changes(alloc: Global, collection: &mut Collection) -> Result<bo
     Ok(true)
 }
 
+// How many solutions and bytes of text a collection has, and its rules.
+fn figures(collection: &Collection) -> (usize, u128, Ruleset) {
+    (
+        collection.len(),
+        collection.text_len(),
+        collection.ruleset(),
+    )
+}
+
 #[test]
 fn answers_of_merges(rt: HostRuntime) -> Result<(), Fail> {
     let mut collection = Collection::new(rt.alloc(), Ruleset::Lynx);
-    assert!(rt; merge(rt.alloc(), &mut collection, &HUNDRED)?);
-    assert!(rt; second_alone_changes(rt.alloc(), &mut collection)?);
-    assert!(rt; has_text(rt.alloc(), &collection, &NINETY));
+    let is_first = merge(rt.alloc(), &mut collection, &HUNDRED)?;
+    let are_right = is_first && second_alone_changes(rt.alloc(), &mut collection)?;
+    let is_best = has_text(rt.alloc(), &collection, &NINETY);
     assert_eq!(rt;
-        (
-            collection.len(),
-            collection.text_len(),
-            collection.ruleset()
-        ),
-        (1, 28, Ruleset::Lynx)
+        (are_right, is_best, figures(&collection)),
+        (true, true, (1, 28, Ruleset::Lynx))
     );
     Ok(())
 }
 
 #[test]
 fn copies_stay(rt: HostRuntime) -> Result<(), Fail> {
-    let mut collection = Collection::new(rt.alloc(), Ruleset::Lynx);
-    assert!(rt; merge(rt.alloc(), &mut collection, &HUNDRED)?);
+    let mut collection = load(rt.alloc(), &HUNDRED)?;
     let early = collection.copy()?;
-    assert!(rt; second_alone_changes(rt.alloc(), &mut collection)?);
-    assert!(rt; has_text(rt.alloc(), &early, &HUNDRED));
+    let is_changed = second_alone_changes(rt.alloc(), &mut collection)?;
+    let stays = has_text(rt.alloc(), &early, &HUNDRED);
+    assert_eq!(rt; (is_changed, stays), (true, true));
     Ok(())
 }
 
 #[test]
 fn files_of_other_rules(rt: HostRuntime) -> Result<(), Fail> {
     let texts: [&[u8]; 2] = [&HUNDRED, &NINETY];
-    assert!(rt; are_merged_to(rt.alloc(), Ruleset::Lynx, &texts, &NINETY)?);
-    assert!(rt; are_merged_to(rt.alloc(), Ruleset::Ms, &texts, &MS)?);
+    let in_lynx = are_merged_to(rt.alloc(), Ruleset::Lynx, &texts, &NINETY)?;
+    let in_ms = are_merged_to(rt.alloc(), Ruleset::Ms, &texts, &MS)?;
+    assert_eq!(rt; (in_lynx, in_ms), (true, true));
     Ok(())
 }
 
 #[test]
 fn records_in_order(rt: HostRuntime) -> Result<(), Fail> {
-    let alloc = rt.alloc();
-    let mut collection = Collection::new(alloc, Ruleset::Lynx);
-    assert!(rt; merge(alloc, &mut collection, &UNORDERED)?);
-    assert!(rt; has_text(alloc, &collection, &ORDERED));
-    assert_eq!(rt; collection.text_len(), 48);
-    assert!(rt; merge(alloc, &mut collection, &HUNDRED)?);
-    assert_eq!(rt; (collection.len(), collection.text_len()), (3, 68));
+    let mut collection = load(rt.alloc(), &UNORDERED)?;
+    let is_ordered = has_text(rt.alloc(), &collection, &ORDERED);
+    let before = figures(&collection);
+    let is_changed = merge(rt.alloc(), &mut collection, &HUNDRED)?;
+    assert_eq!(rt;
+        (is_ordered, before, is_changed, figures(&collection)),
+        (true, (2, 48, Ruleset::Lynx), true, (3, 68, Ruleset::Lynx))
+    );
     Ok(())
 }
 
 #[test]
 fn records_by_key(rt: HostRuntime) -> Result<(), Fail> {
     let mut collection = load(rt.alloc(), &UNORDERED)?;
-    assert!(rt; merge(rt.alloc(), &mut collection, &HUNDRED)?);
+    let is_changed = merge(rt.alloc(), &mut collection, &HUNDRED)?;
     let key = Key {
         number: 2,
         password: *b"BBBB",
     };
-    assert_eq!(rt; collection.get(key), Some(&ORDERED[32..]));
     let other = Key {
         number: 2,
         password: *b"CCCC",
     };
-    assert_eq!(rt; collection.get(other), None);
+    assert_eq!(rt;
+        (is_changed, collection.get(key), collection.get(other)),
+        (true, Some(&ORDERED[32..]), None)
+    );
     Ok(())
 }
 
@@ -314,8 +323,9 @@ fn keys_that_are_close(rt: HostRuntime) -> Result<(), Fail> {
 // A file that is its own best, and the same three times.
 #[test]
 fn the_same_file_again(rt: HostRuntime) -> Result<(), Fail> {
-    assert!(rt; are_merged_to(rt.alloc(), Ruleset::Lynx, &[&ORDERED], &ORDERED)?);
-    assert!(rt; all_orders_give(rt.alloc(), [&ORDERED, &ORDERED, &ORDERED], &ORDERED)?);
+    let once = are_merged_to(rt.alloc(), Ruleset::Lynx, &[&ORDERED], &ORDERED)?;
+    let thrice = all_orders_give(rt.alloc(), [&ORDERED, &ORDERED, &ORDERED], &ORDERED)?;
+    assert_eq!(rt; (once, thrice), (true, true));
     Ok(())
 }
 
@@ -323,25 +333,34 @@ fn the_same_file_again(rt: HostRuntime) -> Result<(), Fail> {
 #[test]
 fn nothing_better(rt: HostRuntime) -> Result<(), Fail> {
     let worse = solutions(rt.alloc(), &[(1, *b"CCCC", 11)])?;
-    assert!(rt; all_orders_give(rt.alloc(), [&ORDERED, &worse, &worse], &ORDERED)?);
+    let stays = all_orders_give(rt.alloc(), [&ORDERED, &worse, &worse], &ORDERED)?;
     let mut collection = load(rt.alloc(), &ORDERED)?;
-    assert!(rt; !merge(rt.alloc(), &mut collection, &worse)?);
+    let is_changed = merge(rt.alloc(), &mut collection, &worse)?;
+    assert_eq!(rt; (stays, is_changed), (true, false));
     Ok(())
+}
+
+// A pad, the record of the set with its name, and a level without a solution.
+const PAD: [u8; 4] = [0; 4];
+
+const SET: [u8; 21] = [
+    0x11, 0, 0, 0, 0, 0, 0, 0, 0, 0, 0, 0, 0, 0, 0, 0, 0, 0, 0, 0, 0,
+];
+
+const BARE: [u8; 10] = [6, 0, 0, 0, 1, 0, 0x42, 0x44, 0x48, 0x50];
+
+// Whether a file of these records gives a collection with this text.
+fn is_kept_as(alloc: Global, records: &[&[u8]], wanted: &[u8]) -> Result<bool, Fail> {
+    let text = join(alloc, &LYNX, records)?;
+    are_merged_to(alloc, Ruleset::Lynx, &[&text], wanted)
 }
 
 #[test]
 fn no_other_record_is_kept(rt: HostRuntime) -> Result<(), Fail> {
-    let alloc = rt.alloc();
-    // A pad, the record of the set with its name, and a level without a solution.
-    let pad: [u8; 4] = [0; 4];
-    let set: [u8; 21] = [
-        0x11, 0, 0, 0, 0, 0, 0, 0, 0, 0, 0, 0, 0, 0, 0, 0, 0, 0, 0, 0, 0,
-    ];
-    let bare: [u8; 10] = [6, 0, 0, 0, 1, 0, 0x42, 0x44, 0x48, 0x50];
-    let text = join(alloc, &LYNX, &[&set, &pad, &bare, &HUNDRED[8..], &pad])?;
-    assert!(rt; are_merged_to(alloc, Ruleset::Lynx, &[&text], &HUNDRED)?);
-    let none = join(alloc, &LYNX, &[&set, &pad, &bare])?;
-    assert!(rt; are_merged_to(alloc, Ruleset::Lynx, &[&none], &LYNX)?);
+    let among: [&[u8]; 5] = [&SET, &PAD, &BARE, &HUNDRED[8..], &PAD];
+    let is_alone = is_kept_as(rt.alloc(), &among, &HUNDRED)?;
+    let is_none = is_kept_as(rt.alloc(), &[&SET, &PAD, &BARE], &LYNX)?;
+    assert_eq!(rt; (is_alone, is_none), (true, true));
     Ok(())
 }
 
@@ -394,12 +413,22 @@ fn is_lesser(first: Rank, second: Rank) -> bool {
     first < second && second > first && first == first && first != second
 }
 
+// The rank of the body in a record.
+fn rank_of(record: &[u8]) -> Result<Rank, Fail> {
+    let Some(body) = record.get(4..) else {
+        return Err(Fail::new("no record"));
+    };
+    if body.len() < 16 {
+        return Err(Fail::new("no solution"));
+    }
+    Ok(Rank::of(body))
+}
+
 #[test]
 fn ranks(rt: HostRuntime) -> Result<(), Fail> {
     let fast = level_1(rt.alloc(), 99, 384)?;
     let short = level_1(rt.alloc(), 100, 2)?;
-    assert!(rt; fast.len() == 404 && short.len() == 22);
-    assert!(rt; is_lesser(Rank::of(&fast[4..]), Rank::of(&short[4..])));
+    assert!(rt; is_lesser(rank_of(&fast)?, rank_of(&short)?));
     Ok(())
 }
 

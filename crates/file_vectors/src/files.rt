@@ -204,9 +204,11 @@ const HEAD: &str =
 fn listings_of_moves(rt: HostRuntime) -> Result<(), Fail> {
     let steps = " at 3 step 0\n at 7 step 0\n at 11 step 0\n at 15 step 0\nrecords 1\n";
     let without = listing(rt.alloc(), &MOVED)?;
-    assert_eq!(rt; without.strip_prefix(HEAD), Some("records 1\n"));
     let with_moves = listing_with(rt.alloc(), &MOVED, true)?;
-    assert_eq!(rt; with_moves.strip_prefix(HEAD), Some(steps));
+    assert_eq!(rt;
+        (without.strip_prefix(HEAD), with_moves.strip_prefix(HEAD)),
+        (Some("records 1\n"), Some(steps))
+    );
     Ok(())
 }
 
@@ -261,10 +263,13 @@ fn hundred_thousand<A: Allocator>(alloc: A) -> Result<Vec<u8, A>, Fail> {
 #[test]
 fn a_hundred_thousand_records(rt: HostRuntime) -> Result<(), Fail> {
     let bytes = hundred_thousand(rt.alloc())?;
-    assert_eq!(rt; read_file(rt.alloc(), &bytes)?.records.len(), 100_000);
+    let count = read_file(rt.alloc(), &bytes)?.records.len();
     let listing = listing(rt.alloc(), &bytes)?;
-    assert_eq!(rt; listing.lines().count(), 100_002);
-    assert!(rt; listing.ends_with("bytes 0\nrecords 100000\n"));
+    let has_end = listing.ends_with("bytes 0\nrecords 100000\n");
+    assert_eq!(rt;
+        (count, listing.lines().count(), has_end),
+        (100_000, 100_002, true)
+    );
     Ok(())
 }
 
@@ -277,12 +282,15 @@ const EXTENDED: [u8; 29] = [
 #[test]
 fn the_header_is_handed_out(rt: HostRuntime) -> Result<(), Fail> {
     let file = read_file(rt.alloc(), &EXTENDED)?;
-    assert_eq!(rt;
-        (file.ruleset, file.ruleset.code(), file.word),
-        (Ruleset::Lynx, 1, [7, 8])
+    let extra = (
+        file.extra.as_slice(),
+        file.extra.len(),
+        file.extra.is_empty(),
     );
-    assert_eq!(rt; file.extra.as_slice(), [0x21].as_slice());
-    assert_eq!(rt; (file.extra.len(), file.extra.is_empty()), (1, false));
+    assert_eq!(rt;
+        (file.ruleset, file.ruleset.code(), file.word, extra),
+        (Ruleset::Lynx, 1, [7, 8], (&[0x21][..], 1, false))
+    );
     Ok(())
 }
 
@@ -296,18 +304,23 @@ fn solutions_are_handed_out(rt: HostRuntime) -> Result<(), Fail> {
         number: 1,
         password: *b"BDHP",
     };
-    assert_eq!(rt; solution.key, key);
-    assert!(rt; !solution.key.is_set() && Key::SET.is_set());
-    assert!(rt; solution.moves.is_empty());
+    let sets = (solution.key.is_set(), Key::SET.is_set());
+    assert_eq!(rt;
+        (solution.key, sets, solution.moves.is_empty()),
+        (key, (false, true), true)
+    );
     Ok(())
 }
 
 #[test]
 fn lists_are_handed_out(rt: HostRuntime) -> Result<(), Fail> {
     let file = read_file(rt.alloc(), &EXTENDED)?;
-    assert!(rt; !file.records.is_empty());
-    assert_eq!(rt; file.extra.into_vec().as_slice(), [0x21].as_slice());
-    assert_eq!(rt; file.records.into_vec().len(), 1);
+    let is_empty = file.records.is_empty();
+    let (extra, records) = (file.extra.into_vec(), file.records.into_vec());
+    assert_eq!(rt;
+        (is_empty, extra.as_slice(), records.len()),
+        (false, &[0x21][..], 1)
+    );
     Ok(())
 }
 
@@ -321,8 +334,8 @@ fn a_writer_that_is_full(rt: HostRuntime) -> Result<(), Fail> {
     let file = lynx_solution(rt.alloc())?;
     let mut room = [0u8; 10];
     let mut out = room.as_mut_slice();
-    assert_eq!(rt; show(rt.alloc(), &file, false, &mut out), Err(OutFault::Io));
-    assert_eq!(rt; room, *b"ruleset ly");
+    let shown = show(rt.alloc(), &file, false, &mut out);
+    assert_eq!(rt; (shown, room), (Err(OutFault::Io), *b"ruleset ly"));
     Ok(())
 }
 
@@ -361,9 +374,11 @@ const EVERY_KIND: [u8; 76] = [
 #[test]
 fn what_is_read_is_written(rt: HostRuntime) -> Result<(), Fail> {
     let written = rewritten(rt.alloc(), &EVERY_KIND)?;
-    assert_eq!(rt; written.as_slice(), EVERY_KIND.as_slice());
     let packed = packed(rt.alloc(), &EVERY_KIND)?;
-    assert_eq!(rt; packed.as_slice(), EVERY_KIND.as_slice());
+    assert_eq!(rt;
+        (written.as_slice(), packed.as_slice()),
+        (EVERY_KIND.as_slice(), EVERY_KIND.as_slice())
+    );
     Ok(())
 }
 
@@ -389,8 +404,11 @@ fn the_body_of_a_solution(rt: HostRuntime) -> Result<(), Fail> {
     let [Record::Solution(solution)] = file.records.as_slice() else {
         return Err(Fail::new("no solution"));
     };
-    assert_eq!(rt; solution.body_len(), 16);
-    assert_eq!(rt; solution.body(rt.alloc())?.as_slice(), &SOLUTION[4..]);
+    let body = solution.body(rt.alloc())?;
+    assert_eq!(rt;
+        (solution.body_len(), body.as_slice()),
+        (16, &SOLUTION[4..])
+    );
     Ok(())
 }
 
@@ -429,7 +447,10 @@ fn a_file_for_a_writer_that_is_full(rt: HostRuntime) -> Result<(), Fail> {
     let file = read_file(rt.alloc(), &MOVED)?;
     let mut room = [0u8; 10];
     let mut out = room.as_mut_slice();
-    assert_eq!(rt; write_file(&file, &mut out), Err(OutFault::Io));
-    assert_eq!(rt; room.as_slice(), &MOVED[..10]);
+    let written = write_file(&file, &mut out);
+    assert_eq!(rt;
+        (written, room.as_slice()),
+        (Err(OutFault::Io), &MOVED[..10])
+    );
     Ok(())
 }

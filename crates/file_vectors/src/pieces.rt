@@ -25,10 +25,11 @@ const LEVELS: [u8; 29] = [
 #[test]
 fn a_file_that_comes_byte_by_byte(rt: HostRuntime) -> Result<(), Fail> {
     let (first, reader) = push_bytes(rt.alloc(), &LEVELS);
-    assert_eq!(rt; first, None);
     let file = reader.finish()?;
-    assert_eq!(rt; (file.word, file.records.len()), ([7, 8], 2));
-    assert_eq!(rt; file.extra.as_slice(), [0x21].as_slice());
+    assert_eq!(rt;
+        (first, file.word, file.extra.as_slice(), file.records.len()),
+        (None, [7, 8], &[0x21][..], 2)
+    );
     Ok(())
 }
 
@@ -47,25 +48,32 @@ fn a_file_that_ends_early_byte_by_byte(rt: HostRuntime) {
 #[test]
 fn moves_that_are_cut_byte_by_byte(rt: HostRuntime) {
     let (first, reader) = push_bytes(rt.alloc(), &CUT);
-    assert_eq!(rt; first, Some(30));
-    assert_eq!(rt; reader.finish().err(), Some(FileFault::MoveCut(29)));
+    assert_eq!(rt;
+        (first, reader.finish().err()),
+        (Some(30), Some(FileFault::MoveCut(29)))
+    );
 }
 
 #[test]
 fn moves_that_are_cut_between_pieces(rt: HostRuntime) {
     let mut reader = Reader::new(rt.alloc());
-    assert_eq!(rt; reader.push(&CUT[..29]), Ok(()));
-    assert_eq!(rt; reader.push(&CUT[29..]), Err(FileFault::MoveCut(29)));
-    assert_eq!(rt; reader.push(&[0xFF]), Err(FileFault::MoveCut(29)));
-    assert_eq!(rt; reader.finish().err(), Some(FileFault::MoveCut(29)));
+    let (first, rest) = CUT.split_at(29);
+    let pushed = (reader.push(first), reader.push(rest), reader.push(&[0xFF]));
+    let cut = FileFault::MoveCut(29);
+    assert_eq!(rt;
+        (pushed, reader.finish().err()),
+        ((Ok(()), Err(cut), Err(cut)), Some(cut))
+    );
 }
 
 #[test]
 fn a_fault_of_a_record_is_kept(rt: HostRuntime) -> Result<(), Fail> {
     let bytes = join(rt.alloc(), &LYNX, &[0, 0, 0, 0, 7, 0, 0, 0, 1, 2, 3])?;
     let (first, reader) = push_bytes(rt.alloc(), &bytes);
-    assert_eq!(rt; first, Some(16));
-    assert_eq!(rt; reader.finish().err(), Some(FileFault::BadSize(12)));
+    assert_eq!(rt;
+        (first, reader.finish().err()),
+        (Some(16), Some(FileFault::BadSize(12)))
+    );
     Ok(())
 }
 
@@ -74,7 +82,10 @@ fn a_fault_of_the_header_is_kept(rt: HostRuntime) {
     let mut reader = Reader::new(rt.alloc());
     let mut wrong = LYNX;
     wrong[3] = 0x98;
-    assert_eq!(rt; reader.push(&wrong), Err(FileFault::BadSignature));
-    assert_eq!(rt; reader.push(&LYNX), Err(FileFault::BadSignature));
-    assert_eq!(rt; reader.finish().err(), Some(FileFault::BadSignature));
+    let pushed = (reader.push(&wrong), reader.push(&LYNX));
+    let bad = FileFault::BadSignature;
+    assert_eq!(rt;
+        (pushed, reader.finish().err()),
+        ((Err(bad), Err(bad)), Some(bad))
+    );
 }

@@ -61,9 +61,9 @@ fn text_in_order(alloc: Global) -> Result<Vec<u8>, Fail> {
 #[test]
 fn text_of_two_records(rt: HostRuntime) -> Result<(), Fail> {
     let collection = two_records(rt.alloc())?;
-    assert_eq!(rt; collection.text_len(), 530);
     let wanted = text_in_order(rt.alloc())?;
-    assert!(rt; has_text(rt.alloc(), &collection, &wanted));
+    let has_text = has_text(rt.alloc(), &collection, &wanted);
+    assert_eq!(rt; (collection.text_len(), has_text), (530, true));
     Ok(())
 }
 
@@ -71,32 +71,57 @@ fn text_of_two_records(rt: HostRuntime) -> Result<(), Fail> {
 fn sizes_in_the_text_of_two_records(rt: HostRuntime) -> Result<(), Fail> {
     let mut text = Vec::new(rt.alloc());
     two_records(rt.alloc())?.write_text(&mut text)?;
-    assert_eq!(rt; text.len(), 530);
-    assert_eq!(rt; &text[8..12], [0xF2, 1, 0, 0].as_slice());
-    assert_eq!(rt; &text[510..514], [0x10, 0, 0, 0].as_slice());
+    assert_eq!(rt;
+        (text.len(), text.get(8..12), text.get(510..514)),
+        (530, Some(&[0xF2, 1, 0, 0][..]), Some(&[0x10, 0, 0, 0][..]))
+    );
     Ok(())
+}
+
+// Where the records of a snapshot of two begin, and how many bytes their bodies have; zeros of another number.
+fn places(snapshot: &Snapshot) -> ([u64; 2], [usize; 2]) {
+    if snapshot.record_count() != 2 {
+        return ([0; 2], [0; 2]);
+    }
+    let starts = [snapshot.start(0), snapshot.start(1)];
+    let lengths = [snapshot.body(0).len(), snapshot.body(1).len()];
+    (starts, lengths)
 }
 
 #[test]
 fn snapshot_of_two_records(rt: HostRuntime) -> Result<(), Fail> {
     let collection = two_records(rt.alloc())?;
     let snapshot = snapshot_of(&rt, &collection)?;
-    assert_eq!(rt; snapshot.record_count(), 2);
-    assert_eq!(rt; (snapshot.start(0), snapshot.start(1)), (8, 510));
-    assert_eq!(rt; (snapshot.body(0).len(), snapshot.body(1).len()), (498, 16));
+    assert_eq!(rt; places(&snapshot), ([8, 510], [498, 16]));
     Ok(())
+}
+
+// The sizes of the two blocks of 530 bytes.
+fn two_blocks(
+    snapshot: &Snapshot,
+    first: &mut [u8; 512],
+    second: &mut [u8; 512],
+) -> Option<(usize, usize)> {
+    if snapshot.file_len() != 530 {
+        return None;
+    }
+    Some((snapshot.block(1, first), snapshot.block(2, second)))
 }
 
 #[test]
 fn blocks_of_two_records(rt: HostRuntime) -> Result<(), Fail> {
     let collection = two_records(rt.alloc())?;
     let snapshot = snapshot_of(&rt, &collection)?;
-    assert_eq!(rt; snapshot.file_len(), 530);
-    let mut out = [0; 512];
-    assert_eq!(rt; snapshot.block(1, &mut out), 512);
-    assert_eq!(rt; &out[510..], [0x10, 0].as_slice());
-    assert_eq!(rt; snapshot.block(2, &mut out), 18);
-    assert_eq!(rt; &out[..8], [0, 0, 2, 0, 0x42, 0x42, 0x42, 0x42].as_slice());
+    let (mut first, mut second) = ([0; 512], [0; 512]);
+    let sizes = two_blocks(&snapshot, &mut first, &mut second);
+    assert_eq!(rt;
+        (sizes, first.last_chunk::<2>(), second.first_chunk::<8>()),
+        (
+            Some((512, 18)),
+            Some(&[0x10, 0]),
+            Some(&[0, 0, 2, 0, 0x42, 0x42, 0x42, 0x42])
+        )
+    );
     Ok(())
 }
 
@@ -108,15 +133,25 @@ fn has_own_blocks(rt: &impl Abort, alloc: Global, collection: &Collection) -> Re
     Ok(has_blocks(alloc, &snapshot, &text))
 }
 
+// Whether two files in turn change a collection.
+fn both_change(
+    alloc: Global,
+    collection: &mut Collection,
+    files: [&[u8]; 2],
+) -> Result<bool, Fail> {
+    let [first, second] = files;
+    Ok(merge(alloc, collection, first)? && merge(alloc, collection, second)?)
+}
+
 #[test]
 fn snapshots_stay(rt: HostRuntime) -> Result<(), Fail> {
     let alloc = rt.alloc();
     let mut collection = load(alloc, &HUNDRED)?;
     let early = snapshot_of(&rt, &collection)?;
-    assert!(rt; merge(alloc, &mut collection, &NINETY)?);
-    assert!(rt; merge(alloc, &mut collection, &UNORDERED)?);
-    assert!(rt; has_blocks(alloc, &early, &HUNDRED));
-    assert!(rt; has_own_blocks(&rt, alloc, &collection)?);
+    let are_changes = both_change(alloc, &mut collection, [&NINETY, &UNORDERED])?;
+    let is_own = has_own_blocks(&rt, alloc, &collection)?;
+    let stays = has_blocks(alloc, &early, &HUNDRED);
+    assert_eq!(rt; (are_changes, is_own, stays), (true, true, true));
     Ok(())
 }
 
@@ -148,15 +183,23 @@ fn copy_has_text(
     Ok(has_text(alloc, &copy, wanted) && has_blocks(alloc, &snapshot, wanted))
 }
 
+// A collection to which a file was merged twice: whether it changed at the first time, and at the second.
+fn merged_twice(alloc: Global, text: &[u8]) -> Result<(Collection, bool, bool), Fail> {
+    let mut collection = Collection::new(alloc, Ruleset::Lynx);
+    let first = merge(alloc, &mut collection, text)?;
+    let second = merge(alloc, &mut collection, text)?;
+    Ok((collection, first, second))
+}
+
 #[test]
 fn two_thousand_records(rt: HostRuntime) -> Result<(), Fail> {
-    let alloc = rt.alloc();
-    let wanted = two_thousand(alloc)?;
-    let mut collection = Collection::new(alloc, Ruleset::Lynx);
-    assert!(rt; merge(alloc, &mut collection, &wanted)?);
-    assert!(rt; !merge(alloc, &mut collection, &wanted)?);
-    assert_eq!(rt; collection.len(), 2000);
-    assert!(rt; has_text(alloc, &collection, &wanted));
-    assert!(rt; copy_has_text(&rt, alloc, &collection, &wanted)?);
+    let wanted = two_thousand(rt.alloc())?;
+    let (collection, first, second) = merged_twice(rt.alloc(), &wanted)?;
+    let is_text = has_text(rt.alloc(), &collection, &wanted);
+    let is_copied = copy_has_text(&rt, rt.alloc(), &collection, &wanted)?;
+    assert_eq!(rt;
+        (first, second, collection.len(), is_text, is_copied),
+        (true, false, 2000, true, true)
+    );
     Ok(())
 }

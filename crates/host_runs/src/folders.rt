@@ -108,9 +108,10 @@ fn a_new_file_that_is_left_is_harmless(rt: HostRuntime) -> Result<(), Fail> {
     let dir = folder(&rt, "stale")?;
     let stale = file_in(&rt, &dir, "ms.new")?;
     fs::write(&rt, stale.as_str(), [7u8; 100].as_slice())?;
-    assert!(rt; keeps_an_empty_one(rt, &dir)?);
-    assert!(rt; fs::metadata(&rt, stale.as_str()).is_err());
+    let is_kept = keeps_an_empty_one(rt, &dir)?;
+    let is_gone = fs::metadata(&rt, stale.as_str()).is_err();
     fs::remove_dir_all(&rt, dir.as_str())?;
+    assert_eq!(rt; (is_kept, is_gone), (true, true));
     Ok(())
 }
 
@@ -139,15 +140,21 @@ fn obstruct(rt: &HostRuntime, dir: &str) -> Result<(), Fail> {
     Ok(())
 }
 
+// Whether the calls fail so without the folder, and then with one in the place of the collection's file.
+fn fails_twice(rt: HostRuntime, dir: &str) -> Result<(bool, bool), Fail> {
+    let mut keeper = keeper_of(rt, dir)?;
+    let without = fails_to_keep(rt, &mut keeper)?;
+    obstruct(&rt, dir)?;
+    Ok((without, fails_at_both(rt, &mut keeper)?))
+}
+
 #[test]
 fn a_folder_that_fails(rt: HostRuntime) -> Result<(), Fail> {
     let dir = folder(&rt, "fails")?;
     fs::remove_dir_all(&rt, dir.as_str())?;
-    let mut keeper = keeper_of(rt, &dir)?;
-    assert!(rt; fails_to_keep(rt, &mut keeper)?);
-    obstruct(&rt, &dir)?;
-    assert!(rt; fails_at_both(rt, &mut keeper)?);
+    let failed = fails_twice(rt, &dir)?;
     fs::remove_dir_all(&rt, dir.as_str())?;
+    assert_eq!(rt; failed, (true, true));
     Ok(())
 }
 
@@ -181,8 +188,9 @@ fn loaded(rt: HostRuntime, dir: &str) -> Result<Vec<u8>, Fail> {
 #[test]
 fn a_restart_finds_what_was_taken(rt: HostRuntime) -> Result<(), Fail> {
     let dir = folder(&rt, "restart")?;
-    assert_eq!(rt; taken(rt, &dir)?, 1);
-    assert_eq!(rt; loaded(rt, &dir)?.as_slice(), F1.as_slice());
+    let taken = taken(rt, &dir)?;
+    let loaded = loaded(rt, &dir)?;
     fs::remove_dir_all(&rt, dir.as_str())?;
+    assert_eq!(rt; (taken, loaded.as_slice()), (1, F1.as_slice()));
     Ok(())
 }

@@ -51,10 +51,12 @@ fn clients_where_none_may_be(rt: HostRuntime) -> Result<(), Fail> {
 #[test]
 fn a_put_of_a_file_that_is_too_long(rt: HostRuntime) -> Result<(), Fail> {
     let file = vec![in rt.alloc(); 7; 33_553_920]?;
-    let acts = [Act::Put(C1, &file)];
-    assert_eq!(rt; fault(rt.alloc(), &acts)?, Some(WorldFault::BadEvent(0)));
-    let acts = [Act::Put(C1, HUNDRED), Act::Put(C1, &file)];
-    assert_eq!(rt; fault(rt.alloc(), &acts)?, Some(WorldFault::BadEvent(1)));
+    let first = fault(rt.alloc(), &[Act::Put(C1, &file)])?;
+    let second = fault(rt.alloc(), &[Act::Put(C1, HUNDRED), Act::Put(C1, &file)])?;
+    assert_eq!(rt;
+        (first, second),
+        (Some(WorldFault::BadEvent(0)), Some(WorldFault::BadEvent(1)))
+    );
     Ok(())
 }
 

@@ -8,6 +8,7 @@ use crate::scene::{
 };
 use archive_table::MemoryKeeper;
 use archive_world::{Asked, SERVER, WorldFault};
+use std::alloc::Global;
 use std::test::Fail;
 use tws_file::Ruleset;
 
@@ -155,25 +156,30 @@ fn a_restart_after_a_put(rt: HostRuntime) -> Result<(), Fail> {
     Ok(())
 }
 
+// The fault of these events where this call of the keeper fails, and whether the keeper was given the put's file.
+fn failing(alloc: Global, call: u64, acts: &[Act<'_>]) -> Result<(Option<WorldFault>, bool), Fail> {
+    let mut keeper = MemoryKeeper::new(alloc);
+    keeper.fail_at(call);
+    let fault = fault_by(alloc, &mut keeper, acts)?;
+    Ok((fault, was_given(&keeper, ONE_PUT.given)))
+}
+
 // A load fails: there is no run, and the keeper has what was kept before.
 #[test]
 fn a_restart_that_fails(rt: HostRuntime) -> Result<(), Fail> {
-    let mut keeper = MemoryKeeper::new(rt.alloc());
-    keeper.fail_at(1);
-    assert_eq!(rt;
-        fault_by(rt.alloc(), &mut keeper, &[Act::Restart])?,
-        Some(WorldFault::NotLoaded(0))
-    );
+    let empty = failing(rt.alloc(), 1, &[Act::Restart])?;
     // The load of Lynx is the second call, that of MS the third.
-    for n in [2, 3] {
-        let mut keeper = MemoryKeeper::new(rt.alloc());
-        keeper.fail_at(n);
-        assert_eq!(rt;
-            fault_by(rt.alloc(), &mut keeper, &PUT_AND_RESTART)?,
-            Some(WorldFault::NotLoaded(4))
-        );
-        assert!(rt; was_given(&keeper, ONE_PUT.given));
-    }
+    let lynx = failing(rt.alloc(), 2, &PUT_AND_RESTART)?;
+    let ms = failing(rt.alloc(), 3, &PUT_AND_RESTART)?;
+    let not_loaded = Some(WorldFault::NotLoaded(4));
+    assert_eq!(rt;
+        (empty, lynx, ms),
+        (
+            (Some(WorldFault::NotLoaded(0)), false),
+            (not_loaded, true),
+            (not_loaded, true)
+        )
+    );
     Ok(())
 }
 

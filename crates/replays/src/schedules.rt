@@ -179,10 +179,13 @@ fn has_gone_round(outcome: &Outcome, file: &[u8]) -> bool {
 fn a_get_after_a_put(rt: HostRuntime) -> Result<(), Fail> {
     let file = slow_file();
     let outcome = outcome_of(rt.alloc(), &put_and_get(&file))?;
-    assert!(rt; were_sent(outcome.datagrams.as_slice(), &put_and_get_lines()));
-    assert!(rt; has_gone_round(&outcome, &file));
     let opened = [(C1, 4000, Asked::Write, 0), (C2, 4001, READ, 1)];
-    assert!(rt; are_opened(outcome.opened.as_slice(), &opened));
+    let is_right = (
+        were_sent(outcome.datagrams.as_slice(), &put_and_get_lines()),
+        has_gone_round(&outcome, &file),
+        are_opened(outcome.opened.as_slice(), &opened),
+    );
+    assert_eq!(rt; is_right, (true, true, true));
     Ok(())
 }
 
@@ -273,15 +276,18 @@ fn has_crossed(outcome: &Outcome, slow: &[u8], fast: &[u8]) -> bool {
 fn two_gets_across_a_put(rt: HostRuntime) -> Result<(), Fail> {
     let (slow, fast) = (slow_file(), fast_file());
     let outcome = outcome_of(rt.alloc(), &crossing(&slow, &fast))?;
-    assert!(rt; were_sent(outcome.datagrams.as_slice(), &crossed_lines()));
-    assert!(rt; has_crossed(&outcome, &slow, &fast));
     let opened = [
         (C1, 4000, Asked::Write, 0),
         (C2, 4001, READ, 1),
         (C3, 4002, Asked::Write, 1),
         (C4, 4003, READ, 1),
     ];
-    assert!(rt; are_opened(outcome.opened.as_slice(), &opened));
+    let is_right = (
+        were_sent(outcome.datagrams.as_slice(), &crossed_lines()),
+        has_crossed(&outcome, &slow, &fast),
+        are_opened(outcome.opened.as_slice(), &opened),
+    );
+    assert_eq!(rt; is_right, (true, true, true));
     Ok(())
 }
 
@@ -356,48 +362,50 @@ impl Tally {
         self.unkept = self.unkept.wrapping_add(unkept_count(outcome));
         self.longest = self.longest.max(events.len());
     }
+
+    // What has not happened often enough in all lists.
+    fn too_few(&self) -> Option<&'static str> {
+        let rows = [
+            ("puts", self.puts, 2000),
+            ("gets", self.gets, 1000),
+            ("sent", self.sent, self.puts / 2),
+            ("got", self.got, self.gets / 2),
+            ("strangers", self.strangers, 100),
+            ("restarts", self.restarts, 100),
+            ("unkept", self.unkept, 20),
+        ];
+        for (name, count, least) in rows {
+            if count <= least {
+                return Some(name);
+            }
+        }
+        None
+    }
 }
 
-// The promise that a drawn list breaks, if it breaks one. How many of its puts and gets have ended well is counted too.
-fn broken_by_draw(
-    alloc: Global,
-    draws: &mut Draws,
-    tally: &mut Tally,
-) -> Result<Option<&'static str>, Fail> {
+// Draws a list, which breaks no promise, and counts what happened in it.
+fn count_draw(alloc: Global, draws: &mut Draws, tally: &mut Tally) -> Result<(), Fail> {
     let (drawn, outcome) = draw(alloc, draws)?;
     tally.count(&drawn.events, &outcome);
-    broken_promise(alloc, &drawn.events, &outcome, drawn.fails)
+    match broken_promise(alloc, &drawn.events, &outcome, drawn.fails)? {
+        Some(promise) => Err(Fail::new(promise)),
+        None => Ok(()),
+    }
+}
+
+// What happened in all lists.
+fn count_draws(alloc: Global) -> Result<Tally, Fail> {
+    let mut draws = Draws(5);
+    let mut tally = Tally::new();
+    for _ in 0..DRAWN {
+        count_draw(alloc, &mut draws, &mut tally)?;
+    }
+    Ok(tally)
 }
 
 #[test]
 fn schedules(rt: HostRuntime) -> Result<(), Fail> {
-    let mut draws = Draws(5);
-    let mut tally = Tally::new();
-    for list in 0..DRAWN {
-        let broken = broken_by_draw(rt.alloc(), &mut draws, &mut tally)?;
-        assert_eq!(rt; broken, None, "in list {list}");
-    }
-    assert_eq!(rt; tally.longest, 60);
-    assert!(rt;
-        tally.puts > 2000 && tally.gets > 1000,
-        "{} {}",
-        tally.puts,
-        tally.gets
-    );
-    assert!(rt;
-        tally.sent > tally.puts / 2,
-        "{} of {}",
-        tally.sent,
-        tally.puts
-    );
-    assert!(rt;
-        tally.got > tally.gets / 2,
-        "{} of {}",
-        tally.got,
-        tally.gets
-    );
-    assert!(rt; tally.strangers > 100, "{}", tally.strangers);
-    assert!(rt; tally.restarts > 100, "{}", tally.restarts);
-    assert!(rt; tally.unkept > 20, "{}", tally.unkept);
+    let tally = count_draws(rt.alloc())?;
+    assert_eq!(rt; (tally.longest, tally.too_few()), (60, None));
     Ok(())
 }

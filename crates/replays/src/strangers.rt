@@ -69,14 +69,24 @@ fn a_stranger_that_answers_a_client(rt: HostRuntime) -> Result<(), Fail> {
 
 #[test]
 fn a_stranger_where_an_operation_is(rt: HostRuntime) -> Result<(), Fail> {
-    let acts = [Act::Put(C1, HUNDRED), Act::Stray(C1, SERVER, WRQ)];
-    assert_eq!(rt; fault(rt.alloc(), &acts)?, Some(WorldFault::BadEvent(1)));
-    let acts = [Act::Stray(at(4000), C1, ACK_0)];
-    assert_eq!(rt; fault(rt.alloc(), &acts)?, Some(WorldFault::BadEvent(0)));
-    let acts = [
+    let from_client = [Act::Put(C1, HUNDRED), Act::Stray(C1, SERVER, WRQ)];
+    let from_server = [Act::Stray(at(4000), C1, ACK_0)];
+    let begins = [
         Act::Stray(STRANGER, SERVER, WRQ),
         Act::Put(STRANGER, HUNDRED),
     ];
-    assert_eq!(rt; fault(rt.alloc(), &acts)?, Some(WorldFault::PortReused(1)));
+    let faults = (
+        fault(rt.alloc(), &from_client)?,
+        fault(rt.alloc(), &from_server)?,
+        fault(rt.alloc(), &begins)?,
+    );
+    assert_eq!(rt;
+        faults,
+        (
+            Some(WorldFault::BadEvent(1)),
+            Some(WorldFault::BadEvent(0)),
+            Some(WorldFault::PortReused(1))
+        )
+    );
     Ok(())
 }

@@ -92,6 +92,24 @@ impl Counts {
         let busy = u32::from(is_error(said, b"\0\x05\0\0server busy\0"));
         self.busy = self.busy.wrapping_add(busy);
     }
+
+    // What has not happened often enough in a thousand runs.
+    fn too_few(&self) -> Option<&'static str> {
+        let rows = [
+            ("opened", self.opened, 5000),
+            ("taken", self.taken, 1000),
+            ("closed", self.closed, 3000),
+            ("strays", self.strays, 500),
+            ("unkept", self.unkept, 100),
+            ("busy", self.busy, 100),
+        ];
+        for (name, count, least) in rows {
+            if count <= least {
+                return Some(name);
+            }
+        }
+        None
+    }
 }
 
 // One input, to both.
@@ -172,8 +190,8 @@ fn run(alloc: Global, draws: &mut Draws, counts: &mut Counts, number: u16) -> Re
     Ok(())
 }
 
-#[test]
-fn schedules_of_the_server(rt: HostRuntime) -> Result<(), Fail> {
+// What happened in a thousand runs, in which both servers agreed.
+fn count_runs(alloc: Global) -> Result<Counts, Fail> {
     let mut draws = Draws(14);
     let mut counts = Counts {
         opened: 0,
@@ -184,13 +202,14 @@ fn schedules_of_the_server(rt: HostRuntime) -> Result<(), Fail> {
         busy: 0,
     };
     for number in 0..1000 {
-        run(rt.alloc(), &mut draws, &mut counts, number)?;
+        run(alloc, &mut draws, &mut counts, number)?;
     }
-    assert!(rt; counts.opened > 5000, "{}", counts.opened);
-    assert!(rt; counts.taken > 1000, "{}", counts.taken);
-    assert!(rt; counts.closed > 3000, "{}", counts.closed);
-    assert!(rt; counts.strays > 500, "{}", counts.strays);
-    assert!(rt; counts.unkept > 100, "{}", counts.unkept);
-    assert!(rt; counts.busy > 100, "{}", counts.busy);
+    Ok(counts)
+}
+
+#[test]
+fn schedules_of_the_server(rt: HostRuntime) -> Result<(), Fail> {
+    let counts = count_runs(rt.alloc())?;
+    assert_eq!(rt; counts.too_few(), None);
     Ok(())
 }

@@ -81,15 +81,13 @@ fn sends_block(out: &Option<Dgram>, blocks: Blocks, n: u16) -> bool {
     sends_data(out, n, &bytes[..size])
 }
 
-// Whether a sender answers these rows, of what it hears and the block that it sends then, and is in this state after
-// them.
+// Whether a sender answers these rows, of what it hears, the block that it sends then, and its state after that.
 fn plays_sender(
     sender: &mut Sender<Owned>,
     blocks: Blocks,
-    rows: &[(Heard, Option<u16>)],
-    state: SendState,
+    rows: &[(Heard, Option<u16>, SendState)],
 ) -> bool {
-    for (heard, answer) in rows {
+    for (heard, answer, state) in rows {
         let out = match *heard {
             Heard::Ack(n) => sender.on_ack(n),
             Heard::Nothing => sender.on_timeout(),
@@ -98,24 +96,33 @@ fn plays_sender(
             Some(n) => sends_block(&out, blocks, n),
             None => out.is_none(),
         };
-        if !is_right {
+        if !is_right || sender.state() != *state {
             return false;
         }
     }
-    sender.state() == state
+    true
 }
 
-// Whether a receiver answers these rows, of what it is given and the ACK that it sends then, and is in this state after
-// them. All DATA have this body.
+// Whether a new sender of these blocks sends the first of them, and then answers these rows.
+fn sends(
+    alloc: Global,
+    blocks: Blocks,
+    rows: &[(Heard, Option<u16>, SendState)],
+) -> Result<bool, Fail> {
+    let (mut sender, first) = start(alloc, blocks)?;
+    Ok(sends_block(&Some(first), blocks, 1) && plays_sender(&mut sender, blocks, rows))
+}
+
+// Whether a receiver answers these rows, of what it is given, the ACK that it sends then, and its state after that. All
+// DATA have this body.
 fn plays_receiver(
     receiver: &mut Receiver,
     body: &[u8],
-    rows: &[(Given, Option<u16>)],
-    state: RecvState,
+    rows: &[(Given, Option<u16>, RecvState)],
 ) -> bool
     requires { length body.now ≤ 512 }
 {
-    for (given, answer) in rows {
+    for (given, answer, state) in rows {
         let out = match *given {
             Given::Data(n) => receiver.on_data(n, body),
             Given::Nothing => Ok(receiver.on_timeout()),
@@ -125,11 +132,11 @@ fn plays_receiver(
             (Ok(out), None) => out.is_none(),
             (Err(_fault), _) => false,
         };
-        if !is_right {
+        if !is_right || receiver.state() != *state {
             return false;
         }
     }
-    receiver.state() == state
+    true
 }
 
 #[test]
@@ -138,68 +145,78 @@ fn a_repeated_ack_sends_nothing(rt: HostRuntime) -> Result<(), Fail> {
         count: 4,
         last: 464,
     };
-    let (mut sender, first) = start(rt.alloc(), blocks)?;
-    assert!(rt; is_data(&first, 1, &[1; 512]));
     let rows = [
-        (Heard::Ack(1), Some(2)),
-        (Heard::Ack(2), Some(3)),
-        (Heard::Ack(3), Some(4)),
-        (Heard::Ack(3), None),
-        (Heard::Ack(3), None),
-        (Heard::Ack(3), None),
-        (Heard::Ack(3), None),
-        (Heard::Nothing, Some(4)),
+        (Heard::Ack(1), Some(2), SendState::Running),
+        (Heard::Ack(2), Some(3), SendState::Running),
+        (Heard::Ack(3), Some(4), SendState::Running),
+        (Heard::Ack(3), None, SendState::Running),
+        (Heard::Ack(3), None, SendState::Running),
+        (Heard::Ack(3), None, SendState::Running),
+        (Heard::Ack(3), None, SendState::Running),
+        (Heard::Nothing, Some(4), SendState::Running),
+        (Heard::Ack(4), None, SendState::Finished),
+        (Heard::Ack(4), None, SendState::Finished),
+        (Heard::Nothing, None, SendState::Finished),
     ];
-    assert!(rt; plays_sender(&mut sender, blocks, &rows, SendState::Running));
-    let rows = [(Heard::Ack(4), None)];
-    assert!(rt; plays_sender(&mut sender, blocks, &rows, SendState::Finished));
-    let rows = [(Heard::Ack(4), None), (Heard::Nothing, None)];
-    assert!(rt; plays_sender(&mut sender, blocks, &rows, SendState::Finished));
+    assert!(rt; sends(rt.alloc(), blocks, &rows)?);
     Ok(())
+}
+
+// The rows of a sender of two blocks that gives up.
+fn rows_to_the_end() -> [(Heard, Option<u16>, SendState); 23] {
+    let wait = (Heard::Nothing, Some(1), SendState::Running);
+    let again = (Heard::Nothing, Some(2), SendState::Running);
+    let before = (Heard::Ack(0), None, SendState::Running);
+    let last = (Heard::Ack(1), None, SendState::Running);
+    let after = (Heard::Ack(3), None, SendState::Running);
+    [
+        wait,
+        wait,
+        wait,
+        wait,
+        (Heard::Ack(1), Some(2), SendState::Running),
+        again,
+        before,
+        last,
+        after,
+        again,
+        before,
+        last,
+        after,
+        again,
+        before,
+        last,
+        after,
+        again,
+        before,
+        last,
+        after,
+        (Heard::Nothing, None, SendState::TimedOut),
+        (Heard::Ack(2), None, SendState::TimedOut),
+    ]
 }
 
 // No other ACK than that of the current block is progress.
 #[test]
 fn a_sender_gives_up(rt: HostRuntime) -> Result<(), Fail> {
     let blocks = Blocks { count: 2, last: 88 };
-    let (mut sender, _) = start(rt.alloc(), blocks)?;
-    let rows = [
-        (Heard::Nothing, Some(1)),
-        (Heard::Nothing, Some(1)),
-        (Heard::Nothing, Some(1)),
-        (Heard::Nothing, Some(1)),
-        (Heard::Ack(1), Some(2)),
-    ];
-    assert!(rt; plays_sender(&mut sender, blocks, &rows, SendState::Running));
-    let rows = [
-        (Heard::Nothing, Some(2)),
-        (Heard::Ack(0), None),
-        (Heard::Ack(1), None),
-        (Heard::Ack(3), None),
-    ];
-    for _ in 0..4 {
-        assert!(rt; plays_sender(&mut sender, blocks, &rows, SendState::Running));
-    }
-    let rows = [(Heard::Nothing, None)];
-    assert!(rt; plays_sender(&mut sender, blocks, &rows, SendState::TimedOut));
-    let rows = [(Heard::Ack(2), None)];
-    assert!(rt; plays_sender(&mut sender, blocks, &rows, SendState::TimedOut));
+    assert!(rt; sends(rt.alloc(), blocks, &rows_to_the_end())?);
     Ok(())
 }
 
 // Whether a block of 512 bytes is sent, and its receiver waits for another.
 fn passes_the_whole_block(first: &Dgram, receiver: &mut Receiver) -> bool {
-    let rows = [(Given::Data(1), Some(1))];
+    let rows = [(Given::Data(1), Some(1), RecvState::Running)];
     is_data(first, 1, &[1; 512])
-        && plays_receiver(receiver, &[1; 512], &rows, RecvState::Running)
+        && plays_receiver(receiver, &[1; 512], &rows)
         && receiver.take_file().is_none()
 }
 
 // Whether an empty block follows, and both ends are through.
 fn passes_the_empty_block(sender: &mut Sender<Owned>, receiver: &mut Receiver) -> bool {
-    let rows = [(Given::Data(2), Some(2))];
+    let rows = [(Given::Data(2), Some(2), RecvState::Complete)];
     sends_data(&sender.on_ack(1), 2, b"")
-        && plays_receiver(receiver, b"", &rows, RecvState::Complete)
+        && plays_receiver(receiver, b"", &rows)
         && sender.on_ack(2).is_none()
         && sender.state() == SendState::Finished
 }
@@ -218,9 +235,12 @@ fn sends_on(receiver: &mut Receiver) -> bool {
 fn a_whole_block_and_an_empty_one(rt: HostRuntime) -> Result<(), Fail> {
     let (mut sender, first) = start(rt.alloc(), Blocks { count: 2, last: 0 })?;
     let mut receiver = Receiver::new(rt.alloc());
-    assert!(rt; passes_the_whole_block(&first, &mut receiver));
-    assert!(rt; passes_the_empty_block(&mut sender, &mut receiver));
-    assert!(rt; sends_on(&mut receiver));
+    let passed = (
+        passes_the_whole_block(&first, &mut receiver),
+        passes_the_empty_block(&mut sender, &mut receiver),
+        sends_on(&mut receiver),
+    );
+    assert_eq!(rt; passed, (true, true, true));
     Ok(())
 }
 
@@ -247,76 +267,80 @@ fn gives_file(alloc: Global, receiver: &mut Receiver) -> Result<bool, Fail> {
     Ok(receiver.take_file().is_none() && is_file(alloc, &received)?)
 }
 
+// Whether a new receiver that is given the file answers these rows, and then gives the file once.
+fn receives_file(alloc: Global, rows: &[(Given, Option<u16>, RecvState)]) -> Result<bool, Fail> {
+    let mut receiver = Receiver::new(alloc);
+    Ok(plays_receiver(&mut receiver, FILE, rows) && gives_file(alloc, &mut receiver)?)
+}
+
 #[test]
 fn a_file_is_given_once(rt: HostRuntime) -> Result<(), Fail> {
-    let mut receiver = Receiver::new(rt.alloc());
-    let rows = [(Given::Data(1), Some(1))];
-    assert!(rt; plays_receiver(&mut receiver, FILE, &rows, RecvState::Complete));
-    assert!(rt; gives_file(rt.alloc(), &mut receiver)?);
+    let rows = [(Given::Data(1), Some(1), RecvState::Complete)];
+    assert!(rt; receives_file(rt.alloc(), &rows)?);
     Ok(())
 }
 
 // The last block that comes again is acknowledged, but does not make the receiver wait longer.
 #[test]
 fn a_receiver_waits_after_the_last_block(rt: HostRuntime) -> Result<(), Fail> {
-    let mut receiver = Receiver::new(rt.alloc());
     let rows = [
-        (Given::Data(1), Some(1)),
-        (Given::Nothing, None),
-        (Given::Data(1), Some(1)),
-        (Given::Data(2), None),
+        (Given::Data(1), Some(1), RecvState::Complete),
+        (Given::Nothing, None, RecvState::Complete),
+        (Given::Data(1), Some(1), RecvState::Complete),
+        (Given::Data(2), None, RecvState::Complete),
+        (Given::Nothing, None, RecvState::Over),
+        (Given::Data(1), None, RecvState::Over),
+        (Given::Nothing, None, RecvState::Over),
     ];
-    assert!(rt; plays_receiver(&mut receiver, FILE, &rows, RecvState::Complete));
-    let rows = [(Given::Nothing, None)];
-    assert!(rt; plays_receiver(&mut receiver, FILE, &rows, RecvState::Over));
-    let rows = [(Given::Data(1), None), (Given::Nothing, None)];
-    assert!(rt; plays_receiver(&mut receiver, FILE, &rows, RecvState::Over));
-    assert!(rt; gives_file(rt.alloc(), &mut receiver)?);
+    assert!(rt; receives_file(rt.alloc(), &rows)?);
     Ok(())
 }
 
-// Whether a receiver goes on after four rounds of these rows.
-fn goes_on(receiver: &mut Receiver, rows: &[(Given, Option<u16>)]) -> bool {
-    for _ in 0..4 {
-        if !plays_receiver(receiver, &[1; 512], rows, RecvState::Running) {
-            return false;
-        }
-    }
-    true
-}
-
-// Whether a receiver gives up at the next time-out, for good and with no file.
-fn gives_up(receiver: &mut Receiver) -> bool {
-    let timeout = [(Given::Nothing, None)];
-    let next = [(Given::Data(2), None)];
-    plays_receiver(receiver, &[1; 512], &timeout, RecvState::TimedOut)
-        && plays_receiver(receiver, &[1; 512], &next, RecvState::TimedOut)
-        && receiver.take_file().is_none()
+// The rows of a receiver of full blocks that waits at this one, and is given others in vain.
+fn rows_of_a_wait(last: u16) -> [(Given, Option<u16>, RecvState); 12] {
+    let wait = (Given::Nothing, Some(last), RecvState::Running);
+    let again = (
+        Given::Data(last),
+        (last > 0).then_some(last),
+        RecvState::Running,
+    );
+    let other = (
+        Given::Data(last.saturating_add(2)),
+        None,
+        RecvState::Running,
+    );
+    [
+        wait, again, other, wait, again, other, wait, again, other, wait, again, other,
+    ]
 }
 
 // Only the next block is progress. Block 0 is none.
 #[test]
 fn a_receiver_gives_up(rt: HostRuntime) {
     let mut receiver = Receiver::new(rt.alloc());
-    let rows = [
-        (Given::Nothing, Some(0)),
-        (Given::Data(0), None),
-        (Given::Data(2), None),
+    let first = [(Given::Data(1), Some(1), RecvState::Running)];
+    let end = [
+        (Given::Nothing, None, RecvState::TimedOut),
+        (Given::Data(2), None, RecvState::TimedOut),
     ];
-    assert!(rt; goes_on(&mut receiver, &rows));
-    let rows = [(Given::Data(1), Some(1))];
-    assert!(rt; plays_receiver(&mut receiver, &[1; 512], &rows, RecvState::Running));
-    let rows = [(Given::Nothing, Some(1)), (Given::Data(1), Some(1))];
-    assert!(rt; goes_on(&mut receiver, &rows));
-    assert!(rt; gives_up(&mut receiver));
+    let played = (
+        plays_receiver(&mut receiver, &[1; 512], &rows_of_a_wait(0)),
+        plays_receiver(&mut receiver, &[1; 512], &first),
+        plays_receiver(&mut receiver, &[1; 512], &rows_of_a_wait(1)),
+        plays_receiver(&mut receiver, &[1; 512], &end),
+    );
+    assert_eq!(rt;
+        (played, receiver.take_file().is_none()),
+        ((true, true, true, true), true)
+    );
 }
 
 // Gives a receiver the 65,534 full blocks of the greatest file. Whether it goes on after each.
 fn takes_full_blocks(receiver: &mut Receiver) -> bool {
     for n in 1..65_535 {
-        let rows = [(Given::Data(n), Some(n))];
+        let rows = [(Given::Data(n), Some(n), RecvState::Running)];
         let body = [n.to_be_bytes()[1]; 512];
-        if !plays_receiver(receiver, &body, &rows, RecvState::Running) {
+        if !plays_receiver(receiver, &body, &rows) {
             return false;
         }
     }
@@ -325,18 +349,20 @@ fn takes_full_blocks(receiver: &mut Receiver) -> bool {
 
 // Whether one byte too many is refused, and the file ends without it.
 fn takes_the_last_block(receiver: &mut Receiver) -> bool {
-    let rows = [(Given::Data(65_535), Some(65_535))];
+    let rows = [(Given::Data(65_535), Some(65_535), RecvState::Complete)];
     receiver.on_data(65_535, &[255; 512]).err() == Some(RecvFault::TooLong)
         && receiver.state() == RecvState::Running
-        && plays_receiver(receiver, &[255; 511], &rows, RecvState::Complete)
+        && plays_receiver(receiver, &[255; 511], &rows)
 }
 
 // Whether no number follows that of the last block.
 fn is_past_all_numbers(receiver: &mut Receiver) -> bool {
-    let again = [(Given::Data(65_535), Some(65_535))];
-    let others = [(Given::Data(0), None), (Given::Data(1), None)];
-    plays_receiver(receiver, &[255; 511], &again, RecvState::Complete)
-        && plays_receiver(receiver, &[1; 512], &others, RecvState::Complete)
+    let again = [(Given::Data(65_535), Some(65_535), RecvState::Complete)];
+    let others = [
+        (Given::Data(0), None, RecvState::Complete),
+        (Given::Data(1), None, RecvState::Complete),
+    ];
+    plays_receiver(receiver, &[255; 511], &again) && plays_receiver(receiver, &[1; 512], &others)
 }
 
 // Whether each byte of the greatest file is the number of its block.
@@ -353,11 +379,14 @@ fn is_the_greatest(alloc: Global, received: &Received) -> Result<bool, Fail> {
 #[test]
 fn the_greatest_file(rt: HostRuntime) -> Result<(), Fail> {
     let mut receiver = Receiver::new(rt.alloc());
-    assert!(rt; takes_full_blocks(&mut receiver));
-    assert!(rt; takes_the_last_block(&mut receiver));
-    assert!(rt; is_past_all_numbers(&mut receiver));
+    let taken = (
+        takes_full_blocks(&mut receiver),
+        takes_the_last_block(&mut receiver),
+        is_past_all_numbers(&mut receiver),
+    );
     let received = receiver.take_file().ok_or("no file")?;
-    assert!(rt; is_the_greatest(rt.alloc(), &received)?);
+    let is_right = is_the_greatest(rt.alloc(), &received)?;
+    assert_eq!(rt; (taken, is_right), ((true, true, true), true));
     Ok(())
 }
 

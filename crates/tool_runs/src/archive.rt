@@ -82,9 +82,11 @@ fn a_put(rt: HostRuntime) -> Result<(), Fail> {
     let mut out = Vec::new(rt.alloc());
     let mut input = SOLUTION.as_slice();
     put_file(rt.alloc(), &mut input, &mut wire, SERVER, &mut out)?;
-    assert_eq!(rt; out.as_slice(), b"sent 28 bytes\n".as_slice());
     let (requests, blocks) = (sent(&wire, SERVER, WRQ), sent(&wire, PEER, DATA));
-    assert_eq!(rt; (requests, blocks, input.len()), (1, 1, 0));
+    assert_eq!(rt;
+        (out.as_slice(), requests, blocks, input.len()),
+        (b"sent 28 bytes\n".as_slice(), 1, 1, 0)
+    );
     Ok(())
 }
 
@@ -123,7 +125,7 @@ fn put_fault(rt: &HostRuntime, bytes: &[u8], wire: &mut MemoryWire) -> Result<To
 }
 
 #[test]
-fn puts_that_send_nothing(rt: HostRuntime) -> Result<(), Fail> {
+fn a_put_of_no_file(rt: HostRuntime) -> Result<(), Fail> {
     let mut wire = answered(&rt, &[])?;
     let unreadable = ToolFault::Unreadable {
         index: 0,
@@ -131,7 +133,12 @@ fn puts_that_send_nothing(rt: HostRuntime) -> Result<(), Fail> {
     };
     let fault = put_fault(&rt, &SOLUTION[..27], &mut wire)?;
     assert_eq!(rt; (fault, wire.log().len()), (unreadable, 0));
+    Ok(())
+}
 
+#[test]
+fn a_put_that_opens_no_socket(rt: HostRuntime) -> Result<(), Fail> {
+    let mut wire = answered(&rt, &[])?;
     wire.fail_at(1);
     let fault = put_fault(&rt, &SOLUTION, &mut wire)?;
     assert_eq!(rt; (fault, wire.log().len()), (ToolFault::Socket, 1));
@@ -151,8 +158,8 @@ fn a_put_that_is_refused(rt: HostRuntime) -> Result<(), Fail> {
 fn a_put_that_is_not_answered(rt: HostRuntime) -> Result<(), Fail> {
     let mut wire = answered(&rt, &[])?;
     let timed_out = ToolFault::Transfer(Cause::TimedOut);
-    assert_eq!(rt; put_fault(&rt, &SOLUTION, &mut wire)?, timed_out);
-    assert_eq!(rt; sent(&wire, SERVER, WRQ), 5);
+    let fault = put_fault(&rt, &SOLUTION, &mut wire)?;
+    assert_eq!(rt; (fault, sent(&wire, SERVER, WRQ)), (timed_out, 5));
     Ok(())
 }
 
@@ -170,28 +177,34 @@ fn a_put_that_is_too_long(rt: HostRuntime) -> Result<(), Fail> {
     let bytes = named(&rt, 33_553_908)?;
     let mut wire = answered(&rt, &[])?;
     let too_long = ToolFault::Transfer(Cause::TooLong);
-    assert_eq!(rt; put_fault(&rt, &bytes, &mut wire)?, too_long);
-    assert_eq!(rt; sent(&wire, SERVER, WRQ), 0);
+    let fault = put_fault(&rt, &bytes, &mut wire)?;
+    assert_eq!(rt; (fault, sent(&wire, SERVER, WRQ)), (too_long, 0));
     Ok(())
+}
+
+// What a put of this input answers, how many calls it makes of its wire, and how many bytes it prints.
+fn put_of<R: io::Read>(
+    rt: &HostRuntime,
+    input: &mut R,
+) -> Result<(Result<(), ToolFault>, usize, usize), Fail> {
+    let mut wire = answered(rt, &[])?;
+    let mut out = Vec::new(rt.alloc());
+    let done = put_file(rt.alloc(), input, &mut wire, SERVER, &mut out);
+    Ok((done, wire.log().len(), out.len()))
 }
 
 #[test]
 fn a_put_of_an_input_that_does_not_end(rt: HostRuntime) -> Result<(), Fail> {
-    let mut wire = answered(&rt, &[])?;
-    let mut out = Vec::new(rt.alloc());
     let mut input = Drops { left: u32::MAX };
-    let done = put_file(rt.alloc(), &mut input, &mut wire, SERVER, &mut out);
+    let put = put_of(&rt, &mut input)?;
     let left = u32::MAX - INPUT_READS;
-    assert_eq!(rt; (done, input.left), (Err(ToolFault::Read), left));
-    assert_eq!(rt; (wire.log().len(), out.len()), (0, 0));
+    assert_eq!(rt; (put, input.left), ((Err(ToolFault::Read), 0, 0), left));
     Ok(())
 }
 
 // The last read that is allowed finds the end.
 #[test]
 fn a_put_of_an_input_that_ends_at_the_last_read(rt: HostRuntime) -> Result<(), Fail> {
-    let mut wire = answered(&rt, &[])?;
-    let mut out = Vec::new(rt.alloc());
     let mut input = Drops {
         left: INPUT_READS - 1,
     };
@@ -199,9 +212,7 @@ fn a_put_of_an_input_that_ends_at_the_last_read(rt: HostRuntime) -> Result<(), F
         index: 0,
         fault: FileFault::BadSignature,
     };
-    let done = put_file(rt.alloc(), &mut input, &mut wire, SERVER, &mut out);
-    assert_eq!(rt; done, Err(fault));
-    assert_eq!(rt; (wire.log().len(), out.len()), (0, 0));
+    assert_eq!(rt; put_of(&rt, &mut input)?, (Err(fault), 0, 0));
     Ok(())
 }
 
@@ -213,27 +224,19 @@ fn a_put_of_an_input_that_breaks(rt: HostRuntime) -> Result<(), Fail> {
         (Some(&SOLUTION[..10]), io::ErrorKind::Other),
         (Some(&SOLUTION[..]), io::ErrorKind::OutOfMemory),
     ] {
-        let mut wire = answered(&rt, &[])?;
-        let mut out = Vec::new(rt.alloc());
         let mut input = Breaks { bytes, kind };
-        let done = put_file(rt.alloc(), &mut input, &mut wire, SERVER, &mut out);
-        let sizes = (wire.log().len(), out.len());
-        assert_eq!(rt; (done, sizes), (Err(ToolFault::Read), (0, 0)));
+        assert_eq!(rt; put_of(&rt, &mut input)?, (Err(ToolFault::Read), 0, 0));
     }
     Ok(())
 }
 
 #[test]
 fn a_put_of_an_input_that_stumbles(rt: HostRuntime) -> Result<(), Fail> {
-    let mut wire = answered(&rt, &[])?;
-    let mut out = Vec::new(rt.alloc());
     let mut input = Stumbles {
         bytes: &SOLUTION,
         has_failed: false,
     };
-    let done = put_file(rt.alloc(), &mut input, &mut wire, SERVER, &mut out);
-    let sizes = (wire.log().len(), out.len());
-    assert_eq!(rt; (done, sizes), (Err(ToolFault::Read), (0, 0)));
+    assert_eq!(rt; put_of(&rt, &mut input)?, (Err(ToolFault::Read), 0, 0));
     Ok(())
 }
 
@@ -252,10 +255,11 @@ fn a_get(rt: HostRuntime) -> Result<(), Fail> {
         &mut file,
         &mut out,
     )?;
-    assert_eq!(rt; out.as_slice(), b"got 28 bytes\n".as_slice());
-    assert_eq!(rt; file.as_slice(), SOLUTION.as_slice());
     let (requests, acks) = (sent(&wire, SERVER, RRQ), sent(&wire, PEER, ACK_1));
-    assert_eq!(rt; (requests, acks), (1, 1));
+    assert_eq!(rt;
+        (file.as_slice(), out.as_slice(), requests, acks),
+        (SOLUTION.as_slice(), b"got 28 bytes\n".as_slice(), 1, 1)
+    );
     Ok(())
 }
 
@@ -298,8 +302,10 @@ fn a_get_to_a_file_that_fails(rt: HostRuntime) -> Result<(), Fail> {
         &mut file,
         &mut out,
     );
-    assert_eq!(rt; (done, out.len()), (Err(ToolFault::Write), 0));
-    assert_eq!(rt; Some(space.as_slice()), SOLUTION.get(..27));
+    assert_eq!(rt;
+        (done, out.len(), Some(space.as_slice())),
+        (Err(ToolFault::Write), 0, SOLUTION.get(..27))
+    );
     Ok(())
 }
 
@@ -352,8 +358,8 @@ fn a_get_by_its_arguments(rt: HostRuntime) -> Result<(), Fail> {
 fn a_get_that_is_not_answered(rt: HostRuntime) -> Result<(), Fail> {
     let mut wire = answered(&rt, &[])?;
     let timed_out = ToolFault::Transfer(Cause::TimedOut);
-    assert_eq!(rt; get_fault(&rt, &mut wire)?, timed_out);
-    assert_eq!(rt; sent(&wire, SERVER, RRQ), 5);
+    let fault = get_fault(&rt, &mut wire)?;
+    assert_eq!(rt; (fault, sent(&wire, SERVER, RRQ)), (timed_out, 5));
     Ok(())
 }
 
@@ -418,8 +424,9 @@ fn serve_with_room(rt: &HostRuntime, waits: bool, room: usize) -> Result<bool, F
 #[test]
 fn serving_that_is_not_said(rt: HostRuntime) -> Result<(), Fail> {
     for room in 0..LINES.len() {
-        assert!(rt; serve_with_room(&rt, false, room)?, "turns, {room}");
-        assert!(rt; serve_with_room(&rt, true, room)?, "rounds, {room}");
+        let turns = serve_with_room(&rt, false, room)?;
+        let rounds = serve_with_room(&rt, true, room)?;
+        assert_eq!(rt; (turns, rounds), (true, true), "{room}");
     }
     Ok(())
 }

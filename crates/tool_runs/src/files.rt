@@ -24,8 +24,10 @@ const LISTING: &str =
 #[test]
 fn show_lists_a_file(rt: HostRuntime) -> Result<(), Fail> {
     let outcome = run(&rt, &["tws", "show"], &SOLUTION)?;
-    assert_eq!(rt; outcome.out.as_slice(), LISTING.as_bytes());
-    assert_eq!(rt; (outcome.status, outcome.errors.is_empty()), (0, true));
+    assert_eq!(rt;
+        (outcome.status, outcome.out.as_slice(), outcome.errors.len()),
+        (0, LISTING.as_bytes(), 0)
+    );
     Ok(())
 }
 
@@ -34,8 +36,10 @@ fn show_lists_moves(rt: HostRuntime) -> Result<(), Fail> {
     let outcome = run(&rt, &["tws", "show", "--moves"], &MOVED)?;
     let listing =
         "ruleset lynx word 0000 extra 0\nlevel 1 BDHP ticks 100 flags 00 start 00 seed 0 bytes 2\n at 3 step 0\n at 7 step 0\n at 11 step 0\n at 15 step 0\nrecords 1\n";
-    assert_eq!(rt; outcome.out.as_slice(), listing.as_bytes());
-    assert_eq!(rt; outcome.status, 0);
+    assert_eq!(rt;
+        (outcome.status, outcome.out.as_slice()),
+        (0, listing.as_bytes())
+    );
     Ok(())
 }
 
@@ -60,10 +64,12 @@ fn long_moves(rt: &HostRuntime) -> Result<Vec<u8>, Fail> {
 fn pack_writes_the_fewest_bytes(rt: HostRuntime) -> Result<(), Fail> {
     let bytes = long_moves(&rt)?;
     let outcome = run(&rt, &["tws", "pack"], &bytes)?;
-    assert_eq!(rt; (outcome.status, outcome.out.len()), (0, 30));
     let size = outcome.out.get(8).copied();
     let moves = outcome.out.get(28..);
-    assert_eq!(rt; (size, moves), (Some(0x12), Some([0x00, 0x61].as_slice())));
+    assert_eq!(rt;
+        (outcome.status, outcome.out.len(), size, moves),
+        (0, 30, Some(0x12), Some([0x00, 0x61].as_slice()))
+    );
     Ok(())
 }
 
@@ -105,6 +111,20 @@ fn best_has_no_solution_of_other_rules(rt: HostRuntime) -> Result<(), Fail> {
     Ok(())
 }
 
+// What `best` answers to these inputs, and how many bytes it writes.
+fn best_of<R: io::Read>(rt: &HostRuntime, files: &mut [R]) -> (Result<(), ToolFault>, usize) {
+    let mut out = Vec::new(rt.alloc());
+    let done = run_best(rt.alloc(), Ruleset::Lynx, files, &mut out);
+    (done, out.len())
+}
+
+// What `show` answers to this input, and how many bytes it writes.
+fn show_of<R: io::Read>(rt: &HostRuntime, input: &mut R) -> (Result<(), ToolFault>, usize) {
+    let mut out = Vec::new(rt.alloc());
+    let done = run_show(rt.alloc(), input, &mut out, false);
+    (done, out.len())
+}
+
 #[test]
 fn best_names_the_first_unreadable_input(rt: HostRuntime) -> Result<(), Fail> {
     let mut files = [
@@ -112,16 +132,11 @@ fn best_names_the_first_unreadable_input(rt: HostRuntime) -> Result<(), Fail> {
         CUT.as_slice(),
         SOLUTION.get(..7).unwrap_or(&[]),
     ];
-    let mut out = Vec::new(rt.alloc());
     let fault = ToolFault::Unreadable {
         index: 1,
         fault: FileFault::MoveCut(29),
     };
-    assert_eq!(rt;
-        run_best(rt.alloc(), Ruleset::Lynx, &mut files, &mut out),
-        Err(fault)
-    );
-    assert!(rt; out.is_empty());
+    assert_eq!(rt; best_of(&rt, &mut files), (Err(fault), 0));
     Ok(())
 }
 
@@ -185,8 +200,10 @@ fn an_input_that_fails(rt: HostRuntime) -> Result<(), Fail> {
     let mut out = Vec::new(rt.alloc());
     let mut errors = Vec::new(rt.alloc());
     let status = run_words(&rt, rt.alloc(), &words, &mut Broken, &mut out, &mut errors);
-    assert_eq!(rt; (status, out.is_empty()), (2, true));
-    assert_eq!(rt; errors.as_slice(), b"tws: read fault\n".as_slice());
+    assert_eq!(rt;
+        (status, out.len(), errors.as_slice()),
+        (2, 0, b"tws: read fault\n".as_slice())
+    );
     Ok(())
 }
 
@@ -203,8 +220,10 @@ fn an_output_that_fails(rt: HostRuntime) -> Result<(), Fail> {
         &mut Broken,
         &mut errors,
     );
-    assert_eq!(rt; status, 2);
-    assert_eq!(rt; errors.as_slice(), b"tws: write fault\n".as_slice());
+    assert_eq!(rt;
+        (status, errors.as_slice()),
+        (2, b"tws: write fault\n".as_slice())
+    );
     Ok(())
 }
 
@@ -222,11 +241,11 @@ fn show_to_a_writer_with_little_room(rt: HostRuntime) {
         let mut room = [0u8; 58];
         let mut out = &mut room[..j];
         let mut input = UNSOLVED.as_slice();
+        let done = run_show(rt.alloc(), &mut input, &mut out, false);
         assert_eq!(rt;
-            run_show(rt.alloc(), &mut input, &mut out, false),
-            Err(ToolFault::Write)
+            (done, room.get(..j)),
+            (Err(ToolFault::Write), listing.get(..j))
         );
-        assert_eq!(rt; room.get(..j), listing.get(..j));
     }
 }
 
@@ -238,64 +257,47 @@ const UNSIGNED: [u8; 8] = [0x35, 0x33, 0x9B, 0x98, 2, 0, 0, 0];
 #[test]
 fn an_input_that_breaks(rt: HostRuntime) {
     for bytes in [&SOLUTION[..10], &SOLUTION[..8], &UNSIGNED[..8]] {
-        let mut out = Vec::new(rt.alloc());
         let mut input = Breaks {
             bytes: Some(bytes),
             kind: io::ErrorKind::Other,
         };
-        assert_eq!(rt;
-            run_show(rt.alloc(), &mut input, &mut out, false),
-            Err(ToolFault::Read)
-        );
-        assert!(rt; out.is_empty());
+        assert_eq!(rt; show_of(&rt, &mut input), (Err(ToolFault::Read), 0));
     }
 }
 
 // An input that failed is not read again, though it would give a whole file then.
 #[test]
 fn an_input_that_stumbles(rt: HostRuntime) {
-    let mut out = Vec::new(rt.alloc());
     let mut input = Stumbles {
         bytes: &SOLUTION,
         has_failed: false,
     };
-    assert_eq!(rt;
-        run_show(rt.alloc(), &mut input, &mut out, false),
-        Err(ToolFault::Read)
-    );
-    assert!(rt; out.is_empty());
+    assert_eq!(rt; show_of(&rt, &mut input), (Err(ToolFault::Read), 0));
 }
 
 #[test]
 fn show_answers_its_faults(rt: HostRuntime) {
-    let mut out = Vec::new(rt.alloc());
     let mut input = &SOLUTION[..9];
     let fault = ToolFault::Unreadable {
         index: 0,
         fault: FileFault::ShortRecord(8),
     };
-    assert_eq!(rt;
-        run_show(rt.alloc(), &mut input, &mut out, false),
-        Err(fault)
-    );
+    assert_eq!(rt; show_of(&rt, &mut input), (Err(fault), 0));
 }
 
 #[test]
 fn an_input_that_does_not_end(rt: HostRuntime) {
-    let mut out = Vec::new(rt.alloc());
     let mut input = Drops { left: u32::MAX };
+    let shown = show_of(&rt, &mut input);
     assert_eq!(rt;
-        run_show(rt.alloc(), &mut input, &mut out, false),
-        Err(ToolFault::Read)
+        (shown, input.left),
+        ((Err(ToolFault::Read), 0), u32::MAX - INPUT_READS)
     );
-    assert_eq!(rt; input.left, u32::MAX - INPUT_READS);
-    assert!(rt; out.is_empty());
 }
 
 // The last read that is allowed finds the end.
 #[test]
 fn an_input_that_ends_at_the_last_read(rt: HostRuntime) {
-    let mut out = Vec::new(rt.alloc());
     let mut input = Drops {
         left: INPUT_READS - 1,
     };
@@ -303,11 +305,7 @@ fn an_input_that_ends_at_the_last_read(rt: HostRuntime) {
         index: 0,
         fault: FileFault::BadSignature,
     };
-    assert_eq!(rt;
-        run_show(rt.alloc(), &mut input, &mut out, false),
-        Err(fault)
-    );
-    assert!(rt; out.is_empty());
+    assert_eq!(rt; show_of(&rt, &mut input), (Err(fault), 0));
 }
 
 // Gives bytes, or fails.
@@ -328,29 +326,18 @@ impl io::Read for Input<'_> {
 
 #[test]
 fn best_answers_the_first_input_that_fails(rt: HostRuntime) {
-    let mut out = Vec::new(rt.alloc());
-    let unsigned = [0x35, 0x33, 0x9B, 0x98, 2, 0, 0, 0];
     let fault = ToolFault::Unreadable {
         index: 0,
         fault: FileFault::BadSignature,
     };
-    let mut files = [Input::Whole(&unsigned), Input::Failing];
-    assert_eq!(rt;
-        run_best(rt.alloc(), Ruleset::Lynx, &mut files, &mut out),
-        Err(fault)
-    );
-    assert!(rt; out.is_empty());
+    let mut files = [Input::Whole(&UNSIGNED), Input::Failing];
+    assert_eq!(rt; best_of(&rt, &mut files), (Err(fault), 0));
 }
 
 #[test]
 fn best_answers_a_later_input_that_fails(rt: HostRuntime) {
-    let mut out = Vec::new(rt.alloc());
     let mut files = [Input::Whole(&SOLUTION), Input::Failing];
-    assert_eq!(rt;
-        run_best(rt.alloc(), Ruleset::Lynx, &mut files, &mut out),
-        Err(ToolFault::Read)
-    );
-    assert!(rt; out.is_empty());
+    assert_eq!(rt; best_of(&rt, &mut files), (Err(ToolFault::Read), 0));
 }
 
 // A Lynx file of so many records, which say only that a level has a password, and its listing.
@@ -370,11 +357,11 @@ fn show_to_a_writer_that_fails_late(rt: HostRuntime) -> Result<(), Fail> {
     let mut room = [0u8; 70_000];
     let mut out = room.as_mut_slice();
     let mut input = bytes.as_slice();
+    let done = run_show(rt.alloc(), &mut input, &mut out, false);
     assert_eq!(rt;
-        run_show(rt.alloc(), &mut input, &mut out, false),
-        Err(ToolFault::Write)
+        (done, Some(room.as_slice())),
+        (Err(ToolFault::Write), listing.get(..70_000))
     );
-    assert_eq!(rt; Some(room.as_slice()), listing.get(..70_000));
     Ok(())
 }
 
@@ -386,7 +373,9 @@ fn help_to_a_full_writer(rt: HostRuntime) -> Result<(), Fail> {
     let mut input = SOLUTION.as_slice();
     let mut errors = Vec::new(rt.alloc());
     let status = run_words(&rt, rt.alloc(), &words, &mut input, &mut out, &mut errors);
-    assert_eq!(rt; (status, room), (2, *b"Lists, pac"));
-    assert_eq!(rt; errors.as_slice(), b"tws: write fault\n".as_slice());
+    assert_eq!(rt;
+        (status, room, errors.as_slice()),
+        (2, *b"Lists, pac", b"tws: write fault\n".as_slice())
+    );
     Ok(())
 }

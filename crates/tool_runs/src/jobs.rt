@@ -13,16 +13,26 @@ fn job(rt: &HostRuntime, words: &[&str]) -> Result<Result<Job, JobFault>, Fail> 
     Ok(job_of(rt.alloc(), &owned))
 }
 
+// Whether these words ask for a listing, with moves or without.
+fn is_show(rt: &HostRuntime, words: &[&str], with_moves: bool) -> Result<bool, Fail> {
+    match job(rt, words)? {
+        Ok(Job::Show { moves }) => Ok(moves == with_moves),
+        _ => Ok(false),
+    }
+}
+
+fn is_pack(rt: &HostRuntime, words: &[&str]) -> Result<bool, Fail> {
+    Ok(matches!(job(rt, words)?, Ok(Job::Pack)))
+}
+
 #[test]
 fn show_and_pack(rt: HostRuntime) -> Result<(), Fail> {
-    assert!(rt; matches!(job(&rt, &["show"])?, Ok(Job::Show { moves: false })));
-    assert!(rt;
-        matches!(
-            job(&rt, &["show", "--moves"])?,
-            Ok(Job::Show { moves: true })
-        )
+    let are_right = (
+        is_show(&rt, &["show"], false)?,
+        is_show(&rt, &["show", "--moves"], true)?,
+        is_pack(&rt, &["pack"])?,
     );
-    assert!(rt; matches!(job(&rt, &["pack"])?, Ok(Job::Pack)));
+    assert_eq!(rt; are_right, (true, true, true));
     Ok(())
 }
 
@@ -31,12 +41,11 @@ fn best(rt: HostRuntime) -> Result<(), Fail> {
     let Ok(Job::Best { rules, files }) = job(&rt, &["best", "ms", "b", "a", "b"])? else {
         return Err(Fail::new("another job"));
     };
-    assert_eq!(rt; rules, Ruleset::Ms);
     let [first, second, third] = files.as_slice() else {
         return Err(Fail::new("other files"));
     };
     let names = (first.as_str(), second.as_str(), third.as_str());
-    assert_eq!(rt; names, ("b", "a", "b"));
+    assert_eq!(rt; (rules, names), (Ruleset::Ms, ("b", "a", "b")));
     Ok(())
 }
 
@@ -45,8 +54,7 @@ fn serve(rt: HostRuntime) -> Result<(), Fail> {
     let Ok(Job::Serve { port, turns, dir }) = job(&rt, &["serve"])? else {
         return Err(Fail::new("another job"));
     };
-    assert_eq!(rt; (port, turns), (6969, 1_000_000_000));
-    assert!(rt; dir.is_none());
+    assert_eq!(rt; (port, turns, dir.is_none()), (6969, 1_000_000_000, true));
     Ok(())
 }
 
@@ -80,8 +88,10 @@ fn get(rt: HostRuntime) -> Result<(), Fail> {
         return Err(Fail::new("another job"));
     };
     let (address, file) = (target.address.as_str(), target.file.as_str());
-    assert_eq!(rt; rules, Ruleset::Lynx);
-    assert_eq!(rt; (address, file, target.port), ("5.6.7.8", "b.tws", 70));
+    assert_eq!(rt;
+        (rules, address, file, target.port),
+        (Ruleset::Lynx, "5.6.7.8", "b.tws", 70)
+    );
     Ok(())
 }
 
@@ -95,13 +105,14 @@ fn message(rt: &HostRuntime, words: &[&str]) -> Result<(ErrorKind, bool), Fail> 
 
 #[test]
 fn words_without_a_job(rt: HostRuntime) -> Result<(), Fail> {
+    let help = message(&rt, &["help", "put"])?;
+    let unknown = message(&rt, &["list"])?;
     assert_eq!(rt;
-        message(&rt, &["help", "put"])?,
-        (ErrorKind::DisplayHelp, false)
-    );
-    assert_eq!(rt;
-        message(&rt, &["list"])?,
-        (ErrorKind::InvalidSubcommand, true)
+        (help, unknown),
+        (
+            (ErrorKind::DisplayHelp, false),
+            (ErrorKind::InvalidSubcommand, true)
+        )
     );
     Ok(())
 }

@@ -38,8 +38,15 @@ fn best_of_files(rt: HostRuntime) -> Result<(), Fail> {
     let ms = run(&rt, &["tws", "best", "ms", &slow, &fast], &[])?;
     remove(&rt, &slow, &fast)?;
     let empty = [0x35, 0x33, 0x9B, 0x99, 2, 0, 0, 0];
-    assert_eq!(rt; (lynx.status, lynx.out.as_slice()), (0, FASTER.as_slice()));
-    assert_eq!(rt; (ms.status, ms.out.as_slice()), (0, empty.as_slice()));
+    assert_eq!(rt;
+        (
+            lynx.status,
+            lynx.out.as_slice(),
+            ms.status,
+            ms.out.as_slice()
+        ),
+        (0, FASTER.as_slice(), 0, empty.as_slice())
+    );
     Ok(())
 }
 
