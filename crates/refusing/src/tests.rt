@@ -37,8 +37,10 @@ fn refuses_the_first_push_alone(rt: HostRuntime) {
 fn refuses_nothing_at_zero(rt: HostRuntime) -> Result<(), Fail> {
     let refusing = Refusing::new(rt.alloc(), 0);
     let lengths = lengths(&refusing)?;
-    assert_eq!(rt; lengths.as_slice(), [3, 5].as_slice());
-    assert_eq!(rt; state(&refusing), (false, 3));
+    assert_eq!(rt;
+        (lengths.as_slice(), state(&refusing)),
+        ([3, 5].as_slice(), (false, 3))
+    );
     Ok(())
 }
 
@@ -88,9 +90,14 @@ fn passes_on_what_the_inner_allocator_refuses(rt: HostRuntime) {
     let by_outer = (state(&inner), state(&outer));
     let third = is_granted(&outer);
     let at_last = (state(&inner), state(&outer));
-    assert_eq!(rt; (first, by_inner), (false, ((true, 1), (false, 1))));
-    assert_eq!(rt; (second, by_outer), (false, ((true, 1), (true, 2))));
-    assert_eq!(rt; (third, at_last), (true, ((true, 2), (true, 3))));
+    assert_eq!(rt;
+        ((first, by_inner), (second, by_outer), (third, at_last)),
+        (
+            (false, ((true, 1), (false, 1))),
+            (false, ((true, 1), (true, 2))),
+            (true, ((true, 2), (true, 3)))
+        )
+    );
 }
 
 #[test]
@@ -114,22 +121,20 @@ fn each_request_is_refused_in_turn(rt: HostRuntime) -> Result<(), Fail> {
 // What a run that takes no memory is told, by what it gives.
 #[test]
 fn complaints(rt: HostRuntime) {
-    let alloc = rt.alloc();
-    assert_eq!(rt;
-        refuse_each(alloc, 0, &|_: &Refusing<Global>| Outcome::Right),
-        Ok(())
+    let gives = (
+        refuse_each(rt.alloc(), 0, &|_: &Refusing<Global>| Outcome::Right),
+        refuse_each(rt.alloc(), 1, &|_: &Refusing<Global>| Outcome::Right),
+        refuse_each(rt.alloc(), 0, &|_: &Refusing<Global>| Outcome::Wrong),
+        refuse_each(rt.alloc(), 0, &|_: &Refusing<Global>| Outcome::OutOfMemory),
     );
     assert_eq!(rt;
-        refuse_each(alloc, 1, &|_: &Refusing<Global>| Outcome::Right),
-        Err(Complaint::TooFew)
-    );
-    assert_eq!(rt;
-        refuse_each(alloc, 0, &|_: &Refusing<Global>| Outcome::Wrong),
-        Err(Complaint::WrongAnswer)
-    );
-    assert_eq!(rt;
-        refuse_each(alloc, 0, &|_: &Refusing<Global>| Outcome::OutOfMemory),
-        Err(Complaint::NoRefusal)
+        gives,
+        (
+            Ok(()),
+            Err(Complaint::TooFew),
+            Err(Complaint::WrongAnswer),
+            Err(Complaint::NoRefusal)
+        )
     );
 }
 
@@ -173,11 +178,22 @@ fn asks_in_vain(refusing: &Refusing<Global>) -> Outcome {
     Outcome::Right
 }
 
+// The same, but forgetful only while the first request is refused.
+fn forgets_at_first(refusing: &Refusing<Global>) -> Outcome {
+    if refusing.nth == 1 {
+        asks_and_forgets(refusing)
+    } else {
+        asks(refusing)
+    }
+}
+
 #[test]
 fn runs_that_meet_a_refusal_are_judged(rt: HostRuntime) {
-    assert_eq!(rt;
+    let judged = (
         refuse_each(rt.alloc(), 1, &asks_and_forgets),
-        Err(Complaint::WrongAnswer)
+        refuse_each(rt.alloc(), 1, &forgets_at_first),
+        refuse_each(rt.alloc(), 1, &asks_in_vain),
     );
-    assert_eq!(rt; refuse_each(rt.alloc(), 1, &asks_in_vain), Ok(()));
+    let wrong = Err(Complaint::WrongAnswer);
+    assert_eq!(rt; judged, (wrong, wrong, Ok(())));
 }
