@@ -169,14 +169,25 @@ fn get(
     }
 }
 
-// What a new server gives after a put of this file, which it takes once.
-fn fetched_after_put(alloc: Global, file: Vec<u8>, times: u8) -> Result<Vec<u8>, Fail> {
-    let mut server = Server::new(alloc, 6969);
-    let mut wire = wire_of(alloc, &[4000, 4001, 4002, 4003])?;
-    if put(alloc, &mut server, &mut wire, file, times)? != 1 {
+// What a server gives after a put of this file, which it takes once.
+fn get_after_put(
+    alloc: Global,
+    server: &mut Server,
+    wire: &mut MemoryWire,
+    file: Vec<u8>,
+    times: u8,
+) -> Result<Vec<u8>, Fail> {
+    if put(alloc, server, wire, file, times)? != 1 {
         return Err(Fail::new("not taken once"));
     }
-    get(alloc, &mut server, &mut wire, times)
+    get(alloc, server, wire, times)
+}
+
+// The same of a new server.
+fn fetched_after_put(alloc: Global, file: Vec<u8>, times: u8) -> Result<Vec<u8>, Fail> {
+    let mut wire = wire_of(alloc, &[4000, 4001, 4002, 4003])?;
+    let mut server = Server::new(alloc, 6969);
+    get_after_put(alloc, &mut server, &mut wire, file, times)
 }
 
 // A put and a get of a file with so many bytes of records. What is fetched is the file, or no more than its header where

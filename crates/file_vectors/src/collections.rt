@@ -112,11 +112,11 @@ pub(crate) fn has_text(alloc: Global, collection: &Collection, wanted: &[u8]) ->
 // Whether the files, merged one after the other into a collection of this ruleset, give this text.
 fn are_merged_to(
     alloc: Global,
-    rules: Ruleset,
+    kind: Ruleset,
     files: &[&[u8]],
     wanted: &[u8],
 ) -> Result<bool, Fail> {
-    let mut collection = Collection::new(alloc, rules);
+    let mut collection = Collection::new(alloc, kind);
     for file in files {
         merge(alloc, &mut collection, file)?;
     }

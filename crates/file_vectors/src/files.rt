@@ -3,9 +3,7 @@ ghost use Rattle.std.specs.Prelude.{◌<◌, length};
 
 use std::alloc::Allocator;
 use std::test::Fail;
-use tws_file::{
-    FileFault, Key, OutFault, Record, Ruleset, TwsFile, pack, read_file, show, write_file,
-};
+use tws_file::{FileFault, Key, OutFault, Record, TwsFile, pack, read_file, show, write_file};
 
 pub(crate) const LYNX: [u8; 8] = [0x35, 0x33, 0x9B, 0x99, 0x01, 0x00, 0x00, 0x00];
 
@@ -22,15 +20,19 @@ pub(crate) fn join<A: Allocator>(alloc: A, header: &[u8], rest: &[u8]) -> Result
     Ok(bytes)
 }
 
+fn shown<A: Allocator + Copy>(alloc: A, bytes: &[u8], moves: bool) -> Result<Vec<u8, A>, Fail> {
+    let file = read_file(alloc, bytes)?;
+    let mut out = Vec::new(alloc);
+    show(alloc, &file, moves, &mut out)?;
+    Ok(out)
+}
+
 fn listing_with<A: Allocator + Copy>(
     alloc: A,
     bytes: &[u8],
     moves: bool,
 ) -> Result<String<A>, Fail> {
-    let file = read_file(alloc, bytes)?;
-    let mut out = Vec::new(alloc);
-    show(alloc, &file, moves, &mut out)?;
-    Ok(String::from_utf8(out)?)
+    Ok(String::from_utf8(shown(alloc, bytes, moves)?)?)
 }
 
 fn listing<A: Allocator + Copy>(alloc: A, bytes: &[u8]) -> Result<String<A>, Fail> {
@@ -279,47 +281,50 @@ const EXTENDED: [u8; 29] = [
     0x50, 0x00, 0x00, 0x00, 0x00, 0x00, 0x00, 0x64, 0x00, 0x00, 0x00,
 ];
 
+// The code of a file's rules, its word, and how many further bytes its header has.
+fn header_of<A: Allocator>(file: &TwsFile<A>) -> (u8, [u8; 2], usize) {
+    (file.ruleset.code(), file.word, file.extra.len())
+}
+
+// The key of a file's only record, a solution, and whether it has no moves.
+fn only_solution<A: Allocator>(file: &TwsFile<A>) -> Option<(Key, bool)> {
+    match file.records.as_slice() {
+        [Record::Solution(solution)] => Some((solution.key, solution.moves.is_empty())),
+        _ => None,
+    }
+}
+
 #[test]
-fn the_header_is_handed_out(rt: HostRuntime) -> Result<(), Fail> {
+fn a_file_is_handed_out(rt: HostRuntime) -> Result<(), Fail> {
+    let key = Key {
+        number: 1,
+        password: *b"BDHP",
+    };
     let file = read_file(rt.alloc(), &EXTENDED)?;
-    let extra = (
-        file.extra.as_slice(),
-        file.extra.len(),
-        file.extra.is_empty(),
-    );
     assert_eq!(rt;
-        (file.ruleset, file.ruleset.code(), file.word, extra),
-        (Ruleset::Lynx, 1, [7, 8], (&[0x21][..], 1, false))
+        (header_of(&file), only_solution(&file)),
+        ((1, [7, 8], 1), Some((key, true)))
     );
     Ok(())
 }
 
 #[test]
-fn solutions_are_handed_out(rt: HostRuntime) -> Result<(), Fail> {
-    let file = read_file(rt.alloc(), &EXTENDED)?;
-    let [Record::Solution(solution)] = file.records.as_slice() else {
-        return Err(Fail::new("no solution"));
-    };
+fn the_key_of_the_set(rt: HostRuntime) {
     let key = Key {
         number: 1,
         password: *b"BDHP",
     };
-    let sets = (solution.key.is_set(), Key::SET.is_set());
-    assert_eq!(rt;
-        (solution.key, sets, solution.moves.is_empty()),
-        (key, (false, true), true)
-    );
-    Ok(())
+    assert_eq!(rt; (key.is_set(), Key::SET.is_set()), (false, true));
 }
 
 #[test]
 fn lists_are_handed_out(rt: HostRuntime) -> Result<(), Fail> {
     let file = read_file(rt.alloc(), &EXTENDED)?;
-    let is_empty = file.records.is_empty();
+    let are_empty = (file.extra.is_empty(), file.records.is_empty());
     let (extra, records) = (file.extra.into_vec(), file.records.into_vec());
     assert_eq!(rt;
-        (is_empty, extra.as_slice(), records.len()),
-        (false, &[0x21][..], 1)
+        (are_empty, extra.as_slice(), records.len()),
+        ((false, false), &[0x21][..], 1)
     );
     Ok(())
 }
@@ -327,16 +332,6 @@ fn lists_are_handed_out(rt: HostRuntime) -> Result<(), Fail> {
 fn lynx_solution<A: Allocator + Copy>(alloc: A) -> Result<TwsFile<A>, Fail> {
     let bytes = join(alloc, &LYNX, &SOLUTION)?;
     Ok(read_file(alloc, &bytes)?)
-}
-
-#[test]
-fn a_writer_that_is_full(rt: HostRuntime) -> Result<(), Fail> {
-    let file = lynx_solution(rt.alloc())?;
-    let mut room = [0u8; 10];
-    let mut out = room.as_mut_slice();
-    let shown = show(rt.alloc(), &file, false, &mut out);
-    assert_eq!(rt; (shown, room), (Err(OutFault::Io), *b"ruleset ly"));
-    Ok(())
 }
 
 #[test]
@@ -349,19 +344,22 @@ fn the_texts_of_faults_of_output(rt: HostRuntime) -> Result<(), Fail> {
     Ok(())
 }
 
-// What is read and written again.
-fn rewritten<A: Allocator + Copy>(alloc: A, bytes: &[u8]) -> Result<Vec<u8, A>, Fail> {
-    let file = read_file(alloc, bytes)?;
+fn written<A: Allocator + Copy>(alloc: A, file: &TwsFile<A>) -> Result<Vec<u8, A>, Fail> {
     let mut out = Vec::new(alloc);
-    write_file(&file, &mut out)?;
+    write_file(file, &mut out)?;
     Ok(out)
 }
 
+// What is read and written again.
+fn rewritten<A: Allocator + Copy>(alloc: A, bytes: &[u8]) -> Result<Vec<u8, A>, Fail> {
+    let file = read_file(alloc, bytes)?;
+    written(alloc, &file)
+}
+
 fn packed<A: Allocator + Copy>(alloc: A, bytes: &[u8]) -> Result<Vec<u8, A>, Fail> {
-    let file = pack(alloc, &read_file(alloc, bytes)?)?;
-    let mut out = Vec::new(alloc);
-    write_file(&file, &mut out)?;
-    Ok(out)
+    let file = read_file(alloc, bytes)?;
+    let packed = pack(alloc, &file)?;
+    written(alloc, &packed)
 }
 
 const EVERY_KIND: [u8; 76] = [
@@ -442,15 +440,31 @@ fn moves_that_are_packed(rt: HostRuntime) -> Result<(), Fail> {
     Ok(())
 }
 
-#[test]
-fn a_file_for_a_writer_that_is_full(rt: HostRuntime) -> Result<(), Fail> {
-    let file = read_file(rt.alloc(), &MOVED)?;
-    let mut room = [0u8; 10];
+// What showing and writing a file answer to a writer of ten bytes, and what each wrote.
+type First = (Result<(), OutFault>, [u8; 10]);
+
+fn first_shown<A: Allocator + Copy>(alloc: A, file: &TwsFile<A>) -> First {
+    let mut room = [0; 10];
     let mut out = room.as_mut_slice();
-    let written = write_file(&file, &mut out);
+    (show(alloc, file, false, &mut out), room)
+}
+
+fn first_written<A: Allocator>(file: &TwsFile<A>) -> First {
+    let mut room = [0; 10];
+    let mut out = room.as_mut_slice();
+    (write_file(file, &mut out), room)
+}
+
+#[test]
+fn writers_that_are_full(rt: HostRuntime) -> Result<(), Fail> {
+    let file = read_file(rt.alloc(), &MOVED)?;
+    let full = Err(OutFault::Io);
     assert_eq!(rt;
-        (written, room.as_slice()),
-        (Err(OutFault::Io), &MOVED[..10])
+        (first_shown(rt.alloc(), &file), first_written(&file)),
+        (
+            (full, *b"ruleset ms"),
+            (full, [0x35, 0x33, 0x9B, 0x99, 2, 0, 0, 0, 0x12, 0])
+        )
     );
     Ok(())
 }

@@ -38,14 +38,14 @@ fn show_and_pack(rt: HostRuntime) -> Result<(), Fail> {
 
 #[test]
 fn best(rt: HostRuntime) -> Result<(), Fail> {
-    let Ok(Job::Best { rules, files }) = job(&rt, &["best", "ms", "b", "a", "b"])? else {
+    let Ok(Job::Best { ruleset, files }) = job(&rt, &["best", "ms", "b", "a", "b"])? else {
         return Err(Fail::new("another job"));
     };
     let [first, second, third] = files.as_slice() else {
         return Err(Fail::new("other files"));
     };
     let names = (first.as_str(), second.as_str(), third.as_str());
-    assert_eq!(rt; (rules, names), (Ruleset::Ms, ("b", "a", "b")));
+    assert_eq!(rt; (ruleset, names), (Ruleset::Ms, ("b", "a", "b")));
     Ok(())
 }
 
@@ -84,12 +84,12 @@ fn put(rt: HostRuntime) -> Result<(), Fail> {
 #[test]
 fn get(rt: HostRuntime) -> Result<(), Fail> {
     let words = ["get", "5.6.7.8", "lynx", "b.tws", "--port", "70"];
-    let Ok(Job::Get { rules, target }) = job(&rt, &words)? else {
+    let Ok(Job::Get { ruleset, target }) = job(&rt, &words)? else {
         return Err(Fail::new("another job"));
     };
     let (address, file) = (target.address.as_str(), target.file.as_str());
     assert_eq!(rt;
-        (rules, address, file, target.port),
+        (ruleset, address, file, target.port),
         (Ruleset::Lynx, "5.6.7.8", "b.tws", 70)
     );
     Ok(())

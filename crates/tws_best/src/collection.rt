@@ -37,14 +37,14 @@ impl<A: Allocator> Model for Collection<A> {
 
 impl<A: Allocator + Copy> Collection<A> {
     /// A collection without solutions. It takes no memory until it grows.
-    pub fn new(alloc: A, rules: Ruleset) -> Self
-        ensures rules { result.ruleset ≡ rules }
+    pub fn new(alloc: A, kind: Ruleset) -> Self
+        ensures rules { result.ruleset ≡ kind }
         ensures empty { result.entries ≡ [] }
         ensures fits { IsCollected result }
     {
         Collection {
             alloc,
-            ruleset: rules,
+            ruleset: kind,
             kept: BTreeMap::new(alloc),
         }
     }

@@ -13,13 +13,13 @@ use tws_best::Collection;
 use tws_file::Ruleset;
 
 // The collection over all inputs, each of which is read to its end.
-fn collect<R: Read>(alloc: Global, rules: Ruleset, files: &mut [R]) -> Result<Collection, ToolFault>
+fn collect<R: Read>(alloc: Global, kind: Ruleset, files: &mut [R]) -> Result<Collection, ToolFault>
     ensures end { OnOk result (AllByRecursion (λ file. IsAtEnd (R.remaining file)) files.new) }
-    ensures collected { IfOk result (Collects rules (map (λ file. R.remaining file) files.old)) }
+    ensures collected { IfOk result (Collects kind (map (λ file. R.remaining file) files.old)) }
     ensures fails { IfErr result (CollectFails (map (λ file. R.remaining file) files.old)) }
     ensures unreadable { IfErr result (AreReadOut (λ file. R.remaining file) files.new) }
 {
-    let mut collection = Collection::new(alloc, rules);
+    let mut collection = Collection::new(alloc, kind);
     for index in 0..files.len() {
         let file = read_input(alloc, index, &mut files[index])?;
         collection.merge(&file)?;
@@ -38,18 +38,18 @@ fn collect<R: Read>(alloc: Global, rules: Ruleset, files: &mut [R]) -> Result<Co
 /// nothing was written.
 pub fn run_best<R: Read, W: Write>(
     alloc: Global,
-    rules: Ruleset,
+    kind: Ruleset,
     files: &mut [R],
     out: &mut W,
 ) -> Result<(), ToolFault>
     ensures end { OnOk result (AllByRecursion (λ file. IsAtEnd (R.remaining file)) files.new) }
-    ensures collected { OnOk result (BestWrites rules (map (λ file. R.remaining file) files.old) (W.contents out.old) (W.contents out.new)) }
-    ensures fails { IfErr result (BestFails rules (map (λ file. R.remaining file) files.old) (W.contents out.old) (W.contents out.new)) }
+    ensures collected { OnOk result (BestWrites kind (map (λ file. R.remaining file) files.old) (W.contents out.old) (W.contents out.new)) }
+    ensures fails { IfErr result (BestFails kind (map (λ file. R.remaining file) files.old) (W.contents out.old) (W.contents out.new)) }
     ensures unreadable { IfErr result (AreReadOut (λ file. R.remaining file) files.new) }
     // Also of a writer that does not tell what it holds.
     ensures unwritten { IfErr result (λ e. e ≢ ToolFault.Write → out.new ≡ out.old) }
 {
-    let collection = collect(alloc, rules, files)?;
+    let collection = collect(alloc, kind, files)?;
     collection.write_text(out)?;
     Ok(())
 }

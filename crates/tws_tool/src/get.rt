@@ -24,15 +24,15 @@ pub fn get_file<N: Wire, F: Write, W: Write>(
     alloc: Global,
     wire: &mut N,
     server: Endpoint,
-    rules: Ruleset,
+    kind: Ruleset,
     file: &mut F,
     out: &mut W,
 ) -> Result<(), ToolFault>
-    ensures got { OnOk result (Gets server rules (N.log wire.old) (N.log wire.new) (F.contents file.old) (F.contents file.new) (W.contents out.old) (W.contents out.new)) }
-    ensures fails { IfErr result (GetFails server rules (N.log wire.old) (N.log wire.new) (F.contents file.old) (F.contents file.new) (W.contents out.old) (W.contents out.new)) }
+    ensures got { OnOk result (Gets server kind (N.log wire.old) (N.log wire.new) (F.contents file.old) (F.contents file.new) (W.contents out.old) (W.contents out.new)) }
+    ensures fails { IfErr result (GetFails server kind (N.log wire.old) (N.log wire.new) (F.contents file.old) (F.contents file.new) (W.contents out.old) (W.contents out.new)) }
     // Also of a writer that does not tell what it holds.
     ensures unwritten { IfErr result (Unless (out.new ≡ out.old)) }
 {
-    let len = run_get(alloc, wire, server, rules, TURNS, file)?;
+    let len = run_get(alloc, wire, server, kind, TURNS, file)?;
     say(alloc, "got ", len, " bytes", out)
 }

@@ -73,19 +73,19 @@ fn fetch<S: FileSystem, N: Wire, W: Write>(
     wire: &mut N,
     alloc: Global,
     host: u32,
-    rules: Ruleset,
+    kind: Ruleset,
     target: &Target,
     out: &mut W,
 ) -> Result<(), ToolFault>
-    ensures got { OnOk result (Fetches (record { host = host; port = target.now.port }) rules (N.log wire.old) (N.log wire.new) (S.created_of system.now (string_bytes target.now.file)) (W.contents out.old) (W.contents out.new)) }
-    ensures fails { IfErr result (FetchFails (record { host = host; port = target.now.port }) rules (N.log wire.old) (N.log wire.new) (S.created_of system.now (string_bytes target.now.file)) (W.contents out.old) (W.contents out.new)) }
+    ensures got { OnOk result (Fetches (record { host = host; port = target.now.port }) kind (N.log wire.old) (N.log wire.new) (S.created_of system.now (string_bytes target.now.file)) (W.contents out.old) (W.contents out.new)) }
+    ensures fails { IfErr result (FetchFails (record { host = host; port = target.now.port }) kind (N.log wire.old) (N.log wire.new) (S.created_of system.now (string_bytes target.now.file)) (W.contents out.old) (W.contents out.new)) }
     ensures unwritten { IfErr result (Unless (out.new ≡ out.old)) }
 {
     let port = target.port;
     let Ok(mut file) = system.create(target.file.as_str()) else {
         return Err(ToolFault::Write);
     };
-    get_file(alloc, wire, Endpoint { host, port }, rules, &mut file, out)
+    get_file(alloc, wire, Endpoint { host, port }, kind, &mut file, out)
 }
 
 /// Does what `put` asks for over this wire, and returns the status.
@@ -115,18 +115,18 @@ pub(crate) fn get<S: FileSystem, N: Wire, W: Write, E: Write>(
     system: &S,
     wire: &mut N,
     alloc: Global,
-    rules: Ruleset,
+    kind: Ruleset,
     target: &Target,
     out: &mut W,
     errors: &mut E,
 ) -> u8
-    ensures ran { GetRan rules (S.created_of system.now (string_bytes target.now.file)) (string_bytes target.now.address) target.now.port result (N.log wire.old) (N.log wire.new) (W.contents out.old) (W.contents out.new) }
+    ensures ran { GetRan kind (S.created_of system.now (string_bytes target.now.file)) (string_bytes target.now.address) target.now.port result (N.log wire.old) (N.log wire.new) (W.contents out.old) (W.contents out.new) }
     ensures unwritten { result ≢ 0 → result ≢ 2 → out.new ≡ out.old }
     ensures silent { result ≡ 0 → errors.new ≡ errors.old }
 {
     match Address::read(target.address.as_str()) {
         Some(address) => {
-            let done = fetch(system, wire, alloc, address.host, rules, target, out);
+            let done = fetch(system, wire, alloc, address.host, kind, target, out);
             finish(done, &[], errors)
         }
         None => bad_address(errors),

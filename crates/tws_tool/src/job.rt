@@ -31,7 +31,7 @@ pub enum Job {
     /// To write the collection of the best solutions of several files.
     Best {
         /// Of files of this ruleset.
-        rules: Ruleset,
+        ruleset: Ruleset,
         /// The names of the files.
         files: Vec<String>,
     },
@@ -52,7 +52,7 @@ pub enum Job {
     /// To fetch a collection from an archive.
     Get {
         /// The one of this ruleset.
-        rules: Ruleset,
+        ruleset: Ruleset,
         /// Into this file.
         target: Target,
     },
@@ -127,11 +127,11 @@ fn best_of(alloc: Global, words: &ArgMatches) -> Result<Option<Job>, JobFault>
     let Some(name) = words.get_str("rules") else {
         return Ok(None);
     };
-    let Some(rules) = rules_of(name) else {
+    let Some(ruleset) = rules_of(name) else {
         return Ok(None);
     };
     let files = copied(alloc, words.get_raw("files").unwrap_or(&[]))?;
-    Ok(Some(Job::Best { rules, files }))
+    Ok(Some(Job::Best { ruleset, files }))
 }
 
 // The text that was given by this name, in memory of its own.
@@ -209,13 +209,13 @@ fn get_of(alloc: Global, words: &ArgMatches) -> Result<Option<Job>, JobFault>
     let Some(name) = text_given(words, "rules") else {
         return Ok(None);
     };
-    let Some(rules) = rules_of(name) else {
+    let Some(ruleset) = rules_of(name) else {
         return Ok(None);
     };
     let Some(target) = target_of(alloc, words)? else {
         return Ok(None);
     };
-    Ok(Some(Job::Get { rules, target }))
+    Ok(Some(Job::Get { ruleset, target }))
 }
 
 // What the arguments of a command ask for; nothing if there is no command of this name.

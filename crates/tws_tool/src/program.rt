@@ -117,17 +117,17 @@ fn open_all<S: FileSystem>(
 fn write_best<S: FileSystem, W: Write>(
     system: &S,
     alloc: Global,
-    rules: Ruleset,
+    kind: Ruleset,
     names: &[String],
     out: &mut W,
 ) -> Result<(), ToolFault>
-    ensures collected { OnOk result (BestWrites rules (map (λ name. S.bytes_of system.now (string_bytes name)) names.now) (W.contents out.old) (W.contents out.new)) }
-    ensures fails { IfErr result (BestFails rules (map (λ name. S.bytes_of system.now (string_bytes name)) names.now) (W.contents out.old) (W.contents out.new)) }
+    ensures collected { OnOk result (BestWrites kind (map (λ name. S.bytes_of system.now (string_bytes name)) names.now) (W.contents out.old) (W.contents out.new)) }
+    ensures fails { IfErr result (BestFails kind (map (λ name. S.bytes_of system.now (string_bytes name)) names.now) (W.contents out.old) (W.contents out.new)) }
     // Also of a writer that does not tell what it holds.
     ensures unwritten { IfErr result (λ e. e ≢ ToolFault.Write → out.new ≡ out.old) }
 {
     let mut files = open_all(system, alloc, names)?;
-    run_best(alloc, rules, &mut files, out)
+    run_best(alloc, kind, &mut files, out)
 }
 
 // Serves the archive, with its collections kept in the folder of this name, if there is one.
@@ -194,14 +194,14 @@ fn run_job<
     match job {
         Ok(Job::Show { moves }) => finish(run_show(alloc, input, out, moves), &[], errors),
         Ok(Job::Pack) => finish(run_pack(alloc, input, out), &[], errors),
-        Ok(Job::Best { rules, files }) => {
-            let done = write_best(system, alloc, rules, &files, out);
+        Ok(Job::Best { ruleset, files }) => {
+            let done = write_best(system, alloc, ruleset, &files, out);
             finish(done, &files, errors)
         }
         Ok(Job::Serve { port, turns, dir }) => serve_job(*rt, alloc, port, turns, dir, out, errors),
         Ok(Job::Put { target }) => host::put(system, wire, alloc, &target, out, errors),
-        Ok(Job::Get { rules, target }) => {
-            host::get(system, wire, alloc, rules, &target, out, errors)
+        Ok(Job::Get { ruleset, target }) => {
+            host::get(system, wire, alloc, ruleset, &target, out, errors)
         }
         Err(JobFault::Words(error)) => explain(alloc, &error, out, errors),
         Err(JobFault::Memory) => report(ToolFault::Memory, &[], errors),

@@ -10,7 +10,7 @@ loop-index-init g c = record {
   count = refl;
   others = refl;
   ended = tt;
-  so_far = collects_none c.args.rules c.new-collection.result c.new-collection.ensures.rules c.new-collection.ensures.empty;
+  so_far = collects_none c.args.kind c.new-collection.result c.new-collection.ensures.rules c.new-collection.ensures.empty;
 }
 
 pub returns-in_err-file-clause-fails : goal.returns-in_err-file-clause-fails
@@ -19,7 +19,7 @@ returns-in_err-file-clause-fails g c =
     let before = c.loop-index in
     let told : g.row.R.Denot → Option (List ℕ) = λ file. g.R.Read.remaining file in
     let fault = subst (λ file. ReadFails before.index (g.R.Read.remaining file) c.in_err-file.field-0.0) (sym c.index-files-index.is) c.in_err-file.ensures.fault in
-    rw (p.1, p.2) (input_fails told before.files c.args.files.now before.index c.index-files-index.result before.invariant.others c.loop-index-test.true c.index-files-index.is c.args.rules before.collection _ before.invariant.so_far fault)
+    rw (p.1, p.2) (input_fails told before.files c.args.files.now before.index c.index-files-index.result before.invariant.others c.loop-index-test.true c.index-files-index.is c.args.kind before.collection _ before.invariant.so_far fault)
 
 pub returns-in_err-file-clause-unreadable : goal.returns-in_err-file-clause-unreadable
 returns-in_err-file-clause-unreadable g c =
@@ -36,7 +36,7 @@ loop-index-preserved g c =
     let knowns = map told (take before.index c.args.files.now) in
     let text = subst (λ file. IfSome (g.R.Read.remaining file) (λ bytes. IsText bytes c.in_ok-file.file)) (sym c.index-files-index.is) c.in_ok-file.ensures.file.text in
     let merged = c.merge.new.self in
-    let more = collects_more c.args.rules knowns (told c.index-files-index.result) c.in_ok-file.file before.collection merged before.invariant.so_far text c.merge.ensures.rules c.in_ok-merge.ensures.best in
+    let more = collects_more c.args.kind knowns (told c.index-files-index.result) c.in_ok-file.file before.collection merged before.invariant.so_far text c.merge.ensures.rules c.in_ok-merge.ensures.best in
     record {
       count = set_count before.files c.args.files.now before.index c.read_input.new.input before.invariant.count;
       others = others_stay before.files c.args.files.now before.index c.read_input.new.input before.invariant.others;
@@ -47,4 +47,4 @@ loop-index-preserved g c =
 pub returns-clause-collected : goal.returns-clause-collected
 returns-clause-collected g c =
     let before = c.loop-index in
-    all_collected _ (λ file. g.R.Read.remaining file) c.args.files.now before.index c.args.rules before.collection (omega (arith, before.invariant.count)) before.invariant.so_far
+    all_collected _ (λ file. g.R.Read.remaining file) c.args.files.now before.index c.args.kind before.collection (omega (arith, before.invariant.count)) before.invariant.so_far

@@ -10,5 +10,5 @@ invariant-loop-index g l = record {
   count : length l.files ≡ length l.fn.files;
   others : drop l.index l.files ≡ drop l.index l.fn.files;
   ended : AllByRecursion (λ file. IsAtEnd (g.R.Read.remaining file)) (take l.index l.files);
-  so_far : Collects l.fn.rules (map (λ file. g.R.Read.remaining file) (take l.index l.fn.files)) l.collection;
+  so_far : Collects l.fn.kind (map (λ file. g.R.Read.remaining file) (take l.index l.fn.files)) l.collection;
 }

@@ -11,7 +11,7 @@ returns-in-None-clause-ran g c =
     let typed = string_bytes c.args.target.now.address in
     let text : c.as_str.result.now ≡ typed = search rules in
     let nowhere = no_address held held typed got_line c.bad_address.result c.bad_address.ensures refl (λ host is. c.in-None.ensures.none host (subst (λ t. IsAddress t host) (sym text) is)) in
-    get_nowhere held held c.args.rules _ typed c.args.target.now.port c.bad_address.result (g.N.Wire.log c.args.wire.now) c.bad_address.ensures nowhere
+    get_nowhere held held c.args.kind _ typed c.args.target.now.port c.bad_address.result (g.N.Wire.log c.args.wire.now) c.bad_address.ensures nowhere
 
 pub returns-in-Some-clause-ran : goal.returns-in-Some-clause-ran
 returns-in-Some-clause-ran g c =
@@ -25,4 +25,4 @@ returns-in-Some-clause-ran g c =
     let text : c.as_str.result.now ≡ typed = search rules in
     let is = subst (λ t. IsAddress t c.in-Some.address.host) text c.in-Some.ensures.some in
     let fetches = c.fetch-done.ensures in
-    subst (λ (n : ℕ). GetRan c.args.rules created typed port n before after old new) (sym c.finish.ensures.status) (get_ran old new typed c.in-Some.address.host port is before after c.fetch-done.result c.args.rules created fetches.got fetches.fails)
+    subst (λ (n : ℕ). GetRan c.args.kind created typed port n before after old new) (sym c.finish.ensures.status) (get_ran old new typed c.in-Some.address.host port is before after c.fetch-done.result c.args.kind created fetches.got fetches.fails)

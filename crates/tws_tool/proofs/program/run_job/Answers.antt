@@ -16,7 +16,7 @@ returns-in-Ok-Best-clause-ran g c =
     let knowns = map (λ name. g.S.FileSystem.bytes_of c.args.system.now (string_bytes name)) c.in-Ok-Best.files.items in
     let done = c.write_best-done.result in
     let names = c.deref.ensures.value in
-    let writes : OnOk done (BestWrites c.in-Ok-Best.rules knowns old new) = rw (← names) c.write_best-done.ensures.collected in
-    let fails : IfErr done (BestFails c.in-Ok-Best.rules knowns old new) = rw (← names) c.write_best-done.ensures.fails in
-    let ran : BestRan c.in-Ok-Best.rules knowns c.finish-in-Ok-Best.result old new = subst (λ (n : ℕ). BestRan c.in-Ok-Best.rules knowns n old new) (sym c.finish-in-Ok-Best.ensures.status) (best_ran c.in-Ok-Best.rules knowns done old new writes fails) in
+    let writes : OnOk done (BestWrites c.in-Ok-Best.ruleset knowns old new) = rw (← names) c.write_best-done.ensures.collected in
+    let fails : IfErr done (BestFails c.in-Ok-Best.ruleset knowns old new) = rw (← names) c.write_best-done.ensures.fails in
+    let ran : BestRan c.in-Ok-Best.ruleset knowns c.finish-in-Ok-Best.result old new = subst (λ (n : ℕ). BestRan c.in-Ok-Best.ruleset knowns n old new) (sym c.finish-in-Ok-Best.ensures.status) (best_ran c.in-Ok-Best.ruleset knowns done old new writes fails) in
     rw (c.in-Ok-Best.is, c.in-Ok-Best.field-0-is) (refl {a = g.N.Wire.log c.args.wire.now}, refl {a = g.R.Read.remaining c.args.input.now}, ran)
