@@ -7,3 +7,4 @@ pub mod Blocks
 pub mod Merged
 pub mod Lasts
 pub mod SamePort
+pub mod Decoded

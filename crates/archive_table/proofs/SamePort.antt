@@ -13,7 +13,7 @@ use Rattle.tftp_ends.specs.declared.recv_fault.RecvFault.{RecvFault}
 use Rattle.tftp_ends.specs.Ends.{Verdict, granted, refused, SendAnswer, Receiver, RecvAnswer, answer_of, receiver_take, receiver_data, sender_ack, sender_timeout, receiver_timeout}
 use Rattle.tws_file.specs.declared.«ruleset».Ruleset.{Ruleset}
 use Rattle.tws_best.specs.Best.{Collected}
-use Rattle.archive_table.specs.Server.{data_live, End, sending, receiving, Transfer, Maps, Server, Grant, all, no_memory, unkept, Heard, nothing, stray, ended, acked, block, map_of, has_place, is_too_long, memory_of, heard, transfer_at, opens_if, read_fits, read_placed, read_named, read_asked, write_placed, write_asked, request_packet, request_decoded, server_request, file_come, file_asked, block_answered, data_at, sender_goes_on, ack_at, transfer_heard, datagram_at, server_datagram, receiver_goes_on, waits_at, timeout_at, server_timeout}
+use Rattle.archive_table.specs.Server.{End, sending, receiving, Transfer, Maps, Server, Grant, all, no_memory, unkept, Heard, nothing, stray, ended, acked, block, map_of, has_place, is_too_long, memory_of, heard, transfer_at, opens_if, read_fits, read_placed, read_named, read_asked, write_placed, write_asked, request_packet, request_decoded, server_request, file_come, file_asked, block_answered, data_at, sender_goes_on, ack_at, transfer_heard, datagram_at, server_datagram, receiver_goes_on, waits_at, timeout_at, server_timeout}
 use Rattle.tws_file.specs.Names.{kind_named}
 
 opened_same : (v : Verdict) (spare : ℕ) (from : Endpoint) (end : End) (first : List ℕ) (s : Server) → (opens_if v spare from end first s).server.request ≡ s.request
@@ -116,7 +116,3 @@ timeout_at_same None port s = refl
 
 pub timeout_same : (port : ℕ) (s : Server) → (server_timeout port s).server.request ≡ s.request
 timeout_same port s = timeout_at_same (transfer_at port s) port s
-
-pub live_same : (t : Option Transfer) (grant : Grant) (maps : Maps) (port : ℕ) (n : ℕ) (body : List ℕ) (s : Server) → (data_live t grant maps port n body s).server.request ≡ s.request
-live_same (Some t) grant maps port n body s = data_same t.end grant maps port t.peer n body s
-live_same None grant maps port n body s = refl

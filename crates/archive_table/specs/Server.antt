@@ -326,21 +326,17 @@ abbrev pub ack_at : End → (port : ℕ) → (peer : Endpoint) → (n : ℕ) →
 ack_at (sending e) port peer n s = sender_answered port peer (sender_ack n e) s
 ack_at (receiving r) port peer n s = stays s
 
--- the same at a port, if it is live
-abbrev pub ack_live : Option Transfer → (port : ℕ) → (n : ℕ) → Server → Answer
-ack_live (Some t) port n s = ack_at t.end port t.peer n s
-ack_live None port n s = stays s
-
-abbrev pub data_live : Option Transfer → Grant → (maps : Maps) → (port : ℕ) → (n : ℕ) (body : List ℕ) → Server → Answer
-data_live (Some t) grant maps port n body s = data_at t.end grant maps port t.peer n body s
-data_live None grant maps port n body s = stays s
-
 abbrev pub transfer_heard : Heard → Grant → (maps : Maps) → (port : ℕ) → (from : Endpoint) → Transfer → Server → Answer
 transfer_heard nothing grant maps port from t s = stays s
 transfer_heard stray grant maps port from t s = replies (out_from port from (refusal_packet UnknownTransfer)) s
 transfer_heard ended grant maps port from t s = closes port t.peer None s
 transfer_heard (acked n) grant maps port from t s = ack_at t.end port t.peer n s
 transfer_heard (block n body) grant maps port from t s = data_at t.end grant maps port t.peer n body s
+
+-- the same of a packet at a port, if that is live
+abbrev pub packet_live : Option Transfer → Grant → (maps : Maps) → (port : ℕ) → (from : Endpoint) → Packet → Server → Answer
+packet_live (Some t) grant maps port from packet s = transfer_heard (heard_packet (is_same from t.peer) packet) grant maps port from t s
+packet_live None grant maps port from packet s = stays s
 
 -- a port that is not live gives nothing
 abbrev pub datagram_at : Option Transfer → Grant → (maps : Maps) → (port : ℕ) → (from : Endpoint) → (bytes : List ℕ) → Server → Answer

@@ -1,6 +1,5 @@
 -- The plain values of a table and of what it tells, without where their bytes lie in memory, and what private functions
 -- speak of.
-use Rattle.std.specs.Prelude.{◌≤◌, length}
 use Rattle.archive_table.specs.declared.kept.Kept.TheInside as keepings
 use Rattle.archive_table.specs.declared.taken.Taken.TheInside as taking
 use Rattle.archive_table.specs.Keeper.{Keeping}
@@ -9,9 +8,7 @@ use Rattle.archive_table.specs.declared.end.End as held
 use Rattle.archive_table.specs.declared.end.End.TheVariants as ends
 use Rattle.archive_table.specs.declared.transfer.Transfer.TheInside as transferring
 use Rattle.archive_table.specs.declared.table.Table.TheInside as tables
-use Rattle.archive_table.specs.declared.heard.Heard as borrowed
-use Rattle.archive_table.specs.declared.heard.Heard.TheVariants as hears
-use Rattle.archive_table.specs.Server.{End, sending, receiving, Transfer, Server, Taken, Told, Heard, nothing, stray, ended, acked, block}
+use Rattle.archive_table.specs.Server.{End, sending, receiving, Transfer, Server, Taken, Told}
 use Rattle.tftp_ends.specs.Ends.{Sender, Receiver}
 
 abbrev pub keeping_of : {A : Type 0} → keepings.Inside A → Keeping
@@ -32,18 +29,3 @@ transfer_of t = record { peer = t.peer; end = end_of t.end }
 
 abbrev pub server_of : {A : Type 0} → tables.Inside A → Server
 server_of t = record { request = t.request; maps = record { lynx = t.lynx; ms = t.ms }; live = t.live }
-
-abbrev pub heard_of : borrowed.Heard → Heard
-heard_of hears.Nothing = nothing
-heard_of hears.Stray = stray
-heard_of hears.Ended = ended
-heard_of (hears.Ack n) = acked n
-heard_of (hears.Data n body) = block n body.now
-
--- a body that was heard is no longer than a block
-abbrev pub IsHeard : Heard → Type 0
-IsHeard nothing = Unit {0}
-IsHeard stray = Unit {0}
-IsHeard ended = Unit {0}
-IsHeard (acked n) = Unit {0}
-IsHeard (block n body) = length body ≤ 512

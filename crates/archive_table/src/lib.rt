@@ -6,7 +6,6 @@
 #![tactic(auto)]
 
 mod end;
-mod heard;
 mod incoming;
 mod keep_fault;
 mod keeper;

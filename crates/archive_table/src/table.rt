@@ -1,25 +1,22 @@
 //! The table of a server.
 
 ghost use Rattle.std.specs.Prelude.{◌≡◌, ◌≢◌, ◌≤◌, [], None, Some, Err, IfOk, IfErr, true, length, is_some};
-ghost use Rattle.std.specs.Map.{remove_entry};
-ghost use Rattle.archive_table.specs.Server.{nothing_told, refuses, opens_if, request_verdict, server_request, server_timeout, transfer_at, has_place, read_asked, read_placed, write_asked, map_of, port_above, IsEnd, IsServer, closes, ack_live, data_live, file_done, server_datagram, grant_of, reply_grant, all, unkept, at_port, with_live, Merges, refusal_dgram};
+ghost use Rattle.archive_table.specs.Server.{nothing_told, refuses, opens_if, request_verdict, server_request, server_timeout, transfer_at, has_place, read_asked, read_placed, write_asked, map_of, port_above, IsEnd, IsServer, server_datagram, grant_of, all, unkept, Merges};
 ghost use Rattle.tftp_packet.specs.Packet.{is_octet as octet_mode};
 ghost use Rattle.archive_table.specs.Keeper.{StepKeeps, LoadedFrom, TableFails, FailsAt};
 ghost use Rattle.archive_table.specs.View.{end_of};
-ghost use Rattle.tws_file.specs.Reader.{IsAnswer};
+
+mod datagram;
 
 use crate::end::End;
-use crate::heard::{Heard, hear};
-use crate::incoming::{Incoming, Whole};
+use crate::incoming::Incoming;
 use crate::keep_fault::KeepFault;
 use crate::keeper::Keeper;
-use crate::keeping::merge_file;
 use crate::limits::LIVE;
 use crate::load::load_collection;
 use crate::load_fault::LoadFault;
 use crate::ports::Ports;
 use crate::step::Step;
-use crate::taken::Taken;
 use crate::transfer::Transfer;
 use std::alloc::{Allocator, Global};
 use std::marker::Model;
@@ -234,152 +231,6 @@ impl<A: Allocator + Copy> Table<A> {
         Step::nothing()
     }
 
-    // The functions from here on take part in the step of a datagram or a time-out. It is made once and written where it
-    // lies, since each of them would copy it to return it.
-
-    // The transfer at a port ends.
-    fn close(&mut self, port: u16, step: &mut Step<A>)
-        ensures server { self.new ≡ with_live (remove_entry (at_port port) self.old.live) self.old }
-        ensures told { step.new ≡ record { out = step.old.out; opened = step.old.opened; taken = step.old.taken; closed = true } }
-        ensures fits { IsServer self.new }
-    {
-        self.live.remove(port);
-        step.closed = true;
-    }
-
-    // The transfer at a port fails, and the peer is told why.
-    fn fail(&mut self, port: u16, peer: Endpoint, why: Refusal, step: &mut Step<A>)
-        requires new { step.old ≡ nothing_told }
-        ensures server { self.new ≡ (closes port peer (Some (refusal_dgram why)) self.old).server }
-        ensures told { step.new ≡ (closes port peer (Some (refusal_dgram why)) self.old).told }
-        ensures fits { IsServer self.new }
-    {
-        step.send(port, peer, Some(why.dgram()));
-        self.close(port, step);
-    }
-
-    // ACK `n` of the peer has come to a port.
-    #[tactic(auto, using(crate::proofs::Live::remove_set, crate::proofs::Live::set_same, crate::proofs::Replies::data_grant))]
-    fn on_ack(&mut self, port: u16, n: u16, step: &mut Step<A>)
-        requires new { step.old ≡ nothing_told }
-        ensures server { self.new ≡ (ack_live (transfer_at port self.old) port n self.old).server }
-        ensures told { step.new ≡ (ack_live (transfer_at port self.old) port n self.old).told }
-        ensures grant { grant_of step.new.out ≡ all }
-        ensures fits { IsServer self.new }
-    {
-        let Some(transfer) = self.live.get_mut(port) else {
-            return;
-        };
-        let peer = transfer.peer;
-        let End::Sending(sender) = &mut transfer.end else {
-            return;
-        };
-        if sender.advance(n) {
-            step.send(port, peer, Some(sender.data()));
-            return;
-        }
-        match sender.state() {
-            SendState::Running => {}
-            SendState::Finished | SendState::TimedOut => self.close(port, step),
-        }
-    }
-
-    // A whole file has come: it joins the collection of its rules and is taken, or the transfer is closed.
-    fn on_file<K: Keeper>(
-        &mut self,
-        keeper: &mut K,
-        port: u16,
-        peer: Endpoint,
-        whole: Whole<A>,
-        ack: Option<Dgram>,
-        step: &mut Step<A>,
-    )
-        requires acks { reply_grant ack ≡ all }
-        requires read { IsAnswer whole.file whole.read }
-        requires new { step.old ≡ nothing_told }
-        ensures server { self.new ≡ (file_done (grant_of step.new.out) self.new.maps port peer whole.file ack self.old).server }
-        ensures told { step.new ≡ (file_done (grant_of step.new.out) self.new.maps port peer whole.file ack self.old).told }
-        ensures merges { Merges step.new.taken self.old.maps self.new.maps }
-        ensures keeps { StepKeeps (grant_of step.new.out) (Some (record { peer = peer; file = whole.file })) self.old.maps self.new.maps (K.log keeper.old) (K.log keeper.new) }
-        ensures untouched { grant_of step.new.out ≢ unkept → self.new.maps ≡ self.old.maps → keeper.new ≡ keeper.old }
-        ensures fits { IsServer self.new }
-    {
-        let Whole { file, read } = whole;
-        match merge_file(&mut self.lynx, &mut self.ms, keeper, &read) {
-            Ok(()) => {
-                step.send(port, peer, ack);
-                step.taken = Some(Taken { peer, file });
-            }
-            Err(why) => self.fail(port, peer, why, step),
-        }
-    }
-
-    // DATA `n` of the peer has come to a port.
-    #[tactic(auto, using(crate::proofs::Live::remove_set, crate::proofs::Live::set_same, crate::proofs::Replies::data_reply, crate::proofs::Replies::past_grant, crate::proofs::Replies::memory_grant, crate::proofs::Replies::sent_grant, crate::proofs::Live::done_come))]
-    fn on_data<K: Keeper>(
-        &mut self,
-        keeper: &mut K,
-        port: u16,
-        n: u16,
-        body: &[u8],
-        step: &mut Step<A>,
-    )
-        requires short { length body.now ≤ 512 }
-        requires new { step.old ≡ nothing_told }
-        ensures server { self.new ≡ (data_live (transfer_at port self.old) (grant_of step.new.out) self.new.maps port n body.now self.old).server }
-        ensures told { step.new ≡ (data_live (transfer_at port self.old) (grant_of step.new.out) self.new.maps port n body.now self.old).told }
-        ensures merges { Merges step.new.taken self.old.maps self.new.maps }
-        ensures keeps { StepKeeps (grant_of step.new.out) (data_live (transfer_at port self.old) all self.old.maps port n body.now self.old).told.taken self.old.maps self.new.maps (K.log keeper.old) (K.log keeper.new) }
-        ensures untouched { grant_of step.new.out ≢ unkept → self.new.maps ≡ self.old.maps → keeper.new ≡ keeper.old }
-        ensures fits { IsServer self.new }
-    {
-        let Some(transfer) = self.live.get_mut(port) else {
-            return;
-        };
-        let peer = transfer.peer;
-        let End::Receiving(incoming) = &mut transfer.end else {
-            return;
-        };
-        let came = incoming.on_data(n, body);
-        match came {
-            Err(fault) => self.fail(port, peer, fault.refusal(), step),
-            Ok((ack, whole)) => match whole {
-                None => step.send(port, peer, ack),
-                Some(whole) => self.on_file(keeper, port, peer, whole, ack, step),
-            },
-        }
-    }
-
-    // A datagram of these bytes has come from `from` to a transfer's port.
-    fn hear<K: Keeper>(
-        &mut self,
-        keeper: &mut K,
-        port: u16,
-        from: Endpoint,
-        bytes: &[u8],
-        step: &mut Step<A>,
-    )
-        requires new { step.old ≡ nothing_told }
-        ensures server { self.new ≡ (server_datagram (grant_of step.new.out) self.new.maps port from bytes.now self.old).server }
-        ensures told { step.new ≡ (server_datagram (grant_of step.new.out) self.new.maps port from bytes.now self.old).told }
-        ensures merges { Merges step.new.taken self.old.maps self.new.maps }
-        ensures keeps { StepKeeps (grant_of step.new.out) (server_datagram all self.old.maps port from bytes.now self.old).told.taken self.old.maps self.new.maps (K.log keeper.old) (K.log keeper.new) }
-        ensures untouched { grant_of step.new.out ≢ unkept → self.new.maps ≡ self.old.maps → keeper.new ≡ keeper.old }
-        ensures fits { IsServer self.new }
-    {
-        let Some(transfer) = self.live.get(port) else {
-            return;
-        };
-        let peer = transfer.peer;
-        match hear(peer, from, bytes) {
-            Heard::Nothing => {}
-            Heard::Stray => step.send(port, from, Some(Refusal::UnknownTransfer.dgram())),
-            Heard::Ended => self.close(port, step),
-            Heard::Ack(n) => self.on_ack(port, n, step),
-            Heard::Data { n, body } => self.on_data(keeper, port, n, body, step),
-        }
-    }
-
     /// A datagram of these bytes has come from `from` to a transfer's port. The caller sends the datagram of the step,
     /// if it has one.
     ///
@@ -411,7 +262,7 @@ impl<A: Allocator + Copy> Table<A> {
         step
     }
 
-    // Nothing has come to a port for a while.
+    // Nothing has come to a port for a while. The step is written where it lies, as that of a datagram.
     #[tactic(auto, using(crate::proofs::Live::remove_set, crate::proofs::Live::set_same))]
     fn time_out(&mut self, port: u16, step: &mut Step<A>)
         requires new { step.old ≡ nothing_told }

@@ -1,5 +1,8 @@
 //! One transfer at the server.
 
+ghost use Rattle.std.specs.Prelude.{◌≡◌};
+ghost use Rattle.archive_table.specs.Server.{is_same};
+
 use crate::end::End;
 use crate::incoming::Incoming;
 use std::alloc::Allocator;
@@ -23,4 +26,13 @@ impl<A: Allocator + Copy> Model for Transfer<A> {
     ghost use Rattle.archive_table.specs.View.{transfer_of};
 
     ghost view = { transfer_of };
+}
+
+impl<A: Allocator + Copy> Transfer<A> {
+    /// Whether this endpoint is its peer. A datagram of any other is none of the transfer, RFC 1350 section 4.
+    pub(crate) fn is_with(&self, from: Endpoint) -> bool
+        ensures { result ≡ is_same from self.now.peer }
+    {
+        from.host == self.peer.host && from.port == self.peer.port
+    }
 }

@@ -90,7 +90,7 @@ impl Line {
     }
 }
 
-// Turns of a put until it is over: how many files the server took.
+// Turns of a put until it is over, and has sent its file: how many files the server took.
 fn finish_put(
     alloc: Global,
     server: &mut Server,
@@ -109,7 +109,10 @@ fn finish_put(
             break;
         }
     }
-    Ok(taken)
+    match run.client().state() {
+        State::Sent => Ok(taken),
+        _ => Err(Fail::new("not sent")),
+    }
 }
 
 // Puts a file: how many files the server took.
@@ -121,18 +124,11 @@ fn put(
     times: u8,
 ) -> Result<u64, Fail> {
     let mut line = Line::new(alloc, 5000, wire)?;
-    let Ok(mut run) = PutRun::begin(&mut line.wire, SERVER, file) else {
-        return Err(Fail::new("not begun"));
-    };
-    let taken = finish_put(alloc, server, wire, &mut line, &mut run, times)?;
-    if run.client().state() == State::Sent {
-        Ok(taken)
-    } else {
-        Err(Fail::new("not sent"))
-    }
+    let mut run = begun_put(&mut line.wire, file)?;
+    finish_put(alloc, server, wire, &mut line, &mut run, times)
 }
 
-// Turns of a get until it has the file.
+// Turns of a get until it has its file.
 fn finish_get(
     alloc: Global,
     server: &mut Server,
@@ -140,7 +136,7 @@ fn finish_get(
     line: &mut Line,
     run: &mut GetRun,
     times: u8,
-) -> Result<(), Fail> {
+) -> Result<Vec<u8>, Fail> {
     for _ in 0..TURNS {
         let _taken = line.exchange(alloc, server, wire, times)?;
         run.turn(&mut line.wire);
@@ -148,7 +144,17 @@ fn finish_get(
             break;
         }
     }
-    Ok(())
+    match run.client().file() {
+        Some(file) => Ok(file.to_vec(alloc)?),
+        None => Err(Fail::new("not fetched")),
+    }
+}
+
+fn begun_get(alloc: Global, wire: &mut MemoryWire) -> Result<GetRun, Fail> {
+    match GetRun::begin(alloc, wire, SERVER, Ruleset::Lynx) {
+        Ok(run) => Ok(run),
+        Err(_) => Err(Fail::new("not begun")),
+    }
 }
 
 // Gets the Lynx collection.
@@ -159,14 +165,8 @@ fn get(
     times: u8,
 ) -> Result<Vec<u8>, Fail> {
     let mut line = Line::new(alloc, 5001, wire)?;
-    let Ok(mut run) = GetRun::begin(alloc, &mut line.wire, SERVER, Ruleset::Lynx) else {
-        return Err(Fail::new("not begun"));
-    };
-    finish_get(alloc, server, wire, &mut line, &mut run, times)?;
-    match run.client().file() {
-        Some(file) => Ok(file.to_vec(alloc)?),
-        None => Err(Fail::new("not fetched")),
-    }
+    let mut run = begun_get(alloc, &mut line.wire)?;
+    finish_get(alloc, server, wire, &mut line, &mut run, times)
 }
 
 // What a server gives after a put of this file, which it takes once.

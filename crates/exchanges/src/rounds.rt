@@ -18,21 +18,30 @@ fn lives(wire: &mut MemoryWire, server: &mut ReadyServer) -> usize {
     server.table().live()
 }
 
+// The round of a request, and that of the block that comes 999 milliseconds after it.
+fn put_in_rounds(
+    alloc: Global,
+    wire: &mut MemoryWire,
+    server: &mut ReadyServer,
+) -> Result<[(u64, bool); 2], Fail> {
+    let first = acks(wire, server, ACK_0);
+    wire.set_time(999);
+    wire.arrive(alloc, 4000, C1, DATA_F1)?;
+    Ok([first, acks(wire, server, ACK_1)])
+}
+
 #[test]
 fn a_put_to_the_ready_server(rt: HostRuntime) -> Result<(), Fail> {
     let mut wire = request_wire(rt.alloc(), 4000)?;
     let mut server = ReadyServer::new(rt.alloc(), 6969);
-    let first = acks(&mut wire, &mut server, ACK_0);
-    wire.set_time(999);
-    wire.arrive(rt.alloc(), 4000, C1, DATA_F1)?;
-    let last = acks(&mut wire, &mut server, ACK_1);
+    let rounds = put_in_rounds(rt.alloc(), &mut wire, &mut server)?;
     let sent = send_count(&wire);
     let solutions = server.table().collection(Ruleset::Lynx).len();
     // It waits for the last block twice, and is closed.
     let live = (lives(&mut wire, &mut server), lives(&mut wire, &mut server));
     assert_eq!(rt;
-        (first, last, sent, solutions, live, send_count(&wire)),
-        ((0, true), (1, true), 2, 1, (1, 0), 2)
+        (rounds, sent, solutions, live, send_count(&wire)),
+        ([(0, true), (1, true)], 2, 1, (1, 0), 2)
     );
     Ok(())
 }
@@ -65,31 +74,48 @@ fn a_busy_request_port(rt: HostRuntime) -> Result<(), Fail> {
     Ok(())
 }
 
+// A wire to which an ACK comes at each of these ports.
+fn wire_with_acks(alloc: Global, ports: &[u16]) -> Result<MemoryWire, Fail> {
+    let mut wire = wire_of(alloc, &[])?;
+    for port in ports {
+        wire.arrive(alloc, *port, C1, ACK_0)?;
+    }
+    Ok(wire)
+}
+
+// Whether the datagram that waits at this port is such an ACK.
+fn has_ack(wire: &mut MemoryWire, port: u16) -> bool {
+    wire.receive(port, &mut [0; RECEIVE_SIZE]) == Ok(Some((4, C1)))
+}
+
+// Whether these ports are ready in this order, each after the one before it, and what is there is received.
+fn take_turns(wire: &mut MemoryWire, first: u16, ports: &[u16]) -> bool {
+    let mut after = first;
+    for port in ports {
+        let ready = Ready {
+            port: Some(*port),
+            time: 0,
+        };
+        if wire.wait(after, None) != ready || !has_ack(wire, *port) {
+            return false;
+        }
+        after = *port;
+    }
+    true
+}
+
 // Among ready ports it is the turn of the next above the last one.
 #[test]
 fn ports_that_are_ready(rt: HostRuntime) -> Result<(), Fail> {
-    let mut wire = wire_of(rt.alloc(), &[])?;
-    for port in [5, 9, 5, 7, 5] {
-        wire.arrive(rt.alloc(), port, C1, ACK_0)?;
-    }
-    let mut after = 5;
-    for port in [7, 9, 5, 5, 5] {
-        let ready = wire.wait(after, None);
-        let mut buffer = [0; RECEIVE_SIZE];
-        let received = wire.receive(port, &mut buffer);
-        assert_eq!(rt;
-            (ready.port, ready.time, received),
-            (Some(port), 0, Ok(Some((4, C1))))
-        );
-        after = port;
-    }
+    let mut wire = wire_with_acks(rt.alloc(), &[5, 9, 5, 7, 5])?;
+    let are_ready = take_turns(&mut wire, 5, &[7, 9, 5, 5, 5]);
     let quiet = Ready {
         port: None,
         time: 70,
     };
     assert_eq!(rt;
-        (wire.wait(after, Some(70)), wire.wait(after, Some(60))),
-        (quiet, quiet)
+        (are_ready, wire.wait(5, Some(70)), wire.wait(5, Some(60))),
+        (true, quiet, quiet)
     );
     Ok(())
 }

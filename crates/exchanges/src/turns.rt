@@ -98,18 +98,20 @@ fn a_request_that_is_refused(rt: HostRuntime) -> Result<(), Fail> {
     Ok(())
 }
 
-// One call of the wire fails, in two turns of the same server: which one, the answer, and how many transfers are live.
+// Two turns of a server, of whose calls call number `n` fails: how many files are taken, how many transfers are live, and
+// how many calls failed.
+fn turns_with_failure(rt: &HostRuntime, n: u64) -> Result<(u64, usize, u64), Fail> {
+    let mut wire = put_wire(rt.alloc(), 4000)?;
+    wire.fail_at(n);
+    let mut server = Server::new(rt.alloc(), 6969);
+    let taken = serve_turns(&mut wire, &mut NoKeeper, &mut server, 2);
+    Ok((taken, server.table().live(), wire.failures()))
+}
+
 #[test]
 fn each_call_failing(rt: HostRuntime) -> Result<(), Fail> {
-    for (n, answer, live) in [(1, 0, 1), (2, 0, 0), (3, 1, 1), (4, 0, 1), (5, 1, 1)] {
-        let mut wire = put_wire(rt.alloc(), 4000)?;
-        wire.fail_at(n);
-        let mut server = Server::new(rt.alloc(), 6969);
-        let taken = serve_turns(&mut wire, &mut NoKeeper, &mut server, 2);
-        assert_eq!(rt;
-            (taken, server.table().live(), wire.failures()),
-            (answer, live, 1)
-        );
+    for (n, taken, live) in [(1, 0, 1), (2, 0, 0), (3, 1, 1), (4, 0, 1), (5, 1, 1)] {
+        assert_eq!(rt; turns_with_failure(&rt, n)?, (taken, live, 1), "at {n}");
     }
     Ok(())
 }
@@ -184,22 +186,31 @@ fn failing_sends(rt: HostRuntime) -> Result<(), Fail> {
     Ok(())
 }
 
+// Turns in which nothing comes: for each so many, how many datagrams were sent by then, and how many transfers are live.
+fn are_quiet(wire: &mut MemoryWire, server: &mut Server, rows: &[(u64, usize, usize)]) -> bool {
+    for (turns, sent, live) in rows {
+        serve_turns(wire, &mut NoKeeper, server, *turns);
+        if send_count(wire) != *sent || server.table().live() != *live {
+            return false;
+        }
+    }
+    true
+}
+
 // What is sent to a receiver is sent again after 200 quiet turns, four times; then the transfer is closed.
 #[test]
 fn a_transfer_that_stays_quiet(rt: HostRuntime) -> Result<(), Fail> {
-    let mut wire = request_wire(rt.alloc(), 4000)?;
-    let mut server = Server::new(rt.alloc(), 6969);
-    for (turns, sent, live) in [
+    let rows = [
         (200, 1, 1),
         (1, 2, 1),
         (199, 2, 1),
         (1, 3, 1),
         (599, 5, 1),
         (1, 5, 0),
-    ] {
-        serve_turns(&mut wire, &mut NoKeeper, &mut server, turns);
-        assert_eq!(rt; (send_count(&wire), server.table().live()), (sent, live));
-    }
+    ];
+    let mut wire = request_wire(rt.alloc(), 4000)?;
+    let mut server = Server::new(rt.alloc(), 6969);
+    assert!(rt; are_quiet(&mut wire, &mut server, &rows));
     Ok(())
 }
 
@@ -232,14 +243,6 @@ fn a_request_that_comes_twice(rt: HostRuntime) -> Result<(), Fail> {
     Ok(())
 }
 
-// A put of F1 that has sent its request.
-fn begun_put(alloc: Global, wire: &mut MemoryWire) -> Result<PutRun, Fail> {
-    match PutRun::begin(wire, SERVER, Vec::from_slice(alloc, F1)?) {
-        Ok(run) => Ok(run),
-        Err(_) => Err(Fail::new("not begun")),
-    }
-}
-
 // ACKs come to a put from two ports: for each the port, the port to which was sent last after one turn, what, and how far
 // the client is.
 fn stays_with_first(alloc: Global, wire: &mut MemoryWire, run: &mut PutRun) -> Result<bool, Fail> {
@@ -261,7 +264,7 @@ fn stays_with_first(alloc: Global, wire: &mut MemoryWire, run: &mut PutRun) -> R
 #[test]
 fn two_answers_to_one_request(rt: HostRuntime) -> Result<(), Fail> {
     let mut wire = wire_of(rt.alloc(), &[5000])?;
-    let mut run = begun_put(rt.alloc(), &mut wire)?;
+    let mut run = begun_put(&mut wire, Vec::from_slice(rt.alloc(), F1)?)?;
     let has_begun = sent_last(&wire, 5000, SERVER, WRQ);
     let stays = stays_with_first(rt.alloc(), &mut wire, &mut run)?;
     assert_eq!(rt; (has_begun, stays, send_count(&wire)), (true, true, 3));

@@ -1,5 +1,5 @@
 // Wires in memory for the tests, the datagrams of a put and a get by hand, RFC 1350, and what a log has.
-use archive_turns::{Entry, MemoryWire};
+use archive_turns::{Entry, MemoryWire, PutRun};
 use std::alloc::Global;
 use std::test::Fail;
 use tftp_packet::Endpoint;
@@ -59,6 +59,14 @@ pub(crate) fn put_wire(alloc: Global, opens: u16) -> Result<MemoryWire, Fail> {
     let mut wire = request_wire(alloc, opens)?;
     wire.arrive(alloc, 4000, C1, DATA_F1)?;
     Ok(wire)
+}
+
+// A put of a file that has sent its request.
+pub(crate) fn begun_put(wire: &mut MemoryWire, file: Vec<u8>) -> Result<PutRun, Fail> {
+    match PutRun::begin(wire, SERVER, file) {
+        Ok(run) => Ok(run),
+        Err(_) => Err(Fail::new("not begun")),
+    }
 }
 
 pub(crate) fn is_came(entry: &Entry, at: u16, whom: Endpoint, what: &[u8]) -> bool {

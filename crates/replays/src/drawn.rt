@@ -300,6 +300,17 @@ fn round(
     Ok(())
 }
 
+// A round after this outcome, and what it leaves.
+fn next(
+    alloc: Global,
+    draws: &mut Draws,
+    drawn: &mut Drawn,
+    outcome: &Outcome,
+) -> Result<Outcome, Fail> {
+    round(alloc, draws, drawn, outcome)?;
+    settle(alloc, drawn)
+}
+
 // Rounds until the list is long enough. What it leaves.
 fn fill(alloc: Global, draws: &mut Draws, drawn: &mut Drawn) -> Result<Outcome, Fail> {
     begin(alloc, draws, drawn)?;
@@ -308,8 +319,7 @@ fn fill(alloc: Global, draws: &mut Draws, drawn: &mut Drawn) -> Result<Outcome, 
         if drawn.events.len() >= EVENTS {
             break;
         }
-        round(alloc, draws, drawn, &outcome)?;
-        outcome = settle(alloc, drawn)?;
+        outcome = next(alloc, draws, drawn, &outcome)?;
     }
     Ok(outcome)
 }

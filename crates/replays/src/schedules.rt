@@ -113,13 +113,17 @@ fn were_sent(datagrams: &[Datagram], wanted: &[(Endpoint, Endpoint, Line)]) -> b
 }
 
 // What these events leave, which breaks no promise.
-fn outcome_of(alloc: Global, acts: &[Act<'_>]) -> Result<Outcome, Fail> {
-    let events = events_of(alloc, acts)?;
-    let outcome = replay(alloc, &mut MemoryKeeper::new(alloc), &events)?;
-    match broken_promise(alloc, &events, &outcome, 0)? {
+fn unbroken(alloc: Global, events: &[Event]) -> Result<Outcome, Fail> {
+    let outcome = replay(alloc, &mut MemoryKeeper::new(alloc), events)?;
+    match broken_promise(alloc, events, &outcome, 0)? {
         Some(promise) => Err(Fail::new(promise)),
         None => Ok(outcome),
     }
+}
+
+fn outcome_of(alloc: Global, acts: &[Act<'_>]) -> Result<Outcome, Fail> {
+    let events = events_of(alloc, acts)?;
+    unbroken(alloc, &events)
 }
 
 // A put, and then a get: each datagram is delivered once, in order.

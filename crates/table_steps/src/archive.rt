@@ -223,8 +223,25 @@ pub(crate) const NOTHING: Left<'static> = Left {
     least: None,
 };
 
-// The first of these inputs to this archive that tells something else than wanted; the number of all where they leave
+// The first of these inputs to an archive that tells something else than wanted; the number of all where they leave
 // something else.
+fn other_at<K: Keeper>(
+    alloc: Global,
+    archive: &mut Archive,
+    keeper: &mut K,
+    rows: &[(Input<'_>, Told<'_>)],
+    left: Left<'_>,
+) -> Result<Option<usize>, Fail> {
+    let other = first_other(alloc, archive, keeper, rows)?;
+    if other.is_some() {
+        return Ok(other);
+    }
+    let is_left = is_live(archive, left.live, left.least)
+        && has_texts(alloc, archive, left.lynx, left.ms)?;
+    Ok(if is_left { None } else { Some(rows.len()) })
+}
+
+// The same of an archive that is not needed after them.
 pub(crate) fn other_of<K: Keeper>(
     alloc: Global,
     archive: Archive,
@@ -233,13 +250,7 @@ pub(crate) fn other_of<K: Keeper>(
     left: Left<'_>,
 ) -> Result<Option<usize>, Fail> {
     let mut archive = archive;
-    let other = first_other(alloc, &mut archive, keeper, rows)?;
-    if other.is_some() {
-        return Ok(other);
-    }
-    let is_left = is_live(&archive, left.live, left.least)
-        && has_texts(alloc, &archive, left.lynx, left.ms)?;
-    Ok(if is_left { None } else { Some(rows.len()) })
+    other_at(alloc, &mut archive, keeper, rows, left)
 }
 
 // The same of a new archive, whose keeper has nothing yet.

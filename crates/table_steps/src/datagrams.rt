@@ -153,15 +153,21 @@ fn takes_sevens(alloc: Global, archive: &mut Archive, number: u16) -> Result<boo
     has_told(alloc, &step, Told::Sends(4000, 2, &[0, 4, high, low]))
 }
 
-// A transfer to which 65,534 whole blocks of sevens have come.
-fn nearly_full(alloc: Global) -> Result<Archive, Fail> {
-    let mut archive = Archive::new(alloc);
+// Opens a transfer, to which 65,534 whole blocks of sevens come.
+fn fill(alloc: Global, archive: &mut Archive) -> Result<(), Fail> {
     archive.ask(4000, client(2), WRQ)?;
     for number in 1..65535_u16 {
-        if !takes_sevens(alloc, &mut archive, number)? {
+        if !takes_sevens(alloc, archive, number)? {
             return Err(Fail::new("another answer to a whole block"));
         }
     }
+    Ok(())
+}
+
+// An archive with that transfer.
+fn nearly_full(alloc: Global) -> Result<Archive, Fail> {
+    let mut archive = Archive::new(alloc);
+    fill(alloc, &mut archive)?;
     Ok(archive)
 }
 
@@ -302,13 +308,17 @@ fn is_served(archive: &mut Archive, port: u16, first: Step, text: &[u8]) -> bool
     step.closed && step.out.is_none()
 }
 
+// Whether a request to read is served with this text.
+fn serves_text(archive: &mut Archive, text: &[u8]) -> Result<bool, Fail> {
+    let first = archive.ask(4003, client(9), RRQ)?;
+    Ok(first.opened && is_served(archive, 4003, first, text) && is_live(archive, 2, Some(4000)))
+}
+
 // Whether the collection of two files of these sizes has so many bytes, and a request to read it is served.
 fn serves(alloc: Global, file: u32, size: usize) -> Result<bool, Fail> {
     let mut archive = with_two_files(alloc, file)?;
     let text = archive.text(alloc, Ruleset::Lynx)?;
-    let first = archive.ask(4003, client(9), RRQ)?;
-    let is_whole = text.len() == size && first.opened;
-    Ok(is_whole && is_served(&mut archive, 4003, first, &text) && is_live(&archive, 2, Some(4000)))
+    Ok(text.len() == size && serves_text(&mut archive, &text)?)
 }
 
 // Two files whose collection is long, and is sent: 4,200,048 bytes, in 8,204 blocks.

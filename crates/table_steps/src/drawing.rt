@@ -55,17 +55,27 @@ fn peer(draws: &mut Draws) -> Endpoint {
     }
 }
 
+// The file of this number up to the moves of its record, which has so many bytes.
+fn without_moves(i: u16, size: usize) -> [u8; 28] {
+    let level = (i % 11) as u8;
+    let mut bytes = [0; 28];
+    bytes[..4].copy_from_slice(&[0x35, 0x33, 0x9B, 0x99]);
+    // The ruleset, and the record's size.
+    bytes[4] = (1 + i % 2) as u8;
+    bytes[8..10].copy_from_slice(&((size % 65536) as u16).to_le_bytes());
+    // The number, a letter of the password, the seed and the ticks.
+    bytes[12] = level % 4;
+    bytes[16] = level / 8;
+    bytes[20] = (i % 5) as u8;
+    bytes[24] = (1 + i / 6 % 4) as u8;
+    bytes
+}
+
 // A file of one record, of a few levels of each ruleset, with different ticks and moves. In one of nine that has moves the
 // last one is cut short, one of seven has a byte after its record, and the record of two of eleven is no solution.
 fn file(alloc: Global, i: u16) -> Result<Vec<u8>, Fail> {
     let moves = MOVES.get(usize::from(i / 3 % 5)).copied().unwrap_or(0);
-    let size = (16 + moves % 1000) as u32;
-    let rules = (1 + i % 2) as u8;
-    let mut bytes = Vec::from_slice(alloc, &[0x35, 0x33, 0x9B, 0x99, rules, 0, 0, 0])?;
-    bytes.extend_from_slice(&size.to_le_bytes())?;
-    let level = (i % 11) as u8;
-    bytes.extend_from_slice(&[level % 4, 0, 0, 0, level / 8, 0, 0, 0])?;
-    bytes.extend_from_slice(&[(i % 5) as u8, 0, 0, 0, (1 + i / 6 % 4) as u8, 0, 0, 0])?;
+    let mut bytes = Vec::from_slice(alloc, &without_moves(i, 16 + moves % 1000))?;
     for _ in 0..moves {
         bytes.push(1)?;
     }

@@ -201,24 +201,31 @@ fn loading(rt: HostRuntime) -> Result<(), Fail> {
     Ok(())
 }
 
-// Whether a server finds what was taken, and no more, when it starts again after this call of its keeper has failed. The
-// first call keeps the file, the second and third load.
-fn finds_what_was_taken(alloc: Global, failing: u64) -> Result<bool, Fail> {
-    let mut archive = Archive::new(alloc);
-    let mut keeper = MemoryKeeper::new(alloc);
-    keeper.fail_at(failing);
+// Whether a server takes the file.
+fn takes(archive: &mut Archive, keeper: &mut MemoryKeeper) -> Result<bool, Fail> {
     archive.ask(4000, client(2), WRQ)?;
-    let is_taken = archive
-        .hear(&mut keeper, 4000, client(2), FIRST)
-        .taken
-        .is_some();
-    let is_refused = fault(alloc, &mut keeper).is_some();
+    let step = archive.hear(keeper, 4000, client(2), FIRST);
+    Ok(step.taken.is_some())
+}
+
+// Whether a server finds what was taken, and no more.
+fn finds(alloc: Global, keeper: &mut MemoryKeeper, is_taken: bool) -> Result<bool, Fail> {
     let lynx = if is_taken {
         HUNDRED.as_slice()
     } else {
         EMPTY_LYNX.as_slice()
     };
-    let is_found = loads(alloc, &mut keeper, lynx, EMPTY_MS)?;
+    loads(alloc, keeper, lynx, EMPTY_MS)
+}
+
+// Whether a server finds what was taken when it starts again after this call of its keeper has failed. The first call keeps
+// the file, the second and third load.
+fn finds_what_was_taken(alloc: Global, failing: u64) -> Result<bool, Fail> {
+    let mut keeper = MemoryKeeper::new(alloc);
+    keeper.fail_at(failing);
+    let is_taken = takes(&mut Archive::new(alloc), &mut keeper)?;
+    let is_refused = fault(alloc, &mut keeper).is_some();
+    let is_found = finds(alloc, &mut keeper, is_taken)?;
     Ok(is_found && is_taken == (failing != 1) && is_refused == (failing > 1))
 }
 

@@ -65,15 +65,32 @@ fn no_requests(rt: HostRuntime) -> Result<(), Fail> {
     Ok(())
 }
 
+// Whether these bytes at the request port, with this spare port, tell this.
+fn tells(
+    alloc: Global,
+    archive: &mut Archive,
+    spare: u16,
+    bytes: &[u8],
+    told: Told<'_>,
+) -> Result<bool, Fail> {
+    let step = archive.ask(spare, client(2), bytes)?;
+    has_told(alloc, &step, told)
+}
+
 // Whether the first bytes of the request have no effect, or open a transfer once they have the byte that ends its mode.
 fn is_answered(alloc: Global, count: usize) -> Result<bool, Fail> {
-    let mut archive = Archive::new(alloc);
-    let step = archive.ask(4000, client(2), &RRQ[..count.min(28)])?;
-    if count < 15 {
-        has_told(alloc, &step, Told::Nothing)
+    let told = if count < 15 {
+        Told::Nothing
     } else {
-        has_told(alloc, &step, Told::Opens(4000, 2, EMPTY_MS))
-    }
+        Told::Opens(4000, 2, EMPTY_MS)
+    };
+    tells(
+        alloc,
+        &mut Archive::new(alloc),
+        4000,
+        &RRQ[..count.min(28)],
+        told,
+    )
 }
 
 // A request that is cut short has no effect up to the byte that ends its mode; what follows that has none either.
@@ -85,15 +102,21 @@ fn a_request_cut_short(rt: HostRuntime) -> Result<(), Fail> {
     Ok(())
 }
 
-// A server with 64 transfers, at the ports from 4001 on.
-fn full(alloc: Global) -> Result<Archive, Fail> {
-    let mut archive = Archive::new(alloc);
+// Opens 64 transfers, at the ports from 4001 on.
+fn fill(alloc: Global, archive: &mut Archive) -> Result<(), Fail> {
     for port in 4001..4065 {
-        let step = archive.ask(port, client(2), WRQ)?;
-        if !has_told(alloc, &step, Told::Opens(port, 2, b"\0\x04\0\0"))? {
+        let told = Told::Opens(port, 2, b"\0\x04\0\0");
+        if !tells(alloc, archive, port, WRQ, told)? {
             return Err(Fail::new("not opened"));
         }
     }
+    Ok(())
+}
+
+// A server with so many transfers.
+fn full(alloc: Global) -> Result<Archive, Fail> {
+    let mut archive = Archive::new(alloc);
+    fill(alloc, &mut archive)?;
     Ok(archive)
 }
 

@@ -149,6 +149,26 @@ fn is_given(keeper: &MemoryKeeper, said: &Said) -> bool {
     }
 }
 
+// What two servers differ in after an input, if they do: the answer, the ports or the collections.
+fn difference(
+    alloc: Global,
+    archive: &Archive,
+    plain: &Plain,
+    step: &Step,
+    said: &Said,
+) -> Result<Option<&'static str>, Fail> {
+    if !is_said(alloc, step, said)? {
+        return Ok(Some("the server tells something else"));
+    }
+    if !has_ports(archive, plain) {
+        return Ok(Some("other ports are live"));
+    }
+    if !has_texts(alloc, archive, plain)? {
+        return Ok(Some("another collection"));
+    }
+    Ok(None)
+}
+
 // Gives an input to both servers, which must agree on the answer, what is kept, the ports and the collections.
 fn agree(
     alloc: Global,
@@ -165,16 +185,10 @@ fn agree(
     if !is_given(&keeper, &said) {
         return Err(Fail::new("the keeper is given something else"));
     }
-    if !is_said(alloc, &step, &said)? {
-        return Err(Fail::new("the server tells something else"));
+    match difference(alloc, archive, plain, &step, &said)? {
+        Some(what) => Err(Fail::new(what)),
+        None => Ok(said),
     }
-    if !has_ports(archive, plain) {
-        return Err(Fail::new("other ports are live"));
-    }
-    if !has_texts(alloc, archive, plain)? {
-        return Err(Fail::new("another collection"));
-    }
-    Ok(said)
 }
 
 fn run(alloc: Global, draws: &mut Draws, counts: &mut Counts, number: u16) -> Result<(), Fail> {

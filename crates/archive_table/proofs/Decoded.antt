@@ -1,0 +1,23 @@
+-- A datagram at a port is what its packet is there.
+use Rattle.std.specs.Prelude.{◌≡◌, ℕ, List, Option, None, Some, Ok, Err}
+use Rattle.std.proofs.Common.{refl, ap}
+use Rattle.tftp_packet.specs.declared.endpoint.Endpoint.{Endpoint}
+use Rattle.tftp_packet.specs.declared.packet_fault.PacketFault.{PacketFault}
+use Rattle.tftp_packet.specs.Packet.{Packet}
+use Rattle.tftp_packet.specs.Decode.{decode_bytes}
+use Rattle.archive_table.specs.Server.{Grant, Maps, Server, Transfer, stays, transfer_at, transfer_heard, heard_decoded, packet_live, datagram_at, server_datagram}
+
+module _ (grant : Grant) (maps : Maps) (port : ℕ) (from : Endpoint) (bytes : List ℕ) (s : Server) where
+  come_at : (t : Option Transfer) (packet : Packet) → Ok packet ≡ decode_bytes bytes → packet_live t grant maps port from packet s ≡ datagram_at t grant maps port from bytes s
+  come_at (Some t) packet is = ap (λ r. transfer_heard (heard_decoded t.peer from r) grant maps port from t s) is
+  come_at None packet is = refl
+
+  pub packet_come : (packet : Packet) → Ok packet ≡ decode_bytes bytes → packet_live (transfer_at port s) grant maps port from packet s ≡ server_datagram grant maps port from bytes s
+  packet_come packet is = come_at (transfer_at port s) packet is
+
+  none_at : (t : Option Transfer) (fault : PacketFault) → Err fault ≡ decode_bytes bytes → stays s ≡ datagram_at t grant maps port from bytes s
+  none_at (Some t) fault is = ap (λ r. transfer_heard (heard_decoded t.peer from r) grant maps port from t s) is
+  none_at None fault is = refl
+
+  pub nothing_come : (fault : PacketFault) → Err fault ≡ decode_bytes bytes → stays s ≡ server_datagram grant maps port from bytes s
+  nothing_come fault is = none_at (transfer_at port s) fault is

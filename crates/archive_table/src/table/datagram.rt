@@ -1,0 +1,213 @@
+//! The step of a datagram at a transfer's port.
+
+ghost use Rattle.std.specs.Prelude.{◌≡◌, ◌≢◌, ◌≤◌, ℕ, List, None, Some, true, length};
+ghost use Rattle.std.specs.Map.{remove_entry};
+ghost use Rattle.tftp_packet.specs.Packet.{ack, data_block, error, read, write};
+ghost use Rattle.tws_file.specs.Reader.{IsAnswer};
+ghost use Rattle.archive_table.specs.Server.{nothing_told, transfer_at, IsServer, closes, packet_live, file_done, server_datagram, grant_of, reply_grant, all, unkept, at_port, with_live, Merges, refusal_dgram};
+ghost use Rattle.archive_table.specs.Keeper.{StepKeeps};
+
+use crate::end::End;
+use crate::incoming::Whole;
+use crate::keeper::Keeper;
+use crate::keeping::merge_file;
+use crate::step::Step;
+use crate::table::Table;
+use crate::taken::Taken;
+use std::alloc::Allocator;
+use tftp_ends::SendState;
+use tftp_packet::{Dgram, Endpoint, Packet, Refusal, decode};
+
+// The functions of a step. It is made once and written where it lies, since each of them would copy it to return it.
+impl<A: Allocator + Copy> Table<A> {
+    // The transfer at a port ends.
+    pub(super) fn close(&mut self, port: u16, step: &mut Step<A>)
+        ensures server { self.new ≡ with_live (remove_entry (at_port port) self.old.live) self.old }
+        ensures told { step.new ≡ record { out = step.old.out; opened = step.old.opened; taken = step.old.taken; closed = true } }
+        ensures fits { IsServer self.new }
+    {
+        self.live.remove(port);
+        step.closed = true;
+    }
+
+    // The transfer at a port fails, and the peer is told why.
+    fn fail(&mut self, port: u16, peer: Endpoint, why: Refusal, step: &mut Step<A>)
+        requires new { step.old ≡ nothing_told }
+        ensures server { self.new ≡ (closes port peer (Some (refusal_dgram why)) self.old).server }
+        ensures told { step.new ≡ (closes port peer (Some (refusal_dgram why)) self.old).told }
+        ensures fits { IsServer self.new }
+    {
+        step.send(port, peer, Some(why.dgram()));
+        self.close(port, step);
+    }
+
+    // ACK `n` has come from `from` to a port.
+    #[tactic(auto, using(crate::proofs::Live::remove_set, crate::proofs::Live::set_same, crate::proofs::Replies::data_grant, crate::proofs::Merged::stray_grant))]
+    fn on_ack(&mut self, port: u16, from: Endpoint, n: u16, step: &mut Step<A>)
+        requires new { step.old ≡ nothing_told }
+        ensures server { self.new ≡ (packet_live (transfer_at port self.old) (grant_of step.new.out) self.new.maps port from (ack n) self.old).server }
+        ensures told { step.new ≡ (packet_live (transfer_at port self.old) (grant_of step.new.out) self.new.maps port from (ack n) self.old).told }
+        ensures maps { self.new.maps ≡ self.old.maps }
+        ensures untaken { step.new.taken ≡ None }
+        ensures grant { grant_of step.new.out ≡ all }
+        ensures fits { IsServer self.new }
+    {
+        let Some(transfer) = self.live.get_mut(port) else {
+            return;
+        };
+        if !transfer.is_with(from) {
+            step.send(port, from, Some(Refusal::UnknownTransfer.dgram()));
+            return;
+        }
+        let peer = transfer.peer;
+        let End::Sending(sender) = &mut transfer.end else {
+            return;
+        };
+        if sender.advance(n) {
+            step.send(port, peer, Some(sender.data()));
+            return;
+        }
+        match sender.state() {
+            SendState::Running => {}
+            SendState::Finished | SendState::TimedOut => self.close(port, step),
+        }
+    }
+
+    // A whole file has come: it joins the collection of its rules and is taken, or the transfer is closed.
+    fn on_file<K: Keeper>(
+        &mut self,
+        keeper: &mut K,
+        port: u16,
+        peer: Endpoint,
+        whole: Whole<A>,
+        ack: Option<Dgram>,
+        step: &mut Step<A>,
+    )
+        requires acks { reply_grant ack ≡ all }
+        requires read { IsAnswer whole.file whole.read }
+        requires new { step.old ≡ nothing_told }
+        ensures server { self.new ≡ (file_done (grant_of step.new.out) self.new.maps port peer whole.file ack self.old).server }
+        ensures told { step.new ≡ (file_done (grant_of step.new.out) self.new.maps port peer whole.file ack self.old).told }
+        ensures merges { Merges step.new.taken self.old.maps self.new.maps }
+        ensures keeps { StepKeeps (grant_of step.new.out) (Some (record { peer = peer; file = whole.file })) self.old.maps self.new.maps (K.log keeper.old) (K.log keeper.new) }
+        ensures untouched { grant_of step.new.out ≢ unkept → self.new.maps ≡ self.old.maps → keeper.new ≡ keeper.old }
+        ensures fits { IsServer self.new }
+    {
+        let Whole { file, read } = whole;
+        match merge_file(&mut self.lynx, &mut self.ms, keeper, &read) {
+            Ok(()) => {
+                step.send(port, peer, ack);
+                step.taken = Some(Taken { peer, file });
+            }
+            Err(why) => self.fail(port, peer, why, step),
+        }
+    }
+
+    // DATA `n` has come from `from` to a port.
+    #[tactic(auto, using(crate::proofs::Live::remove_set, crate::proofs::Live::set_same, crate::proofs::Replies::data_reply, crate::proofs::Replies::past_grant, crate::proofs::Replies::memory_grant, crate::proofs::Replies::sent_grant, crate::proofs::Live::done_come))]
+    fn on_data<K: Keeper>(
+        &mut self,
+        keeper: &mut K,
+        port: u16,
+        from: Endpoint,
+        n: u16,
+        body: &[u8],
+        step: &mut Step<A>,
+    )
+        requires short { length body.now ≤ 512 }
+        requires new { step.old ≡ nothing_told }
+        ensures server { self.new ≡ (packet_live (transfer_at port self.old) (grant_of step.new.out) self.new.maps port from (data_block n body.now) self.old).server }
+        ensures told { step.new ≡ (packet_live (transfer_at port self.old) (grant_of step.new.out) self.new.maps port from (data_block n body.now) self.old).told }
+        ensures merges { Merges step.new.taken self.old.maps self.new.maps }
+        ensures keeps { StepKeeps (grant_of step.new.out) (packet_live (transfer_at port self.old) all self.old.maps port from (data_block n body.now) self.old).told.taken self.old.maps self.new.maps (K.log keeper.old) (K.log keeper.new) }
+        ensures untouched { grant_of step.new.out ≢ unkept → self.new.maps ≡ self.old.maps → keeper.new ≡ keeper.old }
+        ensures fits { IsServer self.new }
+    {
+        let Some(transfer) = self.live.get_mut(port) else {
+            return;
+        };
+        if !transfer.is_with(from) {
+            step.send(port, from, Some(Refusal::UnknownTransfer.dgram()));
+            return;
+        }
+        let peer = transfer.peer;
+        let End::Receiving(incoming) = &mut transfer.end else {
+            return;
+        };
+        let came = incoming.on_data(n, body);
+        match came {
+            Err(fault) => self.fail(port, peer, fault.refusal(), step),
+            Ok((ack, whole)) => match whole {
+                None => step.send(port, peer, ack),
+                Some(whole) => self.on_file(keeper, port, peer, whole, ack, step),
+            },
+        }
+    }
+
+    // A request has come from `from` to a transfer's port.
+    #[tactic(auto, using(crate::proofs::Merged::stray_grant))]
+    fn on_misplaced_request(&mut self, port: u16, from: Endpoint, step: &mut Step<A>)
+        requires new { step.old ≡ nothing_told }
+        ensures server { self.new ≡ self.old }
+        ensures reads { (name mode : List ℕ) → record { server = self.new; told = step.new } ≡ (packet_live (transfer_at port self.old) (grant_of step.new.out) self.new.maps port from (read name mode) self.old) }
+        ensures writes { (name mode : List ℕ) → record { server = self.new; told = step.new } ≡ (packet_live (transfer_at port self.old) (grant_of step.new.out) self.new.maps port from (write name mode) self.old) }
+        ensures untaken { step.new.taken ≡ None }
+        ensures grant { grant_of step.new.out ≡ all }
+        ensures fits { IsServer self.new }
+    {
+        let Some(transfer) = self.live.get(port) else {
+            return;
+        };
+        if !transfer.is_with(from) {
+            step.send(port, from, Some(Refusal::UnknownTransfer.dgram()));
+        }
+    }
+
+    // An ERROR has come from `from` to a port. It is never answered.
+    fn on_error(&mut self, port: u16, from: Endpoint, step: &mut Step<A>)
+        requires new { step.old ≡ nothing_told }
+        ensures step { (code : ℕ) (text : List ℕ) → record { server = self.new; told = step.new } ≡ (packet_live (transfer_at port self.old) (grant_of step.new.out) self.new.maps port from (error code text) self.old) }
+        ensures maps { self.new.maps ≡ self.old.maps }
+        ensures untaken { step.new.taken ≡ None }
+        ensures grant { grant_of step.new.out ≡ all }
+        ensures fits { IsServer self.new }
+    {
+        let Some(transfer) = self.live.get(port) else {
+            return;
+        };
+        if transfer.is_with(from) {
+            self.close(port, step);
+        }
+    }
+
+    // A datagram of these bytes has come from `from` to a transfer's port. Its port is looked up once.
+    #[tactic(auto, using(crate::proofs::Decoded::packet_come, crate::proofs::Decoded::nothing_come))]
+    pub(super) fn hear<K: Keeper>(
+        &mut self,
+        keeper: &mut K,
+        port: u16,
+        from: Endpoint,
+        bytes: &[u8],
+        step: &mut Step<A>,
+    )
+        requires new { step.old ≡ nothing_told }
+        ensures server { self.new ≡ (server_datagram (grant_of step.new.out) self.new.maps port from bytes.now self.old).server }
+        ensures told { step.new ≡ (server_datagram (grant_of step.new.out) self.new.maps port from bytes.now self.old).told }
+        ensures merges { Merges step.new.taken self.old.maps self.new.maps }
+        ensures keeps { StepKeeps (grant_of step.new.out) (server_datagram all self.old.maps port from bytes.now self.old).told.taken self.old.maps self.new.maps (K.log keeper.old) (K.log keeper.new) }
+        ensures untouched { grant_of step.new.out ≢ unkept → self.new.maps ≡ self.old.maps → keeper.new ≡ keeper.old }
+        ensures fits { IsServer self.new }
+    {
+        match decode(bytes) {
+            Ok(Packet::Ack { block }) => self.on_ack(port, from, block, step),
+            Ok(Packet::Data { block, body }) => self.on_data(keeper, port, from, block, body, step),
+            Ok(Packet::Error { .. }) => self.on_error(port, from, step),
+            Ok(Packet::Read { .. }) => self.on_misplaced_request(port, from, step),
+            Ok(Packet::Write { .. }) => self.on_misplaced_request(port, from, step),
+            Err(_) => {
+                // A field is read, since only then the invariant is known here.
+                let _request = self.request;
+            }
+        }
+    }
+}
