@@ -180,7 +180,8 @@ impl<A: Allocator + Copy> Table<A> {
         }
     }
 
-    // A datagram of these bytes has come from `from` to a transfer's port. Its port is looked up once.
+    // A datagram of these bytes has come from `from` to a transfer's port. The port is looked up once, and once more
+    // where the transfer ends.
     #[tactic(auto, using(crate::proofs::Decoded::packet_come, crate::proofs::Decoded::nothing_come))]
     pub(super) fn hear<K: Keeper>(
         &mut self,
