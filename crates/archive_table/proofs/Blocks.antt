@@ -1,16 +1,15 @@
 -- Which DATA bring a new block: those that are the next one and are answered.
-use Rattle.std.specs.Prelude.{◌≡◌, ℕ, ◌+◌, ◌*◌, ◌<◌, ◌≤◌, ◌^◌, Bool, true, false, ◌==◌, nat_lt, ◌&&◌, List, ◌++◌, length, Option, None, Some, IsSome, IfSome, is_some, Result, Ok, Err}
+use Rattle.std.specs.Prelude.{◌≡◌, ℕ, ◌+◌, Bool, true, false, ◌==◌, nat_lt, ◌&&◌, List, ◌++◌, Option, None, Some, IfSome, is_some, Result, Ok, Err}
 use Rattle.std.proofs.Common.{refl, sym, ap, ◌∙◌, subst}
 use native.Mathlib.Omega.{arith}
 use Rattle.std.proofs.lemmas.Bool.{true≢false}
 use Rattle.std.proofs.lemmas.Map.Views.{exact_unsigned_eq}
 use Rattle.tftp_packet.specs.Packet.{Packet}
-use Rattle.tftp_packet.specs.declared.sizes.TheConstants.{BLOCK_SIZE}
 use Rattle.tftp_ends.specs.declared.recv_fault.RecvFault.{RecvFault}
 use Rattle.tftp_ends.specs.declared.recv_state.RecvState.{RecvState}
 use Rattle.tftp_ends.specs.declared.recv_state.RecvState.TheVariants.{Running, Complete, TimedOut, Over}
-use Rattle.tftp_ends.specs.Ends.{granted, Receiver, receiver_next, receiver_again, receiver_running, receiver_data_in, receiver_data, receiver_take, receiver_take_in, receiver_appends, is_past, is_last_come, answer_of, HasSize, IsReceiver, IsEnded}
-use Rattle.tws_file.specs.Reader.{Reading, reading, stopped, HasTaken, HasRoom}
+use Rattle.tftp_ends.specs.Ends.{granted, Receiver, receiver_next, receiver_again, receiver_running, receiver_data_in, receiver_data, receiver_take, receiver_take_in, receiver_appends, is_past, is_last_come, answer_of, IsReceiver, IsEnded}
+use Rattle.tws_file.specs.Reader.{Reading, HasTaken}
 use Rattle.archive_table.specs.Server.{IsReceiving}
 use Rattle.archive_table.specs.Incoming.{HasRead}
 use Rattle.archive_table.proofs.Found.{some_none}
@@ -54,20 +53,6 @@ module _ (n : ℕ) (body : List ℕ) (r : Receiver) where
   in_came Complete h y = again_came (is_last_come n r) (not_last (exact_unsigned_eq n (r.count + 1) y)) h
   in_came TimedOut h y = no h
   in_came Over h y = no h
-
-  again_none : (last : Bool) → (last ≡ true → ⊥) → is_answered (receiver_again last r).result ≡ true → ⊥
-  again_none true other h = other refl
-  again_none false other h = no h
-
-  in_running : (state : RecvState) → is_answered (receiver_data_in state granted n body r).result ≡ true → (n == r.count + 1) ≡ true → state ≡ Running
-  in_running Running h y = refl
-  in_running Complete h y = absurd (again_none (is_last_come n r) (not_last (exact_unsigned_eq n (r.count + 1) y)) h)
-  in_running TimedOut h y = no h
-  in_running Over h y = no h
-
-  -- only to a receiver that runs
-  pub is_running : is_answered (receiver_data granted n body r).result ≡ true → (n == r.count + 1) ≡ true → r.state ≡ Running
-  is_running h y = in_running r.state h y
 
   -- the next block that is answered has come
   pub has_come : is_answered (receiver_data granted n body r).result ≡ true → (n == r.count + 1) ≡ true → HasCome n body r (receiver_data granted n body r).receiver
@@ -137,9 +122,6 @@ come_read n body old new pushed was now h held go =
       read = subst (λ (o : Option (List ℕ)). IfSome o (HasTaken now)) (sym h.appended) (read_on old.file was now body held.read go);
     }
 
-pub stay_read : (old new : Receiver) (pushed : ℕ) (was : Reading) → new ≡ old → HasRead old pushed was → HasRead new pushed was
-stay_read old new pushed was is h = subst (λ r. HasRead r pushed was) (sym is) h
-
 -- ---- a whole file is taken out
 
 take_in : (state : RecvState) (r : Receiver) (pushed : ℕ) (was : Reading) → HasRead r pushed was → HasRead (receiver_take_in state r).receiver pushed was
@@ -170,22 +152,6 @@ took_in Over r file is = (refl, is)
 -- the file that is handed out was the receiver's, and is gone
 pub took : (r : Receiver) (file : List ℕ) → (receiver_take r).file ≡ Some file → ((receiver_take r).receiver.file ≡ None) × (r.file ≡ Some file)
 took r file is = took_in r.state r file is
-
--- ---- room
-
-room_at : (was : Reading) (bytes body : List ℕ) → HasTaken was bytes → length bytes + length body < 2 ^ 64 → HasRoom was body
-room_at (reading xs) bytes body is room = subst (λ xs. length xs + length body < 2 ^ 64) (sym is) room
-room_at (stopped fault) bytes body is room = tt
-
-room_of : (r : Receiver) (body : List ℕ) (was : Reading) (file : Option (List ℕ)) → r.state ≡ Running → r.file ≡ file → IsReceiver r → IfSome file (HasTaken was) → length body ≤ 512 → HasRoom was body
-room_of r body was None running is fits read short = absurd (true≢false (sym (subst IsSome is (fits.held running))))
-room_of r body was (Some bytes) running is fits read short =
-    let size : length bytes ≡ BLOCK_SIZE * r.count = subst (λ s. HasSize s r.count bytes) running (subst (λ (o : Option (List ℕ)). IfSome o (HasSize r.state r.count)) is fits.size) in
-    room_at was bytes body read (omega (arith, size, short, fits.room running))
-
--- a block that is new has room to be pushed
-pub has_room : (n : ℕ) (body : List ℕ) (r : Receiver) (pushed : ℕ) (was : Reading) → is_answered (receiver_data granted n body r).result ≡ true → (n == r.count + 1) ≡ true → IsReceiver r → HasRead r pushed was → length body ≤ 512 → HasRoom was body
-has_room n body r pushed was h y fits read short = room_of r body was r.file (is_running n body r h y) refl fits read.read short
 
 pub same_read : (r s : Receiver) (p q : ℕ) (was now : Reading) → r ≡ s → p ≡ q → was ≡ now → HasRead s q now → HasRead r p was
 same_read r s p q was now rs pq wn h = subst (λ r. HasRead r p was) (sym rs) (subst (λ p. HasRead s p was) (sym pq) (subst (λ w. HasRead s q w) (sym wn) h))

@@ -1,5 +1,5 @@
 -- What always holds of a server, as its transfers are added, written and taken out.
-use Rattle.std.specs.Prelude.{◌≡◌, ◌≢◌, ℕ, suc, ◌<◌, ◌≤◌, Bool, true, false, cond, List, [], ◌∷◌, length, Option, None, Some, IfSome}
+use Rattle.std.specs.Prelude.{◌≡◌, ◌≢◌, ℕ, suc, ◌<◌, ◌≤◌, Bool, true, false, cond, List, [], ◌∷◌, length, None, Some}
 use Rattle.std.proofs.Common.{sym, ap, ◌∙◌, inl, inr, subst}
 use native.Mathlib.Omega.{arith}
 use Rattle.std.specs.List.{All}
@@ -13,7 +13,7 @@ use Rattle.std.proofs.lemmas.Bool.{cases_Bool, ltb-true, ltb-false}
 use Rattle.std.proofs.Math.Dec.{ltb}
 use Rattle.std.proofs.lemmas.List.Elements.{All-cons, All-nil, All-weaker}
 use Rattle.std.proofs.lemmas.Map.{length-set_value, keys-set_value}
-use Rattle.std.proofs.lemmas.Map.Views.{All-values-insert_entry, All-keys-insert_entry, All-map-remove_entry, All-values-set_value, IfSome-lookup_from_All}
+use Rattle.std.proofs.lemmas.Map.Views.{All-values-insert_entry, All-keys-insert_entry, All-map-remove_entry, All-values-set_value}
 use Rattle.tws_file.specs.declared.«ruleset».Ruleset.TheVariants.{Lynx, Ms}
 use Rattle.archive_table.specs.declared.limits.TheConstants.{LIVE}
 use Rattle.archive_table.specs.Server.{Server, Transfer, IsEnd, AreRising, IsServer, at_port, transfer_at, with_live, has_place}
@@ -64,10 +64,6 @@ module _ {T : Type 0} where
       by : (b : Bool) → length (remove_entry test es) ≤ length es → length (cond b es (e ∷ remove_entry test es)) ≤ length (e ∷ es)
       by true h = omega arith
       by false h = omega (arith, h)
-
--- the transfer at a port fits
-pub end_at : (port : ℕ) (t : Transfer) (s : Server) → IsServer s → transfer_at port s ≡ Some t → IsEnd t.end
-end_at port t s h is = subst (λ (o : Option Transfer). IfSome o (λ t. IsEnd t.end)) is (IfSome-lookup_from_All (λ t. IsEnd t.end) (at_port port) s.live h.ends)
 
 pub set_fits : (port : ℕ) (t : Transfer) (s : Server) → IsServer s → IsEnd t.end → IsServer (with_live (set_value (at_port port) s.live t) s)
 set_fits port t s h end =

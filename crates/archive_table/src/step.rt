@@ -1,10 +1,12 @@
-ghost use Rattle.std.specs.Prelude.{◌≡◌, None};
-ghost use Rattle.archive_table.specs.Server.{nothing_told, sends_from};
+ghost use Rattle.std.specs.Prelude.{◌≡◌, false, None, Some};
+ghost use Rattle.tftp_packet.specs.Refusal.{refusal_packet};
+ghost use Rattle.tftp_packet.specs.declared.refusal.Refusal.TheVariants.{UnknownTransfer};
+ghost use Rattle.archive_table.specs.Server.{nothing_told, sends_from, out_from, grant_of, all};
 
 use crate::taken::Taken;
 use std::alloc::{Allocator, Global};
 use std::marker::Model;
-use tftp_packet::{Dgram, Endpoint, Out};
+use tftp_packet::{Dgram, Endpoint, Out, Refusal};
 
 /// What a call of the table returns.
 #[derive(Drop)]
@@ -55,5 +57,15 @@ impl<A: Allocator> Step<A> {
                 dgram,
             });
         }
+    }
+
+    // Answers a packet that has come to a port from another endpoint than the peer of its transfer, RFC 1350 section 4.
+    #[tactic(auto, using(crate::proofs::Merged::stray_grant))]
+    pub(crate) fn answer_stranger(&mut self, port: u16, from: Endpoint)
+        requires new { self.old ≡ nothing_told }
+        ensures told { self.new ≡ record { out = Some (out_from port from (refusal_packet UnknownTransfer)); opened = false; taken = None; closed = false } }
+        ensures grant { grant_of self.new.out ≡ all }
+    {
+        self.send(port, from, Some(Refusal::UnknownTransfer.dgram()));
     }
 }

@@ -42,7 +42,7 @@ impl<A: Allocator + Copy> Table<A> {
     }
 
     // ACK `n` has come from `from` to a port.
-    #[tactic(auto, using(crate::proofs::Live::remove_set, crate::proofs::Live::set_same, crate::proofs::Replies::data_grant, crate::proofs::Merged::stray_grant))]
+    #[tactic(auto, using(crate::proofs::Live::remove_set, crate::proofs::Live::set_same, crate::proofs::Replies::data_grant))]
     fn on_ack(&mut self, port: u16, from: Endpoint, n: u16, step: &mut Step<A>)
         requires new { step.old ≡ nothing_told }
         ensures server { self.new ≡ (packet_live (transfer_at port self.old) (grant_of step.new.out) self.new.maps port from (ack n) self.old).server }
@@ -56,7 +56,7 @@ impl<A: Allocator + Copy> Table<A> {
             return;
         };
         if !transfer.is_with(from) {
-            step.send(port, from, Some(Refusal::UnknownTransfer.dgram()));
+            step.answer_stranger(port, from);
             return;
         }
         let peer = transfer.peer;
@@ -127,7 +127,7 @@ impl<A: Allocator + Copy> Table<A> {
             return;
         };
         if !transfer.is_with(from) {
-            step.send(port, from, Some(Refusal::UnknownTransfer.dgram()));
+            step.answer_stranger(port, from);
             return;
         }
         let peer = transfer.peer;
@@ -145,7 +145,6 @@ impl<A: Allocator + Copy> Table<A> {
     }
 
     // A request has come from `from` to a transfer's port.
-    #[tactic(auto, using(crate::proofs::Merged::stray_grant))]
     fn on_misplaced_request(&mut self, port: u16, from: Endpoint, step: &mut Step<A>)
         requires new { step.old ≡ nothing_told }
         ensures server { self.new ≡ self.old }
@@ -159,7 +158,7 @@ impl<A: Allocator + Copy> Table<A> {
             return;
         };
         if !transfer.is_with(from) {
-            step.send(port, from, Some(Refusal::UnknownTransfer.dgram()));
+            step.answer_stranger(port, from);
         }
     }
 

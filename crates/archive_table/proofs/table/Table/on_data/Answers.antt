@@ -3,7 +3,7 @@ use Rattle.archive_table.specs.Server.{Server, Told, grant_of, dgram_grant, refu
 use Rattle.archive_table.specs.View.{server_of}
 use Rattle.tftp_ends.specs.Ends.{granted}
 use Rattle.tftp_packet.specs.declared.refusal.Refusal.{Refusal}
-use Rattle.archive_table.proofs.Merged.{keeps_same, keeps_all, fault_grant, stray_grant}
+use Rattle.archive_table.proofs.Merged.{keeps_same, keeps_all, fault_grant}
 use Rattle.archive_table.proofs.Replies.{data_reply, sent_grant}
 use Rattle.archive_table.proofs.Serving.{set_fits}
 use Rattle.archive_table.proofs.table.Table.on_data.Goals as goal
@@ -27,12 +27,10 @@ returns-in-Err-clause-keeps g c =
 
 pub returns-in-None-clause-keeps : goal.returns-in-None-clause-keeps
 returns-in-None-clause-keeps g c =
-    keeps_all (grant_of c.send-in-None.new.self.out) _ c.args.self.now.maps _ _ _
-    (ap (λ (t : Told). grant_of t.out) c.send-in-None.ensures ∙ sent_grant c.args.port _ c.in-Ok.ack (data_reply granted c.args.n c.args.body.now _ c.in-Ok.ack c.in-Ok.ensures.sent))
+    keeps_all (grant_of c.send.new.self.out) _ c.args.self.now.maps _ _ _
+    (ap (λ (t : Told). grant_of t.out) c.send.ensures ∙ sent_grant c.args.port _ c.in-Ok.ack (data_reply granted c.args.n c.args.body.now _ c.in-Ok.ack c.in-Ok.ensures.sent))
     (ap (λ (s : Server). s.maps) c.self.view_is) refl
 
 pub returns-then-not-is_with-clause-keeps : goal.returns-then-not-is_with-clause-keeps
 returns-then-not-is_with-clause-keeps g c =
-    keeps_all (grant_of c.send.new.self.out) _ c.args.self.now.maps _ _ _
-    (ap (λ (t : Told). grant_of t.out) c.send.ensures ∙ (ap dgram_grant c.dgram.ensures.bytes ∙ stray_grant))
-    (ap (λ (s : Server). s.maps) c.self.view_is) refl
+    keeps_all (grant_of c.answer_stranger.new.self.out) _ c.args.self.now.maps _ _ _ c.answer_stranger.ensures.grant (ap (λ (s : Server). s.maps) c.self.view_is) refl
