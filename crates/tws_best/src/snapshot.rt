@@ -48,9 +48,9 @@ impl<A: Allocator> Model for Snapshot<A> {
 
 impl<A: Allocator + Copy> Snapshot<A> {
     // The records of these bodies. An error comes where the memory for the two lists was refused.
-    pub(crate) fn of(alloc: A, ruleset: Ruleset, kept: &Bodies<A>) -> Result<Self, AllocError>
+    pub(crate) fn of(alloc: A, kind: Ruleset, kept: &Bodies<A>) -> Result<Self, AllocError>
         requires { 8 + length (flat_map body_text (values kept.now)) < 2 ^ 64 }
-        ensures rules { IfOk result (λ s. s.ruleset ≡ «ruleset») }
+        ensures rules { IfOk result (λ s. s.ruleset ≡ kind) }
         ensures bodies { IfOk result (λ s. s.bodies ≡ values kept.now) }
     {
         let mut starts = Vec::with_capacity(alloc, kept.len())?;
@@ -62,7 +62,7 @@ impl<A: Allocator + Copy> Snapshot<A> {
             len += 4 + u64::from(body.size());
         }
         Ok(Snapshot {
-            ruleset,
+            ruleset: kind,
             len,
             starts,
             bodies,

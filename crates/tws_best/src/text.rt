@@ -35,10 +35,10 @@ pub(crate) fn size_bytes<A: Allocator>(body: &Body<A>) -> [u8; 4]
 }
 
 // The header of a collection's text.
-pub(crate) fn header_bytes(ruleset: Ruleset) -> [u8; 8]
-    ensures { result ≡ collection_header «ruleset» }
+pub(crate) fn header_bytes(kind: Ruleset) -> [u8; 8]
+    ensures { result ≡ collection_header kind }
 {
-    [0x35, 0x33, 0x9B, 0x99, ruleset.code(), 0, 0, 0]
+    [0x35, 0x33, 0x9B, 0x99, kind.code(), 0, 0, 0]
 }
 
 // Sends one record.
@@ -73,16 +73,16 @@ fn send_bodies<A: Allocator, W: Write>(
 
 // Writes a header, and a record for each body.
 pub(crate) fn write_parts<A: Allocator, W: Write>(
-    ruleset: Ruleset,
+    kind: Ruleset,
     kept: &Bodies<A>,
     out: &mut W,
 ) -> Result<(), OutFault>
-    ensures ok { OnOk result (Appends (W.contents out.old) (W.contents out.new) (collection_header «ruleset» ++ flat_map body_text (values kept.now))) }
-    ensures err { OnErr result (AppendsPrefix (W.contents out.old) (W.contents out.new) (collection_header «ruleset» ++ flat_map body_text (values kept.now))) }
+    ensures ok { OnOk result (Appends (W.contents out.old) (W.contents out.new) (collection_header kind ++ flat_map body_text (values kept.now))) }
+    ensures err { OnErr result (AppendsPrefix (W.contents out.old) (W.contents out.new) (collection_header kind ++ flat_map body_text (values kept.now))) }
     ensures io { IfErr result (λ e. e ≡ OutFault.Io) }
 {
     let mut buffer = Buffer::new();
-    buffer.send(&header_bytes(ruleset), out)?;
+    buffer.send(&header_bytes(kind), out)?;
     send_bodies(&mut buffer, kept, out)?;
     put(out, buffer.as_slice())
 }
