@@ -1,7 +1,7 @@
 // Runs of clients over wires in memory.
 use crate::wires::*;
 use archive_client::Cause;
-use archive_turns::{Entry, MemoryWire, RunFault, Wire, run_get, run_put};
+use archive_turns::{MemoryWire, RunFault, Wire, run_get, run_put};
 use std::alloc::Global;
 use std::test::Fail;
 use tws_file::Ruleset;
@@ -83,36 +83,6 @@ fn a_put_that_is_never_answered(rt: HostRuntime) -> Result<(), Fail> {
             (Err(RunFault::Transfer(Cause::TimedOut)), sent)
         );
     }
-    Ok(())
-}
-
-// Whether all calls of a wire were that its port was opened and closed again.
-fn has_closed_alone(wire: &MemoryWire) -> bool {
-    let [opened, closed] = wire.log() else {
-        return false;
-    };
-    is_opened(opened, Some(5000)) && matches!(closed, Entry::Closed(5000, true))
-}
-
-#[test]
-fn a_put_that_is_too_long(rt: HostRuntime) -> Result<(), Fail> {
-    let mut wire = wire_of(rt.alloc(), &[5000])?;
-    let file = vec![in rt.alloc(); 7; 33553920]?;
-    let answer = run_put(&mut wire, SERVER, file, 9);
-    assert_eq!(rt;
-        (answer, has_closed_alone(&wire)),
-        (Err(RunFault::Transfer(Cause::TooLong)), true)
-    );
-    Ok(())
-}
-
-#[test]
-fn a_put_that_is_refused(rt: HostRuntime) -> Result<(), Fail> {
-    let mut wire = wire_of(rt.alloc(), &[5000])?;
-    wire.arrive(rt.alloc(), 5000, SERVER, b"\0\x05\0\x02no\0")?;
-    let file = Vec::from_slice(rt.alloc(), F1)?;
-    let answer = run_put(&mut wire, SERVER, file, 9);
-    assert_eq!(rt; answer, Err(RunFault::Transfer(Cause::Refused(2))));
     Ok(())
 }
 

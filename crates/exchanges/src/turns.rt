@@ -2,7 +2,7 @@
 use crate::wires::*;
 use archive_client::State;
 use archive_table::NoKeeper;
-use archive_turns::{Entry, MemoryWire, PutRun, ReadyServer, Server, Wire, run_get, serve_turns};
+use archive_turns::{MemoryWire, PutRun, ReadyServer, Server, Wire, run_get, serve_turns};
 use std::alloc::Global;
 use std::test::Fail;
 use tftp_packet::Endpoint;
@@ -52,18 +52,6 @@ fn a_spare_port_of_0(rt: HostRuntime) -> Result<(), Fail> {
     Ok(())
 }
 
-// A keeper that has nothing gives empty collections.
-#[test]
-fn a_server_from_a_keeper(rt: HostRuntime) -> Result<(), Fail> {
-    let Ok(server) = Server::load(rt.alloc(), 6969, &mut NoKeeper) else {
-        return Err(Fail::new("not loaded"));
-    };
-    let table = server.table();
-    let is_empty = table.collection(Ruleset::Lynx).is_empty();
-    assert_eq!(rt; (is_empty, table.live()), (true, 0));
-    Ok(())
-}
-
 #[test]
 fn a_ready_server_from_a_keeper(rt: HostRuntime) -> Result<(), Fail> {
     let Ok(server) = ReadyServer::load(rt.alloc(), 6969, &mut NoKeeper) else {
@@ -72,29 +60,6 @@ fn a_ready_server_from_a_keeper(rt: HostRuntime) -> Result<(), Fail> {
     let table = server.table();
     let is_empty = table.collection(Ruleset::Ms).is_empty();
     assert_eq!(rt; (is_empty, table.live()), (true, 0));
-    Ok(())
-}
-
-// Whether the last of four calls sent an error to the client and closed its spare port.
-fn has_refused(wire: &MemoryWire) -> bool {
-    let [_, _, sent, closed] = wire.log() else {
-        return false;
-    };
-    is_sent(sent, 6969, C1, b"\0\x05\0\x01no such file\0", true)
-        && matches!(closed, Entry::Closed(4000, true))
-}
-
-// The spare port of a request that is refused is closed again.
-#[test]
-fn a_request_that_is_refused(rt: HostRuntime) -> Result<(), Fail> {
-    let mut wire = wire_of(rt.alloc(), &[4000])?;
-    wire.arrive(rt.alloc(), 6969, C1, b"\0\x01MS.TWS\0octet\0")?;
-    let mut server = Server::new(rt.alloc(), 6969);
-    let taken = server.turn(&mut wire, &mut NoKeeper);
-    assert_eq!(rt;
-        (taken, server.table().live(), has_refused(&wire)),
-        (false, 0, true)
-    );
     Ok(())
 }
 

@@ -1,10 +1,7 @@
 // Files from outside, and what is kept of them. The texts that are wanted are written out by hand.
-use byte_output::OutFault;
 use std::alloc::Global;
-use std::io;
-use std::io::Write;
 use std::test::Fail;
-use tws_best::{Collection, Rank};
+use tws_best::Collection;
 use tws_file::{Key, Ruleset, read_file};
 
 pub(crate) const LYNX: [u8; 8] = [0x35, 0x33, 0x9B, 0x99, 1, 0, 0, 0];
@@ -12,19 +9,19 @@ pub(crate) const LYNX: [u8; 8] = [0x35, 0x33, 0x9B, 0x99, 1, 0, 0, 0];
 pub(crate) const MS: [u8; 8] = [0x35, 0x33, 0x9B, 0x99, 2, 0, 0, 0];
 
 // Level 1, BDHP, 100 ticks, no moves.
-pub(crate) const HUNDRED: [u8; 28] = [
+const HUNDRED: [u8; 28] = [
     0x35, 0x33, 0x9B, 0x99, 1, 0, 0, 0, 0x10, 0, 0, 0, 1, 0, 0x42, 0x44, 0x48, 0x50, 0, 0, 0, 0, 0,
     0, 100, 0, 0, 0,
 ];
 
 // The same with 90 ticks.
-pub(crate) const NINETY: [u8; 28] = [
+const NINETY: [u8; 28] = [
     0x35, 0x33, 0x9B, 0x99, 1, 0, 0, 0, 0x10, 0, 0, 0, 1, 0, 0x42, 0x44, 0x48, 0x50, 0, 0, 0, 0, 0,
     0, 90, 0, 0, 0,
 ];
 
 // Level 2 in 20 ticks, a pad, and level 1 in 10 ticks; and the text that is kept of it.
-pub(crate) const UNORDERED: [u8; 52] = [
+const UNORDERED: [u8; 52] = [
     0x35, 0x33, 0x9B, 0x99, 1, 0, 0, 0, 0x10, 0, 0, 0, 2, 0, 0x42, 0x42, 0x42, 0x42, 0, 0, 0, 0, 0,
     0, 0x14, 0, 0, 0, 0, 0, 0, 0, 0x10, 0, 0, 0, 1, 0, 0x43, 0x43, 0x43, 0x43, 0, 0, 0, 0, 0, 0,
     0x0A, 0, 0, 0,
@@ -182,15 +179,6 @@ fn copies_stay(rt: HostRuntime) -> Result<(), Fail> {
     let is_changed = second_alone_changes(rt.alloc(), &mut collection)?;
     let stays = has_text(rt.alloc(), &early, &HUNDRED);
     assert_eq!(rt; (is_changed, stays), (true, true));
-    Ok(())
-}
-
-#[test]
-fn files_of_other_rules(rt: HostRuntime) -> Result<(), Fail> {
-    let texts: [&[u8]; 2] = [&HUNDRED, &NINETY];
-    let in_lynx = are_merged_to(rt.alloc(), Ruleset::Lynx, &texts, &NINETY)?;
-    let in_ms = are_merged_to(rt.alloc(), Ruleset::Ms, &texts, &MS)?;
-    assert_eq!(rt; (in_lynx, in_ms), (true, true));
     Ok(())
 }
 
@@ -361,126 +349,5 @@ fn no_other_record_is_kept(rt: HostRuntime) -> Result<(), Fail> {
     let is_alone = is_kept_as(rt.alloc(), &among, &HUNDRED)?;
     let is_none = is_kept_as(rt.alloc(), &[&SET, &PAD, &BARE], &LYNX)?;
     assert_eq!(rt; (is_alone, is_none), (true, true));
-    Ok(())
-}
-
-// Adds a solution without moves.
-fn push_level(alloc: Global, text: &mut Vec<u8>, number: u16, ticks: u32) -> Result<(), Fail> {
-    let record = record(alloc, number, b"BDHP", 0, ticks, &[])?;
-    Ok(text.extend_from_slice(&record)?)
-}
-
-// The levels from the last to the first.
-fn slow_levels(alloc: Global) -> Result<Vec<u8>, Fail> {
-    let mut text = Vec::from_slice(alloc, &LYNX)?;
-    for number in 1..200u16 {
-        push_level(alloc, &mut text, 200 - number, 500)?;
-    }
-    Ok(text)
-}
-
-// Every second level, and faster.
-fn fast_levels(alloc: Global) -> Result<Vec<u8>, Fail> {
-    let mut text = Vec::from_slice(alloc, &LYNX)?;
-    for number in 1..200u16 {
-        if number % 2 == 0 {
-            push_level(alloc, &mut text, number, 400)?;
-        }
-    }
-    Ok(text)
-}
-
-fn best_levels(alloc: Global) -> Result<Vec<u8>, Fail> {
-    let mut text = Vec::from_slice(alloc, &LYNX)?;
-    for number in 1..200u16 {
-        let ticks = if number % 2 == 0 { 400 } else { 500 };
-        push_level(alloc, &mut text, number, ticks)?;
-    }
-    Ok(text)
-}
-
-#[test]
-fn many_levels(rt: HostRuntime) -> Result<(), Fail> {
-    let slow = slow_levels(rt.alloc())?;
-    let fast = fast_levels(rt.alloc())?;
-    let wanted = best_levels(rt.alloc())?;
-    assert!(rt; all_orders_give(rt.alloc(), [&slow, &fast, &slow], &wanted)?);
-    Ok(())
-}
-
-// Whether the first of two different ranks is the lesser one, by each operator.
-fn is_lesser(first: Rank, second: Rank) -> bool {
-    first < second && second > first && first == first && first != second
-}
-
-// The rank of the body in a record.
-fn rank_of(record: &[u8]) -> Result<Rank, Fail> {
-    let Some(body) = record.get(4..) else {
-        return Err(Fail::new("no record"));
-    };
-    if body.len() < 16 {
-        return Err(Fail::new("no solution"));
-    }
-    Ok(Rank::of(body))
-}
-
-#[test]
-fn ranks(rt: HostRuntime) -> Result<(), Fail> {
-    let fast = level_1(rt.alloc(), 99, 384)?;
-    let short = level_1(rt.alloc(), 100, 2)?;
-    assert!(rt; is_lesser(rank_of(&fast)?, rank_of(&short)?));
-    Ok(())
-}
-
-// A writer that takes three bytes at a time, and fails once it has taken so many.
-#[derive(Drop)]
-struct Narrow {
-    taken: Vec<u8>,
-    limit: usize,
-}
-
-impl Write for Narrow {
-    fn write(&mut self, buf: &[u8]) -> io::Result<usize> {
-        let room = self.limit.saturating_sub(self.taken.len());
-        let count = room.min(3).min(buf.len());
-        if count == 0 {
-            return Err(io::Error::from(io::ErrorKind::Other));
-        }
-        self.taken.extend_from_slice(&buf[..count])?;
-        Ok(count)
-    }
-
-    fn flush(&mut self) -> io::Result<()> {
-        Ok(())
-    }
-}
-
-// Whether a writer of this limit takes these bytes, and the collection then answers so.
-fn is_written(
-    alloc: Global,
-    collection: &Collection,
-    limit: usize,
-    answer: Result<(), OutFault>,
-    bytes: &[u8],
-) -> bool {
-    let taken = Vec::new(alloc);
-    let mut out = Narrow { taken, limit };
-    collection.write_text(&mut out) == answer && out.taken.as_slice() == bytes
-}
-
-#[test]
-fn writers_that_fail(rt: HostRuntime) -> Result<(), Fail> {
-    let collection = load(rt.alloc(), &UNORDERED)?;
-    for limit in 0..48usize {
-        let bytes = &ORDERED[..limit];
-        assert!(rt; is_written(rt.alloc(), &collection, limit, Err(OutFault::Io), bytes));
-    }
-    Ok(())
-}
-
-#[test]
-fn a_writer_of_just_enough_room(rt: HostRuntime) -> Result<(), Fail> {
-    let collection = load(rt.alloc(), &UNORDERED)?;
-    assert!(rt; is_written(rt.alloc(), &collection, 48, Ok(()), &ORDERED));
     Ok(())
 }

@@ -214,19 +214,6 @@ fn listings_of_moves(rt: HostRuntime) -> Result<(), Fail> {
     Ok(())
 }
 
-#[test]
-fn the_listing_of_a_coded_move(rt: HostRuntime) -> Result<(), Fail> {
-    let mut coded = MOVED;
-    coded[28] = 0xF3;
-    coded[29] = 0xFF;
-    let with_moves = listing_with(rt.alloc(), &coded, true)?;
-    assert_eq!(rt;
-        with_moves.strip_prefix(HEAD),
-        Some(" at 3 code 511\nrecords 1\n")
-    );
-    Ok(())
-}
-
 // The same solution, with a move that is cut.
 pub(crate) const CUT: [u8; 30] = [
     0x35, 0x33, 0x9B, 0x99, 2, 0, 0, 0, 0x12, 0, 0, 0, 1, 0, 0x42, 0x44, 0x48, 0x50, 0, 0, 0, 0, 0,
@@ -236,42 +223,6 @@ pub(crate) const CUT: [u8; 30] = [
 #[test]
 fn moves_that_are_cut(rt: HostRuntime) -> Result<(), Fail> {
     assert!(rt; has_fault(rt.alloc(), &CUT, FileFault::MoveCut(29), "MoveCut(29)")?);
-    Ok(())
-}
-
-// A record before the move that is cut counts, and what follows does not.
-#[test]
-fn moves_that_are_cut_further_on(rt: HostRuntime) -> Result<(), Fail> {
-    let mut later = Vec::from_slice(rt.alloc(), &CUT[..8])?;
-    later.extend_from_slice(&[6, 0, 0, 0, 1, 0, 0x42, 0x44, 0x48, 0x50])?;
-    later.extend_from_slice(&CUT[8..])?;
-    later.extend_from_slice(&[7, 0, 0, 0])?;
-    assert_eq!(rt;
-        read_file(rt.alloc(), &later).err(),
-        Some(FileFault::MoveCut(39))
-    );
-    Ok(())
-}
-
-// The solution a hundred thousand times.
-fn hundred_thousand<A: Allocator>(alloc: A) -> Result<Vec<u8, A>, Fail> {
-    let mut bytes = Vec::from_slice(alloc, &LYNX)?;
-    for _ in 0..100_000 {
-        bytes.extend_from_slice(&SOLUTION)?;
-    }
-    Ok(bytes)
-}
-
-#[test]
-fn a_hundred_thousand_records(rt: HostRuntime) -> Result<(), Fail> {
-    let bytes = hundred_thousand(rt.alloc())?;
-    let count = read_file(rt.alloc(), &bytes)?.records.len();
-    let listing = listing(rt.alloc(), &bytes)?;
-    let has_end = listing.ends_with("bytes 0\nrecords 100000\n");
-    assert_eq!(rt;
-        (count, listing.lines().count(), has_end),
-        (100_000, 100_002, true)
-    );
     Ok(())
 }
 
@@ -437,34 +388,5 @@ fn moves_that_are_packed(rt: HostRuntime) -> Result<(), Fail> {
     for (before, after) in moves {
         assert!(rt; packs_to(rt.alloc(), before, after)?);
     }
-    Ok(())
-}
-
-// What showing and writing a file answer to a writer of ten bytes, and what each wrote.
-type First = (Result<(), OutFault>, [u8; 10]);
-
-fn first_shown<A: Allocator + Copy>(alloc: A, file: &TwsFile<A>) -> First {
-    let mut room = [0; 10];
-    let mut out = room.as_mut_slice();
-    (show(alloc, file, false, &mut out), room)
-}
-
-fn first_written<A: Allocator>(file: &TwsFile<A>) -> First {
-    let mut room = [0; 10];
-    let mut out = room.as_mut_slice();
-    (write_file(file, &mut out), room)
-}
-
-#[test]
-fn writers_that_are_full(rt: HostRuntime) -> Result<(), Fail> {
-    let file = read_file(rt.alloc(), &MOVED)?;
-    let full = Err(OutFault::Io);
-    assert_eq!(rt;
-        (first_shown(rt.alloc(), &file), first_written(&file)),
-        (
-            (full, *b"ruleset ms"),
-            (full, [0x35, 0x33, 0x9B, 0x99, 2, 0, 0, 0, 0x12, 0])
-        )
-    );
     Ok(())
 }

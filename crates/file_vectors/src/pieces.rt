@@ -34,18 +34,6 @@ fn a_file_that_comes_byte_by_byte(rt: HostRuntime) -> Result<(), Fail> {
 }
 
 #[test]
-fn a_file_that_ends_early_byte_by_byte(rt: HostRuntime) {
-    let cuts = [
-        (28, FileFault::ShortRecord(19)),
-        (8, FileFault::ShortHeader(8)),
-    ];
-    for (count, fault) in cuts {
-        let (first, reader) = push_bytes(rt.alloc(), LEVELS.get(..count).unwrap_or(&[]));
-        assert_eq!(rt; (first, reader.finish().err()), (None, Some(fault)));
-    }
-}
-
-#[test]
 fn moves_that_are_cut_byte_by_byte(rt: HostRuntime) {
     let (first, reader) = push_bytes(rt.alloc(), &CUT);
     assert_eq!(rt;

@@ -1,7 +1,5 @@
 // Snapshots of collections, and the blocks that are sent of them. The texts that are wanted are written out by hand.
-use crate::collections::{
-    HUNDRED, LYNX, MS, NINETY, UNORDERED, has_text, join, load, merge, moves, record,
-};
+use crate::collections::{LYNX, MS, has_text, join, load, merge, moves, record};
 use std::alloc::Global;
 use std::process::Abort;
 use std::test::Fail;
@@ -122,36 +120,6 @@ fn blocks_of_two_records(rt: HostRuntime) -> Result<(), Fail> {
             Some(&[0, 0, 2, 0, 0x42, 0x42, 0x42, 0x42])
         )
     );
-    Ok(())
-}
-
-// Whether the blocks of a new snapshot of the collection are what it writes.
-fn has_own_blocks(rt: &impl Abort, alloc: Global, collection: &Collection) -> Result<bool, Fail> {
-    let snapshot = snapshot_of(rt, collection)?;
-    let mut text = Vec::new(alloc);
-    collection.write_text(&mut text)?;
-    Ok(has_blocks(alloc, &snapshot, &text))
-}
-
-// Whether two files in turn change a collection.
-fn both_change(
-    alloc: Global,
-    collection: &mut Collection,
-    files: [&[u8]; 2],
-) -> Result<bool, Fail> {
-    let [first, second] = files;
-    Ok(merge(alloc, collection, first)? && merge(alloc, collection, second)?)
-}
-
-#[test]
-fn snapshots_stay(rt: HostRuntime) -> Result<(), Fail> {
-    let alloc = rt.alloc();
-    let mut collection = load(alloc, &HUNDRED)?;
-    let early = snapshot_of(&rt, &collection)?;
-    let are_changes = both_change(alloc, &mut collection, [&NINETY, &UNORDERED])?;
-    let is_own = has_own_blocks(&rt, alloc, &collection)?;
-    let stays = has_blocks(alloc, &early, &HUNDRED);
-    assert_eq!(rt; (are_changes, is_own, stays), (true, true, true));
     Ok(())
 }
 

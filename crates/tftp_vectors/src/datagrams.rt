@@ -1,6 +1,4 @@
 // Datagrams and files from outside: what each is by RFC 1350, and what real clients send.
-ghost use Rattle.std.specs.Prelude.{◌≤◌, length};
-
 use std::alloc::Global;
 use std::test::Fail;
 use tftp_packet::{
@@ -163,27 +161,6 @@ fn requests_of_real_clients(rt: HostRuntime) {
     }
 }
 
-// What the first bytes of a request are, by how many they are: its mode ends at the 15th byte, and an option follows.
-fn cut_answer(count: usize) -> Result<Packet<'static>, PacketFault> {
-    match count {
-        0..2 => Err(PacketFault::Short),
-        2..15 => Err(PacketFault::BadRequest),
-        _ => Ok(Packet::Read {
-            name: b"ms.tws",
-            mode: b"OCTET",
-        }),
-    }
-}
-
-// A request of 28 bytes with its mode in capitals, and each prefix of it.
-#[test]
-fn a_request_that_is_cut(rt: HostRuntime) {
-    let bytes = b"\0\x01ms.tws\0OCTET\0blksize\x001428\0";
-    for count in 0..=28 {
-        assert_eq!(rt; decode(&bytes[..count]), cut_answer(count), "at {count}");
-    }
-}
-
 // A put of a file of 28 bytes, by the same clients: the request, and the file once it was answered.
 #[test]
 fn puts_of_real_clients(rt: HostRuntime) {
@@ -326,42 +303,6 @@ fn refusals_that_are_sent(rt: HostRuntime) {
     }
 }
 
-// How many blocks a file has, and how many bytes its last block.
-fn count_and_last<B: Blocks>(file: &B) -> (u64, usize)
-    requires { length (B.file file.now) ≤ 33553919 }
-{
-    let count = file.file_len() / 512 + 1;
-    (count, file.block(count as u16, &mut [0; 512]))
-}
-
-fn count_and_last_of(alloc: Global, length: usize) -> Result<(u64, usize), Fail> {
-    let file = Owned::of(vec![in alloc; 7; length]?);
-    if file.file_len() > 33_553_919 {
-        return Err(Fail::new("too long"));
-    }
-    Ok(count_and_last(&file))
-}
-
-// A block of fewer than 512 bytes ends a file, RFC 1350 section 6, so 512 bytes take a second block. The longest file
-// with numbers of two bytes for its blocks has 65,534 full ones and 511 bytes.
-#[test]
-fn last_blocks(rt: HostRuntime) -> Result<(), Fail> {
-    let rows = [
-        (0, 1, 0),
-        (1, 1, 1),
-        (511, 1, 511),
-        (512, 2, 0),
-        (513, 2, 1),
-        (2_000, 4, 464),
-        (33_553_919, 65_535, 511),
-    ];
-    for (length, count, last) in rows {
-        let answer = count_and_last_of(rt.alloc(), length)?;
-        assert_eq!(rt; answer, (count, last), "at {length}");
-    }
-    Ok(())
-}
-
 // 512 bytes 1, as many bytes 2, and one 3.
 fn three_blocks(alloc: Global) -> Result<Owned, Fail> {
     let mut bytes = vec![in alloc; 1; 512]?;
@@ -383,25 +324,5 @@ fn blocks_in_order(rt: HostRuntime) -> Result<(), Fail> {
     let third = (count, out[0]);
     assert_eq!(rt; (first, second), ((512, [1; 512]), (512, [2; 512])));
     assert_eq!(rt; (third, file.into_vec().pop()), ((1, 3), Some(3)));
-    Ok(())
-}
-
-// The two DATA of a file of 512 bytes.
-fn two_data(alloc: Global) -> Result<(Dgram, Dgram), Fail> {
-    let file = Owned::of(vec![in alloc; 1; 512]?);
-    let mut out = [0; 512];
-    let full = file.block(1, &mut out);
-    let first = encode_data(1, &out[..full]);
-    let empty = file.block(2, &mut out);
-    Ok((first, encode_data(2, &out[..empty])))
-}
-
-// A put of 512 bytes takes two DATA, the second with no bytes of the file.
-#[test]
-fn a_put_of_512_bytes(rt: HostRuntime) -> Result<(), Fail> {
-    let (first, second) = two_data(rt.alloc())?;
-    assert_eq!(rt; first.bytes().len(), 516);
-    assert!(rt; first.bytes().starts_with(b"\0\x03\0\x01\x01"));
-    assert_eq!(rt; second.bytes(), b"\0\x03\0\x02".as_slice());
     Ok(())
 }

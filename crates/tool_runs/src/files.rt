@@ -18,19 +18,6 @@ const MOVED: [u8; 30] = [
     0x48, 0x50, 0x00, 0x00, 0x00, 0x00, 0x00, 0x00, 0x64, 0x00, 0x00, 0x00, 0x00, 0x61,
 ];
 
-const LISTING: &str =
-    "ruleset lynx word 0000 extra 0\nlevel 1 BDHP ticks 100 flags 00 start 00 seed 0 bytes 0\nrecords 1\n";
-
-#[test]
-fn show_lists_a_file(rt: HostRuntime) -> Result<(), Fail> {
-    let outcome = run(&rt, &["tws", "show"], &SOLUTION)?;
-    assert_eq!(rt;
-        (outcome.status, outcome.out.as_slice(), outcome.errors.len()),
-        (0, LISTING.as_bytes(), 0)
-    );
-    Ok(())
-}
-
 #[test]
 fn show_lists_moves(rt: HostRuntime) -> Result<(), Fail> {
     let outcome = run(&rt, &["tws", "show", "--moves"], &MOVED)?;
@@ -90,27 +77,6 @@ fn pack_refuses_what_is_no_file(rt: HostRuntime) -> Result<(), Fail> {
     Ok(())
 }
 
-#[test]
-fn best_keeps_the_faster_solution(rt: HostRuntime) -> Result<(), Fail> {
-    let mut files = [SOLUTION.as_slice(), FASTER.as_slice(), SOLUTION.as_slice()];
-    let mut out = Vec::new(rt.alloc());
-    run_best(rt.alloc(), Ruleset::Lynx, &mut files, &mut out)?;
-    assert_eq!(rt; out.as_slice(), FASTER.as_slice());
-    Ok(())
-}
-
-#[test]
-fn best_has_no_solution_of_other_rules(rt: HostRuntime) -> Result<(), Fail> {
-    let mut files = [SOLUTION.as_slice(), FASTER.as_slice()];
-    let mut out = Vec::new(rt.alloc());
-    run_best(rt.alloc(), Ruleset::Ms, &mut files, &mut out)?;
-    assert_eq!(rt;
-        out.as_slice(),
-        [0x35, 0x33, 0x9B, 0x99, 2, 0, 0, 0].as_slice()
-    );
-    Ok(())
-}
-
 // What `best` answers to these inputs, and how many bytes it writes.
 fn best_of<R: io::Read>(rt: &HostRuntime, files: &mut [R]) -> (Result<(), ToolFault>, usize) {
     let mut out = Vec::new(rt.alloc());
@@ -123,21 +89,6 @@ fn show_of<R: io::Read>(rt: &HostRuntime, input: &mut R) -> (Result<(), ToolFaul
     let mut out = Vec::new(rt.alloc());
     let done = run_show(rt.alloc(), input, &mut out, false);
     (done, out.len())
-}
-
-#[test]
-fn best_names_the_first_unreadable_input(rt: HostRuntime) -> Result<(), Fail> {
-    let mut files = [
-        SOLUTION.as_slice(),
-        CUT.as_slice(),
-        SOLUTION.get(..7).unwrap_or(&[]),
-    ];
-    let fault = ToolFault::Unreadable {
-        index: 1,
-        fault: FileFault::MoveCut(29),
-    };
-    assert_eq!(rt; best_of(&rt, &mut files), (Err(fault), 0));
-    Ok(())
 }
 
 #[test]
@@ -158,72 +109,6 @@ fn show_refuses_what_is_no_file(rt: HostRuntime) -> Result<(), Fail> {
         let outcome = run(&rt, &["tws", "show"], bytes)?;
         assert!(rt; fails_with(&outcome, 3, line), "{line}");
     }
-    Ok(())
-}
-
-#[test]
-fn words_that_ask_for_nothing(rt: HostRuntime) -> Result<(), Fail> {
-    let wrong: [&[&str]; 7] = [
-        &["tws", "best"],
-        &["tws", "best", "lynx"],
-        &["tws", "best", "atari", "x"],
-        &["tws"],
-        &["tws", "list"],
-        &["tws", "show", "x"],
-        &["tws", "show", "--all"],
-    ];
-    for words in wrong {
-        let outcome = run(&rt, words, &SOLUTION)?;
-        let is_error = outcome.errors.starts_with(b"error: ");
-        assert_eq!(rt; (outcome.status, outcome.out.len(), is_error), (1, 0, true));
-    }
-    Ok(())
-}
-
-#[test]
-fn words_that_ask_for_help(rt: HostRuntime) -> Result<(), Fail> {
-    let help: [&[&str]; 3] = [&["tws", "--help"], &["tws", "help"], &["tws", "show", "-h"]];
-    for words in help {
-        let outcome = run(&rt, words, &SOLUTION)?;
-        let is_text = !outcome.out.is_empty();
-        assert_eq!(rt;
-            (outcome.status, is_text, outcome.errors.len()),
-            (0, true, 0)
-        );
-    }
-    Ok(())
-}
-
-#[test]
-fn an_input_that_fails(rt: HostRuntime) -> Result<(), Fail> {
-    let words = owned(&rt, &["tws", "show"])?;
-    let mut out = Vec::new(rt.alloc());
-    let mut errors = Vec::new(rt.alloc());
-    let status = run_words(&rt, rt.alloc(), &words, &mut Broken, &mut out, &mut errors);
-    assert_eq!(rt;
-        (status, out.len(), errors.as_slice()),
-        (2, 0, b"tws: read fault\n".as_slice())
-    );
-    Ok(())
-}
-
-#[test]
-fn an_output_that_fails(rt: HostRuntime) -> Result<(), Fail> {
-    let words = owned(&rt, &["tws", "show"])?;
-    let mut input = SOLUTION.as_slice();
-    let mut errors = Vec::new(rt.alloc());
-    let status = run_words(
-        &rt,
-        rt.alloc(),
-        &words,
-        &mut input,
-        &mut Broken,
-        &mut errors,
-    );
-    assert_eq!(rt;
-        (status, errors.as_slice()),
-        (2, b"tws: write fault\n".as_slice())
-    );
     Ok(())
 }
 
@@ -276,16 +161,6 @@ fn an_input_that_stumbles(rt: HostRuntime) {
 }
 
 #[test]
-fn show_answers_its_faults(rt: HostRuntime) {
-    let mut input = &SOLUTION[..9];
-    let fault = ToolFault::Unreadable {
-        index: 0,
-        fault: FileFault::ShortRecord(8),
-    };
-    assert_eq!(rt; show_of(&rt, &mut input), (Err(fault), 0));
-}
-
-#[test]
 fn an_input_that_does_not_end(rt: HostRuntime) {
     let mut input = Drops { left: u32::MAX };
     let shown = show_of(&rt, &mut input);
@@ -332,12 +207,6 @@ fn best_answers_the_first_input_that_fails(rt: HostRuntime) {
     };
     let mut files = [Input::Whole(&UNSIGNED), Input::Failing];
     assert_eq!(rt; best_of(&rt, &mut files), (Err(fault), 0));
-}
-
-#[test]
-fn best_answers_a_later_input_that_fails(rt: HostRuntime) {
-    let mut files = [Input::Whole(&SOLUTION), Input::Failing];
-    assert_eq!(rt; best_of(&rt, &mut files), (Err(ToolFault::Read), 0));
 }
 
 // A Lynx file of so many records, which say only that a level has a password, and its listing.

@@ -52,9 +52,9 @@ fn best_of_files(rt: HostRuntime) -> Result<(), Fail> {
 
 // A file system of one name, which tells what its file has.
 #[derive(Drop)]
-pub(crate) struct One<'a> {
-    pub(crate) name: &'a str,
-    pub(crate) bytes: &'a [u8],
+struct One<'a> {
+    name: &'a str,
+    bytes: &'a [u8],
 }
 
 impl<'a> FileSystem for One<'a> {
@@ -84,7 +84,7 @@ impl<'a> FileSystem for One<'a> {
 }
 
 // A run of the program with the files of such a system, over a wire in memory.
-pub(crate) fn run_with(
+fn run_with(
     rt: &HostRuntime,
     system: &One,
     wire: &mut MemoryWire,

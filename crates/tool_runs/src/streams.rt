@@ -13,26 +13,6 @@ pub(crate) const FASTER: [u8; 28] = [
     0x48, 0x50, 0x00, 0x00, 0x00, 0x00, 0x00, 0x00, 0x5A, 0x00, 0x00, 0x00,
 ];
 
-// Fails at every read and write.
-#[derive(Drop)]
-pub(crate) struct Broken;
-
-impl io::Read for Broken {
-    fn read(&mut self, _buf: &mut [u8]) -> io::Result<usize> {
-        Err(io::Error::from(io::ErrorKind::Other))
-    }
-}
-
-impl io::Write for Broken {
-    fn write(&mut self, _buf: &[u8]) -> io::Result<usize> {
-        Err(io::Error::from(io::ErrorKind::Other))
-    }
-
-    fn flush(&mut self) -> io::Result<()> {
-        Ok(())
-    }
-}
-
 // Fails at its first read, and gives these bytes after that.
 #[derive(Drop)]
 pub(crate) struct Stumbles<'a> {
