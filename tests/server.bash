@@ -56,11 +56,11 @@ listening() {
     return 1
 }
 
-# start WORDS: starts a server on the next free port.
+# start WORDS: starts a server on the next free port, by the launcher, as users do.
 start() {
     for _ in $(seq 100); do
         port=$((port + 1))
-        "$program" serve --port "$port" "$@" >"$work/serving" 2>"$work/serving.errors" </dev/null &
+        ./tws serve --port "$port" "$@" >"$work/serving" 2>"$work/serving.errors" </dev/null &
         server=$!
         listening && return 0
         stop
