@@ -13,10 +13,11 @@ ghost use Rattle.archive_world.specs.Traces.{Member, trace_from, trace_steps, Al
 ghost use Rattle.archive_world.specs.Headline.{HasOwnPorts, Headline, FetchesSent, BeganBy, StraysBy};
 
 /// Of every list of begins, deliveries of any datagram ever sent, losses, time-outs, strangers' datagrams and restarts,
-/// whatever memory is refused and whatever is not kept: where no pair of endpoints serves two transfers and no stranger
-/// has the endpoint of an operation, a put's file is taken at most once and unchanged, and exactly once if its client
-/// counts it as sent; each collection is the best over the files taken; and a finished get is the collection at a
-/// request of its own. Where a step takes a file, the collections after it are those that the server's contract says.
+/// whatever memory is refused and whatever is not kept: where no two operations begin at one endpoint, no pair of
+/// endpoints serves two transfers and no stranger has the endpoint of an operation, a put's file is taken at most once
+/// and unchanged, and exactly once if its client counts it as sent; each collection is the best over the files taken;
+/// and a finished get is the collection at a request of its own. Where a step takes a file, the collections after it
+/// are those that the server's contract says.
 pub fn network_law()
     ensures headline { (steps : List Step) → HasOwnPorts (run steps) → AllMerged steps start → Headline (run steps) }
     // What has begun are operations of the events, each with the number of files that were taken before its event.
