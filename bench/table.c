@@ -1,6 +1,7 @@
 /* The loop of `table_bench` in C, to time it against: a server's table in memory, with downloads of a collection and uploads
    of files in turn. The first byte of the input says how many transfers are live at a time, `1` or otherwise 64; the second
-   how long the solutions of the files are, `l` for long ones, or otherwise about as long as those that players send. */
+   how long the solutions of the files are, `l` for long ones, or otherwise about as long as those that players send; the
+   third how many downloads and uploads there are, `+` for 320 of each, or otherwise 64. */
 #include "common.h"
 #include <strings.h>
 
@@ -373,6 +374,8 @@ int main(void)
         solutions = 10;
         moves = 100000;
     }
+    if (getchar() == '+')
+        times *= 5;
     file_size = 8 + (size_t)solutions * (20 + moves);
     file = need(malloc(file_size));
     for (int n = FILES; n >= 1; n--) {

@@ -1,7 +1,8 @@
 //! For the benchmark: a server's table in memory, with downloads of a collection and uploads of files in turn, each of
 //! which is better than the collection in every tenth solution. The first byte of the input says how many transfers are
 //! live at a time: `1`, or else 64. The second says how long the solutions of the files are: `l` for long ones, or else
-//! about as long as those that players send.
+//! about as long as those that players send. The third says how many downloads and uploads there are: `+` for 320 of
+//! each, or else 64.
 #![tactic(auto)]
 
 ghost use Rattle.std.specs.Prelude.{◌≤◌, length};
@@ -317,11 +318,15 @@ fn sum_of(alloc: Global, collection: &Collection) -> io::Result<u64> {
 }
 
 fn main(rt: HostRuntime) -> io::Result<()> {
-    let mut words = [0; 2];
+    let mut words = [0; 3];
     rt.stdin().read(&mut words)?;
+    let times = match words[2] {
+        b'+' => 5,
+        _ => 1,
+    };
     let (rounds, live) = match words[0] {
-        b'1' => (128, 1),
-        _ => (2, 64),
+        b'1' => (128 * times, 1),
+        _ => (2 * times, 64),
     };
     let shape = match words[1] {
         b'l' => LONG,
