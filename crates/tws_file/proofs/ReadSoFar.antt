@@ -9,7 +9,7 @@ use Rattle.tws_file.specs.declared.file_fault.FileFault.TheVariants.{ShortHeader
 use Rattle.tws_file.specs.declared.«ruleset».Ruleset.{Ruleset}
 use Rattle.tws_file.specs.Text.{File, Record, IsRecord, IsFile, IsText, header_text, text_of, record_text}
 use Rattle.tws_file.specs.Fault.{HasFault, IsLasting, StopsAt, IsRecordCut, FailsWith, IsReadAs}
-use Rattle.tws_file.specs.Reader.{Reading, reading, stopped, reading_from, Pushes, Finishes, IsAnswer, HasNoLasting}
+use Rattle.tws_file.specs.Reader.{Reading, reading, stopped, reading_from, Pushes, PushFails, HasTaken, TakesPiece, Finishes, IsAnswer, HasNoLasting}
 use Rattle.tws_file.specs.Steps.{BeginsWithHeader, StopsAfter, RecordsFail, FailsForGood, IsAt, IsLeft, text_so_far, Advances}
 use Rattle.tws_file.proofs.Beginnings.{cut_begins_none}
 use Rattle.tws_file.proofs.Faults.{one_fault, text_without_fault}
@@ -166,6 +166,48 @@ pub goes_on : (fault : Option FileFault) (old new : Option File) (bytes rest : L
 goes_on None old new bytes rest offset count none step rest-is =
     no_lasting new rest (offset + count) step.at (subst (λ (xs : List ℕ). IsLeft new xs) (sym rest-is) step.left)
 goes_on (Some e) old new bytes rest offset count none step rest-is = absurd cc
+
+-- ---- a fault that stops the reading
+
+-- the fault of bytes for which memory did not run out
+lasting_of : (bytes : List ℕ) (e : FileFault) → e ≢ Memory → FailsForGood bytes e → IsLasting e × HasFault bytes e
+lasting_of bytes e some fails = ⊎_elim (λ lasts. lasts) (λ memory. absurd (some memory)) fails
+
+stops_at : (bytes piece : List ℕ) (e : FileFault) (new : Reading) → new ≡ stopped e → IsLasting e × HasFault (bytes ++ piece) e → PushFails bytes piece e new
+stops_at bytes piece (ShortHeader n) new is fails = absurd fails.0
+stops_at bytes piece BadSignature new is fails = (is, fails.1)
+stops_at bytes piece (BadRuleset code) new is fails = (is, fails.1)
+stops_at bytes piece (ShortRecord o) new is fails = absurd fails.0
+stops_at bytes piece (BadSize o) new is fails = (is, fails.1)
+stops_at bytes piece (MoveCut place) new is fails = (is, fails.1)
+stops_at bytes piece Memory new is fails = absurd fails.0
+
+takes_at : (bytes : List ℕ) (e : FileFault) → IsLasting e × HasFault bytes e → TakesPiece (Err e) bytes (stopped e)
+takes_at bytes (ShortHeader n) fails = absurd fails.0
+takes_at bytes BadSignature fails = fails
+takes_at bytes (BadRuleset code) fails = fails
+takes_at bytes (ShortRecord o) fails = absurd fails.0
+takes_at bytes (BadSize o) fails = fails
+takes_at bytes (MoveCut place) fails = fails
+takes_at bytes Memory fails = tt
+
+-- of all bytes, those that were read first
+whole_fails : (so_far : Option File) (rest piece : List ℕ) (e : FileFault) → e ≢ Memory → FailsForGood (text_so_far so_far ++ (rest ++ piece)) e → IsLasting e × HasFault (text_so_far so_far ++ rest ++ piece) e
+whole_fails so_far rest piece e some fails =
+    lasting_of (text_so_far so_far ++ rest ++ piece) e some (subst (λ (xs : List ℕ). FailsForGood xs e) (sym (append_assoc (text_so_far so_far) rest piece)) fails)
+
+pub push_stops : (r : Reading) (fault : Option FileFault) (so_far : Option File) (rest piece : List ℕ) (e : FileFault) → reading_from fault so_far rest ≡ r → fault ≡ None → e ≢ Memory → FailsForGood (text_so_far so_far ++ (rest ++ piece)) e → Pushes r piece (Err e) (stopped e)
+push_stops r None so_far rest piece e view none some fails =
+    rw (← view) (stops_at (text_so_far so_far ++ rest) piece e (stopped e) refl (whole_fails so_far rest piece e some fails))
+push_stops r (Some f) so_far rest piece e view none some fails = absurd cc
+
+pub piece_stops : (r : Reading) (fault : Option FileFault) (so_far : Option File) (rest piece : List ℕ) (e : FileFault) → reading_from fault so_far rest ≡ r → fault ≡ None → e ≢ Memory → FailsForGood (text_so_far so_far ++ (rest ++ piece)) e → (bytes : List ℕ) → HasTaken r bytes → TakesPiece (Err e) (bytes ++ piece) (stopped e)
+piece_stops r None so_far rest piece e view none some fails bytes taken =
+    let same : text_so_far so_far ++ rest ≡ bytes = subst (λ (s : Reading). HasTaken s bytes) (sym view) taken in
+    subst (λ (xs : List ℕ). TakesPiece (Err e) (xs ++ piece) (stopped e)) same (takes_at (text_so_far so_far ++ rest ++ piece) e (whole_fails so_far rest piece e some fails))
+piece_stops r (Some f) so_far rest piece e view none some fails bytes taken = absurd cc
+
+-- ---- the answer at the end
 
 -- what a reader answers at the end
 pub finishes_short : (r : Reading) (fault : Option FileFault) (so_far : Option File) (rest : List ℕ) (n : ℕ) → reading_from fault so_far rest ≡ r → fault ≡ None → so_far ≡ None → (fault ≡ None → IsLeft so_far rest) → n ≡ length rest → Finishes r (Err (ShortHeader n))

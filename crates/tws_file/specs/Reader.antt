@@ -1,5 +1,5 @@
 -- A reading of a file that comes piece by piece.
-use Rattle.std.specs.Prelude.{◌≡◌, ℕ, ◌+◌, ◌<◌, ◌≤◌, ◌^◌, List, ◌++◌, length, Option, None, Some, Result, Ok, Err}
+use Rattle.std.specs.Prelude.{◌≡◌, ◌≢◌, ℕ, ◌+◌, ◌<◌, ◌≤◌, ◌^◌, List, [], ◌++◌, length, Option, None, Some, Result, Ok, Err}
 use Rattle.tws_file.specs.declared.file_fault.FileFault.{FileFault}
 use Rattle.tws_file.specs.declared.file_fault.FileFault.TheVariants.{ShortHeader, BadSignature, BadRuleset, ShortRecord, BadSize, MoveCut, Memory}
 use Rattle.tws_file.specs.declared.reader.Reader.TheInside.{Inside}
@@ -84,9 +84,10 @@ abbrev pub KeepsLasting : Option FileFault → Type 0
 KeepsLasting None = Unit {0}
 KeepsLasting (Some fault) = IsLasting fault
 
--- without a fault nothing whole is left to read
+-- Without a fault nothing whole is left to read; with one nothing else is kept.
 pub record IsReader {A : Type 0} (r : Inside A) : Type 0 where
   pub fault : KeepsLasting r.fault
+  pub dropped : r.fault ≢ None → (r.so_far ≡ None) × (r.rest.items ≡ [])
   pub at : IsAt r.so_far r.offset
   pub left : r.fault ≡ None → IsLeft r.so_far r.rest.items
   pub counted : r.fault ≡ None → r.offset + length r.rest.items < 2 ^ 64

@@ -2,8 +2,8 @@
 
 ghost use Rattle.std.specs.Prelude.{◌≡◌, ◌⊎◌, ◌+◌, ◌<◌, ◌≤◌, ◌^◌, ℕ, List, [], ◌++◌, length, drop, Some, Err, OnOk, OnErr, IfOk, IfErr, IfSome, IfNone};
 ghost use Rattle.tws_file.specs.Text.{File, IsFile, IsText, text_of};
-ghost use Rattle.tws_file.specs.Fault.{FailsWith, IsReadAs, IsRecordCut};
-ghost use Rattle.tws_file.specs.Reader.{reading, HasRoom, Pushes, HasTaken, TakesPiece, HasAtMost, HasNoLasting, Finishes, IsAnswer};
+ghost use Rattle.tws_file.specs.Fault.{FailsWith, IsReadAs, IsRecordCut, IsLasting};
+ghost use Rattle.tws_file.specs.Reader.{reading, stopped, HasRoom, Pushes, HasTaken, TakesPiece, HasAtMost, HasNoLasting, Finishes, IsAnswer};
 ghost use Rattle.tws_file.specs.Steps.{IsShort, FailsForGood, IsAt, text_so_far, record_count, taken_back, Advances};
 
 use crate::bytes::Bytes;
@@ -199,12 +199,23 @@ impl<A: Allocator + Copy> Reader<A> {
         }
     }
 
+    // A reader whose bytes had this fault. It keeps nothing else, as no later call reads it.
+    fn stopped(alloc: A, fault: FileFault) -> Self
+        requires { IsLasting fault }
+        ensures { result ≡ stopped fault }
+    {
+        Reader {
+            fault: Some(fault),
+            ..Reader::new(alloc)
+        }
+    }
+
     /// Takes a further piece of the file. All pieces together have at most 18,446,744,073,709,551,615 bytes.
     ///
     /// # Errors
     ///
     /// The fault of the bytes so far where no further ones can mend it, so any but `ShortHeader` and `ShortRecord`.
-    /// It is kept, and every later call answers it. After `Memory` the reader is as before the piece.
+    /// It is kept, all else is dropped, and every later call returns it. After `Memory` the reader is as before the piece.
     pub fn push(&mut self, piece: &[u8]) -> Result<(), FileFault>
         requires { HasRoom self.old piece.now }
         ensures pushes { Pushes self.old piece.now result self.new }
@@ -235,7 +246,7 @@ impl<A: Allocator + Copy> Reader<A> {
             }
             Err(fault) => {
                 if fault != FileFault::Memory {
-                    self.fault = Some(fault);
+                    *self = Reader::stopped(self.alloc, fault);
                 }
                 Err(fault)
             }
