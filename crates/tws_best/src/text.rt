@@ -11,9 +11,10 @@ ghost use Rattle.tws_best.specs.Best.{body_text, collection_header};
 use crate::body::Body;
 use crate::merging::Bodies;
 use byte_output::{Buffer, LARGE, OutFault, put};
+use byteorder::{ByteOrder, LittleEndian};
 use std::alloc::Allocator;
 use std::io::Write;
-use tws_file::Ruleset;
+use tws_file::{Ruleset, SIGNATURE};
 
 // How many bytes the records have together.
 pub(crate) fn bodies_len<A: Allocator>(kept: &Bodies<A>) -> u128
@@ -31,14 +32,17 @@ pub(crate) fn bodies_len<A: Allocator>(kept: &Bodies<A>) -> u128
 pub(crate) fn size_bytes<A: Allocator>(body: &Body<A>) -> [u8; 4]
     ensures { result ≡ little_bytes 4 (length body.now) }
 {
-    body.size().to_le_bytes()
+    let mut bytes = [0; 4];
+    LittleEndian::write_u32(&mut bytes, body.size());
+    bytes
 }
 
 // The header of a collection's text.
 pub(crate) fn header_bytes(kind: Ruleset) -> [u8; 8]
     ensures { result ≡ collection_header kind }
 {
-    [0x35, 0x33, 0x9B, 0x99, kind.code(), 0, 0, 0]
+    let [a, b, c, d] = SIGNATURE;
+    [a, b, c, d, kind.code(), 0, 0, 0]
 }
 
 // Sends one record.

@@ -8,7 +8,7 @@ use crate::file_fault::FileFault;
 use crate::ruleset::Ruleset;
 
 /// What each solution file begins with.
-pub(crate) const SIGNATURE: [u8; 4] = [0x35, 0x33, 0x9B, 0x99];
+pub const SIGNATURE: [u8; 4] = [0x35, 0x33, 0x9B, 0x99];
 
 /// A header, and the bytes of the records after it.
 #[derive(Clone, Copy)]

@@ -43,6 +43,7 @@ mod writing;
 pub use byte_output::OutFault;
 pub use bytes::Bytes;
 pub use file_fault::FileFault;
+pub use header::SIGNATURE;
 pub use key::Key;
 pub use laws::{
     one_fault, one_file, one_file_name, packed_files, text_or_fault, text_without_fault,
