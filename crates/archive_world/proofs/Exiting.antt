@@ -154,7 +154,7 @@ module _ (w v : World) (e : Endpoint) (operation : Operation) where
     },
   )
   begin-comes (Err fault.NotLoaded) told is may unused bad reused used loads = absurd (loads refl)
-  begin-comes (Err fault.Memory) told is may unused bad reused used loads = inl refl
+  begin-comes (Err fault.Memory) told is may unused bad reused used loads = (no_restart (begin e operation) refl, inl refl)
 
 -- ---- a stray
 
@@ -189,7 +189,7 @@ module _ (w v : World) (d : Datagram) where
   stray-comes (Err fault.Bad) told is may bad own loads = (refl, bad refl)
   stray-comes (Err fault.Reused) told is may bad own loads = absurd (own refl)
   stray-comes (Err fault.NotLoaded) told is may bad own loads = absurd (loads refl)
-  stray-comes (Err fault.Memory) told is may bad own loads = inl refl
+  stray-comes (Err fault.Memory) told is may bad own loads = (no_restart (stray d) refl, inl refl)
 
 -- ---- time-outs
 
@@ -228,7 +228,7 @@ module _ (w v : World) (e : Endpoint) where
   wait-comes (Err fault.Bad) told is may bad own loads = (refl, bad refl)
   wait-comes (Err fault.Reused) told is may bad own loads = absurd (own refl)
   wait-comes (Err fault.NotLoaded) told is may bad own loads = absurd (loads refl)
-  wait-comes (Err fault.Memory) told is may bad own loads = inl refl
+  wait-comes (Err fault.Memory) told is may bad own loads = (no_restart (client_times_out e) refl, inl refl)
 
 module _ (w v : World) (port : ℕ) where
   abbrev timed : World
@@ -259,7 +259,7 @@ module _ (w v : World) (port : ℕ) where
   time-comes (Err fault.Bad) told is memory = absurd cc
   time-comes (Err fault.Reused) told is memory = absurd cc
   time-comes (Err fault.NotLoaded) told is memory = absurd cc
-  time-comes (Err fault.Memory) told is memory = inl refl
+  time-comes (Err fault.Memory) told is memory = (no_restart (server_times_out port) refl, inl refl)
 
 -- ---- a restart
 
@@ -439,7 +439,7 @@ module _ (w v : World) (d : Datagram) (index spare : ℕ) (there : slice_get w.n
       ask-fails r fault.Reused told is bad reused used loads opens =
           (refl, λ own. asked_reuses (reused is) (used is) (opens is) own)
       ask-fails r fault.NotLoaded told is bad reused used loads opens = absurd (loads is)
-      ask-fails r fault.Memory told is bad reused used loads opens = inl refl
+      ask-fails r fault.Memory told is bad reused used loads opens = (no_restart (deliver index spare) refl, inl refl)
 
     -- ---- to another port
 
@@ -500,7 +500,7 @@ module _ (w v : World) (d : Datagram) (index spare : ℕ) (there : slice_get w.n
           }
 
       pub transfer-fails : Comes (Err fault.Memory) (deliver index spare) old new w v
-      transfer-fails = inr (u, λ ready. stepped_makes)
+      transfer-fails = (no_restart (deliver index spare) refl, inr (u, λ ready. stepped_makes))
 
       pub transfer-comes : v ≡ u → Comes (Ok tt) (deliver index spare) old new w v
       transfer-comes is = (

@@ -201,11 +201,9 @@ module _ {A : Type 0} (es : List (events.Event A)) (i : ℕ) (x : events.Event A
           there = there_is ∙ ap (λ (x : Event). Some x) comes.1;
           world = w;
           happened = so_before comes.0;
-          fault = comes.2.0;
-          fails = subst (λ (o : Option (List Keeping)). TableFails o comes.2.0) (sym comes.0) comes.2.1;
-          outside = fails_outside comes.1 comes.2.0 comes.2.1;
+          outside = λ f fails. fails_outside comes.1 f (subst (λ (o : Option (List Keeping)). TableFails o f) comes.0 fails);
         }
-    fails_at fault.Memory comes = stopped_by comes
+    fails_at fault.Memory comes = stopped_by comes.1
 
 -- ---- a loop over a list
 

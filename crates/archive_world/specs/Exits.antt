@@ -1,8 +1,7 @@
 -- What the functions inside a replay say, each by what it answers.
-use Rattle.std.specs.Prelude.{◌≡◌, ◌⊎◌, ℕ, List, Option, Some, Result, Ok, Err}
+use Rattle.std.specs.Prelude.{◌≡◌, ◌≢◌, ◌⊎◌, ℕ, List, Option, Some, Result, Ok, Err}
 use Rattle.tws_best.specs.Best.{IsCollected}
-use Rattle.archive_table.specs.Keeper.{Keeping, TableFails}
-use Rattle.archive_table.specs.declared.load_fault.LoadFault.{LoadFault}
+use Rattle.archive_table.specs.Keeper.{Keeping}
 use Rattle.archive_world.specs.declared.event_fault.EventFault.{EventFault}
 use Rattle.archive_world.specs.declared.event_fault.EventFault.TheVariants.{Bad, Reused, NotLoaded, Memory}
 use Rattle.archive_world.specs.declared.world_fault.WorldFault.{WorldFault}
@@ -25,13 +24,14 @@ pub record KeeperHas (told : Option (List Keeping)) (w : World) : Type 0 where
 abbrev pub MakesKept : Event → (told now : Option (List Keeping)) → (w v : World) → Type 0
 MakesKept e told now w v = (e ≡ restart → KeeperHas told w) → Makes e told now w v
 
--- By what a call for an event answers. Where memory runs out, the event was not begun, or the server made its step.
+-- By what a call for an event answers. Where memory runs out, the event was not begun, or the server made its step. At a
+-- restart that is a load that fails.
 abbrev pub Comes : Result (Unit {0}) EventFault → Event → (told now : Option (List Keeping)) → (w v : World) → Type 0
 Comes (Ok done) e told now w v = (v.server.request ≡ w.server.request) × MakesKept e told now w v
 Comes (Err Bad) e told now w v = (now ≡ told) × (MayHappen e w → ⊥)
 Comes (Err Reused) e told now w v = (now ≡ told) × (HasOwnPorts w → Reuses e w)
-Comes (Err NotLoaded) e told now w v = (now ≡ told) × (e ≡ restart) × ((fault : LoadFault) × TableFails told fault)
-Comes (Err Memory) e told now w v = (now ≡ told) ⊎ ((u : World) × MakesKept e told now w u)
+Comes (Err NotLoaded) e told now w v = (now ≡ told) × (e ≡ restart)
+Comes (Err Memory) e told now w v = (e ≢ restart) × ((now ≡ told) ⊎ ((u : World) × MakesKept e told now w u))
 
 -- the fault of the event at a place
 abbrev pub fault_of : EventFault → (index : ℕ) → WorldFault

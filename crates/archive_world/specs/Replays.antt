@@ -90,15 +90,13 @@ pub record IsReusedAt (events : List Event) (told now : Option (List Keeping)) (
   pub happened : HasHappened (take i events) told now world
   pub reuses : Reuses event world
 
--- The events before this place have happened, and at the restart there the keeper fails as the server loads, or memory
--- runs out.
+-- The events before this place have happened, and the one there is a restart. What the keeper has then is not at fault: a
+-- load of it fails only where the keeper fails or memory runs out.
 pub record IsNotLoadedAt (events : List Event) (told now : Option (List Keeping)) (i : ℕ) : Type 0 where
   pub there : slice_get events i ≡ Some restart
   pub world : World
   pub happened : HasHappened (take i events) told now world
-  pub fault : LoadFault
-  pub fails : TableFails now fault
-  pub outside : IsOutside fault
+  pub outside : (fault : LoadFault) → TableFails now fault → IsOutside fault
 
 -- Some first events have happened, and the keeper has what they have kept.
 pub record HasStopped (events : List Event) (told now : Option (List Keeping)) : Type 0 where
