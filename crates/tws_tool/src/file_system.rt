@@ -2,6 +2,7 @@
 
 ghost use Rattle.std.specs.Prelude.{◌≡◌, ℕ, List, Option, None, IfOk};
 
+use std::fs::OpenFile;
 use std::io::{Read, Write};
 use std::rt::Files;
 use std::{fs, io};
@@ -75,6 +76,9 @@ impl<P: Files + Copy> FileSystem for SystemFiles<P> {
     }
 
     fn create(&self, name: &str) -> io::Result<SystemFile<P::File>> {
-        Ok(SystemFile(fs::create(&self.0, name)?))
+        // If a standard stream is closed, the new file gets its descriptor, and what is printed would go into the file. A
+        // clone never has the descriptor of a standard stream.
+        let file = fs::create(&self.0, name)?;
+        Ok(SystemFile(file.try_clone()?))
     }
 }
