@@ -1,4 +1,4 @@
--- The lines of a list, which are gathered one by one and written as they grow large.
+-- The lines of a list, gathered one by one and written as they grow large.
 use Rattle.std.proofs.Common.{◌≡◌, ℕ, ◌+◌, ◌<◌, List, [], ◌∷◌, ◌++◌, length, take, drop, get_or, Option, ap, sym, subst, ◌∙◌, append_assoc, append-nil, take-append-drop}
 use Rattle.std.specs.List.{flat_map}
 use Rattle.std.proofs.lemmas.List.{take_more}
@@ -8,18 +8,18 @@ use Rattle.byte_output.proofs.Sending.{Sends-push, prefix_more}
 
 -- `lines` of a list joins the `line` of each member
 module _ {X : Type 0} (lines : List X → List ℕ) (line : X → List ℕ) (joined : (xs ys : List X) → lines (xs ++ ys) ≡ lines xs ++ lines ys) (single : (x : X) → lines (x ∷ []) ≡ line x) where
-  -- those of the first i, and the others
+  -- the lines of the first i members, and those of the others
   lines-take-drop : (i : ℕ) (xs : List X) → lines (take i xs) ++ lines (drop i xs) ≡ lines xs
   lines-take-drop i xs = sym (joined (take i xs) (drop i xs)) ∙ ap lines (take-append-drop i xs)
 
-  -- one more
+  -- one more member
   lines-more : (i : ℕ) (xs : List X) (x : X) → i < length xs → x ≡ get_or xs i x → lines (take (i + 1) xs) ≡ lines (take i xs) ++ line x
   lines-more i xs x inside x-is =
       ap lines (take_more xs i x inside ∙ ap (λ (y : X). take i xs ++ y ∷ []) (sym x-is))
       ∙ joined (take i xs) (x ∷ [])
       ∙ ap (λ (ys : List ℕ). lines (take i xs) ++ ys) (single x)
 
-  -- after what was gathered at the start
+  -- after text that was gathered at the start
   module _ (old mid new : Option (List ℕ)) (start : List ℕ) (xs : List X) (i : ℕ) where
     whole : (start ++ lines (take i xs)) ++ lines (drop i xs) ≡ start ++ lines xs
     whole = append_assoc start (lines (take i xs)) (lines (drop i xs)) ∙ ap (λ (ys : List ℕ). start ++ ys) (lines-take-drop i xs)
@@ -28,7 +28,7 @@ module _ {X : Type 0} (lines : List X → List ℕ) (line : X → List ℕ) (joi
     pub prefix_of_all : AppendsPrefix old new (start ++ lines (take i xs)) → AppendsPrefix old new (start ++ lines xs)
     prefix_of_all p = subst (λ (ys : List ℕ). AppendsPrefix old new ys) whole (prefix_more old new (start ++ lines (take i xs)) p (lines (drop i xs)))
 
-    -- what was not written of the lines so far, and the other lines, were not written of all lines
+    -- what is left to write of the lines so far, followed by the other lines, is left to write of all lines
     pub Sends-of-all : (buffer : List ℕ) → Sends old new (start ++ lines (take i xs)) buffer → Sends old new (start ++ lines xs) (buffer ++ lines (drop i xs))
     Sends-of-all buffer s = subst (λ (ys : List ℕ). Sends old new ys (buffer ++ lines (drop i xs))) whole (Sends-push old new new (start ++ lines (take i xs)) buffer s (lines (drop i xs)))
 

@@ -41,10 +41,10 @@ module _ {X : Type 0} (P : X → Type 0) where
 
 -- ---- options
 
--- what is known of an option that is there
+-- what is known of an option that is `Some`
 pub at_some : {X : Type 0} (P : X → Type 0) (o : Option X) (x : X) → o ≡ Some x → IfSome o P → P x
 at_some {X} P o x e p = subst (λ (q : Option X). IfSome q P) e p
 
--- what is known of one that is not
+-- what is known of one that is `None`
 pub at_none : {X P : Type 0} (o : Option X) → o ≡ None → IfNone o P → P
 at_none {X} {P} o e p = subst (λ (q : Option X). IfNone q P) e p

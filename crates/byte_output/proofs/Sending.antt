@@ -1,4 +1,4 @@
--- A text that goes out piece by piece.
+-- A text that is written piece by piece.
 use Rattle.std.proofs.Common.{◌≡◌, ◌≢◌, ℕ, ◌-◌, List, [], ◌∷◌, ◌++◌, length, take, drop, Option, Some, None, Result, Ok, Err, OnErr, refl, subst, ap, sym, ◌∙◌, append_assoc, append-nil, take-append-drop}
 use Rattle.std.proofs.lemmas.List.{take_rest}
 use Rattle.std.specs.Io.KnownBytes.{Appends}
@@ -14,7 +14,7 @@ Appends-then (Some xs) None new x y p q = absurd p
 Appends-then (Some xs) (Some ys) None x y p q = absurd q
 Appends-then (Some xs) (Some ys) (Some zs) x y p q = q ∙ ap (λ (b : List ℕ). b ++ y) p ∙ append_assoc xs x y
 
--- at an error of whatever kind
+-- at any error
 pub at_err : {T E P : Type 0} (r : Result T E) → P → OnErr r P
 at_err (Ok x) p = tt
 at_err (Err e) p = p
@@ -33,7 +33,7 @@ some_last (x ∷ xs) ys some none = absurd cc
 pub Sends-none : (old : Option (List ℕ)) (text : List ℕ) → Sends old old text text
 Sends-none old text = record { sent = []; cut = refl; appends = Appends-nil old }
 
--- all of it was
+-- all of it was written
 pub Sends-all : (old new : Option (List ℕ)) (text : List ℕ) → Appends old new text → Sends old new text []
 Sends-all old new text appends = record { sent = text; cut = sym (append-nil text); appends = appends }
 
@@ -42,7 +42,7 @@ module _ (old mid new : Option (List ℕ)) (text rest : List ℕ) where
   pub Sends-push : Sends old mid text rest → (more : List ℕ) → Sends old mid (text ++ more) (rest ++ more)
   Sends-push s more = record { sent = s.sent; cut = ap (λ (x : List ℕ). x ++ more) s.cut ∙ append_assoc s.sent rest more; appends = s.appends }
 
-  -- of what was left, more is written
+  -- more of what was left is written
   pub Sends-then : Sends old mid text rest → (left : List ℕ) → Sends mid new rest left → Sends old new text left
   Sends-then s left t = record {
     sent = s.sent ++ t.sent;
@@ -58,11 +58,11 @@ module _ (old mid new : Option (List ℕ)) (text rest : List ℕ) where
   pub prefix_then : Sends old mid text rest → AppendsPrefix mid new rest → AppendsPrefix old new text
   prefix_then s p = record { rest = p.rest; some = p.some; sends = Sends-then s p.rest p.sends }
 
-  -- where more text follows, a proper prefix of all is written
+  -- if more text follows, a proper prefix of the whole is written
   pub prefix_sent : Sends old mid text rest → (more : List ℕ) → more ≢ [] → AppendsPrefix old mid (text ++ more)
   prefix_sent s more some = record { rest = rest ++ more; some = some_last rest more some; sends = Sends-push s more }
 
--- the writer took n bytes more
+-- the writer takes n more bytes
 pub Sends-more : (old mid new : Option (List ℕ)) (text rest : List ℕ) (n : ℕ) → Sends old mid text rest → Appends mid new (take n rest) → Sends old new text (take (length rest - n) (drop n rest))
 Sends-more old mid new text rest n s more = record {
   sent = s.sent ++ take n rest;
@@ -70,11 +70,11 @@ Sends-more old mid new text rest n s more = record {
   appends = Appends-then old mid new s.sent (take n rest) s.appends more;
 }
 
--- a proper prefix of a text is one of what the text begins
+-- a proper prefix of a text is a proper prefix of any text that begins with it
 pub prefix_more : (old new : Option (List ℕ)) (text : List ℕ) → AppendsPrefix old new text → (more : List ℕ) → AppendsPrefix old new (text ++ more)
 prefix_more old new text p more = record { rest = p.rest ++ more; some = some_first p.rest more p.some; sends = Sends-push old new new text p.rest p.sends more }
 
--- ---- a text of two parts, after one that was gathered
+-- ---- a text of two parts, after gathered text
 
 module _ (old mid new : Option (List ℕ)) (start first second pushed buffer : List ℕ) (pushed-is : pushed ≡ start ++ first) where
   two_parts : pushed ++ second ≡ start ++ (first ++ second)
@@ -91,7 +91,7 @@ module _ (old mid new : Option (List ℕ)) (start first second pushed buffer : L
   pub both_prefix : Sends old mid pushed buffer → AppendsPrefix mid new (buffer ++ second) → AppendsPrefix old new (start ++ (first ++ second))
   both_prefix s p = subst (λ (x : List ℕ). AppendsPrefix old new x) two_parts (prefix_then old mid new (pushed ++ second) (buffer ++ second) (Sends-push old mid new pushed buffer s second) p)
 
--- ---- a text that was written, and then another one
+-- ---- a written text, followed by another
 
 module _ (old mid new : Option (List ℕ)) (first second written : List ℕ) (written-is : written ≡ first) where
   pub first_alone : AppendsPrefix old mid written → AppendsPrefix old mid (first ++ second)

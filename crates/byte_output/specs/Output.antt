@@ -1,8 +1,8 @@
--- What a call that writes a text has written of it.
+-- How much of a text a call has written.
 use Rattle.std.specs.Prelude.{◌≡◌, ◌≢◌, ℕ, List, [], ◌++◌, Option}
 use Rattle.std.specs.Io.KnownBytes.{Appends}
 
--- a prefix of the text was written, and this rest was not
+-- a prefix of the text was written, and `rest` was not
 pub record Sends (old new : Option (List ℕ)) (text rest : List ℕ) : Type 0 where
   pub sent : List ℕ
   pub cut : text ≡ sent ++ rest

@@ -7,10 +7,10 @@ use arrayvec::ArrayVec;
 use std::io::Write;
 use std::marker::Model;
 
-/// How many bytes are gathered before they are written together.
+/// The number of bytes to gather before they are written together.
 pub const LARGE: usize = 1 << 16;
 
-/// At most N bytes that belong together. They are in the value itself, so a buffer takes no memory.
+/// At most N bytes that belong together, held in the value itself: a buffer does not allocate.
 #[derive(Drop)]
 pub struct Buffer<const N: usize> {
     bytes: ArrayVec<u8, N>,
@@ -25,7 +25,7 @@ impl<const N: usize> Model for Buffer<N> {
 }
 
 impl<const N: usize> Buffer<N> {
-    /// A buffer without bytes.
+    /// An empty buffer.
     pub fn new() -> Self
         ensures { result ≡ [] }
     {
@@ -34,14 +34,14 @@ impl<const N: usize> Buffer<N> {
         }
     }
 
-    /// Lends the bytes, in their order.
+    /// Borrows the bytes, in order.
     pub fn as_slice(&self) -> &[u8]
         ensures { result.now ≡ self.now }
     {
         self.bytes.as_slice()
     }
 
-    /// Adds bytes at the end. There must be room for them: N bytes in all.
+    /// Appends bytes. There must be room for them: N bytes in all.
     pub fn push(&mut self, bytes: &[u8])
         requires { length self.old + length bytes.now ≤ N }
         ensures { self.new ≡ self.old ++ bytes.now }
@@ -51,7 +51,7 @@ impl<const N: usize> Buffer<N> {
         };
     }
 
-    // Gathers bytes in an empty buffer; bytes that no buffer of this size holds are written.
+    // Appends bytes to an empty buffer; more than N bytes are written instead.
     fn send_first<W: Write>(&mut self, bytes: &[u8], out: &mut W) -> Result<(), OutFault>
         requires { self.old ≡ [] }
         ensures gathers { length bytes.now ≤ N → (self.new ≡ bytes.now) × (out.new ≡ out.old) }
@@ -65,14 +65,14 @@ impl<const N: usize> Buffer<N> {
         }
     }
 
-    /// Gathers bytes at the end. Where there is no room for them, all that was gathered before is written first; bytes
-    /// that no buffer of this size holds are written too.
+    /// Appends bytes. If there is no room for them, the bytes gathered before are written first; more than N new bytes
+    /// are then written too.
     ///
     /// # Errors
     ///
-    /// `Io` where the writer fails. A proper prefix of what was gathered and these bytes was written.
+    /// `Io` if the writer fails. A proper prefix of the gathered bytes and these was written.
     pub fn send<W: Write>(&mut self, bytes: &[u8], out: &mut W) -> Result<(), OutFault>
-        // Nothing is written where there is room, and only what was gathered before where the bytes then have room.
+        // Nothing is written if there is room, and only the bytes gathered before if the new ones then have room.
         ensures gathers { length self.old + length bytes.now ≤ N → (self.new ≡ self.old ++ bytes.now) × (out.new ≡ out.old) }
         ensures begins { N < length self.old + length bytes.now → length bytes.now ≤ N → OnOk result (self.new ≡ bytes.now) }
         ensures ok { OnOk result (Sends (W.contents out.old) (W.contents out.new) (self.old ++ bytes.now) self.new) }

@@ -1,6 +1,6 @@
-//! Lists of bytes, and how a text of bytes goes out to a writer: what every crate above says and proves of both.
+//! Lists of bytes, and writing a text of bytes to a writer: the definitions and lemmas that every crate above shares.
 //!
-//! `specs/Output.antt` is the file to read first: what a call leaves written. `specs/Bytes.antt` says which lists are
+//! Read `specs/Output.antt` first: it defines what a call leaves written. `specs/Bytes.antt` defines which lists are
 //! bytes. `proofs/` has the lemmas on both, and those on lists that more than one crate needs.
 //!
 //! ```text

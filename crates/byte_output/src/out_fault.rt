@@ -4,10 +4,10 @@ ghost use Rattle.byte_output.specs.declared.out_fault.OutFault.TheVariants.{Memo
 use std::alloc::AllocError;
 use thiserror::Error;
 
-/// Why a text was not written whole. A proper prefix of it was written.
+/// Why a text was not written in full. A proper prefix of it was written.
 #[derive(Clone, Copy, Debug, PartialEq, Eq, Error)]
 pub enum OutFault {
-    /// The writer answered an error, or took nothing of bytes that were there.
+    /// The writer returned an error, or took none of the bytes it was offered.
     #[error("Io")]
     Io,
     /// Out of memory.

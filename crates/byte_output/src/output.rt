@@ -5,12 +5,11 @@ ghost use Rattle.byte_output.specs.Output.{AppendsPrefix};
 use crate::out_fault::OutFault;
 use std::io::Write;
 
-/// Writes all of the bytes, by as many calls of the writer as that takes. It takes no memory.
+/// Writes all of the bytes, in as many calls of the writer as it takes. Does not allocate.
 ///
 /// # Errors
 ///
-/// `Io` where the writer answers an error, or takes none of the bytes that are left. A proper prefix of the bytes was
-/// written.
+/// `Io` if the writer returns an error, or takes none of the remaining bytes. A proper prefix of the bytes was written.
 pub fn put<W: Write>(out: &mut W, bytes: &[u8]) -> Result<(), OutFault>
     ensures ok { OnOk result (Appends (W.contents out.old) (W.contents out.new) bytes.now) }
     ensures err { OnErr result (AppendsPrefix (W.contents out.old) (W.contents out.new) bytes.now) }
