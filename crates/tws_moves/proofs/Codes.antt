@@ -1,9 +1,9 @@
--- Words no one of which begins another: a text of them is cut in one way.
+-- Words of which none is a prefix of another: a text of them can be cut in only one way.
 use Rattle.std.proofs.Common.{◌≡◌, ◌≢◌, ℕ, ◌≤◌, List, [], ◌∷◌, ◌++◌, length, refl, ap, ◌∙◌, sym, append_assoc, arith, length-append}
 use Rattle.std.specs.List.{flat_map, AllByRecursion}
 
 module _ {X : Type 0} (IsWord : X → Type 0) (word : X → List ℕ) where
-  -- no word begins another
+  -- no word is a prefix of another
   abbrev pub IsCode : Type 0
   IsCode = (u v : X) (x y : List ℕ) → IsWord u → IsWord v → word u ++ x ≡ word v ++ y → (u ≡ v) × (x ≡ y)
 
@@ -11,7 +11,7 @@ module _ {X : Type 0} (IsWord : X → Type 0) (word : X → List ℕ) where
   abbrev pub BeginsNoWord : List ℕ → Type 0
   BeginsNoWord xs = (u : X) (more : List ℕ) → IsWord u → xs ≢ word u ++ more
 
-  -- Words up to where no word begins: the words are one list, and so is the rest.
+  -- Words up to where no word begins: there is only one list of them, and only one rest.
   pub one_cut : IsCode → (us vs : List X) (x y : List ℕ) → AllByRecursion IsWord us → AllByRecursion IsWord vs → BeginsNoWord x → BeginsNoWord y → flat_map word us ++ x ≡ flat_map word vs ++ y → (us ≡ vs) × (x ≡ y)
   one_cut code [] [] x y fa fb nx ny e = (refl, e)
   one_cut code [] (v ∷ vs) x y fa fb nx ny e =
@@ -25,7 +25,7 @@ module _ {X : Type 0} (IsWord : X → Type 0) (word : X → List ℕ) where
       let tail = rest.0 in
       (cc, rest.1)
 
-  -- Words that a text begins with are no longer than the words up to where no word begins.
+  -- Words at the start of a text are no longer than the words up to where no word begins.
   pub longest_cut : IsCode → (us vs : List X) (x y : List ℕ) → AllByRecursion IsWord us → AllByRecursion IsWord vs → BeginsNoWord y → flat_map word us ++ x ≡ flat_map word vs ++ y → length (flat_map word us) ≤ length (flat_map word vs)
   longest_cut code [] vs x y fa fb ny e = omega arith
   longest_cut code (u ∷ us) [] x y fa fb ny e =

@@ -29,7 +29,7 @@ long_first first e f = rw (e, f)
 code_first : (first : ℕ) → first % 4 ≡ 3 → first / 16 % 2 ≡ 1 → layout_of first ≡ layout.Code
 code_first first e f = rw (e, f)
 
--- what a piece of this layout holds, which is this number
+-- what a piece of this layout with the value `n` holds
 pub waits_in : (l : Layout) (n first : ℕ) (rest : List ℕ) → layout_of first ≡ l → number_of (first ∷ rest) ≡ n → waits_of (first ∷ rest) ≡ layout_waits l n
 waits_in l n first rest e f = ap (λ (k : Layout). layout_waits k (number_of (first ∷ rest))) e ∙ ap (layout_waits l) f
 
@@ -41,7 +41,7 @@ pub record Holds (bytes : List ℕ) (waits : List Wait) : Type 0 where
   pub piece : IsPiece bytes
   pub made : waits_of bytes ≡ waits
 
--- bytes below 256
+-- the bytes of a number are below 256
 little_is_bytes : (count n : ℕ) → IsBytes (little_bytes count n)
 little_is_bytes zero n i = omega arith
 little_is_bytes (suc count) n zero = omega arith
@@ -57,7 +57,7 @@ one_is_bytes n small (suc i) = omega arith
 
 -- ---- steps
 
--- a long wait is held for four directions alone
+-- only steps in four directions can have a long wait
 four_directions : (t d : ℕ) → 2 ^ 11 ≤ t → t < ticks_limit (Step d) → (d < 4) × (t < 2 ^ 27)
 four_directions t d over limit =
     elim (cases_lt d 4) [

@@ -1,4 +1,4 @@
--- From the masks of 16 bytes to the pieces of one byte that they begin with.
+-- From the masks of 16 bytes to the one-byte pieces that the bytes begin with.
 use Rattle.std.proofs.Common.{◌≡◌, ℕ, zero, suc, ◌+◌, ◌*◌, ◌%◌, ◌/◌, ◌^◌, ◌<◌, ◌≤◌, eqb, ltb, cond, Bool, true, false, not, List, [], ◌∷◌, map, length, take, flat_map, replicate, bit_and, get_or, Fits, w8, refl, sym, ap, ◌∙◌, subst, arith, inl, inr, length-append, length-take, take-take}
 use Rattle.std.specs.List.{AllByRecursion, prefix_len, count_by}
 use Rattle.std.specs.Int.RustNames.{count_ones}
@@ -18,7 +18,7 @@ use Rattle.tws_moves.proofs.Held.{three_first, short_first, one_is_bytes}
 
 -- ---- masks
 
--- of a mask, so many of the low bits
+-- the lowest `k` bits of a mask
 pub mask_take : (ms : List Bool) (k : ℕ) → mask_l ms % 2 ^ k ≡ mask_l (take k ms)
 mask_take ms zero = omega arith
 mask_take [] (suc k) = omega arith
@@ -29,7 +29,7 @@ mask_take (b ∷ ms) (suc k) =
     let low : mask_l (b ∷ ms) % 2 ^ 1 ≡ cond b 1 0 = elim b as (λ (v : Bool). mask_l (v ∷ ms) % 2 ^ 1 ≡ cond v 1 0) [ true ↦ omega arith | false ↦ omega arith ] in
     omega (arith, e, ap (λ (x : ℕ). x % 2 ^ k) half, mask_take ms k, low)
 
--- the mask of lanes whose bits y are z
+-- the mask of the lanes whose bits `y` are `z`
 pub lane_mask : (v : List ℕ) (y z : ℕ) → length v ≡ 16 → mask_l (map (top 7) (zip2 (λ (a b : ℕ). cond (eqb a b) 255 0) (zip2 bit_and v (replicate 16 y)) (replicate 16 z))) % 2 ^ 64 ≡ mask_l (map (λ (x : ℕ). eqb (bit_and x y) z) v)
 lane_mask v y z long =
     let w = zip2 bit_and v (replicate 16 y) in
@@ -39,7 +39,7 @@ lane_mask v y z long =
     ∙ ap (λ (l : List ℕ). mask_l (map (λ (x : ℕ). eqb x z) l)) w-is
     ∙ ap mask_l (map-map (λ (x : ℕ). eqb x z) (λ (x : ℕ). bit_and x y) v)
 
--- ---- bytes that are a piece each
+-- ---- bytes that are one piece each
 
 abbrev pub is_longer : ℕ → Bool
 is_longer x = eqb (bit_and x 2) 2
@@ -113,7 +113,7 @@ threes_within xs n = omega (arith, count_by-le-length is_three (take n xs), leng
 
 -- ---- 16 bytes
 
--- what is asked of a run and of the threes in it
+-- what `count_short` needs of the run and of the threes in it
 module _ (bytes : List ℕ) (enough : 16 ≤ length bytes) (fits : (i : ℕ) → Fits w8 (get_or bytes i 0)) where
   lanes : List ℕ
   lanes = chunk 0 16 bytes
@@ -141,7 +141,7 @@ module _ (bytes : List ℕ) (enough : 16 ≤ length bytes) (fits : (i : ℕ) →
   unfolding lanes
   run_short run run-is = subst (ShortRun lanes) (sym run-is) (short_run lanes lanes_fit)
 
-  -- so many lanes are so many bytes
+  -- the first `run` lanes are the first `run` bytes
   pub take_lanes : (run : ℕ) → run ≤ 16 → take run (chunk 0 16 bytes) ≡ take run bytes
   take_lanes run within = take-take run 16 bytes within
 

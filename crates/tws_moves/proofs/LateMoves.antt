@@ -32,7 +32,7 @@ module _ (moves : List Move) (timed : IsTimed moves) (index : ℕ) (inside : ind
   pub too_late : IsTooLateAt moves index
   too_late = record { within = inside; before = fronts_spelled; first = with_it; none = never }
 
--- there is one such place
+-- there is only one such index
 pub one_index : (moves : List Move) (m n : ℕ) → IsTooLateAt moves m → IsTooLateAt moves n → m ≡ n
 one_index moves m n first second =
     elim (cases_order m n) [

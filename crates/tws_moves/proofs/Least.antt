@@ -1,4 +1,4 @@
--- No spelling is shorter than the one from the left.
+-- No spelling is shorter than the one written from the left.
 use Rattle.std.proofs.Common.{◌≡◌, ◌⊎◌, ℕ, ◌+◌, ◌<◌, ◌≤◌, true, false, ltb, eqb, List, [], ◌∷◌, ◌++◌, length, refl, ap, sym, subst, ◌∙◌, arith, inl, inr, flat_map, length-append, append-nil}
 use Rattle.std.specs.List.{AllByRecursion}
 use Rattle.std.proofs.lemmas.Bool.{cases_Bool, lt-ltb, and_parts, ltb-true, eqb-true}
@@ -19,7 +19,7 @@ use Rattle.tws_moves.proofs.PieceKinds.{One, Three, piece_kind, step_limit}
 pub three_step : (a b c : Wait) (rest : List Wait) → is_plain a ≡ true → is_plain b ≡ true → is_plain c ≡ true → waits_bytes (a ∷ b ∷ c ∷ rest) ≡ three_byte a b c ∷ waits_bytes rest
 three_step a b c rest pa pb pc = rw (pa, pb, pc)
 
--- where one of the next three is not plain, the next one is alone in its piece
+-- if one of the next three is not plain, the next one is alone in its piece
 pub alone_first : (a : Wait) (rest : List Wait) → is_plain a ≡ false → waits_bytes (a ∷ rest) ≡ alone a ++ waits_bytes rest
 alone_first a [] p = sym (append-nil (alone a))
 alone_first a (b ∷ []) p = refl
@@ -80,7 +80,7 @@ size waits = length (waits_bytes waits)
 alone_size : (w : Wait) (ws : List Wait) → waits_bytes (w ∷ ws) ≡ alone w ++ waits_bytes ws → size (w ∷ ws) ≡ length (alone w) + size ws
 alone_size w ws e = omega (arith, ap length e, length-append (alone w) (waits_bytes ws))
 
--- After two plain steps there is a third, or all else is spelled by itself.
+-- Two plain steps before other waits never save bytes: either a third follows, or the others are spelled by themselves.
 two_more : (b c d : Wait) (rest : List Wait) → is_plain b ≡ true → is_plain c ≡ true → size (d ∷ rest) ≤ length (alone d) + size rest → size (d ∷ rest) ≤ size (b ∷ c ∷ d ∷ rest)
 two_more b c d rest pb pc later =
     elim (cases_Bool (is_plain d)) [
@@ -88,7 +88,7 @@ two_more b c d rest pb pc later =
       | inr other ↦ omega (arith, alone_size b (c ∷ d ∷ rest) (alone_third b c d rest other), alone_size c (d ∷ rest) (alone_second c d rest other))
     ]
 
--- One wait more costs no more than its bytes alone.
+-- One more wait costs no more than its bytes alone.
 one_more_by : (a b c : Wait) (rest : List Wait) → (is_plain b ≡ true → is_plain c ≡ true → size rest ≤ size (b ∷ c ∷ rest)) → size (a ∷ b ∷ c ∷ rest) ≤ length (alone a) + size (b ∷ c ∷ rest)
 one_more_by a b c rest fewer =
     elim (next_step a b c rest) [
@@ -104,7 +104,7 @@ one_more a (b ∷ c ∷ d ∷ rest) =
     let later = one_more d rest in
     one_more_by a b c (d ∷ rest) (λ pb pc. two_more b c d rest pb pc later)
 
--- ---- no pieces are shorter
+-- ---- no list of pieces is shorter
 
 plain_held : (d : ℕ) → d < 4 → HasLayout (plain_step d)
 plain_held d small = record { act = omega arith; ticks = omega (arith, step_limit d) }
@@ -118,7 +118,7 @@ direction_if_plain w p = let plain = plain_is w p in omega (arith, plain.small, 
 pub step_is_plain : (d : ℕ) → d < 4 → is_plain (plain_step d) ≡ true
 step_is_plain d small = let e = lt-ltb d 4 small in rw e
 
--- some layout holds each wait, and their spelling is no longer than so many bytes
+-- some layout holds each wait, and their spelling has at most `most` bytes
 record Within (most : ℕ) (waits : List Wait) : Type 0 where
   held : AllByRecursion HasLayout waits
   least : size waits ≤ most
@@ -153,9 +153,9 @@ pieces_within (piece ∷ pieces) fits =
     let total : length piece + most ≡ length (piece ++ join pieces) = omega (arith, length-append piece (join pieces)) in
     subst (λ (n : ℕ). Within n (waits_of piece ++ rest)) total whole
 
--- ---- pieces that are as long
+-- ---- the spelling as pieces
 
--- the spelling is pieces, which hold the waits
+-- the spelling is a sequence of pieces, which hold the waits
 pub record Spelled (waits : List Wait) : Type 0 where
   pub pieces : List (List ℕ)
   pub fits : AllByRecursion IsPiece pieces
@@ -194,11 +194,11 @@ waits_spelled (a ∷ b ∷ c ∷ rest) held =
 
 -- ---- moves
 
--- Timed moves are those of their waits.
+-- Timed moves are the moves that their waits make.
 pub moves_of_their_waits : (moves : List Move) → IsTimed moves → moves_from 0 (waits_from 0 moves) ≡ moves
 moves_of_their_waits moves timed = moves_back 0 moves timed (λ m some. omega arith)
 
--- What is spelled has waits that layouts hold, and is timed.
+-- Moves that are spelled are timed, and layouts hold their waits.
 module _ (bytes : List ℕ) (moves : List Move) (spells : Spells bytes moves) where
   waits_are : waits_from 0 moves ≡ flat_map waits_of spells.pieces
   waits_are = ap (waits_from 0) (moves_alone (flat_map waits_of spells.pieces) moves spells.made) ∙ waits_back 0 (flat_map waits_of spells.pieces)

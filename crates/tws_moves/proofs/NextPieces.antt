@@ -31,7 +31,7 @@ pushed_all bytes whole count n so_far none =
 
 -- ---- three waits
 
--- of fewer than three each is alone
+-- of fewer than three waits, each is alone
 pub few_apart : (waits : List Wait) (i : ℕ) → i < length waits → length waits - i < 3 → BeginsAlone (drop i waits)
 few_apart waits i inside few = few_alone (drop i waits) (omega (arith, length-drop i waits)) (omega (arith, length-drop i waits))
   where
@@ -92,7 +92,7 @@ alone_next waits i w size number count inside w-is apart held bytes count-is =
     } in
     subst (λ (n : ℕ). IsNextPiece (drop i waits) size number n) (sym count-is) (subst (λ (ws : List Wait). IsNextPiece ws size number 1) (sym cells) found)
 
--- a wait that is no plain step is alone, if some layout holds it
+-- a wait that is not a plain step is alone, if some layout holds it
 module _ (waits : List Wait) (i : ℕ) (w : Wait) (inside : i < length waits) (w-is : w ≡ slice_index_or waits i w) where
   plain_apart : is_plain w ≡ false → BeginsAlone (drop i waits)
   plain_apart other =

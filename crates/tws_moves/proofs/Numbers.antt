@@ -25,7 +25,7 @@ number_bound_from bytes zero fits short = number_bound bytes fits short
 number_bound_from [] (suc i) fits short = omega arith
 number_bound_from (b ∷ bytes) (suc i) fits short = number_bound_from bytes i (λ j. fits (suc j)) (omega arith)
 
--- the number of the first bytes is the lowest bits of the number of all
+-- the number of the first bytes is the lowest bits of the number of all bytes
 first_bits : (count : ℕ) (bytes : List ℕ) → IsBytes bytes → number_of bytes % 2 ^ (8 * count) ≡ number_of (take count bytes)
 first_bits zero bytes fits = mod-one (number_of bytes)
 first_bits (suc count) [] fits = zero-mod (2 ^ (8 * suc count))
@@ -43,13 +43,13 @@ first_bits (suc count) (b ∷ bytes) fits =
     let turned : few * 256 + b ≡ b + 256 * few = omega arith in
     digits ∙ ap (λ n. n * 256 + b) before ∙ turned
 
--- the same number, as it is read
+-- the same number as read by `read_u64`
 as_read : (count : ℕ) (bytes : List ℕ) → count ≤ length bytes → little_number count bytes ≡ number_of (take count bytes)
 as_read zero bytes within = refl
 as_read (suc count) [] within = absurd (omega arith)
 as_read (suc count) (b ∷ bytes) within = ap (λ n. b + 256 * n) (little_from-cons zero count b bytes ∙ as_read count bytes (omega arith))
 
--- of eight bytes that are read at once, the number of the first
+-- of eight bytes read at once, the number of the first
 pub first_number : (count : ℕ) (bytes : List ℕ) → IsBytes bytes → count ≤ 8 → 8 ≤ length bytes → bits 0 (8 * count) (little_number 8 bytes) ≡ number_of (take count bytes)
 first_number count bytes fits few many =
     ap (λ n. n % 2 ^ (8 * count)) (div-one (little_number 8 bytes) ∙ as_read 8 bytes many)
@@ -61,12 +61,12 @@ first_bound count bytes fits few = number_bound (take count bytes) (IsBytes-take
 
 -- ---- a number's bytes
 
--- a byte of a number, by its place
+-- a byte of a number, by its position
 byte_is : (place n : ℕ) → byte_at place n ≡ n / 256 ^ place % 256
 byte_is zero n = ap (λ m. m % 256) (sym (div-one n))
 byte_is (suc place) n = refl
 
--- the bytes of a number from one on
+-- the bytes of a number, starting at byte `from`
 low_bytes : (from count n : ℕ) → bytes_low_first from count n ≡ little_bytes count (n / 256 ^ from)
 low_bytes from zero n = refl
 low_bytes from (suc count) n =
@@ -74,11 +74,11 @@ low_bytes from (suc count) n =
     ap (λ b. b ∷ bytes_low_first (suc from) count n) (byte_is from n)
     ∙ ap (λ bs. n / 256 ^ from % 256 ∷ bs) (low_bytes (suc from) count n ∙ ap (little_bytes count) next)
 
--- of eight bytes that are written at once, the first
+-- of eight bytes written at once, the first
 pub first_bytes : (count n : ℕ) → count ≤ 8 → take count (bytes_low_first 0 8 n) ≡ little_bytes count n
 first_bytes count n few = take-bytes_low_first 0 8 count n few ∙ low_bytes 0 count n ∙ ap (little_bytes count) (div-one n)
 
--- bytes after which eight were written, of which the first are kept
+-- eight bytes are appended, and only the first of them are kept
 pub pushed_first : (old long new eight : List ℕ) (count n before : ℕ) → before ≡ length old → eight ≡ bytes_low_first 0 8 n → long ≡ old ++ eight → new ≡ take (before + count) long → count ≤ 8 → new ≡ old ++ little_bytes count n
 pushed_first old long new eight count n before before-is eight-is long-is new-is few =
     new-is

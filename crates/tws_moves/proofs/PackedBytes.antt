@@ -1,4 +1,4 @@
--- Bytes that spell moves, spelled anew.
+-- Bytes that spell moves, packed.
 use Rattle.std.proofs.Common.{◌≡◌, ℕ, zero, suc, ◌≤◌, List, [], ◌∷◌, ◌++◌, length, ap, sym, subst, ◌∙◌, arith}
 use Rattle.std.specs.List.{AllByRecursion}
 use Rattle.byte_output.specs.Bytes.{IsBytes}

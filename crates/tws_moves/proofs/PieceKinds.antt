@@ -1,4 +1,4 @@
--- What a piece holds: one wait, which alone takes no more bytes, or three plain steps.
+-- What a piece holds: one wait, which needs no more bytes alone, or three plain steps.
 use Rattle.std.proofs.Common.{◌≡◌, ◌⊎◌, ℕ, ◌+◌, ◌*◌, ◌^◌, ◌<◌, ◌≤◌, ◌/◌, false, ltb, List, [], ◌∷◌, length, refl, ap, ◌∙◌, arith, inl, inr}
 use Rattle.std.proofs.lemmas.Bool.{cases_lt, lt-ltb, le-ltb}
 use Rattle.tws_moves.specs.declared.act.Act.TheVariants.{Step, Code}
@@ -65,7 +65,7 @@ more_three t = elim (cases_lt t (2 ^ 18)) [
 
 -- ---- by its layout
 
--- the ticks in a code's piece, and the bytes that they take
+-- the ticks in a code's piece, and the bytes that they need
 code_ticks : (first : ℕ) (rest : List ℕ) (more : ℕ) → IsBytes (first ∷ rest) → length rest ≡ 1 + more → more ≤ 3 → (code_more (number_of (first ∷ rest) / 2 ^ 14) ≤ more) × (number_of (first ∷ rest) / 2 ^ 14 < 2 ^ 26)
 code_ticks a [] more fits long few = absurd (omega arith)
 code_ticks a (b ∷ []) more fits long few =

@@ -1,4 +1,4 @@
--- Pieces are a code: none begins another.
+-- Pieces are a prefix code: none is a prefix of another.
 use Rattle.std.proofs.Common.{◌≡◌, ℕ, ◌≤◌, List, [], ◌∷◌, ◌++◌, length, ap, arith, length-append}
 use Rattle.tws_moves.specs.declared.layout.Layout.{Layout}
 use Rattle.tws_moves.specs.declared.layout.Layout.TheVariants as layout
@@ -7,7 +7,7 @@ use Rattle.tws_moves.specs.Steps.{IsPieceCut}
 use Rattle.tws_moves.proofs.Codes.{IsCode, BeginsNoWord}
 use Rattle.byte_output.proofs.Lists.{append_parts}
 
--- a piece's bytes are itself
+-- the bytes of a piece are the piece itself
 abbrev pub itself : List ℕ → List ℕ
 itself piece = piece
 
@@ -22,7 +22,7 @@ pub none_begins_none : BeginsNoWord IsPiece itself []
 none_begins_none [] more fits e = absurd fits.whole
 none_begins_none (a ∷ p) more fits e = absurd cc
 
--- where a piece is cut, no piece begins
+-- bytes that are cut do not begin with a piece
 pub cut_begins_none : (rest : List ℕ) → IsPieceCut rest → BeginsNoWord IsPiece itself rest
 cut_begins_none rest cut [] more fits e = absurd fits.whole
 cut_begins_none [] cut (a ∷ p) more fits e = absurd cc
@@ -38,6 +38,6 @@ layout_some layout.MiddleStep first = omega arith
 layout_some layout.LongStep first = omega arith
 layout_some layout.Code first = omega arith
 
--- a piece has its first byte
+-- a piece has at least one byte
 pub piece_some : (first : ℕ) → 1 ≤ piece_length first
 piece_some first = layout_some (layout_of first) first

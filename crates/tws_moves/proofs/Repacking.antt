@@ -1,4 +1,4 @@
--- Bytes to the shortest bytes, piece by piece, with the plain steps that are pending.
+-- Packing bytes into the shortest bytes, piece by piece, with the plain steps that are pending.
 use Rattle.std.proofs.Common.{◌≡◌, ℕ, ◌+◌, ◌*◌, ◌^◌, ◌/◌, ◌%◌, ◌<◌, false, List, [], ◌∷◌, ◌++◌, length, refl, ap, sym, subst, ◌∙◌, arith, flat_map, append_assoc, append-nil}
 use Rattle.std.proofs.lemmas.List.Concat.{flat_map-append}
 use Rattle.tws_moves.specs.declared.act.Act.TheVariants.{Step}
@@ -16,7 +16,7 @@ use Rattle.tws_moves.proofs.Waits.{waits_back}
 use Rattle.tws_moves.proofs.Held.{short_first, step_short, waits_in}
 use Rattle.tws_moves.proofs.Least.{three_step, alone_first, alone_second, alone_third, step_is_plain}
 
--- each pending step is alone before a wait that is no plain step
+-- each pending step is alone before a wait that is not a plain step
 pending_apart : (k : Pending) (w : Wait) (rest : List Wait) → is_plain w ≡ false → waits_bytes (pending_waits k ++ (w ∷ rest)) ≡ waits_bytes (pending_waits k) ++ (alone w ++ waits_bytes rest)
 pending_apart pending.None w rest other = alone_first w rest other
 pending_apart (pending.One a) w rest other =

@@ -17,7 +17,7 @@ use Rattle.tws_moves.proofs.Codes.{one_cut, longest_cut}
 use Rattle.tws_moves.proofs.Pieces.{itself, pieces_are_code, none_begins_none, cut_begins_none, piece_some}
 use Rattle.tws_moves.proofs.Ticks.{moves_of_waits, moves_alone, moves_from-append, tick_after-append}
 
--- ---- one list
+-- ---- one list of moves
 
 pub one_reading : (bytes : List ℕ) (m n : List Move) → Spells bytes m → Spells bytes n → m ≡ n
 one_reading bytes m n sm sn =
@@ -26,7 +26,7 @@ one_reading bytes m n sm sn =
     ∙ ap (λ (ps : List (List ℕ)). moves_from 0 (flat_map waits_of ps)) same.0
     ∙ sym (moves_alone (flat_map waits_of sn.pieces) n sn.made)
 
--- the pieces of a text of pieces
+-- the pieces of joined pieces
 pieces_in_join : (steps : ℕ) (pieces : List (List ℕ)) → AllByRecursion IsPiece pieces → length (join pieces) ≤ steps → pieces_in steps (join pieces) ≡ pieces
 pieces_in_join zero [] fits enough = refl
 pieces_in_join (suc steps) [] fits enough = refl
@@ -40,7 +40,7 @@ pieces_in_join (suc steps) ((first ∷ tail) ∷ pieces) fits enough =
     ∙ ap (λ (xs : List ℕ). (first ∷ tail) ∷ pieces_in steps xs) rest
     ∙ ap (λ (ps : List (List ℕ)). (first ∷ tail) ∷ ps) (pieces_in_join steps pieces fits.1 (omega (arith, enough, length-append tail (join pieces))))
 
--- the function gives the moves that are spelled
+-- the function returns the moves that are spelled
 pub moves_in_spelled : (bytes : List ℕ) (moves : List Move) → Spells bytes moves → moves ≡ moves_in bytes
 moves_in_spelled bytes moves spells =
     moves_alone (flat_map waits_of spells.pieces) moves spells.made
@@ -97,7 +97,7 @@ pub cut_is_no_spelling : (bytes : List ℕ) (e : MovesFault) (moves : List Move)
 cut_is_no_spelling bytes (Cut at) moves cut spells = cut_spells_nothing bytes at moves cut spells
 cut_is_no_spelling bytes Memory moves cut spells = cut
 
--- the reading of what is spelled fails for memory alone
+-- reading bytes that spell moves fails only when out of memory
 pub spelled_fails : (bytes : List ℕ) (e : MovesFault) (moves : List Move) → MovesFail bytes e → Spells bytes moves → e ≡ Memory
 spelled_fails bytes (Cut at) moves fails spells = ⊎_elim (λ cut. absurd (cut_spells_nothing bytes at moves cut spells)) (λ memory. memory) fails
 spelled_fails bytes Memory moves fails spells = refl
@@ -106,7 +106,7 @@ pub one_place : (bytes : List ℕ) (m n : ℕ) → IsCutAt bytes m → IsCutAt b
 one_place bytes m n first second =
     omega (arith, first.longest n (omega (arith, second.within)) second.spelled, second.longest m (omega (arith, first.within)) first.spelled)
 
--- ---- one piece more
+-- ---- one more piece
 
 more_texts : (pieces : List (List ℕ)) (piece : List ℕ) → join (pieces ++ piece ∷ []) ≡ join pieces ++ piece
 more_texts pieces piece = flat_map-append itself pieces (piece ∷ []) ∙ ap (λ (xs : List ℕ). join pieces ++ xs) (append-nil piece)
@@ -142,7 +142,7 @@ counts_piece bytes piece after count one split count-is = record {
   count_is = count-is ∙ ap length (sym (append-nil (waits_of piece)));
 }
 
--- ---- bytes that are a piece each
+-- ---- bytes that are one piece each
 
 join_singles : (bytes : List ℕ) → join (singles bytes) ≡ bytes
 join_singles [] = refl
@@ -181,7 +181,7 @@ IsBytes-cell : (first : ℕ) (tail : List ℕ) → first < 256 → IsBytes tail 
 IsBytes-cell first tail head fits zero = head
 IsBytes-cell first tail head fits (suc i) = fits i
 
--- the bytes are pieces, and a rest in which none is whole
+-- the bytes are pieces, followed by a rest that does not begin with a whole piece
 abbrev Pieces : List ℕ → Type 0
 Pieces bytes = (rest : List ℕ) × (pieces : List (List ℕ)) × ArePieces bytes rest pieces × IsPieceCut rest
 

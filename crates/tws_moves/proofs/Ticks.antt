@@ -1,11 +1,11 @@
--- The running tick: moves that follow one another are at the sum of the waits and of the moves before them.
+-- The running tick: each move is made at the sum of the waits up to its own, plus the number of moves before it.
 use Rattle.std.proofs.Common.{◌≡◌, ℕ, zero, suc, ◌+◌, ◌<◌, List, [], ◌∷◌, ◌++◌, length, take, slice_index_or, refl, ap, ◌∙◌, arith}
 use Rattle.std.specs.List.{sum_by}
 use Rattle.std.proofs.lemmas.List.Sums.{sum_by-cons}
 use Rattle.tws_moves.specs.declared.act.Act.{Act}
 use Rattle.tws_moves.specs.Move.{Move, Wait, AreMoves, moves_from, tick_after}
 
--- the waits up to number i, and the moves between them
+-- the waits up to number i, and the ticks of the moves between them
 abbrev ticks_to : List Wait → ℕ → ℕ
 ticks_to waits i = sum_by (λ (w : Wait). w.ticks) (take (i + 1) waits) + i
 
@@ -42,7 +42,7 @@ at_from tick (w ∷ ws) (suc i) m inside =
 made_from : (tick : ℕ) (waits : List Wait) → Made tick waits (moves_from tick waits)
 made_from tick waits = record { count = count_from tick waits; act = act_from tick waits; at = at_from tick waits }
 
--- nothing else is made
+-- no other moves are made
 made_alone : (tick : ℕ) (waits : List Wait) (moves : List Move) → Made tick waits moves → moves ≡ moves_from tick waits
 made_alone tick [] [] made = refl
 made_alone tick [] (m ∷ ms) made = absurd (omega (arith, made.count))

@@ -1,4 +1,4 @@
--- The waits of moves, and the moves of waits: each gives the other back.
+-- The waits of moves, and the moves of waits: each conversion undoes the other.
 use Rattle.std.proofs.Common.{◌≡◌, ℕ, zero, suc, ◌+◌, ◌-◌, ◌<◌, ◌≤◌, List, [], ◌∷◌, length, take, slice_index_or, refl, ap, sym, ◌∙◌, arith, get_or-take, length-take}
 use Rattle.tws_moves.specs.declared.act.Act.{Act}
 use Rattle.tws_moves.specs.Move.{Move, Wait, IsTimed, moves_from, waits_from}
@@ -65,7 +65,7 @@ later_wait tick (m ∷ []) i d e w inside = absurd (omega arith)
 later_wait tick (m ∷ n ∷ ms) zero d e w inside = refl
 later_wait tick (m ∷ n ∷ ms) (suc i) d e w inside = later_wait (m.at + 1) (n ∷ ms) i d e w (omega arith)
 
--- the wait of the move with this number, counted from 0, counted from the tick after the one before it
+-- the wait of the move at index i, counted from the tick after the previous move
 wait_at : (moves : List Move) (i : ℕ) (d e : Move) (w : Wait) → 1 ≤ i → i < length moves → slice_index_or (waits_from 0 moves) i w ≡ record { ticks = (slice_index_or moves i d).at - ((slice_index_or moves (i - 1) e).at + 1); act = (slice_index_or moves i d).act }
 wait_at moves zero d e w later inside = absurd (omega arith)
 wait_at moves (suc i) d e w later inside =

@@ -18,13 +18,13 @@ pub record IsMove (m : Move) : Type 0 where
   pub at : m.at < 2 ^ 64
   pub act : IsAct m.act
 
--- an act, and how many ticks go by before it, counted from the first one that it could be made at
+-- an act, and how many ticks go by before it, counted from the first tick at which it could have been made
 pub record Wait : Type 0 where
   pub ticks : ℕ
   pub act : Act
 
--- The moves that waits make, in the same order: before move number n the first n waits go by, and the ticks of the
--- n - 1 moves before it.
+-- The moves that waits make, in the same order: before the n-th move the first n waits go by, and the ticks of the n -
+-- 1 moves before it.
 pub record AreMoves (waits : List Wait) (moves : List Move) : Type 0 where
   pub count : length moves ≡ length waits
   pub act : (i : ℕ) (m : Move) (w : Wait) → i < length waits → (slice_index_or moves i m).act ≡ (slice_index_or waits i w).act
@@ -36,12 +36,12 @@ IsTimed moves = (i : ℕ) (m : Move) → i + 1 < length moves → (slice_index_o
 
 -- ---- by a running tick
 
--- the moves that waits make from a tick on
+-- the moves that waits make, from a tick on
 abbrev pub moves_from : ℕ → List Wait → List Move
 moves_from tick [] = []
 moves_from tick (w ∷ ws) = record { at = tick + w.ticks; act = w.act } ∷ moves_from (tick + w.ticks + 1) ws
 
--- the tick from which on a later move can be made
+-- the first tick at which a later move can be made
 abbrev pub tick_after : ℕ → List Wait → ℕ
 tick_after tick [] = tick
 tick_after tick (w ∷ ws) = tick_after (tick + w.ticks + 1) ws

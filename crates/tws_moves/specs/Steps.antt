@@ -1,4 +1,4 @@
--- What the private steps of reading and writing say. Callers need none of it.
+-- Definitions for the private steps of reading and writing. Callers need none of them.
 use Rattle.std.specs.Prelude.{◌≡◌, ◌==◌, ℕ, ◌+◌, ◌<◌, ◌≤◌, ◌^◌, nat_lt, List, [], ◌∷◌, ◌++◌, length, map, take, drop, if◌then◌else◌}
 use Rattle.std.specs.List.{flat_map, AllByRecursion}
 use Rattle.std.specs.Int.{w64, trailing_zeros}
@@ -16,27 +16,27 @@ abbrev pub IsPieceCut : List ℕ → Type 0
 IsPieceCut [] = Unit {0}
 IsPieceCut (first ∷ rest) = 1 + length rest < piece_length first
 
--- bytes that are a piece each
+-- each byte as a piece
 abbrev pub singles : List ℕ → List (List ℕ)
 singles bytes = map (λ (b : ℕ). b ∷ []) bytes
 
--- the place of the lowest bit that is set, or n
+-- the position of the lowest set bit, or `n` if none is set
 abbrev pub first_set : (mask n : ℕ) → ℕ
 first_set mask n = if mask == 0 then n else trailing_zeros w64 mask
 
--- so far the bytes are these pieces, and a rest
+-- the bytes are these pieces followed by a rest
 pub record ArePieces (bytes rest : List ℕ) (pieces : List (List ℕ)) : Type 0 where
   pub fits : AllByRecursion IsPiece pieces
   pub split : bytes ≡ join pieces ++ rest
 
--- the pieces so far make these moves, and a later one can be made from this tick on
+-- the pieces so far make these moves, and a later move can be made from this tick on
 pub record ReadsSoFar (bytes rest : List ℕ) (moves : List Move) (tick : ℕ) : Type 0 where
   pub pieces : List (List ℕ)
   pub so_far : ArePieces bytes rest pieces
   pub moves_are : moves ≡ moves_from 0 (flat_map waits_of pieces)
   pub tick_is : tick ≡ tick_after 0 (flat_map waits_of pieces)
 
--- the pieces so far make so many moves
+-- the pieces so far make `count` moves
 pub record CountsSoFar (bytes rest : List ℕ) (count : ℕ) : Type 0 where
   pub pieces : List (List ℕ)
   pub so_far : ArePieces bytes rest pieces
@@ -44,7 +44,7 @@ pub record CountsSoFar (bytes rest : List ℕ) (count : ℕ) : Type 0 where
 
 -- ---- writing
 
--- an act's waits that some layout holds are below this
+-- the waits that a layout can hold before an act are below this
 abbrev pub ticks_limit : Act → ℕ
 ticks_limit (Step direction) = if nat_lt direction 4 then 2 ^ 27 else 2 ^ 11
 ticks_limit (Code code) = 2 ^ 26
@@ -54,7 +54,7 @@ pub record HasLayout (w : Wait) : Type 0 where
   pub act : IsAct w.act
   pub ticks : w.ticks < ticks_limit w.act
 
--- The first piece of the waits' spelling is this number in so many bytes, and holds so many waits.
+-- The first piece of the waits' spelling has the value `number` and `length_of` bytes, and holds `count` waits.
 pub record IsNextPiece (waits : List Wait) (length_of number count : ℕ) : Type 0 where
   pub some : 1 ≤ count
   pub within : count ≤ length waits
@@ -66,7 +66,7 @@ abbrev pub BeginsAlone : List Wait → Type 0
 BeginsAlone [] = ⊥
 BeginsAlone (w ∷ ws) = waits_bytes (w ∷ ws) ≡ alone w ++ waits_bytes ws
 
--- the bytes so far are the spelling up to the wait with this number
+-- the bytes so far are the spelling of the waits before the one at `index`
 pub record WritesSoFar (waits : List Wait) (bytes : List ℕ) (index : ℕ) : Type 0 where
   pub within : index ≤ length waits
   pub held : AllByRecursion HasLayout (take index waits)
@@ -89,12 +89,13 @@ IsPending pending.None = Unit {0}
 IsPending (pending.One a) = a < 4
 IsPending (pending.Two a b) = (a < 4) × (b < 4)
 
--- The waits were added: the spelling of what was pending and of them goes on with what is pending now.
+-- The waits were added: the spelling of what was pending before and of these waits continues with what is pending
+-- after.
 pub record Packs (old : List ℕ) (before : Pending) (waits : List Wait) (new : List ℕ) (after : Pending) : Type 0 where
   pub fits : IsPending after
   pub bytes : (rest : List Wait) → old ++ waits_bytes (pending_waits before ++ (waits ++ rest)) ≡ new ++ waits_bytes (pending_waits after ++ rest)
 
--- the same, of the moves in the pieces that the bytes are up to a rest
+-- the same for the moves of the pieces that come before the rest
 pub record PacksPieces (bytes rest old : List ℕ) (before : Pending) (new : List ℕ) (after : Pending) : Type 0 where
   pub pieces : List (List ℕ)
   pub so_far : ArePieces bytes rest pieces

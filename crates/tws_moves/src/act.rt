@@ -11,7 +11,7 @@ pub enum Act {
 }
 
 impl Act {
-    /// The waits that some layout holds before it are below this.
+    /// The waits that a layout can hold before this act are below this.
     pub(crate) fn ticks_limit(self) -> u64
         ensures { result ≡ ticks_limit self }
     {

@@ -1,4 +1,4 @@
-//! The count of moves.
+//! Counting moves.
 
 ghost use Rattle.std.specs.Prelude.{◌≡◌, ℕ, ◌+◌, ◌*◌, ◌<◌, ◌≤◌, ◌^◌, List, length, take, Ok, IfOk, IfErr, IfSome, IfNone};
 ghost use Rattle.std.specs.List.{AllByRecursion, flat_map};
@@ -11,10 +11,10 @@ use crate::moves_fault::MovesFault;
 use crate::reading::{cut_before, split_piece};
 use std::simd::prelude::*;
 
-// How many bytes are tested at once. In real files nine of ten pieces have one byte, in runs of about eight.
+// How many bytes are tested at once. In real files nine out of ten pieces are one byte long, in runs of about eight.
 const LANES: usize = 16;
 
-// The place of the lowest bit that is set, or LANES.
+// The position of the lowest set bit, or LANES if none is set.
 #[inline(always)]
 fn first_set(mask: u64) -> usize
     ensures { result ≡ first_set mask LANES }
@@ -26,7 +26,7 @@ fn first_set(mask: u64) -> usize
     }
 }
 
-// How many of the first 16 bytes are pieces of one byte, up to the first that is not, and how many moves they hold.
+// How many of the first 16 bytes are one-byte pieces, up to the first that is not, and how many moves they hold.
 #[inline(always)]
 fn count_short(bytes: &[u8]) -> (usize, u64)
     requires { LANES ≤ length bytes.now }
@@ -52,7 +52,8 @@ fn count_piece(piece: &[u8]) -> u64
     Layout::of(piece[0]).moves()
 }
 
-// The bytes after the pieces of one byte that the bytes begin with, at most 16, and how many moves these hold.
+// Skips at most 16 one-byte pieces at the start of the bytes. Returns how many moves they hold, and the bytes after
+// them.
 #[inline(always)]
 fn skip_short(bytes: &[u8]) -> (u64, &[u8])
     ensures counts { CountsSoFar bytes.now result.1.now result.0 }
@@ -65,8 +66,8 @@ fn skip_short(bytes: &[u8]) -> (u64, &[u8])
     (count, &bytes[run..])
 }
 
-// How many moves some pieces hold that the bytes begin with, and the bytes after them; none where the first piece is
-// cut.
+// Counts the moves of one or more pieces at the start of the bytes. Returns the count and the bytes after these pieces,
+// or `None` if the bytes do not begin with a whole piece.
 #[inline(always)]
 fn count_next(bytes: &[u8]) -> Option<(u64, &[u8])>
     requires { length bytes.now < 2 ^ 32 }
@@ -86,12 +87,12 @@ fn count_next(bytes: &[u8]) -> Option<(u64, &[u8])>
     }
 }
 
-/// How many moves the bytes spell. There are at most 4,294,967,295 bytes. It agrees with `read_moves`, and takes no
-/// memory.
+/// Returns how many moves the bytes spell, in agreement with `read_moves`. `bytes` has at most 4,294,967,295 bytes.
+/// Does not allocate.
 ///
 /// # Errors
 ///
-/// `Cut` where the bytes end inside a move.
+/// `Cut` if the bytes end inside a move.
 pub fn check_moves(bytes: &[u8]) -> Result<u64, MovesFault>
     requires { length bytes.now < 2 ^ 32 }
     ensures counts { IfOk result (IsCount bytes.now) }

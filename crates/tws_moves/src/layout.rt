@@ -1,10 +1,10 @@
 ghost use Rattle.std.specs.Prelude.{◌≡◌, ◌≤◌, ℕ, length};
 ghost use Rattle.tws_moves.specs.Spelling.{layout_of, piece_length, layout_waits};
 
-/// How a piece of bytes holds moves. Tile World's comments have five formats.
+/// How a piece of bytes holds moves: one of the five formats in Tile World's comments.
 #[derive(Clone, Copy)]
 pub(crate) enum Layout {
-    /// One byte with three steps, which wait three ticks each.
+    /// Three steps in one byte, each of which waits three ticks.
     ThreeSteps,
     /// A step in one byte.
     ShortStep,
@@ -30,7 +30,7 @@ impl Layout {
         }
     }
 
-    /// How many moves such a piece holds.
+    /// How many moves a piece of this layout holds.
     pub(crate) fn moves(self) -> u64
         ensures count { (n : ℕ) → result ≡ length (layout_waits self n) }
         ensures bound { result ≤ 3 }
@@ -42,16 +42,16 @@ impl Layout {
     }
 }
 
-// How many bytes a piece has, by the low five bits of its first byte.
+// The length of a piece, by the low five bits of its first byte.
 const LENGTHS: [u8; 32] = [
     1, 1, 2, 4, 1, 1, 2, 4, 1, 1, 2, 4, 1, 1, 2, 4, 1, 1, 2, 2, 1, 1, 2, 3, 1, 1, 2, 4, 1, 1, 2, 5,
 ];
 
-/// How many bytes the piece has that begins with this byte.
+/// The length of the piece that begins with this byte.
 pub(crate) fn piece_length(first: u8) -> usize
     ensures { result ≡ piece_length first }
 {
-    // Most pieces have one byte. The length of another is looked up, since branches on it would often be mispredicted.
+    // Most pieces are one byte long. Other lengths are looked up, since branches on them would often be mispredicted.
     if first % 4 < 2 {
         1
     } else {

@@ -1,10 +1,10 @@
 //! The moves of a Tile World solution, and how bytes spell them.
 //!
 //! Read `specs/Spelling.antt` first: it defines what bytes spell (`Spells`). `specs/Shortest.antt` defines which
-//! spellings are the shortest and which moves have none, `specs/Move.antt` moves and their ticks. `specs/Steps.antt`
-//! has definitions for private functions alone.
+//! spellings are the shortest and which moves have none; `specs/Move.antt` defines moves and their ticks. The
+//! definitions in `specs/Steps.antt` are only for private functions.
 //!
-//! How it is called, by a crate that lists `tws_moves`; this needs no proof file:
+//! An example of a caller, in a crate that lists `tws_moves`; it needs no proof file:
 //!
 //! ```text
 //! ghost use Rattle.std.specs.Prelude.{◌≡◌, ◌<◌, ◌^◌, length, IfOk, IsTrue};

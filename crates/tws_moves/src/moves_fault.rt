@@ -10,7 +10,7 @@ pub enum MovesFault {
     /// The bytes end inside a move. `at` is the offset of its first byte.
     #[error("Cut({at})")]
     Cut { at: u64 },
-    /// Memory ran out, which says nothing of the bytes.
+    /// Out of memory, which says nothing about the bytes.
     #[error("Memory")]
     Memory,
 }

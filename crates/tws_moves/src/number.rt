@@ -1,11 +1,11 @@
-//! The numbers that pieces are.
+//! Pieces read as little-endian numbers.
 
 ghost use Rattle.std.specs.Prelude.{◌≡◌, ◌+◌, ◌<◌, ◌≤◌, ◌^◌, length, take};
 ghost use Rattle.tws_moves.specs.Bytes.{number_of, bits};
 
 use byteorder::{ByteOrder, LittleEndian};
 
-// The bytes as one number, the first the lowest.
+// The bytes as one little-endian number.
 pub(crate) fn number_of(bytes: &[u8]) -> u64
     requires { length bytes.now ≤ 5 }
     ensures number { result ≡ number_of bytes.now }
@@ -20,8 +20,8 @@ pub(crate) fn number_of(bytes: &[u8]) -> u64
     number
 }
 
-// The first bytes as one number, so many of them. Where eight are there they are read at once: a loop whose number of
-// rounds varies is often mispredicted, and takes longer.
+// The first `count` bytes as one little-endian number. If there are eight bytes, they are read at once: a loop with a
+// varying number of iterations is often mispredicted, and slower.
 pub(crate) fn number_of_first(bytes: &[u8], count: usize) -> u64
     requires short { count ≤ 5 }
     requires within { count ≤ length bytes.now }
@@ -34,7 +34,7 @@ pub(crate) fn number_of_first(bytes: &[u8], count: usize) -> u64
     bits(0, 8 * count as u32, LittleEndian::read_u64(bytes))
 }
 
-// Of a number, so many bits from the bit `low` on.
+// The `count` bits of `number` from bit `low` on.
 pub(crate) fn bits(low: u32, count: u32, number: u64) -> u64
     requires { low + count < 64 }
     ensures { result ≡ bits low count number }

@@ -1,4 +1,5 @@
-//! Bytes that spell moves to the shortest that spell the same, without a list of the moves.
+//! Packing bytes that spell moves into the shortest bytes that spell the same moves, without building a list of the
+//! moves.
 
 ghost use Rattle.std.specs.Prelude.{◌≡◌, ℕ, ◌+◌, ◌*◌, ◌<◌, ◌%◌, ◌^◌, List, [], ◌∷◌, length, take, ◌++◌, IfOk, IfErr, OnOk, MatchResult};
 ghost use Rattle.tws_moves.specs.declared.moves_fault.MovesFault.TheVariants as fault;
@@ -38,7 +39,7 @@ fn pack_wait<A: Allocator>(
     Ok(Pending::None)
 }
 
-// Adds the three steps in a piece of one byte.
+// Adds the three steps of a one-byte piece.
 fn pack_three<A: Allocator>(
     packed: &mut Vec<u8, A>,
     pending: Pending,
@@ -52,7 +53,7 @@ fn pack_three<A: Allocator>(
     pending.add(packed, bits(6, 2, number) as u8)
 }
 
-// Adds a step that is a piece of one byte: alone it is that byte again.
+// Adds the step of a one-byte piece: written alone, it is the same byte again.
 fn pack_short<A: Allocator>(
     packed: &mut Vec<u8, A>,
     pending: Pending,
@@ -74,8 +75,8 @@ fn pack_short<A: Allocator>(
     Ok(Pending::None)
 }
 
-// Adds the moves of a piece in any layout, which the bytes begin with. Apart from the loop over all pieces, most of
-// which are steps in one byte: the loop is faster so.
+// Adds the moves of the piece that the bytes begin with, in any layout. Kept out of the loop over all pieces, most of
+// which are steps in one byte: the loop is faster that way.
 #[inline(never)]
 fn pack_any<A: Allocator>(
     packed: &mut Vec<u8, A>,
@@ -95,7 +96,7 @@ fn pack_any<A: Allocator>(
     }
 }
 
-// Adds the moves of a piece, which the bytes begin with.
+// Adds the moves of the piece that the bytes begin with.
 fn pack_piece<A: Allocator>(
     packed: &mut Vec<u8, A>,
     pending: Pending,
@@ -113,22 +114,22 @@ fn pack_piece<A: Allocator>(
     pack_any(packed, pending, piece, bytes)
 }
 
-/// The shortest bytes that spell the same moves as these. They are those that `write_moves` gives for the moves that
-/// `read_moves` gives, without a list of the moves. There are at most 4,294,967,295 bytes.
+/// Returns the shortest bytes that spell the same moves as these: what `write_moves` returns for the moves that
+/// `read_moves` returns, without building a list of the moves. `bytes` has at most 4,294,967,295 bytes.
 ///
 /// # Errors
 ///
-/// `Cut` where the bytes end inside a move, or `Memory` where an allocation was refused.
+/// `Cut` if the bytes end inside a move, or `Memory` if an allocation was refused.
 #[inline(never)]
 pub fn pack_moves<A: Allocator>(alloc: A, bytes: &[u8]) -> Result<Vec<u8, A>, MovesFault>
     requires { length bytes.now < 2 ^ 32 }
     ensures packed { IfOk result (λ packed. packed.items ≡ packed_bytes bytes.now) }
     ensures spelled { OnOk result (IsSpelling bytes.now) }
-    // What is spelled is packed, unless memory runs out.
+    // Bytes that spell moves are packed, unless an allocation is refused.
     ensures accepts { (moves : List Plain) → Spells bytes.now moves → MatchResult result (λ packed. packed.items ≡ shortest_of moves) (λ e. e ≡ fault.Memory) }
     ensures fault { IfErr result (MovesFail bytes.now) }
 {
-    // What is packed is no longer.
+    // Packed bytes are never longer.
     let mut packed = Vec::with_capacity(alloc, bytes.len())?;
     let mut pending = Pending::None;
     let mut rest = bytes;

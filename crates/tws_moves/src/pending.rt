@@ -5,8 +5,8 @@ ghost use Rattle.tws_moves.specs.Steps.{IsPending, Packs, pending_waits, plain_s
 use crate::piece::Piece;
 use std::alloc::{AllocError, Allocator};
 
-/// Directions of plain steps that are not written yet, since one byte may hold them with those that follow. A plain step
-/// is a step 0 to 3 that waits three ticks.
+/// Directions of plain steps that are not written yet, since they may share a byte with the steps that follow. A plain
+/// step is one in direction 0 to 3 that waits three ticks.
 #[derive(Clone, Copy)]
 pub(crate) enum Pending {
     None,
@@ -15,7 +15,7 @@ pub(crate) enum Pending {
 }
 
 impl Pending {
-    /// Adds a plain step. Three of them are one byte.
+    /// Adds a plain step. Three of them are written as one byte.
     pub(crate) fn add<A: Allocator>(
         self,
         packed: &mut Vec<u8, A>,
@@ -35,7 +35,7 @@ impl Pending {
         })
     }
 
-    /// Writes each of the steps alone. Mostly there is none, so that it takes no call.
+    /// Writes each of the steps alone. Usually there are none; inlining saves the call then.
     #[inline(always)]
     pub(crate) fn push_to<A: Allocator>(self, packed: &mut Vec<u8, A>) -> Result<(), AllocError>
         requires { IsPending self }

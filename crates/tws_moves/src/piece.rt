@@ -9,7 +9,7 @@ use crate::moves::Move;
 use crate::wait::Wait;
 use std::alloc::{AllocError, Allocator};
 
-/// A piece to write: its bytes as one number, the first the lowest, how many they are, and how many moves they hold.
+/// A piece to write: its bytes as one little-endian number, how many bytes it has, and how many moves it holds.
 #[derive(Clone, Copy)]
 pub(crate) struct Piece {
     pub(crate) number: u64,
@@ -25,7 +25,7 @@ impl Piece {
         ensures moves { result.moves ≡ 1 }
     {
         let fields = 4 * u64::from(direction) + (ticks << 5);
-        // The low bits that tell the layout, and its bytes.
+        // The low bits, which select the layout, and its length in bytes.
         let (layout, length) = if ticks < 1 << 3 {
             (1, 1)
         } else if ticks < 1 << 11 {
@@ -47,7 +47,7 @@ impl Piece {
         ensures moves { result.moves ≡ 1 }
     {
         let more = code_more(ticks);
-        // Bits 0, 1 and 4 tell the layout, and bits 2 and 3 its length.
+        // Bits 0, 1 and 4 select the layout; bits 2 and 3 encode its length.
         let layout = 19 + 4 * more as u64;
         Piece {
             number: layout + (u64::from(code) << 5) + (ticks << 14),
@@ -76,7 +76,7 @@ impl Piece {
         }
     }
 
-    /// The wait alone, in the shortest layout that holds it; none where no layout does.
+    /// The wait alone, in the shortest layout that holds it; `None` if no layout does.
     pub(crate) fn alone(wait: Wait) -> Option<Self>
         ensures held { IfSome result (λ _. HasLayout wait) }
         ensures bytes { IfSome result (λ p. little_bytes p.length p.number ≡ alone wait) }
@@ -92,7 +92,7 @@ impl Piece {
         })
     }
 
-    // The next three moves in one byte; none where they are not three plain steps.
+    // The next three moves in one byte; `None` unless they are three plain steps.
     fn three_steps(moves: &[Move], index: usize) -> Option<Self>
         requires timed { IsTimed moves.now }
         requires within { index < length moves.now }
@@ -111,7 +111,7 @@ impl Piece {
         Some(Piece::of_three(first.direction(), second.direction(), third.direction()))
     }
 
-    /// The piece from the move with this number on; none where no layout holds its wait.
+    /// The piece that begins with the move at `index`; `None` if no layout holds its wait.
     pub(crate) fn next(moves: &[Move], index: usize) -> Option<Self>
         requires timed { IsTimed moves.now }
         requires within { index < length moves.now }
@@ -128,7 +128,7 @@ impl Piece {
         Piece::alone(wait)
     }
 
-    // Adds its bytes as the first of eight that are written at once.
+    // Appends the bytes by writing eight at once, of which the first are kept.
     fn push_first<A: Allocator>(self, bytes: &mut Vec<u8, A>) -> Result<(), AllocError>
         requires { self.length ≤ 8 }
         ensures { OnOk result (bytes.new.items ≡ bytes.old.items ++ little_bytes self.length self.number) }
@@ -139,8 +139,8 @@ impl Piece {
         Ok(())
     }
 
-    /// Adds its bytes. Where they are several and there is room for eight they are written at once: a loop whose number of
-    /// rounds varies is often mispredicted, and takes longer.
+    /// Appends the bytes. Several are written at once if there is room for eight: a loop with a varying number of
+    /// iterations is often mispredicted, and slower.
     pub(crate) fn push_to<A: Allocator>(self, bytes: &mut Vec<u8, A>) -> Result<(), AllocError>
         ensures { OnOk result (bytes.new.items ≡ bytes.old.items ++ little_bytes self.length self.number) }
     {
@@ -171,7 +171,7 @@ fn code_more(ticks: u64) -> usize
     }
 }
 
-// Whether one byte holds the three.
+// Whether one byte can hold all three.
 fn are_plain(first: Wait, second: Wait, third: Wait) -> bool
     ensures { result ≡ (is_plain first && is_plain second && is_plain third) }
 {

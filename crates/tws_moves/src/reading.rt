@@ -1,4 +1,4 @@
-//! Moves from bytes.
+//! Reading moves from bytes.
 
 ghost use Rattle.std.specs.Prelude.{◌≡◌, ℕ, ◌+◌, ◌-◌, ◌*◌, ◌<◌, ◌≤◌, ◌^◌, List, [], ◌∷◌, ◌++◌, length, OnOk, IfOk, IfErr, IfSome, IfNone, MatchResult};
 ghost use Rattle.tws_moves.specs.declared.moves_fault.MovesFault.TheVariants as fault;
@@ -15,7 +15,7 @@ use crate::number::{bits, number_of};
 use crate::wait::Wait;
 use std::alloc::{AllocError, Allocator};
 
-// The piece that the bytes begin with, and the bytes after it; none where it is cut.
+// The piece that the bytes begin with, and the bytes after it; `None` if they do not begin with a whole piece.
 pub(crate) fn split_piece(bytes: &[u8]) -> Option<(&[u8], &[u8])>
     ensures piece { IfSome result (λ r. IsPiece r.0.now) }
     ensures split { IfSome result (λ r. bytes.now ≡ r.0.now ++ r.1.now) }
@@ -31,7 +31,7 @@ pub(crate) fn split_piece(bytes: &[u8]) -> Option<(&[u8], &[u8])>
     Some(bytes.split_at(length))
 }
 
-// Adds a move, and returns the tick from which on a later one can be made.
+// Appends a move. Returns the first tick at which a later one can be made.
 fn push<A: Allocator>(moves: &mut Vec<Move, A>, at: u64, act: Act) -> Result<u64, AllocError>
     requires fits { IsMove (record { at = at; act = act }) }
     requires room { at + 1 < 2 ^ 64 }
@@ -42,7 +42,7 @@ fn push<A: Allocator>(moves: &mut Vec<Move, A>, at: u64, act: Act) -> Result<u64
     Ok(at + 1)
 }
 
-// Adds three steps, each of which waits three ticks.
+// Appends three steps, each of which waits three ticks.
 fn push_three<A: Allocator>(
     moves: &mut Vec<Move, A>,
     next: u64,
@@ -57,8 +57,8 @@ fn push_three<A: Allocator>(
     push(moves, next + 3, Act::Step(bits(6, 2, number) as u8))
 }
 
-// Adds the moves of a piece, the first of which can be made from the tick `next` on, and returns from when a later one
-// can.
+// Appends the moves of a piece, the first of which can be made from the tick `next` on. Returns the first tick at which
+// a later one can be made.
 fn push_piece<A: Allocator>(
     moves: &mut Vec<Move, A>,
     next: u64,
@@ -77,7 +77,7 @@ fn push_piece<A: Allocator>(
     }
 }
 
-// The fault of bytes that are cut where the rest begins.
+// The fault of bytes that are cut where `rest` begins.
 pub(crate) fn cut_before(bytes: &[u8], rest: &[u8]) -> MovesFault
     requires within { length rest.now ≤ length bytes.now }
     requires short { length bytes.now < 2 ^ 32 }
@@ -87,16 +87,16 @@ pub(crate) fn cut_before(bytes: &[u8], rest: &[u8]) -> MovesFault
     MovesFault::Cut { at }
 }
 
-/// The moves that the bytes spell. There are at most 4,294,967,295 bytes.
+/// Returns the moves that the bytes spell. `bytes` has at most 4,294,967,295 bytes.
 ///
 /// # Errors
 ///
-/// `Cut` where the bytes end inside a move, or `Memory` where an allocation was refused.
+/// `Cut` if the bytes end inside a move, or `Memory` if an allocation was refused.
 pub fn read_moves<A: Allocator>(alloc: A, bytes: &[u8]) -> Result<Vec<Move, A>, MovesFault>
     requires { length bytes.now < 2 ^ 32 }
     ensures read { IfOk result (λ moves. Spells bytes.now moves.items) }
     ensures timed { IfOk result (λ moves. IsTimed moves.items) }
-    // What is spelled is read, unless memory runs out.
+    // Bytes that spell moves are read, unless an allocation is refused.
     ensures accepts { (moves : List Plain) → Spells bytes.now moves → MatchResult result (λ r. r.items ≡ moves) (λ e. e ≡ fault.Memory) }
     ensures fault { IfErr result (MovesFail bytes.now) }
 {

@@ -7,10 +7,10 @@ use thiserror::Error;
 /// Why moves were not written as bytes.
 #[derive(Clone, Copy, Debug, PartialEq, Eq, Error)]
 pub enum SpellFault {
-    /// A move comes too long after the one before it: no layout holds its wait. `index` counts moves from 0.
+    /// A move waits too long after the one before it: no layout holds its wait. `index` counts moves from 0.
     #[error("TooLate({index})")]
     TooLate { index: usize },
-    /// Memory ran out, which says nothing of the moves.
+    /// Out of memory, which says nothing about the moves.
     #[error("Memory")]
     Memory,
 }

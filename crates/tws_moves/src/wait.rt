@@ -11,7 +11,7 @@ use crate::moves::Move;
 use crate::number::bits;
 use std::marker::Model;
 
-/// An act, and how many ticks go by before it, counted from the first one that it could be made at.
+/// An act, and how many ticks go by before it, counted from the first tick at which it could have been made.
 #[derive(Clone, Copy)]
 pub(crate) struct Wait {
     pub(crate) ticks: u64,
@@ -31,7 +31,7 @@ impl Model for Wait {
 }
 
 impl Wait {
-    /// The wait that is alone in a piece of this layout, which is this number; none where the piece holds three steps.
+    /// The wait that is alone in a piece of this layout with the value `number`; `None` if the piece holds three steps.
     pub(crate) fn in_layout(layout: Layout, number: u64) -> Option<Self>
         requires { number < 2 ^ 40 }
         ensures one { IfSome result (λ w. layout_waits layout number ≡ w ∷ []) }
@@ -47,7 +47,7 @@ impl Wait {
         Some(Wait { ticks, act })
     }
 
-    /// The wait of the move with this number, counted from 0.
+    /// The wait of the move at `index`.
     pub(crate) fn of(moves: &[Move], index: usize) -> Self
         requires timed { IsTimed moves.now }
         requires within { index < length moves.now }
@@ -68,7 +68,7 @@ impl Wait {
         }
     }
 
-    /// Whether it is a plain step: one 0 to 3 that waits three ticks.
+    /// Whether this is a plain step: one in direction 0 to 3 that waits three ticks.
     pub(crate) fn is_plain(self) -> bool
         ensures { result ≡ is_plain self }
     {
@@ -89,7 +89,7 @@ impl Wait {
     }
 }
 
-// The step whose direction these bits are.
+// The step whose direction is the `count` bits of `number` from bit `low` on.
 fn step(low: u32, count: u32, number: u64) -> Act
     requires { (low + count < 64) × (count ≤ 3) }
     ensures { result ≡ Act.Step (bits low count number) }

@@ -1,4 +1,4 @@
-//! Moves to bytes.
+//! Writing moves as bytes.
 
 ghost use Rattle.std.specs.Prelude.{◌≡◌, ℕ, ◌≤◌, List, length, IfOk, IfErr, MatchResult};
 ghost use Rattle.tws_moves.specs.declared.spell_fault.SpellFault.TheVariants as fault;
@@ -11,20 +11,20 @@ use crate::piece::Piece;
 use crate::spell_fault::SpellFault;
 use std::alloc::Allocator;
 
-/// The shortest bytes that spell the moves, which must be at rising ticks (`is_timed`).
+/// Returns the shortest bytes that spell the moves, which must be at rising ticks (`is_timed`).
 ///
-/// From the left: where the next three moves are steps 0 to 3 that wait three ticks each, they are one byte; else the
-/// next move is alone in its piece, in the shortest layout that holds it.
+/// Works from the left: if the next three moves are steps in directions 0 to 3 that wait three ticks each, they are one
+/// byte; otherwise the next move is alone in its piece, in the shortest layout that holds it.
 ///
 /// # Errors
 ///
-/// `TooLate` where no bytes spell the moves, with the first move whose wait no layout holds; or `Memory` where an
-/// allocation was refused.
+/// `TooLate` if no bytes spell the moves, with the index of the first move whose wait no layout holds; or `Memory` if
+/// an allocation was refused.
 pub fn write_moves<A: Allocator>(alloc: A, moves: &[Move]) -> Result<Vec<u8, A>, SpellFault>
     requires { IsTimed moves.now }
     ensures written { IfOk result (λ bytes. bytes.items ≡ shortest_of moves.now) }
     ensures shortest { IfOk result (λ bytes. IsShortest bytes.items moves.now) }
-    // What has a spelling is written, unless memory runs out.
+    // Moves that have a spelling are written, unless an allocation is refused.
     ensures accepts { (others : List ℕ) → Spells others moves.now → MatchResult result (λ bytes. length bytes.items ≤ length others) (λ e. e ≡ fault.Memory) }
     ensures fault { IfErr result (SpellFails moves.now) }
 {
