@@ -65,7 +65,7 @@ abbrev moves_of_record : Record → List ℕ
 moves_of_record (solution s) = s.moves
 moves_of_record r = []
 
--- bytes have moves cut at one place
+-- the moves in bytes are cut at only one place
 pub one_cut_place : (rest : List ℕ) (m n : ℕ) → HasCutMoves rest m → HasCutMoves rest n → m ≡ n
 one_cut_place rest m n p q =
     let same = shaped_texts (solution p.solved) (solution q.solved) p.more q.more p.fields q.fields (sym p.split ∙ q.split) in

@@ -1,4 +1,4 @@
--- The fields that a body is read as have its bytes.
+-- The fields that are read from a body have its bytes.
 use Rattle.std.proofs.Common.{◌≡◌, ℕ, ◌+◌, ◌^◌, ◌<◌, ◌≤◌, List, ◌∷◌, ◌++◌, length, take, drop, slice_index, ap, sym, subst, ◌∙◌, arith, take-append-drop, length-drop, drop-drop}
 use Rattle.std.proofs.lemmas.List.{drop_more}
 use Rattle.byteorder.specs.Endian.{little_bytes, little_number}
@@ -13,7 +13,7 @@ use Rattle.tws_file.specs.Text.{Solution, IsLevel, HasFields, IsSolution}
 use Rattle.tws_file.specs.Steps.{MovesFailAt, SolutionFails}
 use Rattle.tws_file.proofs.Numbers.{little_bytes-little_number_4}
 
--- a number of four bytes at a place, and what follows it
+-- a number in four bytes at an offset, and what follows it
 number_at : (at n : ℕ) (bytes here more : List ℕ) → at + 4 ≤ length bytes → IsBytes bytes → here ≡ drop at bytes → n ≡ little_number 4 here → more ≡ drop (at + 4) bytes → little_bytes 4 n ++ more ≡ drop at bytes
 number_at at n bytes here more long fits here-is n-is more-is =
     let four = little_bytes-little_number_4 (drop at bytes) (omega (arith, length-drop at bytes)) (IsBytes-drop at bytes fits) in
@@ -52,7 +52,7 @@ module _ (key : Key) (rest a b moves : List ℕ) (seed ticks : ℕ) (level : IsL
   pub solution_fits : IsSpelling moves → IsSolution solved
   solution_fits whole = record { fields = fields_fit; whole = whole }
 
-  -- moves that are cut are those of a solution of these fields
+  -- moves that are cut are those of a solution with these fields
   pub solution_cut : (offset : ℕ) (e : FileFault) → a ≡ drop 2 rest → b ≡ drop 6 rest → seed ≡ little_number 4 a → ticks ≡ little_number 4 b → MovesFailAt moves offset e → SolutionFails (key_bytes key ++ rest) offset e
   solution_cut offset (ShortHeader n) a-is b-is seed-is ticks-is fault = fault
   solution_cut offset BadSignature a-is b-is seed-is ticks-is fault = fault
@@ -69,7 +69,7 @@ module _ (key : Key) (rest a b moves : List ℕ) (seed ticks : ℕ) (level : IsL
   }
   solution_cut offset Memory a-is b-is seed-is ticks-is fault = tt
 
--- a body of the key of the set
+-- a body that begins with the key of the set
 pub set_from : (body rest : List ℕ) (key : Key) → key_bytes key ≡ take 6 body → key ≡ set_key → rest ≡ drop 6 body → key_bytes set_key ++ rest ≡ body
 set_from body rest key bytes is_set rest-is =
     ap (λ (k : Key). key_bytes k ++ rest) (sym is_set) ∙ ap (λ (xs : List ℕ). xs ++ rest) bytes ∙ ap (λ (xs : List ℕ). take 6 body ++ xs) rest-is ∙ take-append-drop 6 body

@@ -1,11 +1,11 @@
--- How bytes in two parts compare with others, byte by byte.
+-- Comparing bytes in two parts with others, byte by byte.
 use Rattle.std.proofs.Common.{◌≡◌, ℕ, List, [], ◌∷◌, ◌++◌, length, ap, sym, ◌∙◌, refl, arith}
 use Rattle.std.specs.declared.cmp.Ordering.{Ordering}
 use Rattle.std.specs.declared.cmp.Ordering.TheVariants.{Less, Equal, Greater}
 use Rattle.std.specs.Ordering.{nat_cmp, ordering_then}
 use Rattle.std.specs.Cmp.Lexicographic.{slice_cmp}
 
--- a difference in the first part decides, or else the second part
+-- a difference in the first part decides, otherwise the second part does
 pub then_as_one : (a b c : Ordering) → ordering_then a (ordering_then b c) ≡ ordering_then (ordering_then a b) c
 then_as_one Less b c = refl
 then_as_one Equal b c = refl
@@ -29,7 +29,7 @@ module _ (first rest body head tail bytes : List ℕ) (body-is : first ++ rest �
   pub by_the_rest : (o : Ordering) → slice_cmp nat_cmp first head ≡ Equal → o ≡ slice_cmp nat_cmp rest tail → o ≡ slice_cmp nat_cmp body bytes
   by_the_rest o equal is = is ∙ sym (whole-is ∙ ap (λ r. ordering_then r (slice_cmp nat_cmp rest tail)) equal)
 
-  -- they are not
+  -- the first parts differ
   pub by_the_first : (o : Ordering) → (o ≡ Equal → ⊥) → o ≡ slice_cmp nat_cmp first head → o ≡ slice_cmp nat_cmp body bytes
   by_the_first o other is = decided o other ∙ (ap (λ r. ordering_then r (slice_cmp nat_cmp rest tail)) is ∙ sym whole-is)
     where

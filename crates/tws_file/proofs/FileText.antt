@@ -1,4 +1,4 @@
--- The text of a file, and then a rest that begins no record, is cut in one way.
+-- The text of a file, followed by a rest that begins no record, can be cut in only one way.
 use Rattle.std.proofs.Common.{◌≡◌, ℕ, List, [], ◌∷◌, ◌++◌, length, refl, sym, ◌∙◌, arith, append_assoc, append-nil}
 use Rattle.std.specs.List.{flat_map}
 use Rattle.tws_file.specs.declared.«ruleset».Ruleset.{Ruleset}
@@ -54,7 +54,7 @@ text_parts f g x y ff fg nx ny e =
     let whole : make f.ruleset f.word f.extra f.records ≡ make g.ruleset g.word g.extra g.records = cc in
     (whole, records.1)
 
--- no two files have one text
+-- no two files have the same text
 pub one_file : (bytes : List ℕ) (f g : File) → IsText bytes f → IsText bytes g → f ≡ g
 one_file bytes f g tf tg =
     (text_parts f g [] [] tf.fits tg.fits nothing_begins nothing_begins (append-nil (text_of f) ∙ sym tf.text ∙ tg.text ∙ sym (append-nil (text_of g)))).0

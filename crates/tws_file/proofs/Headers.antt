@@ -1,4 +1,4 @@
--- Eight bytes and as many more as the last of them says are a header.
+-- Eight bytes, and as many more as the last of them says, are a header.
 use Rattle.std.proofs.Common.{◌≡◌, ℕ, zero, suc, ◌<◌, ◌≤◌, List, [], ◌∷◌, ◌++◌, length, take, drop, slice_index, refl, sym, arith, take-append-drop, length-take}
 use Rattle.std.proofs.lemmas.List.{drop_more}
 use Rattle.tws_file.specs.declared.«ruleset».Ruleset.{Ruleset}

@@ -13,7 +13,7 @@ use Rattle.tws_file.specs.Listing.{hex, hex_byte}
 
 -- ---- hexadecimal digits
 
--- one byte more
+-- one more byte
 pub hex-more : (bytes : List ℕ) (i : ℕ) → i < length bytes → get_or bytes i 0 < 256 → hex (take i bytes) ++ padded_integral (format_spec 32 0 4 2 (2 ^ 64 - 1)) false [] (digits 16 false (get_or bytes i 0)) ≡ hex (take (i + 1) bytes)
 hex-more bytes i inside fits =
     ap (λ (xs : List ℕ). hex (take i bytes) ++ xs) (fmt.hex_byte false (get_or bytes i 0) fits)

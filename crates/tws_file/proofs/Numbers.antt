@@ -14,7 +14,7 @@ pub little_bytes-little_number_4 : (bytes : List ℕ) → 4 ≤ length bytes →
 little_bytes-little_number_4 bytes long fits =
     le_bytes_4 (take 4 bytes) (little_number 4 bytes) (omega (arith, length-take 4 bytes)) (IsBytes-take 4 bytes fits) (omega (arith, little_from-take 0 4 4 bytes (omega arith)))
 
--- a number that fits its bytes is told by them
+-- a number that fits in its bytes is determined by them
 pub little_bytes-injective : (size m n : ℕ) → m < 256 ^ size → n < 256 ^ size → little_bytes size m ≡ little_bytes size n → m ≡ n
 little_bytes-injective size m n fits_m fits_n e =
     sym (little_number-reads_back size m [] fits_m) ∙ ap (λ (bytes : List ℕ). little_number size (bytes ++ [])) e ∙ little_number-reads_back size n [] fits_n

@@ -1,4 +1,4 @@
--- What packing keeps, and that it never makes longer.
+-- What packing keeps, and that it never makes a file longer.
 use Rattle.std.proofs.Common.{◌≡◌, ◌+◌, ◌<◌, ℕ, ◌≤◌, List, [], ◌∷◌, ◌++◌, length, take, get_or, refl, ap, sym, subst, ◌∙◌, arith, map, length-append}
 use Rattle.std.specs.List.{flat_map, AllByRecursion}
 use Rattle.std.proofs.lemmas.List.{take_more, map-append}
@@ -54,7 +54,7 @@ packed_file_fits file fits = record {
 pub packed_parts_fit : (file : File) (extra : List ℕ) (records : List Record) → IsFile file → extra ≡ file.extra → records ≡ map packed_record file.records → IsFile (record { «ruleset» = file.ruleset; word = file.word; extra = extra; records = records })
 packed_parts_fit file extra records fits extra-is records-is = rw (extra-is, records-is) (packed_file_fits file fits)
 
--- ---- once more changes nothing
+-- ---- packing again changes nothing
 
 twice_solution : (s : Solution) → IsSolution s → packed_solution (packed_solution s) ≡ packed_solution s
 twice_solution s fits =
@@ -101,7 +101,7 @@ packed_no_longer_text file fits =
     let header = header_text file.ruleset file.word file.extra in
     omega (arith, no_longer_records file.records fits.records, length-append header (flat_map record_text file.records), length-append header (flat_map record_text (map packed_record file.records)))
 
--- ---- the same moves, as shortly as can be
+-- ---- the same moves, in the fewest bytes
 
 pub packed_moves : (s : Solution) → IsSolution s → moves_in (packed_solution s).moves ≡ moves_in s.moves
 packed_moves s fits =
@@ -113,7 +113,7 @@ packed_is_shortest s fits =
     let moves = fits.whole.0 in
     subst (λ (ms : List Move). IsShortest (packed_bytes s.moves) ms) (moves_in_spelled s.moves moves fits.whole.1) (packed_shortest s.moves moves fits.whole.1)
 
--- ---- one record more
+-- ---- one more record
 
 module _ {A B : Type 0} where
   pub packed_more : (packed pushed : List (stored.Record A)) (records : List (stored.Record B)) (i : ℕ) (one : stored.Record B) (p : stored.Record A)

@@ -1,4 +1,4 @@
--- A listing of three parts, which is gathered part by part and written as it grows large.
+-- A listing of three parts, gathered part by part and written as it grows large.
 use Rattle.std.proofs.Common.{◌≡◌, ◌≢◌, ℕ, ◌∷◌, List, [], ◌++◌, length, Option, ap, subst, ◌∙◌, arith, length-append}
 use Rattle.byte_output.specs.Output.{Sends, AppendsPrefix}
 use Rattle.byte_output.proofs.Sending.{Sends-none, Sends-push, Sends-then, prefix_sent}
@@ -14,11 +14,11 @@ some_none old text = (text, Sends-none old text)
 pub some_of_prefix : (old new : Option (List ℕ)) (text : List ℕ) → AppendsPrefix old new text → SendsSome old new text
 some_of_prefix old new text p = (p.rest, p.sends)
 
--- after what was gathered, some of what was left
+-- of what was left, some more is written
 pub some_then : (old mid new : Option (List ℕ)) (text rest : List ℕ) → Sends old mid text rest → SendsSome mid new rest → SendsSome old new text
 some_then old mid new text rest s t = (t.0, Sends-then old mid new text rest s t.0 t.1)
 
--- some of a text is some of what the text begins
+-- some of a text is some of any text that begins with it
 pub some_more : (old new : Option (List ℕ)) (text : List ℕ) → SendsSome old new text → (more : List ℕ) → SendsSome old new (text ++ more)
 some_more old new text s more = (s.0 ++ more, Sends-push old new new text s.0 s.1 more)
 
@@ -35,7 +35,7 @@ module _ (old new : Option (List ℕ)) (header body before start : List ℕ) (n 
   pub none_sent : AppendsPrefix old old (header ++ body ++ count_line n)
   none_sent = prefix_sent old old old (header ++ body) (header ++ body) (Sends-none old (header ++ body)) (count_line n) (some_count n)
 
-  -- of the first two parts, some was written, and the third was not gathered
+  -- some of the first two parts was written, and the third was not gathered
   pub prefix_of_two : SendsSome old new (start ++ body) → AppendsPrefix old new (header ++ body ++ count_line n)
   prefix_of_two s = subst (λ (x : List ℕ). AppendsPrefix old new x) whole-is (prefix_sent old new new (start ++ body) s.0 s.1 (count_line n) (some_count n))
 

@@ -1,4 +1,4 @@
--- A file that was read so far, and the bytes after it.
+-- The file that was read so far, and the bytes after it.
 use Rattle.std.proofs.Common.{◌≡◌, ◌≢◌, ℕ, ◌+◌, ◌-◌, List, [], ◌∷◌, ◌++◌, length, drop, Option, None, Some, Result, Ok, Err, refl, ap, sym, subst, ◌∙◌, append_assoc, append-nil, arith, inl, inr, ⊎_elim, length-append}
 use Rattle.std.specs.List.{flat_map, AllByRecursion}
 use Rattle.std.proofs.Math.Seq.{drop-append_seam, take-append_seam}
@@ -17,7 +17,7 @@ use Rattle.tws_file.proofs.FileText.{one_file}
 
 -- ---- more records
 
--- the file with more records after its own
+-- the file with more records appended
 abbrev pub with_more : File → List Record → File
 with_more file more = record { «ruleset» = file.ruleset; word = file.word; extra = file.extra; records = file.records ++ more }
 
@@ -35,7 +35,7 @@ with_more_text file more =
     ap (λ (xs : List ℕ). header_text file.ruleset file.word file.extra ++ xs) (flat_map-append record_text file.records more)
     ∙ sym (append_assoc (header_text file.ruleset file.word file.extra) (flat_map record_text file.records) (flat_map record_text more))
 
--- a stop in the bytes after a file is one in all bytes
+-- a stop in the bytes after a file is also one in all the bytes
 stop_after : (file : File) (bytes left_over : List ℕ) (offset place : ℕ) → IsFile file → offset ≡ length (text_of file) → StopsAfter bytes offset place left_over → StopsAt (text_of file ++ bytes) place left_over
 stop_after file bytes left_over offset place fits offset-is stop =
     let texts = flat_map record_text stop.prefix in
@@ -49,7 +49,7 @@ stop_after file bytes left_over offset place fits offset-is stop =
       no_record = stop.no_record;
     }
 
--- records that fail after a file are a fault of all bytes
+-- records that fail after a file are a fault of all the bytes
 pub more_fails : (file : File) (bytes : List ℕ) (offset : ℕ) (e : FileFault) → IsFile file → offset ≡ length (text_of file) → RecordsFail bytes offset e → FailsForGood (text_of file ++ bytes) e
 more_fails file bytes offset (ShortHeader n) fits offset-is fault = absurd fault
 more_fails file bytes offset BadSignature fits offset-is fault = absurd fault
@@ -90,7 +90,7 @@ pub header_split : (bytes word extra rest : List ℕ) (kind : Ruleset) → Begin
 header_split bytes word extra rest kind header =
     header.split ∙ ap (λ (xs : List ℕ). xs ++ rest) (sym (append-nil (header_text kind word extra)))
 
--- records that fail after a header are a fault of all bytes
+-- records that fail after a header are a fault of all the bytes
 pub start_fails : (bytes word extra rest : List ℕ) (kind : Ruleset) (e : FileFault) → BeginsWithHeader bytes kind word extra rest → RecordsFail rest (length bytes - length rest) e → FailsForGood bytes e
 start_fails bytes word extra rest kind e header fault =
     let file = without_records kind word extra in
@@ -149,7 +149,7 @@ no_lasting_after file (b ∷ rest) offset e fits offset-is cut lasts fault =
     let same = one_fault (text_of file ++ b ∷ rest) e (ShortRecord offset) fault (cut_after file (b ∷ rest) offset fits offset-is some cut) in
     absurd (subst IsLasting same lasts)
 
--- where nothing whole is left to read there is no fault that lasts
+-- if nothing whole is left to read, there is no lasting fault
 no_lasting : (so_far : Option File) (rest : List ℕ) (offset : ℕ) → IsAt so_far offset → IsLeft so_far rest → (e : FileFault) → IsLasting e → HasFault (text_so_far so_far ++ rest) e → ⊥
 no_lasting None rest offset at left e lasts fault =
     absurd (subst IsLasting (one_fault rest e (ShortHeader (length rest)) fault left) lasts)
@@ -209,7 +209,7 @@ piece_stops r (Some f) so_far rest piece e view none some fails bytes taken = ab
 
 -- ---- the answer at the end
 
--- what a reader answers at the end
+-- what a reader returns at the end
 pub finishes_short : (r : Reading) (fault : Option FileFault) (so_far : Option File) (rest : List ℕ) (n : ℕ) → reading_from fault so_far rest ≡ r → fault ≡ None → so_far ≡ None → (fault ≡ None → IsLeft so_far rest) → n ≡ length rest → Finishes r (Err (ShortHeader n))
 finishes_short r None None rest n view none before left n-is = rw (← view, n-is) (left refl)
 finishes_short r None (Some file) rest n view none before left n-is = absurd cc
@@ -220,13 +220,13 @@ finishes_cut r None None file rest offset view none is left at some = absurd cc
 finishes_cut r None (Some other) file rest offset view none is left at some = rw (← view) (cut_after other rest offset at.0 at.1 some (left refl))
 finishes_cut r (Some e) so_far file rest offset view none is left at some = absurd cc
 
--- ---- a reading in one piece
+-- ---- reading in one piece
 
--- the reading of a file's text fails for memory alone
+-- reading a file's text fails only when out of memory
 pub only_memory : (bytes : List ℕ) (file : File) (e : FileFault) → FailsWith bytes e → IsText bytes file → e ≡ Memory
 only_memory bytes file e fails text = ⊎_elim (λ fault. absurd (text_without_fault bytes file e text fault)) (λ memory. memory) fails
 
--- a push of all bytes into a new reader fails by their fault
+-- pushing all bytes into a new reader fails with their fault
 pub push_fails : (bytes : List ℕ) (r new : Reading) (e : FileFault) → r ≡ reading [] → Pushes r bytes (Err e) new → FailsWith bytes e
 push_fails bytes (reading (b ∷ xs)) new e begin fails = absurd cc
 push_fails bytes (stopped fault) new e begin fails = absurd cc
@@ -238,7 +238,7 @@ push_fails bytes (reading []) new (BadSize offset) begin fails = inl fails.1
 push_fails bytes (reading []) new (MoveCut place) begin fails = inl fails.1
 push_fails bytes (reading []) new Memory begin fails = inr refl
 
--- the answer to a file's text is that file
+-- reading a file's text returns that file
 pub reads_as : (bytes : List ℕ) (file : File) (answer : Result File FileFault) → IsAnswer bytes answer → IsText bytes file → IsReadAs file answer
 reads_as bytes file (Ok f) text is-text = one_file bytes f file text is-text
 reads_as bytes file (Err e) fault is-text = absurd (text_without_fault bytes file e is-text fault)

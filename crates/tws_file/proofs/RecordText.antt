@@ -1,4 +1,4 @@
--- The texts of records are a code: no one begins another.
+-- The texts of records are a prefix code: none is a prefix of another.
 use Rattle.std.proofs.Common.{◌≡◌, ◌≢◌, ◌⊎◌, ℕ, zero, suc, ◌+◌, ◌^◌, ◌<◌, ◌≤◌, List, [], ◌∷◌, ◌++◌, length, refl, ap, sym, ◌∙◌, arith, append-nil, ⊎_elim, inl, inr, length-append}
 use Rattle.byteorder.specs.Endian.{little_bytes}
 use Rattle.tws_file.specs.declared.key.Key.{Key}
@@ -12,7 +12,7 @@ use Rattle.tws_file.proofs.Numbers.{little_bytes-injective}
 
 -- ---- keys
 
--- keys of the same fields are one
+-- keys with the same fields are equal
 key_is : (j k : Key) → j.number ≡ k.number → j.password ≡ k.password → j ≡ k
 key_is j k number password =
     let make : ℕ → List ℕ → Key = λ n p. record { number = n; password = p } in
@@ -56,7 +56,7 @@ zeros_are_bytes (suc (suc (suc (suc i)))) = omega arith
 pub set_key_fits : IsKey set_key
 set_key_fits = record { number = omega arith; password = zeros_are_bytes; password_length = refl }
 
--- a body that begins with the key of the set is no level's
+-- a body that begins with the key of the set is not a level's
 no_level : (key : Key) (x y : List ℕ) → IsLevel key → key_bytes set_key ++ x ≢ key_bytes key ++ y
 no_level key x y level e = level.named (sym (key_parts set_key key x y set_key_fits level.fits e).0)
 

@@ -1,4 +1,4 @@
--- Which fault bytes have that no file's text is. docs/FORMATS.md has the same as a table.
+-- The fault of bytes that are not a file's text. docs/FORMATS.md has the same as a table.
 use Rattle.std.specs.Prelude.{◌≡◌, ◌≢◌, ◌⊎◌, ℕ, ◌+◌, ◌<◌, ◌≤◌, List, [], ◌++◌, length, slice_index, take, Result, MatchResult}
 use Rattle.byteorder.specs.Endian.{little_number}
 use Rattle.tws_moves.specs.Spelling.{IsCutAt}
@@ -30,7 +30,7 @@ pub record IsHeaderCut (bytes : List ℕ) : Type 0 where
 abbrev pub BeginsNoRecord : List ℕ → Type 0
 BeginsNoRecord bytes = (r : Record) (more : List ℕ) → IsRecord r → bytes ≢ record_text r ++ more
 
--- The bytes are a header, the texts of records up to this offset, and a rest which isn't empty and begins no record.
+-- The bytes are a header, the texts of records up to this offset, and a rest that is not empty and begins no record.
 pub record StopsAt (bytes : List ℕ) (offset : ℕ) (rest : List ℕ) : Type 0 where
   pub prefix : File
   pub fits : IsFile prefix
@@ -39,18 +39,18 @@ pub record StopsAt (bytes : List ℕ) (offset : ℕ) (rest : List ℕ) : Type 0 
   pub some : rest ≢ []
   pub no_record : BeginsNoRecord rest
 
--- no record has such a size
+-- no record has this size
 abbrev pub IsBadSize : ℕ → Type 0
 IsBadSize n = (1 ≤ n) × (n ≤ 5) ⊎ (7 ≤ n) × (n ≤ 15)
 
 abbrev pub HasBadSize : List ℕ → Type 0
 HasBadSize rest = (4 ≤ length rest) × IsBadSize (little_number 4 rest)
 
--- the size field is cut, or what it announces
+-- the size field is cut, or the body that it announces
 abbrev pub IsRecordCut : List ℕ → Type 0
 IsRecordCut rest = (length rest < 4) ⊎ ((4 ≤ length rest) × ¬ IsBadSize (little_number 4 rest) × (length rest < 4 + little_number 4 rest))
 
--- The bytes begin with what is a solution's text but for its moves, which are cut at this place in them.
+-- The bytes begin with a solution's text, except that its moves are cut, at this place in them.
 pub record HasCutMoves (bytes : List ℕ) (at : ℕ) : Type 0 where
   pub solved : Solution
   pub more : List ℕ
@@ -58,8 +58,8 @@ pub record HasCutMoves (bytes : List ℕ) (at : ℕ) : Type 0 where
   pub split : bytes ≡ record_text (solution solved) ++ more
   pub cut : IsCutAt solved.moves at
 
--- The records stop before a solution whose moves are cut, at this place in the bytes: after four bytes of size and
--- sixteen of fields.
+-- The records stop before a solution whose moves are cut, at this place in the bytes: they come after four bytes of
+-- size and sixteen of fields.
 pub record StopsInMoves (bytes : List ℕ) (place : ℕ) : Type 0 where
   pub offset : ℕ
   pub rest : List ℕ
@@ -77,10 +77,10 @@ HasFault bytes (BadRuleset code) = IsSigned bytes × (code ≡ slice_index bytes
 HasFault bytes (ShortRecord offset) = (rest : List ℕ) × StopsAt bytes offset rest × IsRecordCut rest
 HasFault bytes (BadSize offset) = (rest : List ℕ) × StopsAt bytes offset rest × HasBadSize rest
 HasFault bytes (MoveCut place) = StopsInMoves bytes place
--- running out of memory is no fault of the bytes
+-- running out of memory is not a fault of the bytes
 HasFault bytes Memory = ⊥
 
--- a fault that no further bytes mend
+-- a fault that no further bytes can cure
 abbrev pub IsLasting : FileFault → Type 0
 IsLasting (ShortHeader n) = ⊥
 IsLasting BadSignature = Unit {0}
@@ -90,10 +90,10 @@ IsLasting (BadSize offset) = Unit {0}
 IsLasting (MoveCut place) = Unit {0}
 IsLasting Memory = ⊥
 
--- a reading ended so: with the fault of the bytes, or since memory ran out
+-- a failed read: the fault of the bytes, or out of memory
 abbrev pub FailsWith : List ℕ → FileFault → Type 0
 FailsWith bytes e = HasFault bytes e ⊎ (e ≡ Memory)
 
--- a reading answered so: this file, or memory ran out
+-- a read that returned this file, or ran out of memory
 abbrev pub IsReadAs : File → Result File FileFault → Type 0
 IsReadAs file answer = MatchResult answer (λ f. f ≡ file) (λ e. e ≡ Memory)

@@ -6,16 +6,16 @@ use Rattle.tws_file.specs.declared.key.Key.{Key}
 use Rattle.tws_file.specs.declared.«ruleset».Ruleset.{Ruleset}
 use Rattle.tws_file.specs.declared.«ruleset».Ruleset.TheVariants.{Lynx, Ms}
 
--- what each file begins with
+-- the bytes that every file begins with
 abbrev pub signature : List ℕ
 signature = 0x35 ∷ 0x33 ∷ 0x9B ∷ 0x99 ∷ []
 
--- the byte of a ruleset
+-- the code of a ruleset, a byte
 abbrev pub ruleset_code : Ruleset → ℕ
 ruleset_code Lynx = 1
 ruleset_code Ms = 2
 
--- a level's number fits its two bytes, and a password is four bytes
+-- a level's number fits in its two bytes, and a password is four bytes
 pub record IsKey (key : Key) : Type 0 where
   pub number : key.number < 2 ^ 16
   pub password : IsBytes key.password
@@ -25,6 +25,6 @@ pub record IsKey (key : Key) : Type 0 where
 abbrev pub set_key : Key
 set_key = record { number = 0; password = 0 ∷ 0 ∷ 0 ∷ 0 ∷ [] }
 
--- two bytes of number, and the password
+-- the number in two bytes, and the password
 abbrev pub key_bytes : Key → List ℕ
 key_bytes key = little_bytes 2 key.number ++ key.password

@@ -1,5 +1,5 @@
--- The listing of a file: a line for the header, one for each record, one for each move if they are asked for, and one for the
--- number of records.
+-- The listing of a file: a line for the header, one for each record, one for each move if they are asked for, and one
+-- for the number of records.
 use Rattle.std.specs.Prelude.{ℕ, ◌/◌, ◌%◌, Bool, true, false, List, [], ◌∷◌, ◌++◌, length, codes, decimal, if◌then◌else◌}
 use Rattle.std.specs.List.{flat_map, list_all}
 use Rattle.std.specs.Char.{is_ascii_alphabetic}
@@ -27,7 +27,7 @@ hex_byte b = digit_glyph false (b / 16) ∷ digit_glyph false (b % 16) ∷ []
 abbrev pub hex : List ℕ → List ℕ
 hex bytes = flat_map hex_byte bytes
 
--- four letters as they are, and other bytes as an x and their digits
+-- four letters as they are, and other bytes as an x and their hexadecimal digits
 abbrev pub password_text : List ℕ → List ℕ
 password_text password = if list_all is_ascii_alphabetic password then password else codes "x" ++ hex password
 
@@ -43,11 +43,11 @@ line text = text ++ 10 ∷ []
 abbrev pub header_line : Ruleset → List ℕ → List ℕ → List ℕ
 header_line kind word extra = line (codes "ruleset " ++ ruleset_name kind ++ codes " word " ++ hex word ++ codes " extra " ++ decimal (length extra))
 
--- what a solution's line says up to the time
+-- a solution's line up to the time
 abbrev pub solved_words : Key → ℕ → List ℕ
 solved_words key ticks = codes "level " ++ key_text key ++ codes " ticks " ++ decimal ticks
 
--- what a solution's line says after the time, up to the count of bytes of moves
+-- a solution's line after the time, up to the number of bytes of its moves
 abbrev pub details_line : (flags start seed bytes : ℕ) → List ℕ
 details_line flags start seed bytes = line (codes " flags " ++ hex (flags ∷ []) ++ codes " start " ++ hex (start ∷ []) ++ codes " seed " ++ decimal seed ++ codes " bytes " ++ decimal bytes)
 
@@ -57,7 +57,7 @@ record_line (set rest) = line (codes "set " ++ decimal (length rest))
 record_line (bare key) = line (codes "level " ++ key_text key)
 record_line (solution s) = solved_words s.key s.ticks ++ details_line s.flags s.start s.seed (length s.moves)
 
--- what a move's line says after its tick
+-- a move's line after its tick
 abbrev pub act_line : Act → List ℕ
 act_line (Step direction) = line (codes " step " ++ decimal direction)
 act_line (Code code) = line (codes " code " ++ decimal code)
@@ -65,7 +65,7 @@ act_line (Code code) = line (codes " code " ++ decimal code)
 abbrev pub move_line : Move → List ℕ
 move_line m = codes " at " ++ decimal m.at ++ act_line m.act
 
--- the moves of a record, if they are asked for
+-- the lines of a record's moves, if they are asked for
 abbrev pub move_lines : Bool → Record → List ℕ
 move_lines true (solution s) = flat_map move_line (moves_in s.moves)
 move_lines with_moves r = []

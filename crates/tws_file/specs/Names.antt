@@ -1,4 +1,4 @@
--- The names of files at the server: that of the collection of some rules, and the one that a client sends a file by.
+-- File names at the server: that of a ruleset's collection, and the one under which a client sends a file.
 use Rattle.std.specs.Prelude.{ℕ, List, Option, None, Some, cond, codes}
 use Rattle.std.specs.Str.{bytes_eq}
 use Rattle.tws_file.specs.declared.«ruleset».Ruleset.{Ruleset}
@@ -13,6 +13,6 @@ abbrev pub kind_named : (name : List ℕ) → Option Ruleset
 kind_named name =
     cond (bytes_eq name (file_name_of Lynx)) (Some Lynx) (cond (bytes_eq name (file_name_of Ms)) (Some Ms) None)
 
--- the server gives it no meaning
+-- it has no meaning to the server
 abbrev pub upload_name : List ℕ
 upload_name = codes "upload.tws"

@@ -1,4 +1,4 @@
--- A file whose solutions' moves are spelled as shortly as can be. All else stays.
+-- A file whose solutions' moves are spelled in the fewest bytes. Everything else is unchanged.
 use Rattle.std.specs.Prelude.{ℕ, List, map}
 use Rattle.tws_moves.specs.Shortest.{packed_bytes}
 use Rattle.tws_file.specs.Text.{File, Record, Solution, pad, set, bare, solution, text_of}

@@ -1,4 +1,4 @@
--- A reading of a file that comes piece by piece.
+-- Reading a file that arrives piece by piece.
 use Rattle.std.specs.Prelude.{◌≡◌, ◌≢◌, ℕ, ◌+◌, ◌<◌, ◌≤◌, ◌^◌, List, [], ◌++◌, length, Option, None, Some, Result, Ok, Err}
 use Rattle.tws_file.specs.declared.file_fault.FileFault.{FileFault}
 use Rattle.tws_file.specs.declared.file_fault.FileFault.TheVariants.{ShortHeader, BadSignature, BadRuleset, ShortRecord, BadSize, MoveCut, Memory}
@@ -8,12 +8,12 @@ use Rattle.tws_file.specs.Fault.{HasFault, IsLasting}
 use Rattle.tws_file.specs.Steps.{IsAt, IsLeft, text_so_far}
 
 pub data Reading : Type 0 where
-  -- these bytes have come
+  -- these bytes have arrived
   reading : (bytes : List ℕ) → Reading
-  -- the bytes that came had this fault
+  -- the bytes that arrived had this fault
   stopped : (fault : FileFault) → Reading
 
--- these bytes have come, in pieces of whatever sizes
+-- these bytes have arrived, in pieces of any sizes
 abbrev pub HasTaken : Reading → List ℕ → Type 0
 HasTaken (reading xs) bytes = xs ≡ bytes
 HasTaken (stopped fault) bytes = IsLasting fault × HasFault bytes fault
@@ -25,12 +25,12 @@ abbrev pub HasRoom : Reading → List ℕ → Type 0
 HasRoom (reading bytes) piece = length bytes + length piece < 2 ^ 64
 HasRoom (stopped fault) piece = Unit {0}
 
--- no more than so many bytes have come
+-- at most `n` bytes have arrived
 abbrev pub HasAtMost : Reading → ℕ → Type 0
 HasAtMost (reading bytes) n = length bytes ≤ n
 HasAtMost (stopped fault) n = Unit {0}
 
--- after bytes that had come, this fault at a further piece
+-- a further piece, after these bytes, fails with this fault
 abbrev pub PushFails : List ℕ → List ℕ → FileFault → Reading → Type 0
 PushFails bytes piece Memory new = new ≡ reading bytes
 PushFails bytes piece (ShortHeader n) new = ⊥
@@ -45,7 +45,7 @@ Pushes (reading bytes) piece (Ok done) new = new ≡ reading (bytes ++ piece)
 Pushes (reading bytes) piece (Err e) new = PushFails bytes piece e new
 Pushes (stopped fault) piece result new = (result ≡ Err fault) × (new ≡ stopped fault)
 
--- the piece was taken, where memory did not run out
+-- the piece was taken, unless an allocation was refused
 abbrev pub TakesPiece : Result (Unit {0}) FileFault → List ℕ → Reading → Type 0
 TakesPiece (Ok done) bytes new = HasTaken new bytes
 TakesPiece (Err (ShortHeader n)) bytes new = HasTaken new bytes
@@ -56,12 +56,12 @@ TakesPiece (Err (BadSize offset)) bytes new = HasTaken new bytes
 TakesPiece (Err (MoveCut place)) bytes new = HasTaken new bytes
 TakesPiece (Err Memory) bytes new = Unit {0}
 
--- what a reading of all the bytes answers
+-- what reading all the bytes returns
 abbrev pub IsAnswer : List ℕ → Result File FileFault → Type 0
 IsAnswer bytes (Ok file) = IsText bytes file
 IsAnswer bytes (Err e) = HasFault bytes e
 
--- no fault of the bytes that came lasts
+-- the bytes that arrived have no lasting fault
 abbrev pub HasNoLasting : Reading → Type 0
 HasNoLasting (reading bytes) = (e : FileFault) → IsLasting e → HasFault bytes e → ⊥
 HasNoLasting (stopped fault) = ⊥
@@ -72,7 +72,7 @@ Finishes (stopped fault) result = result ≡ Err fault
 
 -- ---- what a reader keeps
 
--- by the fault that it keeps, what it read, and the bytes after that
+-- from the fault that a reader keeps, what it has read, and the bytes after that
 abbrev pub reading_from : Option FileFault → Option File → List ℕ → Reading
 reading_from (Some fault) so_far rest = stopped fault
 reading_from None so_far rest = reading (text_so_far so_far ++ rest)

@@ -1,4 +1,4 @@
--- A record as contracts see it, without where it lies in memory.
+-- A record as contracts see it, without its layout in memory.
 use Rattle.std.specs.Prelude.{List, map}
 use Rattle.tws_file.specs.declared.record.Record as stored
 use Rattle.tws_file.specs.declared.record.Record.TheVariants.{Pad, Set, Bare, Solution}

@@ -1,4 +1,4 @@
--- A solution as contracts see it, without where it lies in memory.
+-- A solution as contracts see it, without its layout in memory.
 use Rattle.tws_file.specs.declared.solution.Solution.TheInside.{Inside}
 use Rattle.tws_file.specs.Text.{Solution}
 

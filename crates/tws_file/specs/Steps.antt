@@ -1,4 +1,4 @@
--- What the private steps of reading and of listing say. Callers need none of it.
+-- Definitions for the private steps of reading and of listing. Callers need none of them.
 use Rattle.std.specs.Prelude.{◌≡◌, ◌≢◌, ◌⊎◌, Option, None, Some, ℕ, ◌+◌, ◌<◌, ◌≤◌, ◌^◌, List, [], ◌∷◌, ◌++◌, length, take, drop}
 use Rattle.std.specs.List.{flat_map, AllByRecursion}
 use Rattle.byteorder.specs.Endian.{little_bytes}
@@ -11,7 +11,7 @@ use Rattle.tws_moves.specs.Spelling.{IsCutAt}
 use Rattle.tws_file.specs.Text.{Solution, Record, pad, set, bare, solution, File, IsLevel, IsSet, IsRecord, HasFields, IsFile, body_of, header_text, record_text, text_of}
 use Rattle.tws_file.specs.Fault.{BeginsNoRecord, IsRecordCut, HasBadSize, HasCutMoves, HasFault, IsLasting}
 
--- the bytes are a header of these fields, and then the rest
+-- the bytes are a header with these fields, followed by the rest
 pub record BeginsWithHeader (bytes : List ℕ) (kind : Ruleset) (word extra rest : List ℕ) : Type 0 where
   pub split : bytes ≡ header_text kind word extra ++ rest
   pub word_bytes : IsBytes word
@@ -19,18 +19,18 @@ pub record BeginsWithHeader (bytes : List ℕ) (kind : Ruleset) (word extra rest
   pub extra_bytes : IsBytes extra
   pub extra_length : length extra < 2 ^ 8
 
--- the sizes that the body of a record has
+-- the sizes that a record's body can have
 abbrev pub IsSize : ℕ → Type 0
 IsSize n = (n ≡ 0) ⊎ (n ≡ 6) ⊎ (16 ≤ n)
 
--- a record in all but whether its moves are whole
+-- a record, except that its moves may be cut
 abbrev pub IsShaped : Record → Type 0
 IsShaped pad = Unit {0}
 IsShaped (set rest) = IsSet rest
 IsShaped (bare key) = IsLevel key
 IsShaped (solution s) = HasFields s
 
--- the body of a solution but for its moves, which are cut; they begin at the offset
+-- the body of a solution, except that its moves, which begin at `offset`, are cut
 pub record IsCutSolution (body : List ℕ) (offset place : ℕ) : Type 0 where
   pub solved : Solution
   pub at : ℕ
@@ -39,7 +39,7 @@ pub record IsCutSolution (body : List ℕ) (offset place : ℕ) : Type 0 where
   pub cut : IsCutAt solved.moves at
   pub place_is : place ≡ offset + at
 
--- no solution was read from this body, whose moves begin at the offset
+-- no solution was read from this body, whose moves begin at `offset`
 abbrev pub SolutionFails : List ℕ → ℕ → FileFault → Type 0
 SolutionFails body offset (ShortHeader n) = ⊥
 SolutionFails body offset BadSignature = ⊥
@@ -49,7 +49,7 @@ SolutionFails body offset (BadSize o) = ⊥
 SolutionFails body offset (MoveCut place) = IsCutSolution body offset place
 SolutionFails body offset Memory = Unit {0}
 
--- moves were not kept, which begin at the offset
+-- moves that begin at `offset` were not kept
 abbrev pub MovesFailAt : List ℕ → ℕ → FileFault → Type 0
 MovesFailAt moves offset (ShortHeader n) = ⊥
 MovesFailAt moves offset BadSignature = ⊥
@@ -59,7 +59,7 @@ MovesFailAt moves offset (BadSize o) = ⊥
 MovesFailAt moves offset (MoveCut place) = (at : ℕ) × IsCutAt moves at × (place ≡ offset + at)
 MovesFailAt moves offset Memory = Unit {0}
 
--- no record was read from these bytes, which begin at this offset
+-- no record was read from these bytes, which begin at `offset`
 abbrev pub RecordFails : List ℕ → ℕ → FileFault → Type 0
 RecordFails bytes offset (ShortRecord o) = ⊥
 RecordFails bytes offset (BadSize o) = (o ≡ offset) × HasBadSize bytes
@@ -69,7 +69,7 @@ RecordFails bytes offset (ShortHeader n) = ⊥
 RecordFails bytes offset BadSignature = ⊥
 RecordFails bytes offset (BadRuleset code) = ⊥
 
--- the bytes are the texts of records up to this offset, counted on from start, and a rest that begins no record
+-- the bytes are the texts of records up to this offset, counted on from `start`, and a rest that begins no record
 pub record StopsAfter (bytes : List ℕ) (start offset : ℕ) (rest : List ℕ) : Type 0 where
   pub prefix : List Record
   pub fits : AllByRecursion IsRecord prefix
@@ -78,7 +78,7 @@ pub record StopsAfter (bytes : List ℕ) (start offset : ℕ) (rest : List ℕ) 
   pub some : rest ≢ []
   pub no_record : BeginsNoRecord rest
 
--- the bytes, which begin at the offset start, are no texts of records
+-- the records in these bytes, which begin at offset `start`, were not read
 abbrev pub RecordsFail : List ℕ → ℕ → FileFault → Type 0
 RecordsFail bytes start (ShortRecord o) = ⊥
 RecordsFail bytes start (MoveCut place) = (o : ℕ) × (rest : List ℕ) × (at : ℕ) × StopsAfter bytes start o rest × HasCutMoves rest at × (place ≡ o + 20 + at)
@@ -88,7 +88,7 @@ RecordsFail bytes start (ShortHeader n) = ⊥
 RecordsFail bytes start BadSignature = ⊥
 RecordsFail bytes start (BadRuleset code) = ⊥
 
--- what of a record may be long: all after its key, or a solution's moves
+-- the part of a record that may be long: all after the key of the set, or a solution's moves
 abbrev pub tail_of : Record → List ℕ
 tail_of pad = []
 tail_of (set rest) = rest
@@ -105,7 +105,7 @@ SendsSome old new text = (rest : List ℕ) × Sends old new text rest
 
 -- ---- pieces
 
--- no file was read from these bytes, and no further ones help
+-- no file was read from these bytes, and no further ones would help
 abbrev pub FailsForGood : List ℕ → FileFault → Type 0
 FailsForGood bytes e = (IsLasting e × HasFault bytes e) ⊎ (e ≡ Memory)
 
@@ -113,7 +113,7 @@ FailsForGood bytes e = (IsLasting e × HasFault bytes e) ⊎ (e ≡ Memory)
 abbrev pub IsShort : List ℕ → Type 0
 IsShort bytes = HasFault bytes (ShortHeader (length bytes))
 
--- the bytes that were read, with none before the header has come
+-- the bytes that were read; none until the whole header has arrived
 abbrev pub text_so_far : Option File → List ℕ
 text_so_far None = []
 text_so_far (Some file) = text_of file
@@ -128,22 +128,22 @@ abbrev pub IsLeft : Option File → List ℕ → Type 0
 IsLeft None rest = IsShort rest
 IsLeft (Some file) rest = IsRecordCut rest
 
--- how many records were read, if the header was
+-- how many records were read, if the header was read
 abbrev pub record_count : Option File → Option ℕ
 record_count None = None
 record_count (Some file) = Some (length file.records)
 
--- what was read when there were so many records
+-- what was read when there were `count` records
 abbrev pub taken_back : Option ℕ → Option File → Option File
 taken_back None file = None
 taken_back (Some count) None = None
 taken_back (Some count) (Some file) = Some (record { «ruleset» = file.ruleset; word = file.word; extra = file.extra; records = take count file.records })
 
--- of these bytes, which are at the offset, so many were read
+-- `count` of these bytes, which begin at `offset`, were read
 pub record Advances (old new : Option File) (offset : ℕ) (bytes : List ℕ) (count : ℕ) : Type 0 where
   pub within : count ≤ length bytes
   pub text : text_so_far old ++ bytes ≡ text_so_far new ++ drop count bytes
   pub at : IsAt new (offset + count)
   pub left : IsLeft new (drop count bytes)
-  -- what was read can be taken back
+  -- what was read can be undone
   pub undone : taken_back (record_count old) new ≡ old

@@ -42,7 +42,7 @@ body_of (set rest) = key_bytes set_key ++ rest
 body_of (bare key) = key_bytes key
 body_of (solution s) = key_bytes s.key ++ (s.flags ∷ s.start ∷ (little_bytes 4 s.seed ++ (little_bytes 4 s.ticks ++ s.moves)))
 
--- four bytes of size, and the body
+-- the size in four bytes, and the body
 abbrev pub record_text : Record → List ℕ
 record_text r = little_bytes 4 (length (body_of r)) ++ body_of r
 
@@ -67,7 +67,7 @@ pub record HasFields (s : Solution) : Type 0 where
   pub seed : s.seed < 2 ^ 32
   pub ticks : s.ticks < 2 ^ 32
   pub bytes : IsBytes s.moves
-  -- the body has at least 16 bytes, and its size fits four
+  -- the body has at least 16 bytes, and its size fits in four
   pub size : 16 + length s.moves < 2 ^ 32
 
 pub record IsSolution (s : Solution) : Type 0 where
@@ -75,7 +75,7 @@ pub record IsSolution (s : Solution) : Type 0 where
   -- no move is cut
   pub whole : IsSpelling s.moves
 
--- a record of the set has the key alone, or at least ten bytes more
+-- a record of the set has only the key, or at least ten more bytes
 pub record IsSet (rest : List ℕ) : Type 0 where
   pub bytes : IsBytes rest
   pub long : (rest ≡ []) ⊎ (10 ≤ length rest)

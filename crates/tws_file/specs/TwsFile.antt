@@ -1,4 +1,4 @@
--- A file as contracts see it, without where it lies in memory.
+-- A file as contracts see it, without its layout in memory.
 use Rattle.tws_file.specs.declared.tws_file.TwsFile.TheInside.{Inside}
 use Rattle.tws_file.specs.Text.{File}
 

@@ -4,7 +4,7 @@ ghost use Rattle.byte_output.specs.Bytes.{IsBytes};
 use std::alloc::{Allocator, Global};
 use std::marker::Model;
 
-/// Bytes that a file keeps as they are.
+/// Bytes of a file that are kept as they are.
 #[derive(Drop)]
 #[derive_where(Debug)]
 pub struct Bytes<A: Allocator = Global> {
@@ -18,7 +18,7 @@ impl<A: Allocator> Model for Bytes<A> {
 }
 
 impl<A: Allocator> Bytes<A> {
-    /// The bytes of a vector, which takes no memory.
+    /// The bytes of a vector. Does not allocate.
     pub fn of(bytes: Vec<u8, A>) -> Self
         ensures list { result ≡ bytes.items }
         ensures bytes { IsBytes result }
@@ -26,21 +26,21 @@ impl<A: Allocator> Bytes<A> {
         Bytes { bytes }
     }
 
-    /// Lends the bytes, in their order.
+    /// Borrows the bytes, in order.
     pub fn as_slice(&self) -> &[u8]
         ensures list { result.now ≡ self.now }
     {
         self.bytes.as_slice()
     }
 
-    /// The vector again, which takes no memory.
+    /// Returns the vector. Does not allocate.
     pub fn into_vec(self) -> Vec<u8, A>
         ensures { result.items ≡ self }
     {
         self.bytes
     }
 
-    /// How many there are.
+    /// The number of bytes.
     pub fn len(&self) -> usize
         ensures { result ≡ length self.now }
     {

@@ -1,4 +1,4 @@
-//! The fields of a record in bytes, each added to those of a buffer.
+//! The fields of a record as bytes, each appended to a buffer.
 
 ghost use Rattle.std.specs.Prelude.{◌≡◌, ◌+◌, ◌≤◌, ◌++◌, length};
 ghost use Rattle.byteorder.specs.Endian.{little_bytes};
@@ -8,7 +8,7 @@ use crate::key::Key;
 use byte_output::Buffer;
 use byteorder::{ByteOrder, LittleEndian};
 
-// A number of two bytes.
+// Appends a number in two bytes.
 fn push_u16<const N: usize>(buffer: &mut Buffer<N>, number: u16)
     requires { length buffer.old + 2 ≤ N }
     ensures { buffer.new ≡ buffer.old ++ little_bytes 2 number }
@@ -18,7 +18,7 @@ fn push_u16<const N: usize>(buffer: &mut Buffer<N>, number: u16)
     buffer.push(&bytes);
 }
 
-// A number of four bytes.
+// Appends a number in four bytes.
 pub(crate) fn push_u32<const N: usize>(buffer: &mut Buffer<N>, number: u32)
     requires { length buffer.old + 4 ≤ N }
     ensures { buffer.new ≡ buffer.old ++ little_bytes 4 number }
@@ -28,7 +28,7 @@ pub(crate) fn push_u32<const N: usize>(buffer: &mut Buffer<N>, number: u32)
     buffer.push(&bytes);
 }
 
-// A key's number and password.
+// Appends a key's number and password.
 pub(crate) fn push_key<const N: usize>(buffer: &mut Buffer<N>, key: Key)
     requires { length buffer.old + 6 ≤ N }
     ensures { buffer.new ≡ buffer.old ++ key_bytes key }

@@ -4,9 +4,9 @@ ghost use Rattle.tws_file.specs.declared.file_fault.FileFault.TheVariants.{Memor
 use std::alloc::{AllocError, AllocFailed};
 use thiserror::Error;
 
-/// Why bytes are no solution file.
+/// Why bytes are not a solution file.
 ///
-/// Offsets are counted in bytes from the start of the file. The first fault in the file decides.
+/// Offsets are counted in bytes from the start of the file. Only the first fault in the file is reported.
 #[derive(Clone, Copy, Debug, PartialEq, Eq, Error)]
 pub enum FileFault {
     /// The file ends inside its header. The value is the file's length.
@@ -15,7 +15,7 @@ pub enum FileFault {
     /// The file does not begin with the signature `35 33 9B 99`.
     #[error("BadSignature")]
     BadSignature,
-    /// Byte 4 names no ruleset. The value is that byte.
+    /// Byte 4 is not the code of a ruleset. The value is that byte.
     #[error("BadRuleset({0})")]
     BadRuleset(u8),
     /// The file ends inside a record. The value is the offset of that record's size field.
@@ -27,7 +27,7 @@ pub enum FileFault {
     /// A solution's moves end inside a move. The value is the offset of that move's first byte.
     #[error("MoveCut({0})")]
     MoveCut(u64),
-    /// Memory ran out, which says nothing of the bytes.
+    /// Out of memory, which says nothing about the bytes.
     #[error("Memory")]
     Memory,
 }

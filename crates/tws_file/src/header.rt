@@ -7,7 +7,7 @@ ghost use Rattle.tws_file.specs.Steps.{BeginsWithHeader, IsShort};
 use crate::file_fault::FileFault;
 use crate::ruleset::Ruleset;
 
-/// What each solution file begins with.
+/// The bytes that every solution file begins with.
 pub const SIGNATURE: [u8; 4] = [0x35, 0x33, 0x9B, 0x99];
 
 /// A header, and the bytes of the records after it.
@@ -19,11 +19,11 @@ pub(crate) struct Header<'a> {
     pub(crate) records: &'a [u8],
 }
 
-// The header that the bytes begin with; none if it is cut.
+// The header that the bytes begin with; `None` if it is cut.
 pub(crate) fn read_header(bytes: &[u8]) -> Result<Option<Header<'_>>, FileFault>
     ensures header { IfOk result (λ r. IfSome r (λ h. BeginsWithHeader bytes.now h.ruleset h.word h.extra.now h.records.now)) }
     ensures short { IfOk result (λ r. IfNone r (IsShort bytes.now)) }
-    // It takes no memory.
+    // Never `Memory`: it does not allocate.
     ensures fault { IfErr result (λ e. IsLasting e × HasFault bytes.now e) }
 {
     let [a, b, c, d, code, low, high, count, rest @ ..] = bytes else {

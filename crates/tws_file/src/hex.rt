@@ -3,7 +3,7 @@ ghost use Rattle.tws_file.specs.Listing.{hex};
 
 use std::fmt;
 
-/// Shows bytes in their order, each as two lower-case hexadecimal digits.
+/// Displays bytes in order, each as two lower-case hexadecimal digits.
 #[derive(Clone, Copy, Debug)]
 pub struct Hex<'a>(pub &'a [u8]);
 

@@ -5,12 +5,12 @@ ghost use Rattle.std.specs.Char.{is_ascii_alphabetic};
 use crate::hex::Hex;
 use std::fmt;
 
-/// What names a level: its number, and its password of four bytes. Keys are ordered by number, then by password.
+/// Identifies a level: its number, and its password of four bytes. Keys are ordered by number, then by password.
 #[derive(Clone, Copy, Debug, PartialEq, Eq, PartialOrd, Ord)]
 pub struct Key {
     /// The level's number in its set.
     pub number: u16,
-    /// Four letters, where Tile World wrote it. Any bytes are kept.
+    /// Four letters if Tile World wrote it. Any bytes are kept.
     pub password: [u8; 4],
 }
 
@@ -23,7 +23,7 @@ impl Key {
         password: [0; 4],
     };
 
-    /// Whether it is the key that no level has.
+    /// Whether this is the key that no level has.
     pub fn is_set(self) -> bool
         ensures { IsTrue result ↔ (self ≡ set_key) }
     {
@@ -37,7 +37,7 @@ fn is_letters(bytes: &[u8]) -> bool
     bytes.iter().all(|b| b.is_ascii_alphabetic())
 }
 
-// The bytes as text, where they are letters alone.
+// The bytes as text, if all of them are letters.
 fn letters(bytes: &[u8]) -> Option<&str>
     ensures { MatchOption result
         (list_all is_ascii_alphabetic bytes.now ≡ false)
@@ -50,7 +50,7 @@ fn letters(bytes: &[u8]) -> Option<&str>
     }
 }
 
-/// The number, and the password: four letters as they are, else an `x` and the bytes as hexadecimal digits.
+/// The number and the password: four letters as they are, or else an `x` and the bytes as hexadecimal digits.
 impl fmt::Display for Key {
     ghost use Rattle.std.specs.Prelude.{Some};
     ghost use Rattle.tws_file.specs.Listing.{key_text};

@@ -1,5 +1,5 @@
-//! What holds of every file's text and of every fault, whoever reads. These functions do nothing: each contract is a
-//! theorem.
+//! What holds of every file's text and of every fault, whatever code reads them. These functions do nothing: each
+//! contract is a theorem.
 
 ghost use Rattle.std.specs.Prelude.{◌≡◌, ◌⊎◌, ◌≤◌, ℕ, List, length};
 ghost use Rattle.byte_output.specs.Bytes.{IsBytes};
@@ -37,7 +37,7 @@ pub fn one_file_name()
     ensures { (a b : Rules) → file_name_of a ≡ file_name_of b → a ≡ b }
 {}
 
-/// A packed file has a text, whose solutions' moves are those of the file, each in the fewest bytes.
+/// A packed file has a text. Its solutions' moves are those of the file, each in the fewest bytes.
 pub fn packed_files()
     ensures fits { (f : File) → IsFile f → IsFile (packed_file f) }
     ensures same { (s : Solution) → IsSolution s → moves_in (packed_solution s).moves ≡ moves_in s.moves }

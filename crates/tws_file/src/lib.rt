@@ -1,10 +1,10 @@
 //! Tile World solution files (TWS): what a file is, which fault bytes have, and the listing of a file.
 //!
 //! Read `specs/Text.antt` first: it defines which values have a text, and which text. `specs/Fault.antt` defines the
-//! fault of bytes that are no file's text, `specs/Reader.antt` what a reader in pieces has taken. `specs/Steps.antt`
-//! has definitions for private functions alone.
+//! fault of bytes that are not a file's text; `specs/Reader.antt` defines what a reader of pieces has taken. The
+//! definitions in `specs/Steps.antt` are only for private functions.
 //!
-//! How it is called, by a crate that lists `tws_file`; this needs no proof file:
+//! An example of a caller, in a crate that lists `tws_file`; it needs no proof file:
 //!
 //! ```text
 //! ghost use Rattle.std.specs.Prelude.{OnOk};

@@ -1,4 +1,4 @@
-//! The lines of the listing, each added to a text.
+//! The lines of the listing, each appended to a text.
 
 ghost use Rattle.std.specs.Prelude.{◌≡◌, ◌++◌, string_bytes, OnOk};
 ghost use Rattle.tws_moves.specs.Move.{Move as Plain};

@@ -19,7 +19,7 @@ use std::alloc::Allocator;
 use std::io::Write;
 use tws_moves::{Move, MovesFault, read_moves};
 
-// Sends the text that was gathered, once there is much of it.
+// Writes the gathered text out once there is much of it.
 fn send_if_large<A: Allocator, W: Write>(text: &mut String<A>, out: &mut W) -> Result<(), OutFault>
     ensures ok { OnOk result (Sends (W.contents out.old) (W.contents out.new) (string_bytes text.old) (string_bytes text.new)) }
     ensures err { OnErr result (AppendsPrefix (W.contents out.old) (W.contents out.new) (string_bytes text.old)) }
@@ -31,7 +31,7 @@ fn send_if_large<A: Allocator, W: Write>(text: &mut String<A>, out: &mut W) -> R
     Ok(())
 }
 
-// Gathers the lines of moves, and sends what was gathered as it grows large.
+// Gathers the lines of moves, and writes the gathered text out as it grows large.
 fn show_moves<A: Allocator, W: Write>(
     text: &mut String<A>,
     moves: &[Move],
@@ -49,7 +49,7 @@ fn show_moves<A: Allocator, W: Write>(
     Ok(())
 }
 
-// Gathers the lines of a solution's moves, and sends what was gathered as it grows large.
+// Gathers the lines of a solution's moves, and writes the gathered text out as it grows large.
 fn show_solved<A: Allocator + Copy, B: Allocator, W: Write>(
     alloc: A,
     text: &mut String<A>,
@@ -64,12 +64,12 @@ fn show_solved<A: Allocator + Copy, B: Allocator, W: Write>(
     match read_moves(alloc, s.moves.as_slice()) {
         Ok(moves) => show_moves(text, &moves, out),
         Err(MovesFault::Memory) => Err(OutFault::Memory),
-        // A solution's moves are whole.
+        // A solution's moves are never cut.
         Err(MovesFault::Cut { .. }) => unreachable!(),
     }
 }
 
-// Gathers the lines of a record, and sends what was gathered as it grows large.
+// Gathers the lines of a record, and writes the gathered text out as it grows large.
 fn show_record<A: Allocator + Copy, B: Allocator, W: Write>(
     alloc: A,
     text: &mut String<A>,
@@ -90,7 +90,7 @@ fn show_record<A: Allocator + Copy, B: Allocator, W: Write>(
     }
 }
 
-// Gathers the lines of the records, and sends what was gathered as it grows large.
+// Gathers the lines of the records, and writes the gathered text out as it grows large.
 fn show_records<A: Allocator + Copy, B: Allocator, W: Write>(
     alloc: A,
     text: &mut String<A>,
@@ -109,7 +109,7 @@ fn show_records<A: Allocator + Copy, B: Allocator, W: Write>(
     Ok(())
 }
 
-// The listing of a file of these parts.
+// Writes the listing of a file with these parts.
 fn show_parts<A: Allocator + Copy, B: Allocator, W: Write>(
     alloc: A,
     kind: Ruleset,
@@ -131,15 +131,14 @@ fn show_parts<A: Allocator + Copy, B: Allocator, W: Write>(
     put(out, text.as_bytes())
 }
 
-/// Writes the listing of a file: a line for the header, one for each record, and one for their number. With `moves`, a
-/// line for each move follows its solution's.
+/// Writes the listing of a file: a line for the header, one for each record, and one for the number of records. With
+/// `moves`, a solution's line is followed by one for each of its moves.
 ///
-/// It goes out in large pieces.
+/// The listing is written in large pieces.
 ///
 /// # Errors
 ///
-/// `Io` where the writer fails, `Memory` where an allocation was refused. A proper prefix of the listing
-/// was written.
+/// `Io` if the writer fails, `Memory` if an allocation was refused. A proper prefix of the listing was written.
 pub fn show<A: Allocator + Copy, B: Allocator, W: Write>(
     alloc: A,
     file: &TwsFile<B>,

@@ -1,4 +1,4 @@
-//! A file whose moves are spelled as shortly as can be.
+//! Packing a file: its moves are spelled in the fewest bytes.
 
 ghost use Rattle.std.specs.Prelude.{◌≡◌, ◌<◌, ◌^◌, length, map, IfOk};
 ghost use Rattle.tws_moves.specs.Shortest.{packed_bytes};
@@ -14,7 +14,7 @@ use crate::tws_file::TwsFile;
 use std::alloc::{AllocError, Allocator};
 use tws_moves::{MovesFault, pack_moves};
 
-// The shortest bytes that spell the same moves as these, which spell some.
+// The shortest bytes that spell the same moves as these bytes, which must spell some.
 fn pack_spelled<A: Allocator + Copy>(alloc: A, bytes: &[u8]) -> Result<Bytes<A>, AllocError>
     requires spelled { IsSpelling bytes.now }
     requires short { length bytes.now < 2 ^ 32 }
@@ -23,7 +23,7 @@ fn pack_spelled<A: Allocator + Copy>(alloc: A, bytes: &[u8]) -> Result<Bytes<A>,
     match pack_moves(alloc, bytes) {
         Ok(packed) => Ok(Bytes::of(packed)),
         Err(MovesFault::Memory) => Err(AllocError),
-        // The moves are whole.
+        // No move is cut.
         Err(MovesFault::Cut { .. }) => unreachable!(),
     }
 }
@@ -75,11 +75,11 @@ fn pack_records<A: Allocator + Copy, B: Allocator>(
     Ok(packed)
 }
 
-/// The file with each solution's moves spelled as shortly as can be, and with all else as it is.
+/// Returns the file with each solution's moves spelled in the fewest bytes, and with everything else unchanged.
 ///
 /// # Errors
 ///
-/// Where an allocation was refused.
+/// Fails if an allocation was refused.
 pub fn pack<A: Allocator + Copy, B: Allocator>(
     alloc: A,
     file: &TwsFile<B>,

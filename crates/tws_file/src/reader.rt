@@ -1,4 +1,4 @@
-//! A solution file that comes piece by piece.
+//! Reading a solution file that arrives piece by piece.
 
 ghost use Rattle.std.specs.Prelude.{◌≡◌, ◌⊎◌, ◌+◌, ◌<◌, ◌≤◌, ◌^◌, ℕ, List, [], ◌++◌, length, drop, Some, Err, OnOk, OnErr, IfOk, IfErr, IfSome, IfNone};
 ghost use Rattle.tws_file.specs.Text.{File, IsFile, IsText, text_of};
@@ -15,17 +15,17 @@ use crate::tws_file::TwsFile;
 use std::alloc::{Allocator, Global};
 use std::marker::Model;
 
-/// Reads a solution file that comes piece by piece.
+/// Reads a solution file that arrives piece by piece.
 #[derive(Drop)]
 pub struct Reader<A: Allocator + Copy = Global> {
     alloc: A,
-    /// The fault that the bytes had, which no further ones mend.
+    /// The fault that the bytes had, which no further bytes can cure.
     fault: Option<FileFault>,
-    /// The header and the records that were read; none before the whole header has come.
+    /// The header and the records that were read; `None` until the whole header has arrived.
     so_far: Option<TwsFile<A>>,
-    /// Where the rest begins, counted from the start of the file.
+    /// The offset of `rest`, counted from the start of the file.
     offset: u64,
-    /// The bytes that came and could not be read yet.
+    /// The bytes that arrived and could not be read yet.
     rest: Vec<u8, A>,
 }
 
@@ -39,7 +39,7 @@ impl<A: Allocator + Copy> Model for Reader<A> {
     ghost invariant = { IsReader };
 }
 
-// The header, the whole records after it and the bytes after those; none where the header is cut.
+// The header with the whole records after it, and the bytes after those; `None` if the header is cut.
 fn read_from_start<A: Allocator + Copy>(
     alloc: A,
     bytes: &[u8],
@@ -65,8 +65,8 @@ fn read_from_start<A: Allocator + Copy>(
     Ok(Some((file, rest)))
 }
 
-// Reads the whole records that follow in these bytes, which are at the offset, and returns how many bytes they took.
-// After an error nothing has changed.
+// Reads the whole records that these bytes begin with, which are at `offset` in the file. Returns how many bytes were
+// read. On error nothing changes.
 fn read_on<A: Allocator + Copy>(
     alloc: A,
     file: &mut TwsFile<A>,
@@ -85,8 +85,8 @@ fn read_on<A: Allocator + Copy>(
     Ok(bytes.len() - rest.len())
 }
 
-// Reads what is whole of these bytes, which are at the offset, and returns how many they were. After an error
-// nothing has changed.
+// Reads what is whole in these bytes, which are at `offset` in the file. Returns how many bytes were read. On error
+// nothing changes.
 fn advance<A: Allocator + Copy>(
     alloc: A,
     so_far: &mut Option<TwsFile<A>>,
@@ -111,7 +111,7 @@ fn advance<A: Allocator + Copy>(
     }
 }
 
-// Drops the first bytes, so many of them.
+// Drops the first `count` bytes.
 fn drop_first<A: Allocator>(bytes: &mut Vec<u8, A>, count: usize)
     requires { count ≤ length bytes.old.items }
     ensures { bytes.new.items ≡ drop count bytes.old.items }
@@ -122,7 +122,7 @@ fn drop_first<A: Allocator>(bytes: &mut Vec<u8, A>, count: usize)
     }
 }
 
-// How many records were read, if the header was.
+// How many records were read, if the header was read.
 fn record_count<A: Allocator>(so_far: &Option<TwsFile<A>>) -> Option<usize>
     ensures { result ≡ record_count so_far.now }
 {
@@ -132,7 +132,7 @@ fn record_count<A: Allocator>(so_far: &Option<TwsFile<A>>) -> Option<usize>
     }
 }
 
-// Takes back what was read after there were so many records.
+// Undoes what was read since there were `count` records.
 fn take_back<A: Allocator>(so_far: &mut Option<TwsFile<A>>, count: Option<usize>)
     ensures { so_far.new ≡ taken_back count so_far.old }
 {
@@ -145,8 +145,8 @@ fn take_back<A: Allocator>(so_far: &mut Option<TwsFile<A>>, count: Option<usize>
     }
 }
 
-// Reads what is whole of the bytes that were kept and a piece, and keeps the rest of them. Where none were kept the
-// piece is read where it lies. On error nothing has changed.
+// Reads what is whole in the kept bytes and a piece after them, and keeps the rest. If none were kept, the piece is
+// read in place. On error nothing changes.
 fn read_piece<A: Allocator + Copy>(
     alloc: A,
     so_far: &mut Option<TwsFile<A>>,
@@ -186,7 +186,7 @@ fn read_piece<A: Allocator + Copy>(
 }
 
 impl<A: Allocator + Copy> Reader<A> {
-    /// A reader to which nothing has come, which takes no memory.
+    /// A reader that has received nothing. Does not allocate.
     pub fn new(alloc: A) -> Self
         ensures { result ≡ reading [] }
     {
@@ -210,21 +210,21 @@ impl<A: Allocator + Copy> Reader<A> {
         }
     }
 
-    /// Takes a further piece of the file. All pieces together have at most 18,446,744,073,709,551,615 bytes.
+    /// Takes the next piece of the file. All pieces together have at most 18,446,744,073,709,551,615 bytes.
     ///
     /// # Errors
     ///
-    /// The fault of the bytes so far where no further ones can mend it, so any but `ShortHeader` and `ShortRecord`.
-    /// It is kept, all else is dropped, and every later call returns it. After `Memory` the reader is as before the piece.
+    /// The fault of the bytes so far if no further bytes can cure it, so any but `ShortHeader` and `ShortRecord`. It is
+    /// kept, all else is dropped, and every later call returns it. After `Memory` the reader is as it was before the piece.
     pub fn push(&mut self, piece: &[u8]) -> Result<(), FileFault>
         requires { HasRoom self.old piece.now }
         ensures pushes { Pushes self.old piece.now result self.new }
-        // However the bytes are cut, a reader that took them knows what they are.
+        // However the bytes are cut, the reader has then taken them and the piece.
         ensures taken { (bytes : List ℕ) → HasTaken self.old bytes → TakesPiece result (bytes ++ piece.now) self.new }
-        // Where a caller counts, the next piece has room.
+        // For callers that count the bytes, to show that the next piece has room.
         ensures counted { (n : ℕ) → HasAtMost self.old n → HasAtMost self.new (n + length piece.now) }
         ensures goes_on { OnOk result (HasNoLasting self.new) }
-        // An empty piece takes no memory.
+        // An empty piece does not allocate.
         ensures empty { piece.now ≡ [] → result ≡ Err FileFault.Memory → ⊥ }
     {
         if let Some(fault) = self.fault {
@@ -253,14 +253,14 @@ impl<A: Allocator + Copy> Reader<A> {
         }
     }
 
-    /// The file whose text has come, once all of it has. It takes no memory.
+    /// Returns the file, once its whole text has arrived. Does not allocate.
     ///
     /// # Errors
     ///
-    /// The fault of the bytes that came, or the one that was kept.
+    /// The fault of the bytes that arrived, or the one that was kept.
     pub fn finish(self) -> Result<TwsFile<A>, FileFault>
         ensures finishes { Finishes self result }
-        // It answers what `read_file` of all the bytes does, but that it needs no memory.
+        // Returns what `read_file` returns for all the bytes, but is never out of memory.
         ensures joined { (bytes : List ℕ) → HasTaken self bytes → IsAnswer bytes result }
     {
         let Reader {
@@ -285,13 +285,13 @@ impl<A: Allocator + Copy> Reader<A> {
 ///
 /// # Errors
 ///
-/// The fault of the bytes, or `Memory` where an allocation was refused.
+/// The fault of the bytes, or `Memory` if an allocation was refused.
 pub fn read_file<A: Allocator + Copy>(alloc: A, bytes: &[u8]) -> Result<TwsFile<A>, FileFault>
-    // What is read is the file whose text the bytes are.
+    // The bytes are the text of the file that is returned.
     ensures read { IfOk result (λ file. IsText bytes.now file) }
-    // A file's text is read as that file, unless memory runs out.
+    // A file's text is read as that file, unless an allocation is refused.
     ensures accepts { (file : File) → IsText bytes.now file → IsReadAs file result }
-    // A fault is the one that the bytes have.
+    // A fault is that of the bytes, or `Memory`.
     ensures fault { IfErr result (FailsWith bytes.now) }
 {
     let mut reader = Reader::new(alloc);

@@ -1,4 +1,4 @@
-//! How the bytes of records are read.
+//! Reading the bytes of records.
 
 ghost use Rattle.std.specs.Prelude.{◌≡◌, ◌+◌, ◌<◌, ◌≤◌, ◌^◌, ◌++◌, ◌↔◌, length, take, drop, Err, IsTrue, OnOk, IfOk, IfErr, IfSome, IfNone};
 ghost use Rattle.std.specs.List.{flat_map, AllByRecursion};
@@ -31,7 +31,7 @@ fn read_key(body: &[u8]) -> Key
     }
 }
 
-// The bytes of moves, which are at the offset, if no move is cut.
+// Keeps the bytes of moves, which are at `offset` in the file, if no move is cut.
 fn keep_moves<A: Allocator>(alloc: A, offset: u64, bytes: &[u8]) -> Result<Bytes<A>, FileFault>
     requires short { length bytes.now < 2 ^ 32 }
     requires room { offset + length bytes.now < 2 ^ 64 }
@@ -42,12 +42,12 @@ fn keep_moves<A: Allocator>(alloc: A, offset: u64, bytes: &[u8]) -> Result<Bytes
     match check_moves(bytes) {
         Ok(_) => Ok(Bytes::of(Vec::from_slice(alloc, bytes)?)),
         Err(MovesFault::Cut { at }) => Err(FileFault::MoveCut(offset + at)),
-        // A count of moves takes no memory.
+        // Counting moves does not allocate.
         Err(MovesFault::Memory) => unreachable!(),
     }
 }
 
-// A solution from what follows its key, which is at the offset.
+// Reads a solution from the bytes after its key, which are at `offset` in the file.
 fn read_solution<A: Allocator>(
     alloc: A,
     key: Key,
@@ -76,7 +76,7 @@ fn read_solution<A: Allocator>(
     })
 }
 
-// The record with this body, which is at the offset.
+// Reads the record with this body, which is at `offset` in the file.
 fn read_body<A: Allocator>(alloc: A, offset: u64, body: &[u8]) -> Result<Record<A>, FileFault>
     requires size { IsSize (length body.now) }
     requires fits { length body.now < 2 ^ 32 }
@@ -107,7 +107,7 @@ fn is_size(size: usize) -> bool
     matches!(size, 0 | 6 | 16..)
 }
 
-// The record that the bytes begin with, which are at the offset, and the bytes after it; none if they are cut.
+// The record that the bytes begin with, which are at `offset` in the file, and the bytes after it; `None` if it is cut.
 fn read_record<A: Allocator>(
     alloc: A,
     offset: u64,
@@ -118,7 +118,7 @@ fn read_record<A: Allocator>(
     ensures bytes { IfOk result (λ r. IfSome r (λ one. bytes.now ≡ record_text (record_of one.0) ++ one.1.now)) }
     ensures cut { IfOk result (λ r. IfNone r (IsRecordCut bytes.now)) }
     ensures fault { IfErr result (RecordFails bytes.now offset) }
-    // No record has this size: that is the fault, before any memory is asked for.
+    // If no record has this size, that is the fault, before anything is allocated.
     ensures size { 4 ≤ length bytes.now → (IsSize (little_number 4 bytes.now) → ⊥) → result ≡ Err (FileFault.BadSize offset) }
 {
     if bytes.len() < 4 {
@@ -136,7 +136,7 @@ fn read_record<A: Allocator>(
     Ok(Some((read_body(alloc, offset + 4, body)?, rest)))
 }
 
-// The records from the offset on, up to one that is cut, and the bytes from there.
+// The records from offset `start` on, up to one that is cut, and the bytes from there.
 pub(crate) fn read_records<A: Allocator + Copy>(
     alloc: A,
     start: u64,

@@ -10,13 +10,13 @@ use crate::solution::Solution;
 use byte_output::Buffer;
 use std::alloc::{Allocator, Global};
 
-/// A record of a solution file: what follows the header is records.
+/// A record of a solution file, which is a header followed by records.
 #[derive(Drop)]
 #[derive_where(Debug)]
 pub enum Record<A: Allocator = Global> {
-    /// Nothing, in a record of size 0.
+    /// A record of size 0, which is empty.
     Pad,
-    /// The record of the set of levels: what follows its key, which is all zero.
+    /// The record of the set of levels: the bytes after its key, which is all zero.
     Set { rest: Bytes<A> },
     /// A level that is known and not solved.
     Bare { key: Key },
@@ -25,7 +25,7 @@ pub enum Record<A: Allocator = Global> {
 }
 
 impl<A: Allocator> Record<A> {
-    /// The text up to what may be long.
+    /// The text up to the part that may be long.
     pub(crate) fn head(&self) -> Buffer<20>
         requires { IsRecord (record_of self.now) }
         ensures { result ++ tail_of (record_of self.now) ≡ record_text (record_of self.now) }
@@ -49,7 +49,7 @@ impl<A: Allocator> Record<A> {
         head
     }
 
-    /// What of the text may be long: all after the key of the set, or a solution's moves.
+    /// The part of the text that may be long: all after the key of the set, or a solution's moves.
     pub(crate) fn tail(&self) -> &[u8]
         ensures { result.now ≡ tail_of (record_of self.now) }
     {

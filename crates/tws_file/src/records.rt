@@ -5,7 +5,7 @@ use crate::record::Record;
 use std::alloc::{AllocError, Allocator, Global};
 use std::marker::Model;
 
-/// The records of a file, in their order.
+/// The records of a file, in order.
 #[derive(Drop)]
 #[derive_where(Debug)]
 pub struct Records<A: Allocator = Global> {
@@ -23,14 +23,14 @@ impl<A: Allocator> Model for Records<A> {
 }
 
 impl<A: Allocator> Records<A> {
-    /// The records of a vector, which takes no memory.
+    /// The records of a vector. Does not allocate.
     pub fn of(records: Vec<Record<A>, A>) -> Self
         ensures { result ≡ records_of records.items }
     {
         Records { records }
     }
 
-    /// Adds records after these. On error these stay.
+    /// Appends records. On error nothing changes.
     pub(crate) fn append(&mut self, more: Vec<Record<A>, A>) -> Result<(), AllocError>
         ensures ok { OnOk result (self.new ≡ self.old ++ records_of more.items) }
         ensures err { OnErr result (self.new ≡ self.old) }
@@ -39,28 +39,28 @@ impl<A: Allocator> Records<A> {
         self.records.append(&mut more)
     }
 
-    /// Keeps the first records, so many of them.
+    /// Keeps the first `count` records.
     pub(crate) fn truncate(&mut self, count: usize)
         ensures { self.new ≡ take count self.old }
     {
         self.records.truncate(count);
     }
 
-    /// Lends the records, in their order.
+    /// Borrows the records, in order.
     pub fn as_slice(&self) -> &[Record<A>]
         ensures { records_of result.now ≡ self.now }
     {
         self.records.as_slice()
     }
 
-    /// The vector again, which takes no memory.
+    /// Returns the vector. Does not allocate.
     pub fn into_vec(self) -> Vec<Record<A>, A>
         ensures { records_of result.items ≡ self }
     {
         self.records
     }
 
-    /// How many there are.
+    /// The number of records.
     pub fn len(&self) -> usize
         ensures { result ≡ length self.now }
     {

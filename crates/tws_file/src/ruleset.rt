@@ -4,7 +4,7 @@ ghost use Rattle.tws_file.specs.Names.{file_name_of, kind_named};
 
 use std::fmt;
 
-/// The rules that a file's levels were played by: byte 4 of the file.
+/// The rules under which a file's levels were played: byte 4 of the file.
 #[derive(Clone, Copy, Debug, PartialEq, Eq)]
 pub enum Ruleset {
     /// The rules of the Lynx game.
@@ -14,7 +14,7 @@ pub enum Ruleset {
 }
 
 impl Ruleset {
-    /// The byte of this ruleset.
+    /// The code of this ruleset, which is that byte.
     pub fn code(self) -> u8
         ensures { result ≡ ruleset_code self }
     {
@@ -24,7 +24,7 @@ impl Ruleset {
         }
     }
 
-    /// The ruleset with this byte, if there is one.
+    /// The ruleset with this code, if there is one.
     pub fn from_code(code: u8) -> Option<Self>
         ensures known { IfSome result (λ kind. ruleset_code kind ≡ code) }
         ensures unknown { IfNone result ((code ≢ 1) × (code ≢ 2)) }
@@ -36,7 +36,7 @@ impl Ruleset {
         }
     }
 
-    /// The name by which the collection of this ruleset is fetched and kept, in ASCII.
+    /// The name under which the collection of this ruleset is fetched and kept, in ASCII.
     pub fn file_name(self) -> &'static [u8]
         ensures { result.now ≡ file_name_of self }
     {
@@ -46,7 +46,7 @@ impl Ruleset {
         }
     }
 
-    /// The ruleset whose collection has this name, in exactly these bytes, if there is one.
+    /// The ruleset whose collection has exactly these bytes as its name, if there is one.
     pub fn from_file_name(name: &[u8]) -> Option<Self>
         ensures is { result ≡ kind_named name.now }
         ensures known { IfSome result (λ kind. file_name_of kind ≡ name.now) }
@@ -62,7 +62,7 @@ impl Ruleset {
     }
 }
 
-/// The name of the ruleset, in small letters.
+/// The name of the ruleset, in lower case.
 impl fmt::Display for Ruleset {
     ghost use Rattle.std.specs.Prelude.{Some};
     ghost use Rattle.tws_file.specs.Listing.{ruleset_name};

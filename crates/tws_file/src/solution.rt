@@ -13,18 +13,18 @@ use std::marker::Model;
 
 /// How a level was solved.
 ///
-/// Each value has a text: the key is not the one of the set of levels, the moves are whole, and the body's size fits
-/// four bytes.
+/// Each value has a text: the key is not that of the set of levels, no move is cut, and the body's size fits in four
+/// bytes.
 #[derive(Drop)]
 #[derive_where(Debug)]
 pub struct Solution<A: Allocator = Global> {
     /// The level.
     pub key: Key,
-    /// Bits of Tile World's own, kept as they are.
+    /// Tile World's own bits, kept as they are.
     pub flags: u8,
-    /// Bits 0 to 2 are the initial slide direction, bits 3 to 5 the stepping value. Nothing of it is checked.
+    /// Bits 0 to 2 are the initial slide direction, bits 3 to 5 the stepping value. None of it is checked.
     pub start: u8,
-    /// The seed of the random numbers.
+    /// The random seed.
     pub seed: u32,
     /// The time that the solution takes.
     pub ticks: u32,
@@ -58,15 +58,15 @@ impl<A: Allocator> Solution<A> {
         fields
     }
 
-    /// How many bytes the body has, which the record's size field says.
+    /// The length of the body in bytes, which is what the record's size field holds.
     pub fn body_len(&self) -> u32
         ensures { result ≡ length (body_of (solution self.now)) }
     {
         16 + self.moves.len() as u32
     }
 
-    /// How the body of the record compares with these bytes, of which there are at least 16, byte by byte. The body is
-    /// not made for that.
+    /// Compares the record's body with `bytes`, of which there are at least 16, byte by byte. The body is not built for
+    /// the comparison.
     pub fn cmp_body(&self, bytes: &[u8]) -> Ordering
         requires { 16 ≤ length bytes.now }
         ensures { result ≡ slice_cmp nat_cmp (body_of (solution self.now)) bytes.now }
@@ -78,11 +78,11 @@ impl<A: Allocator> Solution<A> {
         }
     }
 
-    /// The body of the record, which is all after its size field.
+    /// Returns the body of the record: all after its size field.
     ///
     /// # Errors
     ///
-    /// Where an allocation was refused.
+    /// Fails if an allocation was refused.
     pub fn body<B: Allocator>(&self, alloc: B) -> Result<Vec<u8, B>, AllocError>
         ensures { IfOk result (λ body. body.items ≡ body_of (solution self.now)) }
     {

@@ -10,7 +10,7 @@ use std::marker::Model;
 #[derive(Drop)]
 #[derive_where(Debug)]
 pub struct TwsFile<A: Allocator = Global> {
-    /// Byte 4: the rules that all levels of the file were played by.
+    /// Byte 4: the rules under which all levels of the file were played.
     pub ruleset: Ruleset,
     /// Bytes 5 and 6. Tile World keeps the number of the current level there.
     pub word: [u8; 2],

@@ -1,4 +1,4 @@
-//! The text of a file.
+//! Writing the text of a file.
 
 ghost use Rattle.std.specs.Prelude.{◌≡◌, ◌<◌, ◌++◌, length, OnOk, OnErr, IfErr};
 ghost use Rattle.std.specs.List.{flat_map, AllByRecursion};
@@ -62,7 +62,7 @@ fn send_records<B: Allocator, W: Write>(
     Ok(())
 }
 
-// The text of a file of these parts.
+// Writes the text of a file with these parts.
 fn write_parts<B: Allocator, W: Write>(
     kind: Ruleset,
     word: [u8; 2],
@@ -85,11 +85,11 @@ fn write_parts<B: Allocator, W: Write>(
     put(out, buffer.as_slice())
 }
 
-/// Writes the text of a file. It takes no memory, and goes out in large pieces.
+/// Writes the text of a file, in large pieces. Does not allocate.
 ///
 /// # Errors
 ///
-/// `Io` where the writer fails. A proper prefix of the text was written.
+/// `Io` if the writer fails. A proper prefix of the text was written.
 pub fn write_file<B: Allocator, W: Write>(file: &TwsFile<B>, out: &mut W) -> Result<(), OutFault>
     ensures ok { OnOk result (Appends (W.contents out.old) (W.contents out.new) (text_of file.now)) }
     ensures err { OnErr result (AppendsPrefix (W.contents out.old) (W.contents out.new) (text_of file.now)) }
