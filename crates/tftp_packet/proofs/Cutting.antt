@@ -13,7 +13,7 @@ unfolding block_of
 length-block_of file k =
     length-take BLOCK_SIZE (drop (BLOCK_SIZE * (k - 1)) file) ∙ ap (min BLOCK_SIZE) (length-drop (BLOCK_SIZE * (k - 1)) file)
 
--- no block has more bytes
+-- no block has more than BLOCK_SIZE bytes
 pub length-block_of-le : (file : List ℕ) (k : ℕ) → length (block_of file k) ≤ BLOCK_SIZE
 length-block_of-le file k = omega (arith, length-block_of file k)
 
@@ -65,7 +65,7 @@ joined file = joined_first file (block_count file) ∙ take_all (BLOCK_SIZE * bl
 pub numbered : (file : List ℕ) → length file ≤ 33553919 → block_count file < 2 ^ 16
 numbered file fits = omega arith
 
--- ---- a block from a file that lies in one piece
+-- ---- a block from a file in one piece
 
 -- a prefix that is cut where the list ends
 pub take-min : (n : ℕ) (xs : List ℕ) → take (min (length xs) n) xs ≡ take n xs
@@ -82,14 +82,14 @@ unfolding block_of
 block_of-rest file rest k number number-is rest-is =
     ap (take BLOCK_SIZE) rest-is ∙ ap (λ (n : ℕ). take BLOCK_SIZE (drop (BLOCK_SIZE * (n - 1)) file)) number-is
 
--- count bytes of a rest that begins with the block were copied to the start of what was there
+-- `count` bytes of a rest that begins with the block were copied to the start of a buffer
 pub copied_prefix : (file rest out copied : List ℕ) (k count : ℕ) → count ≡ min (length rest) BLOCK_SIZE → copied ≡ take count rest → take BLOCK_SIZE rest ≡ block_of file k → (count ≡ length (block_of file k)) × (take count (copied ++ out) ≡ block_of file k)
 copied_prefix file rest out copied k count count-is copied-is is_block =
     let block = ap (λ n. take n rest) count-is ∙ take-min BLOCK_SIZE rest ∙ is_block in
     let size : count ≡ length (take count rest) = omega (arith, length-take count rest) in
     (size ∙ ap length block, take_at copied out count (ap length copied-is ∙ sym size) ∙ copied-is ∙ block)
 
--- the same of a file that lies in one piece
+-- the same for a file in one piece
 pub copied_block : (file held rest out copied : List ℕ) (k number count : ℕ) → held ≡ file → number ≡ k → rest ≡ take (length held - BLOCK_SIZE * (number - 1)) (drop (BLOCK_SIZE * (number - 1)) held) → count ≡ min (length rest) BLOCK_SIZE → copied ≡ take count rest → (count ≡ length (block_of file k)) × (take count (copied ++ out) ≡ block_of file k)
 copied_block file held rest out copied k number count held-is number-is rest-is count-is copied-is =
     let after = rest-is ∙ take_rest held (BLOCK_SIZE * (number - 1)) ∙ ap (drop (BLOCK_SIZE * (number - 1))) held-is in

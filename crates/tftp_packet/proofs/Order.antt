@@ -1,4 +1,4 @@
--- The fault of bytes is the first one of the order.
+-- The fault of bytes is the first in the order.
 use Rattle.std.proofs.Common.{◌≡◌, ℕ, ◌<◌, ◌≤◌, List, length, arith, inl, inr, ⊎_elim}
 use Rattle.std.proofs.lemmas.Bool.{cases_lt}
 use Rattle.byteorder.specs.Endian.{big_number}
@@ -9,7 +9,7 @@ use Rattle.tftp_packet.specs.Fault.{HasSize, HasFault, Fails, place_of, IsFirstF
 
 -- ---- a fault is the first
 
--- what the places say of the bytes' length and of their opcode
+-- what the place of a fault says about the bytes' length and opcode
 sized : (bytes : List ℕ) (e : PacketFault) → 2 < place_of e → HasFault bytes e → HasSize bytes
 sized bytes Short later fault = absurd (omega arith)
 sized bytes TooLong later fault = absurd (omega arith)
@@ -26,7 +26,7 @@ long bytes BadRequest later fault = fault.1.0
 long bytes BadBlock later fault = fault.1.0
 long bytes BadError later fault = fault.1.0
 
--- the opcodes of the faults that are looked for from the fourth place on
+-- the opcodes for the faults that are checked from the fourth place on
 opcode_place : (bytes : List ℕ) (e : PacketFault) → 3 < place_of e → Fails bytes e → (1 ≤ big_number 2 bytes) × (big_number 2 bytes ≤ 5) × (4 < place_of e → 3 ≤ big_number 2 bytes) × (5 < place_of e → big_number 2 bytes ≡ 5)
 opcode_place bytes Short later e = absurd (omega arith)
 opcode_place bytes TooLong later e = absurd (omega arith)

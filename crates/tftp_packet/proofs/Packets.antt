@@ -29,7 +29,7 @@ decode_bytes-fault bytes BadError fault = grind (arith, nat_tests)
 
 -- ---- the bytes of a packet
 
--- a number of two bytes, and what follows it
+-- a number in two bytes, and what follows it
 after_number : (n : ℕ) (rest : List ℕ) → n < 2 ^ 16 → big_number 2 (big_bytes 2 n ++ rest) ≡ n
 after_number n rest fits = big_number-reads_back 2 n rest fits
 
@@ -62,7 +62,7 @@ data_of-block block body fits =
     cond-false _ _ _ (le-ltb _ _ long)
     ∙ ap (λ (n : ℕ). Ok (data_block n body)) (after_number block body fits)
 
--- the packet that bytes are is the one that they are decoded as
+-- bytes that are a packet are decoded as that packet
 pub decode_bytes-packet : (p : Packet) (bytes : List ℕ) → IsPacket p bytes → decode_bytes bytes ≡ Ok p
 decode_bytes-packet (read name mode) bytes packet =
     let form = packet.form in
@@ -251,6 +251,6 @@ pub IsPacket-encode : (p : Packet) → HasFields p → packet_size p ≤ MAX_DAT
 IsPacket-encode p fields size =
     record { fields = fields; size = omega (arith, length-encode p); form = encode-form p }
 
--- decode of what encode gives is the packet
+-- an encoded packet is decoded as itself
 pub decode_bytes-encode : (p : Packet) → HasFields p → packet_size p ≤ MAX_DATAGRAM → decode_bytes (encode p) ≡ Ok p
 decode_bytes-encode p fields size = decode_bytes-packet p (encode p) (IsPacket-encode p fields size)

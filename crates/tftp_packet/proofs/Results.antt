@@ -1,4 +1,4 @@
--- What decode answers, from the function that its answer is.
+-- What `decode` returns, from the function that its result is.
 use Rattle.std.proofs.Common.{◌≡◌, ℕ, List, sym, ◌∙◌, ap, Result, Ok, Err, IfOk, IfErr}
 use Rattle.std.specs.Result.{IsOkAnd}
 use Rattle.tftp_packet.specs.declared.packet.Packet as borrowed

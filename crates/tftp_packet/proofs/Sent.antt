@@ -1,4 +1,4 @@
--- What is decoded of any bytes, and of the ERROR packets that are sent.
+-- Decoding any bytes, and the ERROR packets that are sent.
 use Rattle.std.proofs.Common.{◌≡◌, ℕ, ◌+◌, ◌≤◌, Bool, true, false, ◌==◌, nat_lt, cond, List, length, drop, Result, Ok, Err, IfOk, refl, subst, arith, length-drop}
 use Rattle.std.proofs.lemmas.Bool.{ltb-false}
 use Rattle.byteorder.specs.Endian.{big_number}
@@ -21,7 +21,7 @@ HasShortBody (data_block n body) = length body ≤ BLOCK_SIZE
 HasShortBody (ack n) = Unit {0}
 HasShortBody (error code text) = Unit {0}
 
--- an answer whose body, if it has one, is short
+-- a result whose body, if it has one, is short
 record IsShort (answer : Result Packet PacketFault) : Type 0 where
   short : IfOk answer HasShortBody
 

@@ -17,7 +17,7 @@ zero_count-suc : (n : ℕ) (xs : List ℕ) → zero_count (suc n ∷ xs) ≡ zer
 zero_count-suc n xs =
     sum_by-cons (λ x. cond (is_zero x) 1 0) (suc n) xs ∙ ap (λ b. cond b 1 0 + zero_count xs) (is_zero-suc n) ∙ omega arith
 
--- the zero bytes of a text, of its end, and of what follows
+-- the zero bytes of a text, of the byte that ends it, and of what follows
 pub zero_count-ended : (text rest : List ℕ) → zero_count (text ++ 0 ∷ rest) ≡ zero_count text + (zero_count rest + 1)
 zero_count-ended text rest =
     omega (arith, sum_by-append (λ x. cond (is_zero x) 1 0) text (0 ∷ rest), zero_count-zero rest)
@@ -63,7 +63,7 @@ zero_cases (suc n ∷ bytes) =
 
 -- ---- where it is
 
--- the zero byte of a text's end is found
+-- the zero byte that ends a text is found
 ended_position : (bytes : List ℕ) → IsEnded bytes → position_or_len is_zero bytes < length bytes
 ended_position bytes e =
     rw e.split (omega (arith, first_zero-ended e.text e.rest e.none, length-append e.text (0 ∷ e.rest)))

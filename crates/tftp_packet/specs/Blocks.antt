@@ -1,5 +1,5 @@
--- How a file is cut into blocks, RFC 1350 sections 2 and 6: BLOCK_SIZE bytes each but for the last, which has fewer. They are
--- counted from 1. The last block of a file whose length is a multiple of BLOCK_SIZE is empty.
+-- How a file is cut into blocks (RFC 1350 sections 2 and 6): BLOCK_SIZE bytes each, except the last, which has fewer.
+-- They are counted from 1. The last block of a file whose length is a multiple of BLOCK_SIZE is empty.
 use Rattle.std.specs.Prelude.{ℕ, zero, suc, ◌+◌, ◌-◌, ◌*◌, ◌/◌, List, [], ◌∷◌, ◌++◌, length, take, drop}
 use Rattle.tftp_packet.specs.declared.sizes.TheConstants.{BLOCK_SIZE}
 

@@ -7,14 +7,14 @@ use Rattle.tftp_packet.specs.declared.packet_fault.PacketFault.{PacketFault}
 use Rattle.tftp_packet.specs.declared.packet_fault.PacketFault.TheVariants.{Short, TooLong, BadOpcode, BadRequest, BadBlock, BadError}
 use Rattle.tftp_packet.specs.Packet.{Packet, read, write, data_block, ack, error, is_zero, zero_count}
 
--- up to the first zero byte, and after it
+-- the bytes before the first zero byte, and those after it
 abbrev pub before_zero : List ℕ → List ℕ
 before_zero bytes = before_first is_zero bytes
 
 abbrev pub after_zero : List ℕ → List ℕ
 after_zero bytes = after_first is_zero bytes
 
--- what follows the opcode: of a request, a DATA, an ACK, an ERROR
+-- from what follows the opcode of a request, a DATA, an ACK, an ERROR
 abbrev pub request_of : (List ℕ → List ℕ → Packet) → List ℕ → Result Packet PacketFault
 request_of make rest = if nat_lt (zero_count rest) 2 then Err BadRequest else Ok (make (before_zero rest) (before_zero (after_zero rest)))
 

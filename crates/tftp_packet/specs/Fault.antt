@@ -1,4 +1,4 @@
--- Which fault bytes have that are no packet. docs/FORMATS.md has the same as a table.
+-- The fault of bytes that are not a packet. docs/FORMATS.md has the same as a table.
 use Rattle.std.specs.Prelude.{◌≡◌, ◌≢◌, ◌⊎◌, ℕ, ◌<◌, ◌≤◌, List, length, drop}
 use Rattle.byteorder.specs.Endian.{big_number}
 use Rattle.tftp_packet.specs.declared.sizes.TheConstants.{MAX_DATAGRAM}
@@ -6,29 +6,29 @@ use Rattle.tftp_packet.specs.declared.packet_fault.PacketFault.{PacketFault}
 use Rattle.tftp_packet.specs.declared.packet_fault.PacketFault.TheVariants.{Short, TooLong, BadOpcode, BadRequest, BadBlock, BadError}
 use Rattle.tftp_packet.specs.Packet.{zero_count, HasNoZero}
 
--- no packet begins so
+-- no packet begins with this opcode
 abbrev pub IsUnknown : ℕ → Type 0
 IsUnknown opcode = (opcode < 1) ⊎ (5 < opcode)
 
--- fewer than two zero bytes after the opcode: the name or the mode has no end
+-- fewer than two zero bytes after the opcode: the name or the mode is not terminated
 abbrev pub IsCutRequest : List ℕ → Type 0
 IsCutRequest bytes = zero_count (drop 2 bytes) < 2
 
--- what each fault says of the bytes, whatever else is wrong with them
+-- what each fault says about the bytes, whatever else is wrong with them
 abbrev pub Fails : List ℕ → PacketFault → Type 0
 Fails bytes Short = length bytes < 2
 Fails bytes TooLong = MAX_DATAGRAM < length bytes
 Fails bytes BadOpcode = IsUnknown (big_number 2 bytes)
 Fails bytes BadRequest = ((big_number 2 bytes ≡ 1) ⊎ (big_number 2 bytes ≡ 2)) × IsCutRequest bytes
--- a DATA without its block's number, or an ACK that is not just that
+-- a DATA without its block number, or an ACK that is not exactly one
 Fails bytes BadBlock = ((big_number 2 bytes ≡ 3) × (length bytes < 4)) ⊎ ((big_number 2 bytes ≡ 4) × (length bytes ≢ 4))
 Fails bytes BadError = (big_number 2 bytes ≡ 5) × HasNoZero (drop 4 bytes)
 
--- an opcode can be read, and the bytes fit a datagram
+-- an opcode can be read, and the bytes fit in a datagram
 abbrev pub HasSize : List ℕ → Type 0
 HasSize bytes = (2 ≤ length bytes) × (length bytes ≤ MAX_DATAGRAM)
 
--- the other faults are looked for only in bytes of such a length
+-- the other faults are checked only for bytes of this size
 abbrev pub IsLookedFor : List ℕ → PacketFault → Type 0
 IsLookedFor bytes Short = Unit {0}
 IsLookedFor bytes TooLong = Unit {0}
@@ -42,7 +42,7 @@ HasFault bytes fault = Fails bytes fault × IsLookedFor bytes fault
 
 -- ---- the order of the faults
 
--- the order in which they are looked for
+-- the order of the checks
 abbrev pub place_of : PacketFault → ℕ
 place_of Short = 1
 place_of TooLong = 2
@@ -51,7 +51,7 @@ place_of BadRequest = 4
 place_of BadBlock = 5
 place_of BadError = 6
 
--- the bytes fail so, and in no way that is looked for before
+-- the bytes fail this check, and no earlier one
 pub record IsFirstFault (bytes : List ℕ) (fault : PacketFault) : Type 0 where
   pub fails : Fails bytes fault
   pub first : (earlier : PacketFault) → place_of earlier < place_of fault → Fails bytes earlier → ⊥

@@ -1,5 +1,5 @@
--- What a TFTP datagram is: the five packets, and the bytes that are each. RFC 1350 section 5; docs/FORMATS.md has it as
--- tables. Every number is big-endian.
+-- What a TFTP datagram is: the five packets, and the bytes of each (RFC 1350 section 5). docs/FORMATS.md has the same
+-- as tables. Every number is big-endian.
 use Rattle.std.specs.Prelude.{◌≡◌, ℕ, ◌+◌, ◌<◌, ◌≤◌, ◌^◌, Bool, ◌==◌, List, [], ◌∷◌, ◌++◌, length, map, count_by, codes}
 use Rattle.std.specs.Str.{bytes_eq}
 use Rattle.std.specs.Char.{to_ascii_lowercase}
@@ -11,9 +11,9 @@ pub data Packet : Type 0 where
   read : (name mode : List ℕ) → Packet
   -- a request to write a file, WRQ
   write : (name mode : List ℕ) → Packet
-  -- a block of a file by its number, DATA
+  -- a block of a file with its number, DATA
   data_block : (block : ℕ) (body : List ℕ) → Packet
-  -- that a block has come, ACK
+  -- acknowledges a block, ACK
   ack : (block : ℕ) → Packet
   error : (code : ℕ) (text : List ℕ) → Packet
 
@@ -25,15 +25,15 @@ is_zero b = b == 0
 abbrev pub zero_count : List ℕ → ℕ
 zero_count bytes = count_by is_zero bytes
 
--- of a name, a mode and a text: a zero byte ends it
+-- for a name, a mode and a text, which a zero byte ends
 abbrev pub HasNoZero : List ℕ → Type 0
 HasNoZero text = zero_count text ≡ 0
 
--- the mode in which a file's bytes go as they are
+-- the mode in which a file's bytes are transferred unchanged
 abbrev pub octet : List ℕ
 octet = codes "octet"
 
--- these five letters, each small or capital
+-- these five letters, each in lower case or upper case
 abbrev pub IsOctet : List ℕ → Type 0
 IsOctet mode = map to_ascii_lowercase mode ≡ octet
 
@@ -55,7 +55,7 @@ ack_bytes block = big_bytes 2 4 ++ big_bytes 2 block
 abbrev pub error_bytes : (code : ℕ) (text rest : List ℕ) → List ℕ
 error_bytes code text rest = big_bytes 2 5 ++ (big_bytes 2 code ++ (text ++ 0 ∷ rest))
 
--- What follows a request's mode, as the options of RFC 2347, or an ERROR's text, is any bytes.
+-- Any bytes may follow a request's mode, such as the options of RFC 2347, or an ERROR's text.
 abbrev pub HasForm : Packet → List ℕ → Type 0
 HasForm (read name mode) bytes = (rest : List ℕ) × (bytes ≡ request_bytes 1 name mode rest)
 HasForm (write name mode) bytes = (rest : List ℕ) × (bytes ≡ request_bytes 2 name mode rest)

@@ -1,4 +1,5 @@
--- The ERROR packets that this product sends: RFC 1350 section 5 has the codes, and the words are this product's own.
+-- The ERROR packets that this server and its clients send: the codes are those of RFC 1350 section 5, the messages
+-- their own.
 use Rattle.std.specs.Prelude.{ℕ, List, codes}
 use Rattle.tftp_packet.specs.declared.refusal.Refusal.{Refusal}
 use Rattle.tftp_packet.specs.declared.refusal.Refusal.TheVariants.{OctetOnly, NoSuchFile, ServerBusy, CollectionTooLong, OutOfMemory, FileTooLong, UnknownTransfer, NotKept}

@@ -1,4 +1,4 @@
--- A packet as contracts see it, without where it lies in memory.
+-- A packet as contracts see it, without its layout in memory.
 use Rattle.std.specs.Prelude.{Result, Ok, Err}
 use Rattle.tftp_packet.specs.declared.packet.Packet as borrowed
 use Rattle.tftp_packet.specs.declared.packet.Packet.TheVariants.{Read, Write, Data, Ack, Error}
@@ -12,7 +12,7 @@ packet_of (Data block body) = data_block block body.now
 packet_of (Ack block) = ack block
 packet_of (Error code text) = error code text.now
 
--- an answer of decode
+-- a result of `decode`
 abbrev pub decoded_of : Result borrowed.Packet PacketFault → Result Packet PacketFault
 decoded_of (Ok p) = Ok (packet_of p)
 decoded_of (Err e) = Err e

@@ -3,20 +3,20 @@ ghost use Rattle.tftp_packet.specs.Blocks.{block_of, block_count};
 
 use crate::sizes::BLOCK_SIZE;
 
-/// A file that can be sent in blocks, RFC 1350 sections 2 and 6: all blocks but the last have `BLOCK_SIZE` bytes, and
-/// the last has fewer. So a file whose length is a multiple of that ends with an empty block. No call of this trait takes
-/// memory or changes the file.
+/// A file that can be sent in blocks (RFC 1350 sections 2 and 6): every block but the last has `BLOCK_SIZE` bytes, and
+/// the last has fewer. So a file whose length is a multiple of `BLOCK_SIZE` ends with an empty block. No call of this
+/// trait allocates or changes the file.
 pub trait Blocks {
     /// The bytes of the file.
     ghost file: { Self → List ℕ };
 
-    /// How many bytes the file has. It has one block more than there are full blocks in it.
+    /// The length of the file in bytes. The file has one block more than it has full blocks.
     fn file_len(&self) -> u64
         ensures { result ≡ length (file self.now) };
 
-    /// Puts the bytes of block `k` at the start of `out`, and returns how many they are: `BLOCK_SIZE`, or fewer in the
-    /// last block. Blocks are counted from 1, and `k` is at most the number of blocks. What `out` holds after these bytes
-    /// is left open.
+    /// Writes the bytes of block `k` to the start of `out`, and returns how many they are: `BLOCK_SIZE`, or fewer in
+    /// the last block. Blocks are counted from 1, and `k` is at most the number of blocks. The contents of `out` after
+    /// these bytes are unspecified.
     fn block(&self, k: u16, out: &mut [u8; BLOCK_SIZE]) -> usize
         requires first { 1 ≤ k }
         requires last { k ≤ block_count (file self.now) }

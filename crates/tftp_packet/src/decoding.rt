@@ -1,4 +1,4 @@
-//! How packets are read.
+//! Decoding packets.
 
 ghost use Rattle.std.specs.Prelude.{◌≡◌, ◌+◌, ◌<◌, ◌≤◌, IfOk, IfErr, IfSome, IfNone, IsOkAnd, Err, position, drop, length};
 ghost use Rattle.byteorder.specs.Endian.{big_number};
@@ -14,14 +14,14 @@ use crate::packet_fault::PacketFault;
 use crate::sizes::MAX_DATAGRAM;
 use byteorder::{BigEndian, ByteOrder};
 
-// Where the first zero byte is.
+// The position of the first zero byte.
 fn first_zero(bytes: &[u8]) -> Option<usize>
     ensures { result ≡ position is_zero bytes.now }
 {
     bytes.iter().position(|b| *b == 0)
 }
 
-// What precedes the first zero byte, and what follows it.
+// The bytes before the first zero byte, and those after it.
 #[tactic(auto, using(crate::proofs::Zeros::no_position, crate::proofs::Zeros::some_position))]
 fn split_zero(bytes: &[u8]) -> Option<(&[u8], &[u8])>
     ensures before { IfSome result (λ p. p.0.now ≡ before_zero bytes.now) }
@@ -33,7 +33,7 @@ fn split_zero(bytes: &[u8]) -> Option<(&[u8], &[u8])>
     Some((&bytes[..end], &bytes[end + 1..]))
 }
 
-// The name and the mode of a request, from what follows its opcode.
+// The name and the mode of a request, from the bytes after its opcode.
 fn read_request(rest: &[u8]) -> Result<(&[u8], &[u8]), PacketFault>
     ensures whole { IfOk result (λ r. 2 ≤ zero_count rest.now) }
     ensures name { IfOk result (λ r. r.0.now ≡ before_zero rest.now) }
@@ -116,22 +116,23 @@ fn read_packet(bytes: &[u8]) -> Result<Packet<'_>, PacketFault>
     }
 }
 
-/// The packet that a datagram is, RFC 1350 section 5. Its texts and its body are slices of the datagram, in place. What
-/// follows a request's mode, as the options of RFC 2347, or an ERROR's text, is any bytes and is not read.
+/// Decodes a datagram as a packet (RFC 1350 section 5). The packet's texts and body are slices of the datagram, in
+/// place. Any bytes may follow a request's mode, such as the options of RFC 2347, or an ERROR's text; they are not
+/// read.
 ///
 /// # Errors
 ///
-/// The first fault of the datagram, in the order of `PacketFault`. Bytes are a packet or have a fault, and never both.
+/// The first fault of the datagram, in the order of `PacketFault`. Bytes are a packet or have a fault, never both.
 pub fn decode(bytes: &[u8]) -> Result<Packet<'_>, PacketFault>
-    // What is decoded is the packet that the bytes are.
+    // The decoded packet is the one that the bytes are.
     ensures packet { IfOk result (λ p. IsPacket (packet_of p) bytes.now) }
-    // Bytes of a packet are decoded as it.
+    // Bytes that are a packet are decoded as that packet.
     ensures accepts { (p : Plain) → IsPacket p bytes.now → IsOkAnd result (λ q. packet_of q ≡ p) }
-    // A fault is the one that the bytes have.
+    // A fault that is returned is that of the bytes.
     ensures fault { IfErr result (HasFault bytes.now) }
-    // Bytes with a fault are refused with it.
+    // Bytes with a fault are refused with that fault.
     ensures refuses { (e : fault.PacketFault) → HasFault bytes.now e → result ≡ Err e }
-    // All this as a function of the bytes.
+    // The same as a function of the bytes.
     ensures function { decoded_of result ≡ decode_bytes bytes.now }
 {
     read_packet(bytes)

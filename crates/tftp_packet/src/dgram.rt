@@ -8,8 +8,8 @@ use byteorder::{BigEndian, ByteOrder};
 use std::alloc::AllocError;
 use std::marker::Model;
 
-/// The bytes of a datagram, at most `MAX_DATAGRAM` of them: a list, which only the `encode` functions make. It lies in a fixed
-/// buffer and takes no memory.
+/// The bytes of a datagram, at most `MAX_DATAGRAM` of them: a list, which only the `encode` functions make. Held in a
+/// fixed buffer, without allocating.
 #[derive(Debug, Drop)]
 pub struct Dgram {
     buffer: [u8; MAX_DATAGRAM],
@@ -28,7 +28,7 @@ impl Model for Dgram {
     ghost invariant = { λ d. d.len ≤ MAX_DATAGRAM };
 }
 
-// Puts block `k` of a file after the first four bytes, and returns how many bytes it has.
+// Writes block `k` of a file after the first four bytes, and returns how many bytes the block has.
 fn put_block<B: Blocks>(buffer: &mut [u8; MAX_DATAGRAM], blocks: &B, k: u16) -> usize
     requires first { 1 ≤ k }
     requires last { k ≤ block_count (B.file blocks.now) }
@@ -54,7 +54,7 @@ impl Dgram {
         dgram
     }
 
-    /// Adds bytes at the end.
+    /// Appends bytes.
     pub(crate) fn push_bytes(&mut self, bytes: &[u8])
         requires { length self.old + length bytes.now ≤ MAX_DATAGRAM }
         ensures { self.new ≡ self.old ++ bytes.now }
@@ -64,7 +64,7 @@ impl Dgram {
         self.len = end;
     }
 
-    /// Adds a number of two bytes at the end.
+    /// Appends a number in two bytes.
     pub(crate) fn push_number(&mut self, number: u16)
         requires { length self.old + 2 ≤ MAX_DATAGRAM }
         ensures { self.new ≡ self.old ++ big_bytes 2 number }
@@ -74,7 +74,7 @@ impl Dgram {
         self.push_bytes(&bytes);
     }
 
-    /// Adds a text at the end, and the zero byte that ends it.
+    /// Appends a text and the zero byte that ends it.
     pub(crate) fn push_text(&mut self, text: &[u8])
         requires { length self.old + length text.now + 1 ≤ MAX_DATAGRAM }
         ensures { self.new ≡ self.old ++ (text.now ++ 0 ∷ []) }
@@ -83,7 +83,7 @@ impl Dgram {
         self.push_bytes(&[0]);
     }
 
-    /// Adds block `k` of a file after the opcode and the number. The file puts it there itself.
+    /// Appends block `k` of a file after the opcode and the block number. The file writes it there itself.
     pub(crate) fn push_block<B: Blocks>(&mut self, blocks: &B, k: u16)
         requires header { length self.old ≡ 4 }
         requires first { 1 ≤ k }
@@ -93,7 +93,7 @@ impl Dgram {
         self.len = 4 + put_block(&mut self.buffer, blocks, k);
     }
 
-    /// The bytes, in their order.
+    /// The bytes, in order.
     pub fn bytes(&self) -> &[u8]
         ensures list { result.now ≡ self.now }
         ensures size { length self.now ≤ MAX_DATAGRAM }
@@ -102,7 +102,7 @@ impl Dgram {
     }
 }
 
-// A copy takes no memory, so it never fails.
+// A copy does not allocate, so it never fails.
 impl Clone for Dgram {
     ghost is_clone = { λ x y. y ≡ x };
 

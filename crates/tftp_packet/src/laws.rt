@@ -1,5 +1,5 @@
-//! What holds of every datagram and of every file in blocks, whoever sends. These functions do nothing: each contract
-//! is a theorem.
+//! What holds of every datagram and of every file in blocks, whatever code sends them. These functions do nothing: each
+//! contract is a theorem.
 
 ghost use Rattle.std.specs.Prelude.{◌≡◌, ◌⊎◌, ◌↔◌, ℕ, ◌+◌, ◌^◌, ◌<◌, ◌≤◌, List, ◌++◌, length, Ok, Err};
 ghost use Rattle.std.specs.List.{concat};
@@ -24,7 +24,7 @@ pub fn one_fault()
     ensures { (bytes : List ℕ) (d e : fault.PacketFault) → HasFault bytes d → HasFault bytes e → d ≡ e }
 {}
 
-/// The fault of bytes is the first, in the order of `PacketFault`, of all the ways in which they fail.
+/// The fault of bytes is the first, in the order of `PacketFault`, of all the checks that they fail.
 pub fn first_fault()
     ensures { (bytes : List ℕ) (e : fault.PacketFault) → HasFault bytes e ↔ IsFirstFault bytes e }
 {}
@@ -40,7 +40,7 @@ pub fn packet_or_fault()
         ((p : Packet) × IsPacket p bytes) ⊎ ((e : fault.PacketFault) × HasFault bytes e) }
 {}
 
-/// The function that decodes answers the packet that bytes are, or the fault that they have.
+/// The decoding function returns the packet that bytes are, or the fault that they have.
 pub fn function_and_relations()
     ensures packet { (bytes : List ℕ) (p : Packet) → IsBytes bytes →
         ((decode_bytes bytes ≡ Ok p) ↔ IsPacket p bytes) }
@@ -48,35 +48,35 @@ pub fn function_and_relations()
         ((decode_bytes bytes ≡ Err e) ↔ HasFault bytes e) }
 {}
 
-/// What is sent of a packet that fits a datagram is that packet, and is decoded as it.
+/// The bytes sent for a packet that fits in a datagram are that packet, and are decoded as it.
 pub fn sent_packet()
     ensures packet { (p : Packet) → HasFields p → packet_size p ≤ MAX_DATAGRAM → IsPacket p (encode p) }
     ensures decoded { (p : Packet) → HasFields p → packet_size p ≤ MAX_DATAGRAM → decode_bytes (encode p) ≡ Ok p }
     ensures size { (p : Packet) → length (encode p) ≡ packet_size p }
 {}
 
-/// A DATA has at most a block of bytes, whatever numbers are decoded.
+/// A decoded DATA has at most a block of bytes, whatever numbers are decoded.
 pub fn data_size()
     ensures { (bytes : List ℕ) (n : ℕ) (body : List ℕ) → decode_bytes bytes ≡ Ok (data_block n body) → length body ≤ BLOCK_SIZE }
 {}
 
-/// Each ERROR that this product sends is decoded as it.
+/// Each ERROR that this server and its clients send is decoded as itself.
 pub fn sent_refusal()
     ensures { (refusal : Refused) → decode_bytes (encode (refusal_packet refusal)) ≡ Ok (refusal_packet refusal) }
 {}
 
-/// The sizes as numbers. The definitions name them.
+/// The values of the sizes, which the definitions use by name.
 pub fn size_values()
     ensures block { BLOCK_SIZE ≡ 512 }
     ensures datagram { MAX_DATAGRAM ≡ 516 }
 {}
 
-/// The first blocks of a file and the next one are the first blocks, one more of them.
+/// The first `r` blocks of a file and the next one are the first `r + 1` blocks.
 pub fn next_block()
     ensures { (file : List ℕ) (r : ℕ) → first_blocks file r ++ block_of file (r + 1) ≡ first_blocks file (r + 1) }
 {}
 
-/// Blocks 1 to the last but one have `BLOCK_SIZE` bytes, and the last has fewer.
+/// Every block but the last has `BLOCK_SIZE` bytes, and the last has fewer.
 pub fn block_sizes()
     ensures full { (file : List ℕ) (k : ℕ) → 1 ≤ k → ((length (block_of file k) ≡ BLOCK_SIZE) ↔ (k < block_count file)) }
     ensures short { (file : List ℕ) (k : ℕ) → 1 ≤ k → ((length (block_of file k) < BLOCK_SIZE) ↔ (block_count file ≤ k)) }
@@ -88,8 +88,8 @@ pub fn file_end()
     ensures { (file : List ℕ) (k : ℕ) → 1 ≤ k → length (block_of file k) < BLOCK_SIZE → first_blocks file k ≡ file }
 {}
 
-/// Blocks 1 to r joined are the first r times `BLOCK_SIZE` bytes of the file, and all blocks joined are the file. The blocks
-/// of a file of at most 33,553,919 bytes have numbers of two bytes.
+/// Blocks 1 to `r` joined are the first `r * BLOCK_SIZE` bytes of the file, and all blocks joined are the file. The
+/// block numbers of a file of at most 33,553,919 bytes fit in two bytes.
 pub fn joined_blocks()
     ensures first { (file : List ℕ) (r : ℕ) → concat (blocks_to file r) ≡ first_blocks file r }
     ensures joined { (file : List ℕ) → concat (blocks_of file) ≡ file }

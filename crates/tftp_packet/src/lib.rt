@@ -1,13 +1,13 @@
-//! TFTP: what a datagram is, exactly, and how a file is cut into blocks. The protocol is that of RFC 1350; what follows
-//! a request's mode, as the options of RFC 2347, is not read. Nothing here takes memory.
+//! TFTP: exactly what a datagram is, and how a file is cut into blocks. The protocol is that of RFC 1350; what follows
+//! a request's mode, such as the options of RFC 2347, is not read. Nothing here allocates.
 //!
-//! `specs/Packet.antt` is the file to read first: the packets, and the bytes that are each. `specs/Blocks.antt` has the
+//! Read `specs/Packet.antt` first: it defines the packets, and the bytes of each. `specs/Blocks.antt` defines the
 //! blocks of a file. `laws` has what holds of every datagram and every file.
 //!
-//! How it is called:
+//! An example of a caller:
 //!
 //! ```text
-//! // The ACK of a DATA; nothing for any other datagram.
+//! // The ACK for a DATA; `None` for any other datagram.
 //! fn acknowledge(datagram: &[u8]) -> Option<Dgram> {
 //!     match decode(datagram) {
 //!         Ok(Packet::Data { block, .. }) => Some(encode_ack(block)),

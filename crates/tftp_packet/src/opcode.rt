@@ -1,4 +1,4 @@
-//! The number that each packet begins with: RFC 1350 section 5.
+//! The opcodes, which packets begin with (RFC 1350 section 5).
 
 pub(crate) const READ: u16 = 1;
 

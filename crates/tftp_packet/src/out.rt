@@ -4,18 +4,18 @@ use crate::dgram::Dgram;
 use crate::endpoint::Endpoint;
 use std::alloc::AllocError;
 
-/// A datagram that is to be sent.
+/// A datagram to be sent.
 #[derive(Debug, Drop)]
 pub struct Out {
-    /// The port of our own host that it goes out from.
+    /// The port of this host that it is sent from.
     pub from_port: u16,
-    /// The endpoint that it goes to.
+    /// The endpoint that it is sent to.
     pub to: Endpoint,
     /// Its bytes.
     pub dgram: Dgram,
 }
 
-// A copy takes no memory, so it never fails.
+// A copy does not allocate, so it never fails.
 impl Clone for Out {
     ghost is_clone = { λ x y. y ≡ x };
 

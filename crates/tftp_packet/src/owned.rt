@@ -5,7 +5,7 @@ use crate::sizes::BLOCK_SIZE;
 use std::alloc::{Allocator, Global};
 use std::marker::Model;
 
-/// A file that lies in a vector, seen as the list of its bytes.
+/// A file in a vector, seen as the list of its bytes.
 #[derive(Drop)]
 #[derive_where(Debug)]
 pub struct Owned<A: Allocator = Global>(Vec<u8, A>);
@@ -19,21 +19,21 @@ impl<A: Allocator> Model for Owned<A> {
 }
 
 impl<A: Allocator> Owned<A> {
-    /// The bytes of a vector as a file. This takes no memory.
+    /// The bytes of a vector as a file. Does not allocate.
     pub fn of(bytes: Vec<u8, A>) -> Self
         ensures { result ≡ bytes.items }
     {
         Owned(bytes)
     }
 
-    /// Lends the bytes, in their order.
+    /// Borrows the bytes, in order.
     pub fn as_slice(&self) -> &[u8]
         ensures { result.now ≡ self.now }
     {
         self.0.as_slice()
     }
 
-    /// Gives the vector back. This takes no memory.
+    /// Returns the vector. Does not allocate.
     pub fn into_vec(self) -> Vec<u8, A>
         ensures { result.items ≡ self }
     {

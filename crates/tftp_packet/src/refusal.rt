@@ -5,8 +5,8 @@ ghost use Rattle.tftp_packet.specs.Refusal.{refusal_code, refusal_text, refusal_
 use crate::dgram::Dgram;
 use crate::encoding::encode_error;
 
-/// The errors that this product sends, each with its code, of RFC 1350 section 5, and its words. All who send and read
-/// them take them from here.
+/// The errors that this server and its clients send, each with its code (RFC 1350 section 5) and message. All code that
+/// sends or reads them takes them from here.
 #[derive(Clone, Copy, Debug, PartialEq, Eq)]
 pub enum Refusal {
     /// A request in a mode other than octet.
@@ -15,9 +15,9 @@ pub enum Refusal {
     NoSuchFile,
     /// A request while no more transfers can be opened.
     ServerBusy,
-    /// A request to read a collection that has more bytes than blocks can number.
+    /// A request to read a collection with more blocks than can be numbered.
     CollectionTooLong,
-    /// Memory ran out, at a request or at a block.
+    /// Out of memory, at a request or at a block.
     OutOfMemory,
     /// A block past the last one that a file can have.
     FileTooLong,
@@ -44,7 +44,7 @@ impl Refusal {
         }
     }
 
-    /// The words for people, without a zero byte.
+    /// The human-readable message, without a zero byte.
     pub fn text(self) -> &'static [u8]
         ensures { result.now ≡ refusal_text self }
     {
@@ -60,7 +60,7 @@ impl Refusal {
         }
     }
 
-    /// The ERROR that says so, with this code and these words, and nothing after them.
+    /// The ERROR with this code and message, and nothing after them.
     pub fn dgram(self) -> Dgram
         ensures bytes { result ≡ encode (refusal_packet self) }
         ensures packet { IsPacket (refusal_packet self) result }
