@@ -11,7 +11,7 @@ use Rattle.tws_best.specs.Steps.{IsHeld}
 use Rattle.tws_best.proofs.Orders.{rank_tie, rank_itself, no_better}
 use Rattle.tws_best.proofs.Rising.{one_entry, same_entries}
 
--- two bodies of which none is better are one
+-- two bodies of which neither is better are equal
 even_by : (a b : List ℕ) (r : Ordering) → r ≡ rank_cmp (rank_of a) (rank_of b) → (IsBelow (rank_of a) (rank_of b) → ⊥) → (IsBelow (rank_of b) (rank_of a) → ⊥) → a ≡ b
 even_by a b Less is up down = absurd (up (sym is))
 even_by a b Equal is up down = rank_tie a b (sym is)
@@ -31,20 +31,20 @@ pub one_best : (IsMember : Entry → Type 0) (e f : Entry) → IsBest IsMember e
 one_best IsMember e f best_e best_f same =
     entry_is e f same (even e.body f.body (best_f.least e best_e.member same) (best_e.least f best_f.member (sym same)))
 
--- what is best of a set is in the map, and nothing else
+-- what is best of a set is in its collection
 pub best_present : (IsMember : Entry → Type 0) (es : List Entry) (e : Entry) → IsBestOf IsMember es → IsBest IsMember e → Contains es e
 best_present IsMember es e of best =
     let of_key = of.every e best.member in
     subst (Contains es) (one_best IsMember of_key.entry e (of.best of_key.entry of_key.present) best of_key.key_is) of_key.present
 
--- the map of a set is one
+-- a set has only one collection of the best
 pub one_map : (IsMember : Entry → Type 0) (ds es : List Entry) → IsBestOf IsMember ds → IsBestOf IsMember es → ds ≡ es
 one_map IsMember ds es of_d of_e =
     same_entries ds es of_d.rising of_e.rising (λ f has. best_present IsMember es f of_e (of_d.best f has)) (λ f has. best_present IsMember ds f of_d (of_e.best f has))
 
 -- ---- sets that have the same best
 
--- a set is as good as a larger one, if for each member of that it has one of the same key that is no worse
+-- a set is as good as a larger one, if for each member of the larger one it has one with the same key that is no worse
 pub widen : (IsFew IsMany : Entry → Type 0) (es : List Entry) → IsBestOf IsFew es → ((e : Entry) → IsFew e → IsMany e) → ((f : Entry) → IsMany f → IsHeld IsFew f) → IsBestOf IsMany es
 widen IsFew IsMany es of more held = record {
   rising = of.rising;
@@ -64,7 +64,7 @@ widen IsFew IsMany es of more held = record {
 pub held_itself : (IsMember : Entry → Type 0) (e : Entry) → IsMember e → IsHeld IsMember e
 held_itself IsMember e member = record { holder = e; member = member; same = refl; no_worse = rank_itself (rank_of e.body) }
 
--- the best of a set hold each member of it
+-- the best of a set hold each of its members
 pub held_by_best : (IsMember : Entry → Type 0) (es : List Entry) → IsBestOf IsMember es → (f : Entry) → IsMember f → IsHeld (Contains es) f
 held_by_best IsMember es of f member =
     let k = of.every f member in
@@ -77,7 +77,7 @@ held_in IsFew IsMany more f h = record { holder = h.holder; member = more h.hold
 pub same_best : (IsFirst IsSecond : Entry → Type 0) (es : List Entry) → IsBestOf IsFirst es → ((e : Entry) → IsFirst e → IsSecond e) → ((e : Entry) → IsSecond e → IsFirst e) → IsBestOf IsSecond es
 same_best IsFirst IsSecond es of there back = widen IsFirst IsSecond es of there (λ f second. held_itself IsFirst f (back f second))
 
--- a map is its own best
+-- a collection is its own best
 pub own_best : (es : List Entry) → IsRising es → IsBestOf (Contains es) es
 own_best es rising = record {
   rising = rising;

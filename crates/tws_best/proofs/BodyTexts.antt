@@ -17,7 +17,7 @@ entries_text (p ∷ ps) = ap (λ (x : List ℕ). body_text p.1 ++ x) (entries_te
 
 -- ---- bodies that are sent one after the other
 
--- of the whole text, what the buffer holds and the bodies that are left were not written yet
+-- of the whole text, the contents of the buffer and the bodies that are left are not written yet
 module _ (old mid new : Option (List ℕ)) (whole buffer : List ℕ) (body : List ℕ) (bodies left : List (List ℕ)) (left-is : left ≡ body ∷ bodies) (s : Sends old mid whole (buffer ++ texts left)) where
   regrouped : buffer ++ texts left ≡ (buffer ++ body_text body) ++ texts bodies
   regrouped = ap (λ (bs : List (List ℕ)). buffer ++ texts bs) left-is ∙ sym (append_assoc buffer (body_text body) (texts bodies))

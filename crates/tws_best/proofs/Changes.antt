@@ -1,4 +1,4 @@
--- Changes of a map, and how they are taken back.
+-- Changes of a map, and how they are undone.
 use Rattle.std.proofs.Common.{◌≡◌, Bool, true, false, cond, List, [], ◌∷◌, ◌++◌, Option, Some, None, is_some, refl, ap, sym, ◌∙◌, subst, ℕ}
 use Rattle.std.specs.declared.cmp.Ordering.{Ordering}
 use Rattle.std.specs.declared.cmp.Ordering.TheVariants.{Less, Equal, Greater}
@@ -43,7 +43,7 @@ removed : (k : Key) (b : List ℕ) (ps : List Pair) → lookup (at k) ps ≡ Non
 removed k b [] none = remove_head (at k) (k, b) [] (ap is_eq (key_itself k))
 removed k b (p ∷ ps) none = removed_at (key_cmp k p.0) k b p ps refl none (removed k b ps)
 
--- ---- a key that is there
+-- ---- a key that is present
 
 present_at : (o : Ordering) (k : Key) (b : List ℕ) (p : Pair) (ps : List Pair) → o ≡ key_cmp k p.0 → lookup (at k) (insert_entry key_cmp ps k b) ≡ Some b → lookup (at k) (insert_entry key_cmp (p ∷ ps) k b) ≡ Some b
 present_at Less k b p ps is rest =
@@ -77,7 +77,7 @@ again k b old (p ∷ ps) sorted some = again_at (key_cmp k p.0) k b old p ps ref
 
 -- ---- lists of changes
 
--- what was put in can be taken back
+-- an insertion can be undone
 can_go_back : (k : Key) (b : List ℕ) (old : Option (List ℕ)) (ps : List Pair) → IsStrictlySortedBy key_cmp (keys_of ps) → lookup (at k) ps ≡ old → CanGoBack k old (insert_entry key_cmp ps k b) × (back_to k old (insert_entry key_cmp ps k b) ≡ ps)
 can_go_back k b None ps sorted is = (tt, removed k b ps is)
 can_go_back k b (Some old) ps sorted is = (ap is_some (present k b ps), again k b old ps sorted is)
@@ -86,13 +86,13 @@ noted : (first : List Pair) (ds : List (Key × Option (List ℕ))) (was now : Li
 noted first [] was now k old u can back = (now, refl, can, back ∙ u)
 noted first (d ∷ ds) was now k old u can back = (u.0, noted u.0 ds was now k old u.1 can back, u.2, u.3)
 
--- one change more, and its note
+-- one more change, and its note
 pub one_more : (first : List Pair) (ds : List (Key × Option (List ℕ))) (ps : List Pair) (k : Key) (b : List ℕ) (old : Option (List ℕ)) → IsStrictlySortedBy key_cmp (keys_of ps) → lookup (at k) ps ≡ old → Undoes first ds ps → Undoes first (ds ++ (k, old) ∷ []) (insert_entry key_cmp ps k b)
 one_more first ds ps k b old sorted is u =
     let back = can_go_back k b old ps sorted is in
     noted first ds ps (insert_entry key_cmp ps k b) k old u back.0 back.1
 
--- the last change can be taken back, and then the others
+-- the last change can be undone, and then the others
 pub last_back : (first : List Pair) (ds : List (Key × Option (List ℕ))) (now : List Pair) (k : Key) (old : Option (List ℕ)) → Undoes first (ds ++ (k, old) ∷ []) now → CanGoBack k old now × Undoes first ds (back_to k old now)
 last_back first [] now k old u = (subst (CanGoBack k old) (sym u.1) u.2, ap (back_to k old) u.1 ∙ u.3)
 last_back first (d ∷ ds) now k old u =

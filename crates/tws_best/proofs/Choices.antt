@@ -1,4 +1,4 @@
--- The function gives what is best.
+-- The function returns what is best.
 use Rattle.std.proofs.Common.{◌≡◌, ◌⊎◌, Bool, true, false, List, [], ◌∷◌, refl, ap, sym, ◌∙◌, subst, inl, inr, if◌then◌else◌}
 use Rattle.std.specs.declared.cmp.Ordering.{Ordering}
 use Rattle.std.specs.declared.cmp.Ordering.TheVariants.{Less, Equal, Greater}
@@ -12,23 +12,23 @@ use Rattle.tws_best.proofs.Members.{Contains-none, Contains-here, Contains-there
 use Rattle.tws_best.proofs.Orders.{key_total, key_tie, key_apart, rank_itself, less_not}
 use Rattle.tws_best.proofs.Bests.{own_best, widen, held_itself, held_by_best, held_in}
 
--- what the first is below, it is below all after that
+-- an entry below the first one is also below all after it
 rises_before : (x e : Entry) (es : List Entry) → key_cmp x.key e.key ≡ Less → IsRising (e ∷ es) → IsRising (x ∷ (e ∷ es))
 rises_before x e es less rising =
     ((less, all_from _ es (λ f has. key_total.trans x.key e.key f.key less (all_at _ es f rising.0 has))), rising)
 
--- an entry of the same key in place of the first
+-- an entry with the same key in place of the first
 rises_instead : (x e : Entry) (es : List Entry) → x.key ≡ e.key → IsRising (e ∷ es) → IsRising (x ∷ es)
 rises_instead x e es same rising =
     (all_from _ es (λ f has. subst (λ k. key_cmp k f.key ≡ Less) (sym same) (all_at _ es f rising.0 has)), rising.1)
 
--- what a test by `<` says
+-- what a test with `<` says
 pub is_less : (o : Ordering) → is_lt o ≡ true → o ≡ Less
 is_less Less e = refl
 is_less Equal e = absurd cc
 is_less Greater e = absurd cc
 
--- of two that have one key the better one stays
+-- of two with the same key, the better one stays
 one_stays : (stays goes : Entry) (es : List Entry) → goes.key ≡ stays.key → IsRising (stays ∷ es) → (IsBelow (rank_of goes.body) (rank_of stays.body) → ⊥) → (IsAll : Entry → Type 0) → IsAll stays → ((f : Entry) → Contains es f → IsAll f) → ((f : Entry) → IsAll f → (f ≡ goes) ⊎ Contains (stays ∷ es) f) → IsBestOf IsAll (stays ∷ es)
 one_stays stays goes es same rising no_worse IsAll here there cases =
     widen (Contains (stays ∷ es)) IsAll (stays ∷ es) (own_best (stays ∷ es) rising)
@@ -98,12 +98,12 @@ placed_best Less x e es rest is rising of = own_best (x ∷ (e ∷ es)) (rises_b
 placed_best Equal x e es rest is rising of = better_stays (is_lt (rank_cmp (rank_of x.body) (rank_of e.body))) x e es refl (key_tie x.key e.key (sym is)) rising
 placed_best Greater x e es rest is rising of = goes_after x e es rest (sym is) rising of
 
--- the list with one entry more
+-- the list with one more entry
 pub put_best : (x : Entry) (es : List Entry) → IsRising es → IsBestOf (Contains (x ∷ es)) (put_in x es)
 put_best x [] rising = own_best (x ∷ []) (tt, tt)
 put_best x (e ∷ es) rising = placed_best (key_cmp x.key e.key) x e es (put_in x es) refl rising (put_best x es rising.1)
 
--- the function gives the best of a list
+-- the function returns the best of a list
 pub best_of_is : (xs : List Entry) → IsBestOf (Contains xs) (best_of xs)
 best_of_is [] = record { rising = tt; best = λ e has. absurd (Contains-none e has); every = λ f has. absurd (Contains-none f has) }
 best_of_is (x ∷ xs) =

@@ -1,4 +1,4 @@
--- What a map's look-up says of its entries.
+-- What a map's lookup says about its entries.
 use Rattle.std.proofs.Common.{◌≡◌, List, [], ◌∷◌, Some, None, refl, ap, sym, ◌∙◌, subst, inl, inr, ℕ}
 use Rattle.std.specs.declared.cmp.Ordering.{Ordering}
 use Rattle.std.specs.declared.cmp.Ordering.TheVariants.{Less, Equal, Greater}
@@ -28,7 +28,7 @@ pub rising_of : (ps : List Pair) → IsStrictlySortedBy key_cmp (keys_of ps) →
 rising_of [] sorted = tt
 rising_of (p ∷ ps) sorted = (all_above p.0 ps (sorted_head key_cmp p.0 (keys_of ps) sorted), rising_of ps (sorted_tail key_cmp p.0 (keys_of ps) sorted))
 
--- ---- the look-up
+-- ---- the lookup
 
 found_at : (o : Ordering) (k : Key) (b : List ℕ) (p : Pair) (ps : List Pair) → o ≡ key_cmp k p.0 → lookup (is_at (key_cmp k)) (p ∷ ps) ≡ Some b → (lookup (is_at (key_cmp k)) ps ≡ Some b → Contains (entries_of ps) (entry k b)) → Contains (entries_of (p ∷ ps)) (entry k b)
 found_at Less k b p ps is some rest =
@@ -57,7 +57,7 @@ apart_at Greater k p ps is none = (
   sym (lookup_tail (is_at (key_cmp k)) p ps (ap is_eq (sym is))) ∙ none,
 )
 
--- where nothing is found, no entry has the key
+-- if nothing is found, no entry has the key
 pub not_found : (k : Key) (ps : List Pair) → lookup (is_at (key_cmp k)) ps ≡ None → (e : Entry) → Contains (entries_of ps) e → e.key ≡ k → ⊥
 not_found k [] none e has same = Contains-none e has
 not_found k (p ∷ ps) none e has same =

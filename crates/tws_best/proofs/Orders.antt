@@ -34,7 +34,7 @@ key_tie j k e =
 pub key_itself : (k : Key) → key_cmp k k ≡ Equal
 key_itself k = tied_itself key_total k
 
--- no key is below itself, however it is spelled
+-- a key that is below another one is not that key
 pub key_apart : (j k : Key) → key_cmp j k ≡ Less → j ≢ k
 key_apart j k less e = let self = key_itself k in let also : key_cmp k k ≡ Less = subst (λ (i : Key). key_cmp i k ≡ Less) e less in absurd cc
 
@@ -71,7 +71,7 @@ gt_reverse Greater e = refl
 not_above : (x y : Ranking) → (IsBelow y x → ⊥) → is_gt (rank_cmp x y) ≡ false
 not_above x y not = ap is_gt (rank_total.antisymm x y) ∙ reverse_gt (rank_cmp y x) (not_less (rank_cmp y x) not)
 
--- what is no better than what is no better is no better
+-- being no better is transitive
 pub no_better : (q r s : Ranking) → (IsBelow r q → ⊥) → (IsBelow s r → ⊥) → IsBelow s q → ⊥
 no_better q r s first second =
     let all = upto rank_total q r s (not_above q r first) (not_above r s second) in

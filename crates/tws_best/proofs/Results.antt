@@ -1,4 +1,4 @@
--- What follows from what an answer says.
+-- What follows from a result.
 use Rattle.std.proofs.Common.{Result, Ok, Err, OnOk, OnErr}
 
 pub on_ok : {T E P Q : Type 0} (r : Result T E) → (P → Q) → OnOk r P → OnOk r Q

@@ -1,4 +1,4 @@
--- Entries whose keys rise.
+-- Entries with rising keys.
 use Rattle.std.proofs.Common.{◌≡◌, ◌≢◌, List, [], ◌∷◌, refl, ap, sym, ◌∙◌, inl, inr}
 use Rattle.std.specs.declared.cmp.Ordering.TheVariants.{Less}
 use Rattle.std.specs.List.{Contains}
@@ -45,7 +45,7 @@ tails d e ds es f same rising has_f has =
       | inr later ↦ later
     ]
 
--- a finite map is told by its entries, whatever their order
+-- a finite map is determined by its entries, whatever their order
 pub same_entries : (ds es : List Entry) → IsRising ds → IsRising es → ((f : Entry) → Contains ds f → Contains es f) → ((f : Entry) → Contains es f → Contains ds f) → ds ≡ es
 same_entries [] [] rising_d rising_e there back = refl
 same_entries [] (e ∷ es) rising_d rising_e there back = absurd (Contains-none e (back e (Contains-here e es)))

@@ -1,4 +1,4 @@
--- Files and texts as sets: order and repeats have no effect, and files may come one after the other.
+-- Files and texts as sets: order and repeats have no effect, and files may be merged one after the other.
 use Rattle.std.proofs.Common.{◌≡◌, ◌⊎◌, ℕ, List, [], ◌∷◌, ◌++◌, refl, ap, sym, ◌∙◌, subst, inl, inr, append_assoc, append-nil}
 use Rattle.std.specs.List.{Contains}
 use Rattle.std.proofs.lemmas.List.Elements.{Contains-append_left, Contains-append_right, Contains-append_cases, Contains-push, Contains-push_cases}
@@ -12,7 +12,7 @@ use Rattle.tws_best.proofs.Bests.{widen, same_best, own_best, held_itself, held_
 
 -- ---- the best of the best
 
--- what is best of the best and of more is best of all, and the other way round
+-- the best of the best and of more are the best of all, and the other way round
 pub best_of_best : (xs ys ms ns : List Entry) → IsBestOf (Contains xs) ms → IsBestOf (Contains (ms ++ ys)) ns → IsBestOf (Contains (xs ++ ys)) ns
 best_of_best xs ys ms ns of best =
     widen (Contains (ms ++ ys)) (Contains (xs ++ ys)) ns best
@@ -53,7 +53,7 @@ file_first kind file e has = subst (λ (es : List Entry). Contains es e) (append
 file_here : (kind : Ruleset) (file : File) (e : Entry) → Contains (solved_by kind file.ruleset file.records) e → Contains (solutions_of kind (file ∷ [])) e
 file_here kind file e has = subst (λ (es : List Entry). Contains es e) (sym (append-nil (solved_by kind file.ruleset file.records))) has
 
--- a solution of the files is one of some file
+-- a solution of the files is a solution of one of them
 record IsOfFile (kind : Ruleset) (files : List File) (e : Entry) : Type 0 where
   file : File
   among : Contains files file
@@ -105,7 +105,7 @@ no_texts kind c kind_is none = record {
 wider : (kind : Ruleset) (texts : List (List ℕ)) (t : List ℕ) (e : Entry) → IsSolutionIn kind texts e → IsSolutionIn kind (texts ++ t ∷ []) e
 wider kind texts t = texts_there kind texts (texts ++ t ∷ []) (λ x among. Contains-append_left texts (t ∷ []) x among)
 
--- the solutions of one text more are those of its file
+-- the solutions that one more text adds are those of its file
 last_text : (kind : Ruleset) (texts : List (List ℕ)) (t : List ℕ) (f : File) (e : Entry) → IsText t f → IsSolutionIn kind (texts ++ t ∷ []) e → IsSolutionIn kind texts e ⊎ Contains (solutions_of kind (f ∷ [])) e
 last_text kind texts t f e text s =
     elim (Contains-push_cases texts t s.text s.among) [
@@ -113,7 +113,7 @@ last_text kind texts t f e text s =
       | inr same ↦ inr (subst (λ (g : File). Contains (solutions_of kind (g ∷ [])) e) (one_file t s.file f (subst (λ (x : List ℕ). IsText x s.file) (sym same) s.is_text) text) s.present)
     ]
 
--- a merge of one file more
+-- merging one more file
 pub one_more_text : (kind : Ruleset) (texts : List (List ℕ)) (t : List ℕ) (f : File) (c d : Collected) → IsCollectionOf kind texts c → IsText t f → d.ruleset ≡ c.ruleset → IsBestOf (Contains (c.entries ++ solutions_of c.ruleset (f ∷ []))) d.entries → IsCollectionOf kind (texts ++ t ∷ []) d
 one_more_text kind texts t f c d of text rules best =
     let solved = solutions_of kind (f ∷ []) in
@@ -132,7 +132,7 @@ one_more_text kind texts t f c d of text rules best =
           ]);
     }
 
--- bytes that are no file's text change nothing
+-- bytes that are not a file's text change nothing
 pub one_more_unreadable : (kind : Ruleset) (texts : List (List ℕ)) (t : List ℕ) (c : Collected) → IsCollectionOf kind texts c → (IsReadable t → ⊥) → IsCollectionOf kind (texts ++ t ∷ []) c
 one_more_unreadable kind texts t c of not = record {
   kind_is = of.kind_is;
@@ -177,7 +177,7 @@ swapped xs ys es of =
     ] in
     same_best (Contains (xs ++ ys)) (Contains (ys ++ xs)) es of (turn xs ys) (turn ys xs)
 
--- What is best of one and of the best of two others is best of all three, in the order that a merge has them.
+-- The best of one list and of the best of two others are the best of all three, in the order in which a merge has them.
 pub best_of_three : (cs rs ss rs2 ds es : List Entry) → IsBestOf (Contains (cs ++ rs)) ds → IsBestOf (Contains (rs ++ ss)) rs2 → IsBestOf (Contains (cs ++ rs2)) es → IsBestOf (Contains (ds ++ ss)) es
 best_of_three cs rs ss rs2 ds es first second all =
     let spread : IsBestOf (Contains ((rs ++ ss) ++ cs)) es = best_of_best (rs ++ ss) cs rs2 es second (swapped cs rs2 es all) in

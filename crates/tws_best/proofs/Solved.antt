@@ -1,4 +1,4 @@
--- How the solutions among records are found.
+-- Finding the solutions among records.
 use Rattle.std.proofs.Common.{◌≡◌, ℕ, ◌+◌, ◌<◌, List, [], ◌∷◌, ◌++◌, length, take, map, get_or, refl, ap, sym, ◌∙◌, append-nil}
 use Rattle.std.proofs.lemmas.List.{take_more, map-append, map_push, map_more}
 use Rattle.tws_file.specs.declared.record.Record as stored
@@ -14,7 +14,7 @@ solved_in-append (set rest ∷ rs) ss = solved_in-append rs ss
 solved_in-append (bare key ∷ rs) ss = solved_in-append rs ss
 solved_in-append (solution s ∷ rs) ss = let rest = solved_in-append rs ss in cc
 
--- one record more
+-- one more record
 pub solved_more : {A : Type 0} (records : List (stored.Record A)) (i : ℕ) (one : stored.Record A) → i < length records → one ≡ get_or records i one → solved_in (records_of (take (i + 1) records)) ≡ solved_in (records_of (take i records)) ++ solved_in (record_of one ∷ [])
 solved_more records i one inside is =
     ap (λ rs. solved_in (records_of rs)) (take_more records i one inside ∙ ap (λ r. take i records ++ r ∷ []) (sym is))
@@ -28,15 +28,15 @@ not_solved (Set rest) not = refl
 not_solved (Bare key) not = refl
 not_solved (Solved s) not = absurd (not s refl)
 
--- one reference more
+-- one more reference
 pub mapped_push : {X : Type 0} (f : X → Entry) (xs pushed ys : List X) (y : X) → ys ≡ pushed → pushed ≡ xs ++ y ∷ [] → map f ys ≡ map f xs ++ f y ∷ []
 mapped_push f xs pushed ys y same is = ap (map f) same ∙ ap (map f) is ∙ map_push f xs y
 
--- one solution more
+-- one more solution
 pub mapped_more : {X : Type 0} (f : X → Entry) (xs : List X) (i : ℕ) (x : X) → i < length xs → x ≡ get_or xs i x → map f (take (i + 1) xs) ≡ map f (take i xs) ++ f x ∷ []
 mapped_more f xs i x inside is = map_more f xs i x inside ∙ ap (λ y. map f (take i xs) ++ f y ∷ []) (sym is)
 
--- one record more, if the solutions before it are found
+-- one more record, if the solutions before it were found
 module _ {A : Type 0} (so_far before all items : List Entry) (item : stored.Record A) (more : all ≡ so_far ++ solved_in (record_of item ∷ [])) (is_so_far : before ≡ so_far) where
   pub step_solution : (s : Solution) → item ≡ Solved s → items ≡ before ++ entry_of s ∷ [] → items ≡ all
   step_solution s is items_is =

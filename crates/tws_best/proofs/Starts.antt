@@ -20,7 +20,7 @@ start_at at (b ∷ bs) zero inside = omega arith
 start_at at (b ∷ bs) (suc i) inside =
     omega (arith, start_at (at + length (body_text b)) bs i (omega (arith, inside)), length-append (body_text b) (texts (take i bs)))
 
--- one record more
+-- one more record
 pub starts_push : (at : ℕ) (bodies : List (List ℕ)) (body : List ℕ) → starts_from at (bodies ++ body ∷ []) ≡ starts_from at bodies ++ (at + length (texts bodies)) ∷ []
 starts_push at [] body = let zero-is : at ≡ at + 0 = omega arith in ap (λ n. n ∷ []) zero-is
 starts_push at (b ∷ bs) body =
@@ -59,7 +59,7 @@ some_body : (bodies : List (List ℕ)) (offset : ℕ) → 8 < offset → offset 
 some_body [] offset past last = absurd (omega arith)
 some_body (b ∷ bs) offset past last = omega arith
 
--- where the offsets that are not above it end
+-- the place after the offsets that are not above this one
 module _ (bodies : List (List ℕ)) (starts : List ℕ) (offset place : ℕ) (starts-is : starts ≡ starts_from 8 bodies) (past : 8 < offset) (last : offset ≤ 8 + length (texts bodies)) (bound : place ≤ length starts) (point : IsPartitionPoint (λ y. leb y offset ≡ true) (λ y. leb y offset ≡ false) starts place) where
   count : length starts ≡ length bodies
   count = ap length starts-is ∙ starts_length 8 bodies
@@ -115,12 +115,12 @@ found_in own s starts offset place own-is starts-are past last bound point =
     let many : length starts ≡ length s.bodies = ap length are ∙ starts_length 8 s.bodies in
     record { past = some; inside = found.inside; counted = omega (arith, found.inside, many); low = found.low; within = found.within; is = found.is }
 
--- the start that was read, wherever the list of starts lies
+-- the start that was read, from any list that equals the starts
 pub start_read : (starts kept : List ℕ) (i start : ℕ) → starts ≡ kept → i < length starts → start ≡ get_or kept i start → start ≡ get_or starts i 0
 start_read starts kept i start same inside is =
     is ∙ ap (λ (ns : List ℕ). get_or ns i start) (sym same) ∙ get_or_default starts i start 0 inside
 
--- one body more is noted
+-- one more body is noted
 pub all_noted : (old new left next all : List (List ℕ)) (given body : List ℕ) → new ≡ old ++ given ∷ [] → given ≡ body → left ≡ body ∷ next → old ++ left ≡ all → new ++ next ≡ all
 all_noted old new left next all given body new-is given-is left-is all-is =
     ap (λ (bs : List (List ℕ)). bs ++ next) new-is
@@ -129,7 +129,7 @@ all_noted old new left next all given body new-is given-is left-is all-is =
     ∙ ap (λ (bs : List (List ℕ)). old ++ bs) (sym left-is)
     ∙ all-is
 
--- one start more
+-- one more start
 pub start_noted : (bodies more : List (List ℕ)) (starts next : List ℕ) (len : ℕ) (body : List ℕ) → more ≡ bodies ++ body ∷ [] → starts ≡ starts_from 8 bodies → len ≡ 8 + length (texts bodies) → next ≡ starts ++ len ∷ [] → next ≡ starts_from 8 more
 start_noted bodies more starts next len body more-is starts-is len-is next-is =
     next-is

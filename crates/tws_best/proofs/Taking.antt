@@ -1,4 +1,4 @@
--- What is kept after one solution more is the best of all so far.
+-- What is kept after one more solution is the best of all so far.
 use Rattle.std.proofs.Common.{◌≡◌, ◌≢◌, ◌⊎◌, ◌+◌, List, [], ◌∷◌, ◌++◌, Some, None, refl, ap, sym, ◌∙◌, subst, inl, inr, append_assoc, append-nil, ℕ, if◌then◌else◌, arith, Result, Ok, Err, OnOk}
 use Rattle.std.specs.declared.cmp.Ordering.{Ordering}
 use Rattle.std.specs.declared.cmp.Ordering.TheVariants.{Less, Equal, Greater}
@@ -51,7 +51,7 @@ put_at Equal k b p ps is better rest =
     ∙ ap (λ j. entry j b ∷ entries_of ps) tie
 put_at Greater k b p ps is better rest = ap (λ (es : List Entry). entry p.0 p.1 ∷ es) rest
 
--- what is better than all of its key comes into its place
+-- what is better than all with its key takes their place
 put_inserts : (k : Key) (b : List ℕ) (ps : List Pair) → IsBetter (entries_of ps) (entry k b) → put_in (entry k b) (entries_of ps) ≡ entries_of (insert_entry key_cmp ps k b)
 put_inserts k b [] better = refl
 put_inserts k b (p ∷ ps) better =
@@ -61,7 +61,7 @@ put_inserts k b (p ∷ ps) better =
 pub entry_same : (s : Solution) (key : Key) (b : List ℕ) → key ≡ s.key → b ≡ body_of (solution s) → entry key b ≡ entry_of s
 entry_same s key b key-is b-is = ap (λ (x : List ℕ). entry key x) b-is ∙ ap (λ (k : Key). entry k (body_of (solution s))) key-is
 
--- a better solution that was put in has entered
+-- a better solution that was inserted has entered
 pub enters_by : {E : Type 0} (r : Result (Unit {0}) E) (k : Key) (b : List ℕ) (ps new : List Pair) (was is : ℕ) → (IsRising (entries_of ps) → IsBetter (entries_of ps) (entry k b)) → OnOk r (new ≡ insert_entry key_cmp ps k b) → OnOk r (is ≡ was + 1) → OnOk r (IsStrictlySortedBy key_cmp (keys_of ps)) → OnOk r (Takes (entry k b) ps new was is)
 enters_by (Ok u) k b ps new was is better inserted count sorted = inr (record { better = better (rising_of ps sorted); inserted = inserted; some = λ none. omega arith })
 enters_by (Err e) k b ps new was is better inserted count sorted = tt
@@ -165,7 +165,7 @@ best_moved old solved moved new order of =
       | inr second ↦ Contains-append_right old moved e (Contains-permutation solved moved e order second)
     ])
 
--- ---- what is kept are solutions, each key once
+-- ---- what is kept are solutions, with each key only once
 
 pub solved_entries : (rs : List Record) → AllByRecursion IsRecord rs → AllByRecursion IsEntry (solved_in rs)
 solved_entries [] fits = tt

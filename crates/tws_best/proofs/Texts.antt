@@ -38,7 +38,7 @@ two_zeros zero = omega arith
 two_zeros (suc zero) = omega arith
 two_zeros (suc (suc i)) = omega arith
 
--- the file that a collection's text is of
+-- the file whose text a collection's text is
 pub file_from : (c : Collected) → IsCollected c → File
 file_from c fits = record { «ruleset» = c.ruleset; word = 0 ∷ 0 ∷ []; extra = []; records = records_from c.entries fits.solved }
 
@@ -68,7 +68,7 @@ collected_is c d kind entries =
     let whole : make c.ruleset c.entries ≡ make d.ruleset d.entries = cc in
     whole
 
--- the best of the file that has a collection's text is the collection
+-- the best of the file with a collection's text are the collection
 pub read_back : (c d : Collected) (f : File) → IsCollected c → IsText (collection_text c) f → d.ruleset ≡ f.ruleset → IsBestOf (Contains (solutions_of f.ruleset (f ∷ []))) d.entries → d ≡ c
 read_back c d f fits text kind best =
     let same : f ≡ file_from c fits = one_file (collection_text c) f (file_from c fits) text (is_text c fits) in

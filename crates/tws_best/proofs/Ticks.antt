@@ -11,7 +11,7 @@ use Rattle.tws_file.specs.Text.{Solution, solution, body_of, IsSolution}
 use Rattle.tws_file.proofs.Comparing.{then_as_one}
 use Rattle.tws_best.specs.Rank.{ticks_of, rank_of, rank_cmp}
 
--- what comes before the ticks has twelve bytes: here over any parts of these lengths
+-- there are twelve bytes before the ticks: here for any parts of these lengths
 after_twelve : (password moves ticks : List ℕ) (a b flags start p q r s : ℕ) → length password ≡ 4
     → drop 12 ((a ∷ b ∷ password) ++ (flags ∷ start ∷ (p ∷ q ∷ r ∷ s ∷ (ticks ++ moves)))) ≡ ticks ++ moves
 after_twelve password moves ticks a b flags start p q r s four =
@@ -45,10 +45,10 @@ module _ (s : Solution) (old : List ℕ) (t z o : Ordering) (fits : IsSolution s
       ∙ (ap (λ p. ordering_then t (ordering_then p b)) (sym z-is)
       ∙ (then_as_one t z b ∙ ap (λ p. ordering_then p b) (sym o-is))))
 
-  -- ticks and size are the same, so that the bytes decide
+  -- ticks and size are equal, so the bytes decide
   pub below_by_bytes : (r : Bool) (b : Ordering) → is_eq o ≡ true → b ≡ slice_cmp nat_cmp (body_of (solution s)) old → r ≡ is_lt b → r ≡ is_lt (rank_cmp (rank_of (body_of (solution s))) (rank_of old))
   below_by_bytes r b eq b-is r-is = r-is ∙ ap is_lt (b-is ∙ (sym (tied o (slice_cmp nat_cmp (body_of (solution s)) old) eq) ∙ sym rank_is))
 
-  -- they decide
+  -- ticks or size decide
   pub below_by_size : (r : Bool) → is_eq o ≡ false → r ≡ is_lt o → r ≡ is_lt (rank_cmp (rank_of (body_of (solution s))) (rank_of old))
   below_by_size r eq r-is = r-is ∙ ap is_lt (sym (decided o (slice_cmp nat_cmp (body_of (solution s)) old) eq) ∙ sym rank_is)

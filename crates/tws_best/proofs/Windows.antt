@@ -10,7 +10,7 @@ use Rattle.tws_best.proofs.BodyTexts.{texts}
 
 -- ---- as far as there is room
 
--- what was cut to n bytes, with more, and cut again
+-- cut to n bytes, followed by more, and cut again
 take_again : (n : ℕ) (xs ys : List ℕ) → take n (take n xs ++ ys) ≡ take n (xs ++ ys)
 take_again zero xs ys = refl
 take_again (suc n) [] ys = refl
@@ -62,7 +62,7 @@ module _ (start block : List ℕ) (bodies : List (List ℕ)) (i : ℕ) (so_far :
   pub block_fits : length block ≤ 512
   block_fits = omega (arith, ap length so_far, length-take 512 (start ++ texts (take i bodies)))
 
-  -- one body more
+  -- one more body
   pub body_pushed : (body next : List ℕ) → i < length bodies → body ≡ get_or bodies i body → next ≡ take 512 (block ++ body_text body) → next ≡ take 512 (start ++ texts (take (i + 1) bodies))
   body_pushed body next inside is next-is =
       next-is

@@ -1,4 +1,4 @@
--- What is kept of all solutions: of each level number and password the best one, in whatever order the files came.
+-- What is kept of all solutions: the best one for each level number and password, whatever the order of the files.
 use Rattle.std.specs.Prelude.{◌≡◌, ℕ, List, [], ◌∷◌, ◌++◌, length, Contains}
 use Rattle.std.specs.declared.cmp.Ordering.{Ordering}
 use Rattle.std.specs.declared.cmp.Ordering.TheVariants.{Less}
@@ -34,7 +34,7 @@ pub record IsBody (body : List ℕ) : Type 0 where
 
 -- ---- the solutions of files
 
--- the solutions among records: no pad, no record of the set and no bare one
+-- the solutions among records: not pads, records of the set or bare ones
 abbrev pub solved_in : List Record → List Entry
 solved_in [] = []
 solved_in (pad ∷ rs) = solved_in rs
@@ -53,7 +53,7 @@ solved_by Ms Ms rs = solved_in rs
 abbrev pub solutions_of : Ruleset → List File → List Entry
 solutions_of kind files = flat_map (λ (file : File). solved_by kind file.ruleset file.records) files
 
--- a solution of this ruleset in a file that has its text among these. Bytes that are no file's text have no solutions.
+-- a solution of this ruleset in a file whose text is among these. Bytes that are not a file's text have no solutions.
 pub record IsSolutionIn (kind : Ruleset) (texts : List (List ℕ)) (e : Entry) : Type 0 where
   pub text : List ℕ
   pub among : Contains texts text
@@ -63,7 +63,7 @@ pub record IsSolutionIn (kind : Ruleset) (texts : List (List ℕ)) (e : Entry) :
 
 -- ---- what is best
 
--- of a set of solutions, one that no other for the same level and password has a lower rank than
+-- a solution of the set, such that no other for the same level and password has a lower rank
 pub record IsBest (IsMember : Entry → Type 0) (e : Entry) : Type 0 where
   pub member : IsMember e
   pub least : (f : Entry) → IsMember f → f.key ≡ e.key → IsBelow (rank_of f.body) (rank_of e.body) → ⊥
@@ -83,8 +83,8 @@ pub record HasKey (entries : List Entry) (key : Key) : Type 0 where
   pub present : Contains entries entry
   pub key_is : entry.key ≡ key
 
--- a finite map, as its entries in the order of their keys: it has the keys that the set has, and at each key a best
--- solution
+-- a collection of the best of a set, as entries in the order of their keys: it has the keys that the set has, and at
+-- each key a best solution
 pub record IsBestOf (IsMember : Entry → Type 0) (entries : List Entry) : Type 0 where
   pub rising : IsRising entries
   pub best : (e : Entry) → Contains entries e → IsBest IsMember e
@@ -97,7 +97,7 @@ pub record Collected : Type 0 where
   pub «ruleset» : Ruleset
   pub entries : List Entry
 
--- what entries can be kept: solutions, each key once
+-- entries that can be kept: solutions, with each key only once
 pub record IsKept (entries : List Entry) : Type 0 where
   pub rising : IsRising entries
   pub solved : AllByRecursion IsEntry entries
@@ -105,7 +105,7 @@ pub record IsKept (entries : List Entry) : Type 0 where
 abbrev pub IsCollected : Collected → Type 0
 IsCollected c = IsKept c.entries
 
--- four bytes of size, and the body
+-- the size in four bytes, and the body
 abbrev pub body_text : List ℕ → List ℕ
 body_text body = little_bytes 4 (length body) ++ body
 
@@ -120,11 +120,11 @@ collection_header kind = header_text kind (0 ∷ 0 ∷ []) []
 abbrev pub collection_text : Collected → List ℕ
 collection_text c = collection_header c.ruleset ++ flat_map entry_text c.entries
 
--- the collection over all files of this ruleset that have their text among these
+-- the collection over all files of this ruleset whose texts are among these
 pub record IsCollectionOf (kind : Ruleset) (texts : List (List ℕ)) (c : Collected) : Type 0 where
   pub kind_is : c.ruleset ≡ kind
   pub best : IsBestOf (IsSolutionIn kind texts) c.entries
 
--- the map has this body at this key
+-- the collection has this body at this key
 abbrev pub HasBody : List Entry → Key → List ℕ → Type 0
 HasBody entries key body = Contains entries (record { key = key; body = body })

@@ -1,4 +1,4 @@
--- What is best as a function of a list, for those who state steps. That it is the best is a law.
+-- The best of a list as a function, for stating steps. A law says that it is the best.
 use Rattle.std.specs.Prelude.{List, [], ◌∷◌, if◌then◌else◌}
 use Rattle.std.specs.declared.cmp.Ordering.{Ordering}
 use Rattle.std.specs.declared.cmp.Ordering.TheVariants.{Less, Equal, Greater}
@@ -10,7 +10,7 @@ use Rattle.tws_best.specs.Best.{Entry, key_cmp}
 abbrev pub better_of : Entry → Entry → Entry
 better_of x e = if is_lt (rank_cmp (rank_of x.body) (rank_of e.body)) then x else e
 
--- x with the entries e and then es, by how its key compares with that of e
+-- x inserted before e, in its place or after it, by how their keys compare: es follows e, and rest is es with x
 abbrev pub placed : Ordering → (x e : Entry) (es rest : List Entry) → List Entry
 placed Less x e es rest = x ∷ (e ∷ es)
 placed Equal x e es rest = better_of x e ∷ es

@@ -1,4 +1,4 @@
--- A collection as contracts see it, without how it lies in memory.
+-- A collection as contracts see it, without its layout in memory.
 use Rattle.tws_best.specs.declared.collection.Collection.TheInside.{Inside}
 use Rattle.tws_best.specs.Best.{Collected}
 use Rattle.tws_best.specs.Bodies.{entries_of}

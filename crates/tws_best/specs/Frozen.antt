@@ -20,7 +20,7 @@ frozen_text s = collection_header s.ruleset ++ flat_map body_text s.bodies
 abbrev pub record_start : Frozen → ℕ → ℕ
 record_start s i = 8 + length (flat_map body_text (take i s.bodies))
 
--- the offsets of all size fields, the first one being at this offset
+-- the offsets of all size fields, with the first one at this offset
 abbrev pub starts_from : ℕ → List (List ℕ) → List ℕ
 starts_from at [] = []
 starts_from at (body ∷ bodies) = at ∷ starts_from (at + length (body_text body)) bodies

@@ -1,4 +1,4 @@
--- How good a solution is, as the body of its record tells it.
+-- How good a solution is, which the body of its record determines.
 use Rattle.std.specs.Prelude.{◌≡◌, ℕ, List, length, drop}
 use Rattle.std.specs.declared.cmp.Ordering.{Ordering}
 use Rattle.std.specs.declared.cmp.Ordering.TheVariants.{Less}
@@ -9,11 +9,11 @@ use Rattle.byteorder.specs.Endian.{little_number}
 pub record Ranking : Type 0 where
   -- the time that the solution takes
   pub ticks : ℕ
-  -- how long the body is
+  -- the length of the body
   pub size : ℕ
   pub bytes : List ℕ
 
--- the time follows number, password, flags, start and seed
+-- the time comes after number, password, flags, start and seed
 abbrev pub ticks_of : List ℕ → ℕ
 ticks_of body = little_number 4 (drop 12 body)
 

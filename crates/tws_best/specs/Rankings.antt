@@ -1,4 +1,4 @@
--- A rank as contracts see it, without where its bytes lie in memory.
+-- A rank as contracts see it, without its layout in memory.
 use Rattle.tws_best.specs.declared.rank.Rank.TheInside.{Inside}
 use Rattle.tws_best.specs.Rank.{Ranking}
 

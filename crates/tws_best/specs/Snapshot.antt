@@ -1,4 +1,4 @@
--- A snapshot as contracts see it, without how it lies in memory.
+-- A snapshot as contracts see it, without its layout in memory.
 use Rattle.std.specs.Prelude.{◌≡◌, ◌+◌, length}
 use Rattle.std.specs.List.{flat_map}
 use Rattle.tws_best.specs.declared.snapshot.Snapshot.TheInside.{Inside}

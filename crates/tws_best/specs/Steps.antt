@@ -1,4 +1,4 @@
--- What the private steps of a merge say. Callers need none of it.
+-- Definitions for the private steps of a merge. Callers need none of them.
 use Rattle.std.specs.Prelude.{◌≡◌, ◌⊎◌, ℕ, List, [], ◌∷◌, Contains, Option, None, Some, IsSome}
 use Rattle.std.specs.Map.{lookup, remove_entry}
 use Rattle.std.specs.BTreeMap.{is_at, insert_entry}
@@ -26,7 +26,7 @@ pub record Stays (x : Entry) (old new : List Pair) (was is : ℕ) : Type 0 where
   pub same : new ≡ old
   pub count : is ≡ was
 
--- it is better than what is kept for its key, and comes in its place
+-- it is better than what is kept for its key, and replaces it
 pub record Enters (x : Entry) (old new : List Pair) (is : ℕ) : Type 0 where
   pub better : IsBetter (entries_of old) x
   pub inserted : new ≡ insert_entry key_cmp old x.key x.body
@@ -35,19 +35,19 @@ pub record Enters (x : Entry) (old new : List Pair) (is : ℕ) : Type 0 where
 abbrev pub Takes : Entry → (old new : List Pair) → (was is : ℕ) → Type 0
 Takes x old new was is = Stays x old new was is ⊎ Enters x old new is
 
--- ---- changes that can be taken back
+-- ---- changes that can be undone
 
--- what there is once a key has again what it had
+-- the pairs after restoring what a key had
 abbrev pub back_to : Key → Option (List ℕ) → List Pair → List Pair
 back_to key None now = remove_entry (is_at (key_cmp key)) now
 back_to key (Some body) now = insert_entry key_cmp now key body
 
--- nothing has to grow for it
+-- restoring it does not make anything grow
 abbrev pub CanGoBack : Key → Option (List ℕ) → List Pair → Type 0
 CanGoBack key None now = Unit {0}
 CanGoBack key (Some body) now = IsSome (lookup (is_at (key_cmp key)) now)
 
--- taken back one after the other, the last one first, the changes lead to what there was at first
+-- undone one by one, the last one first, the changes lead back to the first pairs
 abbrev pub Undoes : List Pair → List (Key × Option (List ℕ)) → List Pair → Type 0
 Undoes first [] now = now ≡ first
 Undoes first (d ∷ ds) now = (mid : List Pair) × Undoes mid ds now × CanGoBack d.0 d.1 mid × (back_to d.0 d.1 mid ≡ first)

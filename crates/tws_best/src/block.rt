@@ -1,4 +1,4 @@
-//! How a block of 512 bytes is filled from the records of a text.
+//! Filling a block of 512 bytes from the records of a text.
 
 ghost use Rattle.std.specs.Prelude.{◌≡◌, ◌+◌, ◌≤◌, ◌++◌, length, take, drop};
 ghost use Rattle.std.specs.List.{flat_map};
@@ -8,7 +8,7 @@ use crate::body::Body;
 use crate::text::size_bytes;
 use std::alloc::Allocator;
 
-// Puts bytes after the first `len` of a block, where there is room for them. How many there are then.
+// Appends bytes to the first `len` of a block, which has room for them. Returns the new length.
 fn put(block: &mut [u8; 512], len: usize, bytes: &[u8]) -> usize
     requires { len + length bytes.now ≤ 512 }
     ensures bytes { take result block.new ≡ take len block.old ++ bytes.now }
@@ -19,7 +19,7 @@ fn put(block: &mut [u8; 512], len: usize, bytes: &[u8]) -> usize
     end
 }
 
-// Puts bytes after the first `len` of a block, as far as there is room. How many there are then.
+// Appends bytes to the first `len` of a block, as far as there is room. Returns the new length.
 pub(crate) fn put_part(block: &mut [u8; 512], len: usize, bytes: &[u8]) -> usize
     requires { len ≤ 512 }
     ensures bytes { take result block.new ≡ take 512 (take len block.old ++ bytes.now) }
@@ -29,7 +29,7 @@ pub(crate) fn put_part(block: &mut [u8; 512], len: usize, bytes: &[u8]) -> usize
     put(block, len, &bytes[..count])
 }
 
-// The same of a record without its first `skip` bytes.
+// The same for a record without its first `skip` bytes.
 pub(crate) fn put_record<A: Allocator>(
     block: &mut [u8; 512],
     len: usize,
@@ -49,7 +49,7 @@ pub(crate) fn put_record<A: Allocator>(
     }
 }
 
-// The same of the records of these bodies.
+// The same for the records of these bodies.
 pub(crate) fn put_bodies<A: Allocator>(
     block: &mut [u8; 512],
     len: usize,

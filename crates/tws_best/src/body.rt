@@ -10,7 +10,7 @@ use std::marker::Model;
 use std::rc::RcSlice;
 use tws_file::Solution;
 
-// The body of a solution's record. Collections and snapshots share its bytes: a clone takes no memory.
+// The body of a solution's record. Collections and snapshots share its bytes: a clone does not allocate.
 #[derive(Drop)]
 pub(crate) struct Body<A: Allocator> {
     bytes: RcSlice<u8, A>,
@@ -30,7 +30,7 @@ impl<A: Allocator> Model for Body<A> {
 }
 
 impl<A: Allocator + Copy> Body<A> {
-    // Shares the bytes of a vector.
+    // Makes the bytes of a vector shareable.
     pub(crate) fn of(bytes: Vec<u8, A>) -> Result<Self, AllocError>
         requires { IsBody bytes.items }
         ensures { IfOk result (λ body. body ≡ bytes.items) }
@@ -48,14 +48,14 @@ impl<A: Allocator> Body<A> {
         self.bytes.as_slice()
     }
 
-    // How long the body is: it fits the four bytes of a record's size.
+    // The length of the body, which fits in the four bytes of a record's size.
     pub(crate) fn size(&self) -> u32
         ensures { result ≡ length self.now }
     {
         self.bytes.len() as u32
     }
 
-    // Whether this solution is better: its rank is lower. Its body is not made for that.
+    // Whether `solution` has the lower rank, so is the better one. Its body is not built for the comparison.
     pub(crate) fn is_worse_than<B: Allocator>(&self, solution: &Solution<B>) -> bool
         ensures { result ≡ is_lt (rank_cmp (rank_of (entry_of solution.now).body) (rank_of self.now)) }
     {

@@ -15,7 +15,7 @@ use std::io::Write;
 use std::marker::Model;
 use tws_file::{Key, Ruleset, TwsFile};
 
-/// The best solution of each level number and password, of all files that were merged.
+/// The best solution of each level number and password, over all files that were merged.
 #[derive(Drop)]
 pub struct Collection<A: Allocator = Global> {
     alloc: A,
@@ -36,7 +36,7 @@ impl<A: Allocator> Model for Collection<A> {
 }
 
 impl<A: Allocator + Copy> Collection<A> {
-    /// A collection without solutions. It takes no memory until it grows.
+    /// A collection without solutions. Does not allocate until it grows.
     pub fn new(alloc: A, kind: Ruleset) -> Self
         ensures rules { result.ruleset ≡ kind }
         ensures empty { result.entries ≡ [] }
@@ -49,7 +49,7 @@ impl<A: Allocator + Copy> Collection<A> {
         }
     }
 
-    /// The best solutions of a file.
+    /// Returns the best solutions of a file.
     ///
     /// # Errors
     ///
@@ -64,12 +64,12 @@ impl<A: Allocator + Copy> Collection<A> {
         Ok(collection)
     }
 
-    /// Adds the solutions of a file: what was best so far and what the file has are compared, and the best of both are
-    /// kept. Whether anything changed. A file of the other ruleset changes nothing, and takes no memory.
+    /// Adds the solutions of a file: compares them with the best so far, and keeps the best of both. Returns whether
+    /// anything changed. A file of the other ruleset changes nothing, and nothing is allocated for it.
     ///
     /// # Errors
     ///
-    /// Out of memory. The collection is as it was.
+    /// Out of memory. The collection is unchanged.
     pub fn merge<B: Allocator>(&mut self, file: &TwsFile<B>) -> Result<bool, AllocError>
         ensures best { OnOk result (IsBestOf (Contains (self.old.entries ++ solutions_of self.old.ruleset (file.now ∷ []))) self.new.entries) }
         ensures rules { self.new.ruleset ≡ self.old.ruleset }
@@ -84,11 +84,11 @@ impl<A: Allocator + Copy> Collection<A> {
         add(self.alloc, &mut self.kept, file.records.as_slice())
     }
 
-    /// An equal collection. The bodies are shared, not copied.
+    /// Returns an equal collection. The bodies are shared, not copied.
     ///
     /// # Errors
     ///
-    /// Out of memory. Of an empty collection there is always a copy.
+    /// Out of memory. An empty collection can always be copied.
     pub fn copy(&self) -> Result<Self, AllocError>
         ensures equal { IfOk result (λ copy. copy ≡ self.now) }
         ensures empty { self.now.entries ≡ [] → IsOk result }
@@ -106,8 +106,8 @@ impl<A: Allocator + Copy> Collection<A> {
 }
 
 impl<A: Allocator + Copy> Collection<A> {
-    /// The text as it is now, whatever is merged later. It must have fewer than 2^64 bytes. The bodies are shared, not
-    /// copied.
+    /// Returns a snapshot of the current text, which later merges do not change. The text must have fewer than 2^64
+    /// bytes. The bodies are shared, not copied.
     ///
     /// # Errors
     ///
@@ -122,28 +122,29 @@ impl<A: Allocator + Copy> Collection<A> {
 }
 
 impl<A: Allocator> Collection<A> {
-    /// The rules that all its solutions were played by.
+    /// The ruleset of all its solutions.
     pub fn ruleset(&self) -> Ruleset
         ensures { result ≡ self.now.ruleset }
     {
         self.ruleset
     }
 
-    /// How many solutions it has.
+    /// The number of solutions.
     pub fn len(&self) -> usize
         ensures { result ≡ length self.now.entries }
     {
         self.kept.len()
     }
 
-    /// Whether it has none.
+    /// Whether there are no solutions.
     pub fn is_empty(&self) -> bool
         ensures { IsTrue result ↔ (self.now.entries ≡ []) }
     {
         self.kept.is_empty()
     }
 
-    /// The body of the solution for a key, the bytes after its record's size, if the collection has one.
+    /// Returns the body of the solution for a key, which is the bytes after its record's size, if the collection has
+    /// one.
     pub fn get(&self, key: Key) -> Option<&[u8]>
         ensures found { IfSome result (λ body. HasBody self.now.entries key body.now) }
         ensures absent { IfNone result (HasKey self.now.entries key → ⊥) }
@@ -154,7 +155,7 @@ impl<A: Allocator> Collection<A> {
         }
     }
 
-    /// How many bytes its text has.
+    /// The length of the text in bytes.
     pub fn text_len(&self) -> u128
         ensures { result ≡ length (collection_text self.now) }
     {
@@ -162,11 +163,11 @@ impl<A: Allocator> Collection<A> {
     }
 
     /// Writes the text: a header without further bytes, and then a record for each solution, by rising number and then
-    /// by the bytes of the password. It needs no memory.
+    /// by the bytes of the password. Does not allocate.
     ///
     /// # Errors
     ///
-    /// `Io` where the writer fails. A proper prefix of the text was written.
+    /// `Io` if the writer fails. A proper prefix of the text was written.
     pub fn write_text<W: Write>(&self, out: &mut W) -> Result<(), OutFault>
         ensures ok { OnOk result (Appends (W.contents out.old) (W.contents out.new) (collection_text self.now)) }
         ensures err { OnErr result (AppendsPrefix (W.contents out.old) (W.contents out.new) (collection_text self.now)) }

@@ -1,5 +1,5 @@
-//! What holds of every set of solutions and of every collection, whoever keeps it. These functions do nothing: each
-//! contract is a theorem.
+//! What holds of every set of solutions and of every collection, whatever code keeps it. These functions do nothing:
+//! each contract is a theorem.
 
 ghost use Rattle.std.specs.Prelude.{◌≡◌, ◌↔◌, ℕ, List, [], ◌∷◌, ◌++◌, Contains};
 ghost use Rattle.std.specs.Cmp.{IsTotalOrder};
@@ -20,45 +20,45 @@ pub fn one_rank()
     ensures { (a b : List ℕ) → rank_cmp (rank_of a) (rank_of b) ≡ Equal → a ≡ b }
 {}
 
-/// The ticks in the body of a solution's record, where a rank reads them, are the solution's.
+/// The ticks in the body of a solution's record, at the place where a rank reads them, are the solution's.
 pub fn ticks_in_body()
     ensures { (s : Solution) → IsSolution s → ticks_of (body_of (solution s)) ≡ s.ticks }
 {}
 
-/// A set of solutions has at most one map of what is best.
+/// A set of solutions has at most one collection of the best.
 pub fn one_best()
     ensures { (xs ds es : List Entry) → IsBestOf (Contains xs) ds → IsBestOf (Contains xs) es → ds ≡ es }
 {}
 
-/// A solution is in the map exactly if it is best: of its key, no other of the set has a lower rank.
+/// A solution is in the collection exactly if it is best: no other solution of the set with its key has a lower rank.
 pub fn exactly_the_best()
     ensures { (xs es : List Entry) (e : Entry) → IsBestOf (Contains xs) es → (Contains es e ↔ IsBest (Contains xs) e) }
 {}
 
-/// Each list of solutions has a map of what is best, and a function gives it.
+/// Each list of solutions has a collection of the best, which a function returns.
 pub fn some_best()
     ensures { (xs : List Entry) → IsBestOf (Contains xs) (best_of xs) }
 {}
 
-/// What is best of the best of some and of others is best of all together, and the other way round.
+/// The best of some solutions' best and of others are the best of all together, and the other way round.
 pub fn best_of_best()
     ensures together { (xs ys ms ns : List Entry) → IsBestOf (Contains xs) ms → IsBestOf (Contains (ms ++ ys)) ns → IsBestOf (Contains (xs ++ ys)) ns }
-    // More is merged into the second of two, or into the best of both.
+    // More solutions can be merged into the second of two, or into the best of both: the result is the same.
     ensures beside { (cs rs ss ms ds es : List Entry) → IsBestOf (Contains (cs ++ rs)) ds → IsBestOf (Contains (rs ++ ss)) ms → IsBestOf (Contains (cs ++ ms)) es → IsBestOf (Contains (ds ++ ss)) es }
     ensures apart { (xs ys ms ns : List Entry) → IsBestOf (Contains xs) ms → IsBestOf (Contains (xs ++ ys)) ns → IsBestOf (Contains (ms ++ ys)) ns }
 {}
 
-/// Files are used as a set: their order and repeats have no effect on what is best.
+/// Files are treated as a set: their order and repeats have no effect on what is best.
 pub fn files_as_a_set()
     ensures { (kind : Rules) (files more : List File) (es : List Entry) → ((f : File) → Contains files f ↔ Contains more f) → IsBestOf (Contains (solutions_of kind files)) es → IsBestOf (Contains (solutions_of kind more)) es }
 {}
 
-/// Texts are used as a set: their order and repeats have no effect on the collection over them.
+/// Texts are treated as a set: their order and repeats have no effect on the collection over them.
 pub fn texts_as_a_set()
     ensures { (kind : Rules) (texts more : List (List ℕ)) (c : Collected) → ((t : List ℕ) → Contains texts t ↔ Contains more t) → IsCollectionOf kind texts c → IsCollectionOf kind more c }
 {}
 
-/// At most one collection is the one over these texts.
+/// There is at most one collection over these texts.
 pub fn one_collection()
     ensures { (kind : Rules) (texts : List (List ℕ)) (c d : Collected) → IsCollectionOf kind texts c → IsCollectionOf kind texts d → c ≡ d }
 {}
@@ -68,13 +68,13 @@ pub fn collection_of_none()
     ensures { (kind : Rules) (c : Collected) → c.ruleset ≡ kind → c.entries ≡ [] → IsCollectionOf kind [] c }
 {}
 
-/// A merge of a file makes the collection over one text more. Bytes that are no file's text change nothing.
+/// Merging a file makes the collection over one more text. Bytes that are not a file's text change nothing.
 pub fn one_more_text()
     ensures readable { (kind : Rules) (texts : List (List ℕ)) (text : List ℕ) (f : File) (c d : Collected) → IsCollectionOf kind texts c → IsText text f → d.ruleset ≡ c.ruleset → IsBestOf (Contains (c.entries ++ solutions_of c.ruleset (f ∷ []))) d.entries → IsCollectionOf kind (texts ++ text ∷ []) d }
     ensures unreadable { (kind : Rules) (texts : List (List ℕ)) (text : List ℕ) (c : Collected) → IsCollectionOf kind texts c → (IsReadable text → ⊥) → IsCollectionOf kind (texts ++ text ∷ []) c }
 {}
 
-/// A collection's text is a file's, and the best of that file is the collection again.
+/// A collection's text is a file's text, and the best of that file are the collection again.
 pub fn read_back()
     ensures readable { (c : Collected) → IsCollected c → IsReadable (collection_text c) }
     ensures loaded { (c d : Collected) (f : File) → IsCollected c → IsText (collection_text c) f → d.ruleset ≡ f.ruleset → IsBestOf (Contains (solutions_of f.ruleset (f ∷ []))) d.entries → d ≡ c }

@@ -1,13 +1,13 @@
 //! The best solution of each level number and password: what is best, the collection of what is best so far, and
 //! snapshots of its text.
 //!
-//! `specs/Best.antt` is the file to read first: the rank of a solution, what is best of a set, and a collection's text.
-//! `specs/Frozen.antt` says what a snapshot is.
+//! Read `specs/Best.antt` first: it defines what is best of a set, by the rank of a solution, and a collection's text.
+//! `specs/Frozen.antt` defines a snapshot.
 //!
-//! # How it is called
+//! # Example
 //!
-//! A collection keeps its allocator. `merge` takes in a file, or leaves the collection as it was; `copy` and `snapshot`
-//! share the bodies. A snapshot is sent in blocks, as any other file of `tftp_packet`.
+//! A collection keeps its allocator. `merge` adds a file, or leaves the collection unchanged; `copy` and `snapshot`
+//! share the bodies. A snapshot is sent in blocks, like any other file of `tftp_packet`.
 //!
 //! ```text
 //! fn best_blocks(alloc: Global, file: &TwsFile) -> Result<Option<Snapshot>, AllocError> {

@@ -1,4 +1,4 @@
-//! How the solutions of a file come into a map of bodies: all that are better than what is kept, or none.
+//! Merging the solutions of a file into the kept bodies: takes all that are better than what is kept, or none.
 
 ghost use Rattle.std.specs.Prelude.{◌≡◌, ◌≢◌, ◌⊎◌, ◌∷◌, [], ◌+◌, ◌++◌, List, length, map, Contains, Option, IfOk, IfSome, IfNone, OnOk, OnErr, MatchBool};
 ghost use Rattle.std.specs.List.{AllByRecursion};
@@ -21,7 +21,7 @@ pub(crate) type Bodies<A> = BTreeMap<Key, Body<A>, A>;
 // Each key that was changed, with what it had before.
 type Changes<A> = Vec<(Key, Option<Body<A>>), A>;
 
-// Puts a body in the place of what a key has, and notes the change before it is made.
+// Sets the body of a key, and notes the change before it is made.
 fn replace<A: Allocator + Copy>(
     kept: &mut Bodies<A>,
     done: &mut Changes<A>,
@@ -45,7 +45,7 @@ fn replace<A: Allocator + Copy>(
     }
 }
 
-// Takes a solution in, if it is better than what is kept for its key.
+// Takes a solution if it is better than what is kept for its key.
 fn take<A: Allocator + Copy, B: Allocator>(
     alloc: A,
     kept: &mut Bodies<A>,
@@ -70,7 +70,7 @@ fn take<A: Allocator + Copy, B: Allocator>(
     }
 }
 
-// The solutions among the records, in their order. The key is beside each, so that a sort by it looks up none of them.
+// The solutions among the records, in order. Each comes with its key, so that a sort by key looks up none of them.
 fn solutions_among<A: Allocator, B: Allocator>(
     alloc: A,
     records: &[Record<B>],
@@ -86,8 +86,8 @@ fn solutions_among<A: Allocator, B: Allocator>(
     Ok(all)
 }
 
-// The solutions among the records, by rising keys. So each search in a large map ends close to where the last one did,
-// in memory that is near at hand.
+// The solutions among the records, by rising keys. So each search in a large map ends close to where the previous one
+// did, in memory nearby.
 fn sorted_solutions<A: Allocator, B: Allocator>(
     alloc: A,
     records: &[Record<B>],
@@ -99,7 +99,7 @@ fn sorted_solutions<A: Allocator, B: Allocator>(
     Ok(all)
 }
 
-// Takes in those of the solutions that are better than what is kept.
+// Takes those of the solutions that are better than what is kept.
 fn take_all<A: Allocator + Copy, B: Allocator>(
     alloc: A,
     kept: &mut Bodies<A>,
@@ -118,7 +118,7 @@ fn take_all<A: Allocator + Copy, B: Allocator>(
     Ok(())
 }
 
-// Gives a key again what it had. Where it had a body it has one now, so that nothing grows.
+// Restores what a key had. If that was a body, the key has a body now, so nothing grows.
 fn go_back<A: Allocator + Copy>(kept: &mut Bodies<A>, key: Key, old: Option<Body<A>>)
     requires { CanGoBack key old kept.old.entries }
     ensures { kept.new.entries ≡ back_to key old kept.old.entries }
@@ -133,7 +133,7 @@ fn go_back<A: Allocator + Copy>(kept: &mut Bodies<A>, key: Key, old: Option<Body
     }
 }
 
-// Takes the changes back, the last one first. It needs no memory.
+// Undoes the changes, the last one first. Does not allocate.
 fn undo<A: Allocator + Copy>(kept: &mut Bodies<A>, done: Changes<A>)
     requires { (first : List Pair) × Undoes first done.items kept.old.entries }
     ensures { (first : List Pair) → Undoes first done.items kept.old.entries → kept.new.entries ≡ first }
@@ -144,7 +144,7 @@ fn undo<A: Allocator + Copy>(kept: &mut Bodies<A>, done: Changes<A>)
     }
 }
 
-// Adds the solutions among the records, so that the best of all are kept. Whether anything changed.
+// Adds the solutions among the records, and keeps the best of all. Returns whether anything changed.
 pub(crate) fn add<A: Allocator + Copy, B: Allocator>(
     alloc: A,
     kept: &mut Bodies<A>,

@@ -9,7 +9,7 @@ use byteorder::{ByteOrder, LittleEndian};
 use std::cmp::Ordering;
 use std::marker::Model;
 
-/// How good a solution is. The least is the best: fewer ticks, then the shorter body, then the smaller bytes.
+/// How good a solution is. The lowest rank is the best: fewer ticks, then the shorter body, then the smaller bytes.
 #[derive(Drop)]
 pub struct Rank<'a> {
     ticks: u32,
@@ -28,7 +28,7 @@ impl<'a> Model for Rank<'a> {
 }
 
 impl<'a> Rank<'a> {
-    /// The rank of a solution with this body, the bytes after the size of its record, of which there are at least 16.
+    /// The rank of a solution with this body, which is the bytes after its record's size. There are at least 16.
     pub fn of(body: &'a [u8]) -> Self
         requires { 16 ≤ length body.now }
         ensures { result ≡ rank_of body.now }

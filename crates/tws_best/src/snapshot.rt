@@ -16,7 +16,7 @@ use std::marker::Model;
 use tftp_packet::Blocks;
 use tws_file::Ruleset;
 
-// How many of the offsets, which rise, are at most this one.
+// How many of the offsets, which are in rising order, are at most this one.
 fn search(starts: &[u64], offset: u64) -> usize
     requires { IsNonDecreasing starts.now }
     ensures bound { result ≤ length starts.now }
@@ -25,7 +25,7 @@ fn search(starts: &[u64], offset: u64) -> usize
     starts.partition_point(|start| *start <= offset)
 }
 
-/// The text of a collection at one moment, whatever is merged later. It shares the bodies with the collection.
+/// The text of a collection at one moment, which later merges do not change. It shares the bodies with the collection.
 #[derive(Drop)]
 pub struct Snapshot<A: Allocator = Global> {
     ruleset: Ruleset,
@@ -47,7 +47,7 @@ impl<A: Allocator> Model for Snapshot<A> {
 }
 
 impl<A: Allocator + Copy> Snapshot<A> {
-    // The records of these bodies. An error comes where the memory for the two lists was refused.
+    // A snapshot with the records of these bodies. Fails where an allocation for the two lists was refused.
     pub(crate) fn of(alloc: A, kind: Ruleset, kept: &Bodies<A>) -> Result<Self, AllocError>
         requires { 8 + length (flat_map body_text (values kept.now)) < 2 ^ 64 }
         ensures rules { IfOk result (λ s. s.ruleset ≡ kind) }
@@ -71,15 +71,15 @@ impl<A: Allocator + Copy> Snapshot<A> {
 }
 
 impl<A: Allocator> Snapshot<A> {
-    /// How many records the text has.
+    /// The number of records in the text.
     pub fn record_count(&self) -> usize
         ensures { result ≡ length self.now.bodies }
     {
         self.bodies.len()
     }
 
-    /// The offset in the text of the size field of record `i`, which is below `record_count`. Records are counted from
-    /// 0.
+    /// The offset in the text of the size field of record `i`. Records are counted from 0, and `i` is below
+    /// `record_count`.
     pub fn start(&self, i: usize) -> u64
         requires { i < length self.now.bodies }
         ensures { result ≡ record_start self.now i }
@@ -87,7 +87,7 @@ impl<A: Allocator> Snapshot<A> {
         self.starts[i]
     }
 
-    /// The body of record `i`, the bytes after its size field. Records are counted from 0, and `i` is below
+    /// The body of record `i`, which is the bytes after its size field. Records are counted from 0, and `i` is below
     /// `record_count`.
     pub fn body(&self, i: usize) -> &[u8]
         requires { i < length self.now.bodies }
@@ -96,8 +96,8 @@ impl<A: Allocator> Snapshot<A> {
         self.bodies[i].as_slice()
     }
 
-    // The record with the byte at an offset after the header, and how many bytes of the record come before that byte.
-    // At the end of the text it is the last record, with all its bytes.
+    // The record that has the byte at an offset after the header, and how many bytes of the record come before that
+    // byte. At the end of the text this is the last record, with all its bytes.
     fn find(&self, offset: u64) -> (usize, usize)
         requires first { 8 < offset }
         requires last { offset ≤ length (frozen_text self.now) }
@@ -110,7 +110,7 @@ impl<A: Allocator> Snapshot<A> {
         (index, skip as usize)
     }
 
-    // Puts block `k`, as `Blocks` counts them, at the start of `out`, and returns how many bytes it has.
+    // Writes block `k`, counted as in `Blocks`, to the start of `out`, and returns how many bytes it has.
     fn gather(&self, k: u16, out: &mut [u8; 512]) -> usize
         requires first { 1 ≤ k }
         requires last { k ≤ block_count (frozen_text self.now) }

@@ -1,4 +1,4 @@
-//! The text of the solutions that are kept.
+//! The text of the kept solutions.
 
 ghost use Rattle.std.specs.Prelude.{◌≡◌, ◌<◌, ◌^◌, ◌++◌, length, IfErr, OnOk, OnErr};
 ghost use Rattle.std.specs.List.{flat_map};
@@ -16,7 +16,7 @@ use std::alloc::Allocator;
 use std::io::Write;
 use tws_file::{Ruleset, SIGNATURE};
 
-// How many bytes the records have together.
+// The length of all records in bytes.
 pub(crate) fn bodies_len<A: Allocator>(kept: &Bodies<A>) -> u128
     ensures is { result ≡ length (flat_map body_text (values kept.now)) }
     ensures small { result < 2 ^ 100 }
