@@ -1,4 +1,4 @@
--- A file and its chunks, and how they lie in a receiver.
+-- A file and its chunks, and how a receiver stores them.
 use Rattle.std.proofs.Common.{◌≡◌, ℕ, zero, suc, ◌+◌, ◌-◌, ◌*◌, ◌/◌, ◌%◌, ◌<◌, ◌≤◌, ◌≢◌, min, Bool, true, false, cond, Result, Ok, Err, OnOk, OnErr, List, [], ◌∷◌, ◌++◌, length, take, drop, slice_index_or, Option, refl, ap, sym, ◌∙◌, subst, arith, append_assoc, append-nil, length-append, length-take, length-drop, drop-drop, take-take, take-append-drop}
 use Rattle.std.proofs.Math.Seq.{take-add, drop-append_seam, drop-append-add}
 use Rattle.std.proofs.lemmas.List.{take_all, take_at, take_rest, drop-take, nil_from_length}
@@ -54,7 +54,7 @@ some_chunk file i inside = omega (arith, length-chunk_of file i)
 pub most_chunk : (file : List ℕ) (i : ℕ) → length (chunk_of file i) ≤ CHUNK_SIZE
 most_chunk file i = omega (arith, length-chunk_of file i)
 
--- ---- chunks as they lie
+-- ---- chunks as they are stored
 
 pub length-full : (held : List (List ℕ)) → AllFull held → length (concat held) ≡ CHUNK_SIZE * length held
 length-full [] all = refl
@@ -75,7 +75,7 @@ pub held_size : (file : List ℕ) (held : List (List ℕ)) (last : List ℕ) →
 held_size file held last file-is all =
     ap length (sym file-is) ∙ length-append (concat held) last ∙ ap (λ (n : ℕ). n + length last) (length-full held all)
 
--- one of the full ones is that chunk of the file
+-- a full chunk is that chunk of the file
 pub chunk_in : (file : List ℕ) (held : List (List ℕ)) (last : List ℕ) (i : ℕ) (d : List ℕ) → file ≡ concat held ++ last → AllFull held → i < length held → slice_index_or held i d ≡ chunk_of file i
 unfolding chunk_of
 chunk_in file held last i d file-is all inside =
@@ -94,7 +94,7 @@ chunk_last file held last i file-is all within past inside =
     ∙ take_all CHUNK_SIZE last within
     )
 
--- ---- a block is added
+-- ---- a block is appended
 
 -- the bounds after it
 abbrev pub AreChunks : (held : List (List ℕ)) (last : List ℕ) → Type 0
@@ -139,7 +139,7 @@ module _ (file : List ℕ) (held : List (List ℕ)) (last block : List ℕ) (fil
 
 -- ---- blocks
 
--- a block lies in one chunk
+-- a block is inside one chunk
 pub block_in_chunk : (file rest : List ℕ) (start i k : ℕ) → start ≡ BLOCK_SIZE * (k - 1) → i ≡ start / CHUNK_SIZE → rest ≡ drop (start % CHUNK_SIZE) (chunk_of file i) → take BLOCK_SIZE rest ≡ block_of file k
 unfolding chunk_of block_of
 block_in_chunk file rest start i k start-is i-is rest-is =
@@ -164,7 +164,7 @@ pub offset_within : (file chunk : List ℕ) (start k : ℕ) → start ≡ BLOCK_
 offset_within file chunk start k start-is first last chunk-is =
     omega (arith, ap length chunk-is, length-chunk_of file (start / CHUNK_SIZE))
 
--- count bytes of the chunk, from the block's offset on, were copied to the start of what was there
+-- `count` bytes of the chunk, from the block's offset on, were copied to the start of a buffer
 pub copied_chunk : (file chunk rest out copied : List ℕ) (start k count : ℕ) → start ≡ BLOCK_SIZE * (k - 1) → chunk ≡ chunk_of file (start / CHUNK_SIZE) → rest ≡ take (length chunk - start % CHUNK_SIZE) (drop (start % CHUNK_SIZE) chunk) → count ≡ min (length rest) BLOCK_SIZE → copied ≡ take count rest → (count ≡ length (block_of file k)) × (take count (copied ++ out) ≡ block_of file k)
 copied_chunk file chunk rest out copied start k count start-is chunk-is rest-is count-is copied-is =
     let after = rest-is ∙ take_rest chunk (start % CHUNK_SIZE) ∙ ap (drop (start % CHUNK_SIZE)) chunk-is in
@@ -184,7 +184,7 @@ pub all_written : (old new : Option (List ℕ)) (file : List ℕ) (i : ℕ) → 
 all_written old new file i i-is appends =
     subst (λ (xs : List ℕ). Appends old new xs) (ap (λ (n : ℕ). take (CHUNK_SIZE * n) file) i-is ∙ all_chunks file) appends
 
--- where the writer fails in a chunk, a proper prefix of the file was written
+-- if the writer fails in a chunk, a proper prefix of the file was written
 pub prefix_written : (old mid new : Option (List ℕ)) (file chunk : List ℕ) (i : ℕ) → chunk ≡ chunk_of file i → Appends old mid (take (CHUNK_SIZE * i) file) → AppendsPrefix mid new chunk → AppendsPrefix old new file
 prefix_written old mid new file chunk i chunk-is first second =
     let so_far = take (CHUNK_SIZE * i) file in

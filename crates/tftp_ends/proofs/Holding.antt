@@ -1,5 +1,5 @@
--- What a receiver knows of the file that is sent to it, as long as each DATA that comes is a block of that file, and what
--- its steps leave.
+-- What a receiver knows of the file that is sent to it, as long as each DATA that arrives is a block of that file, and
+-- what its steps leave.
 use Rattle.std.proofs.Common.{◌≡◌, ◌⊎◌, ℕ, ◌+◌, ◌*◌, ◌<◌, ◌≤◌, Bool, true, false, ◌==◌, List, ◌++◌, length, None, Some, IfSome, refl, ap, sym, ◌∙◌, subst, arith, inl, inr, length-take}
 use Rattle.std.proofs.lemmas.Bool.{eqb-true, eqb-false, eq-eqb, ne_eqb}
 use Rattle.std.proofs.lemmas.Bool.Decides.{nat_tests}
@@ -14,7 +14,7 @@ use Rattle.tftp_ends.specs.Ends.{Verdict, granted, refused, Receiver, receiver_a
 
 -- ---- what a receiver knows of the file
 
--- it holds the first blocks of this file, and the next one came
+-- the steps of a receiver that holds the first blocks of this file
 module _ (file : List ℕ) (r : Receiver) (holds : HoldsFirst file r) where
   again_holds : (last : Bool) → HoldsFirst file (receiver_again last r).receiver
   again_holds true = holds
@@ -63,7 +63,7 @@ module _ (file : List ℕ) (r : Receiver) (holds : HoldsFirst file r) where
   pub receiver_timeout-holds : HoldsFirst file (receiver_timeout r).receiver
   receiver_timeout-holds = timeout_in_holds r.state
 
-  -- ---- complete is to have the whole file
+  -- ---- complete means having the whole file
 
   held_size : IsReceiver r → HasSize r.state r.count (first_blocks file r.count)
   held_size fits = subst (λ o. IfSome o (HasSize r.state r.count)) holds fits.size
@@ -102,11 +102,11 @@ module _ (file : List ℕ) (r : Receiver) (holds : HoldsFirst file r) where
   last_in receiving.TimedOut whole e = absurd (omega (arith, whole))
   last_in receiving.Over whole e = tt
 
-  -- it is complete or over only with the last block and the whole of the file
+  -- it is complete or over only with the last block and the whole file
   pub ended-whole : IsReceiver r → IsEnded r.state → (r.count ≡ block_count file) × (r.file ≡ Some file)
   ended-whole fits = ended_in r.state (whole_in r.state (held_size fits))
 
-  -- and it is so once it counts the last block; so it acknowledges that one only then
+  -- and it is so once it counts the last block; so it acknowledges that block only then
   pub last-ended : IsReceiver r → r.count ≡ block_count file → IsEnded r.state
   last-ended fits = last_in r.state (whole_in r.state (held_size fits))
 
@@ -146,7 +146,7 @@ data_in_completes receiving.Complete verdict n body r short is = again_completes
 data_in_completes receiving.TimedOut verdict n body r short is = λ complete. inl complete
 data_in_completes receiving.Over verdict n body r short is = λ complete. inl complete
 
--- a receiver is newly complete only by a DATA that completes the file, and where memory is granted
+-- a receiver becomes complete only by a DATA that completes the file, and only if memory is granted
 pub receiver_data-completes : (verdict : Verdict) (n : ℕ) (body : List ℕ) (r : Receiver) → length body ≤ BLOCK_SIZE → CompletesBy verdict n body r (receiver_data verdict n body r).receiver
 receiver_data-completes verdict n body r short = data_in_completes r.state verdict n body r short refl
 
@@ -162,7 +162,7 @@ completed n body r completes =
 
 -- ---- what a receiver's step leaves
 
--- a DATA leaves the receiver as it was, or was the next block
+-- a DATA leaves the receiver unchanged, or was the next block
 abbrev pub IsSameOrNext : (n : ℕ) → (r next : Receiver) → Type 0
 IsSameOrNext n r next = (next ≡ r) ⊎ ((n ≡ r.count + 1) × (next.count ≡ r.count + 1))
 
@@ -212,7 +212,7 @@ timeout_in_same receiving.Over r = (refl, refl)
 pub receiver_timeout-same : (r : Receiver) → HasSameBlocks r (receiver_timeout r).receiver
 receiver_timeout-same r = timeout_in_same r.state r
 
--- nothing is given, or the file of a receiver that has ended, which then has none
+-- nothing is handed out, or the file of a receiver that has ended, which then has none
 abbrev pub GivesOnce : Receiver → TakeAnswer → Type 0
 GivesOnce r a =
     ((a.receiver ≡ r) × (a.file ≡ None))

@@ -20,7 +20,7 @@ abbrev pub AllHonest : (file : List ℕ) (c r : ℕ) → List Packet → Type 0
 AllHonest file c r [] = Unit {0}
 AllHonest file c r (packet ∷ sent) = IsHonest file c r packet × AllHonest file c r sent
 
--- it stays so as the two go on
+-- this stays so as both ends go on
 IsHonest-later : (file : List ℕ) (c c' r r' : ℕ) (packet : Packet) → c ≤ c' → r ≤ r' → IsHonest file c r packet → IsHonest file c' r' packet
 IsHonest-later file c c' r r' (read name mode) further more honest = honest
 IsHonest-later file c c' r r' (write name mode) further more honest = honest
@@ -79,7 +79,7 @@ once_acked sent resent s a once (inr next) =
     let more = count-data sent (s.current + 1) (block_of s.file (s.current + 1)) in
     ap (λ o. count_by is_data (sent_with sent o)) next.0 ∙ omega (arith, more, once, next.1)
 
--- and one for each time-out after which it sent
+-- and one for each time-out that made it send
 pub once_again : (sent : List Packet) (resent : ℕ) (s : Sender) (a : SendAnswer) → count_by is_data sent ≡ s.current + resent → SendsAgain s a → count_by is_data (sent_with sent a.out) ≡ a.sender.current + resent_with resent a.out
 once_again sent resent s a once (same, inl none) =
     ap (λ o. count_by is_data (sent_with sent o)) none ∙ omega (arith, once, same, ap (resent_with resent) none)

@@ -1,5 +1,5 @@
--- What each step of one end keeps, and what it sends. Nothing here speaks of two ends. `Holding` has what a receiver knows
--- of the file.
+-- What each step of one end keeps, and what it sends. Nothing here is about two ends. `Holding` has what a receiver
+-- knows of the file.
 use Rattle.std.proofs.Common.{◌≡◌, ◌≢◌, ◌⊎◌, ℕ, ◌+◌, ◌*◌, ◌^◌, ◌<◌, ◌≤◌, Bool, true, false, ◌==◌, List, length, Option, None, Some, IsSome, IfSome, Ok, refl, sym, ◌∙◌, subst, arith, inl, inr, length-append}
 use Rattle.std.proofs.lemmas.Bool.{eqb-true, eqb-false}
 use Rattle.std.proofs.lemmas.Bool.Decides.{nat_tests}
@@ -33,7 +33,7 @@ ack-reads_back n fits = record { fields = fits; decoded = decode_bytes-encode (a
 
 -- ---- the sender
 
--- what an ACK makes of the sender's number, and what is sent: nothing, or the next block
+-- the sender's number after an ACK, and what is sent: nothing, or the next block
 abbrev pub GoesOn : Sender → SendAnswer → Type 0
 GoesOn s a =
     ((a.out ≡ None) × (a.sender.current ≡ s.current))
@@ -114,7 +114,7 @@ pub IsSender-start : (file : List ℕ) → length file ≤ MAX_FILE → IsSender
 IsSender-start file short =
     record { size = short; counted = omega arith; within = omega arith; patient = omega arith }
 
--- the numbers of a file's blocks fit two bytes
+-- the numbers of a file's blocks fit in two bytes
 pub current-fits : (s : Sender) → IsSender s → s.current < 2 ^ 16
 current-fits s fits = omega (arith, fits.size, fits.within)
 
@@ -125,7 +125,7 @@ reads_back_from : (file : List ℕ) (k : ℕ) (out : Option Packet) → k < 2 ^ 
 reads_back_from file k None fits sends = tt
 reads_back_from file k (Some p) fits sends = subst ReadsBack (sym sends) (data-reads_back file k fits)
 
--- whatever a sender within its bounds sends is read back
+-- whatever a sender within its bounds sends reads back
 pub sends-reads_back : (s : Sender) (a : SendAnswer) → KeepsSender s a → IsSender s → IfSome a.out ReadsBack
 sends-reads_back s a k fits = reads_back_from s.file a.sender.current a.out (current-fits a.sender (k.fits fits)) k.sends
 
@@ -201,7 +201,7 @@ sender_timeout-finishes s = timeout_in_finishes s.state s
 -- what each step of a receiver keeps
 pub record KeepsReceiver (r next : Receiver) (out : Option Packet) : Type 0 where
   pub onward : r.count ≤ next.count
-  -- what it sends is the ACK of the last block that came, or ACK 0
+  -- what it sends is the ACK of the last block received, or ACK 0
   pub sends : IfSome out (λ p. p ≡ ack next.count)
   pub fits : IsReceiver r → IsReceiver next
 
@@ -272,7 +272,7 @@ data_in_keeps receiving.Over n body r short is verdict = same_keeps r
 pub receiver_data-keeps : (verdict : Verdict) (n : ℕ) (body : List ℕ) (r : Receiver) → length body ≤ BLOCK_SIZE → KeepsReceiver r (receiver_data verdict n body r).receiver (sent_of (receiver_data verdict n body r).result)
 receiver_data-keeps verdict n body r short = data_in_keeps r.state n body r short refl verdict
 
--- it waits no longer, in a state in which nothing more comes
+-- it no longer waits, in a state in which nothing more is received
 stops_keeps : (state : RecvState) (r : Receiver) → state ≢ receiving.Running → state ≢ receiving.Complete → (IsReceiver r → IfSome r.file (HasSize state r.count)) → KeepsReceiver r (receiver_waits r.misses state None r).receiver None
 stops_keeps state r idle done size =
     record {
@@ -288,7 +288,7 @@ stops_keeps state r idle done size =
       };
     }
 
--- it waits on, in the state that it has
+-- it still waits, in its current state
 waits_keeps : (state : RecvState) (out : Option Packet) (r : Receiver) → r.state ≡ state → IfSome out (λ p. p ≡ ack r.count) → (IsReceiver r → r.misses + 1 < MISSES) → (IsReceiver r → state ≡ receiving.Complete → r.misses + 1 < DALLY)
     → KeepsReceiver r (receiver_waits (r.misses + 1) state out r).receiver out
 waits_keeps state out r is sends patient dally =
@@ -356,7 +356,7 @@ pub IsReceiver-start : IsReceiver receiver_start
 IsReceiver-start =
     record { size = refl; held = λ _. refl; room = λ _. omega arith; within = omega arith; patient = omega arith; dally = λ e. absurd cc }
 
--- an ACK, whatever a receiver within its bounds sends, is read back
+-- an ACK, which is all that a receiver within its bounds sends, reads back
 acks_back_from : (n : ℕ) (out : Option Packet) → n < 2 ^ 16 → IfSome out (λ p. p ≡ ack n) → IfSome out ReadsBack
 acks_back_from n None fits sends = tt
 acks_back_from n (Some p) fits sends = subst ReadsBack (sym sends) (ack-reads_back n fits)

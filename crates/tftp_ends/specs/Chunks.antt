@@ -1,4 +1,4 @@
--- The chunks of a file that was received: CHUNK_SIZE bytes each but the last, which has 1 to as many. They are counted
+-- The chunks of a received file: CHUNK_SIZE bytes each, except the last, which has 1 to CHUNK_SIZE. They are counted
 -- from 0. An empty file has none.
 use Rattle.std.specs.Prelude.{ℕ, zero, suc, ◌+◌, ◌-◌, ◌*◌, ◌/◌, List, [], ◌∷◌, ◌++◌, length, take, drop}
 use Rattle.tftp_ends.specs.declared.chunks.TheConstants.{CHUNK_SIZE}

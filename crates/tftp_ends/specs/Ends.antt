@@ -1,5 +1,5 @@
--- The two ends of one transfer: what each keeps, and what each call makes of it. RFC 1350 section 2, with RFC 1123
--- section 4.2.3.1: a repeated ACK never makes the sender send its current DATA again. docs/FORMATS.md has it as tables.
+-- The two ends of one transfer: what each keeps, and the effect of each call. RFC 1350 section 2, with RFC 1123 section
+-- 4.2.3.1: a repeated ACK never makes the sender send its current DATA again. docs/FORMATS.md has the same as tables.
 use Rattle.std.specs.Prelude.{◌≡◌, ℕ, ◌+◌, ◌*◌, ◌<◌, ◌≤◌, Bool, true, false, ◌==◌, ◌&&◌, nat_lt, List, [], ◌++◌, length, Option, None, Some, IsSome, IfSome, Result, Ok, Err}
 use Rattle.std.specs.Option.{option_map}
 use Rattle.tftp_packet.specs.declared.sizes.TheConstants.{BLOCK_SIZE}
@@ -15,7 +15,7 @@ use Rattle.tftp_ends.specs.declared.recv_state.RecvState.TheVariants as receivin
 use Rattle.tftp_ends.specs.declared.recv_fault.RecvFault.{RecvFault}
 use Rattle.tftp_ends.specs.declared.recv_fault.RecvFault.TheVariants as fault
 
--- whether the memory that a step asks for is granted; where it asks for none, this has no effect
+-- whether an allocation that a step makes is granted; if it makes none, this has no effect
 pub data Verdict : Type 0 where
   granted : Verdict
   refused : Verdict
@@ -44,18 +44,18 @@ abbrev pub sender_answer : (file : List ℕ) (current misses : ℕ) → SendStat
 sender_answer file current misses state out =
     record { sender = record { file = file; current = current; misses = misses; state = state }; out = out }
 
--- DATA of a block of the file
+-- the DATA for a block of the file
 abbrev pub data_packet : (file : List ℕ) (block : ℕ) → Packet
 data_packet file block = data_block block (block_of file block)
 
 abbrev pub sender_stays : Sender → SendAnswer
 sender_stays s = record { sender = s; out = None }
 
--- it begins with block 1, and has sent that
+-- it begins with block 1, which it has sent
 abbrev pub sender_start : (file : List ℕ) → Sender
 sender_start file = record { file = file; current = 1; misses = 0; state = sending.Running }
 
--- the current block has come: whether it is the last
+-- the current block was acknowledged: whether it is the last
 abbrev pub sender_goes_on : (last : Bool) → Sender → SendAnswer
 sender_goes_on true s = sender_answer s.file s.current s.misses sending.Finished None
 sender_goes_on false s = sender_answer s.file (s.current + 1) 0 sending.Running (Some (data_packet s.file (s.current + 1)))
@@ -70,7 +70,7 @@ sender_ack_in sending.Running n s = sender_acked (n == s.current) s
 sender_ack_in sending.Finished n s = sender_stays s
 sender_ack_in sending.TimedOut n s = sender_stays s
 
--- ACK n comes
+-- ACK n is received
 abbrev pub sender_ack : (n : ℕ) → Sender → SendAnswer
 sender_ack n s = sender_ack_in s.state n s
 
@@ -84,7 +84,7 @@ sender_timeout_in sending.Running s = sender_missed (s.misses + 1 == MISSES) s
 sender_timeout_in sending.Finished s = sender_stays s
 sender_timeout_in sending.TimedOut s = sender_stays s
 
--- nothing has come for a while
+-- a time-out of the sender
 abbrev pub sender_timeout : Sender → SendAnswer
 sender_timeout s = sender_timeout_in s.state s
 
@@ -93,7 +93,7 @@ sender_timeout s = sender_timeout_in s.state s
 pub record Receiver : Type 0 where
   -- how many blocks it has: blocks 1 to this one
   pub count : ℕ
-  -- the bytes of these blocks; none once the file was taken out
+  -- the bytes of these blocks; `None` once the file is taken out
   pub file : Option (List ℕ)
   -- time-outs in a row without progress
   pub misses : ℕ
@@ -114,7 +114,7 @@ receiver_start = record { count = 0; file = Some []; misses = 0; state = receivi
 
 -- ---- DATA
 
--- the error that a peer is told whose block was not taken
+-- the error sent to a peer whose block was not taken
 abbrev pub refusal_of : RecvFault → Refusal
 refusal_of fault.Memory = OutOfMemory
 refusal_of fault.TooLong = FileTooLong
@@ -128,7 +128,7 @@ abbrev pub state_after : (full : Bool) → RecvState
 state_after true = receiving.Running
 state_after false = receiving.Complete
 
--- the next block, where it is not one too many
+-- the next block, if it is not one too many
 abbrev pub receiver_takes : Verdict → (body : List ℕ) → Receiver → DataAnswer
 receiver_takes granted body r =
     record {
@@ -142,12 +142,12 @@ abbrev pub receiver_next : (past : Bool) → Verdict → (body : List ℕ) → R
 receiver_next true verdict body r = record { receiver = r; result = Err fault.TooLong }
 receiver_next false verdict body r = receiver_takes verdict body r
 
--- another block than the next one: whether it is the last that came
+-- a block other than the next one: whether it is the last one received
 abbrev pub receiver_again : (last : Bool) → Receiver → DataAnswer
 receiver_again true r = record { receiver = r; result = Ok (Some (ack r.count)) }
 receiver_again false r = record { receiver = r; result = Ok None }
 
--- block 0 is none, though a receiver begins with 0 blocks
+-- there is no block 0, though a receiver begins with 0 blocks
 abbrev pub is_last_come : (n : ℕ) → Receiver → Bool
 is_last_come n r = nat_lt 0 n && (n == r.count)
 
@@ -165,7 +165,7 @@ receiver_data_in receiving.Complete verdict n body r = receiver_again (is_last_c
 receiver_data_in receiving.TimedOut verdict n body r = record { receiver = r; result = Ok None }
 receiver_data_in receiving.Over verdict n body r = record { receiver = r; result = Ok None }
 
--- DATA n with this body comes
+-- DATA n with this body is received
 abbrev pub receiver_data : Verdict → (n : ℕ) (body : List ℕ) → Receiver → DataAnswer
 receiver_data verdict n body r = receiver_data_in r.state verdict n body r
 
@@ -186,7 +186,7 @@ abbrev pub receiver_missed : (last : Bool) → Receiver → RecvAnswer
 receiver_missed true r = receiver_waits r.misses receiving.TimedOut None r
 receiver_missed false r = receiver_waits (r.misses + 1) receiving.Running (Some (ack r.count)) r
 
--- after the last block: whether it has waited long enough for a repeated one
+-- after the last block: whether it has dallied long enough for a repeated one
 abbrev pub receiver_dallied : (last : Bool) → Receiver → RecvAnswer
 receiver_dallied true r = receiver_waits r.misses receiving.Over None r
 receiver_dallied false r = receiver_waits (r.misses + 1) receiving.Complete None r
@@ -197,13 +197,13 @@ receiver_timeout_in receiving.Complete r = receiver_dallied (r.misses + 1 == DAL
 receiver_timeout_in receiving.TimedOut r = record { receiver = r; out = None }
 receiver_timeout_in receiving.Over r = record { receiver = r; out = None }
 
--- nothing has come for a while
+-- a time-out of the receiver
 abbrev pub receiver_timeout : Receiver → RecvAnswer
 receiver_timeout r = receiver_timeout_in r.state r
 
 -- ---- the file
 
--- the receiver after its file was asked for, and the file, if it is given
+-- the receiver after a request for its file, and the file, if it is handed out
 pub record TakeAnswer : Type 0 where
   pub receiver : Receiver
   pub file : Option (List ℕ)
@@ -218,7 +218,7 @@ receiver_take_in receiving.Complete r = receiver_gives r
 receiver_take_in receiving.TimedOut r = record { receiver = r; file = None }
 receiver_take_in receiving.Over r = receiver_gives r
 
--- the whole file is given once
+-- the whole file is handed out once
 abbrev pub receiver_take : Receiver → TakeAnswer
 receiver_take r = receiver_take_in r.state r
 
@@ -235,9 +235,9 @@ IsEnded receiving.Over = Unit {0}
 abbrev pub HoldsFirst : (file : List ℕ) → Receiver → Type 0
 HoldsFirst file r = r.file ≡ Some (first_blocks file r.count)
 
--- ---- answers as the calls give them
+-- ---- answers as the calls return them
 
--- what a DATA makes the receiver send; nothing where it answers a fault
+-- what the receiver sends for a DATA; nothing if it returns a fault
 abbrev pub sent_of : Result (Option Packet) RecvFault → Option Packet
 sent_of (Ok out) = out
 sent_of (Err e) = None
@@ -246,12 +246,12 @@ abbrev pub answer_of : Result (Option Packet) RecvFault → Result (Option (List
 answer_of (Ok out) = Ok (dgram_of out)
 answer_of (Err e) = Err e
 
--- what was granted, by the fault
+-- whether allocations were granted, by the fault
 abbrev pub verdict_at : RecvFault → Verdict
 verdict_at fault.Memory = refused
 verdict_at fault.TooLong = granted
 
--- what was granted, by a call's answer
+-- whether allocations were granted, by a call's result
 abbrev pub verdict_of : {T : Type 0} → Result T RecvFault → Verdict
 verdict_of (Ok out) = granted
 verdict_of (Err e) = verdict_at e
@@ -264,7 +264,7 @@ pub record IsSender (s : Sender) : Type 0 where
   pub within : s.current ≤ block_count s.file
   pub patient : s.misses < MISSES
 
--- how long the bytes are, by the state
+-- the length of the bytes, by the state
 abbrev pub HasSize : RecvState → (count : ℕ) (bytes : List ℕ) → Type 0
 HasSize receiving.Running count bytes = length bytes ≡ BLOCK_SIZE * count
 HasSize receiving.Complete count bytes = count ≡ block_count bytes
@@ -273,7 +273,7 @@ HasSize receiving.Over count bytes = count ≡ block_count bytes
 
 pub record IsReceiver (r : Receiver) : Type 0 where
   pub size : IfSome r.file (HasSize r.state r.count)
-  -- before the last block the file is there, and can go on
+  -- before the last block the file is present, and can grow
   pub held : r.state ≡ receiving.Running → IsSome r.file
   pub room : r.state ≡ receiving.Running → r.count < MAX_BLOCKS
   pub within : r.count ≤ MAX_BLOCKS

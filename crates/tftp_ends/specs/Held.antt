@@ -1,4 +1,4 @@
--- The bytes that lie in a receiver's chunks. Only private functions speak of this.
+-- The bytes in a receiver's chunks. Only for private functions.
 use Rattle.std.specs.Prelude.{◌≡◌, ℕ, ◌≤◌, List, ◌++◌, length}
 use Rattle.std.specs.List.{concat, AllByRecursion}
 use Rattle.tftp_ends.specs.declared.limits.TheConstants.{MAX_FILE}

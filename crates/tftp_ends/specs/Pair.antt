@@ -9,17 +9,17 @@ use Rattle.tftp_ends.specs.Ends.{Verdict, Sender, Receiver, SendAnswer, RecvAnsw
 pub record Pair : Type 0 where
   pub sender : Sender
   pub receiver : Receiver
-  -- every DATA and every ACK that either ever sent, in order; nothing leaves the network
+  -- every DATA and every ACK that either end ever sent, in order; nothing leaves the network
   pub sent : List Packet
-  -- how many time-outs of the sender made it send
+  -- how many of the sender's time-outs made it send
   pub resent : ℕ
   -- the files that were taken out of the receiver
   pub taken : List (List ℕ)
 
 -- What may happen next. A loss is a packet that is never delivered.
 pub data Event : Type 0 where
-  -- the packet at this place of those sent comes to the end that it was sent to; any may come again, and in any order.
-  -- Whether the receiver gets the memory that it then asks for
+  -- the packet at this index of those sent arrives at the end that it was sent to; any may arrive again, and in any
+  -- order. `verdict` is whether an allocation that the receiver then makes is granted
   deliver : (index : ℕ) (verdict : Verdict) → Event
   sender_times_out : Event
   receiver_times_out : Event
@@ -31,7 +31,7 @@ abbrev pub pair_start : (file : List ℕ) → Pair
 pair_start file =
     record { sender = sender_start file; receiver = receiver_start; sent = data_packet file 1 ∷ []; resent = 0; taken = [] }
 
--- ---- what an end's answer makes of the pair
+-- ---- the pair after an end's answer
 
 abbrev pub sent_with : List Packet → Option Packet → List Packet
 sent_with sent None = sent
@@ -73,7 +73,7 @@ after_take a p =
 
 -- ---- the run
 
--- a DATA comes to the receiver, an ACK to the sender
+-- a DATA arrives at the receiver, an ACK at the sender
 abbrev pub after_packet : Option Packet → Verdict → Pair → Pair
 after_packet None verdict p = p
 after_packet (Some (read name mode)) verdict p = p
@@ -106,15 +106,15 @@ is_data (data_block n body) = true
 is_data (ack n) = false
 is_data (error code text) = false
 
--- as long as the file was not taken out, the receiver's bytes are the blocks that it counts, joined
+-- until the file is taken out, the receiver's bytes are the blocks that it counts, joined
 abbrev pub HasFirstBlocks : (file : List ℕ) → Pair → Type 0
 HasFirstBlocks file p = p.taken ≡ [] → p.receiver.file ≡ Some (concat (blocks_to file p.receiver.count))
 
--- the sender has finished only if the receiver has the whole file, as long as that was not taken out
+-- until the file is taken out, the sender has finished only if the receiver has the whole file
 abbrev pub FinishesWhole : (file : List ℕ) → Pair → Type 0
 FinishesWhole file p = p.sender.state ≡ sending.Finished → p.taken ≡ [] → p.receiver.file ≡ Some file
 
--- the sender has sent each block up to its current one once, and one DATA for each time-out after which it sent
+-- the sender has sent each block up to its current one once, and one DATA for each time-out that made it send
 abbrev pub SendsOnce : Pair → Type 0
 SendsOnce p = count_by is_data p.sent ≡ p.sender.current + p.resent
 

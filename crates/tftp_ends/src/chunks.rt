@@ -9,15 +9,15 @@ use std::marker::Model;
 use std::mem;
 use tftp_packet::{BLOCK_SIZE, Owned};
 
-/// How many bytes each chunk of a received file but the last has. A block never lies in two chunks.
+/// The length in bytes of every chunk of a received file but the last. A block never spans two chunks.
 pub const CHUNK_SIZE: usize = 16_384;
 
-// The bytes of a file as far as it has come, in chunks, so that no byte is moved once a chunk is full.
+// The bytes of a file, as far as they have arrived, in chunks, so that no byte is moved once a chunk is full.
 #[derive(Drop)]
 #[derive_where(Debug)]
 pub(crate) struct Chunks<A: Allocator = Global> {
     full: Vec<Owned<A>, A>,
-    // What follows the full chunks. It may be full too.
+    // The bytes after the full chunks. This chunk may be full too.
     last: Vec<u8, A>,
 }
 
@@ -44,8 +44,7 @@ impl<A: Allocator + Copy> Chunks<A> {
         }
     }
 
-    // Adds a block at the end, in the last chunk or in a new one. An empty block takes no memory. On error nothing
-    // changes.
+    // Appends a block, to the last chunk or to a new one. An empty block does not allocate. On error nothing changes.
     pub(crate) fn push_block(&mut self, block: &[u8]) -> Result<(), AllocError>
         requires short { length block.now ≤ BLOCK_SIZE }
         requires whole_blocks { length self.old % BLOCK_SIZE ≡ 0 }
@@ -64,8 +63,8 @@ impl<A: Allocator + Copy> Chunks<A> {
     }
 }
 
-// The last chunk joins the full ones, and a new one begins with this block. The first chunk of a file grows as blocks
-// come, so that a small file takes little memory; the memory for each other one is taken at once.
+// Adds the last chunk to the full ones, and begins a new one with this block. The first chunk of a file grows as blocks
+// arrive, so that a small file takes little memory; each other chunk is allocated at once.
 fn begin_chunk<A: Allocator + Copy>(
     full: &mut Vec<Owned<A>, A>,
     last: &mut Vec<u8, A>,
@@ -88,7 +87,7 @@ fn begin_chunk<A: Allocator + Copy>(
 }
 
 impl<A: Allocator> Chunks<A> {
-    // How many bytes there are.
+    // The number of bytes.
     pub(crate) fn len(&self) -> usize
         ensures count { result ≡ length self.now }
         ensures most { result ≤ MAX_FILE }
@@ -96,7 +95,7 @@ impl<A: Allocator> Chunks<A> {
         CHUNK_SIZE * self.full.len() + self.last.len()
     }
 
-    // How many chunks there are.
+    // The number of chunks.
     pub(crate) fn chunk_count(&self) -> usize
         ensures { result ≡ chunk_count self.now }
     {
@@ -107,7 +106,7 @@ impl<A: Allocator> Chunks<A> {
         }
     }
 
-    // Lends a chunk.
+    // Borrows a chunk.
     pub(crate) fn chunk(&self, i: usize) -> &[u8]
         requires { i < chunk_count self.now }
         ensures { result.now ≡ chunk_of self.now i }

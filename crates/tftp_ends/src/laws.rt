@@ -9,21 +9,21 @@ ghost use Rattle.tftp_ends.specs.Pair.{Event, pair_run, HasFirstBlocks, Finishes
 use crate::chunks::CHUNK_SIZE;
 use crate::limits::{DALLY, MAX_BLOCKS, MAX_FILE, MISSES};
 
-/// Of a sender of any file and a new receiver, after any list of deliveries, each of any DATA or ACK that was ever
-/// sent, of time-outs, of allocations refused and of requests for the file.
+/// What holds of a sender of any file and a new receiver, after any list of deliveries, each of any DATA or ACK that
+/// was ever sent, of time-outs, of refused allocations and of requests for the file.
 pub fn one_pair()
-    // As long as the file was not taken out, the receiver's bytes are the blocks that it counts, joined.
+    // Until the file is taken out, the receiver's bytes are the blocks that it counts, joined.
     ensures blocks { (file : List ℕ) (events : List Event) → HasFirstBlocks file (pair_run file events) }
-    // The sender has finished only if the receiver has the whole file.
+    // Until the file is taken out, the sender has finished only if the receiver has the whole file.
     ensures whole { (file : List ℕ) (events : List Event) → FinishesWhole file (pair_run file events) }
-    // The sender has sent exactly one DATA for each block up to its current one, and one for each time-out after
-    // which it sent.
+    // The sender has sent exactly one DATA for each block up to its current one, and one for each time-out that made it
+    // send.
     ensures once { (file : List ℕ) (events : List Event) → SendsOnce (pair_run file events) }
     // What is taken out is the sender's file, at most once.
     ensures taken { (file : List ℕ) (events : List Event) → IsTakenOnce file (pair_run file events) }
 {}
 
-/// The chunks of a file joined are the file. Each has `CHUNK_SIZE` bytes but the last, which has 1 to as many.
+/// The chunks of a file joined are the file. Each has `CHUNK_SIZE` bytes, except the last, which has 1 to `CHUNK_SIZE`.
 pub fn joined_chunks()
     ensures joined { (file : List ℕ) → concat (chunks_of file) ≡ file }
     ensures full { (file : List ℕ) (i : ℕ) → i + 1 < chunk_count file → length (chunk_of file i) ≡ CHUNK_SIZE }
@@ -31,7 +31,7 @@ pub fn joined_chunks()
     ensures most { (file : List ℕ) (i : ℕ) → length (chunk_of file i) ≤ CHUNK_SIZE }
 {}
 
-/// The limits as numbers. The definitions name them.
+/// The values of the limits, which the definitions use by name.
 pub fn limit_values()
     ensures blocks { MAX_BLOCKS ≡ 65535 }
     ensures file { MAX_FILE ≡ 33553919 }

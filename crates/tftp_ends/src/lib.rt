@@ -1,15 +1,15 @@
-//! The two ends of a TFTP transfer: who sends a file block by block, and who receives it. RFC 1350 section 2, with
+//! The two ends of a TFTP transfer: the sender of a file, block by block, and the receiver. RFC 1350 section 2, with
 //! RFC 1123 section 4.2.3.1.
 //!
-//! `specs/Ends.antt` is the file to read first: what each end keeps, and what each call makes of it. `specs/Pair.antt`
-//! has what holds of two ends with any network between them, `specs/Chunks.antt` how a received file lies in memory.
-//! `proofs/Steps.antt` has what each step of one end keeps and sends, and `proofs/Holding.antt` what a receiver knows of
-//! the file, for crates above.
+//! Read `specs/Ends.antt` first: it defines what each end keeps, and the effect of each call. `specs/Pair.antt` defines
+//! what holds of two ends with any network between them, `specs/Chunks.antt` how a received file is stored in memory.
+//! `proofs/Steps.antt` has what each step of one end keeps and sends, and `proofs/Holding.antt` what a receiver knows
+//! of the file, for crates above.
 //!
-//! How it is called:
+//! An example of a caller:
 //!
 //! ```text
-//! // What a DATA makes the receiver send, and the file once all of it has come.
+//! // What the receiver sends for a DATA, and the file once all of it has arrived.
 //! fn receive(
 //!     receiver: &mut Receiver,
 //!     datagram: &[u8],

@@ -1,15 +1,15 @@
-//! How long a file may be, and how long an end waits.
+//! Limits on the length of a file, and on how long an end waits.
 
 use tftp_packet::BLOCK_SIZE;
 
-/// How many blocks a file has at most: as many as two bytes can number. No block number wraps.
+/// The greatest number of blocks in a file: as many as two bytes can number. No block number wraps.
 pub const MAX_BLOCKS: u16 = 65_535;
 
-/// How many bytes a file has at most: the last block is not full.
+/// The greatest length of a file in bytes: the last block is not full.
 pub const MAX_FILE: u64 = BLOCK_SIZE as u64 * MAX_BLOCKS as u64 - 1;
 
-/// How many time-outs in a row, without progress between them, end a transfer.
+/// The number of time-outs in a row, without progress between them, that end a transfer.
 pub const MISSES: u8 = 5;
 
-/// How many time-outs a receiver waits after the last block, for the case that its last ACK was lost.
+/// The number of time-outs that a receiver waits after the last block, in case its last ACK was lost.
 pub const DALLY: u8 = 2;

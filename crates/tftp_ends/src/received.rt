@@ -1,4 +1,4 @@
-//! A file that was received.
+//! A received file.
 
 ghost use Rattle.std.specs.Prelude.{◌≡◌, ◌<◌, ◌≤◌, ◌+◌, ◌%◌, ◌++◌, [], length, IfOk, IfErr, OnOk, OnErr};
 ghost use Rattle.std.specs.Io.KnownBytes.{Appends};
@@ -13,8 +13,8 @@ use std::io::Write;
 use std::marker::Model;
 use tftp_packet::{BLOCK_SIZE, Blocks};
 
-/// A file that was received, seen as the list of its bytes. They lie in chunks of `CHUNK_SIZE` bytes, the last of 1 to
-/// as many; an empty file has no chunk. It can be sent in blocks again.
+/// A received file, seen as the list of its bytes. They are in chunks of `CHUNK_SIZE` bytes, except the last chunk,
+/// which has 1 to `CHUNK_SIZE`; an empty file has no chunk. The file can be sent in blocks again.
 #[derive(Drop)]
 #[derive_where(Debug)]
 pub struct Received<A: Allocator = Global> {
@@ -39,7 +39,7 @@ impl<A: Allocator + Copy> Received<A> {
         }
     }
 
-    // Adds the next block. An empty one takes no memory. On error nothing changes.
+    // Appends the next block. An empty one does not allocate. On error nothing changes.
     pub(crate) fn push_block(&mut self, block: &[u8]) -> Result<(), AllocError>
         requires short { length block.now ≤ BLOCK_SIZE }
         requires whole_blocks { length self.old % BLOCK_SIZE ≡ 0 }
@@ -53,7 +53,7 @@ impl<A: Allocator + Copy> Received<A> {
 }
 
 impl<A: Allocator> Received<A> {
-    /// How many bytes it has, at most `MAX_FILE`.
+    /// The length in bytes, at most `MAX_FILE`.
     pub fn len(&self) -> u64
         ensures count { result ≡ length self.now }
         ensures most { result ≤ MAX_FILE }
@@ -61,15 +61,15 @@ impl<A: Allocator> Received<A> {
         self.chunks.len() as u64
     }
 
-    /// How many chunks it has.
+    /// The number of chunks.
     pub fn chunk_count(&self) -> usize
         ensures { result ≡ chunk_count self.now }
     {
         self.chunks.chunk_count()
     }
 
-    /// Lends chunk `i`, counted from 0 and below `chunk_count`: the bytes from `CHUNK_SIZE * i` up to
-    /// `CHUNK_SIZE * (i + 1)` or the end.
+    /// Borrows chunk `i`, counted from 0 and below `chunk_count`: the bytes from `CHUNK_SIZE * i` up to `CHUNK_SIZE *
+    /// (i + 1)` or the end.
     pub fn chunk(&self, i: usize) -> &[u8]
         requires { i < chunk_count self.now }
         ensures { result.now ≡ chunk_of self.now i }
@@ -77,11 +77,11 @@ impl<A: Allocator> Received<A> {
         self.chunks.chunk(i)
     }
 
-    /// The bytes in a vector of their own.
+    /// Copies the bytes to a vector.
     ///
     /// # Errors
     ///
-    /// Where memory ran out.
+    /// Fails if an allocation was refused.
     pub fn to_vec<C: Allocator>(&self, alloc: C) -> Result<Vec<u8, C>, AllocError>
         ensures { IfOk result (λ v. v.items ≡ self.now) }
     {
@@ -92,12 +92,12 @@ impl<A: Allocator> Received<A> {
         Ok(bytes)
     }
 
-    /// Writes the bytes. It takes no memory.
+    /// Writes the bytes. Does not allocate.
     ///
     /// # Errors
     ///
-    /// `Io` where the writer answers an error, or takes none of the bytes that are left. A proper prefix of the bytes
-    /// was written.
+    /// `Io` if the writer returns an error, or takes none of the remaining bytes. A proper prefix of the bytes was
+    /// written.
     pub fn write_to<W: Write>(&self, out: &mut W) -> Result<(), OutFault>
         ensures ok { OnOk result (Appends (W.contents out.old) (W.contents out.new) self.now) }
         ensures err { OnErr result (AppendsPrefix (W.contents out.old) (W.contents out.new) self.now) }
@@ -117,7 +117,7 @@ impl<A: Allocator> Blocks for Received<A> {
         self.len()
     }
 
-    // No block lies in two chunks.
+    // No block spans two chunks.
     fn block(&self, k: u16, out: &mut [u8; BLOCK_SIZE]) -> usize {
         let start = BLOCK_SIZE * (usize::from(k) - 1);
         let i = start / CHUNK_SIZE;

@@ -1,4 +1,4 @@
-//! The end that receives.
+//! The receiving end.
 
 ghost use Rattle.std.specs.Prelude.{◌≡◌, ◌≤◌, ◌==◌, ◌+◌, length, Ok, OnErr, IfErr, IfSome, option_copied};
 ghost use Rattle.tftp_ends.specs.Ends.{dgram_of, answer_of, verdict_of, is_last_come, is_past, receiver_start, receiver_next, receiver_again, receiver_data, receiver_timeout, receiver_take, receiver_running, IsReceiver};
@@ -13,14 +13,14 @@ use tftp_packet::{BLOCK_SIZE, Dgram, encode_ack};
 
 /// The end of a transfer that receives a file.
 ///
-/// It acknowledges each block, RFC 1350 section 2, and waits after the last one, section 6. Only `on_data` takes
-/// memory.
+/// It acknowledges each block (RFC 1350 section 2), and dallies after the last one (section 6). Only `on_data`
+/// allocates.
 #[derive(Drop)]
 #[derive_where(Debug)]
 pub struct Receiver<A: Allocator + Copy = Global> {
-    /// How many blocks have come: blocks 1 to this one.
+    /// How many blocks were received: blocks 1 to this one.
     count: u16,
-    /// Their bytes; none once the file was taken out.
+    /// Their bytes; `None` once the file is taken out.
     file: Option<Received<A>>,
     /// Time-outs in a row without a new block.
     misses: u8,
@@ -40,7 +40,7 @@ impl<A: Allocator + Copy> Model for Receiver<A> {
 }
 
 impl<A: Allocator + Copy> Receiver<A> {
-    /// A receiver to which nothing has come. It takes no memory yet.
+    /// A receiver that has received nothing. Does not allocate.
     pub fn new(alloc: A) -> Self
         ensures receiver { result ≡ receiver_start }
         ensures fits { IsReceiver result }
@@ -53,21 +53,22 @@ impl<A: Allocator + Copy> Receiver<A> {
         }
     }
 
-    /// Block `n` with this body, of at most `BLOCK_SIZE` bytes, has come.
+    /// Handles a DATA: block `n` with this body, of at most `BLOCK_SIZE` bytes.
     ///
     /// The next block is taken and acknowledged; one of fewer than `BLOCK_SIZE` bytes ends the file. The last block
-    /// that came is acknowledged again, also after the end. Any other changes nothing and sends nothing.
+    /// received is acknowledged again, even after the end of the file. Any other block changes nothing and sends
+    /// nothing.
     ///
     /// # Errors
     ///
-    /// `Memory` where an allocation was refused, and `TooLong` where the file goes on after block `MAX_BLOCKS`. The
-    /// receiver is then as it was before, so the same block may be given again.
+    /// `Memory` if an allocation was refused, and `TooLong` if the file goes on after block `MAX_BLOCKS`. The receiver
+    /// is then unchanged, so the same block may be passed in again.
     pub fn on_data(&mut self, n: u16, body: &[u8]) -> Result<Option<Dgram>, RecvFault>
         requires { length body.now ≤ BLOCK_SIZE }
         ensures receiver { self.new ≡ (receiver_data (verdict_of result) n body.now self.old).receiver }
         ensures sent { result ≡ answer_of (receiver_data (verdict_of result) n body.now self.old).result }
         ensures unchanged { OnErr result (self.new ≡ self.old) }
-        // A block without bytes takes no memory.
+        // A block without bytes does not allocate.
         ensures grows { IfErr result (λ e. e ≡ RecvFault.Memory → 1 ≤ length body.now) }
         ensures fits { IsReceiver self.new }
     {
@@ -78,7 +79,7 @@ impl<A: Allocator + Copy> Receiver<A> {
         }
     }
 
-    // A block has come while some are missing, so a number follows that of the last one.
+    // Handles a block while some are missing, so that a number follows that of the last one.
     fn on_running(&mut self, n: u16, body: &[u8]) -> Result<Option<Dgram>, RecvFault>
         requires running { self.old.state ≡ RecvState.Running }
         requires short { length body.now ≤ BLOCK_SIZE }
@@ -93,7 +94,7 @@ impl<A: Allocator + Copy> Receiver<A> {
         }
     }
 
-    // The ACK of the last block that came, if this is its number.
+    // The ACK of the last block received, if `n` is its number.
     fn again(&self, n: u16) -> Option<Dgram>
         ensures { Ok result ≡ answer_of (receiver_again (is_last_come n self.now) self.now).result }
     {
@@ -129,9 +130,9 @@ impl<A: Allocator + Copy> Receiver<A> {
         Ok(Some(encode_ack(n)))
     }
 
-    /// Nothing has come for a while. While blocks are missing, the last ACK is sent again, ACK 0 before the first
-    /// block; time-out number `MISSES` in a row sends nothing and ends the transfer. After the last block nothing is
-    /// sent, and the receiver is over at time-out number `DALLY`. After either end nothing changes any more.
+    /// Handles a time-out: while blocks are missing, the last ACK is sent again, ACK 0 before the first block; time-out
+    /// number `MISSES` in a row sends nothing and ends the transfer. After the last block nothing is sent, and the
+    /// receiver is over at time-out number `DALLY`. After either end nothing changes any more.
     pub fn on_timeout(&mut self) -> Option<Dgram>
         ensures receiver { self.new ≡ (receiver_timeout self.old).receiver }
         ensures sent { result ≡ dgram_of (receiver_timeout self.old).out }
@@ -165,7 +166,7 @@ impl<A: Allocator + Copy> Receiver<A> {
         self.state
     }
 
-    /// The file, where all of it has come and it was not taken out.
+    /// Borrows the file, if all of it has arrived and it was not taken out.
     pub fn file(&self) -> Option<&Received<A>>
         ensures { option_copied result ≡ (receiver_take self.now).file }
     {
@@ -175,8 +176,8 @@ impl<A: Allocator + Copy> Receiver<A> {
         }
     }
 
-    /// The file, once: where all of it has come and it was not taken out before. Nothing else changes, so the last
-    /// block is still acknowledged where it comes again.
+    /// Takes the file out, once: if all of it has arrived and it was not taken out before. Nothing else changes, so the
+    /// last block is still acknowledged if it arrives again.
     pub fn take_file(&mut self) -> Option<Received<A>>
         ensures receiver { self.new ≡ (receiver_take self.old).receiver }
         ensures file { result ≡ (receiver_take self.old).file }

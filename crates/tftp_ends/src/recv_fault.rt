@@ -6,10 +6,10 @@ use std::alloc::AllocError;
 use tftp_packet::Refusal;
 use thiserror::Error;
 
-/// Why a DATA was not taken. The receiver is as it was before.
+/// Why a DATA was not taken. The receiver is unchanged.
 #[derive(Clone, Copy, Debug, PartialEq, Eq, Error)]
 pub enum RecvFault {
-    /// Memory ran out.
+    /// Out of memory.
     #[error("Memory")]
     Memory,
     /// Block `MAX_BLOCKS` is full, so the file goes on after it.
@@ -18,7 +18,7 @@ pub enum RecvFault {
 }
 
 impl RecvFault {
-    /// The ERROR that the peer is told, RFC 1350 section 5.
+    /// The ERROR that is sent to the peer (RFC 1350 section 5).
     pub fn refusal(self) -> Refusal
         ensures { result ≡ refusal_of self }
     {

@@ -1,4 +1,4 @@
-//! The end that sends.
+//! The sending end.
 
 ghost use Rattle.std.specs.Prelude.{◌≡◌, ◌≤◌, ◌==◌, None, Some, true, false, length};
 ghost use Rattle.tftp_packet.specs.Packet.{encode};
@@ -10,9 +10,9 @@ use crate::send_state::SendState;
 use std::marker::Model;
 use tftp_packet::{BLOCK_SIZE, Blocks, Dgram, encode_block};
 
-/// The end of a transfer that sends a file: one block, then its ACK, then the next block, RFC 1350 section 2.
+/// The end of a transfer that sends a file: one block, then its ACK, then the next block (RFC 1350 section 2).
 ///
-/// None of its calls takes memory.
+/// No call allocates.
 #[derive(Debug, Drop)]
 pub struct Sender<B: Blocks> {
     blocks: B,
@@ -36,7 +36,7 @@ impl<B: Blocks> Model for Sender<B> {
 }
 
 impl<B: Blocks> Sender<B> {
-    /// A sender of this file, which has at most `MAX_FILE` bytes, and DATA 1, which it sends first.
+    /// Returns a sender of this file, which has at most `MAX_FILE` bytes, and DATA 1, which is to be sent first.
     pub fn start(blocks: B) -> (Self, Dgram)
         requires { length (B.file blocks) ≤ MAX_FILE }
         ensures sender { result.0 ≡ sender_start (B.file blocks) }
@@ -60,9 +60,9 @@ impl<B: Blocks> Sender<B> {
         u64::from(self.current) == self.blocks.file_len() / BLOCK_SIZE as u64 + 1
     }
 
-    /// ACK `n` has come. Returns whether the next DATA is to be sent, which is then that of `data`. The ACK of the last
-    /// block ends the transfer. Any other than that of the current block changes nothing and sends nothing, also one
-    /// that comes again: RFC 1123 section 4.2.3.1.
+    /// Handles ACK `n`. Returns whether the next DATA is to be sent, which is then that of `data`. The ACK of the last
+    /// block ends the transfer. Any ACK but that of the current block changes nothing and sends nothing, and so does a
+    /// repeated one (RFC 1123 section 4.2.3.1).
     pub fn advance(&mut self, n: u16) -> bool
         ensures sender { self.new ≡ (sender_ack n self.old).sender }
         ensures sends { result ≡ true → (sender_ack n self.old).out ≡ Some (data_packet self.new.file self.new.current) }
@@ -89,7 +89,7 @@ impl<B: Blocks> Sender<B> {
         encode_block(&self.blocks, self.current)
     }
 
-    /// ACK `n` has come: `advance`, and the DATA that is then to be sent.
+    /// Handles ACK `n`: `advance`, and the DATA that is then to be sent.
     pub fn on_ack(&mut self, n: u16) -> Option<Dgram>
         ensures sender { self.new ≡ (sender_ack n self.old).sender }
         ensures sent { result ≡ dgram_of (sender_ack n self.old).out }
@@ -102,8 +102,8 @@ impl<B: Blocks> Sender<B> {
         }
     }
 
-    /// Nothing has come for a while. The current DATA is sent again; time-out number `MISSES` in a row sends nothing and
-    /// ends the transfer. Where the sender has finished or given up, nothing changes and nothing is sent.
+    /// Handles a time-out: the current DATA is sent again; time-out number `MISSES` in a row sends nothing and ends the
+    /// transfer. If the sender has finished or given up, nothing changes and nothing is sent.
     pub fn on_timeout(&mut self) -> Option<Dgram>
         ensures sender { self.new ≡ (sender_timeout self.old).sender }
         ensures sent { result ≡ dgram_of (sender_timeout self.old).out }
