@@ -1,4 +1,4 @@
--- `is_refused` at a call: what it is handed, and what a caller has of it. Assumes `Logic`.
+-- `is_refused` at a call: what it is passed, and what a caller knows of it. Assumes `Logic`.
 use Rattle.std.proofs.Common.{◌≡◌, ℕ, ◌^◌, ◌<◌, ◌≤◌, Bool, List, [], ◌∷◌, refl, ap, w64}
 use Rattle.std.specs.Prelude.{IsTrue}
 use seplogic.Ra.Ura.{Ura}

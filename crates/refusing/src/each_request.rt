@@ -6,19 +6,19 @@ use crate::Refusing;
 use std::alloc::Global;
 use thiserror::Error;
 
-/// What one run of a test gave.
+/// What one run of a test returned.
 #[derive(Clone, Copy, Debug, PartialEq, Eq)]
 pub enum Outcome {
-    /// The full answer.
+    /// The complete answer.
     Right,
     /// Another answer, or a fault other than out of memory; or something changed that must not.
     Wrong,
-    /// Memory ran out, and what has to stay as it was did.
+    /// Out of memory, and everything that must stay unchanged did.
     OutOfMemory,
 }
 
 impl Outcome {
-    /// Of a run that did not run out of memory: whether its answer is the full one.
+    /// For a run that did not run out of memory: whether its answer is the complete one.
     pub fn of(is_right: bool) -> Self
         ensures right { is_right ≡ true → result ≡ Right }
         ensures wrong { is_right ≡ false → result ≡ Wrong }
@@ -30,7 +30,7 @@ impl Outcome {
         }
     }
 
-    /// Of a run that ran out of memory: whether all that had to stay as it was did.
+    /// For a run that ran out of memory: whether everything that must stay unchanged did.
     pub fn refused(is_as_before: bool) -> Self
         ensures kept { is_as_before ≡ true → result ≡ OutOfMemory }
         ensures changed { is_as_before ≡ false → result ≡ Wrong }
@@ -46,13 +46,13 @@ impl Outcome {
 /// What is wrong with the runs of a test.
 #[derive(Clone, Copy, Debug, PartialEq, Eq, Error)]
 pub enum Complaint {
-    /// A run did not give the full answer, and did not run out of memory.
+    /// A run did not return the complete answer, and was not out of memory.
     #[error("a wrong answer")]
     WrongAnswer,
-    /// A run was out of memory where no request was refused.
+    /// A run was out of memory although no request was refused.
     #[error("out of memory, and no request was refused")]
     NoRefusal,
-    /// The first run that met no refusal came too early.
+    /// The first run without a refusal came too early.
     #[error("too few requests")]
     TooFew,
     /// Every run met a refusal.
@@ -60,10 +60,10 @@ pub enum Complaint {
     Endless,
 }
 
-// No run makes so many requests.
+// No run makes this many requests.
 const MANY: u64 = 200;
 
-// What is wrong with a run, if anything is.
+// What is wrong with a run; `None` if nothing is.
 fn judge(outcome: Outcome, has_refused: bool) -> Option<Complaint>
     ensures right { IfNone result (has_refused ≡ false → outcome ≡ Right) }
     ensures not_wrong { IfNone result (outcome ≢ Wrong) }
@@ -78,12 +78,12 @@ fn judge(outcome: Outcome, has_refused: bool) -> Option<Complaint>
 }
 
 /// Refuses the first request of a run for memory, then the second, and so on, until a run meets no refusal. A run that
-/// is out of memory must have met one, and every other must give the full answer.
+/// is out of memory must have met one, and every other run must return the complete answer.
 ///
 /// # Errors
 ///
-/// What is wrong with a run; `TooFew` where the run without a refusal was not preceded by `least` others, and `Endless`
-/// where there was none in many.
+/// What is wrong with a run; `TooFew` if fewer than `least` other runs came before the one without a refusal, and
+/// `Endless` if every run of many met a refusal.
 // The run is a `dyn`, so that this loop is proved and built once, and not for each test.
 pub fn refuse_each(
     global: Global,
@@ -91,11 +91,11 @@ pub fn refuse_each(
     run: &dyn Fn(&Refusing<Global>) -> Outcome,
 ) -> Result<(), Complaint>
     requires { IsAlwaysCallable run.now }
-    // The last run, which met no refusal, gave the full answer.
+    // The last run, which met no refusal, returned the complete answer.
     ensures last { OnOk result ((refusing : _) × (least < refusing.now.nth) × post run.now refusing Right) }
-    // No run before it gave a wrong one.
+    // No run before it returned a wrong one.
     ensures each { OnOk result ((n : ℕ) → 1 ≤ n → n ≤ least → (refusing : _) × (outcome : Outcome) × (refusing.now.nth ≡ n) × (outcome ≢ Wrong) × post run.now refusing outcome) }
-    // What is wrong is so of a run.
+    // The complaint holds for some run.
     ensures wrong { result ≡ Err Complaint.WrongAnswer → (refusing : _) × post run.now refusing Wrong }
     ensures memory { result ≡ Err Complaint.NoRefusal → (refusing : _) × post run.now refusing OutOfMemory }
     ensures few { result ≡ Err Complaint.TooFew → (refusing : _) × (refusing.now.nth ≤ least) × post run.now refusing Right }

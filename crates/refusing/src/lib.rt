@@ -3,8 +3,8 @@
 //! A test lends it to the code under test as `&Refusing<Global>`, and counts `nth` up from 1 until a run ends
 //! with nothing refused. By then each of the code's requests has been the one that failed.
 //!
-//! No clause can say what a cell holds. So the clauses here are on what does not depend on the count, and the
-//! tests show which request is refused.
+//! No clause can say what a cell holds. So the clauses here are about what does not depend on the count, and the tests
+//! show which request is refused.
 #![tactic(auto)]
 
 ghost use Rattle.std.specs.Prelude.{◌≡◌, ◌↔◌, ◌+◌, ◌≤◌, IsTrue};
@@ -19,23 +19,23 @@ pub use each_request::{Complaint, Outcome, refuse_each};
 #[cfg(test)]
 mod tests;
 
-/// Passes each call on to the allocator `inner`, but answers the request number `nth` with an error.
+/// Passes each call on to the allocator `inner`, except for request number `nth`, for which it returns an error.
 ///
-/// Each call for a block counts as a request, also one that makes a block larger or smaller.
+/// Each call for a block counts as a request, including one that makes a block larger or smaller.
 pub struct Refusing<B: Allocator> {
-    /// The allocator that has the memory.
+    /// The allocator that owns the memory.
     pub inner: B,
 
     /// The number of the request to refuse, counted from 1. At 0 none is refused.
     ///
-    /// It may be set anew, to a request that is still to come.
+    /// It may be set again, to a request that is still to come.
     pub nth: u64,
 
     requests: Cell<u64>,
 }
 
 impl<B: Allocator> Refusing<B> {
-    /// An allocator that has had no request yet, and refuses the one that comes as number `nth`.
+    /// An allocator that has had no request yet, and refuses request number `nth`.
     pub fn new(inner: B, nth: u64) -> Refusing<B>
         ensures inner { result.inner ≡ inner }
         ensures nth { result.nth ≡ nth }
@@ -47,14 +47,14 @@ impl<B: Allocator> Refusing<B> {
         }
     }
 
-    /// How many requests came so far, the refused one among them. The count stops at `u64::MAX`.
-    // It has no clause, since it answers what the cell holds.
+    /// The number of requests so far, including the refused one. The count stops at `u64::MAX`.
+    // It has no clause, since it returns what the cell holds.
     pub fn requests(&self) -> u64 {
         self.requests.get()
     }
 
-    /// Whether the request number `nth` came, and so was refused.
-    // No clause can say that it is true once that request came.
+    /// Whether request number `nth` was made, and so was refused.
+    // No clause can say that it is true once that request was made.
     pub fn has_refused(&self) -> bool
         ensures { IsTrue result → 1 ≤ self.now.nth }
     {
@@ -72,7 +72,7 @@ impl<B: Allocator> Drop for Refusing<B> {
     }
 }
 
-// Whether the request that comes after `earlier` others is the one to refuse.
+// Whether the request after `earlier` others is the one to refuse.
 fn is_nth(earlier: u64, nth: u64) -> bool
     ensures { IsTrue result ↔ (earlier + 1 ≡ nth) }
 {

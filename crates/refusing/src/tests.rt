@@ -3,7 +3,7 @@ use super::*;
 use std::alloc::Global;
 use std::test::Fail;
 
-// It makes three requests: one for each text, and one for the list.
+// Makes three requests: one for each text, and one for the list.
 fn lengths<A: Allocator + Copy>(alloc: A) -> Result<Vec<usize, A>, AllocError> {
     let short = String::from_str(alloc, "one")?;
     let long = String::from_str(alloc, "three")?;
@@ -116,7 +116,7 @@ fn each_request_is_refused_in_turn(rt: HostRuntime) -> Result<(), Fail> {
     Ok(())
 }
 
-// What a run that takes no memory is told, by what it gives.
+// What `refuse_each` reports for a run that allocates nothing.
 #[test]
 fn complaints(rt: HostRuntime) {
     let gives = (
@@ -143,7 +143,7 @@ fn asks<A: Allocator>(alloc: A) -> Outcome {
     }
 }
 
-// One that asks each time anew, so that every run meets a refusal.
+// The second run asks again and again, so that it always meets a refusal.
 #[test]
 fn runs_without_end(rt: HostRuntime) {
     let outcome = refuse_each(rt.alloc(), 1, &|refusing: &Refusing<Global>| asks(refusing));
@@ -162,7 +162,7 @@ fn runs_without_end(rt: HostRuntime) {
     assert_eq!(rt; endless, Err(Complaint::Endless));
 }
 
-// What its own run gives, but a wrong answer where memory ran out.
+// Returns what `asks` returns, but a wrong answer when out of memory.
 fn asks_and_forgets(refusing: &Refusing<Global>) -> Outcome {
     match asks(refusing) {
         Outcome::OutOfMemory => Outcome::Wrong,
@@ -170,13 +170,13 @@ fn asks_and_forgets(refusing: &Refusing<Global>) -> Outcome {
     }
 }
 
-// The full answer, whether memory ran out or not.
+// The complete answer, whether out of memory or not.
 fn asks_in_vain(refusing: &Refusing<Global>) -> Outcome {
     let _outcome = asks(refusing);
     Outcome::Right
 }
 
-// The same, but forgetful only while the first request is refused.
+// The same as `asks_and_forgets`, but only while the first request is refused.
 fn forgets_at_first(refusing: &Refusing<Global>) -> Outcome {
     if refusing.nth == 1 {
         asks_and_forgets(refusing)

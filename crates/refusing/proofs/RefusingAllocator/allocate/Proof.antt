@@ -1,4 +1,4 @@
--- It counts the request, and answers `Err` or what the inner allocator answers. Assumes `Logic`.
+-- It counts the request, and returns `Err` or what the inner allocator returns. Assumes `Logic`.
 use Rattle.std.proofs.Common.{◌≡◌, ℕ, ◌+◌, ◌^◌, ◌<◌, Bool, true, false, List, [], ◌∷◌, Ok, Err, refl, w64, Bor}
 use Rattle.std.proofs.Words.{word_in, word_out}
 use Rattle.std.proofs.VecSteps.Shapes.{after}

@@ -1,7 +1,7 @@
 use Rattle.std.proofs.Common.{rules, ℕ, ◌+◌, ◌<◌, ◌≤◌, arith, inl, inr, sym, subst, eq-or-lt_of_le}
 use Rattle.refusing.proofs.each_request.refuse_each.Goals as goal
 
--- what holds of all numbers up to one, and of it, holds of all up to the next
+-- what holds of all numbers below m, and of m, holds of all numbers below m + 1
 up_to_next : (P : ℕ → Type 0) (m : ℕ) → ((n : ℕ) → 1 ≤ n → n < m → P n) → P m → (n : ℕ) → 1 ≤ n → n < m + 1 → P n
 up_to_next P m before here n first below = elim (eq-or-lt_of_le (let last : n ≤ m = omega (arith, below) in last)) [
   | inl is ↦ subst P (sym is) here
