@@ -1,4 +1,4 @@
-// Files from outside, and what is kept of them. The texts that are wanted are written out by hand.
+// Given files, and what is kept of them. The expected texts are written out by hand.
 use std::alloc::Global;
 use std::test::Fail;
 use tws_best::Collection;
@@ -20,7 +20,7 @@ const NINETY: [u8; 28] = [
     0, 90, 0, 0, 0,
 ];
 
-// Level 2 in 20 ticks, a pad, and level 1 in 10 ticks; and the text that is kept of it.
+// Level 2 in 20 ticks, a pad, and level 1 in 10 ticks; then the text that is kept of it.
 const UNORDERED: [u8; 52] = [
     0x35, 0x33, 0x9B, 0x99, 1, 0, 0, 0, 0x10, 0, 0, 0, 2, 0, 0x42, 0x42, 0x42, 0x42, 0, 0, 0, 0, 0,
     0, 0x14, 0, 0, 0, 0, 0, 0, 0, 0x10, 0, 0, 0, 1, 0, 0x43, 0x43, 0x43, 0x43, 0, 0, 0, 0, 0, 0,
@@ -32,7 +32,7 @@ const ORDERED: [u8; 48] = [
     0, 0x0A, 0, 0, 0, 0x10, 0, 0, 0, 2, 0, 0x42, 0x42, 0x42, 0x42, 0, 0, 0, 0, 0, 0, 0x14, 0, 0, 0,
 ];
 
-// The parts, one after the other.
+// Joins the parts, in order.
 pub(crate) fn join(alloc: Global, first: &[u8], others: &[&[u8]]) -> Result<Vec<u8>, Fail> {
     let mut bytes = Vec::from_slice(alloc, first)?;
     for one in others {
@@ -41,7 +41,7 @@ pub(crate) fn join(alloc: Global, first: &[u8], others: &[&[u8]]) -> Result<Vec<
     Ok(bytes)
 }
 
-// A solution's record as a file has it: its size, and then its body.
+// A solution's record as in a file: its size, and then its body.
 pub(crate) fn record(
     alloc: Global,
     number: u16,
@@ -62,7 +62,7 @@ pub(crate) fn record(
     join(alloc, &size.to_le_bytes(), &parts)
 }
 
-// So many moves of one byte.
+// `count` moves of one byte each.
 pub(crate) fn moves(alloc: Global, count: usize) -> Result<Vec<u8>, Fail> {
     let mut bytes = Vec::new(alloc);
     for _ in 0..count {
@@ -71,18 +71,18 @@ pub(crate) fn moves(alloc: Global, count: usize) -> Result<Vec<u8>, Fail> {
     Ok(bytes)
 }
 
-// The record of level 1, BDHP, with so many moves of one byte.
+// The record of level 1, BDHP, with `count` moves of one byte each.
 fn level_1(alloc: Global, ticks: u32, count: usize) -> Result<Vec<u8>, Fail> {
     record(alloc, 1, b"BDHP", 0, ticks, &moves(alloc, count)?)
 }
 
-// A file of one record, of level 1, BDHP, with 100 ticks.
+// A file with one record: level 1, BDHP, with 100 ticks.
 fn file_of_level_1(alloc: Global, seed: u32, moves: &[u8]) -> Result<Vec<u8>, Fail> {
     let record = record(alloc, 1, b"BDHP", seed, 100, moves)?;
     join(alloc, &LYNX, &[record.as_slice()])
 }
 
-// A file of solutions without moves: for each its number, its password and its ticks.
+// A file of solutions without moves, each with this number, password and ticks.
 fn solutions(alloc: Global, rows: &[(u16, [u8; 4], u32)]) -> Result<Vec<u8>, Fail> {
     let mut text = Vec::from_slice(alloc, &LYNX)?;
     for (number, password, ticks) in rows {
@@ -106,7 +106,7 @@ pub(crate) fn has_text(alloc: Global, collection: &Collection, wanted: &[u8]) ->
     collection.write_text(&mut text).is_ok() && text.as_slice() == wanted
 }
 
-// Whether the files, merged one after the other into a collection of this ruleset, give this text.
+// Whether the files, merged in this order into a collection of this ruleset, result in this text.
 fn are_merged_to(
     alloc: Global,
     kind: Ruleset,
@@ -134,7 +134,7 @@ fn a_collection_that_is_loaded(rt: HostRuntime) -> Result<(), Fail> {
     Ok(())
 }
 
-// Merges four files that follow the one of 100 ticks, and tells whether the second alone changed the collection.
+// Merges four files after the one with 100 ticks, and returns whether only the second changed the collection.
 fn second_alone_changes(alloc: Global, collection: &mut Collection) -> Result<bool, Fail> {
     let files: [(&[u8], bool); 4] = [
         (&HUNDRED, false),
@@ -150,7 +150,7 @@ fn second_alone_changes(alloc: Global, collection: &mut Collection) -> Result<bo
     Ok(true)
 }
 
-// How many solutions and bytes of text a collection has, and its rules.
+// How many solutions and bytes of text a collection has, and its ruleset.
 fn figures(collection: &Collection) -> (usize, u128, Ruleset) {
     (
         collection.len(),
@@ -216,7 +216,7 @@ fn records_by_key(rt: HostRuntime) -> Result<(), Fail> {
 
 #[test]
 fn long_texts(rt: HostRuntime) -> Result<(), Fail> {
-    // More bytes than are gathered before some are written.
+    // More bytes than are gathered before any are written.
     let mut text = Vec::from_slice(rt.alloc(), &LYNX)?;
     let moves = moves(rt.alloc(), 9000)?;
     for number in 1..10u16 {
@@ -227,7 +227,7 @@ fn long_texts(rt: HostRuntime) -> Result<(), Fail> {
     Ok(())
 }
 
-// Whether each order of three files gives this text.
+// Whether three files, merged in each order, result in this text.
 fn all_orders_give(alloc: Global, files: [&[u8]; 3], wanted: &[u8]) -> Result<bool, Fail> {
     let [a, b, c] = files;
     let orders = [
@@ -276,7 +276,7 @@ fn shorter_in_as_many_ticks(rt: HostRuntime) -> Result<(), Fail> {
     Ok(())
 }
 
-// As numbers 1 is below 256. Their bytes in a file are 01 00 00 00 and 00 01 00 00.
+// As numbers, 1 is below 256. Their bytes in a file are 01 00 00 00 and 00 01 00 00.
 #[test]
 fn bytes_and_not_numbers(rt: HostRuntime) -> Result<(), Fail> {
     let one = file_of_level_1(rt.alloc(), 1, &[])?;
@@ -308,7 +308,7 @@ fn keys_that_are_close(rt: HostRuntime) -> Result<(), Fail> {
     Ok(())
 }
 
-// A file that is its own best, and the same three times.
+// A file that is its own best, and the same file three times.
 #[test]
 fn the_same_file_again(rt: HostRuntime) -> Result<(), Fail> {
     let once = are_merged_to(rt.alloc(), Ruleset::Lynx, &[&ORDERED], &ORDERED)?;
@@ -317,7 +317,7 @@ fn the_same_file_again(rt: HostRuntime) -> Result<(), Fail> {
     Ok(())
 }
 
-// A record that is worse than each that is kept.
+// A record that is worse than the one that is kept for its key.
 #[test]
 fn nothing_better(rt: HostRuntime) -> Result<(), Fail> {
     let worse = solutions(rt.alloc(), &[(1, *b"CCCC", 11)])?;
@@ -337,7 +337,7 @@ const SET: [u8; 21] = [
 
 const BARE: [u8; 10] = [6, 0, 0, 0, 1, 0, 0x42, 0x44, 0x48, 0x50];
 
-// Whether a file of these records gives a collection with this text.
+// Whether a file of these records results in a collection with this text.
 fn is_kept_as(alloc: Global, records: &[&[u8]], wanted: &[u8]) -> Result<bool, Fail> {
     let text = join(alloc, &LYNX, records)?;
     are_merged_to(alloc, Ruleset::Lynx, &[&text], wanted)

@@ -1,4 +1,4 @@
-// Files from outside: the fault of each that has one, and the listing of each that is read.
+// Given files: the fault of each that has one, and the listing of each that is readable.
 ghost use Rattle.std.specs.Prelude.{◌<◌, length};
 
 use std::alloc::Allocator;
@@ -13,7 +13,7 @@ const SOLUTION: [u8; 20] = [
     0x64, 0x00, 0x00, 0x00,
 ];
 
-// The header, and what follows it.
+// The header, followed by the rest.
 pub(crate) fn join<A: Allocator>(alloc: A, header: &[u8], rest: &[u8]) -> Result<Vec<u8, A>, Fail> {
     let mut bytes = Vec::from_slice(alloc, header)?;
     bytes.extend_from_slice(rest)?;
@@ -39,7 +39,7 @@ fn listing<A: Allocator + Copy>(alloc: A, bytes: &[u8]) -> Result<String<A>, Fai
     listing_with(alloc, bytes, false)
 }
 
-// Whether reading finds this fault, and the fault is shown as this text.
+// Whether reading returns this fault, and the fault is displayed as this text.
 fn has_fault<A: Allocator + Copy>(
     alloc: A,
     bytes: &[u8],
@@ -105,7 +105,7 @@ fn faults_of_records(rt: HostRuntime) -> Result<(), Fail> {
     Ok(())
 }
 
-// Whether this is the listing of the header and what follows it.
+// Whether this is the listing of the header followed by the rest.
 fn has_listing<A: Allocator + Copy>(
     alloc: A,
     header: &[u8],
@@ -116,7 +116,7 @@ fn has_listing<A: Allocator + Copy>(
     Ok(listing(alloc, &bytes)?.as_str() == wanted)
 }
 
-// The same for a Lynx file without further header bytes, whose first line is left out of the text.
+// The same for a Lynx file without further header bytes, with the first line left out of the text.
 fn has_lynx_listing<A: Allocator + Copy>(alloc: A, rest: &[u8], text: &str) -> Result<bool, Fail> {
     let bytes = join(alloc, &LYNX, rest)?;
     let listing = listing(alloc, &bytes)?;
@@ -232,7 +232,7 @@ const EXTENDED: [u8; 29] = [
     0x50, 0x00, 0x00, 0x00, 0x00, 0x00, 0x00, 0x64, 0x00, 0x00, 0x00,
 ];
 
-// The code of a file's rules, its word, and how many further bytes its header has.
+// The code of a file's ruleset, its word, and how many further bytes its header has.
 fn header_of<A: Allocator>(file: &TwsFile<A>) -> (u8, [u8; 2], usize) {
     (file.ruleset.code(), file.word, file.extra.len())
 }
@@ -301,7 +301,7 @@ fn written<A: Allocator + Copy>(alloc: A, file: &TwsFile<A>) -> Result<Vec<u8, A
     Ok(out)
 }
 
-// What is read and written again.
+// The bytes that are written for what is read.
 fn rewritten<A: Allocator + Copy>(alloc: A, bytes: &[u8]) -> Result<Vec<u8, A>, Fail> {
     let file = read_file(alloc, bytes)?;
     written(alloc, &file)
@@ -331,7 +331,7 @@ fn what_is_read_is_written(rt: HostRuntime) -> Result<(), Fail> {
     Ok(())
 }
 
-// The solution so often that more is written than goes out at once.
+// The solution, repeated so often that the text is longer than what is written at once.
 fn large_file<A: Allocator>(alloc: A) -> Result<Vec<u8, A>, Fail> {
     let mut large = Vec::from_slice(alloc, &LYNX)?;
     for _ in 0..10_000 {
@@ -361,7 +361,7 @@ fn the_body_of_a_solution(rt: HostRuntime) -> Result<(), Fail> {
     Ok(())
 }
 
-// Whether packing a solution with the moves before gives one with the moves after.
+// Whether packing a solution with the moves `before` results in one with the moves `after`.
 fn packs_to<A: Allocator + Copy>(alloc: A, before: &[u8], after: &[u8]) -> Result<bool, Fail>
     requires short_before { length before.now < 100 }
     requires short_after { length after.now < 100 }

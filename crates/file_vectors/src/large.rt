@@ -1,4 +1,4 @@
-// Large inputs, at which a limit that no contract names would show.
+// Large inputs, which would show a limit that no contract names.
 use crate::collections::{LYNX, load, merge};
 use byte_output::put;
 use std::alloc::Global;
@@ -10,12 +10,12 @@ use tws_moves::{
     Act, Move, SpellFault, check_moves, is_timed, pack_moves, read_moves, write_moves,
 };
 
-// So many bytes of this value.
+// `count` bytes of this value.
 fn repeated(alloc: Global, byte: u8, count: usize) -> Result<Vec<u8>, Fail> {
     Ok(vec![in alloc; byte; count]?)
 }
 
-// How many moves are counted and read, and how many bytes they are packed in; none of too many bytes.
+// How many moves are counted and read, and how many bytes they are packed into; `None` for too many bytes.
 fn counts(alloc: Global, bytes: &[u8]) -> Result<Option<(u64, usize, usize)>, Fail> {
     if bytes.len() >= 1 << 32 {
         return Ok(None);
@@ -37,7 +37,7 @@ fn a_hundred_thousand_moves(rt: HostRuntime) -> Result<(), Fail> {
     Ok(())
 }
 
-// So many moves one tick after the other, and then one that comes too late.
+// `count` moves, one tick after the other, and then one that comes too late.
 fn late_after(alloc: Global, count: u64) -> Result<Vec<Move>, Fail> {
     let mut moves = Vec::new(alloc);
     for at in 0..count {
@@ -66,7 +66,7 @@ fn the_last_of_many_moves_comes_too_late(rt: HostRuntime) -> Result<(), Fail> {
     Ok(())
 }
 
-// A file with a record of the set that has so many zero bytes after the key.
+// A file with a record of the set that has `count` zero bytes after the key.
 fn file_with_set(alloc: Global, count: u32) -> Result<Vec<u8>, Fail> {
     let mut bytes = Vec::from_slice(alloc, &LYNX)?;
     bytes.extend_from_slice(&count.wrapping_add(6).to_le_bytes())?;
@@ -86,7 +86,7 @@ fn a_long_record_of_the_set_is_packed_as_it_is(rt: HostRuntime) -> Result<(), Fa
     Ok(())
 }
 
-// Solutions without moves of so many levels, from level 1 on and then with the next password.
+// Solutions without moves of `count` levels, from level 1 on and then with the next password.
 fn many_solutions(alloc: Global, count: u32) -> Result<Vec<u8>, Fail> {
     let mut bytes = Vec::from_slice(alloc, &LYNX)?;
     for number in 1..=count {
@@ -108,7 +108,7 @@ fn many_solutions(alloc: Global, count: u32) -> Result<Vec<u8>, Fail> {
     Ok(bytes)
 }
 
-// Whether a file changes a new collection, and how many solutions that has then.
+// Whether a file changes a new collection, and how many solutions that then has.
 fn merged_count(alloc: Global, bytes: &[u8]) -> Result<(bool, usize), Fail> {
     let mut collection = Collection::new(alloc, Ruleset::Lynx);
     let is_changed = merge(alloc, &mut collection, bytes)?;

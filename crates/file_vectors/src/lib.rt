@@ -1,5 +1,5 @@
-//! Tests alone: moves, files and collections from outside, and what is read and written of them. What is wanted is
-//! written out, or comes from a plain slow program.
+//! Tests only: given moves, files and collections, and what is read from them and written for them. The expected
+//! results are written out, or come from a plain slow program.
 #![tactic(auto)]
 
 #[cfg(test)]

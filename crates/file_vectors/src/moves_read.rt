@@ -1,4 +1,4 @@
-// Bytes from outside and the moves that they spell, and a plain slow reader to compare with.
+// Given bytes and the moves that they spell, and a plain slow reader to compare with.
 ghost use Rattle.std.specs.Prelude.{◌<◌, ◌^◌, length};
 
 use std::alloc::Allocator;
@@ -16,7 +16,7 @@ fn pairs<A: Allocator + Copy>(alloc: A, bytes: &[u8]) -> Result<Vec<(u64, Act), 
     Ok(pairs)
 }
 
-// Whether these moves are read, and counted.
+// Whether these moves are what is read, and their number what is counted.
 fn are_read<A: Allocator + Copy>(alloc: A, bytes: &[u8], moves: &[(u64, Act)]) -> Result<bool, Fail>
     requires { length bytes.now < 2 ^ 32 }
 {
@@ -62,7 +62,7 @@ fn moves_of_each_layout(rt: HostRuntime) -> Result<(), Fail> {
     Ok(())
 }
 
-// Whether reading and counting find a cut at this place.
+// Whether reading and counting return a cut at this place.
 fn is_cut<A: Allocator>(alloc: A, bytes: &[u8], at: u64) -> bool
     requires { length bytes.now < 2 ^ 32 }
 {
@@ -118,7 +118,7 @@ fn bit(bytes: &[u8], i: usize) -> u64 {
     }
 }
 
-// The field of the bits from `low` to `high`, that one too.
+// The field of the bits from `low` to `high`, inclusive.
 fn field(bytes: &[u8], low: usize, high: usize) -> u64 {
     let mut value = 0;
     for i in 0..40 {
@@ -166,7 +166,7 @@ fn slow_piece<A: Allocator>(alloc: A, bytes: &[u8]) -> Result<(Vec<(u64, Act), A
     Ok((waits, length))
 }
 
-// The waits and acts of all pieces; where one is cut, its place.
+// The waits and acts of all pieces, or the place of the one that is cut.
 fn slow_waits<A: Allocator + Copy>(
     alloc: A,
     bytes: &[u8],
@@ -203,7 +203,7 @@ fn slow_moves<A: Allocator>(alloc: A, waits: &[(u64, Act)]) -> Result<Vec<(u64, 
     Ok(moves)
 }
 
-// Both readers, and the count, on the same bytes.
+// Whether both readers, and the count, agree on the bytes.
 fn compare<A: Allocator + Copy>(alloc: A, bytes: &[u8]) -> Result<bool, Fail>
     requires { length bytes.now < 2 ^ 32 }
 {
@@ -238,7 +238,7 @@ fn drawn_bytes_are_read_as_the_slow_reader_does(rt: HostRuntime) -> Result<(), F
 
 // ---- all byte strings of up to two bytes
 
-// Figures over strings in order: how many are cut, how many moves the others have, and a sum.
+// Figures over strings, in order: how many are cut, how many moves the others have, and a sum.
 #[derive(Clone, Copy)]
 struct Figures {
     cut: u64,
@@ -275,7 +275,7 @@ impl Figures {
     }
 }
 
-// The figures are those of tests/moves.py, which reads moves from a table of the widths of fields.
+// The expected figures are those of tests/moves.py, which reads moves from a table of field widths.
 #[test]
 fn all_of_two_bytes(rt: HostRuntime) -> Result<(), Fail> {
     let mut figures = Figures {

@@ -1,11 +1,11 @@
-// Moves that are written, and a plain slow program that tries every cut to compare with.
+// Writing moves, and a plain slow program to compare with, which tries every cut.
 ghost use Rattle.std.specs.Prelude.{◌<◌, ◌^◌, length};
 
 use std::alloc::Allocator;
 use std::test::Fail;
 use tws_moves::{Act, Move, MovesFault, SpellFault, is_timed, pack_moves, read_moves, write_moves};
 
-// The moves of ticks and acts; numbers too large for an act are taken below its end.
+// The moves with these ticks and acts; numbers too large for an act are reduced to its range.
 fn moves_at<A: Allocator>(alloc: A, pairs: &[(u64, Act)]) -> Result<Vec<Move, A>, Fail> {
     let mut moves = Vec::new(alloc);
     for (at, act) in pairs {
@@ -91,7 +91,7 @@ fn three_steps_in_a_byte(rt: HostRuntime) -> Result<(), Fail> {
             &[(2, zero), (6, zero), (10, zero), (14, zero)],
             &[0x41, 0x00],
         ),
-        // a step 4 at a wait of three ticks is none of them
+        // a step 4 after a wait of three ticks is not one of them
         (
             &[(3, zero), (7, zero), (11, Act::Step(4)), (15, zero)],
             &[0x61, 0x61, 0x71, 0x61],
@@ -114,7 +114,7 @@ fn three_steps_in_a_byte(rt: HostRuntime) -> Result<(), Fail> {
     Ok(())
 }
 
-// Whether these moves have rising ticks, and the one of this index comes too late to be written.
+// Whether these moves have rising ticks, and the one at this index comes too late to be written.
 fn is_too_late<A: Allocator + Copy>(
     alloc: A,
     pairs: &[(u64, Act)],
@@ -157,7 +157,7 @@ fn texts_of_faults(rt: HostRuntime) -> Result<(), Fail> {
     Ok(())
 }
 
-// Whether the moves of these bytes are written as the others, and packing gives those too.
+// Whether the moves of these bytes are written as `packed`, and packing returns the same.
 fn is_spelled_anew<A: Allocator + Copy>(alloc: A, bytes: &[u8], packed: &[u8]) -> Result<bool, Fail>
     requires { length bytes.now < 2 ^ 32 }
 {
@@ -201,7 +201,7 @@ fn bytes_that_are_cut(rt: HostRuntime) {
 
 // ---- the plain slow program: every cut of the waits into parts, each of which has some layout
 
-// A layout that holds one act: its bytes, how many acts it has room for, and how many bits for ticks.
+// A layout that holds one act: its length, how many acts it has room for, and how many bits for ticks.
 struct Room {
     bytes: usize,
     acts: u64,
@@ -259,7 +259,7 @@ fn least_room(rooms: &[Room], number: u64, ticks: u64) -> Option<usize> {
     least
 }
 
-// The bytes of a wait and an act alone.
+// The fewest bytes for a wait and an act alone.
 fn alone(ticks: u64, act: Act) -> Option<usize> {
     match act {
         Act::Step(direction) => least_room(&STEPS, u64::from(direction), ticks),
@@ -274,7 +274,7 @@ fn is_low_step_at_3(wait: &(u64, Act)) -> bool {
     }
 }
 
-// The bytes of waits in one piece.
+// How many bytes the waits have in one piece.
 fn one_piece(part: &[(u64, Act)]) -> Option<usize> {
     match part {
         [one] => alone(one.0, one.1),
@@ -283,7 +283,7 @@ fn one_piece(part: &[(u64, Act)]) -> Option<usize> {
     }
 }
 
-// The bytes of the waits cut after each one whose bit is set, and at the end.
+// How many bytes the waits have if they are cut after each one whose bit is set, and at the end.
 fn cut_by(waits: &[(u64, Act)], bits: u64) -> Option<usize> {
     let mut total = 0_usize;
     let mut from = 0;
@@ -296,7 +296,7 @@ fn cut_by(waits: &[(u64, Act)], bits: u64) -> Option<usize> {
     Some(total)
 }
 
-// The fewest bytes of all cuts of up to ten waits.
+// The fewest bytes over all cuts of up to ten waits.
 fn slow_least(waits: &[(u64, Act)]) -> Option<usize> {
     let mut least = None;
     for bits in 0..1 << waits.len().min(10) as u32 {
@@ -307,7 +307,7 @@ fn slow_least(waits: &[(u64, Act)]) -> Option<usize> {
     least
 }
 
-// Waits and acts drawn one after another, many of them plain steps, and many at the ends of layouts.
+// Draws waits and acts one after another, many of them plain steps, and many at the limits of layouts.
 #[derive(Clone, Copy)]
 struct Draw {
     state: u64,
@@ -346,7 +346,7 @@ impl Draw {
     }
 }
 
-// What is compared for one list: the length, or the first move that comes too late, and the moves read back.
+// Compares for one list: the length, or the first move that comes too late, and the moves read back.
 fn compare<A: Allocator + Copy>(alloc: A, waits: &[(u64, Act)]) -> Result<bool, Fail> {
     let mut pairs = Vec::new(alloc);
     let mut next = 0_u64;

@@ -1,10 +1,10 @@
-// Files that come in pieces, most of them byte by byte.
+// Files that arrive in pieces, most of them byte by byte.
 use crate::files::{CUT, LYNX, join};
 use std::alloc::Allocator;
 use std::test::Fail;
 use tws_file::{FileFault, Reader};
 
-// Pushes a byte at a time, and tells at which push the first fault came.
+// Pushes a byte at a time. Returns the number of the first push that failed, and the reader.
 fn push_bytes<A: Allocator + Copy>(alloc: A, bytes: &[u8]) -> (Option<usize>, Reader<A>) {
     let mut reader = Reader::new(alloc);
     let mut first = None;

@@ -1,4 +1,4 @@
-// Snapshots of collections, and the blocks that are sent of them. The texts that are wanted are written out by hand.
+// Snapshots of collections, and the blocks in which they are sent. The expected texts are written out by hand.
 use crate::collections::{LYNX, MS, has_text, join, load, merge, moves, record};
 use std::alloc::Global;
 use std::process::Abort;
@@ -13,7 +13,7 @@ fn snapshot_of(rt: &impl Abort, collection: &Collection) -> Result<Snapshot, Fai
     Ok(collection.snapshot()?)
 }
 
-// All blocks, one after the other.
+// All blocks, joined in order.
 fn joined_blocks(alloc: Global, snapshot: &Snapshot) -> Option<Vec<u8>> {
     let mut text = Vec::new(alloc);
     let mut out = [0; 512];
@@ -76,7 +76,7 @@ fn sizes_in_the_text_of_two_records(rt: HostRuntime) -> Result<(), Fail> {
     Ok(())
 }
 
-// Where the records of a snapshot of two begin, and how many bytes their bodies have; zeros of another number.
+// Where the records of a snapshot of two begin, and how many bytes their bodies have; zeros unless there are two.
 fn places(snapshot: &Snapshot) -> ([u64; 2], [usize; 2]) {
     if snapshot.record_count() != 2 {
         return ([0; 2], [0; 2]);
@@ -94,7 +94,7 @@ fn snapshot_of_two_records(rt: HostRuntime) -> Result<(), Fail> {
     Ok(())
 }
 
-// The sizes of the two blocks of 530 bytes.
+// The sizes of the two blocks of a text of 530 bytes.
 fn two_blocks(
     snapshot: &Snapshot,
     first: &mut [u8; 512],
@@ -130,7 +130,7 @@ fn the_snapshot_of_no_file(rt: HostRuntime) -> Result<(), Fail> {
     Ok(())
 }
 
-// The levels from 1 to 2000 with two moves each.
+// Levels 1 to 2000, with two moves each.
 fn two_thousand(alloc: Global) -> Result<Vec<u8>, Fail> {
     let mut text = Vec::from_slice(alloc, &LYNX)?;
     for number in 1..2001u16 {
@@ -151,7 +151,7 @@ fn copy_has_text(
     Ok(has_text(alloc, &copy, wanted) && has_blocks(alloc, &snapshot, wanted))
 }
 
-// A collection to which a file was merged twice: whether it changed at the first time, and at the second.
+// Merges a file twice into a new collection. Returns the collection, and whether each merge changed it.
 fn merged_twice(alloc: Global, text: &[u8]) -> Result<(Collection, bool, bool), Fail> {
     let mut collection = Collection::new(alloc, Ruleset::Lynx);
     let first = merge(alloc, &mut collection, text)?;
