@@ -1,4 +1,4 @@
-// Datagrams and files from outside: what each is by RFC 1350, and what real clients send.
+// Given datagrams and files: what each is by RFC 1350, and what real clients send.
 use std::alloc::Global;
 use std::test::Fail;
 use tftp_packet::{
@@ -35,7 +35,7 @@ fn requests_by_the_forms(rt: HostRuntime) {
     }
 }
 
-// The same of DATA, ACK and ERROR.
+// The same for DATA, ACK and ERROR.
 #[test]
 fn blocks_and_errors_by_the_forms(rt: HostRuntime) {
     let rows: [(&[u8], Result<Packet<'_>, PacketFault>); 6] = [
@@ -65,7 +65,7 @@ fn bytes_past_a_datagram(rt: HostRuntime) {
     assert_eq!(rt; decode(&bytes), Err(PacketFault::TooLong));
 }
 
-// The most that a datagram can have is a whole block.
+// A datagram has at most a whole block.
 #[test]
 fn the_longest_datagram(rt: HostRuntime) {
     let mut bytes = [0; 516];
@@ -98,8 +98,8 @@ fn faults_by_name(rt: HostRuntime) -> Result<(), Fail> {
     Ok(())
 }
 
-// What clients of Debian 12 were seen to send to a socket on the same host, each with default options or with those
-// that are named; and the mode of each.
+// Requests that clients of Debian 12 were seen to send to a socket on the same host, each with default options or with
+// those that are named, and the mode of each.
 const REQUESTS: [(&str, &[u8], &[u8]); 10] = [
     (
         "tftp-hpa 5.2, -m binary, get",
@@ -161,7 +161,7 @@ fn requests_of_real_clients(rt: HostRuntime) {
     }
 }
 
-// A put of a file of 28 bytes, by the same clients: the request, and the file once it was answered.
+// The requests of a put of a file of 28 bytes, by the same clients.
 #[test]
 fn puts_of_real_clients(rt: HostRuntime) {
     let rows: [(&str, &[u8]); 4] = [
@@ -180,7 +180,7 @@ fn puts_of_real_clients(rt: HostRuntime) {
     }
 }
 
-// All four sent the same DATA, and to a get the same ACK.
+// All four sent the same DATA in this put, and the same ACK in a get.
 #[test]
 fn data_and_acks_of_real_clients(rt: HostRuntime) {
     let body = FILE;
@@ -188,8 +188,8 @@ fn data_and_acks_of_real_clients(rt: HostRuntime) {
     assert_eq!(rt; decode(b"\0\x04\0\x01"), Ok(Packet::Ack { block: 1 }));
 }
 
-// busybox 1.35.0 where it could not write, and where an option was answered by more than it asked for: RFC 2347 has the
-// code 8.
+// Sent by busybox 1.35.0 when it could not write, and when an option was answered with more than it asked for: code 8
+// is that of RFC 2347.
 #[test]
 fn errors_of_real_clients(rt: HostRuntime) {
     let text = b"write error";
@@ -202,7 +202,7 @@ fn errors_of_real_clients(rt: HostRuntime) {
     }
 }
 
-// RFC 1350 section 5: the letters of octet, netascii and mail in any combination of small and capital.
+// RFC 1350 section 5: the letters of octet, netascii and mail in any combination of upper case and lower case.
 #[test]
 fn modes(rt: HostRuntime) {
     let octet: [&[u8]; 3] = [b"octet", b"OCTET", b"oCtEt"];
@@ -248,7 +248,7 @@ fn answers_that_are_sent(rt: HostRuntime) {
     }
 }
 
-// The codes of RFC 1350 section 5, and the words of this product.
+// The codes of RFC 1350 section 5, and the messages of this server and its clients.
 const REFUSALS: [(Refusal, u16, &[u8], &[u8]); 8] = [
     (
         Refusal::OctetOnly,
@@ -303,7 +303,7 @@ fn refusals_that_are_sent(rt: HostRuntime) {
     }
 }
 
-// 512 bytes 1, as many bytes 2, and one 3.
+// 512 bytes of value 1, 512 of value 2, and one of value 3.
 fn three_blocks(alloc: Global) -> Result<Owned, Fail> {
     let mut bytes = vec![in alloc; 1; 512]?;
     bytes.extend_from_slice(&[2; 512])?;

@@ -1,4 +1,5 @@
-// Transfers by hand: which datagrams go out at which call, by RFC 1350 sections 2, 5 and 6 and RFC 1123 section 4.2.3.1.
+// Transfers worked out by hand: which datagrams are sent at which call, by RFC 1350 sections 2, 5 and 6 and RFC 1123
+// section 4.2.3.1.
 ghost use Rattle.std.specs.Prelude.{◌≤◌, length};
 
 use std::alloc::Global;
@@ -16,7 +17,7 @@ struct Blocks {
     last: usize,
 }
 
-// A block's bytes, and how many of them the block has.
+// The bytes of a block, and how many of them it has.
 fn block(blocks: Blocks, n: u16) -> ([u8; 512], usize)
     ensures { result.1 ≤ 512 }
 {
@@ -62,14 +63,14 @@ fn sends_ack(out: &Option<Dgram>, n: u16) -> bool {
     }
 }
 
-// What a sender hears: an ACK of this number, or nothing for a while.
+// What a sender is given: an ACK with this number, or a time-out.
 #[derive(Clone, Copy)]
 enum Heard {
     Ack(u16),
     Nothing,
 }
 
-// What a receiver is given: DATA of this number, or nothing for a while.
+// What a receiver is given: a DATA with this number, or a time-out.
 #[derive(Clone, Copy)]
 enum Given {
     Data(u16),
@@ -81,7 +82,7 @@ fn sends_block(out: &Option<Dgram>, blocks: Blocks, n: u16) -> bool {
     sends_data(out, n, &bytes[..size])
 }
 
-// Whether a sender answers these rows, of what it hears, the block that it sends then, and its state after that.
+// Whether a sender follows these rows: what it is given, the block that it sends then, and its state after that.
 fn plays_sender(
     sender: &mut Sender<Owned>,
     blocks: Blocks,
@@ -103,7 +104,7 @@ fn plays_sender(
     true
 }
 
-// Whether a new sender of these blocks sends the first of them, and then answers these rows.
+// Whether a new sender of these blocks sends the first of them, and then follows these rows.
 fn sends(
     alloc: Global,
     blocks: Blocks,
@@ -113,7 +114,7 @@ fn sends(
     Ok(sends_block(&Some(first), blocks, 1) && plays_sender(&mut sender, blocks, rows))
 }
 
-// Whether a receiver answers these rows, of what it is given, the ACK that it sends then, and its state after that. All
+// Whether a receiver follows these rows: what it is given, the ACK that it sends then, and its state after that. All
 // DATA have this body.
 fn plays_receiver(
     receiver: &mut Receiver,
@@ -196,7 +197,7 @@ fn rows_to_the_end() -> [(Heard, Option<u16>, SendState); 23] {
     ]
 }
 
-// No other ACK than that of the current block is progress.
+// Only the ACK of the current block is progress.
 #[test]
 fn a_sender_gives_up(rt: HostRuntime) -> Result<(), Fail> {
     let blocks = Blocks { count: 2, last: 88 };
@@ -212,7 +213,7 @@ fn passes_the_whole_block(first: &Dgram, receiver: &mut Receiver) -> bool {
         && receiver.take_file().is_none()
 }
 
-// Whether an empty block follows, and both ends are through.
+// Whether an empty block follows, and both ends are done.
 fn passes_the_empty_block(sender: &mut Sender<Owned>, receiver: &mut Receiver) -> bool {
     let rows = [(Given::Data(2), Some(2), RecvState::Complete)];
     sends_data(&sender.on_ack(1), 2, b"")
@@ -244,7 +245,7 @@ fn a_whole_block_and_an_empty_one(rt: HostRuntime) -> Result<(), Fail> {
     Ok(())
 }
 
-// The bytes of a file, which are the same in a list and as they are written.
+// The bytes of a file, which are the same in a vector as when they are written.
 fn bytes_of(alloc: Global, received: &Received) -> Result<Vec<u8>, Fail> {
     let bytes = received.to_vec(alloc)?;
     let mut out = Vec::new(alloc);
@@ -255,19 +256,19 @@ fn bytes_of(alloc: Global, received: &Received) -> Result<Vec<u8>, Fail> {
     Ok(bytes)
 }
 
-// Whether what was received is the file, in one chunk.
+// Whether the received file is this one, in one chunk.
 fn is_file(alloc: Global, received: &Received) -> Result<bool, Fail> {
     let is_counted = received.len() == 28 && received.chunk_count() == 1;
     Ok(is_counted && bytes_of(alloc, received)?.as_slice() == FILE.as_slice())
 }
 
-// Whether a receiver gives the file, and gives it once.
+// Whether a receiver hands out the file, and only once.
 fn gives_file(alloc: Global, receiver: &mut Receiver) -> Result<bool, Fail> {
     let received = receiver.take_file().ok_or("no file")?;
     Ok(receiver.take_file().is_none() && is_file(alloc, &received)?)
 }
 
-// Whether a new receiver that is given the file answers these rows, and then gives the file once.
+// Whether a new receiver that is given the file follows these rows, and then hands out the file once.
 fn receives_file(alloc: Global, rows: &[(Given, Option<u16>, RecvState)]) -> Result<bool, Fail> {
     let mut receiver = Receiver::new(alloc);
     Ok(plays_receiver(&mut receiver, FILE, rows) && gives_file(alloc, &mut receiver)?)
@@ -280,7 +281,7 @@ fn a_file_is_given_once(rt: HostRuntime) -> Result<(), Fail> {
     Ok(())
 }
 
-// The last block that comes again is acknowledged, but does not make the receiver wait longer.
+// The last block is acknowledged when it arrives again, but does not make the receiver wait longer.
 #[test]
 fn a_receiver_waits_after_the_last_block(rt: HostRuntime) -> Result<(), Fail> {
     let rows = [
@@ -296,7 +297,7 @@ fn a_receiver_waits_after_the_last_block(rt: HostRuntime) -> Result<(), Fail> {
     Ok(())
 }
 
-// The rows of a receiver of full blocks that waits at this one, and is given others in vain.
+// The rows of a receiver of full blocks that waits after this one, and is given others in vain.
 fn rows_of_a_wait(last: u16) -> [(Given, Option<u16>, RecvState); 12] {
     let wait = (Given::Nothing, Some(last), RecvState::Running);
     let again = (
@@ -314,7 +315,7 @@ fn rows_of_a_wait(last: u16) -> [(Given, Option<u16>, RecvState); 12] {
     ]
 }
 
-// Only the next block is progress. Block 0 is none.
+// Only the next block is progress. There is no block 0.
 #[test]
 fn a_receiver_gives_up(rt: HostRuntime) {
     let mut receiver = Receiver::new(rt.alloc());
@@ -335,7 +336,7 @@ fn a_receiver_gives_up(rt: HostRuntime) {
     );
 }
 
-// Gives a receiver the 65,534 full blocks of the greatest file. Whether it goes on after each.
+// Gives a receiver the 65,534 full blocks of the longest file. Returns whether it goes on after each.
 fn takes_full_blocks(receiver: &mut Receiver) -> bool {
     for n in 1..65_535 {
         let rows = [(Given::Data(n), Some(n), RecvState::Running)];
@@ -365,7 +366,7 @@ fn is_past_all_numbers(receiver: &mut Receiver) -> bool {
     plays_receiver(receiver, &[255; 511], &again) && plays_receiver(receiver, &[1; 512], &others)
 }
 
-// Whether each byte of the greatest file is the number of its block.
+// Whether each byte of the longest file is the number of its block.
 fn is_the_greatest(alloc: Global, received: &Received) -> Result<bool, Fail> {
     let bytes = bytes_of(alloc, received)?;
     let is_right = bytes
@@ -375,7 +376,7 @@ fn is_the_greatest(alloc: Global, received: &Received) -> Result<bool, Fail> {
     Ok(is_right && received.len() == 33_553_919 && bytes.len() == 33_553_919)
 }
 
-// 65,534 full blocks and one of 511 bytes; one byte more cannot be numbered.
+// 65,534 full blocks and one of 511 bytes; one more byte cannot be numbered.
 #[test]
 fn the_greatest_file(rt: HostRuntime) -> Result<(), Fail> {
     let mut receiver = Receiver::new(rt.alloc());
@@ -390,7 +391,7 @@ fn the_greatest_file(rt: HostRuntime) -> Result<(), Fail> {
     Ok(())
 }
 
-// What is received of these blocks.
+// The file that is received from these blocks.
 fn received(alloc: Global, blocks: Blocks) -> Result<Received, Fail> {
     let mut receiver = Receiver::new(alloc);
     for n in 1..=blocks.count {
@@ -400,12 +401,12 @@ fn received(alloc: Global, blocks: Blocks) -> Result<Received, Fail> {
     Ok(receiver.take_file().ok_or("no file")?)
 }
 
-// The bytes of a file, from one of them on, are the numbers of their blocks.
+// Whether the bytes of a file, from the offset `from` on, are the numbers of their blocks.
 fn are_numbers(bytes: &[u8], from: usize) -> bool {
     bytes.iter().enumerate().all(|(i, b)| usize::from(*b) == i.wrapping_add(from) / 512 % 256 + 1)
 }
 
-// Whether a file has so many chunks, the last one of this size, and each byte of them is the number of its block.
+// Whether a file has `count` chunks, the last one of size `last`, and each byte of them is the number of its block.
 fn has_chunks(received: &Received, count: usize, last: usize) -> bool {
     for i in 0..received.chunk_count() {
         let chunk = received.chunk(i);
@@ -417,7 +418,7 @@ fn has_chunks(received: &Received, count: usize, last: usize) -> bool {
     received.chunk_count() == count
 }
 
-// Whether a file has so many bytes, each the number of its block.
+// Whether a file has `length` bytes, each the number of its block.
 fn has_numbers(alloc: Global, received: &Received, length: usize) -> Result<bool, Fail> {
     let bytes = received.to_vec(alloc)?;
     Ok(bytes.len() == length && are_numbers(&bytes, 0))

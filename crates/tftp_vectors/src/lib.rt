@@ -1,5 +1,5 @@
-//! Tests alone: datagrams of real clients, and the two ends of a transfer by hand and in drawn runs. RFC 1350, RFC 1123
-//! section 4.2.3.1.
+//! Tests only: datagrams of real clients, and the two ends of a transfer, worked out by hand and in drawn runs. RFC
+//! 1350, RFC 1123 section 4.2.3.1.
 #![tactic(auto)]
 
 #[cfg(test)]

@@ -1,4 +1,4 @@
-// A thousand runs of one sender and one receiver. Their packets come late, again and out of order, or never.
+// A thousand runs of one sender and one receiver. Their packets arrive late, repeatedly and out of order, or never.
 use std::alloc::Global;
 use std::test::Fail;
 use tftp_ends::{Received, Receiver, RecvState, SendState, Sender};
@@ -6,7 +6,7 @@ use tftp_packet::{Dgram, Owned, Packet, decode};
 
 const SIZES: [usize; 7] = [0, 1, 511, 512, 513, 1024, 1200];
 
-// Numbers by a linear congruence, from a fixed seed.
+// Numbers from a linear congruential generator, with a fixed seed.
 #[derive(Drop)]
 struct Draws(u64);
 
@@ -27,13 +27,13 @@ impl Draws {
 struct Pair {
     sender: Sender<Owned>,
     receiver: Receiver,
-    // All that either sent.
+    // All that either end sent.
     sent: Vec<Dgram>,
     // How many time-outs made the sender send.
     resent: u64,
 }
 
-// Gives a datagram that was sent to the end that it is for, and what that end sends.
+// Delivers a sent datagram to the end that it is for, and returns what that end sends then.
 fn deliver(pair: &mut Pair, index: usize) -> Result<Option<Dgram>, Fail> {
     let Some(dgram) = pair.sent.get(index) else {
         return Err(Fail::new("nothing was sent"));
@@ -75,7 +75,7 @@ fn step(pair: &mut Pair, draws: &mut Draws) -> Result<(), Fail> {
 // What was sent in a run so far.
 #[derive(Clone, Copy)]
 struct Sent {
-    // How many DATA.
+    // The number of DATA.
     data: u64,
     // The greatest number of a DATA, which is the sender's current block.
     current: u16,
@@ -102,7 +102,7 @@ fn count_sent(dgrams: &[Dgram]) -> Option<Sent> {
     Some(sent)
 }
 
-// Whether what was received is this file. No file here has more than one chunk.
+// Whether the received file is this one. No file here has more than one chunk.
 fn is_file(received: &Received, file: &[u8]) -> bool {
     match received.chunk_count() {
         0 => file.is_empty(),
@@ -121,9 +121,9 @@ fn has_file(pair: &Pair, sent: Sent, file: &[u8]) -> bool {
     }
 }
 
-// Whether a run so far is right, by what the two ends sent: one DATA for each block up to the current one, and one for
-// each time-out at which the sender sent; and the receiver's file. The law of one pair, `one_pair` of `tftp_ends`, tells
-// of the blocks of a file that is not whole yet.
+// Whether a run is right so far, by what the two ends sent (one DATA for each block up to the current one, and one for
+// each time-out that made the sender send) and by the receiver's file. The law of one pair, `one_pair` of `tftp_ends`,
+// covers the blocks of a file that is not whole yet.
 fn holds(pair: &Pair, file: &[u8]) -> bool {
     match count_sent(&pair.sent) {
         Some(sent) => {
@@ -155,7 +155,7 @@ fn run(alloc: Global, draws: &mut Draws, file: &[u8]) -> Result<Pair, Fail> {
     Ok(pair)
 }
 
-// Whether the receiver gives its file once, if it has it.
+// Whether the receiver hands out its file once, if it has it.
 fn gives_file(alloc: Global, receiver: &mut Receiver, file: &[u8]) -> Result<bool, Fail> {
     let Some(received) = receiver.take_file() else {
         return Ok(true);
@@ -164,7 +164,7 @@ fn gives_file(alloc: Global, receiver: &mut Receiver, file: &[u8]) -> Result<boo
     Ok(is_right && receiver.take_file().is_none())
 }
 
-// How many runs ended so.
+// How many runs ended like this.
 #[derive(Clone, Copy)]
 struct Ended {
     // The sender has finished.
@@ -173,7 +173,7 @@ struct Ended {
     given_up: u64,
 }
 
-// One run, of a file that begins as these bytes, and how it ended.
+// Makes one run, of a file that is a prefix of these bytes. Returns how it ended.
 fn run_one(alloc: Global, draws: &mut Draws, bytes: &[u8; 1200]) -> Result<Ended, Fail> {
     let size = SIZES.get(draws.below(7)).copied().unwrap_or(0).min(1200);
     let file = &bytes[..size];
