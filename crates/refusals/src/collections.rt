@@ -1,4 +1,4 @@
-// Files are merged into a collection and loaded, and of collections copies and snapshots are made.
+// Merging files into a collection and loading them, and making copies and snapshots of collections.
 use refusing::{Outcome, Refusing, refuse_each};
 use std::alloc::{Allocator, Global};
 use std::test::Fail;
@@ -6,7 +6,8 @@ use tftp_packet::Blocks;
 use tws_best::Collection;
 use tws_file::{Ruleset, TwsFile, read_file};
 
-// A Lynx file of solutions without moves: for each its number, a letter that is its password four times, and its ticks.
+// A Lynx file of solutions without moves, each with this number, a letter that is its password four times, and its
+// ticks.
 fn text_of(alloc: Global, solutions: &[(u8, u8, u8)]) -> Result<Vec<u8>, Fail> {
     let mut text = Vec::from_slice(alloc, &[0x35, 0x33, 0x9B, 0x99, 1, 0, 0, 0])?;
     for (number, letter, ticks) in solutions {
@@ -37,12 +38,12 @@ fn is_text<A: Allocator + Copy>(global: Global, collection: &Collection<A>, text
 
 const THREE: [(u8, u8, u8); 3] = [(1, 0x41, 50), (2, 0x42, 60), (4, 0x44, 70)];
 
-// One of another level, and a better one of a level that is kept.
+// A solution of another level, and a better one of a level that is kept.
 const TWO: [(u8, u8, u8); 2] = [(3, 0x43, 10), (2, 0x42, 20)];
 
 const ALL: [(u8, u8, u8); 4] = [(1, 0x41, 50), (2, 0x42, 20), (3, 0x43, 10), (4, 0x44, 70)];
 
-// What a collection of no file writes.
+// The text of an empty collection.
 const EMPTY: [u8; 8] = [0x35, 0x33, 0x9B, 0x99, 1, 0, 0, 0];
 
 // Merges a file into a collection, which then has the new text, or still the old one.
@@ -96,7 +97,7 @@ fn loading(rt: HostRuntime) -> Result<(), Fail> {
     )?)
 }
 
-// No request was made for the empty collection, nor is one for its copy.
+// Neither the empty collection nor its copy makes a request.
 #[test]
 fn empty_collections(rt: HostRuntime) -> Result<(), Fail> {
     let refusing = Refusing::new(rt.alloc(), 1);
@@ -107,7 +108,7 @@ fn empty_collections(rt: HostRuntime) -> Result<(), Fail> {
     Ok(())
 }
 
-// The outcome of a call that has to leave the collection as it was.
+// The outcome of a call that must leave the collection unchanged.
 fn unless_changed<A: Allocator + Copy>(
     global: Global,
     collection: &Collection<A>,
@@ -143,7 +144,7 @@ fn copying(rt: HostRuntime) -> Result<(), Fail> {
     )?)
 }
 
-// All blocks, one after the other.
+// All blocks, joined in order.
 fn joined_blocks(global: Global, blocks: &impl Blocks) -> Option<Vec<u8>> {
     let mut text = Vec::new(global);
     let mut out = [0; 512];

@@ -1,4 +1,4 @@
-// A solution file is read and listed.
+// Reading and listing a solution file.
 ghost use Rattle.std.specs.Prelude.{ℕ, ◌+◌, length};
 ghost use Rattle.tws_file.specs.Reader.{HasRoom, HasAtMost};
 
@@ -39,7 +39,7 @@ fn reading(rt: HostRuntime) -> Result<(), Fail> {
     )?)
 }
 
-// The sink keeps the plain allocator: its own running out of memory would be a fault of the writer.
+// The sink keeps the plain allocator: if it ran out of memory, that would be a fault of the writer.
 fn list(global: Global, refusing: &Refusing<Global>, file: &TwsFile) -> Outcome {
     let mut out = Vec::new(global);
     match show(refusing, file, true, &mut out) {
@@ -59,8 +59,8 @@ fn listing(rt: HostRuntime) -> Result<(), Fail> {
     )?)
 }
 
-// A size field takes no memory before the bytes that it announces are there: the one request is for the bytes that came
-// and are not read yet.
+// Nothing is allocated for a size field before the bytes that it announces have arrived: the one request is for the
+// bytes that arrived and are not read yet.
 #[test]
 fn a_cut_record_of_the_greatest_size(rt: HostRuntime) {
     let bytes = [
@@ -72,7 +72,7 @@ fn a_cut_record_of_the_greatest_size(rt: HostRuntime) {
     assert_eq!(rt; refusing.requests(), 1);
 }
 
-// Pushes a piece, and once more where memory ran out.
+// Pushes a piece, and once more if that was out of memory.
 fn push_again<A: Allocator + Copy>(reader: &mut Reader<A>, piece: &[u8]) -> Result<(), FileFault>
     requires { HasRoom reader.old piece.now }
     ensures { (n : ℕ) → HasAtMost reader.old n → HasAtMost reader.new (n + length piece.now) }
@@ -83,7 +83,7 @@ fn push_again<A: Allocator + Copy>(reader: &mut Reader<A>, piece: &[u8]) -> Resu
     }
 }
 
-// Reads the file byte by byte. A push that was refused is made again, so that the answer is the full one.
+// Reads the file byte by byte. A push that was out of memory is made again, so that the answer is the complete one.
 fn read_again(global: Global, refusing: &Refusing<Global>) -> Result<bool, FileFault> {
     let mut reader = Reader::new(refusing);
     for i in 0..EVERY_KIND.len() {

@@ -1,6 +1,6 @@
-//! Tests alone: each request for memory is refused in turn, in runs of the calls of the file tool that take memory.
+//! Tests only: each request for memory is refused in turn, in runs of the calls of the file tool that allocate.
 //!
-//! Each run answers that memory ran out, or gives the full answer, and leaves nothing changed where it says so.
+//! Each run reports that it is out of memory, or returns the complete answer, and changes nothing where it says so.
 #![tactic(auto)]
 
 #[cfg(test)]

@@ -1,4 +1,4 @@
-// Moves are read and written, and bytes packed.
+// Reading and writing moves, and packing bytes.
 use refusing::{Outcome, Refusing, refuse_each};
 use std::alloc::Global;
 use std::test::Fail;
@@ -9,7 +9,7 @@ const SPELLED: [u8; 11] = [
     0x00, 0x61, 0xFE, 0xFF, 0x00, 0xEF, 0xFF, 0x01, 0x00, 0xF3, 0xFF,
 ];
 
-// The ten, by hand from the table of layouts.
+// The ten moves, worked out by hand from the table of layouts.
 fn spelled_moves() -> [Move; 10] {
     let zero = Act::Step(0);
     [

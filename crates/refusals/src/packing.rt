@@ -1,4 +1,4 @@
-// A solution file is packed, and a body is taken out.
+// Packing a solution file, and taking a body out.
 use refusing::{Outcome, Refusing, refuse_each};
 use std::alloc::{Allocator, Global};
 use std::test::Fail;
@@ -12,7 +12,7 @@ const LOOSE: [u8; 53] = [
     0x00, 0x61, 0x61, 0x61, 0x61,
 ];
 
-// The same with the moves in two bytes.
+// Whether the file is the same, with the moves in two bytes.
 fn is_packed<A: Allocator>(global: Global, file: &TwsFile<A>) -> bool {
     let mut out = Vec::new(global);
     if write_file(file, &mut out).is_err() {
