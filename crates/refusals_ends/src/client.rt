@@ -1,4 +1,4 @@
-// A collection is fetched and a file is sent, each allocation refused in turn.
+// Fetching a collection and sending a file, with each allocation refused in turn.
 use archive_client::{Cause, Get, Put, State};
 use refusing::{Outcome, Refusing, refuse_each};
 use std::alloc::{Allocator, Global};
@@ -19,7 +19,7 @@ const PEER: Endpoint = Endpoint {
 // A Lynx file: level 1, BDHP, 100 ticks, no moves.
 const FILE: &[u8; 28] = b"\x35\x33\x9B\x99\x01\0\0\0\x10\0\0\0\x01\0BDHP\0\0\0\0\0\0\x64\0\0\0";
 
-// The first and only block of it.
+// Its first and only block.
 const FILE_DATA: &[u8; 32] =
     b"\0\x03\0\x01\x35\x33\x9B\x99\x01\0\0\0\x10\0\0\0\x01\0BDHP\0\0\0\0\0\0\x64\0\0\0";
 
@@ -34,7 +34,7 @@ fn goes(out: &Option<Out>, to: Endpoint, bytes: &[u8]) -> bool {
     }
 }
 
-// Whether it has failed for memory, as it told the server, and is silent from now on.
+// Whether the client failed because it was out of memory, sent the ERROR for that, and is silent from now on.
 fn gives_up<A: Allocator + Copy>(client: &mut Get<A>, out: &Option<Out>, data: &[u8]) -> bool {
     goes(out, PEER, b"\0\x05\0\x03out of memory\0")
         && client.state() == State::Failed(Cause::Memory)
@@ -44,7 +44,7 @@ fn gives_up<A: Allocator + Copy>(client: &mut Get<A>, out: &Option<Out>, data: &
         && client.state() == State::Failed(Cause::Memory)
 }
 
-// Gives a block. Whether the client has acknowledged it; an outcome, where it has not.
+// Passes a block to the client. Returns an outcome if the client did not acknowledge it.
 fn give<A: Allocator + Copy>(client: &mut Get<A>, n: u8, data: &[u8]) -> Result<(), Outcome> {
     let out = client.on_datagram(PEER, data);
     if goes(&out, PEER, &[0, 4, 0, n]) {
@@ -53,7 +53,7 @@ fn give<A: Allocator + Copy>(client: &mut Get<A>, n: u8, data: &[u8]) -> Result<
     Err(Outcome::refused(gives_up(client, &out, data)))
 }
 
-// Whether the client got a file, and it is this one.
+// Whether the client fetched a file, and it is this one.
 fn has_got<A: Allocator + Copy>(global: Global, client: Get<A>, bytes: &[u8]) -> bool {
     if client.state() != State::Got {
         return false;
@@ -90,7 +90,7 @@ fn fetching_one_block(rt: HostRuntime) -> Result<(), Fail> {
     )?)
 }
 
-// Gives three blocks, of which the last is empty; each byte of a block is its number.
+// Passes three blocks to the client, of which the last is empty; each byte of a block is its number.
 fn give_three<A: Allocator + Copy>(client: &mut Get<A>) -> Result<(), Outcome> {
     let mut first = [1; 516];
     first[..4].copy_from_slice(b"\0\x03\0\x01");
@@ -111,7 +111,7 @@ fn fetch_some(global: Global, refusing: &Refusing<Global>) -> Outcome {
     }
 }
 
-// A later block is refused: the client was bound, and has failed all the same.
+// A later block is refused: the client was bound, and failed all the same.
 #[test]
 fn fetching_some_blocks(rt: HostRuntime) -> Result<(), Fail> {
     let global = rt.alloc();
@@ -122,7 +122,7 @@ fn fetching_some_blocks(rt: HostRuntime) -> Result<(), Fail> {
     )?)
 }
 
-// Whether the request, the data and the end of a put are as they have to be, each given again at a time-out.
+// Whether the request, the data and the end of a put are right, and request and data are sent again at a time-out.
 fn sends_file<A: Allocator + Copy>(client: &mut Put<A>, first: Out) -> bool {
     let request = b"\0\x02upload.tws\0octet\0";
     goes(&Some(first), SERVER, request)
@@ -133,7 +133,7 @@ fn sends_file<A: Allocator + Copy>(client: &mut Put<A>, first: Out) -> bool {
         && client.state() == State::Sent
 }
 
-// A put takes no memory.
+// A put does not allocate.
 #[test]
 fn sending(rt: HostRuntime) -> Result<(), Fail> {
     let refusing = Refusing::new(rt.alloc(), 0);

@@ -1,4 +1,4 @@
-// A download of the server's table takes no memory after its first block.
+// A download from the server's table does not allocate after its first block.
 use crate::table::{FIRST, REQUEST, SECOND, TO_READ, TO_WRITE, ask, goes};
 use archive_table::{NoKeeper, Step, Table};
 use refusing::Refusing;
@@ -6,7 +6,7 @@ use std::alloc::{Allocator, Global};
 use std::test::Fail;
 use tftp_packet::Endpoint;
 
-// The blocks of a Lynx file as DATA: level 1, BDHP, 100 ticks, 700 moves of a byte each.
+// The blocks of a Lynx file as DATA: level 1, BDHP, 100 ticks, 700 moves of one byte each.
 #[derive(Drop)]
 struct Blocks {
     first: [u8; 516],
@@ -53,7 +53,7 @@ fn opens<A: Allocator + Copy>(table: &mut Table<A>, file: &Blocks) -> bool {
     }
 }
 
-// Whether a block is sent again at a time-out, ACK 0 has no effect, and a stranger is told so.
+// Whether a block is sent again at a time-out, ACK 0 has no effect, and a stranger is sent its ERROR.
 fn repeats<A: Allocator + Copy>(table: &mut Table<A>, block: &[u8]) -> bool {
     let stranger = b"\0\x05\0\x05unknown transfer\0";
     goes(&table.on_timeout(4001).out, 4001, SECOND, block)
@@ -66,8 +66,8 @@ fn repeats<A: Allocator + Copy>(table: &mut Table<A>, block: &[u8]) -> bool {
         )
 }
 
-// Whether the rest of the download is right: each block once more at a time-out, the second one at the ACK of the
-// first, and the end at its own.
+// Whether the rest of the download is right: each block is sent once more at a time-out, the second one at the ACK of
+// the first, and the transfer ends at the ACK of the second.
 fn goes_on<A: Allocator + Copy>(table: &mut Table<A>, file: &Blocks) -> bool {
     if !repeats(table, &file.first) {
         return false;

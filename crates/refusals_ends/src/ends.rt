@@ -1,4 +1,4 @@
-// A transfer is received and copied, each allocation refused in turn.
+// Receiving a file and copying it, with each allocation refused in turn.
 ghost use Rattle.std.specs.Prelude.{◌≤◌, length};
 
 use refusing::{Outcome, Refusing, refuse_each};
@@ -8,12 +8,12 @@ use std::test::Fail;
 use tftp_ends::{CHUNK_SIZE, Received, Receiver, RecvFault, RecvState};
 use tftp_packet::{BLOCK_SIZE, Dgram};
 
-// The last block, of 100 bytes. The 32 blocks before block 33 fill a chunk, so that it begins a new one.
+// The last block, of 100 bytes. The 32 blocks before block 33 fill a chunk, so block 33 begins a new one.
 const LAST: u16 = 34;
 
 const LAST_SIZE: usize = 100;
 
-// How many bytes the second chunk has: a block, and the last one.
+// How many bytes the second chunk has: a full block, and the last one.
 const REST: usize = BLOCK_SIZE + LAST_SIZE;
 
 // Each byte of block n is n.
@@ -27,7 +27,7 @@ fn size(n: u16) -> usize
     if n < LAST { BLOCK_SIZE } else { LAST_SIZE }
 }
 
-// Whether these are the bytes of the blocks from this one on.
+// Whether these are the bytes of the blocks from `first` on.
 fn are_blocks(bytes: &[u8], first: usize) -> bool {
     bytes.iter().enumerate().all(|(i, b)| usize::from(*b) == (i / BLOCK_SIZE).wrapping_add(first))
 }
@@ -73,8 +73,8 @@ fn takes<A: Allocator + Copy>(receiver: &mut Receiver<A>, n: u16, body: &[u8]) -
     }
 }
 
-// Whether a block is taken: at once, or where memory ran out at the second time, and the receiver was as it was: it
-// gives the last ACK at a time-out. Notes a block that was refused.
+// Whether a block is taken: at once, or the second time if the first was out of memory. The receiver is then unchanged:
+// it sends the last ACK at a time-out. Notes a block that was refused.
 fn takes_again<A: Allocator + Copy>(
     receiver: &mut Receiver<A>,
     n: u16,
@@ -94,7 +94,7 @@ fn takes_again<A: Allocator + Copy>(
     }
 }
 
-// Takes all blocks. Whether the file is whole, though one block may have been refused once.
+// Takes all blocks. Returns whether the file is whole, though one block may have been refused once.
 fn receive(refusing: &Refusing<Global>, refused: &Cell<u16>) -> bool {
     let mut receiver = Receiver::new(refusing);
     for n in 1..=LAST {
@@ -111,7 +111,7 @@ fn receive(refusing: &Refusing<Global>, refused: &Cell<u16>) -> bool {
     }
 }
 
-// The last request comes as block 33 begins a chunk.
+// The last request for memory is made as block 33 begins a chunk.
 #[test]
 fn receiving(rt: HostRuntime) -> Result<(), Fail> {
     let refused = Cell::new(0);
@@ -145,7 +145,7 @@ fn copying_what_was_received(rt: HostRuntime) -> Result<(), Fail> {
     )?)
 }
 
-// Whether a time-out before any block is answered, and a block that is not the next one is not.
+// Whether a time-out before any block sends something, and a block that is not the next one sends nothing.
 fn waits_for_the_first_block<A: Allocator + Copy>(receiver: &mut Receiver<A>) -> bool {
     if receiver.on_timeout().is_none() {
         return false;
@@ -175,7 +175,7 @@ fn is_written<A: Allocator>(alloc: Global, received: &Received<A>) -> bool {
         && are_blocks(&out, 1)
 }
 
-// Whether an empty block ends the file, which is given and written.
+// Whether an empty block ends the file, which is handed out and written.
 fn ends_with_nothing<A: Allocator + Copy>(alloc: Global, receiver: &mut Receiver<A>) -> bool {
     if !takes(receiver, 33, b"") {
         return false;
@@ -186,7 +186,7 @@ fn ends_with_nothing<A: Allocator + Copy>(alloc: Global, receiver: &mut Receiver
     }
 }
 
-// No other call asks for memory, nor does an empty block where a chunk is full.
+// No other call allocates, nor does an empty block after a full chunk.
 #[test]
 fn calls_without_memory(rt: HostRuntime) {
     let refusing = Refusing::new(rt.alloc(), 0);

@@ -1,7 +1,7 @@
-//! Tests alone: each request for memory is refused in turn, in runs of the calls of the ends, of the clients and
-//! of the server's table that take memory.
+//! Tests only: each request for memory is refused in turn, in runs of the calls of the ends, of the clients and of the
+//! server's table that allocate.
 //!
-//! Each run answers that memory ran out, or gives the full answer, and leaves nothing changed where it says so.
+//! Each run reports that it is out of memory, or returns the complete answer, and changes nothing where it says so.
 #![tactic(auto)]
 
 #[cfg(test)]

@@ -1,4 +1,4 @@
-// Requests to the server's table beside others that are live, each allocation refused in turn.
+// Requests to the server's table while other transfers are live, with each allocation refused in turn.
 use crate::table::{OUT_OF_MEMORY, REQUEST, SECOND, TO_READ, TO_WRITE, ask, goes};
 use archive_table::{Step, Table};
 use refusing::{Outcome, Refusing, refuse_each};
@@ -6,14 +6,14 @@ use std::alloc::{Allocator, Global};
 use std::cell::Cell;
 use std::test::Fail;
 
-// So many that each part of the table has grown more than once.
+// Enough for each part of the table to grow more than once.
 const TRANSFERS: u16 = 17;
 
 fn port(i: u16) -> u16 {
     4000_u16.wrapping_add(i)
 }
 
-// Whether so many transfers are live, at the first ports.
+// Whether `count` transfers are live, at the first ports.
 fn are_live<A: Allocator + Copy>(table: &Table<A>, count: u16) -> bool {
     let mut after = 0;
     for i in 0..count {
@@ -25,7 +25,7 @@ fn are_live<A: Allocator + Copy>(table: &Table<A>, count: u16) -> bool {
     table.next_port(after).is_none() && table.live() == usize::from(count)
 }
 
-// Makes a request at a table with so many transfers.
+// Makes a request to a table with `count` transfers.
 fn ask_next<A: Allocator + Copy>(
     table: &mut Table<A>,
     count: u16,
@@ -34,7 +34,7 @@ fn ask_next<A: Allocator + Copy>(
     ask(table, port(count), SECOND, request)
 }
 
-// Whether a request that was refused has changed nothing, and is served where it comes again.
+// Whether a request that was refused has changed nothing, and is served when it is made again.
 fn is_served_later<A: Allocator + Copy>(
     table: &mut Table<A>,
     count: u16,
@@ -50,7 +50,7 @@ fn is_served_later<A: Allocator + Copy>(
     }
 }
 
-// Makes the requests up to one that is refused, of which it notes the number.
+// Makes the requests up to one that is refused, and notes the number of that one.
 fn open_all(refusing: &Refusing<Global>, request: &[u8], refused: &Cell<u16>) -> Outcome {
     let mut table = Table::new(refusing, REQUEST);
     if refusing.requests() != 0 {
@@ -68,7 +68,7 @@ fn open_all(refusing: &Refusing<Global>, request: &[u8], refused: &Cell<u16>) ->
     Outcome::of(are_live(&table, TRANSFERS))
 }
 
-// The last request that was refused came where others were live.
+// The last request that was refused was made while others were live.
 #[test]
 fn requests_to_write(rt: HostRuntime) -> Result<(), Fail> {
     let refused = Cell::new(0);

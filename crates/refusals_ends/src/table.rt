@@ -1,4 +1,4 @@
-// The server's table: the block that completes a file, a keeper, and a start, each allocation refused in turn.
+// The server's table: the block that completes a file, a keeper, and a start, with each allocation refused in turn.
 use archive_table::{KeepFault, Keeper, LoadFault, MemoryKeeper, NoKeeper, Step, Table};
 use refusing::{Outcome, Refusing, refuse_each};
 use std::alloc::{Allocator, Global};
@@ -34,11 +34,11 @@ const EMPTY_MS: &[u8] = b"\x35\x33\x9B\x99\x02\0\0\0";
 // A Lynx file: level 1, BDHP, 100 ticks, no moves. As a collection it has the same text.
 const FILE: &[u8] = b"\x35\x33\x9B\x99\x01\0\0\0\x10\0\0\0\x01\0BDHP\0\0\0\0\0\0\x64\0\0\0";
 
-// The first and only block of it.
+// Its first and only block.
 const FILE_DATA: &[u8; 32] =
     b"\0\x03\0\x01\x35\x33\x9B\x99\x01\0\0\0\x10\0\0\0\x01\0BDHP\0\0\0\0\0\0\x64\0\0\0";
 
-// Whether this is sent from there to there.
+// Whether these bytes are sent from this port to this endpoint.
 pub(crate) fn goes(out: &Option<Out>, from: u16, to: Endpoint, bytes: &[u8]) -> bool {
     match out {
         Some(out) => out.from_port == from && out.to == to && out.dgram.bytes() == bytes,
@@ -46,7 +46,7 @@ pub(crate) fn goes(out: &Option<Out>, from: u16, to: Endpoint, bytes: &[u8]) -> 
     }
 }
 
-// Gives a request to a table whose spare port is free; nothing where it is not.
+// Passes a request to a table, if the spare port is free; `None` if it is not.
 pub(crate) fn ask<A: Allocator + Copy>(
     table: &mut Table<A>,
     spare: u16,
@@ -59,7 +59,7 @@ pub(crate) fn ask<A: Allocator + Copy>(
     Some(table.on_request(spare, from, bytes))
 }
 
-// Whether a transfer is opened at this port; an outcome, where it is not.
+// Opens a transfer at this port. Returns an outcome if it is not opened.
 fn open<A: Allocator + Copy>(
     table: &mut Table<A>,
     spare: u16,
@@ -86,8 +86,7 @@ fn is_let_go<A: Allocator + Copy>(table: &Table<A>, step: &Step<A>) -> bool {
         && table.collection(Ruleset::Lynx).is_empty()
 }
 
-// Gives an open transfer the block that completes its file. Whether it is taken and acknowledged; an outcome, where it
-// is not.
+// Passes the block that completes a file to its open transfer. Returns an outcome if it is not taken and acknowledged.
 fn give_file<A: Allocator + Copy>(table: &mut Table<A>) -> Result<(), Outcome> {
     let step = table.on_datagram(&mut NoKeeper, 4000, FIRST, FILE_DATA);
     if step.taken.is_none() {
@@ -99,7 +98,7 @@ fn give_file<A: Allocator + Copy>(table: &mut Table<A>) -> Result<(), Outcome> {
     Ok(())
 }
 
-// Opens a transfer and gives it a file in one block. An outcome, where the file is not taken.
+// Opens a transfer and passes it a file in one block. Returns an outcome if the file is not taken.
 fn take<A: Allocator + Copy>(table: &mut Table<A>) -> Result<(), Outcome> {
     open(table, 4000, FIRST, TO_WRITE)?;
     give_file(table)
@@ -120,7 +119,7 @@ fn the_last_block(rt: HostRuntime) -> Result<(), Fail> {
     Ok(refuse_each(global, 2, &|refusing: &Refusing<Global>| take_one(refusing))?)
 }
 
-// Whether the collections of a table have this text and that of none.
+// Whether the Lynx collection of a table has this text, and the other collection is empty.
 fn has_texts<A: Allocator + Copy>(global: Global, table: &Table<A>, lynx: &[u8]) -> bool {
     let mut text = Vec::new(global);
     let mut other = Vec::new(global);
@@ -138,7 +137,7 @@ fn is_served<A: Allocator + Copy>(table: &Table<A>, step: &Step<A>) -> bool {
     step.opened && goes(&step.out, 4001, SECOND, FILE_DATA) && table.live() == 2
 }
 
-// Whether a request to read is refused for memory, with no transfer opened.
+// Whether a request to read is refused as out of memory, with no transfer opened.
 fn is_turned_down<A: Allocator + Copy>(table: &Table<A>, step: &Step<A>) -> bool {
     !step.opened
         && goes(&step.out, REQUEST, SECOND, OUT_OF_MEMORY)
@@ -146,7 +145,7 @@ fn is_turned_down<A: Allocator + Copy>(table: &Table<A>, step: &Step<A>) -> bool
         && !table.is_live(4001)
 }
 
-// Asks for the collection, which is the file. A request that was refused is served where it comes again.
+// Requests the collection, which is the file. A request that was refused is served when it is made again.
 fn read_file<A: Allocator + Copy>(
     global: Global,
     table: &mut Table<A>,
@@ -174,7 +173,7 @@ fn read_one(global: Global, refusing: &Refusing<Global>, refused: &Cell<u64>) ->
     }
 }
 
-// The collection is not empty, so that what a reader is to be sent takes memory.
+// The collection is not empty, so that what is sent to a reader has to be allocated.
 #[test]
 fn reading_what_was_taken(rt: HostRuntime) -> Result<(), Fail> {
     let global = rt.alloc();
@@ -188,7 +187,7 @@ fn reading_what_was_taken(rt: HostRuntime) -> Result<(), Fail> {
     Ok(())
 }
 
-// Whether a keeper has this text of Lynx, which was kept, and no other.
+// Whether a keeper has this text for Lynx, which was kept, and no other.
 fn has_one<A: Allocator + Copy>(keeper: &MemoryKeeper<A>, text: &[u8]) -> bool {
     match keeper.kept() {
         [one] => one.ruleset == Ruleset::Lynx && one.ok && one.text.as_slice() == text,
@@ -196,7 +195,7 @@ fn has_one<A: Allocator + Copy>(keeper: &MemoryKeeper<A>, text: &[u8]) -> bool {
     }
 }
 
-// Whether a server that starts with what a keeper has has this text.
+// Whether a server that starts with what the keeper holds has this text.
 fn starts_with<A: Allocator + Copy>(
     global: Global,
     keeper: &mut MemoryKeeper<A>,
@@ -221,7 +220,7 @@ fn is_taken<A: Allocator + Copy>(
         && has_one(keeper, FILE)
 }
 
-// Whether the last block has closed its transfer, with nothing taken, joined or kept. Counts an answer `not kept`.
+// Whether the last block has closed its transfer, with nothing taken, joined or kept. Counts an ERROR `not kept`.
 fn is_given_up<A: Allocator + Copy>(
     global: Global,
     table: &Table<A>,
@@ -240,7 +239,7 @@ fn is_given_up<A: Allocator + Copy>(
         && keeper.kept().is_empty()
 }
 
-// Gives an open transfer the block that completes its file, which is to be kept.
+// Passes the block that completes a file to its open transfer. The file is to be kept.
 fn keep_file<A: Allocator + Copy>(
     global: Global,
     table: &mut Table<A>,
@@ -265,8 +264,8 @@ fn keep_one(global: Global, refusing: &Refusing<Global>, not_kept: &Cell<u64>) -
     }
 }
 
-// The block that completes a file, where the keeper takes its memory from the same place: the file is taken and kept,
-// or neither. What a server finds that restarts is what was taken.
+// The block that completes a file, with a keeper that has the same allocator: the file is both taken and kept, or
+// neither. What a restarted server finds is what was taken.
 #[test]
 fn the_last_block_kept(rt: HostRuntime) -> Result<(), Fail> {
     let global = rt.alloc();
@@ -280,7 +279,7 @@ fn the_last_block_kept(rt: HostRuntime) -> Result<(), Fail> {
     Ok(())
 }
 
-// Whether a start with what a keeper has is refused for memory. Counts a refusal in the keeper.
+// Whether a start with what the keeper has fails as out of memory. Counts a failure in the keeper.
 fn is_refused(fault: LoadFault, in_keeper: &Cell<u64>) -> bool {
     match fault {
         LoadFault::Memory => true,
@@ -322,7 +321,7 @@ fn starting(rt: HostRuntime) -> Result<(), Fail> {
     Ok(())
 }
 
-// Whether a keeper has the file for Lynx and the text of none for MS, both kept.
+// Whether a keeper has the file for Lynx and the text of an empty collection for MS, both kept.
 fn has_both<A: Allocator + Copy>(keeper: &MemoryKeeper<A>) -> bool {
     match keeper.kept() {
         [lynx, ms] => {
