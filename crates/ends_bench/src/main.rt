@@ -9,7 +9,7 @@ use tftp_packet::{Dgram, Owned, Packet, decode};
 /// The greatest length of a file.
 const SIZE: usize = MAX_FILE as usize;
 
-/// How often it is sent.
+/// How many times it is sent.
 const TIMES: usize = 6;
 
 fn file(alloc: Global) -> Result<Vec<u8>, AllocError> {
@@ -20,7 +20,7 @@ fn file(alloc: Global) -> Result<Vec<u8>, AllocError> {
     Ok(bytes)
 }
 
-// Gives a DATA to the receiver, and its ACK to the sender.
+// Passes a DATA to the receiver, and its ACK to the sender.
 fn turn(sender: &mut Sender<Owned>, receiver: &mut Receiver, dgram: &Dgram) -> Option<Dgram> {
     let out = match decode(dgram.bytes()) {
         Ok(Packet::Data { block, body }) => receiver.on_data(block, body),
@@ -35,7 +35,7 @@ fn turn(sender: &mut Sender<Owned>, receiver: &mut Receiver, dgram: &Dgram) -> O
     }
 }
 
-// How many bytes were received.
+// Transfers a file, and returns how many bytes were received.
 fn transfer(alloc: Global, bytes: Vec<u8>) -> u64 {
     if bytes.len() > SIZE {
         return 0;
