@@ -1,8 +1,8 @@
-//! For the benchmark: a server's table in memory, with downloads of a collection and uploads of files in turn, each of
-//! which is better than the collection in every tenth solution. The first byte of the input says how many transfers are
-//! live at a time: `1`, or else 64. The second says how long the solutions of the files are: `l` for long ones, or else
-//! about as long as those that players send. The third says how many downloads and uploads there are: `+` for 320 of
-//! each, or else 64.
+//! For the benchmark: a server's table in memory, with downloads of a collection and uploads of files in turn. Each
+//! upload is better than the collection in every tenth solution. The first byte of the input is how many transfers are
+//! live at a time: `1` for one, or else 64. The second is how long the solutions of the files are: `l` for long ones,
+//! or else about as long as those that players send. The third is how many downloads and uploads there are: `+` for 320
+//! of each, or else 64.
 #![tactic(auto)]
 
 ghost use Rattle.std.specs.Prelude.{◌≤◌, length};
@@ -23,12 +23,12 @@ const REQUEST: u16 = 6969;
 /// The port of the first transfer.
 const FIRST: u16 = 7000;
 
-/// The opcodes of what clients send, RFC 1350 section 5.
+/// The opcodes of what clients send (RFC 1350 section 5).
 const DATA: u8 = 3;
 
 const ACK: u8 = 4;
 
-/// How many solutions a file has, and how many bytes of moves each.
+/// How many solutions a file has, and how many bytes of moves each has.
 #[derive(Clone, Copy)]
 struct Shape {
     solutions: u16,
@@ -45,15 +45,15 @@ const LONG: Shape = Shape {
     moves: 100_000,
 };
 
-/// The collection is of so many files.
+/// The number of files that make up the collection.
 const FILES: u8 = 4;
 
 /// The number of the first upload that is timed. Those that fill the collection have number 0.
 const FIRST_UPLOAD: u16 = 10;
 
-/// A client of the table: its port, which is that of its transfer, which of the uploads it makes, and the bytes that it
-/// sends next unless it is done. They are written where they stay, as in the C program; otherwise copies of whole
-/// datagrams would be timed as the table's.
+/// A client of the table: its port, which is that of its transfer, the number of its upload, and the bytes that it
+/// sends next unless it is done. They are written in place, as in the C program; otherwise copies of whole datagrams
+/// would count as time of the table.
 #[derive(Drop)]
 struct Client {
     port: u16,
@@ -64,7 +64,7 @@ struct Client {
 }
 
 impl Client {
-    // A client that has nothing to send yet.
+    // A client with nothing to send yet.
     fn new(port: u16, upload: u16) -> Self {
         Client {
             port,
@@ -83,14 +83,14 @@ impl Client {
         }
     }
 
-    // Sends a request next.
+    // Makes a request the next to be sent.
     fn request(&mut self, request: &Dgram) {
         let bytes = request.bytes();
         self.next[..bytes.len()].copy_from_slice(bytes);
         self.len = bytes.len();
     }
 
-    // Sends a packet next that has a number, with its body.
+    // Makes a packet with a number and a body the next to be sent.
     fn send(&mut self, opcode: u8, number: u16, body: &[u8])
         requires { length body.now ≤ BLOCK_SIZE }
     {
@@ -101,14 +101,14 @@ impl Client {
     }
 }
 
-// The first ticks byte of a solution of a file.
+// The offset of the first ticks byte of a solution in a file.
 fn ticks_at(shape: Shape, level: usize) -> usize {
     level
         .wrapping_mul(shape.moves as usize + 20)
         .wrapping_add(24)
 }
 
-// Makes every tenth solution among these bytes of a file, which begin at an offset, better than the uploads before did.
+// Makes every tenth solution in these bytes, which begin at offset `start` of a file, better than earlier uploads did.
 fn improve(bytes: &mut [u8], start: usize, shape: Shape, upload: u16) {
     let size = shape.moves as usize + 20;
     for level in start.saturating_sub(24).div_ceil(size)..usize::from(shape.solutions) {
@@ -125,7 +125,7 @@ fn endpoint(port: u16) -> Endpoint {
     Endpoint { host: 2, port }
 }
 
-// A file of Lynx solutions, each of a level of its own. Files of different numbers have no level in common.
+// A file of Lynx solutions, each for another level. Files with different numbers have no level in common.
 fn file(alloc: Global, shape: Shape, number: u8) -> Result<Vec<u8>, AllocError> {
     let mut bytes = Vec::new(alloc);
     bytes.extend_from_slice(b"\x35\x33\x9B\x99\x01\0\0\0")?;
@@ -142,7 +142,7 @@ fn file(alloc: Global, shape: Shape, number: u8) -> Result<Vec<u8>, AllocError> 
     Ok(bytes)
 }
 
-// What is left of a file from here on.
+// The bytes of a file from this offset on.
 fn rest(file: &[u8], from: usize) -> &[u8] {
     if from <= file.len() {
         &file[from..]
@@ -168,7 +168,7 @@ fn block(file: &[u8], n: u16) -> &[u8]
     first_block(rest(file, usize::from(n.saturating_sub(1)) * BLOCK_SIZE))
 }
 
-// Sets what a client sends next, by what has come; it is done once all of its file is through.
+// Sets what a client sends next, in reply to what it received; it is done once its whole file was transferred.
 fn reply(client: &mut Client, shape: Shape, file: &[u8], came: &Dgram) {
     match decode(came.bytes()) {
         Ok(Packet::Data { block, .. }) => client.send(ACK, block, &[]),
@@ -182,7 +182,7 @@ fn reply(client: &mut Client, shape: Shape, file: &[u8], came: &Dgram) {
     }
 }
 
-// Gives what a client sends to the table, and takes in what it answers.
+// Passes what a client sends to the table, and handles the reply.
 fn turn(table: &mut Table, shape: Shape, file: &[u8], client: &mut Client) {
     let from = endpoint(client.port);
     let step = table.on_datagram(&mut NoKeeper, client.port, from, client.bytes());
@@ -192,7 +192,7 @@ fn turn(table: &mut Table, shape: Shape, file: &[u8], client: &mut Client) {
     }
 }
 
-// A client that has asked the table for a transfer at its port.
+// Starts a client, which asks the table for a transfer at its port.
 fn open(
     table: &mut Table,
     shape: Shape,
@@ -219,7 +219,7 @@ fn open(
     client
 }
 
-// One turn of each client: how many datagrams they sent.
+// Makes one turn of each client. Returns how many datagrams they sent.
 fn turns(table: &mut Table, shape: Shape, file: &[u8], clients: &mut [Client]) -> u64 {
     let mut sent: u64 = 0;
     for client in clients.iter_mut() {
@@ -231,7 +231,7 @@ fn turns(table: &mut Table, shape: Shape, file: &[u8], clients: &mut [Client]) -
     sent
 }
 
-// The clients' transfers wait no longer for a repeated last block.
+// Ends the dally of the clients' transfers, which wait for a repeated last block.
 fn end(table: &mut Table, clients: &[Client]) {
     for client in clients {
         table.on_timeout(client.port);
@@ -239,8 +239,8 @@ fn end(table: &mut Table, clients: &[Client]) {
     }
 }
 
-// So many transfers at a time, of which every second reads and the others make uploads from this number on: how many
-// datagrams their clients sent.
+// Makes `live` transfers at a time, of which every second is a download and the others are uploads, with numbers from
+// `upload` on. Returns how many datagrams their clients sent.
 fn round(
     alloc: Global,
     table: &mut Table,
@@ -269,7 +269,7 @@ fn round(
     Ok(sent)
 }
 
-// Puts the files of which the collection is.
+// Uploads the files that make up the collection.
 fn fill(alloc: Global, table: &mut Table, shape: Shape) -> Result<(), AllocError> {
     for number in 1..=FILES {
         let bytes = file(alloc, shape, number)?;
@@ -278,7 +278,7 @@ fn fill(alloc: Global, table: &mut Table, shape: Shape) -> Result<(), AllocError
     Ok(())
 }
 
-// So many rounds of so many transfers: how many datagrams their clients sent.
+// Makes `rounds` rounds of `live` transfers. Returns how many datagrams their clients sent.
 fn serve(
     alloc: Global,
     table: &mut Table,
