@@ -177,7 +177,7 @@ static void pack_moves(struct packed *out, const uint8_t *moves, size_t size)
     put_kept(out);
 }
 
-/* Adds a record, its size field too. */
+/* Adds a record with its size field. */
 static void pack_record(struct packed *out, const uint8_t *body, uint32_t size)
 {
     static const uint8_t set[6];

@@ -4,7 +4,7 @@
 #include <stdlib.h>
 #include <string.h>
 
-/* A little-endian number of so many bytes. */
+/* A little-endian number of this many bytes. */
 static uint32_t number(const uint8_t *p, int bytes)
 {
     uint32_t n = 0;

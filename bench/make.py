@@ -15,7 +15,7 @@ import sys
 # How often each layout is drawn: a plain step, another step in one byte, three steps, a step in two bytes, one in four,
 # and a code.
 SHARES = {"mixed": (5, 142, 1, 17, 1, 0), "even": (0, 1, 1, 1, 1, 1)}
-# So many solutions have moves of their own. Those of the others are as many times the same.
+# This many solutions have their own moves; the others repeat these.
 DRAWN = 8
 
 

@@ -64,7 +64,7 @@ static size_t request(unsigned char *out, int opcode, const char *name)
     return length + 8;
 }
 
-/* Sends a request, and again while no answer comes: what comes, from a port to which the socket is bound then. */
+/* Sends a request until an answer arrives, and returns that. The socket is then connected to the port that it came from. */
 static size_t asked(int end, const unsigned char *out, size_t n, unsigned char *in)
 {
     struct sockaddr_in from;
@@ -85,7 +85,7 @@ static size_t asked(int end, const unsigned char *out, size_t n, unsigned char *
     return 0;
 }
 
-/* Sends a datagram, and again while nothing comes: what comes. */
+/* Sends a datagram until an answer arrives, and returns that. */
 static size_t answered(int end, const unsigned char *out, size_t n, unsigned char *in)
 {
     for (int k = 0; k < TRIES; k++) {
@@ -153,7 +153,7 @@ static void write_file(const char *path, struct got got)
         fail("not written");
 }
 
-/* So many gets at once, which begin as the parent closes a pipe, and note the time of their end. */
+/* This many gets at once, which begin as the parent closes a pipe, and note when they end. */
 static void gets_at_once(const char *name, int count, const char *path)
 {
     double *ends = mmap(0, MANY * sizeof *ends, PROT_READ | PROT_WRITE, MAP_SHARED | MAP_ANONYMOUS, -1, 0);
@@ -182,7 +182,7 @@ static void gets_at_once(const char *name, int count, const char *path)
             exit(0);
         }
     }
-    /* The children reach their read. */
+    /* Time for the children to reach their read. */
     usleep(50000);
     start = now();
     close(gate[1]);
@@ -247,6 +247,6 @@ int main(int count, char **words)
     else if (count == 6 && strcmp(words[2], "beside") == 0)
         get_beside(words[3], atoi(words[4]), words[5]);
     else
-        fail("unknown words");
+        fail("unknown arguments");
     return 0;
 }

@@ -39,7 +39,7 @@ struct text {
     int users;
 };
 
-/* That of the collection as it is, or none where it has changed since a text was made. */
+/* The text of the current collection, or none if that has changed since a text was made. */
 static struct text *now;
 
 static void leave(struct text *t)
@@ -60,7 +60,7 @@ static int is_better(const uint8_t *a, size_t m, const uint8_t *b, size_t n)
     return memcmp(a, b, m) < 0;
 }
 
-/* Takes in a record, by its key: whether anything changed. */
+/* Takes in a record, by its key. Returns whether anything changed. */
 static int take(const uint8_t *body, size_t length)
 {
     int i = 0, end = keys;
@@ -167,7 +167,7 @@ struct transfer {
 
 static struct transfer table[LIVE];
 
-/* The transfer at a port of our own. */
+/* The transfer at one of our ports. */
 static struct transfer *find(unsigned own)
 {
     for (int i = 0; i < LIVE; i++)
@@ -204,7 +204,7 @@ static size_t data(const uint8_t *file, size_t length, unsigned block, uint8_t *
     return packet(3, block, file + at, size < 512 ? size : 512, out);
 }
 
-/* A request has come to the request port, and a spare port is free: what is answered. */
+/* Handles a request at the request port, while a spare port is free. */
 static size_t on_request(unsigned own, uint32_t host, unsigned port, const uint8_t *in, size_t n, uint8_t *out)
 {
     struct transfer *t = table;

@@ -40,7 +40,7 @@ def main():
         except TimeoutError:
             print("nothing")
             continue
-        # In the text of bytes, each that is no printable character stands as \xHH.
+        # A byte that is not a printable character is written as \xHH.
         text = "".join(chr(b) if 32 <= b < 127 and b != 92 else f"\\x{b:02x}" for b in answer)
         print("request" if to == port else "transfer", text)
     if to != port:

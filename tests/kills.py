@@ -22,7 +22,7 @@ MOST = 30
 # The puts before each moment is drawn, and how late the moment is at most, in seconds from the start of the next put.
 BEFORE = 2
 LATEST = 0.06
-# How long a client that has no server any more may take to hear what is sent already.
+# How long a client whose server was killed may take to receive what is already sent.
 HEARS = 0.3
 # How often a file is put whose client gives up, what such a client prints, and how many of them there are at most: a disk
 # that stops for a while holds back one put of each server.

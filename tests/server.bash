@@ -69,7 +69,7 @@ start() {
     exit 2
 }
 
-# gives NAME STATUS OUT ERRORS WORDS: the program prints and answers so, within two minutes.
+# gives NAME STATUS OUT ERRORS WORDS: the program prints this and exits with this status, within two minutes.
 gives() {
     local name=$1 want=$2 status
     printf '%s' "${3:+$3$'\n'}" >"$work/want.out"
