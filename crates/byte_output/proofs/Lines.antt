@@ -1,8 +1,6 @@
 -- The lines of a list, gathered one by one and written as they grow large.
-use Rattle.std.proofs.Common.{◌≡◌, ℕ, ◌+◌, ◌<◌, List, [], ◌∷◌, ◌++◌, length, take, drop, get_or, Option, ap, sym, subst, ◌∙◌, append_assoc, append-nil, take-append-drop}
-use Rattle.std.specs.List.{flat_map}
+use Rattle.std.proofs.Common.{◌≡◌, ℕ, ◌+◌, ◌<◌, List, [], ◌∷◌, ◌++◌, length, take, drop, get_or, Option, ap, sym, subst, ◌∙◌, append_assoc, take-append-drop}
 use Rattle.std.proofs.lemmas.List.{take_more}
-use Rattle.std.proofs.lemmas.List.Concat.{flat_map-append}
 use Rattle.byte_output.specs.Output.{Sends, AppendsPrefix}
 use Rattle.byte_output.proofs.Sending.{Sends-push, prefix_more}
 
@@ -37,11 +35,3 @@ module _ {X : Type 0} (lines : List X → List ℕ) (line : X → List ℕ) (joi
     line_gathered buffer pushed x s inside x-is pushed-is =
         let longer : (start ++ lines (take i xs)) ++ line x ≡ start ++ lines (take (i + 1) xs) = append_assoc start (lines (take i xs)) (line x) ∙ ap (λ (ys : List ℕ). start ++ ys) (sym (lines-more i xs x inside x-is)) in
         rw (pushed-is, ← longer) (Sends-push old mid new (start ++ lines (take i xs)) buffer s (line x))
-
--- the lines of a `flat_map`
-module _ {X : Type 0} (line : X → List ℕ) where
-  pub joined_flat : (xs ys : List X) → flat_map line (xs ++ ys) ≡ flat_map line xs ++ flat_map line ys
-  joined_flat xs ys = flat_map-append line xs ys
-
-  pub single_flat : (x : X) → flat_map line (x ∷ []) ≡ line x
-  single_flat x = append-nil (line x)

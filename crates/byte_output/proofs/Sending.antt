@@ -33,10 +33,6 @@ some_last (x ∷ xs) ys some none = absurd cc
 pub Sends-none : (old : Option (List ℕ)) (text : List ℕ) → Sends old old text text
 Sends-none old text = record { sent = []; cut = refl; appends = Appends-nil old }
 
--- all of it was written
-pub Sends-all : (old new : Option (List ℕ)) (text : List ℕ) → Appends old new text → Sends old new text []
-Sends-all old new text appends = record { sent = text; cut = sym (append-nil text); appends = appends }
-
 module _ (old mid new : Option (List ℕ)) (text rest : List ℕ) where
   -- more text is gathered
   pub Sends-push : Sends old mid text rest → (more : List ℕ) → Sends old mid (text ++ more) (rest ++ more)

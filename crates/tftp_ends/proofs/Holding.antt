@@ -1,8 +1,7 @@
 -- What a receiver knows of the file that is sent to it, as long as each DATA that arrives is a block of that file, and
 -- what its steps leave.
 use Rattle.std.proofs.Common.{◌≡◌, ◌⊎◌, ℕ, ◌+◌, ◌*◌, ◌<◌, ◌≤◌, Bool, true, false, ◌==◌, List, ◌++◌, length, None, Some, IfSome, refl, ap, sym, ◌∙◌, subst, arith, inl, inr, length-take}
-use Rattle.std.proofs.lemmas.Bool.{eqb-true, eqb-false, eq-eqb, ne_eqb}
-use Rattle.std.proofs.lemmas.Bool.Decides.{nat_tests}
+use Rattle.std.proofs.lemmas.Bool.{eqb-true}
 use Rattle.std.proofs.lemmas.List.{take_all}
 use Rattle.tftp_packet.specs.declared.sizes.TheConstants.{BLOCK_SIZE}
 use Rattle.tftp_packet.specs.Blocks.{block_count, block_of, first_blocks}
@@ -10,7 +9,7 @@ use Rattle.tftp_packet.proofs.Cutting.{first_blocks-more}
 use Rattle.tftp_ends.specs.declared.limits.TheConstants.{MISSES, DALLY}
 use Rattle.tftp_ends.specs.declared.recv_state.RecvState.{RecvState}
 use Rattle.tftp_ends.specs.declared.recv_state.RecvState.TheVariants as receiving
-use Rattle.tftp_ends.specs.Ends.{Verdict, granted, refused, Receiver, receiver_appends, state_after, receiver_takes, receiver_next, receiver_again, is_last_come, is_past, receiver_running, receiver_data_in, receiver_data, receiver_missed, receiver_dallied, receiver_timeout_in, receiver_timeout, TakeAnswer, receiver_take_in, receiver_take, IsEnded, HoldsFirst, Completes, HasSize, IsReceiver}
+use Rattle.tftp_ends.specs.Ends.{Verdict, granted, refused, Receiver, receiver_appends, receiver_takes, receiver_next, receiver_again, is_last_come, is_past, receiver_running, receiver_data_in, receiver_data, receiver_missed, receiver_dallied, receiver_timeout_in, receiver_timeout, TakeAnswer, receiver_take_in, receiver_take, IsEnded, HoldsFirst, HasSize, IsReceiver}
 
 -- ---- what a receiver knows of the file
 
@@ -109,56 +108,6 @@ module _ (file : List ℕ) (r : Receiver) (holds : HoldsFirst file r) where
   -- and it is so once it counts the last block; so it acknowledges that block only then
   pub last-ended : IsReceiver r → r.count ≡ block_count file → IsEnded r.state
   last-ended fits = last_in r.state (whole_in r.state (held_size fits))
-
--- ---- how it becomes complete
-
--- it was complete before, or this DATA completes the file
-abbrev pub CompletesBy : Verdict → (n : ℕ) (body : List ℕ) → (r next : Receiver) → Type 0
-CompletesBy verdict n body r next =
-    next.state ≡ receiving.Complete → (r.state ≡ receiving.Complete) ⊎ ((verdict ≡ granted) × Completes n body r)
-
-again_completes : (verdict : Verdict) (n : ℕ) (body : List ℕ) (r : Receiver) (last : Bool) → CompletesBy verdict n body r (receiver_again last r).receiver
-again_completes verdict n body r true complete = inl complete
-again_completes verdict n body r false complete = inl complete
-
-module _ (n : ℕ) (body : List ℕ) (r : Receiver) (short : length body ≤ BLOCK_SIZE) (running : r.state ≡ receiving.Running) (is_next : n ≡ r.count + 1) where
-  taken_completes : (full : Bool) → (length body == BLOCK_SIZE) ≡ full → state_after full ≡ receiving.Complete → (r.state ≡ receiving.Complete) ⊎ ((granted ≡ granted) × Completes n body r)
-  taken_completes true is_full complete = absurd cc
-  taken_completes false is_full complete =
-      let other : length body ≡ BLOCK_SIZE → ⊥ = eqb-false _ _ is_full in
-      inr (refl, record { running = running; next = is_next; short = omega arith })
-
-  takes_completes : (verdict : Verdict) → CompletesBy verdict n body r (receiver_takes verdict body r).receiver
-  takes_completes granted = taken_completes (length body == BLOCK_SIZE) refl
-  takes_completes refused = λ complete. inl complete
-
-  next_completes : (past : Bool) (verdict : Verdict) → CompletesBy verdict n body r (receiver_next past verdict body r).receiver
-  next_completes true verdict = λ complete. inl complete
-  next_completes false verdict = takes_completes verdict
-
-running_completes : (n : ℕ) (body : List ℕ) (r : Receiver) → length body ≤ BLOCK_SIZE → r.state ≡ receiving.Running → (verdict : Verdict) (next : Bool) → (n == r.count + 1) ≡ next → CompletesBy verdict n body r (receiver_running next verdict n body r).receiver
-running_completes n body r short running verdict true is_next = next_completes n body r short running (eqb-true _ _ is_next) (is_past n body) verdict
-running_completes n body r short running verdict false is_next = again_completes verdict n body r (is_last_come n r)
-
-data_in_completes : (state : RecvState) (verdict : Verdict) (n : ℕ) (body : List ℕ) (r : Receiver) → length body ≤ BLOCK_SIZE → r.state ≡ state → CompletesBy verdict n body r (receiver_data_in state verdict n body r).receiver
-data_in_completes receiving.Running verdict n body r short is = running_completes n body r short is verdict (n == r.count + 1) refl
-data_in_completes receiving.Complete verdict n body r short is = again_completes verdict n body r (is_last_come n r)
-data_in_completes receiving.TimedOut verdict n body r short is = λ complete. inl complete
-data_in_completes receiving.Over verdict n body r short is = λ complete. inl complete
-
--- a receiver becomes complete only by a DATA that completes the file, and only if memory is granted
-pub receiver_data-completes : (verdict : Verdict) (n : ℕ) (body : List ℕ) (r : Receiver) → length body ≤ BLOCK_SIZE → CompletesBy verdict n body r (receiver_data verdict n body r).receiver
-receiver_data-completes verdict n body r short = data_in_completes r.state verdict n body r short refl
-
--- and by each such DATA
-pub completed : (n : ℕ) (body : List ℕ) (r : Receiver) → Completes n body r → (receiver_data granted n body r).receiver.state ≡ receiving.Complete
-completed n body r completes =
-    let short : (length body == BLOCK_SIZE) ≡ false = ne_eqb (length body) BLOCK_SIZE (λ e. omega (arith, completes.short)) in
-    let past : is_past n body ≡ false = grind (arith, nat_tests) in
-    ap (λ s. (receiver_data_in s granted n body r).receiver.state) completes.running
-    ∙ ap (λ next. (receiver_running next granted n body r).receiver.state) (eq-eqb n (r.count + 1) completes.next)
-    ∙ ap (λ past. (receiver_next past granted body r).receiver.state) past
-    ∙ ap state_after short
 
 -- ---- what a receiver's step leaves
 

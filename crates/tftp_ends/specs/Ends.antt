@@ -169,12 +169,6 @@ receiver_data_in receiving.Over verdict n body r = record { receiver = r; result
 abbrev pub receiver_data : Verdict → (n : ℕ) (body : List ℕ) → Receiver → DataAnswer
 receiver_data verdict n body r = receiver_data_in r.state verdict n body r
 
--- this DATA completes the file, if memory is granted: the next block, and a short one
-pub record Completes (n : ℕ) (body : List ℕ) (r : Receiver) : Type 0 where
-  pub running : r.state ≡ receiving.Running
-  pub next : n ≡ r.count + 1
-  pub short : length body < BLOCK_SIZE
-
 -- ---- time-outs
 
 abbrev pub receiver_waits : (misses : ℕ) → RecvState → Option Packet → Receiver → RecvAnswer

@@ -1,5 +1,5 @@
 -- Files and texts as sets: order and repeats have no effect, and files may be merged one after the other.
-use Rattle.std.proofs.Common.{◌≡◌, ◌⊎◌, ℕ, List, [], ◌∷◌, ◌++◌, refl, ap, sym, ◌∙◌, subst, inl, inr, append_assoc, append-nil}
+use Rattle.std.proofs.Common.{◌≡◌, ◌⊎◌, ℕ, List, [], ◌∷◌, ◌++◌, refl, ap, sym, ◌∙◌, subst, inl, inr, append_assoc}
 use Rattle.std.specs.List.{Contains}
 use Rattle.std.proofs.lemmas.List.Elements.{Contains-append_left, Contains-append_right, Contains-append_cases, Contains-push, Contains-push_cases}
 use Rattle.tws_file.specs.declared.«ruleset».Ruleset.{Ruleset}
@@ -46,12 +46,6 @@ best_of_all xs ys ms ns of best =
     }
 
 -- ---- files
-
-file_first : (kind : Ruleset) (file : File) (e : Entry) → Contains (solutions_of kind (file ∷ [])) e → Contains (solved_by kind file.ruleset file.records) e
-file_first kind file e has = subst (λ (es : List Entry). Contains es e) (append-nil (solved_by kind file.ruleset file.records)) has
-
-file_here : (kind : Ruleset) (file : File) (e : Entry) → Contains (solved_by kind file.ruleset file.records) e → Contains (solutions_of kind (file ∷ [])) e
-file_here kind file e has = subst (λ (es : List Entry). Contains es e) (sym (append-nil (solved_by kind file.ruleset file.records))) has
 
 -- a solution of the files is a solution of one of them
 record IsOfFile (kind : Ruleset) (files : List File) (e : Entry) : Type 0 where

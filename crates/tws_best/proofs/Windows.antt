@@ -59,9 +59,6 @@ pub none_pushed : (block : List ℕ) → length block ≤ 512 → block ≡ take
 none_pushed block fits = sym (take_all 512 block fits) ∙ ap (take 512) (sym (append-nil block))
 
 module _ (start block : List ℕ) (bodies : List (List ℕ)) (i : ℕ) (so_far : block ≡ take 512 (start ++ texts (take i bodies))) where
-  pub block_fits : length block ≤ 512
-  block_fits = omega (arith, ap length so_far, length-take 512 (start ++ texts (take i bodies)))
-
   -- one more body
   pub body_pushed : (body next : List ℕ) → i < length bodies → body ≡ get_or bodies i body → next ≡ take 512 (block ++ body_text body) → next ≡ take 512 (start ++ texts (take (i + 1) bodies))
   body_pushed body next inside is next-is =
@@ -121,7 +118,3 @@ later_block head body first second bodies rest i r k eight inside within offset 
     ∙ ap (λ (bs : List (List ℕ)). take 512 (drop r (body_text (get_or bodies i [])) ++ texts bs)) rest-is
     ∙ ap (take 512) (sym (window head bodies i r eight inside within))
     ∙ ap (λ n. take 512 (drop n (head ++ texts bodies))) (sym offset)
-
-pub block_most : (file : List ℕ) (k : ℕ) → length (block_of file k) ≤ 512
-unfolding block_of
-block_most file k = omega (arith, length-take 512 (drop (512 * (k - 1)) file))

@@ -1,4 +1,4 @@
-//! Filling a block of 512 bytes from the records of a text.
+//! Filling a block of `BLOCK_SIZE` bytes from the records of a text.
 
 ghost use Rattle.std.specs.Prelude.{◌≡◌, ◌+◌, ◌≤◌, ◌++◌, length, take, drop};
 ghost use Rattle.std.specs.List.{flat_map};
@@ -7,10 +7,11 @@ ghost use Rattle.tws_best.specs.Best.{body_text};
 use crate::body::Body;
 use crate::text::size_bytes;
 use std::alloc::Allocator;
+use tftp_packet::BLOCK_SIZE;
 
 // Appends bytes to the first `len` of a block, which has room for them. Returns the new length.
-fn put(block: &mut [u8; 512], len: usize, bytes: &[u8]) -> usize
-    requires { len + length bytes.now ≤ 512 }
+fn put(block: &mut [u8; BLOCK_SIZE], len: usize, bytes: &[u8]) -> usize
+    requires { len + length bytes.now ≤ BLOCK_SIZE }
     ensures bytes { take result block.new ≡ take len block.old ++ bytes.now }
     ensures count { result ≡ len + length bytes.now }
 {
@@ -20,26 +21,26 @@ fn put(block: &mut [u8; 512], len: usize, bytes: &[u8]) -> usize
 }
 
 // Appends bytes to the first `len` of a block, as far as there is room. Returns the new length.
-pub(crate) fn put_part(block: &mut [u8; 512], len: usize, bytes: &[u8]) -> usize
-    requires { len ≤ 512 }
-    ensures bytes { take result block.new ≡ take 512 (take len block.old ++ bytes.now) }
-    ensures most { result ≤ 512 }
+pub(crate) fn put_part(block: &mut [u8; BLOCK_SIZE], len: usize, bytes: &[u8]) -> usize
+    requires { len ≤ BLOCK_SIZE }
+    ensures bytes { take result block.new ≡ take BLOCK_SIZE (take len block.old ++ bytes.now) }
+    ensures most { result ≤ BLOCK_SIZE }
 {
-    let count = bytes.len().min(512 - len);
+    let count = bytes.len().min(BLOCK_SIZE - len);
     put(block, len, &bytes[..count])
 }
 
 // The same for a record without its first `skip` bytes.
 pub(crate) fn put_record<A: Allocator>(
-    block: &mut [u8; 512],
+    block: &mut [u8; BLOCK_SIZE],
     len: usize,
     body: &Body<A>,
     skip: usize,
 ) -> usize
-    requires room { len ≤ 512 }
+    requires room { len ≤ BLOCK_SIZE }
     requires skip { skip ≤ length (body_text body.now) }
-    ensures bytes { take result block.new ≡ take 512 (take len block.old ++ drop skip (body_text body.now)) }
-    ensures most { result ≤ 512 }
+    ensures bytes { take result block.new ≡ take BLOCK_SIZE (take len block.old ++ drop skip (body_text body.now)) }
+    ensures most { result ≤ BLOCK_SIZE }
 {
     if skip < 4 {
         let with_size = put_part(block, len, &size_bytes(body)[skip..]);
@@ -51,17 +52,17 @@ pub(crate) fn put_record<A: Allocator>(
 
 // The same for the records of these bodies.
 pub(crate) fn put_bodies<A: Allocator>(
-    block: &mut [u8; 512],
+    block: &mut [u8; BLOCK_SIZE],
     len: usize,
     bodies: &[Body<A>],
 ) -> usize
-    requires { len ≤ 512 }
-    ensures bytes { take result block.new ≡ take 512 (take len block.old ++ flat_map body_text bodies.now) }
-    ensures most { result ≤ 512 }
+    requires { len ≤ BLOCK_SIZE }
+    ensures bytes { take result block.new ≡ take BLOCK_SIZE (take len block.old ++ flat_map body_text bodies.now) }
+    ensures most { result ≤ BLOCK_SIZE }
 {
     let mut end = len;
     for body in bodies {
-        if end == 512 {
+        if end == BLOCK_SIZE {
             return end;
         }
         end = put_record(block, end, body, 0);

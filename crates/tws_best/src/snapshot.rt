@@ -13,7 +13,7 @@ use crate::text::header_bytes;
 use std::alloc::{AllocError, Allocator, Global};
 use std::clone::Clone;
 use std::marker::Model;
-use tftp_packet::Blocks;
+use tftp_packet::{BLOCK_SIZE, Blocks};
 use tws_file::Ruleset;
 
 // How many of the offsets, which are in rising order, are at most this one.
@@ -111,17 +111,17 @@ impl<A: Allocator> Snapshot<A> {
     }
 
     // Writes block `k`, counted as in `Blocks`, to the start of `out`, and returns how many bytes it has.
-    fn gather(&self, k: u16, out: &mut [u8; 512]) -> usize
+    fn gather(&self, k: u16, out: &mut [u8; BLOCK_SIZE]) -> usize
         requires first { 1 ≤ k }
         requires last { k ≤ block_count (frozen_text self.now) }
         ensures bytes { take result out.new ≡ block_of (frozen_text self.now) k }
-        ensures most { result ≤ 512 }
+        ensures most { result ≤ BLOCK_SIZE }
     {
         if k == 1 {
             let header = put_part(out, 0, &header_bytes(self.ruleset));
             put_bodies(out, header, self.bodies.as_slice())
         } else {
-            let (index, skip) = self.find(512 * (u64::from(k) - 1));
+            let (index, skip) = self.find(BLOCK_SIZE as u64 * (u64::from(k) - 1));
             let first = put_record(out, 0, &self.bodies[index], skip);
             put_bodies(out, first, &self.bodies[index + 1..])
         }
@@ -135,7 +135,7 @@ impl<A: Allocator> Blocks for Snapshot<A> {
         self.len
     }
 
-    fn block(&self, k: u16, out: &mut [u8; 512]) -> usize {
+    fn block(&self, k: u16, out: &mut [u8; BLOCK_SIZE]) -> usize {
         self.gather(k, out)
     }
 }

@@ -9,10 +9,10 @@ loop-body-init g c = record {
   size = c.told-block;
 }
 
-pub returns-then-end-eq512-clause-bytes : goal.returns-then-end-eq512-clause-bytes
-returns-then-end-eq512-clause-bytes g c =
+pub returns-then-end-eq-BLOCK_SIZE-clause-bytes : goal.returns-then-end-eq-BLOCK_SIZE-clause-bytes
+returns-then-end-eq-BLOCK_SIZE-clause-bytes g c =
     let so_far = c.loop-body in
-    full_block (take c.args.len c.args.block.now) (take so_far.end so_far.block) c.args.bodies.now so_far.body-index so_far.invariant.bytes (omega (arith, so_far.invariant.size, length-take so_far.end so_far.block, c.if-end-eq512.true))
+    full_block (take c.args.len c.args.block.now) (take so_far.end so_far.block) c.args.bodies.now so_far.body-index so_far.invariant.bytes (omega (arith, so_far.invariant.size, length-take so_far.end so_far.block, c.if-end-eq-BLOCK_SIZE.true))
 
 pub loop-body-preserved : goal.loop-body-preserved
 loop-body-preserved g c =
