@@ -1,4 +1,4 @@
--- Every step of a client keeps what always holds of it.
+-- Every step of a client keeps its invariant.
 use Rattle.std.proofs.Common.{◌≡◌, ◌≢◌, ℕ, ◌+◌, ◌<◌, ◌≤◌, ◌==◌, Bool, true, false, List, length, Option, None, Some, IsSome, Result, Ok, Err, refl, sym, subst, arith}
 use Rattle.std.proofs.lemmas.Bool.{eqb-false}
 use Rattle.byte_output.specs.Bytes.{IsBytes}
@@ -20,7 +20,7 @@ use Rattle.archive_client.proofs.Machine.{client_at}
 use Rattle.archive_client.specs.Client.{Operation, put, get, Phase, asking, sending, receiving, failed, Client, Heard, nothing, stray, refusal, acked, block, IsOperation, IsPhase, IsClient, is_over, heard_from_peer, heard_from_other, heard_bound, heard_packet, heard_decoded, heard_at, heard, phase_peer, client_heard, client_unless_over, client_datagram, client_timeout, asks_again, put_answered, put_waited, get_took, get_answered, get_refused, get_waited}
 use Rattle.archive_client.specs.View.{IsHeard}
 
--- ---- a body that is heard is no longer than a block
+-- ---- the body of a received block is no longer than a block
 
 from_peer-short : (p : Packet) → HasFields p → IsHeard (heard_from_peer p)
 from_peer-short (read name mode) fields = tt
@@ -52,7 +52,7 @@ at-short : (ours : Bool) (peer : Option ℕ) (port : ℕ) (bytes : List ℕ) →
 at-short true peer port bytes is = decoded-short peer port bytes (decode_bytes bytes) is refl
 at-short false peer port bytes is = tt
 
--- ---- a receiver keeps its file, and gives up at a time-out alone
+-- ---- a receiver keeps its file, and gives up only at a time-out
 
 record HoldsFile (r : Receiver) : Type 0 where
   file : IsSome r.file
@@ -102,7 +102,7 @@ timeout-file recv.Complete r = dallied-file (r.misses + 1 == DALLY) r
 timeout-file recv.TimedOut r = refl
 timeout-file recv.Over r = refl
 
--- ---- a sender gives up at a time-out alone
+-- ---- a sender gives up only at a time-out
 
 goes_on-alive : (last : Bool) (s : Sender) → (sender_goes_on last s).sender.state ≢ send.TimedOut
 goes_on-alive true s = λ e. cc

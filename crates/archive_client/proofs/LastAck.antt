@@ -1,4 +1,4 @@
--- By which step a put counts its file as sent.
+-- Which step makes a put count its file as sent.
 use Rattle.std.proofs.Common.{◌≡◌, ◌≢◌, ℕ, ◌+◌, ◌==◌, ◌⊎◌, Bool, true, false, List, Option, Some, Result, Ok, Err, inl, inr, refl, ap, ◌∙◌}
 use Rattle.std.proofs.lemmas.Bool.{eqb-true}
 use Rattle.tftp_packet.specs.declared.endpoint.Endpoint.{Endpoint}
@@ -18,7 +18,7 @@ use Rattle.archive_client.specs.declared.state.State.TheVariants.{Sent}
 use Rattle.archive_client.proofs.Machine.{client_at}
 use Rattle.archive_client.specs.Client.{Operation, put, get, Phase, asking, sending, receiving, failed, Client, Heard, nothing, stray, refusal, acked, block, IsLastAck, state_of, phase_state, send_state, recv_state, is_over, heard_from_peer, heard_from_other, heard_bound, heard_decoded, heard_at, heard, phase_peer, client_heard, client_unless_over, client_datagram, client_timeout, asks_again, put_answered, put_waited, get_took, get_answered, get_refused, get_waited}
 
--- ---- what tells that a file is sent
+-- ---- when a file counts as sent
 
 send-finished : (state : SendState) → send_state state ≡ Sent → state ≡ send.Finished
 send-finished send.Running sent = cc
@@ -31,9 +31,9 @@ recv-never recv.Complete = λ e. cc
 recv-never recv.TimedOut = λ e. cc
 recv-never recv.Over = λ e. cc
 
--- ---- which datagram is heard as an ACK
+-- ---- which datagram is an ACK for the client
 
--- from this port, and the ACK of this number
+-- the ACK with this number, from this port
 record IsAckOf (peer n : ℕ) (from : Endpoint) (bytes : List ℕ) : Type 0 where
   from_peer : from.port ≡ peer
   is_ack : decode_bytes bytes ≡ Ok (ack n)
@@ -86,7 +86,7 @@ refused-unsent recv.Complete code c unsent = unsent
 refused-unsent recv.TimedOut code c unsent = unsent
 refused-unsent recv.Over code c unsent = unsent
 
--- the last block of a file is acknowledged
+-- the ACK that finishes a sender is that of the last block
 finished-by : (n : ℕ) (s : Sender) → send_state s.state ≢ Sent → (s.state ≡ send.Finished) ⊎ ((n ≡ s.current) × (n ≡ block_count s.file)) → n ≡ block_count s.file
 finished-by n s unsent = λ by. elim by [ inl was ↦ absurd (unsent (ap (λ (x : SendState). send_state x) was)) | inr now ↦ now.1 ]
 

@@ -1,4 +1,4 @@
--- What no step of a client does: each lemma has the parts that a step looks at as arguments of their own.
+-- What no step of a client does. Each lemma takes the parts that a step looks at as separate arguments.
 use Rattle.std.proofs.Common.{◌≡◌, ◌≢◌, ℕ, Bool, true, false, List, Option, Result, Ok, Err, refl, ap}
 use Rattle.std.proofs.lemmas.Bool.{ne_eqb}
 use Rattle.tftp_packet.specs.declared.endpoint.Endpoint.{Endpoint}
@@ -11,7 +11,7 @@ use Rattle.tftp_ends.specs.declared.recv_fault.RecvFault.{RecvFault}
 use Rattle.tftp_ends.specs.Ends.{Verdict, Sender, SendAnswer, Receiver, RecvAnswer, sender_timeout, receiver_data, receiver_timeout}
 use Rattle.archive_client.specs.Client.{Phase, asking, sending, receiving, failed, Client, Heard, nothing, stray, refusal, acked, block, IsClient, IsPhase, IsBoundTo, IsBoundToStill, is_over, is_phase_over, is_send_over, is_recv_over, stays, heard, heard_at, phase_peer, client_heard, client_unless_over, client_datagram, client_timeout, phase_waits, get_took, get_refused, put_waited, get_waited}
 
--- a client of these parts
+-- a client with these parts
 abbrev pub client_at : (port : ℕ) → Endpoint → Phase → Client
 client_at port server phase = record { port = port; server = server; phase = phase }
 

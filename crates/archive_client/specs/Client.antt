@@ -1,4 +1,4 @@
--- A client: what it asks for, where it is, and what each datagram and each time-out makes of it. RFC 1350 sections 2, 4
+-- A client: what it asks for, its phase, and what each datagram and each time-out does to it. RFC 1350 sections 2, 4
 -- and 6. docs/FORMATS.md has it as a table.
 use Rattle.std.specs.Prelude.{◌≡◌, ◌≢◌, ℕ, ◌+◌, ◌<◌, ◌≤◌, Bool, true, false, ◌==◌, List, length, Option, None, Some, IsSome, Result, Ok, Err}
 use Rattle.tftp_packet.specs.declared.endpoint.Endpoint.{Endpoint}
@@ -34,18 +34,18 @@ pub data Operation : Type 0 where
   get : (kind : Ruleset) → Operation
 
 pub data Phase : Type 0 where
-  -- The request is out and nothing fitting has come yet. The time-outs in a row are counted.
+  -- The request was sent and nothing that answers it has arrived yet. The time-outs in a row are counted.
   asking : (operation : Operation) (misses : ℕ) → Phase
-  -- A put is bound to this port of the server's host, with its end.
+  -- A put that is bound to this port of the server's host, and its end of the transfer.
   sending : (peer : ℕ) (sender : Sender) → Phase
-  -- A get is bound to this port, with its end.
+  -- A get that is bound to this port, and its end of the transfer.
   receiving : (peer : ℕ) (receiver : Receiver) → Phase
   failed : (why : Cause) → Phase
 
 pub record Client : Type 0 where
   -- its own port
   pub port : ℕ
-  -- whom it asks
+  -- the server that it talks to
   pub server : Endpoint
   pub phase : Phase
 
@@ -89,15 +89,15 @@ request_out operation c = out_to c.server.port (request_packet operation) c
 abbrev pub client_start : (port : ℕ) → Endpoint → Operation → Client
 client_start port server operation = record { port = port; server = server; phase = asking operation 0 }
 
--- ---- what a client tells
+-- ---- what a client reports
 
--- of a put that is bound
+-- for a put that is bound
 abbrev pub send_state : SendState → State
 send_state send.Running = state.Running
 send_state send.Finished = state.Sent
 send_state send.TimedOut = state.Failed cause.TimedOut
 
--- of a get that is bound
+-- for a get that is bound
 abbrev pub recv_state : RecvState → State
 recv_state recv.Running = state.Running
 recv_state recv.Complete = state.Got
@@ -118,14 +118,14 @@ is_send_over send.Running = false
 is_send_over send.Finished = true
 is_send_over send.TimedOut = true
 
--- with the whole file it still waits for a while, in case its last ACK was lost
+-- with the whole file it still dallies, in case its last ACK was lost
 abbrev pub is_recv_over : RecvState → Bool
 is_recv_over recv.Running = false
 is_recv_over recv.Complete = false
 is_recv_over recv.TimedOut = true
 is_recv_over recv.Over = true
 
--- whether nothing has any effect from now on
+-- whether nothing has any further effect
 abbrev pub is_phase_over : Phase → Bool
 is_phase_over (asking operation misses) = false
 is_phase_over (sending peer s) = is_send_over s.state
@@ -135,7 +135,7 @@ is_phase_over (failed why) = true
 abbrev pub is_over : Client → Bool
 is_over c = is_phase_over c.phase
 
--- ---- a datagram: what it is to the client
+-- ---- a datagram: what it means to the client
 
 -- the port that the client is bound to
 abbrev pub phase_peer : Phase → Option ℕ
@@ -147,7 +147,7 @@ phase_peer (failed why) = None
 pub data Heard : Type 0 where
   -- it has no effect
   nothing : Heard
-  -- a packet, but no ERROR, from a port of the server's host that the client is not bound to
+  -- a packet other than an ERROR, from a port of the server's host that the client is not bound to
   stray : Heard
   -- an ERROR with this code, for the client
   refusal : (code : ℕ) → Heard
@@ -156,7 +156,7 @@ pub data Heard : Type 0 where
   -- DATA n with this body, for the client
   block : (n : ℕ) (body : List ℕ) → Heard
 
--- a packet from a port that is the right one
+-- a packet from the right port
 abbrev pub heard_from_peer : Packet → Heard
 heard_from_peer (read name mode) = nothing
 heard_from_peer (write name mode) = nothing
@@ -177,7 +177,7 @@ abbrev pub heard_bound : (same : Bool) → Packet → Heard
 heard_bound true packet = heard_from_peer packet
 heard_bound false packet = heard_from_other packet
 
--- As long as there is no peer, every port of the host may answer.
+-- Until there is a peer, any port of the host may answer.
 abbrev pub heard_packet : (peer : Option ℕ) (port : ℕ) → Packet → Heard
 heard_packet None port packet = heard_from_peer packet
 heard_packet (Some peer) port packet = heard_bound (port == peer) packet
@@ -196,7 +196,7 @@ heard host peer from bytes = heard_at (from.host == host) peer from.port bytes
 
 -- ---- an ACK
 
--- whether it is that of the request: the client binds to its port, and sends the first block
+-- whether it is the ACK of the request: then the client binds to its port and sends the first block
 abbrev pub put_answered : (first : Bool) → (port : ℕ) (file : List ℕ) → Client → Answer
 put_answered true port file c =
     moves (sending port (sender_start file)) (Some (out_to port (data_packet file 1) c)) c
@@ -221,7 +221,7 @@ abbrev pub cause_of : RecvFault → Cause
 cause_of fault.Memory = cause.Memory
 cause_of fault.TooLong = cause.TooLong
 
--- a block that is not taken fails the client, and the server is told why
+-- A refused block fails the client, which sends the server an ERROR with the reason.
 abbrev pub get_took : (peer : ℕ) → Receiver → Result (Option Packet) RecvFault → Client → Answer
 get_took peer r (Ok out) c = moves (receiving peer r) (sends_to peer out c) c
 get_took peer r (Err e) c = moves (failed (cause_of e)) (Some (out_to peer (refusal_packet (refusal_of e)) c)) c
@@ -229,7 +229,7 @@ get_took peer r (Err e) c = moves (failed (cause_of e)) (Some (out_to peer (refu
 abbrev pub get_sent : (peer : ℕ) → DataAnswer → Client → Answer
 get_sent peer answer c = get_took peer answer.receiver answer.result c
 
--- whether it is the first: the client binds to its port, and takes it
+-- whether it is the first block: then the client binds to its port and takes it
 abbrev pub get_answered : (first : Bool) → Verdict → (port n : ℕ) (body : List ℕ) → Client → Answer
 get_answered true verdict port n body c = get_sent port (receiver_data verdict n body receiver_start) c
 get_answered false verdict port n body c = stays c
@@ -246,7 +246,7 @@ data_heard (failed why) verdict port n body c = stays c
 
 -- ---- an ERROR
 
--- once the whole file has come, an ERROR takes nothing of it away
+-- once the whole file has been received, an ERROR has no effect
 abbrev pub get_refused : RecvState → (code : ℕ) → Client → Answer
 get_refused recv.Running code c = fails (cause.Refused code) c
 get_refused recv.Complete code c = stays c
@@ -273,11 +273,12 @@ client_unless_over true verdict from bytes c = stays c
 client_unless_over false verdict from bytes c =
     client_heard (heard c.server.host (phase_peer c.phase) from bytes) verdict from.port c
 
--- a datagram comes
+-- a datagram is received
 abbrev pub client_datagram : Verdict → (from : Endpoint) (bytes : List ℕ) → Client → Answer
 client_datagram verdict from bytes c = client_unless_over (is_over c) verdict from bytes c
 
--- what was granted, by where a step has left the client: where no allocation is asked for, this has no effect
+-- the verdict that a step was given, judged by where it leaves the client; for a step that allocates nothing, the
+-- verdict has no effect
 abbrev pub cause_verdict : Cause → Verdict
 cause_verdict (cause.Refused code) = granted
 cause_verdict cause.TimedOut = granted
@@ -295,7 +296,7 @@ verdict_after c = phase_verdict c.phase
 
 -- ---- a time-out
 
--- whether it is one too many
+-- whether it is the time-out that fails the client
 abbrev pub asks_again : (last : Bool) → Operation → (misses : ℕ) → Client → Answer
 asks_again true operation misses c = fails cause.TimedOut c
 asks_again false operation misses c = moves (asking operation (misses + 1)) (Some (request_out operation c)) c
@@ -327,7 +328,7 @@ phase_waits (sending peer s) c = put_waits peer (sender_timeout s) c
 phase_waits (receiving peer r) c = get_waits peer (receiver_timeout r) c
 phase_waits (failed why) c = stays c
 
--- nothing has come for a while
+-- one time-out
 abbrev pub client_timeout : Client → Answer
 client_timeout c = phase_waits c.phase c
 
@@ -339,7 +340,7 @@ phase_file (sending peer s) = None
 phase_file (receiving peer r) = (receiver_take r).file
 phase_file (failed why) = None
 
--- the file of a get that has all of it, else the client
+-- the file of a get that has all of it, otherwise the client
 abbrev pub file_or : Option (List ℕ) → Client → Result (List ℕ) Client
 file_or (Some file) c = Ok file
 file_or None c = Err c
@@ -347,7 +348,7 @@ file_or None c = Err c
 abbrev pub file_of : Client → Result (List ℕ) Client
 file_of c = file_or (phase_file c.phase) c
 
--- ---- what always holds
+-- ---- the invariant
 
 abbrev pub IsOperation : Operation → Type 0
 IsOperation (put file) = length file ≤ MAX_FILE
@@ -357,7 +358,7 @@ abbrev pub IsPut : Operation → Type 0
 IsPut (put file) = Unit {0}
 IsPut (get kind) = ⊥
 
--- of a phase: the bounds of its end, which has not given up and still has its file
+-- for a phase: its end is within bounds, has not given up and still has its file
 pub record IsSending (s : Sender) : Type 0 where
   pub bounds : IsSender s
   pub alive : s.state ≢ send.TimedOut
@@ -376,7 +377,7 @@ IsPhase (failed why) = Unit {0}
 pub record IsClient (c : Client) : Type 0 where
   pub phase : IsPhase c.phase
 
--- ---- words of the laws
+-- ---- terms of the laws
 
 -- the client is bound to this port
 abbrev pub IsBoundTo : (port : ℕ) → Phase → Type 0

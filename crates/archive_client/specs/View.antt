@@ -1,4 +1,4 @@
--- The plain value of each client, without where its bytes lie in memory, and what private functions speak of.
+-- The plain value of each client, without its layout in memory, and the terms of private functions.
 use Rattle.std.specs.Prelude.{ℕ, ◌≤◌, List, length, Option, None, Some}
 use Rattle.tftp_packet.specs.declared.sizes.TheConstants.{BLOCK_SIZE}
 use Rattle.tftp_ends.specs.Ends.{Sender, Receiver}
@@ -21,7 +21,7 @@ get_phase (phase.Asking kind misses) = asking (get kind) misses
 get_phase (phase.Bound peer r) = receiving peer r
 get_phase (phase.Failed why) = failed why
 
--- the port of a client that is bound, whatever it is bound with
+-- the port that a client is bound to, whatever its end
 abbrev pub kept_peer : {W E : Type 0} → kept.Phase W E → Option ℕ
 kept_peer (phase.Asking wanted misses) = None
 kept_peer (phase.Bound peer e) = Some peer
@@ -40,7 +40,7 @@ heard_of (hears.Refusal code) = refusal code
 heard_of (hears.Ack n) = acked n
 heard_of (hears.Data n body) = block n body.now
 
--- a body that was heard is no longer than a block
+-- the body of a received block is no longer than a block
 abbrev pub IsHeard : Heard → Type 0
 IsHeard nothing = Unit {0}
 IsHeard stray = Unit {0}

@@ -10,20 +10,20 @@ pub enum Cause {
     /// The server sent an ERROR with this code, RFC 1350 section 5.
     #[error("refused {0}")]
     Refused(u16),
-    /// Nothing came for `MISSES` time-outs in a row.
+    /// `MISSES` time-outs in a row without progress.
     #[error("timed out")]
     TimedOut,
-    /// The file has more blocks than can be numbered: that of a get goes on after block `MAX_BLOCKS`, that of a put has more
-    /// than `MAX_FILE` bytes.
+    /// The file has more blocks than can be numbered: that of a get goes on after block `MAX_BLOCKS`, that of a put has
+    /// more than `MAX_FILE` bytes.
     #[error("too long")]
     TooLong,
-    /// Out of memory for a block: of a get alone.
+    /// Out of memory for a block. Only a get fails with this.
     #[error("out of memory")]
     Memory,
 }
 
 impl Cause {
-    /// Why a block that the receiver refused fails its client.
+    /// The cause with which a client fails when its receiver refuses a block.
     pub(crate) fn of(fault: RecvFault) -> Self
         ensures { result ≡ cause_of fault }
     {

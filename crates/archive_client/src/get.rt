@@ -16,10 +16,10 @@ use tftp_ends::{MAX_FILE, MISSES, Received, Receiver, RecvFault, RecvState};
 use tftp_packet::{BLOCK_SIZE, Endpoint, Out, Refusal, encode_read};
 use tws_file::Ruleset;
 
-/// A client that fetches the collection of a ruleset. Only `on_datagram` takes memory.
+/// A client that fetches the collection of a ruleset. Only `on_datagram` allocates.
 ///
 /// It asks the server for the file, binds to the port that sends the first block, and acknowledges block by block. Once
-/// it has the last block it waits `DALLY` time-outs, RFC 1350 section 6, in case its last ACK was lost.
+/// it has the last block it dallies for `DALLY` time-outs (RFC 1350 section 6), in case its last ACK was lost.
 #[derive(Drop)]
 #[derive_where(Debug)]
 pub struct Get<A: Allocator + Copy = Global> {
@@ -42,9 +42,9 @@ impl<A: Allocator + Copy> Model for Get<A> {
 }
 
 impl<A: Allocator + Copy> Get<A> {
-    /// A client at `port` of our own host that asks the server for the collection of this ruleset, and the request for
-    /// the caller to send: RRQ of RFC 1350 section 5. The server is at the host and the request port of `server`. What
-    /// comes is kept in memory of `alloc`.
+    /// Returns a client at `port` of this host that asks the server for the collection of `kind`, and its request for
+    /// the caller to send: RRQ of RFC 1350 section 5. `server` is the server's host and request port. Received blocks
+    /// are kept in memory of `alloc`.
     pub fn start(alloc: A, port: u16, server: Endpoint, kind: Ruleset) -> (Self, Out)
         ensures client { result.0 ≡ client_start port server (get kind) }
         ensures sent { result.1 ≡ request_out (get kind) result.0 }
@@ -62,7 +62,7 @@ impl<A: Allocator + Copy> Get<A> {
         (get, line.out(server.port, encode_read(kind.file_name())))
     }
 
-    // A block was not taken: the client has failed, and tells the server why.
+    // Handles a refused block: the client fails, and sends the server an ERROR with the reason.
     fn refuse(&mut self, port: u16, fault: RecvFault) -> Option<Out>
         ensures client { self.new ≡ in_phase (failed (cause_of fault)) self.old }
         ensures sent { result ≡ Some (out_to port (refusal_packet (refusal_of fault)) self.old) }
@@ -71,7 +71,7 @@ impl<A: Allocator + Copy> Get<A> {
         Some(self.line.out(port, fault.refusal().dgram()))
     }
 
-    // Block 1 has come from a port: binds to it and takes the block.
+    // Handles block 1 while unbound: binds to its port and takes the block.
     fn bind(&mut self, port: u16, body: &[u8]) -> Option<Out>
         requires short { length body.now ≤ BLOCK_SIZE }
         requires asking { phase_peer self.old.phase ≡ None }
@@ -90,7 +90,7 @@ impl<A: Allocator + Copy> Get<A> {
         }
     }
 
-    // A DATA that is for this client has come from a port.
+    // Handles a DATA for this client, received from `port`.
     fn on_data(&mut self, port: u16, n: u16, body: &[u8]) -> Option<Out>
         requires short { length body.now ≤ BLOCK_SIZE }
         requires running { is_over self.old ≡ false }
@@ -111,13 +111,15 @@ impl<A: Allocator + Copy> Get<A> {
         }
     }
 
-    /// A datagram of these bytes has come from `from` to the client's port. Returns the datagram to send, if any.
+    /// Handles a datagram of these bytes, received from `from` at the client's port. Returns the datagram to send, if
+    /// any.
     ///
     /// The first DATA 1 from a port of the server's host binds the client to that port. From then on a packet from
     /// another port of that host is answered with ERROR 5, RFC 1350 section 4, and changes nothing; an ERROR from there
-    /// has no effect. An ERROR that is for the client fails it, unless the whole file has come. A block that is one too
-    /// many, or for which memory is refused, fails the client and is answered with ERROR 3, also where it is the first. What
-    /// comes from another host, what is no packet, and what comes once the client is `over` has no effect.
+    /// has no effect. An ERROR for the client fails it, unless the whole file has been received. A block that makes the
+    /// file too long, or for which an allocation is refused, fails the client and is answered with ERROR 3, even if it
+    /// is the first. A datagram from another host, one that is not a packet, and any that arrives once the client is
+    /// `over` has no effect.
     pub fn on_datagram(&mut self, from: Endpoint, bytes: &[u8]) -> Option<Out>
         ensures client { self.new ≡ (client_datagram (verdict_after self.new) from bytes.now self.old).client }
         ensures sent { result ≡ (client_datagram (verdict_after self.new) from bytes.now self.old).out }
@@ -139,9 +141,9 @@ impl<A: Allocator + Copy> Get<A> {
         }
     }
 
-    /// Nothing has come for a while. What was sent last is sent again, the request or an ACK; time-out number `MISSES`
-    /// in a row without progress fails the client and sends nothing. Once the whole file has come nothing is sent, and
-    /// the client is over at time-out number `DALLY`. Once it is `over`, nothing changes or is sent.
+    /// Handles a time-out: sends again what was sent last, the request or an ACK. Time-out number `MISSES` in a row
+    /// without progress fails the client and sends nothing. Once the whole file has been received nothing is sent, and
+    /// the client is over at time-out number `DALLY`. Once it is `over`, nothing changes and nothing is sent.
     pub fn on_timeout(&mut self) -> Option<Out>
         ensures client { self.new ≡ (client_timeout self.old).client }
         ensures sent { result ≡ (client_timeout self.old).out }
@@ -167,7 +169,7 @@ impl<A: Allocator + Copy> Get<A> {
         None
     }
 
-    /// Its state: never `Sent`.
+    /// The client's state: never `Sent`.
     pub fn state(&self) -> State
         ensures is { result ≡ state_of self.now }
         ensures never { result ≢ State.Sent }
@@ -177,14 +179,14 @@ impl<A: Allocator + Copy> Get<A> {
             Phase::Bound { end, .. } => match end.state() {
                 RecvState::Running => State::Running,
                 RecvState::Complete | RecvState::Over => State::Got,
-                // The client has failed then.
+                // A client whose receiver gives up is `Failed`.
                 RecvState::TimedOut => unreachable!(),
             },
             Phase::Failed(why) => State::Failed(*why),
         }
     }
 
-    /// Whether no call has any effect from now on: it has failed, or it has the whole file and waits no more.
+    /// Whether no call has any further effect: the client has failed, or it has the whole file and no longer dallies.
     pub fn over(&self) -> bool
         ensures { result ≡ is_over self.now }
     {
@@ -199,7 +201,7 @@ impl<A: Allocator + Copy> Get<A> {
         }
     }
 
-    /// The file, where all of it has come: exactly where the state is `Got`.
+    /// The file once it is complete: `Some` exactly if the state is `Got`.
     pub fn file(&self) -> Option<&Received<A>>
         ensures { option_copied result ≡ phase_file self.now.phase }
     {
@@ -209,11 +211,11 @@ impl<A: Allocator + Copy> Get<A> {
         }
     }
 
-    /// The file, where all of it has come. It is moved out of the client, not copied.
+    /// The complete file. It is moved out of the client, not copied.
     ///
     /// # Errors
     ///
-    /// The client as it was, exactly where its state is not `Got`.
+    /// Returns the client unchanged, exactly if its state is not `Got`.
     pub fn into_file(self) -> Result<Received<A>, Self>
         ensures file { result ≡ file_of self }
         ensures whole { IsOk result ↔ (state_of self ≡ State.Got) }

@@ -1,4 +1,4 @@
-//! What holds of every client, whatever comes. These functions do nothing: each contract is a theorem.
+//! What holds for every client, whatever it receives. These functions do nothing: each contract is a theorem.
 
 ghost use Rattle.std.specs.Prelude.{◌≡◌, ◌≢◌, ℕ, List, true};
 ghost use Rattle.tftp_packet.specs.declared.endpoint.Endpoint.{Endpoint};
@@ -14,13 +14,13 @@ pub fn over_client()
     ensures timeout { (c : Client) → IsClient c → is_over c ≡ true → client_timeout c ≡ stays c }
 {}
 
-/// What comes from a host other than the server's changes nothing, and is not answered.
+/// A datagram from a host other than the server's changes nothing and is not answered.
 pub fn other_host()
     ensures { (verdict : Verdict) (from : Endpoint) (bytes : List ℕ) (c : Client) →
         from.host ≢ c.server.host → client_datagram verdict from bytes c ≡ stays c }
 {}
 
-/// A client binds to one port alone: once it is bound to a port, it stays so until it fails.
+/// A client binds to only one port: once it is bound, it stays bound to that port until it fails.
 pub fn one_port()
     ensures datagram { (verdict : Verdict) (from : Endpoint) (bytes : List ℕ) (c : Client) (port : ℕ) →
         IsBoundTo port c.phase → IsBoundToStill port (client_datagram verdict from bytes c).client.phase }
@@ -28,7 +28,7 @@ pub fn one_port()
         IsBoundTo port c.phase → IsBoundToStill port (client_timeout c).client.phase }
 {}
 
-/// What always holds of a client, as the bounds of its end, holds at its start, and every step keeps it.
+/// The invariant of a client, which has the bounds of its end, holds at its start, and every step keeps it.
 pub fn client_bounds()
     ensures start { (port : ℕ) (server : Endpoint) (operation : Operation) →
         IsOperation operation → IsClient (client_start port server operation) }
@@ -37,7 +37,7 @@ pub fn client_bounds()
     ensures timeout { (c : Client) → IsClient c → IsClient (client_timeout c).client }
 {}
 
-/// A put counts its file as sent only by the ACK of the last block, from the port that it is bound to.
+/// Only the ACK of the last block, from the port that a put is bound to, makes the put count its file as sent.
 pub fn last_ack()
     ensures datagram { (verdict : Verdict) (from : Endpoint) (bytes : List ℕ) (c : Client) →
         state_of c ≢ Sent → state_of (client_datagram verdict from bytes c).client ≡ Sent → IsLastAck c.phase from bytes }

@@ -1,13 +1,12 @@
-//! The other end of each transfer with the archive: a client that sends a file, or fetches a collection, over TFTP.
-//! RFC 1350. A client binds to one port of the server's host, counts a file as sent only at the last ACK, and hands out
-//! what it fetched only whole.
+//! The archive's clients: one sends a file, the other fetches a collection, over TFTP (RFC 1350). A client binds to one
+//! port of the server's host, counts a file as sent only at the last ACK, and hands out a fetched file only once it is
+//! complete.
 //!
-//! `specs/Client.antt` is the file to read first: what a client is, and what each datagram and each time-out makes of
-//! it.
+//! Read `specs/Client.antt` first: what a client is, and what each datagram and each time-out does to it.
 //!
-//! How it is called: `start` gives the client and its request, which the caller sends; then each datagram that comes to
-//! the client's port goes to `on_datagram` and each time-out to `on_timeout`, and what they answer is sent, until the
-//! client is `over`.
+//! How to run one: `start` returns the client and its request, which the caller sends. Then each datagram that arrives
+//! at the client's port goes to `on_datagram` and each time-out to `on_timeout`, and what they return is sent, until
+//! the client is `over`.
 //!
 //! ```text
 //! let (mut client, request) = Get::start(alloc, port, server, Ruleset::Lynx);

@@ -1,4 +1,4 @@
-//! Where a client's datagrams go, and which of those that come are for it.
+//! Where a client sends its datagrams, and which of those it receives are for it.
 
 ghost use Rattle.std.specs.Prelude.{◌≡◌};
 ghost use Rattle.archive_client.specs.Client.{heard, heard_from_peer, heard_from_other};
@@ -9,14 +9,14 @@ ghost use Rattle.archive_client.specs.View.{heard_of, IsHeard};
 use crate::heard::Heard;
 use tftp_packet::{Dgram, Endpoint, Out, Packet, decode};
 
-/// A client's own port, and whom it asks.
+/// A client's own port, and the server that it talks to.
 #[derive(Clone, Copy, Debug)]
 pub(crate) struct Line {
     pub(crate) port: u16,
     pub(crate) server: Endpoint,
 }
 
-// A packet from the right port.
+// Classifies a packet from the right port.
 fn of_peer(packet: Packet<'_>) -> Heard<'_>
     requires { HasFields (packet_of packet) }
     ensures heard { heard_of result ≡ heard_from_peer (packet_of packet.entry) }
@@ -30,7 +30,7 @@ fn of_peer(packet: Packet<'_>) -> Heard<'_>
     }
 }
 
-// A packet from another port of the right host. An ERROR is never answered.
+// Classifies a packet from another port of the server's host. An ERROR is never answered.
 fn of_other(packet: Packet<'_>) -> Heard<'_>
     ensures { heard_of result ≡ heard_from_other (packet_of packet.entry) }
 {
@@ -55,7 +55,7 @@ impl Line {
         }
     }
 
-    /// What a datagram is to a client that is bound to this peer, or to none yet.
+    /// What a datagram means to a client that is bound to `peer`, or not bound yet if that is `None`.
     pub(crate) fn hear<'a>(self, peer: Option<u16>, from: Endpoint, bytes: &'a [u8]) -> Heard<'a>
         ensures heard { heard_of result ≡ heard self.server.host peer from bytes.now }
         ensures bounds { IsHeard (heard_of result) }

@@ -3,7 +3,7 @@ ghost use Rattle.archive_client.specs.View.{kept_peer};
 
 use crate::cause::Cause;
 
-/// Where a client is. `W` is what it asks for, and `E` its end of the transfer.
+/// The phase of a client. `W` is what it asks for, and `E` its end of the transfer.
 #[derive(Debug, Drop)]
 pub(crate) enum Phase<W, E> {
     Asking { wanted: W, misses: u8 },
@@ -12,7 +12,7 @@ pub(crate) enum Phase<W, E> {
 }
 
 impl<W, E> Phase<W, E> {
-    /// The port that the client is bound to.
+    /// The port that the client is bound to, if any.
     pub(crate) fn peer(&self) -> Option<u16>
         ensures { result ≡ kept_peer self.now }
     {

@@ -17,10 +17,10 @@ use tftp_ends::{MAX_FILE, MISSES, SendState, Sender};
 use tftp_packet::{Endpoint, Out, Owned, Refusal, encode_write};
 use tws_file::upload_file_name;
 
-/// A client that sends a file. None of its calls takes memory.
+/// A client that sends a file. None of its calls allocates.
 ///
-/// It asks the server to take the file, binds to the port that acknowledges that, and sends the file there block by
-/// block. The file counts as sent once the last block is acknowledged.
+/// It asks the server to take the file, binds to the port that acknowledges the request, and sends the file there block
+/// by block. The file counts as sent once the last block is acknowledged.
 #[derive(Drop)]
 #[derive_where(Debug)]
 pub struct Put<A: Allocator + Copy = Global> {
@@ -41,13 +41,12 @@ impl<A: Allocator + Copy> Model for Put<A> {
 }
 
 impl<A: Allocator + Copy> Put<A> {
-    /// A client at `port` of our own host that asks the server to take this file, and the request for the caller to
-    /// send: WRQ of RFC 1350 section 5, for the name `upload.tws`. The server is at the host and the request port of
-    /// `server`.
+    /// Returns a client at `port` of this host that asks the server to take `file`, and its request for the caller to
+    /// send: WRQ of RFC 1350 section 5, for the name `upload.tws`. `server` is the server's host and request port.
     ///
     /// # Errors
     ///
-    /// `TooLong` with the file in it, exactly where it has more than `MAX_FILE` bytes.
+    /// Returns `TooLong` with the file in it, exactly if the file has more than `MAX_FILE` bytes.
     pub fn start(port: u16, server: Endpoint, file: Vec<u8, A>) -> Result<(Self, Out), TooLong<A>>
         ensures client { IfOk result (λ r. r.0 ≡ client_start port server (put file.items)) }
         ensures sent { IfOk result (λ r. r.1 ≡ request_out (put file.items) r.0) }
@@ -70,7 +69,7 @@ impl<A: Allocator + Copy> Put<A> {
         Ok((put, line.out(server.port, encode_write(upload_file_name()))))
     }
 
-    // The ACK of the request has come from a port: binds to it, and sends the first block.
+    // Handles the ACK of the request: binds to its port and sends the first block.
     fn bind(&mut self, port: u16) -> Option<Out>
         requires asking { phase_peer self.old.phase ≡ None }
         requires running { is_over self.old ≡ false }
@@ -89,7 +88,7 @@ impl<A: Allocator + Copy> Put<A> {
         Some(self.line.out(port, data))
     }
 
-    // An ACK that is for this client has come from a port.
+    // Handles an ACK for this client, received from `port`.
     fn on_ack(&mut self, port: u16, n: u16) -> Option<Out>
         ensures client { self.new ≡ (ack_heard self.old.phase port n self.old).client }
         ensures sent { result ≡ (ack_heard self.old.phase port n self.old).out }
@@ -105,12 +104,13 @@ impl<A: Allocator + Copy> Put<A> {
         }
     }
 
-    /// A datagram of these bytes has come from `from` to the client's port. Returns the datagram to send, if any.
+    /// Handles a datagram of these bytes, received from `from` at the client's port. Returns the datagram to send, if
+    /// any.
     ///
     /// The first ACK 0 from a port of the server's host binds the client to that port. From then on a packet from
     /// another port of that host is answered with ERROR 5, RFC 1350 section 4, and changes nothing; an ERROR from there
-    /// has no effect. An ERROR that is for the client fails it. What comes from another host, what is no packet, and
-    /// what comes once the client is `over` has no effect.
+    /// has no effect. An ERROR for the client fails it. A datagram from another host, one that is not a packet, and any
+    /// that arrives once the client is `over` has no effect.
     pub fn on_datagram(&mut self, from: Endpoint, bytes: &[u8]) -> Option<Out>
         ensures client { self.new ≡ (client_datagram granted from bytes.now self.old).client }
         ensures sent { result ≡ (client_datagram granted from bytes.now self.old).out }
@@ -130,8 +130,8 @@ impl<A: Allocator + Copy> Put<A> {
         }
     }
 
-    /// Nothing has come for a while. What was sent last is sent again, the request or a DATA; time-out number `MISSES`
-    /// in a row without progress fails the client and sends nothing. Once the client is `over`, nothing changes or is
+    /// Handles a time-out: sends again what was sent last, the request or a DATA. Time-out number `MISSES` in a row
+    /// without progress fails the client and sends nothing. Once the client is `over`, nothing changes and nothing is
     /// sent.
     pub fn on_timeout(&mut self) -> Option<Out>
         ensures client { self.new ≡ (client_timeout self.old).client }
@@ -160,7 +160,7 @@ impl<A: Allocator + Copy> Put<A> {
         None
     }
 
-    /// Its state: never `Got`.
+    /// The client's state: never `Got`.
     pub fn state(&self) -> State
         ensures is { result ≡ state_of self.now }
         ensures never { result ≢ State.Got }
@@ -170,14 +170,14 @@ impl<A: Allocator + Copy> Put<A> {
             Phase::Bound { end, .. } => match end.state() {
                 SendState::Running => State::Running,
                 SendState::Finished => State::Sent,
-                // The client has failed then.
+                // A client whose sender gives up is `Failed`.
                 SendState::TimedOut => unreachable!(),
             },
             Phase::Failed(why) => State::Failed(*why),
         }
     }
 
-    /// Whether no call has any effect from now on: its state is `Sent` or `Failed`.
+    /// Whether no call has any further effect: the state is `Sent` or `Failed`.
     pub fn over(&self) -> bool
         ensures { result ≡ is_over self.now }
     {

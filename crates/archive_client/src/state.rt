@@ -1,13 +1,13 @@
 use crate::cause::Cause;
 
-/// How far a client is.
+/// How far a client has got.
 #[derive(Clone, Copy, Debug, PartialEq, Eq)]
 pub enum State {
     /// It waits for the server.
     Running,
-    /// The last ACK of a put has come: the server has the whole file.
+    /// A put received the last ACK: the server has the whole file.
     Sent,
-    /// A get has the whole file. It may still acknowledge the last block where that comes again.
+    /// A get has the whole file. It may still acknowledge the last block if that arrives again.
     Got,
     /// It failed, and sends nothing more.
     Failed(Cause),

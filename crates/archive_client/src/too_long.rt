@@ -1,9 +1,9 @@
 use std::alloc::{Allocator, Global};
 
-/// A file that has more than `MAX_FILE` bytes, so that block numbers cannot count its blocks. Nothing was started.
+/// A file of more than `MAX_FILE` bytes, which has more blocks than can be numbered. Nothing was started.
 #[derive(Drop)]
 #[derive_where(Debug)]
 pub struct TooLong<A: Allocator = Global> {
-    /// The file as it was given.
+    /// The file, unchanged.
     pub file: Vec<u8, A>,
 }
