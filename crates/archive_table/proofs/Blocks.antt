@@ -1,4 +1,4 @@
--- Which DATA bring a new block: those that are the next one and are answered.
+-- Which DATA bring a new block: those that have the next number and are answered.
 use Rattle.std.specs.Prelude.{◌≡◌, ℕ, ◌+◌, Bool, true, false, ◌==◌, nat_lt, ◌&&◌, List, ◌++◌, Option, None, Some, IfSome, is_some, Result, Ok, Err}
 use Rattle.std.proofs.Common.{refl, sym, ap, ◌∙◌, subst}
 use native.Mathlib.Omega.{arith}
@@ -54,7 +54,7 @@ module _ (n : ℕ) (body : List ℕ) (r : Receiver) where
   in_came TimedOut h y = no h
   in_came Over h y = no h
 
-  -- the next block that is answered has come
+  -- a DATA with the next number that is answered brings a new block
   pub has_come : is_answered (receiver_data granted n body r).result ≡ true → (n == r.count + 1) ≡ true → HasCome n body r (receiver_data granted n body r).receiver
   has_come h y = in_came r.state h y
 
@@ -76,7 +76,7 @@ module _ (n : ℕ) (body : List ℕ) (r : Receiver) where
   in_silent TimedOut h = refl
   in_silent Over h = refl
 
-  -- without an answer nothing has come
+  -- one that is not answered brings none
   pub silent_stays : is_answered (receiver_data granted n body r).result ≡ false → (receiver_data granted n body r).receiver ≡ r
   silent_stays h = in_silent r.state h
 
@@ -90,11 +90,11 @@ module _ (n : ℕ) (body : List ℕ) (r : Receiver) where
   in_other TimedOut h = refl
   in_other Over h = refl
 
-  -- nor has it with any other number
+  -- nor does one with any other number
   pub other_stays : (n == r.count + 1) ≡ false → (receiver_data granted n body r).receiver ≡ r
   other_stays h = in_other r.state h
 
--- ---- as the calls answer
+-- ---- the same in terms of the calls' results
 
 abbrev dgram_or : Result (Option (List ℕ)) RecvFault → Option (List ℕ)
 dgram_or (Ok out) = out
@@ -110,7 +110,7 @@ answered_by sent result is = ap (λ r. is_some (dgram_or r)) is ∙ same_answere
 
 -- ---- what was read
 
--- the block that was pushed was appended
+-- a block that is pushed is appended
 pub read_on : (file : Option (List ℕ)) (old new : Reading) (body : List ℕ) → IfSome file (HasTaken old) → ((bytes : List ℕ) → HasTaken old bytes → HasTaken new (bytes ++ body)) → IfSome (receiver_appends file body) (HasTaken new)
 read_on None old new body h go = tt
 read_on (Some bytes) old new body h go = go bytes h
@@ -139,7 +139,7 @@ gone_in Complete r is e = refl
 gone_in TimedOut r is e = absurd (subst IsEnded is e)
 gone_in Over r is e = refl
 
--- where it is whole it is gone
+-- once the file is whole, it is gone
 pub take_gone : (r new : Receiver) → new ≡ (receiver_take r).receiver → IsReceiver new → IsReceiving new
 take_gone r new is fits = subst IsReceiving (sym is) (record { fits = subst IsReceiver is fits; taken = gone_in r.state r refl })
 

@@ -1,4 +1,4 @@
--- A datagram at a port is what its packet is there.
+-- A datagram at a port has the effect of its packet there.
 use Rattle.std.specs.Prelude.{◌≡◌, ℕ, List, Option, None, Some, Ok, Err}
 use Rattle.std.proofs.Common.{refl, ap}
 use Rattle.tftp_packet.specs.declared.endpoint.Endpoint.{Endpoint}

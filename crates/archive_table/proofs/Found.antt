@@ -1,4 +1,4 @@
--- What is at the ports, where a key is added, written or taken out.
+-- What is at the ports after a key is added, written or removed.
 use Rattle.std.specs.Prelude.{◌≡◌, ◌≢◌, ℕ, suc, Bool, true, false, cond, List, [], ◌∷◌, length, Option, None, Some, IsSome, is_some, IfSome}
 use Rattle.std.proofs.Common.{refl, sym, ap, ◌∙◌, inl, inr, subst}
 use Rattle.std.specs.List.{All, filter}
@@ -46,7 +46,7 @@ abbrev pub then_at : {T : Type 0} → (ℕ → Option T) → Option ℕ → Opti
 then_at place None = None
 then_at place (Some k) = place k
 
--- a port's key leads to what is at the port
+-- a port's key leads to the value at the port
 pub lookup_found : {T : Type 0} (place : ℕ → Option T) (test : ℕ → Bool) (es : List (ℕ × ℕ)) → All (λ k. IsSome (place k)) (values_of es) → lookup test (found_at place es) ≡ then_at place (lookup test es)
 lookup_found place test [] a = refl
 lookup_found {T} place test (e ∷ es) a = by (place e.1) refl (held_head place e es a) (lookup_found place test es (held_tail place e es a))
@@ -67,11 +67,11 @@ length_found {T} place (e ∷ es) a = by (place e.1) (held_head place e es a) (l
     by None s h = absurd (true≢false (sym s))
     by (Some x) s h = ap suc h
 
--- the places agree but at one key
+-- the places agree except at one key
 abbrev pub Agree : {T : Type 0} → (old new : ℕ → Option T) → (key : ℕ) → Type 0
 Agree old new key = (other : ℕ) → other ≢ key → new other ≡ old other
 
--- ports that do not lead to the key find what they found
+-- ports that do not lead to the key have the same values as before
 pub found_same : {T : Type 0} (old new : ℕ → Option T) (key : ℕ) (es : List (ℕ × ℕ)) → Agree old new key → All (λ k. k ≢ key) (values_of es) → found_at new es ≡ found_at old es
 found_same old new key [] agree a = refl
 found_same {T} old new key (e ∷ es) agree a =
@@ -100,7 +100,7 @@ found_insert {T} old new port key x (e ∷ es) agree at a held free = by (nat_cm
         ∙ sym (ap (λ c. match_ordering c ((port, x) ∷ (e.0, y) ∷ found_at old es) ((e.0, x) ∷ found_at old es) ((e.0, y) ∷ insert_entry nat_cmp (found_at old es) port x)) is)
         ∙ sym (ap (λ (o : Option T). insert_entry nat_cmp (entry_at e.0 o (found_at old es)) port x) o_is)
 
--- what holds of each key holds of the one that a port leads to
+-- what holds for each key holds for the one that a port leads to
 pub at_found : (P : ℕ → Type 0) (test : ℕ → Bool) (es : List (ℕ × ℕ)) (key : ℕ) → All P (values_of es) → lookup test es ≡ Some key → P key
 at_found P test es key a h = subst (λ (o : Option ℕ). IfSome o P) h (IfSome-lookup_from_All P test es a)
 
@@ -127,7 +127,7 @@ found_set {T} old new test key x (e ∷ es) agree at apart held h = by (found_se
           ∙ sym (ap (λ (o : Option T). set_value test (entry_at e.0 o (found_at old es)) x) is)
     ]
 
--- a port and its place are taken out
+-- a port and its place are removed
 pub found_remove : {T : Type 0} (old new : ℕ → Option T) (test : ℕ → Bool) (key : ℕ) (es : List (ℕ × ℕ)) → Agree old new key → AreApart es → All (λ k. IsSome (old k)) (values_of es) → lookup test es ≡ Some key → found_at new (remove_entry test es) ≡ remove_entry test (found_at old es)
 found_remove {T} old new test key [] agree apart held h = refl
 found_remove {T} old new test key (e ∷ es) agree apart held h = by (found_remove old new test key es agree apart.1 (held_tail old e es held)) (old e.1) refl (held_head old e es held)
@@ -173,17 +173,17 @@ apart_remove test (e ∷ es) apart = by (apart_remove test es apart.1) (test e.0
     by again true = apart.1
     by again false = (All-map-remove_entry test (λ (x : ℕ × ℕ). x.1) (λ k. k ≢ e.1) es apart.0, again)
 
--- a key that leads nowhere is none of those that are held
+-- a key that leads nowhere is not among those that are held
 pub free_key : {T : Type 0} (place : ℕ → Option T) (key : ℕ) (es : List (ℕ × ℕ)) → place key ≡ None → All (λ k. IsSome (place k)) (values_of es) → All (λ k. k ≢ key) (values_of es)
 free_key place key es none held = All-weaker (λ k. IsSome (place k)) (λ k. k ≢ key) (λ k s q. some_is_none (place key) (subst (λ (i : ℕ). IsSome (place i)) q s) none) (values_of es) held
 
--- what is held is held still where one place was filled
+-- what is held stays held when one place is filled
 pub held_filled : {T : Type 0} (old new : ℕ → Option T) (key : ℕ) (es : List (ℕ × ℕ)) → Agree old new key → All (λ k. k ≢ key) (values_of es) → All (λ k. IsSome (old k)) (values_of es) → All (λ k. IsSome (new k)) (values_of es)
 held_filled {T} old new key [] agree a held = All-nil (λ k. IsSome (new k))
 held_filled {T} old new key (e ∷ es) agree a held =
     All-cons (λ k. IsSome (new k)) e.1 (values_of es) (subst (λ (o : Option T). IsSome o) (sym (agree e.1 (other_head key e es a))) (held_head old e es held)) (held_filled old new key es agree (other_tail key e es a) (held_tail old e es held))
 
--- the keys that are left are others than the one that was taken out
+-- the remaining keys differ from the one that was removed
 pub others_left : (test : ℕ → Bool) (key : ℕ) (es : List (ℕ × ℕ)) → AreApart es → lookup test es ≡ Some key → All (λ k. k ≢ key) (values_of (remove_entry test es))
 others_left test key [] apart h = All-nil (λ k. k ≢ key)
 others_left test key (e ∷ es) apart h = elim (cases_Bool (test e.0)) [

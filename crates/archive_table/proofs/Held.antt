@@ -1,4 +1,4 @@
--- Keys and places as they are after each call on the ports.
+-- Keys and places after each call on the ports.
 use Rattle.std.specs.Prelude.{◌≡◌, ℕ, ◌+◌, Bool, List, Option, None, Some, IsSome}
 use Rattle.std.proofs.Common.{refl, sym, ap, ◌∙◌, subst}
 use Rattle.std.specs.Ordering.{nat_cmp}
@@ -16,11 +16,11 @@ module _ {T : Type 0} (keys : List (ℕ × ℕ)) (old : Slab T) (h : AreHeld key
   pub placed : (test : ℕ → Bool) (key : ℕ) → lookup test keys ≡ Some key → IsSome (get old key)
   placed test key is = at_found (λ k. IsSome (get old k)) test keys key h.held is
 
-  -- and the place is what is at the port
+  -- and that place has the value at the port
   pub placed_at : (test : ℕ → Bool) (key : ℕ) → lookup test keys ≡ Some key → lookup test (found_at (get old) keys) ≡ get old key
   placed_at test key is = lookup_found (get old) test keys h.held ∙ ap (then_at (get old)) is
 
-  -- a port where nothing is has no key
+  -- a port without a value has no key
   pub free_port : (test : ℕ → Bool) → lookup test (found_at (get old) keys) ≡ None → lookup test keys ≡ None
   free_port test none = by (lookup test keys) refl
     where
@@ -28,7 +28,7 @@ module _ {T : Type 0} (keys : List (ℕ × ℕ)) (old : Slab T) (h : AreHeld key
       by None is = is
       by (Some k) is = absurd (some_is_none (get old k) (placed test k is) (sym (placed_at test k is) ∙ none))
 
-  -- room that was made for a place changes nothing
+  -- room reserved for a place changes nothing
   pub held_room : (capacity : ℕ) → AreHeld keys (record old { capacity = capacity })
   held_room capacity = record { held = h.held; apart = h.apart; all = h.all }
 
@@ -46,7 +46,7 @@ module _ {T : Type 0} (keys : List (ℕ × ℕ)) (old : Slab T) (h : AreHeld key
             all = omega (arith, more, h.all, length_inserted port key keys free);
           }
 
-    -- a port and its place are gone
+    -- a port and its place are removed
     module _ (test : ℕ → Bool) (is : lookup test keys ≡ Some key) (up : Updates old new key None) where
       pub found_removed : found_at (get new) (remove_entry test keys) ≡ remove_entry test (found_at (get old) keys)
       found_removed = found_remove (get old) (get new) test key keys up.others h.apart h.held is
@@ -59,7 +59,7 @@ module _ {T : Type 0} (keys : List (ℕ × ℕ)) (old : Slab T) (h : AreHeld key
             all = omega (arith, fewer, h.all, length_removed test key keys is);
           }
 
-  -- what is at a port is written
+  -- the value at a port is written
   pub found_written : (test : ℕ → Bool) (key : ℕ) (x : T) → lookup test keys ≡ Some key → found_at (get (with_value old key x)) keys ≡ set_value test (found_at (get old) keys) x
   found_written test key x is =
       let up = Updates-with_value old key x (placed test key is) in

@@ -7,7 +7,7 @@ use Rattle.std.proofs.lemmas.List.{at_drop_more}
 use Rattle.tws_file.specs.declared.«ruleset».Ruleset.{Ruleset}
 use Rattle.archive_table.specs.Keeper.{Keeping, same_kind, later_or, last_kept}
 
--- what is the last of the rest is the last of all
+-- the last of the rest is the last of all
 pub last_of_rest : (kind : Ruleset) (i : ℕ) (ks : List Keeping) (text : List ℕ) → last_kept kind (drop i ks) ≡ Some text → last_kept kind ks ≡ Some text
 last_of_rest kind zero ks text h = h
 last_of_rest kind (suc i) [] text h = h
@@ -18,7 +18,7 @@ by_both true true text h = refl
 by_both true false text h = absurd (true≢false (sym h))
 by_both false ok text h = absurd (true≢false (sym h))
 
--- an entry after which there is none
+-- an entry with none after it
 pub last_at : (kind : Ruleset) (ks : List Keeping) (i : ℕ) (k : Keeping) → i < length ks → get_or ks i k ≡ k → last_kept kind (drop (i + 1) ks) ≡ None → (same_kind kind k.«ruleset» && k.ok) ≡ true → last_kept kind ks ≡ Some k.text
 last_at kind ks i k within is none both =
     last_of_rest kind i ks k.text

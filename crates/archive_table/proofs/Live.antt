@@ -1,4 +1,4 @@
--- What follows of a port whose transfer was written and is then taken out, or was not changed.
+-- Ports whose transfer was written and is then removed, or was not changed.
 use Rattle.std.specs.Prelude.{◌≡◌, ℕ, Bool, true, false, cond, List, [], ◌∷◌, Option, None, Some, is_some}
 use Rattle.std.proofs.Common.{refl, sym, ap, ◌∙◌, inl, inr}
 use Rattle.std.specs.Map.{lookup, remove_entry, set_value}
@@ -46,7 +46,7 @@ closed_with live port peer out s =
       told = record { out = sends_from port peer out; opened = false; taken = None; closed = true };
     }
 
--- a file that has come at a port whose receiver was written
+-- a whole file at a port whose receiver was written
 pub done_come : (g : Grant) (maps : Maps) (port : ℕ) (peer : Endpoint) (file : List ℕ) (r : Receiver) (out : Option (List ℕ)) (s : Server) → file_done g maps port peer file out (with_live (set_value (at_port port) s.live (record { peer = peer; end = receiving r })) s) ≡ file_come g maps port peer file r out s
 done_come all maps port peer file r out s = refl
 done_come no_memory maps port peer file r out s = ap (λ (l : List (ℕ × Transfer)). closed_with l port peer (Some (refusal_dgram OutOfMemory)) s) (remove_set (at_port port) s.live (record { peer = peer; end = receiving r }))
@@ -55,7 +55,7 @@ done_come unkept maps port peer file r out s = ap (λ (l : List (ℕ × Transfer
 pub none_some : {X Y : Type 0} {x : X} → Some x ≡ None → Y
 none_some e = absurd (true≢false (ap is_some e))
 
--- where nothing is found nothing is taken out
+-- if nothing is found, nothing is removed
 pub remove_none : {X : Type 0} (test : ℕ → Bool) (es : List (ℕ × X)) → lookup test es ≡ None → remove_entry test es ≡ es
 remove_none test [] h = refl
 remove_none {X} test (e ∷ es) h = elim (cases_Bool (test e.0)) [

@@ -1,4 +1,4 @@
--- What a file that was read makes of the collections, and what a keeper was given.
+-- What a file that was read does to the collections, and what a keeper was given.
 use Rattle.std.specs.Prelude.{◌≡◌, ◌≢◌, ℕ, Bool, true, false, List, [], Option, None, Some}
 use Rattle.std.proofs.Common.{refl, sym, ap, ◌∙◌, inl, inr, subst}
 use Rattle.std.proofs.lemmas.List.{append-nil}
@@ -63,7 +63,7 @@ pub unkept_grant : dgram_grant (refusal_dgram NotKept) ≡ unkept
 unfolding encode
 unkept_grant = refl
 
--- what is not read as the refusal of a keep is another one
+-- a refusal that is not read back as that of a keep is another one
 pub other_refusal : (why : Refusal) (grant : Grant) → grant ≡ dgram_grant (refusal_dgram why) → grant ≢ unkept → why ≢ NotKept
 other_refusal why grant is other not = other (is ∙ (ap (λ w. dgram_grant (refusal_dgram w)) not ∙ unkept_grant))
 
@@ -73,7 +73,7 @@ refused_keeps why peer bytes old new before after (inl (is, grows)) =
 refused_keeps why peer bytes old new before after (inr (is, h)) =
     subst (λ (g : Grant). StepKeeps g (Some (record { peer = peer; file = bytes })) old new before after) (sym (ap (λ w. dgram_grant (refusal_dgram w)) is ∙ unkept_grant)) h
 
--- nothing is told of a list that stays
+-- a list that stays grew by nothing
 grows_not : (log : Option (List Keeping)) → Grows log log []
 grows_not None = refl
 grows_not (Some ks) = sym (append-nil ks)
@@ -83,14 +83,14 @@ keeps_nothing all wanted maps log other = inl (refl, inl (refl, grows_not log))
 keeps_nothing no_memory wanted maps log other = grows_not log
 keeps_nothing unkept wanted maps log other = absurd (other refl)
 
--- ---- what always holds
+-- ---- the invariant
 
--- the collections are others of the same rules
+-- the collections are replaced by others of the same rulesets
 pub maps_fit : (s : Server) (lynx ms : Collected) → IsServer s → lynx.«ruleset» ≡ s.maps.lynx.«ruleset» → ms.«ruleset» ≡ s.maps.ms.«ruleset» → IsServer (record { request = s.request; maps = both lynx ms; live = s.live })
 maps_fit s lynx ms h l m =
     record { lynx = l ∙ h.lynx; ms = m ∙ h.ms; few = h.few; ordered = h.ordered; apart = h.apart; ends = h.ends }
 
--- ---- where nothing is to be kept
+-- ---- when nothing is to be kept
 
 abbrev is_all : Grant → Bool
 is_all all = true
@@ -112,7 +112,7 @@ keeps_same grant wanted old new before after other maps log =
 pub keeps_all : (grant : Grant) (wanted : Option Taken) (old new : Maps) (before after : Option (List Keeping)) → grant ≡ all → new ≡ old → after ≡ before → StepKeeps grant wanted old new before after
 keeps_all grant wanted old new before after is = keeps_same grant wanted old new before after (λ e. all_is (sym is ∙ e))
 
--- what is answered to a block that was not taken is not that refusal
+-- the reply to a refused block is not the refusal of a keep
 pub fault_grant : (fault : RecvFault) → dgram_grant (refusal_dgram (refusal_of fault)) ≢ unkept
 fault_grant recv.Memory e = true≢false (ap is_memory (sym memory_grant ∙ e))
 fault_grant recv.TooLong e = all_is (sym past_grant ∙ e)

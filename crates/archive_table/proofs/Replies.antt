@@ -1,4 +1,4 @@
--- What a receiver answers to a DATA is an ACK, and no ACK is read as a refusal.
+-- A receiver's reply to a DATA is an ACK, and no ACK is read as a refusal.
 use Rattle.std.specs.Prelude.{◌≡◌, ℕ, ◌+◌, Bool, true, false, ◌==◌, List, Option, None, Some, Result, Ok, Err}
 use Rattle.std.proofs.Common.{refl, ap, ◌∙◌}
 use Rattle.std.proofs.lemmas.Bool.{true≢false}
@@ -67,16 +67,16 @@ pub memory_grant : dgram_grant (refusal_dgram OutOfMemory) ≡ no_memory
 unfolding encode
 memory_grant = refl
 
--- a receiver's answer is no refusal
+-- a receiver's reply is not a refusal
 pub data_reply : (v : Verdict) (n : ℕ) (body : List ℕ) (r : Receiver) (out : Option (List ℕ)) → Ok out ≡ answer_of (receiver_data v n body r).result → reply_grant out ≡ all
 data_reply v n body r out e = read_out (receiver_data v n body r).result out (in_out r.state v n body r) e
 
--- what is told of it is read so too
+-- the same once it is sent from a port
 pub sent_grant : (port : ℕ) (peer : Endpoint) (out : Option (List ℕ)) → reply_grant out ≡ all → grant_of (sends_from port peer out) ≡ all
 sent_grant port peer None e = refl
 sent_grant port peer (Some dgram) e = e
 
--- ---- nor is what a sender sends
+-- ---- nor is a sender's DATA
 
 pub data_grant : (file : List ℕ) (k : ℕ) → dgram_grant (encode (data_packet file k)) ≡ all
 unfolding encode

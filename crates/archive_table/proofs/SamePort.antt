@@ -1,4 +1,4 @@
--- No call changes the port that requests come to.
+-- No call changes the request port.
 use Rattle.std.specs.Prelude.{◌≡◌, ℕ, Bool, true, false, List, Option, None, Some, Result, Ok, Err}
 use Rattle.std.proofs.Common.{refl}
 use Rattle.tftp_packet.specs.declared.endpoint.Endpoint.{Endpoint}

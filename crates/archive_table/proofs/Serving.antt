@@ -1,4 +1,4 @@
--- What always holds of a server, as its transfers are added, written and taken out.
+-- The invariant of a server, as its transfers are added, written and removed.
 use Rattle.std.specs.Prelude.{◌≡◌, ◌≢◌, ℕ, suc, ◌<◌, ◌≤◌, Bool, true, false, cond, List, [], ◌∷◌, length, None, Some}
 use Rattle.std.proofs.Common.{sym, ap, ◌∙◌, inl, inr, subst}
 use native.Mathlib.Omega.{arith}
@@ -19,7 +19,7 @@ use Rattle.archive_table.specs.declared.limits.TheConstants.{LIVE}
 use Rattle.archive_table.specs.Server.{Server, Transfer, IsEnd, AreRising, IsServer, at_port, transfer_at, with_live, has_place}
 use Rattle.archive_table.proofs.Live.{if_true, if_false, none_some}
 
--- one of the three
+-- less, equal or greater
 order_of : {P : Type 0} (a b : ℕ) → (a < b → P) → (a ≡ b → P) → (b < a → P) → P
 order_of a b less same more = elim (cases_Bool (ltb a b)) [
   | inl y ↦ less (ltb-true a b y)
@@ -98,14 +98,14 @@ insert_fits port t s h end other free place =
       ends = All-values-insert_entry nat_cmp port t (λ t. IsEnd t.end) s.live h.ends end;
     }
 
--- the same of what the ports are then
+-- the same for ports that equal those
 pub removed_fits : (port : ℕ) (live : List (ℕ × Transfer)) (s : Server) → IsServer s → live ≡ remove_entry (at_port port) s.live → IsServer (with_live live s)
 removed_fits port live s h is = subst (λ l. IsServer (with_live l s)) (sym is) (remove_fits port s h)
 
 pub inserted_fits : (port : ℕ) (live : List (ℕ × Transfer)) (t : Transfer) (s : Server) → IsServer s → live ≡ insert_entry nat_cmp s.live port t → IsEnd t.end → port ≢ s.request → transfer_at port s ≡ None → has_place s ≡ true → IsServer (with_live live s)
 inserted_fits port live t s h is end other free place = subst (λ l. IsServer (with_live l s)) (sym is) (insert_fits port t s h end other free place)
 
--- where no port is live
+-- if no port is live
 pub none_fits : (s : Server) → s.maps.lynx.«ruleset» ≡ Lynx → s.maps.ms.«ruleset» ≡ Ms → s.live ≡ [] → IsServer s
 none_fits s lynx ms none =
     record {

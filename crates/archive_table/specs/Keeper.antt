@@ -24,13 +24,13 @@ pub record Keeping : Type 0 where
 abbrev pub keeping : (kind : Ruleset) → (text : List ℕ) → (ok : Bool) → Keeping
 keeping kind text ok = record { «ruleset» = kind; text = text; ok = ok }
 
--- what a call of `keep` adds, by its answer
+-- what a call of `keep` adds to the list, by its result
 abbrev pub kept_by : Result (Unit {0}) KeepFault → (kind : Ruleset) → (text : List ℕ) → List Keeping
 kept_by (Ok done) kind text = keeping kind text true ∷ []
 kept_by (Err Device) kind text = keeping kind text false ∷ []
 kept_by (Err Memory) kind text = []
 
--- the list grew by these, if it is told
+-- the list grew by `added`, if it is told
 abbrev pub Grows : Option (List Keeping) → Option (List Keeping) → List Keeping → Type 0
 Grows old None added = old ≡ None
 Grows None (Some new) added = ⊥
@@ -59,17 +59,17 @@ abbrev pub Loads : Ruleset → Option (List Keeping) → Option (List ℕ) → T
 Loads kind None text = Unit {0}
 Loads kind (Some log) text = text ≡ last_kept kind log
 
--- a collection of this ruleset that was loaded from this text, empty where there is none
+-- the collection of this ruleset that is loaded from this text, empty if there is none
 abbrev pub IsLoaded : Ruleset → Option (List ℕ) → Collected → Type 0
 IsLoaded kind None c = c ≡ record { «ruleset» = kind; entries = [] }
 IsLoaded kind (Some bytes) c =
     (file : File) × IsText bytes file × (file.«ruleset» ≡ kind) × (c.«ruleset» ≡ kind) × IsBestOf (Contains (solutions_of file.«ruleset» (file ∷ []))) c.entries
 
--- the one that the keeper has
+-- the collection that the keeper has
 abbrev pub LoadedFrom : Ruleset → Option (List Keeping) → Collected → Type 0
 LoadedFrom kind log c = (text : Option (List ℕ)) × Loads kind log text × IsLoaded kind text c
 
--- why this text is of no use
+-- why this text cannot be loaded
 abbrev pub IsMisread : Ruleset → (bytes : List ℕ) → LoadFault → Type 0
 IsMisread kind bytes (Keep e) = ⊥
 IsMisread kind bytes (Unreadable e) = HasFault bytes e
@@ -83,23 +83,23 @@ FailsToLoad kind log (Unreadable e) = (bytes : List ℕ) × Loads kind log (Some
 FailsToLoad kind log WrongRuleset = (bytes : List ℕ) × Loads kind log (Some bytes) × IsMisread kind bytes WrongRuleset
 FailsToLoad kind log load.Memory = Unit {0}
 
--- Lynx is loaded before MS is asked for
+-- Lynx is loaded before MS
 abbrev pub TableFails : Option (List Keeping) → LoadFault → Type 0
 TableFails log e = FailsToLoad Lynx log e ⊎ ((c : Collected) × LoadedFrom Lynx log c × FailsToLoad Ms log e)
 
--- ---- what a step adds
+-- ---- what a step adds to the list
 
--- a collection that changed is kept; one that did not change is not given to be kept
+-- a collection that changed is kept; one that did not change is not given to the keeper
 abbrev pub KeepsOne : Collected → Collected → Option (List Keeping) → Option (List Keeping) → Type 0
 KeepsOne old new before after =
     ((new ≡ old) × Grows before after []) ⊎ ((new ≢ old) × Grows before after (keeping new.«ruleset» (collection_text new) true ∷ []))
 
--- of both collections, of which one file changes at most one
+-- the same for both collections, of which a file changes at most one
 abbrev pub KeepsMaps : Maps → Maps → Option (List Keeping) → Option (List Keeping) → Type 0
 KeepsMaps old new before after =
     ((new.ms ≡ old.ms) × KeepsOne old.lynx new.lynx before after) ⊎ ((new.lynx ≡ old.lynx) × KeepsOne old.ms new.ms before after)
 
--- A keep that was refused: the keeper was given this collection and has failed, or had no memory for its list.
+-- A keep that was refused: the keeper was given this collection and failed, or was out of memory for its list.
 abbrev pub FailsKeep : Ruleset → Collected → Option (List Keeping) → Option (List Keeping) → Type 0
 FailsKeep kind new before after =
     Grows before after [] ⊎ Grows before after (keeping kind (collection_text new) false ∷ [])
@@ -110,13 +110,13 @@ RefusesJoin why file old before after =
     ((why ≡ OutOfMemory) × Grows before after [])
     ⊎ ((why ≡ NotKept) × ((new : Collected) × IsJoined file old new × (new ≢ old) × FailsKeep new.«ruleset» new before after))
 
--- the same of both collections, of which the file changes one
+-- a refused keep for both collections, of which the file changes one
 abbrev pub FailsKeepOf : Maps → Maps → Option (List Keeping) → Option (List Keeping) → Type 0
 FailsKeepOf old new before after =
     ((new.ms ≡ old.ms) × (new.lynx ≢ old.lynx) × FailsKeep new.lynx.«ruleset» new.lynx before after)
     ⊎ ((new.lynx ≡ old.lynx) × (new.ms ≢ old.ms) × FailsKeep new.ms.«ruleset» new.ms before after)
 
--- the same of the bytes of a file
+-- `RefusesJoin` for the bytes of a file and both collections
 abbrev pub RefusesFile : Refusal → (bytes : List ℕ) → Maps → Option (List Keeping) → Option (List Keeping) → Type 0
 RefusesFile why bytes old before after =
     ((why ≡ OutOfMemory) × Grows before after [])
@@ -127,13 +127,13 @@ abbrev pub RefusesKeep : (wanted : Option Taken) → Maps → Option (List Keepi
 RefusesKeep wanted old before after =
     (maps : Maps) × Merges wanted old maps × FailsKeepOf old maps before after
 
--- By what was granted. `wanted` is the file that is taken if all is.
+-- What a step adds to the list, by its grant. `wanted` is the file that is taken if everything is granted.
 abbrev pub StepKeeps : Grant → (wanted : Option Taken) → Maps → Maps → Option (List Keeping) → Option (List Keeping) → Type 0
 StepKeeps all wanted old new before after = KeepsMaps old new before after
 StepKeeps no_memory wanted old new before after = Grows before after []
 StepKeeps unkept wanted old new before after = RefusesKeep wanted old before after
 
--- it rose in this call, or is the greatest that it can be
+-- the count rose in this call, or is at its greatest value
 abbrev pub FailsAt : (old new : ℕ) → Type 0
 FailsAt old new = (old < new) ⊎ (new ≡ 2 ^ 64 - 1)
 
@@ -141,7 +141,7 @@ abbrev pub texts_of : {A : Type 0} → Option (Vec ℕ A) → Option (List ℕ)
 texts_of None = None
 texts_of (Some v) = Some v.items
 
--- what a keeper has of a text that it was made with
+-- the entries for a text that a keeper was made with
 abbrev pub given : Ruleset → Option (List ℕ) → List Keeping
 given kind None = []
 given kind (Some text) = keeping kind text true ∷ []

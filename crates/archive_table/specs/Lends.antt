@@ -1,4 +1,4 @@
--- What the ports end as, where a `&mut` to what is at one of them is returned.
+-- What the ports become when a `&mut` to the value at one of them is returned.
 use Rattle.std.specs.Prelude.{ℕ, List, Option}
 use Rattle.std.specs.Borrow.{LendsIf, Fml, RattleType, MutBor}
 use Rattle.std.specs.declared.alloc.Allocator.{Ghosts}
@@ -7,6 +7,6 @@ use Rattle.archive_table.specs.Server.{at_port}
 use Rattle.archive_table.specs.contracts.ports.Ports.{the_row}
 
 module _ (T A : RattleType) (alloc : Ghosts A.Denot) (p : MutBor (List (ℕ × T.Denot))) (port : ℕ) where
-  -- Once the borrow r ends, the port has the last value written through r; at `None` nothing has changed.
+  -- Once the borrow r ends, the port has the last value written through r; at `None` nothing changes.
   abbrev pub lends_get : Option (MutBor T.Denot) → Fml
   lends_get r = LendsIf (the_row T A alloc) T p r (set_value (at_port port) p.now) p.now

@@ -1,5 +1,5 @@
--- The server: what it keeps, and what each datagram and each time-out makes of it. RFC 1350 sections 2, 4 and 6.
--- What an end does is that of tftp_ends; docs/FORMATS.md has the rest as a table.
+-- The server: its state, and what each datagram and each time-out does to it. RFC 1350 sections 2, 4 and 6. What an end
+-- does is defined in tftp_ends; docs/FORMATS.md has the rest as a table.
 use Rattle.std.specs.Prelude.{◌≡◌, ◌≢◌, ℕ, ◌<◌, ◌≤◌, Bool, true, false, ◌==◌, ◌&&◌, nat_lt, List, [], ◌∷◌, ◌++◌, length, Contains, Option, None, Some, Result, Ok, Err}
 use Rattle.std.specs.Str.{bytes_eq}
 use Rattle.std.specs.Ordering.{nat_cmp}
@@ -35,11 +35,11 @@ use Rattle.archive_table.specs.declared.limits.TheConstants.{LIVE}
 pub data End : Type 0 where
   -- a file is sent
   sending : (sender : Sender) → End
-  -- A file is received. Once whole it was taken out, and its end waits for a repeated last block.
+  -- A file is received. Once it is whole it has been taken out, and its end waits for a repeated last block.
   receiving : (receiver : Receiver) → End
 
 pub record Transfer : Type 0 where
-  -- whom it is with
+  -- the peer's endpoint
   pub peer : Endpoint
   pub end : End
 
@@ -49,18 +49,18 @@ pub record Maps : Type 0 where
   pub ms : Collected
 
 pub record Server : Type 0 where
-  -- the port that requests come to
+  -- the port at which requests arrive
   pub request : ℕ
   pub maps : Maps
   -- the transfers, a finite map from their ports, in the order of the ports
   pub live : List (ℕ × Transfer)
 
--- a file that was received whole, and whom it came from
+-- a file that was received whole, and the endpoint that sent it
 pub record Taken : Type 0 where
   pub peer : Endpoint
   pub file : List ℕ
 
--- what a call tells: at most one datagram to send, whether a transfer was opened, a file that was taken, and whether
+-- what a call returns: at most one datagram to send, whether a transfer was opened, a file that was taken, and whether
 -- the transfer at the port was closed
 pub record Told : Type 0 where
   pub out : Option Out
@@ -68,7 +68,7 @@ pub record Told : Type 0 where
   pub taken : Option Taken
   pub closed : Bool
 
--- the server after a call, and what it tells
+-- the server after a call, and what the call returns
 pub record Answer : Type 0 where
   pub server : Server
   pub told : Told
@@ -84,12 +84,12 @@ transfer_at port s = lookup (at_port port) s.live
 abbrev pub with_live : List (ℕ × Transfer) → Server → Server
 with_live live s = record { request = s.request; maps = s.maps; live = live }
 
--- the first of these
+-- the first of these ports
 abbrev pub first_port : {T : Type 0} → List (ℕ × T) → Option ℕ
 first_port [] = None
 first_port (e ∷ es) = Some e.0
 
--- the least live port above this one
+-- the least live port above `after`
 abbrev pub port_above : (after : ℕ) → Server → Option ℕ
 port_above after s = first_port (entries_between nat_cmp (Excluded after) Unbounded s.live)
 
@@ -112,7 +112,7 @@ abbrev pub sends_from : (port : ℕ) → Endpoint → Option (List ℕ) → Opti
 sends_from port to None = None
 sends_from port to (Some dgram) = Some (record { from_port = port; to = to; dgram = dgram })
 
--- a datagram goes out and nothing changes
+-- sends a datagram and changes nothing
 abbrev pub replies : Out → Server → Answer
 replies out s = record { server = s; told = record { out = Some out; opened = false; taken = None; closed = false } }
 
@@ -161,7 +161,7 @@ abbrev pub opens_if : Verdict → (spare : ℕ) → (from : Endpoint) → End �
 opens_if granted spare from end first s = opens spare from end first s
 opens_if refused spare from end first s = refuses OutOfMemory from s
 
--- a request to read: what is sent is the collection's text as it is now
+-- a request to read: the collection's current text is sent
 abbrev pub read_opens : Verdict → (spare : ℕ) → (from : Endpoint) → Collected → Server → Answer
 read_opens verdict spare from c s =
     opens_if verdict spare from (sending (sender_start (collection_text c))) (encode (data_packet (collection_text c) 1)) s
@@ -209,27 +209,28 @@ abbrev pub request_decoded : Verdict → (spare : ℕ) → (from : Endpoint) →
 request_decoded verdict spare from (Ok packet) s = request_packet verdict spare from packet s
 request_decoded verdict spare from (Err e) s = stays s
 
--- a datagram comes to the request port, and this port is free for a transfer
+-- a datagram is received at the request port; the port `spare` is free for a transfer
 abbrev pub server_request : Verdict → (spare : ℕ) → (from : Endpoint) → (bytes : List ℕ) → Server → Answer
 server_request verdict spare from bytes s = request_decoded verdict spare from (decode_bytes bytes) s
 
--- What was granted, by whether a transfer was opened: where a request is refused for another cause, this has no effect.
+-- The verdict, judged by whether a transfer was opened. On a request that is refused for another cause it has no
+-- effect.
 abbrev pub request_verdict : (opened : Bool) → Verdict
 request_verdict true = granted
 request_verdict false = refused
 
--- ---- a datagram at a transfer's port: what it is to the transfer
+-- ---- a datagram at a transfer's port: what it means to the transfer
 
 pub data Heard : Type 0 where
   -- it has no effect
   nothing : Heard
-  -- a packet, but no ERROR, from a source other than the peer
+  -- a packet other than an ERROR, from a source other than the peer
   stray : Heard
-  -- an ERROR of the peer
+  -- an ERROR from the peer
   ended : Heard
-  -- ACK n of the peer
+  -- ACK n from the peer
   acked : (n : ℕ) → Heard
-  -- DATA n of the peer with this body
+  -- DATA n from the peer, with this body
   block : (n : ℕ) (body : List ℕ) → Heard
 
 abbrev pub heard_from_peer : Packet → Heard
@@ -264,7 +265,7 @@ heard peer from bytes = heard_decoded peer from (decode_bytes bytes)
 
 -- ---- a datagram: the step
 
--- What a step is granted. Where it asks for nothing, this has no effect.
+-- What a step is granted. On a step that asks for nothing it has no effect.
 pub data Grant : Type 0 where
   -- all memory, and a collection that has to be kept is kept
   all : Grant
@@ -278,7 +279,7 @@ memory_of all = granted
 memory_of no_memory = refused
 memory_of unkept = granted
 
--- the file is taken: the collections are the ones that it makes, and the end waits
+-- the file is taken: the collections become `maps`, and the end waits
 abbrev pub takes : (maps : Maps) → (port : ℕ) → (peer : Endpoint) → (file : List ℕ) → Receiver → Option (List ℕ) → Server → Answer
 takes maps port peer file r out s =
     record {
@@ -286,13 +287,13 @@ takes maps port peer file r out s =
       told = record { out = sends_from port peer out; opened = false; taken = Some (record { peer = peer; file = file }); closed = false };
     }
 
--- the whole file has come
+-- the whole file was received
 abbrev pub file_come : Grant → (maps : Maps) → (port : ℕ) → (peer : Endpoint) → (file : List ℕ) → Receiver → Option (List ℕ) → Server → Answer
 file_come all maps port peer file r out s = takes maps port peer file r out s
 file_come no_memory maps port peer file r out s = closes port peer (Some (refusal_dgram OutOfMemory)) s
 file_come unkept maps port peer file r out s = closes port peer (Some (refusal_dgram NotKept)) s
 
--- whether the whole file has come with this block
+-- whether this block completes the file
 abbrev pub file_asked : Option (List ℕ) → Grant → (maps : Maps) → (port : ℕ) → (peer : Endpoint) → Receiver → Option (List ℕ) → Server → Answer
 file_asked (Some file) grant maps port peer r out s = file_come grant maps port peer file r out s
 file_asked None grant maps port peer r out s = goes_on port peer (receiving r) out s
@@ -300,7 +301,7 @@ file_asked None grant maps port peer r out s = goes_on port peer (receiving r) o
 abbrev pub block_taken : TakeAnswer → Grant → (maps : Maps) → (port : ℕ) → (peer : Endpoint) → Option (List ℕ) → Server → Answer
 block_taken a grant maps port peer out s = file_asked a.file grant maps port peer a.receiver out s
 
--- a block that is not taken closes the transfer, and the peer is told why
+-- a refused block closes the transfer, with an ERROR to the peer
 abbrev pub block_answered : Result (Option (List ℕ)) RecvFault → Grant → (maps : Maps) → (port : ℕ) → (peer : Endpoint) → Receiver → Server → Answer
 block_answered (Ok out) grant maps port peer r s = block_taken (receiver_take r) grant maps port peer out s
 block_answered (Err e) grant maps port peer r s = closes port peer (Some (refusal_dgram (refusal_of e))) s
@@ -333,17 +334,17 @@ transfer_heard ended grant maps port from t s = closes port t.peer None s
 transfer_heard (acked n) grant maps port from t s = ack_at t.end port t.peer n s
 transfer_heard (block n body) grant maps port from t s = data_at t.end grant maps port t.peer n body s
 
--- the same of a packet at a port, if that is live
+-- the same for a packet at a port, if that is live
 abbrev pub packet_live : Option Transfer → Grant → (maps : Maps) → (port : ℕ) → (from : Endpoint) → Packet → Server → Answer
 packet_live (Some t) grant maps port from packet s = transfer_heard (heard_packet (is_same from t.peer) packet) grant maps port from t s
 packet_live None grant maps port from packet s = stays s
 
--- a port that is not live gives nothing
+-- a port that is not live: nothing happens
 abbrev pub datagram_at : Option Transfer → Grant → (maps : Maps) → (port : ℕ) → (from : Endpoint) → (bytes : List ℕ) → Server → Answer
 datagram_at (Some t) grant maps port from bytes s = transfer_heard (heard t.peer from bytes) grant maps port from t s
 datagram_at None grant maps port from bytes s = stays s
 
--- A datagram comes to a port. Where a file is taken the collections become these; nothing else changes them.
+-- A datagram is received at a port. If a file is taken the collections become `maps`; nothing else changes them.
 abbrev pub server_datagram : Grant → (maps : Maps) → (port : ℕ) → (from : Endpoint) → (bytes : List ℕ) → Server → Answer
 server_datagram grant maps port from bytes s = datagram_at (transfer_at port s) grant maps port from bytes s
 
@@ -367,11 +368,11 @@ abbrev pub timeout_at : Option Transfer → (port : ℕ) → Server → Answer
 timeout_at (Some t) port s = waits_at t.end port t.peer s
 timeout_at None port s = stays s
 
--- nothing has come to a port for a while
+-- a time-out at a port
 abbrev pub server_timeout : (port : ℕ) → Server → Answer
 server_timeout port s = timeout_at (transfer_at port s) port s
 
--- ---- what was granted, by the datagram that is answered
+-- ---- the grant, judged by the datagram that is sent
 
 abbrev pub grant_by : (no_room unsaved : Bool) → Grant
 grant_by true unsaved = no_memory
@@ -389,7 +390,7 @@ abbrev pub grant_of : Option Out → Grant
 grant_of None = all
 grant_of (Some out) = dgram_grant out.dgram
 
--- the whole file has come, and its receiver is at the port as it waits
+-- the whole file was received, and its receiver is already at the port, where it waits
 abbrev pub file_done : Grant → (maps : Maps) → (port : ℕ) → (peer : Endpoint) → (file : List ℕ) → Option (List ℕ) → Server → Answer
 file_done all maps port peer file out s =
     record {
@@ -399,31 +400,31 @@ file_done all maps port peer file out s =
 file_done no_memory maps port peer file out s = closes port peer (Some (refusal_dgram OutOfMemory)) s
 file_done unkept maps port peer file out s = closes port peer (Some (refusal_dgram NotKept)) s
 
--- ---- what a file makes of the collections
+-- ---- what a file does to the collections
 
 -- the best of what was there and of this file's solutions
 pub record IsJoined (file : File) (old new : Collected) : Type 0 where
   pub kind : new.ruleset ≡ old.ruleset
   pub best : IsBestOf (Contains (old.entries ++ solutions_of old.ruleset (file ∷ []))) new.entries
 
--- a file's solutions are those of its own ruleset
+-- a file joins only the collection of its own ruleset
 abbrev pub JoinsOwn : Ruleset → File → Maps → Maps → Type 0
 JoinsOwn Lynx file old new = IsJoined file old.lynx new.lynx × (new.ms ≡ old.ms)
 JoinsOwn Ms file old new = IsJoined file old.ms new.ms × (new.lynx ≡ old.lynx)
 
--- A readable file joins the collection of its ruleset. Bytes that are no file's text change neither.
+-- A readable file joins the collection of its ruleset. Bytes that are not the text of a file change neither.
 pub record IsMerged (bytes : List ℕ) (old new : Maps) : Type 0 where
   pub readable : (file : File) → IsText bytes file → JoinsOwn file.ruleset file old new
   pub unreadable : ((file : File) → IsText bytes file → ⊥) → new ≡ old
 
--- the file that a call tells has made these collections
+-- the collections before and after a call that took this file, or none
 abbrev pub Merges : Option Taken → Maps → Maps → Type 0
 Merges None old new = new ≡ old
 Merges (Some t) old new = IsMerged t.file old new
 
--- ---- what always holds
+-- ---- the invariant
 
--- a file that was received whole was taken out
+-- a file that was received whole has been taken out
 pub record IsReceiving (r : Receiver) : Type 0 where
   pub fits : IsReceiver r
   pub taken : IsEnded r.state → r.file ≡ None
@@ -441,7 +442,7 @@ pub record IsServer (s : Server) : Type 0 where
   pub lynx : s.maps.lynx.ruleset ≡ Lynx
   pub ms : s.maps.ms.ruleset ≡ Ms
   pub few : length s.live ≤ LIVE
-  -- the ports are in their order, and the request port is none of them
+  -- the ports are in order, and the request port is not among them
   pub ordered : AreRising (keys_of s.live)
   pub apart : All (λ port. port ≢ s.request) (keys_of s.live)
   pub ends : All (λ t. IsEnd t.end) (values_of s.live)

@@ -1,5 +1,5 @@
--- The plain values of a table and of what it tells, without where their bytes lie in memory, and what private functions
--- speak of.
+-- The plain values of a table and of what its calls return, without their layout in memory, and the terms of private
+-- functions.
 use Rattle.archive_table.specs.declared.kept.Kept.TheInside as keepings
 use Rattle.archive_table.specs.declared.taken.Taken.TheInside as taking
 use Rattle.archive_table.specs.Keeper.{Keeping}

@@ -1,4 +1,4 @@
-//! A file that a client sends: it is received block by block, and read as it comes.
+//! A file that a client sends: it is received block by block, and read as it arrives.
 
 ghost use Rattle.std.specs.Prelude.{◌≡◌, ◌+◌, ◌≤◌, ◌==◌, ◌++◌, ℕ, List, length, OnOk, IfOk, IfErr, IfSome};
 ghost use Rattle.std.specs.Option.{option_map};
@@ -14,20 +14,20 @@ use tftp_ends::{Received, Receiver, RecvFault, RecvState};
 use tftp_packet::Dgram;
 use tws_file::{FileFault, Reader, TwsFile};
 
-/// A file that has come whole, and what its bytes read as.
+/// A file that was received whole, and the result of reading its bytes.
 #[derive(Drop)]
 pub(crate) struct Whole<A: Allocator + Copy> {
     pub(crate) file: Received<A>,
     pub(crate) read: Result<TwsFile<A>, FileFault>,
 }
 
-/// The receiver of a file, and a reader into which each block is pushed as it comes.
+/// The receiver of a file, and a reader into which each block is pushed as it arrives.
 #[derive(Drop)]
 pub(crate) struct Incoming<A: Allocator + Copy> {
     alloc: A,
     receiver: Receiver<A>,
     reader: Reader<A>,
-    // How many blocks were pushed: it tells a new block from a repeated one.
+    // The number of blocks pushed: it distinguishes a new block from a repeated one.
     pushed: u16,
 }
 
@@ -43,7 +43,7 @@ impl<A: Allocator + Copy> Model for Incoming<A> {
     ghost invariant = { IsIncoming };
 }
 
-// Whether block `n` is the one after so many.
+// Whether `n` is the block after the first `pushed` ones.
 fn is_next(pushed: u16, n: u16) -> bool
     ensures { result ≡ (n == pushed + 1) }
 {
@@ -62,7 +62,7 @@ fn read_block<A: Allocator + Copy>(reader: &mut Reader<A>, body: &[u8]) -> Resul
     Ok(())
 }
 
-// DATA `n` comes: a new block is kept and read.
+// Handles DATA `n`: a new block is kept and read.
 fn take_block<A: Allocator + Copy>(
     receiver: &mut Receiver<A>,
     reader: &mut Reader<A>,
@@ -105,7 +105,7 @@ fn take_whole<A: Allocator + Copy>(
 }
 
 impl<A: Allocator + Copy> Incoming<A> {
-    /// Nothing has come yet. It takes no memory.
+    /// Returns one that has received nothing yet. Does not allocate.
     pub(crate) fn new(alloc: A) -> Self
         ensures receiver { result ≡ receiver_start }
         ensures fits { IsReceiving result }
@@ -118,12 +118,12 @@ impl<A: Allocator + Copy> Incoming<A> {
         }
     }
 
-    /// DATA `n` comes. What is sent, and the file if it is whole by this: it is then handed out.
+    /// Handles DATA `n`. Returns the datagram to send, and the file if this block completes it: it is then handed out.
     ///
     /// # Errors
     ///
-    /// `TooLong` where the block is one too many; `Memory` where it could not be kept or read. What had come may be gone:
-    /// the transfer is to be closed.
+    /// `TooLong` if the block makes the file too long; `Memory` if it could not be kept or read. The earlier blocks may
+    /// then be gone, so the transfer must be closed.
     pub(crate) fn on_data(
         &mut self,
         n: u16,
@@ -148,14 +148,14 @@ impl<A: Allocator + Copy> Incoming<A> {
                 Ok((sent, whole))
             }
             Err(fault) => {
-                // The receiver may have the block and the reader not: they no longer agree.
+                // The receiver may have the block while the reader does not: they no longer agree.
                 *self = Incoming::new(self.alloc);
                 Err(fault)
             }
         }
     }
 
-    /// Nothing has come for a while.
+    /// Handles a time-out. Returns the datagram to send, if any.
     pub(crate) fn on_timeout(&mut self) -> Option<Dgram>
         ensures receiver { self.new ≡ (receiver_timeout self.old).receiver }
         ensures sent { result ≡ dgram_of (receiver_timeout self.old).out }
@@ -164,7 +164,7 @@ impl<A: Allocator + Copy> Incoming<A> {
         self.receiver.on_timeout()
     }
 
-    /// Its state.
+    /// The receiver's state.
     pub(crate) fn state(&self) -> RecvState
         ensures { result ≡ self.now.state }
     {

@@ -7,20 +7,20 @@ use std::alloc::Allocator;
 use tws_best::Collection;
 use tws_file::Ruleset;
 
-/// Where the collections are kept, so that a server finds them again after a restart.
+/// Keeps the collections, so that a server finds them again after a restart.
 pub trait Keeper {
-    /// What it was given to keep, in order, if this keeper tells it. One that tells it does so always.
+    /// What it was given to keep, in order, if this keeper tells it. One that tells it always does.
     ghost log: { Self → Option (List Keeping) };
 
-    /// How many calls of the device failed so far, up to the greatest u64.
+    /// The number of calls of the device that failed so far, saturating at the greatest u64.
     ghost failed: { Self → ℕ };
 
     /// Keeps a collection of this ruleset in place of the last one.
     ///
     /// # Errors
     ///
-    /// `Device` only where `failures` rose in this call or is the greatest u64; `Memory` where an allocation was
-    /// refused. Where the list is told, what can be loaded is then what it was.
+    /// `Device` only if `failures` rose in this call or is the greatest u64; `Memory` if an allocation was refused. If
+    /// the list is told, what can be loaded does not change.
     fn keep<A: Allocator>(
         &mut self,
         kind: Ruleset,
@@ -30,7 +30,7 @@ pub trait Keeper {
         ensures more { failed self.old ≤ failed self.new }
         ensures failed { result ≡ Err KeepFault.Device → FailsAt (failed self.old) (failed self.new) };
 
-    /// The text that was kept last for this ruleset; none if none was.
+    /// The text that was kept last for this ruleset, `None` if there is none.
     ///
     /// # Errors
     ///
@@ -45,7 +45,7 @@ pub trait Keeper {
         ensures more { failed self.old ≤ failed self.new }
         ensures failed { result ≡ Err KeepFault.Device → FailsAt (failed self.old) (failed self.new) };
 
-    /// How many calls of the device failed so far, up to the greatest u64.
+    /// The number of calls of the device that failed so far, saturating at the greatest u64.
     fn failures(&self) -> u64
         ensures { result ≡ failed self.now };
 }

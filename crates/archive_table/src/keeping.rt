@@ -1,4 +1,4 @@
-//! A file that has come whole joins the collection of its ruleset, which is kept where that changed it.
+//! A file that was received whole joins the collection of its ruleset, which is kept if the file changed it.
 
 ghost use Rattle.std.specs.Prelude.{◌≡◌, ◌≢◌, ◌⊎◌, ℕ, List, Err, OnOk, OnErr, IfErr};
 ghost use Rattle.tws_file.specs.Reader.{IsAnswer};
@@ -11,7 +11,7 @@ use tftp_packet::Refusal;
 use tws_best::Collection;
 use tws_file::{FileFault, Ruleset, TwsFile};
 
-// A file joins a collection of its rules. On error nothing has changed.
+// Merges a file into the collection of its ruleset, which is kept if that changed it. On error it does not change.
 fn join<A: Allocator + Copy, K: Keeper>(
     collection: &mut Collection<A>,
     keeper: &mut K,
@@ -40,8 +40,8 @@ fn join<A: Allocator + Copy, K: Keeper>(
     Ok(())
 }
 
-// What the bytes of a whole file read as joins the collection of its rules; bytes that are no file change nothing. On
-// error nothing has changed either.
+// Merges a whole file that was read into the collection of its ruleset; bytes that are not a file change nothing. On
+// error no collection changes.
 pub(crate) fn merge_file<A: Allocator + Copy, K: Keeper>(
     lynx: &mut Collection<A>,
     ms: &mut Collection<A>,

@@ -6,7 +6,7 @@ use tws_file::Ruleset;
 #[derive(Drop)]
 #[derive_where(Debug)]
 pub struct Kept<A: Allocator = Global> {
-    /// Its rules.
+    /// Its ruleset.
     pub ruleset: Ruleset,
     /// Its text.
     pub text: Vec<u8, A>,

@@ -1,9 +1,9 @@
-//! Theorems, as functions that do nothing: the clause of each is the theorem.
+//! Theorems: functions that do nothing, whose clauses are the theorems.
 
 ghost use Rattle.std.specs.Prelude.{◌≡◌};
 ghost use Rattle.archive_table.specs.declared.limits.TheConstants.{LIVE};
 
-/// The greatest number of transfers, as a number.
+/// The value of `LIVE`.
 pub fn limit_values()
     ensures { LIVE ≡ 64 }
 {}

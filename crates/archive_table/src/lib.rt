@@ -1,8 +1,8 @@
-//! The server's table: it takes one datagram or one time-out, changes one state and returns at most one datagram to
-//! send.
+//! The server's table: each call takes one datagram or one time-out, changes the state, and returns at most one
+//! datagram to send.
 //!
-//! `specs/Server.antt` is the file to read first: what a server is, and what each call makes of it.
-//! docs/CALLING.md says how the crate is called.
+//! Read `specs/Server.antt` first: what a server is, and what each call does to it. docs/CALLING.md shows how the crate
+//! is called.
 #![tactic(auto)]
 
 mod end;

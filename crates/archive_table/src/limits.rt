@@ -1,2 +1,2 @@
-/// How many transfers a server has at most at a time.
+/// The greatest number of transfers that a server has at a time.
 pub const LIVE: usize = 64;

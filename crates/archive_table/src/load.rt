@@ -1,4 +1,4 @@
-//! The collections that a keeper has.
+//! Loads the collections that a keeper has.
 
 ghost use Rattle.std.specs.Prelude.{◌≡◌, ◌≤◌, Some, Err, IfOk, IfErr};
 ghost use Rattle.archive_table.specs.Keeper.{IsLoaded, LoadedFrom, IsMisread, FailsToLoad, FailsAt};
@@ -10,7 +10,7 @@ use std::alloc::Allocator;
 use tws_best::Collection;
 use tws_file::{FileFault, Ruleset, read_file};
 
-// The collection of this ruleset whose text this is.
+// Reads the text of a collection of this ruleset.
 fn read_collection<A: Allocator + Copy>(
     alloc: A,
     bytes: &[u8],
@@ -35,7 +35,7 @@ fn read_collection<A: Allocator + Copy>(
     }
 }
 
-/// The collection of this ruleset that a keeper has, empty where it has none.
+/// The collection of this ruleset that a keeper has, empty if it has none.
 pub(crate) fn load_collection<A: Allocator + Copy, K: Keeper>(
     alloc: A,
     keeper: &mut K,

@@ -2,13 +2,13 @@ use crate::keep_fault::KeepFault;
 use thiserror::Error;
 use tws_file::FileFault;
 
-/// Why the collections that were kept were not loaded.
+/// Why the kept collections could not be loaded.
 #[derive(Clone, Copy, Debug, PartialEq, Eq, Error)]
 pub enum LoadFault {
     /// The keeper failed.
     #[error("Keep({0})")]
     Keep(KeepFault),
-    /// What was kept is no solution file.
+    /// What was kept is not a solution file.
     #[error("Unreadable({0})")]
     Unreadable(FileFault),
     /// What was kept is a file of the other ruleset.

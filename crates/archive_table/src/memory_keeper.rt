@@ -15,12 +15,12 @@ use tws_file::Ruleset;
 pub struct MemoryKeeper<A: Allocator + Copy = Global> {
     alloc: A,
     kept: Vec<Kept<A>, A>,
-    // Which call from now fails; 0 where none does.
+    // Which call from now fails; 0 if none does.
     fails_in: u64,
     failures: u64,
 }
 
-// Whether this was kept for this ruleset.
+// Whether this entry is for this ruleset and was kept.
 fn is_kept<A: Allocator>(one: &Kept<A>, kind: Ruleset) -> bool
     ensures { result ≡ (same_kind kind one.now.ruleset && one.now.ok) }
 {
@@ -44,7 +44,7 @@ fn last_of<A: Allocator>(kept: &[Kept<A>], kind: Ruleset) -> Option<&[u8]>
 }
 
 impl<A: Allocator + Copy> MemoryKeeper<A> {
-    /// A keeper that has nothing. It takes no memory.
+    /// Returns a keeper that has nothing. Does not allocate.
     pub fn new(alloc: A) -> Self
         ensures kept { result.kept.items ≡ [] }
         ensures fails { result.fails_in ≡ 0 }
@@ -58,7 +58,7 @@ impl<A: Allocator + Copy> MemoryKeeper<A> {
         }
     }
 
-    /// A keeper that has these texts, as if they had been kept.
+    /// Returns a keeper that has these texts, as if they had been kept.
     ///
     /// # Errors
     ///
@@ -97,7 +97,7 @@ impl<A: Allocator + Copy> MemoryKeeper<A> {
         }
     }
 
-    /// The `n`th call of `keep` or `load` from now, counted from 1, answers `Device`; none does where `n` is 0.
+    /// Makes the `n`-th call of `keep` or `load` from now, counted from 1, return `Device`; none if `n` is 0.
     pub fn fail_at(&mut self, n: u64)
         ensures fails { self.new.fails_in ≡ n }
         ensures kept { self.new.kept ≡ self.old.kept }

@@ -1,4 +1,4 @@
-//! What a server has at its ports.
+//! The live ports of a server, and what is at each.
 
 ghost use Rattle.std.specs.Prelude.{◌≡◌, None, Some, IsSome, [], OnOk, OnErr, length, is_some, option_copied};
 ghost use Rattle.std.specs.Option.{option_copied_mut};
@@ -15,7 +15,7 @@ use std::collections::BTreeMap;
 use std::marker::Model;
 use std::ops::Bound;
 
-/// What is at each live port: the port leads to a key, and the key to a place of a slab.
+/// The value at each live port: the port leads to a key, and the key to a place in a slab.
 #[derive(Drop)]
 pub(crate) struct Ports<T, A: Allocator + Copy> {
     keys: BTreeMap<u16, usize, A>,
@@ -38,7 +38,7 @@ impl<T: Drop, A: Allocator + Copy> Ports<T, A> {
     ghost use Rattle.std.specs.Borrow.{sem};
     ghost use Rattle.archive_table.specs.Lends.{lends_get};
 
-    /// No port is live. It takes no memory.
+    /// Returns one without live ports. Does not allocate.
     pub(crate) fn new(alloc: A) -> Self
         ensures { result ≡ [] }
     {
@@ -48,7 +48,7 @@ impl<T: Drop, A: Allocator + Copy> Ports<T, A> {
         }
     }
 
-    /// How many ports are live.
+    /// The number of live ports.
     #[tactic(auto, using(crate::proofs::Found::length_found))]
     pub(crate) fn len(&self) -> usize
         ensures { result ≡ length self.now }
@@ -63,7 +63,7 @@ impl<T: Drop, A: Allocator + Copy> Ports<T, A> {
         self.get(port).is_some()
     }
 
-    /// What is at a port.
+    /// The value at a port.
     #[tactic(auto, using(crate::proofs::Found::lookup_found))]
     pub(crate) fn get(&self, port: u16) -> Option<&T>
         ensures { option_copied result ≡ lookup (at_port port) self.now }
@@ -72,7 +72,7 @@ impl<T: Drop, A: Allocator + Copy> Ports<T, A> {
         self.places.get(*key)
     }
 
-    /// Puts this at a port that is not live. On error nothing has changed.
+    /// Puts `value` at a port that is not live. On error nothing changes.
     #[tactic(auto, using(crate::proofs::Found::lookup_found))]
     pub(crate) fn insert(&mut self, port: u16, value: T) -> Result<(), AllocError>
         requires free { lookup (at_port port) self.old ≡ None }
@@ -90,7 +90,7 @@ impl<T: Drop, A: Allocator + Copy> Ports<T, A> {
         }
     }
 
-    /// What is at a port, for writing.
+    /// The value at a port, to be written.
     #[tactic(auto, using(crate::proofs::Found::lookup_found))]
     pub(crate) fn get_mut(&mut self, port: u16) -> Option<&mut T>
         ensures* writes_back { sem 𝓛 (lends_get T.row A.row A.Allocator self.entry port result) }
@@ -100,7 +100,7 @@ impl<T: Drop, A: Allocator + Copy> Ports<T, A> {
         Some(&mut self.places[key])
     }
 
-    /// The least live port above this one.
+    /// The least live port above `after`.
     #[tactic(auto, using(crate::proofs::Found::first_above))]
     pub(crate) fn above(&self, after: u16) -> Option<u16>
         ensures { result ≡ first_port (entries_between nat_cmp (Excluded after) Unbounded self.now) }
@@ -112,7 +112,7 @@ impl<T: Drop, A: Allocator + Copy> Ports<T, A> {
         }
     }
 
-    /// What was at a port is gone, and the port is not live.
+    /// Removes the value at a port, which is then not live.
     pub(crate) fn remove(&mut self, port: u16)
         ensures { self.new ≡ remove_entry (at_port port) self.old }
     {

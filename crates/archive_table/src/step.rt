@@ -12,11 +12,11 @@ use tftp_packet::{Dgram, Endpoint, Out, Refusal};
 #[derive(Drop)]
 #[derive_where(Debug)]
 pub struct Step<A: Allocator = Global> {
-    /// The datagram that is to be sent.
+    /// The datagram to send, if any.
     pub out: Option<Out>,
     /// Whether a transfer was opened on the spare port.
     pub opened: bool,
-    /// A file that was received whole, if this step took one.
+    /// The file that this step took, if any: it was received whole.
     pub taken: Option<Taken<A>>,
     /// Whether the transfer at this port ended; the port is then no longer live.
     pub closed: bool,
@@ -33,7 +33,7 @@ impl<A: Allocator> Model for Step<A> {
 }
 
 impl<A: Allocator> Step<A> {
-    // Nothing was done.
+    // The empty step.
     pub(crate) fn nothing() -> Self
         ensures { result ≡ nothing_told }
     {
@@ -59,7 +59,8 @@ impl<A: Allocator> Step<A> {
         }
     }
 
-    // Answers a packet that has come to a port from another endpoint than the peer of its transfer, RFC 1350 section 4.
+    // Replies to a packet that arrived at a port from an endpoint other than the peer of its transfer, RFC 1350 section
+    // 4.
     #[tactic(auto, using(crate::proofs::Merged::stray_grant))]
     pub(crate) fn answer_stranger(&mut self, port: u16, from: Endpoint)
         requires new { self.old ≡ nothing_told }

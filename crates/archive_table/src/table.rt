@@ -48,7 +48,7 @@ impl<A: Allocator + Copy> Model for Table<A> {
 }
 
 impl<A: Allocator + Copy> Table<A> {
-    /// A server with this request port, empty collections and no transfer. It takes no memory.
+    /// Returns a server with this request port, empty collections and no transfer. Does not allocate.
     pub fn new(alloc: A, request: u16) -> Self
         ensures request { result.request ≡ request }
         ensures lynx { result.maps.lynx ≡ record { «ruleset» = Ruleset.Lynx; entries = [] } }
@@ -65,13 +65,13 @@ impl<A: Allocator + Copy> Table<A> {
         }
     }
 
-    /// A server with this request port, the collections that a keeper has, empty where it has none, and no transfer.
-    /// Nothing is kept.
+    /// Returns a server with this request port, no transfer, and the collections that a keeper has, empty where it has
+    /// none. Keeps nothing.
     ///
     /// # Errors
     ///
-    /// The first of these at Lynx, and after that at MS: the keeper fails; what was kept is no solution file; it is a
-    /// file of the other ruleset. Out of memory at any time.
+    /// Fails at the first of these, for Lynx and then for MS: the keeper fails; what was kept is not a solution file;
+    /// it is a file of the other ruleset. It may run out of memory at any point.
     pub fn load<K: Keeper>(alloc: A, request: u16, keeper: &mut K) -> Result<Self, LoadFault>
         ensures request { IfOk result (λ t. t.request ≡ request) }
         ensures lynx { IfOk result (λ t. LoadedFrom Ruleset.Lynx (K.log keeper.old) t.maps.lynx) }
@@ -93,7 +93,7 @@ impl<A: Allocator + Copy> Table<A> {
         })
     }
 
-    // A request is refused from the request port.
+    // Refuses a request, from the request port.
     fn refuse(&self, from: Endpoint, why: Refusal) -> Step<A>
         ensures told { result ≡ (refuses why from self.now).told }
         ensures fits { IsServer self.now }
@@ -103,7 +103,8 @@ impl<A: Allocator + Copy> Table<A> {
         step
     }
 
-    // Opens a transfer at the spare port, which sends its first datagram from there, if there is memory for it.
+    // Opens a transfer at the spare port and sends its first datagram from there, or refuses the request if out of
+    // memory.
     fn open(
         &mut self,
         spare: u16,
@@ -134,7 +135,7 @@ impl<A: Allocator + Copy> Table<A> {
         }
     }
 
-    // A request to write.
+    // Handles a request to write.
     fn on_write(&mut self, spare: u16, from: Endpoint, mode: &[u8]) -> Step<A>
         requires other { spare ≢ self.old.request }
         requires free { transfer_at spare self.old ≡ None }
@@ -152,7 +153,7 @@ impl<A: Allocator + Copy> Table<A> {
         self.open(spare, from, End::Receiving(incoming), encode_ack(0))
     }
 
-    // A request to read.
+    // Handles a request to read.
     fn on_read(&mut self, spare: u16, from: Endpoint, name: &[u8], mode: &[u8]) -> Step<A>
         requires other { spare ≢ self.old.request }
         requires free { transfer_at spare self.old ≡ None }
@@ -169,7 +170,7 @@ impl<A: Allocator + Copy> Table<A> {
         }
     }
 
-    // A request to read the collection of a ruleset.
+    // Handles a request to read the collection of a ruleset.
     fn on_named(&mut self, spare: u16, from: Endpoint, kind: Ruleset) -> Step<A>
         requires other { spare ≢ self.old.request }
         requires free { transfer_at spare self.old ≡ None }
@@ -191,14 +192,15 @@ impl<A: Allocator + Copy> Table<A> {
         self.open(spare, from, End::Sending(sender), first)
     }
 
-    /// A datagram of these bytes has come from `from` to the request port. `spare` is the port for a transfer that is
-    /// opened: neither the request port nor a live one. The caller sends the datagram of the step, if it has one.
+    /// Handles a datagram of these bytes, received from `from` at the request port. `spare` is the port for a transfer
+    /// that is opened: neither the request port nor a live one. The caller sends the datagram of the step, if it has
+    /// one.
     ///
-    /// A request to write in mode octet opens a receiver that answers ACK 0 from the spare port. A request to read
-    /// `lynx.tws` or `ms.tws` opens a sender of that collection's text as it is now, which begins with DATA 1. A
-    /// request that is refused changes nothing and is answered with an ERROR from the request port. The causes, in this
-    /// order: another mode, no such file, `LIVE` transfers are live, the text has more than `MAX_FILE` bytes, out of
-    /// memory. Any other datagram has no effect.
+    /// A request to write in mode octet opens a receiver that sends ACK 0 from the spare port. A request to read
+    /// `lynx.tws` or `ms.tws` opens a sender of that collection's current text, which begins with DATA 1. A request
+    /// that is refused changes nothing and is answered with an ERROR from the request port. The causes, in this order:
+    /// another mode, no such file, `LIVE` transfers are live, the text has more than `MAX_FILE` bytes, out of memory.
+    /// Any other datagram has no effect.
     #[tactic(auto, using(crate::proofs::SamePort::request_same))]
     pub fn on_request(&mut self, spare: u16, from: Endpoint, bytes: &[u8]) -> Step<A>
         requires other { spare ≢ self.old.request }
@@ -222,7 +224,7 @@ impl<A: Allocator + Copy> Table<A> {
         self.live.len() < LIVE
     }
 
-    // Any other datagram at the request port. A field is read, since only then the invariant is known here.
+    // Handles any other datagram at the request port. The field is read because only then is the invariant known here.
     fn ignore(&self) -> Step<A>
         ensures told { result ≡ nothing_told }
         ensures fits { IsServer self.now }
@@ -231,15 +233,16 @@ impl<A: Allocator + Copy> Table<A> {
         Step::nothing()
     }
 
-    /// A datagram of these bytes has come from `from` to a transfer's port. The caller sends the datagram of the step,
-    /// if it has one.
+    /// Handles a datagram of these bytes, received from `from` at a transfer's port. The caller sends the datagram of
+    /// the step, if it has one.
     ///
     /// From a source other than the peer an ERROR has no effect, and any other packet is answered with ERROR 5, RFC
-    /// 1350 section 4, and changes nothing. An ERROR of the peer closes the transfer. An ACK goes to a sender, a DATA
-    /// to a receiver. The DATA that completes a file joins its solutions with the collection of its ruleset, which is
-    /// kept where that changed it, before it is acknowledged; then the file is taken. Bytes that are no solution file
-    /// are taken and change nothing. A block that is one too many, memory that is refused and a collection that is not
-    /// kept close the transfer with an ERROR, and no collection changes. A port that is not live gives an empty step.
+    /// 1350 section 4, and changes nothing. An ERROR from the peer closes the transfer. An ACK goes to a sender, a DATA
+    /// to a receiver. When a DATA completes a file, its solutions join the collection of its ruleset, which is kept if
+    /// that changed it, before the DATA is acknowledged; then the file is taken. Bytes that are not a solution file are
+    /// taken and change nothing. A block that makes the file too long, an allocation that is refused, or a collection
+    /// that is not kept closes the transfer with an ERROR, and no collection changes. At a port that is not live the
+    /// step is empty.
     #[tactic(auto, using(crate::proofs::SamePort::datagram_same))]
     pub fn on_datagram<K: Keeper>(
         &mut self,
@@ -253,7 +256,7 @@ impl<A: Allocator + Copy> Table<A> {
         ensures merges { Merges result.taken self.old.maps self.new.maps }
         ensures request { self.new.request ≡ self.old.request }
         ensures keeps { StepKeeps (grant_of result.out) (server_datagram all self.old.maps port from bytes.now self.old).told.taken self.old.maps self.new.maps (K.log keeper.old) (K.log keeper.new) }
-        // The keeper is called only for a collection that changes, or would if it were kept.
+        // The keeper is called only for a collection that changes, or that would change if it were kept.
         ensures untouched { grant_of result.out ≢ unkept → self.new.maps ≡ self.old.maps → keeper.new ≡ keeper.old }
         ensures fits { IsServer self.new }
     {
@@ -262,7 +265,7 @@ impl<A: Allocator + Copy> Table<A> {
         step
     }
 
-    // Nothing has come to a port for a while. The step is written where it lies, as that of a datagram.
+    // Handles a time-out at a port. The step is written in place, like that of a datagram.
     #[tactic(auto, using(crate::proofs::Live::remove_set, crate::proofs::Live::set_same))]
     fn time_out(&mut self, port: u16, step: &mut Step<A>)
         requires new { step.old ≡ nothing_told }
@@ -292,9 +295,9 @@ impl<A: Allocator + Copy> Table<A> {
         }
     }
 
-    /// Nothing has come to a port for a while. What its transfer sent last is sent again; the transfer is closed where
-    /// its end gives up or has waited long enough for a repeated last block. A port that is not live gives an empty
-    /// step.
+    /// Handles a time-out at a port: what its transfer sent last is sent again, unless that has received the whole
+    /// file; the transfer is closed when its end gives up or has waited long enough for a repeated last block. At a
+    /// port that is not live the step is empty.
     #[tactic(auto, using(crate::proofs::SamePort::timeout_same))]
     pub fn on_timeout(&mut self, port: u16) -> Step<A>
         ensures server { self.new ≡ (server_timeout port self.old).server }
@@ -317,7 +320,7 @@ impl<A: Allocator + Copy> Table<A> {
         }
     }
 
-    /// How many transfers there are, at most `LIVE`.
+    /// The number of transfers, at most `LIVE`.
     pub fn live(&self) -> usize
         ensures count { result ≡ length self.now.live }
         ensures few { result ≤ LIVE }
@@ -325,14 +328,14 @@ impl<A: Allocator + Copy> Table<A> {
         self.live.len()
     }
 
-    /// The least live port above this one.
+    /// The least live port above `after`.
     pub fn next_port(&self, after: u16) -> Option<u16>
         ensures { result ≡ port_above after self.now }
     {
         self.live.above(after)
     }
 
-    /// The port that requests come to.
+    /// The port at which requests arrive.
     pub fn request(&self) -> u16
         ensures { result ≡ self.now.request }
     {

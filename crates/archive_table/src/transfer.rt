@@ -11,7 +11,7 @@ use tftp_ends::Sender;
 use tftp_packet::Endpoint;
 use tws_best::Snapshot;
 
-/// A transfer: whom it is with, and its end.
+/// A transfer: its peer, and the server's end of it.
 #[derive(Drop)]
 pub(crate) struct Transfer<A: Allocator + Copy> {
     pub(crate) peer: Endpoint,
@@ -29,7 +29,8 @@ impl<A: Allocator + Copy> Model for Transfer<A> {
 }
 
 impl<A: Allocator + Copy> Transfer<A> {
-    /// Whether this endpoint is its peer. A datagram of any other is none of the transfer, RFC 1350 section 4.
+    /// Whether this endpoint is the peer. A datagram from any other does not belong to the transfer, RFC 1350 section
+    /// 4.
     pub(crate) fn is_with(&self, from: Endpoint) -> bool
         ensures { result ≡ is_same from self.now.peer }
     {

@@ -1,4 +1,4 @@
-//! The step of a datagram at a transfer's port.
+//! The step for a datagram at a transfer's port.
 
 ghost use Rattle.std.specs.Prelude.{◌≡◌, ◌≢◌, ◌≤◌, ℕ, List, None, Some, true, length};
 ghost use Rattle.std.specs.Map.{remove_entry};
@@ -18,9 +18,10 @@ use std::alloc::Allocator;
 use tftp_ends::SendState;
 use tftp_packet::{Dgram, Endpoint, Packet, Refusal, decode};
 
-// The functions of a step. It is made once and written where it lies, since each of them would copy it to return it.
+// The functions that make a step. It is created once and written in place, since each of them would copy it to return
+// it.
 impl<A: Allocator + Copy> Table<A> {
-    // The transfer at a port ends.
+    // Ends the transfer at a port.
     pub(super) fn close(&mut self, port: u16, step: &mut Step<A>)
         ensures server { self.new ≡ with_live (remove_entry (at_port port) self.old.live) self.old }
         ensures told { step.new ≡ record { out = step.old.out; opened = step.old.opened; taken = step.old.taken; closed = true } }
@@ -30,7 +31,7 @@ impl<A: Allocator + Copy> Table<A> {
         step.closed = true;
     }
 
-    // The transfer at a port fails, and the peer is told why.
+    // Fails the transfer at a port, and sends the peer an ERROR with the reason.
     fn fail(&mut self, port: u16, peer: Endpoint, why: Refusal, step: &mut Step<A>)
         requires new { step.old ≡ nothing_told }
         ensures server { self.new ≡ (closes port peer (Some (refusal_dgram why)) self.old).server }
@@ -41,7 +42,7 @@ impl<A: Allocator + Copy> Table<A> {
         self.close(port, step);
     }
 
-    // ACK `n` has come from `from` to a port.
+    // Handles ACK `n`, received from `from` at a port.
     #[tactic(auto, using(crate::proofs::Live::remove_set, crate::proofs::Live::set_same, crate::proofs::Replies::data_grant))]
     fn on_ack(&mut self, port: u16, from: Endpoint, n: u16, step: &mut Step<A>)
         requires new { step.old ≡ nothing_told }
@@ -73,7 +74,7 @@ impl<A: Allocator + Copy> Table<A> {
         }
     }
 
-    // A whole file has come: it joins the collection of its rules and is taken, or the transfer is closed.
+    // Handles a whole file: it joins the collection of its ruleset and is taken, or the transfer is closed.
     fn on_file<K: Keeper>(
         &mut self,
         keeper: &mut K,
@@ -103,7 +104,7 @@ impl<A: Allocator + Copy> Table<A> {
         }
     }
 
-    // DATA `n` has come from `from` to a port.
+    // Handles DATA `n`, received from `from` at a port.
     #[tactic(auto, using(crate::proofs::Live::remove_set, crate::proofs::Live::set_same, crate::proofs::Replies::data_reply, crate::proofs::Replies::past_grant, crate::proofs::Replies::memory_grant, crate::proofs::Replies::sent_grant, crate::proofs::Live::done_come))]
     fn on_data<K: Keeper>(
         &mut self,
@@ -144,7 +145,7 @@ impl<A: Allocator + Copy> Table<A> {
         }
     }
 
-    // A request has come from `from` to a transfer's port.
+    // Handles a request, received from `from` at a transfer's port.
     fn on_misplaced_request(&mut self, port: u16, from: Endpoint, step: &mut Step<A>)
         requires new { step.old ≡ nothing_told }
         ensures server { self.new ≡ self.old }
@@ -162,7 +163,7 @@ impl<A: Allocator + Copy> Table<A> {
         }
     }
 
-    // An ERROR has come from `from` to a port. It is never answered.
+    // Handles an ERROR, received from `from` at a port. It is never answered.
     fn on_error(&mut self, port: u16, from: Endpoint, step: &mut Step<A>)
         requires new { step.old ≡ nothing_told }
         ensures step { (code : ℕ) (text : List ℕ) → record { server = self.new; told = step.new } ≡ (packet_live (transfer_at port self.old) (grant_of step.new.out) self.new.maps port from (error code text) self.old) }
@@ -179,8 +180,8 @@ impl<A: Allocator + Copy> Table<A> {
         }
     }
 
-    // A datagram of these bytes has come from `from` to a transfer's port. The port is looked up once, and once more
-    // where the transfer ends.
+    // Handles a datagram of these bytes, received from `from` at a transfer's port. The port is looked up once, and
+    // once more if the transfer ends.
     #[tactic(auto, using(crate::proofs::Decoded::packet_come, crate::proofs::Decoded::nothing_come))]
     pub(super) fn hear<K: Keeper>(
         &mut self,
@@ -205,7 +206,7 @@ impl<A: Allocator + Copy> Table<A> {
             Ok(Packet::Read { .. }) => self.on_misplaced_request(port, from, step),
             Ok(Packet::Write { .. }) => self.on_misplaced_request(port, from, step),
             Err(_) => {
-                // A field is read, since only then the invariant is known here.
+                // The field is read because only then is the invariant known here.
                 let _request = self.request;
             }
         }

@@ -2,7 +2,7 @@ use Rattle.std.proofs.Common.{◌≡◌, ◌≤◌, None, length, drop}
 use Rattle.archive_table.specs.Keeper.{last_kept}
 use Rattle.archive_table.proofs.memory_keeper.last_of.Given as goal
 
--- none of those from here on
+-- no entry from here on was kept for this ruleset
 abbrev pub invariant-loop-i : goal.invariant-loop-i
 invariant-loop-i g l = (l.i ≤ length l.kept) × (last_kept l.kind (drop l.i l.kept) ≡ None)
 
