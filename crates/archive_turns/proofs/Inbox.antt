@@ -1,4 +1,4 @@
--- The oldest datagram that has come to a port, by its place in the inbox.
+-- The oldest datagram at a port, by its place in the inbox.
 use Rattle.std.proofs.Common.{◌≡◌, ℕ, zero, suc, ◌<◌, Bool, true, false, List, [], ◌∷◌, map, length, Option, None, Some, arith, refl, ap, sym, ◌∙◌}
 use Rattle.std.specs.Prelude.{◌==◌, nat_lt, slice_index_or}
 use Rattle.std.specs.List.{position, position_or_len, remove}
@@ -11,7 +11,7 @@ use Rattle.archive_turns.specs.Noted.{Waiting, waiting_of, first_to, without_fir
 abbrev to_port : {A : Type 0} → (port : ℕ) → Arrival A → Bool
 to_port port a = a.port == port
 
--- what the first datagram to the port is, and which are left
+-- the first datagram to the port, and those that are left
 abbrev Gives : {A : Type 0} → (port : ℕ) → (xs left : List (Arrival A)) → Option Waiting → Type 0
 Gives port xs left first = (first ≡ first_to port (map waiting_of xs)) × (map waiting_of left ≡ without_first port (map waiting_of xs))
 
@@ -34,7 +34,7 @@ nothing_of {A} port xs e = by (nat_lt (position_or_len (to_port port) xs) (lengt
     by true is = let some : position (to_port port) xs ≡ Some (position_or_len (to_port port) xs) = rw is refl in absurd cc
     by false is = let past = ltb-false (position_or_len (to_port port) xs) (length xs) is in none_of port xs (λ k d lt. fails_before_first (to_port port) xs k d (omega (arith, lt, past)))
 
--- the search found nothing that has come to the port
+-- the search found no datagram to the port
 pub nothing_at : {A : Type 0} (port : ℕ) (xs ys : List (Arrival A)) (found : Option ℕ) → ys ≡ xs → found ≡ position (to_port port) ys → found ≡ None → Gives port xs xs None
 nothing_at port xs ys found same e none = nothing_of port xs (sym (ap (position (to_port port)) same) ∙ sym e ∙ none)
 

@@ -9,7 +9,7 @@ same_grown : (old : Option (List Entry)) (log : List Entry) → old ≡ Some log
 same_grown None log e = cc
 same_grown (Some k) log e = let same : k ≡ log = cc in sym same ∙ sym (append-nil k)
 
--- a log that stays
+-- a log that does not change
 pub grows_none : (log : Option (List Entry)) → Grows log log []
 grows_none log = record { told = same_grown log }
 
@@ -22,7 +22,7 @@ joined_grown (Some k) (Some m) log xs ys first then = then ∙ ap (λ (l : List 
 pub grows_join : {a b c : Option (List Entry)} {xs ys : List Entry} → Grows a b xs → Grows b c ys → Grows a c (xs ++ ys)
 grows_join {a} {b} {c} {xs} {ys} first then = record { told = λ log e. joined_grown a b log xs ys first.told (then.told log e) }
 
--- what `receive` wrote down, by what it gave
+-- the entry that `receive` logs, by its result
 pub grows_come : {before after : Option (List Entry)} (port : ℕ) (buffer : List ℕ) (got : Option (ℕ × Endpoint)) (count : ℕ) (from : Endpoint) → got ≡ Some (count, from) → Grows before after (received port (Ok got) buffer ∷ []) → Grows before after (came port from (take count buffer) ∷ [])
 grows_come {before} {after} port buffer got count from e grows = subst (λ (o : Option (ℕ × Endpoint)). Grows before after (received port (Ok o) buffer ∷ [])) e grows
 

@@ -23,7 +23,7 @@ abbrev pub remove_port : (port : ℕ) → List ℕ → List ℕ
 remove_port p [] = []
 remove_port p (q ∷ qs) = cond (q == p) qs (q ∷ remove_port p qs)
 
--- ---- of timers
+-- ---- the timers
 
 map_cond : {A B : Type 0} (f : A → B) (b : Bool) (x y : A) → f (cond b x y) ≡ cond b (f x) (f y)
 map_cond f true x y = refl
@@ -67,7 +67,7 @@ length_with t (u ∷ us) = elim (cases_Bool (nat_lt u.port t.port)) [
   | inr n ↦ ap length (ap (λ b. cond b (u ∷ with_timer t us) (t ∷ u ∷ us)) n) ∙ omega arith
 ]
 
--- ---- of the finite map of transfers
+-- ---- the finite map of transfers
 
 at_is : (p q : ℕ) → at_port p q ≡ (q == p)
 at_is p q = elim (cases_lt p q) [

@@ -1,4 +1,4 @@
--- What each request leaves: it takes no file, changes no collection, and opens the spare port or no port.
+-- What each request does: it takes no file, changes no collection, and opens the spare port or no port.
 use Rattle.std.specs.Prelude.{◌≡◌, ℕ, Bool, true, false, cond, List, Option, None, Some, Result, Ok, Err}
 use Rattle.std.proofs.Common.{refl}
 use Rattle.tftp_packet.specs.declared.endpoint.Endpoint.{Endpoint}

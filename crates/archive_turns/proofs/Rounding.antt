@@ -1,4 +1,4 @@
--- A round of a wait, a visit and the time-outs of the ports that are due.
+-- A round: a wait, a visit, and the time-outs of the ports that are due.
 use Rattle.std.specs.Prelude.{◌≡◌, ℕ, ◌+◌, ◌==◌, ◌≤◌, Bool, true, false, List, [], ◌∷◌, ◌++◌, length, Option, None, Some}
 use Rattle.std.proofs.Common.{refl, sym, ap, subst, ◌∙◌}
 use Rattle.archive_table.specs.declared.limits.TheConstants.{LIVE}

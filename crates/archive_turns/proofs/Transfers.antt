@@ -1,4 +1,4 @@
--- What each step at a transfer's port leaves of the live ports: it closes the port or none.
+-- The live ports after a step at a transfer's port: it closes that port or none.
 use Rattle.std.specs.Prelude.{◌≡◌, ℕ, cond, List, Option, None, Some, Result, Ok, Err}
 use Rattle.std.proofs.Common.{refl}
 use Rattle.tftp_packet.specs.declared.endpoint.Endpoint.{Endpoint}

@@ -1,4 +1,4 @@
--- A turn of a visit and its end.
+-- A turn: its visit, and its end.
 use Rattle.std.specs.Prelude.{◌≡◌, ℕ, ◌+◌, ◌≤◌, Bool, List, [], ◌++◌, length, Option, None, Some}
 use Rattle.std.proofs.Common.{refl, sym, ap, subst, ◌∙◌}
 use Rattle.archive_table.specs.declared.limits.TheConstants.{LIVE}

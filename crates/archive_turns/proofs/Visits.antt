@@ -1,4 +1,4 @@
--- What a visit leaves, by what was received and what the step told.
+-- The result of a visit, by what was received and what the step returned.
 use Rattle.std.specs.Prelude.{◌≡◌, ℕ, Bool, true, false, not, ◌==◌, ◌&&◌, is_some, List, [], ◌∷◌, Option, None, Some}
 use Rattle.std.proofs.Common.{refl, sym, ap, subst, ◌∙◌}
 use Rattle.tftp_packet.specs.declared.endpoint.Endpoint.{Endpoint}
@@ -16,7 +16,7 @@ use Rattle.archive_turns.proofs.Requests.{server_request_step}
 abbrev pub no_replies : Replies
 no_replies = record { sent = true; closed = true }
 
--- nothing else was asked than what was received
+-- the answers in a visit that asks for nothing but a receipt
 abbrev pub answers_of : Receipt → Server → Answers
 answers_of receipt s =
     record { receipt = receipt; spare = None; verdict = granted; grant = all; maps = s.maps; replies = no_replies }
@@ -120,7 +120,7 @@ pub request_unopened : {before after : Option (List Entry)} (from : Endpoint) (b
 request_unopened from bytes s grows =
     record { answers = answers_of nothing s; server = refl; taken_is = refl; change_is = refl; log = grows; merges = refl; keeps = refl }
 
--- a datagram was received before
+-- a datagram was received first
 pub request_after : {before mid after : Option (List Entry)} (port : ℕ) (from : Endpoint) (bytes : List ℕ) (s new : Server) (taken : Bool) (change : Change) → port ≡ s.request → Grows before mid (came port from bytes ∷ []) → IsVisit (λ a. request_spared a.spare a.verdict a.replies from bytes s) (λ a. None) s new taken change mid after None None → IsVisit (λ a. request_visit a s) (λ a. None) s new taken change before after None None
 request_after {before} {mid} {after} port from bytes s new taken change e grows visit =
     let here = subst (λ (p : ℕ). Grows before mid (came p from bytes ∷ [])) e grows in

@@ -1,4 +1,4 @@
--- The plain value of a wire in memory, without where its lists lie.
+-- The plain value of a wire in memory, without the layout of its lists.
 use Rattle.std.specs.Prelude.{◌≡◌, ℕ, ◌+◌, ◌-◌, ◌^◌, ◌==◌, nat_lt, min, max, Bool, true, false, List, [], ◌∷◌, ◌++◌, map, drop, fold, if◌then◌else◌, Option, None, Some}
 use Rattle.std.specs.List.{find}
 use Rattle.std.specs.Option.{option_or}
@@ -21,7 +21,7 @@ entry_of (Waited after until ready now) = waited after until ready now
 abbrev pub entries_of : {A : Type 0} → List (noted.Entry A) → List Entry
 entries_of entries = map entry_of entries
 
--- a datagram that has come to a port and was not received yet
+-- a datagram that has arrived at a port and was not received yet
 pub record Waiting : Type 0 where
   pub port : ℕ
   pub from : Endpoint
@@ -31,15 +31,15 @@ abbrev pub waiting_of : {A : Type 0} → arriving.Arrival A → Waiting
 waiting_of a = record { port = a.port; from = a.from; bytes = a.bytes }
 
 pub record Memory : Type 0 where
-  -- the ports that `open` gives, in order
+  -- the ports that `open` returns, in order
   pub opens : List ℕ
-  -- the datagrams that have come, oldest first
+  -- the datagrams that have arrived, oldest first
   pub inbox : List Waiting
   pub log : List Entry
   -- whether the log has an entry for each call
   pub telling : Bool
   pub failures : ℕ
-  -- which call from now fails, counted from 1; 0 is none
+  -- which call from now fails, counted from 1; 0 if none does
   pub fails_in : ℕ
   -- the time
   pub time : ℕ
@@ -61,14 +61,14 @@ abbrev pub told_by : (telling : Bool) → List Entry → Option (List Entry)
 told_by true log = Some log
 told_by false log = None
 
--- ---- what a call makes of it
+-- ---- what a call does to it
 
--- a datagram comes
+-- a datagram arrives
 abbrev pub arrives : (port : ℕ) (from : Endpoint) (bytes : List ℕ) → Memory → Memory
 arrives port from bytes w =
     record w { inbox = w.inbox ++ record { port = port; from = from; bytes = bytes } ∷ [] }
 
--- one call less is left until the one that fails
+-- one call fewer is left until the one that fails
 abbrev pub counts_call : Memory → Memory
 counts_call w = record w { fails_in = w.fails_in - 1 }
 
@@ -76,7 +76,7 @@ counts_call w = record w { fails_in = w.fails_in - 1 }
 abbrev pub rises : Memory → Memory
 rises w = record w { failures = min (w.failures + 1) (2 ^ 64 - 1) }
 
--- an entry joins the log if there is memory for it; else the log is told no more
+-- an entry joins the log if there is memory for it; otherwise the log is no longer told
 abbrev pub notes : (done : Bool) → Entry → Memory → Memory
 notes true entry w = record w { log = w.log ++ entry ∷ [] }
 notes false entry w = record w { telling = false }
@@ -84,7 +84,7 @@ notes false entry w = record w { telling = false }
 abbrev pub log_of : Memory → Option (List Entry)
 log_of w = told_by w.telling w.log
 
--- what writing a call down leaves
+-- what logging a call leaves unchanged
 pub record SameButLog (old new : Memory) : Type 0 where
   pub opens : new.opens ≡ old.opens
   pub inbox : new.inbox ≡ old.inbox
@@ -97,7 +97,7 @@ abbrev pub first_port : List ℕ → Option ℕ
 first_port [] = None
 first_port (port ∷ ports) = Some port
 
--- the port that it gives: the first, unless this call is to fail
+-- the port that it returns: the first, unless this call is to fail
 abbrev pub port_taken : Memory → Option ℕ
 port_taken w = if w.fails_in == 1 then None else first_port w.opens
 
@@ -109,7 +109,7 @@ takes_port w = record w { opens = if w.fails_in == 1 then w.opens else drop 1 w.
 abbrev pub is_to : (port : ℕ) → Waiting → Bool
 is_to port one = one.port == port
 
--- the oldest datagram that has come to a port
+-- the oldest datagram at a port
 abbrev pub first_to : (port : ℕ) → List Waiting → Option Waiting
 first_to port waiting = find (is_to port) waiting
 
@@ -122,7 +122,7 @@ abbrev pub came_or_quiet : (port : ℕ) → Option Waiting → Entry
 came_or_quiet port None = quiet port
 came_or_quiet port (Some one) = came port one.from one.bytes
 
--- the entry of it: the oldest datagram that has come to the port, or none, unless this call is to fail
+-- its entry: the oldest datagram at the port, or none, unless this call is to fail
 abbrev pub receipt : (port : ℕ) → Memory → Entry
 receipt port w = if w.fails_in == 1 then failed port else came_or_quiet port (first_to port w.inbox)
 
@@ -136,19 +136,19 @@ abbrev pub lesser : Option ℕ → ℕ → Option ℕ
 lesser None port = Some port
 lesser (Some least) port = Some (min least port)
 
--- the least port to which something has come
+-- the least port at which a datagram waits
 abbrev pub least_port : List Waiting → Option ℕ
 least_port waiting = fold (λ least one. lesser least one.port) None waiting
 
--- the least of those above this one
+-- the least of those above `after`
 abbrev pub least_above : (after : ℕ) → List Waiting → Option ℕ
 least_above after waiting = fold (λ least one. if nat_lt after one.port then lesser least one.port else least) None waiting
 
--- the next port above this one to which something has come, or else the least
+-- the next port above `after` at which a datagram waits, or else the least
 abbrev pub next_ready : (after : ℕ) → List Waiting → Option ℕ
 next_ready after waiting = option_or (least_above after waiting) (least_port waiting)
 
--- where nothing has come, the clock goes on to the moment that is waited for
+-- if nothing has arrived, the clock advances to the moment that is waited for
 abbrev pub time_after : (ready until : Option ℕ) → (time : ℕ) → ℕ
 time_after (Some port) until time = time
 time_after None None time = time

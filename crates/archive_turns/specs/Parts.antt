@@ -1,4 +1,4 @@
--- What private functions leave: parts of a turn and of a round.
+-- What private functions do: parts of a turn and of a round.
 use Rattle.std.specs.Prelude.{◌≡◌, ℕ, Bool, List, map, Option, is_some}
 use Rattle.tftp_packet.specs.declared.out.Out.{Out}
 use Rattle.archive_table.specs.Server.{Server, Merges}
@@ -8,7 +8,7 @@ use Rattle.archive_turns.specs.declared.timer.Timer.{Timer}
 use Rattle.archive_turns.specs.Wire.{Entry, Grows}
 use Rattle.archive_turns.specs.Turn.{Replies, Answers, Visited, Asks, KeepsAsked, sendings, step_calls, walk, is_quiet, ports_late, turn_ends}
 
--- A visit leaves what its definition gives for some answers: the log has grown by its calls.
+-- A visit does what its definition says for some answers, and the log has grown by its calls.
 pub record IsVisit (visit : Answers → Visited) (asks : Answers → Option Asks) (old new : Server) (taken : Bool) (change : Change) (before after : Option (List Entry)) (kept now : Option (List Keeping)) : Type 0 where
   pub answers : Answers
   pub server : new ≡ (visit answers).server
@@ -18,24 +18,24 @@ pub record IsVisit (visit : Answers → Visited) (asks : Answers → Option Asks
   pub merges : Merges (visit answers).taken old.maps new.maps
   pub keeps : KeepsAsked (asks answers) old.maps new.maps kept now
 
--- the same of a time-out
+-- the same for a time-out
 pub record IsTimeout (visit : Replies → Visited) (new : Server) (change : Change) (before after : Option (List Entry)) : Type 0 where
   pub replies : Replies
   pub server : new ≡ (visit replies).server
   pub change_is : change ≡ (visit replies).change
   pub log : Grows before after (visit replies).calls
 
--- what is left where this is sent, if it is anything
+-- the log after this datagram was sent, if there is one
 pub record SendsOut (out : Option Out) (before after : Option (List Entry)) : Type 0 where
   pub ok : Bool
   pub log : Grows before after (sendings out ok)
 
--- what the calls after a step leave
+-- the log after the calls that follow a step
 pub record Acts (closes : Bool) (port : ℕ) (out : Option Out) (before after : Option (List Entry)) : Type 0 where
   pub replies : Replies
   pub log : Grows before after (step_calls closes port out replies)
 
--- what the time-outs of these ports leave
+-- the state after the time-outs of these ports
 pub record Walks (ports : List ℕ) (due : ℕ) (old new : Server) (timers left : List Timer) (before after : Option (List Entry)) : Type 0 where
   pub late : List (ℕ × Replies)
   pub late_are : map (λ e. e.0) late ≡ ports
@@ -43,7 +43,7 @@ pub record Walks (ports : List ℕ) (due : ℕ) (old new : Server) (timers left 
   pub timers_are : left ≡ (walk due old timers late).timers
   pub log : Grows before after (walk due old timers late).calls
 
--- what the end of a turn leaves
+-- the state after the end of a turn
 pub record Ends (change : Change) (old new : Server) (timers left : List Timer) (before after : Option (List Entry)) : Type 0 where
   pub late : List (ℕ × Replies)
   pub late_are : map (λ e. e.0) late ≡ ports_late (is_quiet change) timers

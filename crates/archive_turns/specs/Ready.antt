@@ -1,4 +1,4 @@
--- The server that waits for ready ports: a round of it. Its time is that of the wire's clock, in milliseconds.
+-- A round of the server that waits for ready ports. Its time is that of the wire's clock, in milliseconds.
 use Rattle.std.specs.Prelude.{◌≡◌, ℕ, ◌+◌, ◌-◌, ◌^◌, ◌==◌, min, Bool, true, false, List, [], ◌∷◌, ◌++◌, map, fold, Option, None, Some, is_some}
 use Rattle.archive_table.specs.Server.{Server, Merges}
 use Rattle.archive_table.specs.Keeper.{Keeping}
@@ -10,16 +10,16 @@ use Rattle.archive_turns.specs.Turn.{Replies, Answers, Visited, lost_visit, tran
 
 pub record Clocked : Type 0 where
   pub table : Server
-  -- the port visited last, at first 0
+  -- the port visited last, initially 0
   pub last : ℕ
   -- for each live port the time at which it times out
   pub timers : List Timer
 
--- when a port times out that was opened or has sent at this time
+-- when a port that was opened or sent at `time` times out
 abbrev pub deadline : (time : ℕ) → ℕ
 deadline time = min (time + TIMEOUT) (2 ^ 64 - 1)
 
--- ---- until when the wire waits
+-- ---- how long the wire waits
 
 abbrev pub earlier : Option ℕ → Timer → Option ℕ
 earlier None t = Some t.due
@@ -35,7 +35,7 @@ abbrev pub port_visit : (is_request : Bool) → (port : ℕ) → Answers → Ser
 port_visit true port a s = request_visit a s
 port_visit false port a s = transfer_visit a port s
 
--- The port that is ready is visited, if one is.
+-- The ready port is visited, if there is one.
 abbrev pub ready_visit : Option ℕ → Answers → Server → Visited
 ready_visit (Some port) a s = port_visit (port == s.request) port a s
 ready_visit None a s = lost_visit [] s
@@ -52,12 +52,12 @@ abbrev pub noted_or : (last : ℕ) → Option ℕ → ℕ
 noted_or last (Some port) = port
 noted_or last None = last
 
--- After the visit each port that is due by now times out.
+-- After the visit each port that is due by `time` times out.
 abbrev pub round_walk : Visited → (time : ℕ) → (late : List (ℕ × Replies)) → List Timer → Walk
 round_walk v time late timers = walk (deadline time) v.server (timed v.change (deadline time) timers) late
 
--- One round: a wait, a visit to the port that is ready, and the time-outs of the ports that are due, however busy the
--- wire is. The wait asks for the next port above the last one, so that none starves where the wire gives it.
+-- One round: a wait, a visit to the ready port, and the time-outs of the ports that are due, however busy the wire is.
+-- The wait asks for the next port above the last one, so that none starves if the wire returns that port.
 pub record IsRound (old new : Clocked) (taken : Bool) (calls : List Entry) (kept now : Option (List Keeping)) : Type 0 where
   pub ready : Option ℕ
   pub time : ℕ
@@ -83,7 +83,7 @@ pub data Rounds : (rounds : ℕ) (old new : Clocked) (taken : ℕ) (calls : List
   none : (c : Clocked) (kept : Option (List Keeping)) → Rounds 0 c c 0 [] kept kept
   more : {rounds : ℕ} {old mid new : Clocked} {taken : ℕ} {calls added : List Entry} {kept between now : Option (List Keeping)} (took : Bool) → Rounds rounds old mid taken calls kept between → IsRound mid new took added between now → Rounds (rounds + 1) old new (count_if took taken) (calls ++ added) kept now
 
--- rounds were made, of which this many took a file
+-- rounds were made, of which `taken` took a file
 pub record MakesRounds (rounds : ℕ) (old new : Clocked) (taken : ℕ) (before after : Option (List Entry)) (kept now : Option (List Keeping)) : Type 0 where
   pub calls : List Entry
   pub served : Rounds rounds old new taken calls kept now

@@ -25,7 +25,7 @@ pub record Run : Type 0 where
   -- how many quiet turns are left until it times out
   pub left : ℕ
 
--- what begins or what a turn makes, and the calls of the wire
+-- the result of a begin or of a turn, and the calls of the wire
 pub record Begun : Type 0 where
   pub result : Result Run RunFault
   pub calls : List Entry
@@ -70,15 +70,15 @@ pub record Begins (server : Endpoint) (operation : Operation) (result : Result R
 
 -- ---- a turn
 
--- what is answered in a turn
+-- what is returned and granted in a turn
 pub record RunAnswers : Type 0 where
   pub receipt : Receipt
-  -- whether there is memory for what comes
+  -- whether there is memory for a received block
   pub verdict : Verdict
   -- by `send`, if it is called
   pub sent : Bool
 
--- a step that sends lets the client wait anew
+-- a step that sends restarts the client's wait
 abbrev pub left_after : Option Out → ℕ → ℕ
 left_after (Some out) left = QUIET_TURNS
 left_after None left = left
@@ -95,11 +95,11 @@ abbrev pub run_waited : (last : Bool) → Run → (ok : Bool) → Ran
 run_waited true r ok = run_timed_out r.port (client_timeout r.client) ok
 run_waited false r ok = record { run = record { client = r.client; port = r.port; left = r.left - 1 }; calls = [] }
 
--- a quiet turn: the last of those that were left is a time-out
+-- a quiet turn: the last one left is a time-out
 abbrev pub run_quiet : Run → (ok : Bool) → Ran
 run_quiet r ok = run_waited (nat_le r.left 1) r ok
 
--- a call comes before
+-- a call before the others
 abbrev pub run_after : Entry → Ran → Ran
 run_after call ran = record { run = ran.run; calls = call ∷ ran.calls }
 
@@ -126,7 +126,7 @@ pub record MakesRunTurn (old new : Run) (before after : Option (List Entry)) : T
   pub turn : IsRunTurn old new calls
   pub log : Grows before after calls
 
--- what the part of a turn after `receive` leaves
+-- the state after the part of a turn that follows `receive`
 pub record MakesRan (ran : (ok : Bool) → Ran) (new : Run) (before after : Option (List Entry)) : Type 0 where
   pub ok : Bool
   pub run : new ≡ (ran ok).run
@@ -137,7 +137,7 @@ pub data Runs : (turns : ℕ) (old new : Run) (calls : List Entry) → Type 0 wh
   none : (r : Run) → Runs 0 r r []
   more : {turns : ℕ} {old mid new : Run} {calls added : List Entry} → Runs turns old mid calls → is_over mid.client ≡ false → IsRunTurn mid new added → Runs (turns + 1) old new (calls ++ added)
 
--- at most this many, until the client is over
+-- at most `turns` of them, until the client is over
 pub record RunsFor (turns : ℕ) (old new : Run) (calls : List Entry) : Type 0 where
   pub made : ℕ
   pub most : made ≤ turns
@@ -157,21 +157,21 @@ fault_of cause.TimedOut = fails.Transfer cause.TimedOut
 fault_of cause.TooLong = fails.Transfer cause.TooLong
 fault_of cause.Memory = fails.Memory
 
--- A client that still runs when its turns are used up has timed out.
+-- A client that still runs when its turns are used up counts as timed out.
 abbrev pub unfinished : State → RunFault
 unfinished state.Running = fails.Transfer cause.TimedOut
 unfinished state.Sent = fails.Transfer cause.TimedOut
 unfinished state.Got = fails.Transfer cause.TimedOut
 unfinished (state.Failed why) = fault_of why
 
--- a put is done exactly if its client ended `Sent`
+-- a put succeeds exactly if its client ended `Sent`
 abbrev pub put_result : State → (len : ℕ) → Result ℕ RunFault
 put_result state.Running len = Err (unfinished state.Running)
 put_result state.Sent len = Ok len
 put_result state.Got len = Err (unfinished state.Got)
 put_result (state.Failed why) len = Err (fault_of why)
 
--- What is written of a get, and what it answers: the file where its client has got it, and else nothing.
+-- What a get writes, and what it returns: the file if its client has got it, and otherwise nothing.
 abbrev pub Writes : Result (List ℕ) Client → Result ℕ RunFault → (written now : Option (List ℕ)) → Type 0
 Writes (Ok file) (Ok len) written now = (len ≡ length file) × Appends written now file
 Writes (Ok file) (Err e) written now = (e ≡ fails.Write) × AppendsPrefix written now file
@@ -181,13 +181,13 @@ Writes (Err c) (Err e) written now = (e ≡ unfinished (state_of c)) × (now ≡
 pub record WritesGot (c : Client) (result : Result ℕ RunFault) (written now : Option (List ℕ)) : Type 0 where
   pub writes : Writes (file_of c) result written now
 
--- the turns of a put that has begun, and its answer
+-- the turns of a put that has begun, and its result
 pub record EndsPut (run : Run) (turns len : ℕ) (result : Result ℕ RunFault) (before after : Option (List Entry)) : Type 0 where
   pub last : Run
   pub made : MakesRunTurns turns run last before after
   pub result_is : result ≡ put_result (state_of last.client) len
 
--- the same of a get
+-- the same for a get
 pub record EndsGet (run : Run) (turns : ℕ) (result : Result ℕ RunFault) (before after : Option (List Entry)) (written now : Option (List ℕ)) : Type 0 where
   pub last : Run
   pub made : MakesRunTurns turns run last before after
@@ -202,7 +202,7 @@ abbrev pub GetAfter : Result Run RunFault → (turns : ℕ) → Result ℕ RunFa
 GetAfter (Ok run) turns result mid after written now = EndsGet run turns result mid after written now
 GetAfter (Err e) turns result mid after written now = (result ≡ Err e) × (after ≡ mid) × (now ≡ written)
 
--- a whole put: its begin, its turns and its answer
+-- a whole put: its begin, its turns and its result
 pub record RunsPut (server : Endpoint) (file : List ℕ) (turns : ℕ) (result : Result ℕ RunFault) (before after : Option (List Entry)) : Type 0 where
   pub begun : Result Run RunFault
   pub mid : Option (List Entry)

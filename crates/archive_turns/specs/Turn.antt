@@ -1,5 +1,5 @@
 -- One turn of a server: which calls of the wire it makes, in which order, and which steps of the table. What the wire
--- answers is an argument, and so is what the steps are granted. A client's turn is in `Run`, the server that waits for
+-- returns is an argument, and so is what the steps are granted. A client's turn is in `Run`, the server that waits for
 -- ready ports in `Ready`.
 use Rattle.std.specs.Prelude.{◌≡◌, ℕ, ◌==◌, ◌&&◌, not, Bool, true, false, ◌+◌, List, [], ◌∷◌, ◌++◌, map, fold, Option, None, Some, is_some}
 use Rattle.tftp_packet.specs.declared.endpoint.Endpoint.{Endpoint}
@@ -14,9 +14,9 @@ use Rattle.archive_turns.specs.declared.timer.Timer.{Timer}
 use Rattle.archive_turns.specs.Timers.{lower, due_ports, timed, timed_out}
 use Rattle.archive_turns.specs.Wire.{Entry, opened, closed, came, quiet, failed, sent, Grows}
 
--- ---- what is answered
+-- ---- what is returned and granted
 
--- by the calls after a step, where it makes them
+-- by the calls after a step, if it makes them
 pub record Replies : Type 0 where
   pub sent : Bool
   pub closed : Bool
@@ -27,7 +27,7 @@ pub data Receipt : Type 0 where
   nothing : Receipt
   fault : Receipt
 
--- In a visit to a port. What is not asked has no effect.
+-- In a visit to a port. What is not asked for has no effect.
 pub record Answers : Type 0 where
   pub receipt : Receipt
   -- by `open`
@@ -36,7 +36,7 @@ pub record Answers : Type 0 where
   pub verdict : Verdict
   -- what a datagram at a transfer's port is granted
   pub grant : Grant
-  -- the collections that a file which is taken makes
+  -- the collections after a file is taken
   pub maps : Maps
   pub replies : Replies
 
@@ -50,12 +50,12 @@ abbrev pub closings : (closes : Bool) (port : ℕ) → (ok : Bool) → List Entr
 closings true port ok = closed port ok ∷ []
 closings false port ok = []
 
--- What a step told is sent, and then its port is closed if it is needed no more. A send that fails is a loss, and a
+-- The datagram of a step is sent, then its port is closed if it is no longer needed. A send that fails is a loss, and a
 -- close that fails is ignored.
 abbrev pub step_calls : (closes : Bool) (port : ℕ) → Option Out → Replies → List Entry
 step_calls closes port out replies = sendings out replies.sent ++ closings closes port replies.closed
 
--- what a visit or a time-out leaves
+-- the result of a visit or a time-out
 pub record Visited : Type 0 where
   pub server : Server
   pub taken : Option Taken
@@ -88,7 +88,7 @@ transfer_received (datagram from bytes) a port s =
 transfer_received nothing a port s = quiet_visit (quiet port) s
 transfer_received fault a port s = quiet_visit (failed port) s
 
--- a visit to a transfer's port: what has come to it is a step
+-- a visit to a transfer's port: a datagram received there is a step
 abbrev pub transfer_visit : Answers → (port : ℕ) → Server → Visited
 transfer_visit a port s = transfer_received a.receipt a port s
 
@@ -130,7 +130,7 @@ request_spared (Some spare) verdict replies from bytes s =
     request_used (is_usable spare s) spare verdict replies from bytes s
 request_spared None verdict replies from bytes s = lost_visit (opened None ∷ []) s
 
--- a call comes before a visit's
+-- a call before those of a visit
 abbrev pub preceded : Entry → Visited → Visited
 preceded call v = record { server = v.server; taken = v.taken; change = v.change; calls = call ∷ v.calls }
 
@@ -140,13 +140,13 @@ request_received (datagram from bytes) a s =
 request_received nothing a s = quiet_visit (quiet s.request) s
 request_received fault a s = quiet_visit (failed s.request) s
 
--- a visit to the request port: a spare port is opened for what has come to it, and that is a step
+-- a visit to the request port: a spare port is opened for a datagram received there, which is then a step
 abbrev pub request_visit : Answers → Server → Visited
 request_visit a s = request_received a.receipt a s
 
 -- ---- the keeper
 
--- what a step asks of the keeper: what it was granted, and the file that is taken if all is
+-- what a step asks of the keeper: what it was granted, and the file that is taken if everything is granted
 pub record Asks : Type 0 where
   pub grant : Grant
   pub wanted : Option Taken
@@ -184,7 +184,7 @@ walk_timeout port due w v =
 abbrev pub walk_on : (due : ℕ) → Walk → ℕ × Replies → Walk
 walk_on due w e = walk_timeout e.0 due w (timeout_visit e.1 e.0 w.server)
 
--- Each of these ports times out, in this order. Its timer begins anew unless it is closed.
+-- Each of these ports times out, in this order. Its timer restarts unless the port is closed.
 abbrev pub walk : (due : ℕ) → Server → List Timer → List (ℕ × Replies) → Walk
 walk due s timers late = fold (walk_on due) (record { server = s; timers = timers; calls = [] }) late
 
@@ -205,7 +205,7 @@ visit_at None a s = request_visit a s
 abbrev pub next_visit : (last : ℕ) → Answers → Server → Visited
 next_visit last a s = visit_at (port_above last s) a s
 
--- the port that is noted as the last one
+-- the port to note as the last one visited
 abbrev pub noted : Option ℕ → ℕ
 noted (Some port) = port
 noted None = 0
@@ -225,7 +225,7 @@ ports_late false timers = []
 abbrev pub walk_after : List Entry → Walk → Walk
 walk_after calls w = record { server = w.server; timers = w.timers; calls = calls ++ w.calls }
 
--- A turn in which nothing was received is quiet: each live port has one quiet turn less left, and those that have none
+-- A turn in which nothing was received is quiet: each live port has one quiet turn fewer left, and those that have none
 -- left time out.
 abbrev pub turn_ends : (quiet : Bool) → Change → Server → (late : List (ℕ × Replies)) → List Timer → Walk
 turn_ends true change s late timers = walk QUIET_TURNS s (lower timers) late
@@ -234,7 +234,7 @@ turn_ends false change s late timers = record { server = s; timers = timed chang
 abbrev pub turn_visited : Visited → (late : List (ℕ × Replies)) → List Timer → Walk
 turn_visited v late timers = walk_after v.calls (turn_ends (is_quiet v.change) v.change v.server late timers)
 
--- One turn: a visit, and the time-outs after it. `late` has what the calls after each time-out answer.
+-- One turn: a visit, and the time-outs after it. `late` has the results of the calls after each time-out.
 pub record IsTurn (old new : Counted) (taken : Bool) (calls : List Entry) (kept now : Option (List Keeping)) : Type 0 where
   pub answers : Answers
   pub late : List (ℕ × Replies)
@@ -244,7 +244,7 @@ pub record IsTurn (old new : Counted) (taken : Bool) (calls : List Entry) (kept 
   pub calls_are : calls ≡ (turn_visited (next_visit old.last answers old.table) late old.timers).calls
   pub last : new.last ≡ noted (port_above old.last old.table)
   pub taken_is : taken ≡ is_some (next_visit old.last answers old.table).taken
-  -- the collections that the steps make are those of the table's calls
+  -- the visit changes the collections as the table's calls do
   pub merges : Merges (next_visit old.last answers old.table).taken old.table.maps (next_visit old.last answers old.table).server.maps
   pub keeps : KeepsAsked (visit_asks (port_above old.last old.table) answers old.table) old.table.maps (next_visit old.last answers old.table).server.maps kept now
 
@@ -264,7 +264,7 @@ pub data Serves : (turns : ℕ) (old new : Counted) (taken : ℕ) (calls : List 
   none : (c : Counted) (kept : Option (List Keeping)) → Serves 0 c c 0 [] kept kept
   more : {turns : ℕ} {old mid new : Counted} {taken : ℕ} {calls added : List Entry} {kept between now : Option (List Keeping)} (took : Bool) → Serves turns old mid taken calls kept between → IsTurn mid new took added between now → Serves (turns + 1) old new (count_if took taken) (calls ++ added) kept now
 
--- turns were made, of which this many took a file
+-- turns were made, of which `taken` took a file
 pub record MakesTurns (turns : ℕ) (old new : Counted) (taken : ℕ) (before after : Option (List Entry)) (kept now : Option (List Keeping)) : Type 0 where
   pub calls : List Entry
   pub served : Serves turns old new taken calls kept now

@@ -1,4 +1,4 @@
--- The plain values of servers and of clients that run, without where they lie in memory.
+-- The plain values of servers and of clients that run, without their layout in memory.
 use Rattle.archive_turns.specs.declared.server.Server.TheInside as servers
 use Rattle.archive_turns.specs.declared.ready_server.ReadyServer.TheInside as clocks
 use Rattle.archive_turns.specs.declared.put_run.PutRun.TheInside as putting

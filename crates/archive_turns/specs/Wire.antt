@@ -1,27 +1,27 @@
--- The log of a wire: one entry for each call, with what the call was given and what it answered. A contract over any
--- wire says by which entries the log grew.
+-- The log of a wire: one entry for each call, with its arguments and its result. A contract over any wire says by which
+-- entries the log grew.
 use Rattle.std.specs.Prelude.{◌≡◌, ℕ, Bool, true, false, List, ◌++◌, take, Option, None, Some, Result, Ok, Err}
 use Rattle.tftp_packet.specs.declared.endpoint.Endpoint.{Endpoint}
 use Rattle.tftp_packet.specs.declared.out.Out.{Out}
 use Rattle.archive_turns.specs.declared.wire_fault.WireFault.{WireFault}
 
 pub data Entry : Type 0 where
-  -- `open`: the port, or none where that failed
+  -- `open`: the port, or none if it failed
   opened : (port : Option ℕ) → Entry
-  -- `close`, and whether it was done
+  -- `close`, and whether it succeeded
   closed : (port : ℕ) (ok : Bool) → Entry
-  -- `receive`: a datagram of these bytes has come to the port
+  -- `receive`: a datagram of these bytes had arrived at the port
   came : (port : ℕ) (from : Endpoint) (bytes : List ℕ) → Entry
-  -- `receive`: nothing has come to the port
+  -- `receive`: nothing had arrived at the port
   quiet : (port : ℕ) → Entry
   -- `receive`: it failed at the port
   failed : (port : ℕ) → Entry
-  -- `send`, and whether it was done
+  -- `send`, and whether it succeeded
   sent : (out : Out) (ok : Bool) → Entry
-  -- `wait` for a port after this one, until this moment: the port that is ready, and the time
+  -- `wait` for a ready port after this one, until this moment: the ready port, and the time
   waited : (after : ℕ) (until : Option ℕ) (ready : Option ℕ) (now : ℕ) → Entry
 
--- ---- the entry of a call, by its answer
+-- ---- the entry of a call, by its result
 
 abbrev pub port_opened : Result ℕ WireFault → Option ℕ
 port_opened (Ok port) = Some port
@@ -42,7 +42,7 @@ abbrev pub IsGrown : (old : Option (List Entry)) → (new added : List Entry) �
 IsGrown None new added = ⊥
 IsGrown (Some old) new added = new ≡ old ++ added
 
--- Where the log is told afterwards, it was told before and has grown by these entries. So a wire that has stopped telling
+-- If the log is told afterwards, it was told before and has grown by these entries. So a wire that has stopped telling
 -- its log never tells it again.
 pub record Grows (old new : Option (List Entry)) (added : List Entry) : Type 0 where
   pub told : (log : List Entry) → new ≡ Some log → IsGrown old log added

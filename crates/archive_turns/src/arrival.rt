@@ -4,7 +4,7 @@ use std::alloc::{Allocator, Global};
 use tftp_packet::Endpoint;
 use tws_file::Bytes;
 
-// A datagram that has come to a port and was not received yet.
+// A datagram that has arrived at a port and was not received yet.
 #[derive(Drop)]
 #[derive_where(Debug)]
 pub(crate) struct Arrival<A: Allocator = Global> {

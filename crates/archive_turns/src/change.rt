@@ -1,4 +1,4 @@
-/// What a visit to a port, or a time-out, was for the live ports.
+/// What a visit to a port, or a time-out, changed for the live ports.
 #[derive(Clone, Copy, Debug, PartialEq, Eq)]
 pub(crate) enum Change {
     /// Nothing was received.
@@ -7,7 +7,7 @@ pub(crate) enum Change {
     Nothing,
     /// A transfer was opened on this port.
     Opened(u16),
-    /// A step at this port sent.
+    /// A step at this port sent a datagram.
     Sent(u16),
     /// The transfer at this port has ended.
     Closed(u16),

@@ -2,15 +2,15 @@ use std::alloc::{Allocator, Global};
 use tftp_packet::{Endpoint, Out};
 use tws_file::Bytes;
 
-/// A call of a wire, with what it answered.
+/// A call of a wire, with its result.
 #[derive(Drop)]
 #[derive_where(Debug)]
 pub enum Entry<A: Allocator = Global> {
-    /// `open` gave this port; none where it failed.
+    /// `open` returned this port; `None` if it failed.
     Opened(Option<u16>),
-    /// `close` of this port, and whether it was done.
+    /// `close` of this port, and whether it succeeded.
     Closed(u16, bool),
-    /// `receive` gave a datagram that had come to this port.
+    /// `receive` returned a datagram that had arrived at this port.
     Came {
         /// The port.
         port: u16,
@@ -30,13 +30,13 @@ pub enum Entry<A: Allocator = Global> {
         /// Whether it was sent.
         ok: bool,
     },
-    /// `wait` of a wire that tells which port is ready.
+    /// `wait` of a wire that reports which port is ready.
     Waited {
-        /// The port after which the next one was asked for.
+        /// The port above which the next ready one was asked for.
         after: u16,
         /// The moment until which it was to wait, if any.
         until: Option<u64>,
-        /// The port that is ready, if one is.
+        /// The ready port, if there is one.
         ready: Option<u16>,
         /// The time.
         now: u64,

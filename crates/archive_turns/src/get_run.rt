@@ -15,8 +15,7 @@ use std::marker::Model;
 use tftp_packet::Endpoint;
 use tws_file::Ruleset;
 
-/// A get that runs over a wire: its client, the port that it has there, and how many quiet turns are left until it times
-/// out.
+/// A get that runs over a wire: its client, its port there, and how many quiet turns are left until it times out.
 #[derive(Drop)]
 #[derive_where(Debug)]
 pub struct GetRun<A: Allocator + Copy = Global> {
@@ -36,12 +35,12 @@ impl<A: Allocator + Copy> Model for GetRun<A> {
 }
 
 impl<A: Allocator + Copy> GetRun<A> {
-    /// Opens a port and sends the request from there to get the collection of this ruleset. The server is at the host and
-    /// the request port of `server`. A request that is not sent is a loss. What comes is kept in memory of `alloc`.
+    /// Opens a port and sends from there the request for the collection of this ruleset. `server` is the server's host
+    /// and request port. A request that is not sent is a loss. Received blocks are kept in memory of `alloc`.
     ///
     /// # Errors
     ///
-    /// `Socket` where no port was opened.
+    /// `Socket` if no port was opened.
     pub fn begin<W: Wire>(
         alloc: A,
         wire: &mut W,
@@ -63,7 +62,7 @@ impl<A: Allocator + Copy> GetRun<A> {
         })
     }
 
-    // A datagram has come.
+    // Handles a datagram.
     fn hear<W: Wire>(&mut self, wire: &mut W, from: Endpoint, bytes: &[u8])
         ensures { MakesRan (λ ok. run_heard from bytes.now (verdict_after self.new.client) self.old ok) self.new (W.log wire.old) (W.log wire.new) }
     {
@@ -72,7 +71,7 @@ impl<A: Allocator + Copy> GetRun<A> {
         send(wire, &out);
     }
 
-    // A quiet turn.
+    // Handles a quiet turn.
     fn wait<W: Wire>(&mut self, wire: &mut W)
         ensures { MakesRan (λ ok. run_quiet self.old ok) self.new (W.log wire.old) (W.log wire.new) }
     {
@@ -85,8 +84,8 @@ impl<A: Allocator + Copy> GetRun<A> {
         }
     }
 
-    /// One turn: receives, and sends what the client answers. It times out after `QUIET_TURNS` quiet turns since it began
-    /// or last sent.
+    /// Makes one turn: receives, and sends what the client returns. The client times out after `QUIET_TURNS` quiet
+    /// turns since it began or last sent.
     pub fn turn<W: Wire>(&mut self, wire: &mut W)
         ensures { MakesRunTurn self.old self.new (W.log wire.old) (W.log wire.new) }
     {
@@ -112,7 +111,7 @@ impl<A: Allocator + Copy> GetRun<A> {
         self.get
     }
 
-    /// Makes turns until the client is over, at most this many.
+    /// Makes turns until the client is over, at most `turns`.
     pub(crate) fn turns<W: Wire>(&mut self, wire: &mut W, turns: u64)
         ensures { MakesRunTurns turns self.old self.new (W.log wire.old) (W.log wire.new) }
     {

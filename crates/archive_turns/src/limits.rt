@@ -1,6 +1,6 @@
-/// After how many quiet turns since it was opened or last sent a transfer or a client times out. Turns that are not quiet
-/// leave the count as it is.
+/// After how many quiet turns a transfer or a client times out, since it was opened or last sent. Turns that are not
+/// quiet leave the count unchanged.
 pub const QUIET_TURNS: u64 = 200;
 
-/// After how many milliseconds since then a transfer of the server that waits for ready ports times out.
+/// The same in milliseconds, for a transfer of the server that waits for ready ports.
 pub const TIMEOUT: u64 = 1000;

@@ -1,4 +1,4 @@
-//! A wire in memory, for tests: it gives what was put into it, and tells its log.
+//! A wire in memory, for tests: it delivers what was put into it, and tells its log.
 
 ghost use Rattle.std.specs.Prelude.{◌≡◌, ◌≢◌, ◌==◌, ◌≤◌, [], ◌∷◌, length, map, drop, true, Some, OnOk, OnErr, IfOk, IfErr, IfSome, is_ok, if◌then◌else◌};
 ghost use Rattle.std.specs.List.{position};
@@ -17,7 +17,7 @@ use std::marker::Model;
 use tftp_packet::{Endpoint, Out};
 use tws_file::Bytes;
 
-/// A wire in memory. It gives the datagrams that were put into it, sends nothing anywhere, and has a log of all calls.
+/// A wire in memory. It delivers the datagrams that were put into it, sends nothing anywhere, and logs all calls.
 #[derive(Drop)]
 #[derive_where(Debug)]
 pub struct MemoryWire<A: Allocator = Global> {
@@ -39,7 +39,7 @@ impl<A: Allocator> Model for MemoryWire<A> {
 }
 
 impl<A: Allocator + Copy> MemoryWire<A> {
-    /// A wire whose `open` gives these ports, in order, and to which nothing has come. Its clock is at 0.
+    /// Returns a wire whose `open` returns these ports, in order, and at which nothing has arrived. Its clock is at 0.
     pub fn new(alloc: A, opens: Vec<u16, A>) -> Self
         ensures { result ≡ record { opens = opens.items; inbox = []; log = []; telling = true; failures = 0; fails_in = 0; time = 0 } }
     {
@@ -54,12 +54,12 @@ impl<A: Allocator + Copy> MemoryWire<A> {
         }
     }
 
-    /// A datagram of at most `RECEIVE_SIZE` bytes comes to a port. `receive` gives it after those that came to the port
-    /// before.
+    /// Puts a datagram of at most `RECEIVE_SIZE` bytes at a port. `receive` returns it after those that arrived at the
+    /// port before it.
     ///
     /// # Errors
     ///
-    /// Out of memory: nothing has come.
+    /// Out of memory: nothing changes.
     pub fn arrive(
         &mut self,
         alloc: A,
@@ -76,8 +76,8 @@ impl<A: Allocator + Copy> MemoryWire<A> {
         Ok(())
     }
 
-    /// Lets call number `n` from now fail, counted from 1 over `open`, `close`, `receive` and `send`. It takes no port
-    /// and no datagram. This replaces what an earlier call of `fail_at` asked for; 0 lets none fail.
+    /// Makes the `n`-th call from now fail, counted from 1 over `open`, `close`, `receive` and `send`. That call takes
+    /// no port and no datagram. This replaces what an earlier call of `fail_at` asked for; with 0 no call fails.
     pub fn fail_at(&mut self, n: u64)
         ensures { self.new ≡ record self.old { fails_in = n } }
     {
@@ -91,14 +91,14 @@ impl<A: Allocator + Copy> MemoryWire<A> {
         self.time = time;
     }
 
-    /// An entry for each call, in order, as long as `telling`.
+    /// An entry for each call, in order, as long as the wire is `telling`.
     pub fn log(&self) -> &[Entry<A>]
         ensures { entries_of result.now ≡ self.now.log }
     {
         self.log.as_slice()
     }
 
-    /// Whether the log has an entry for each call. It has not once there was no memory for an entry.
+    /// Whether the log has an entry for each call. It stops once there is no memory for an entry.
     pub fn telling(&self) -> bool
         ensures { result ≡ self.now.telling }
     {
@@ -106,7 +106,7 @@ impl<A: Allocator + Copy> MemoryWire<A> {
     }
 }
 
-// The next port to be opened, which leaves the list.
+// Takes the next port to be opened from the list.
 fn take_next<A: Allocator>(opens: &mut Vec<u16, A>) -> Option<u16>
     ensures port { result ≡ first_port opens.old.items }
     ensures left { opens.new.items ≡ drop 1 opens.old.items }
@@ -117,14 +117,14 @@ fn take_next<A: Allocator>(opens: &mut Vec<u16, A>) -> Option<u16>
     Some(opens.remove(0))
 }
 
-// Where the oldest datagram is that has come to a port.
+// The place of the oldest datagram at a port.
 fn first_at<A: Allocator>(inbox: &[Arrival<A>], port: u16) -> Option<usize>
     ensures { result ≡ position (λ a. a.port == port) inbox.now }
 {
     inbox.iter().position(|arrival| arrival.port == port)
 }
 
-// The oldest datagram that has come to a port, which leaves the inbox.
+// Takes the oldest datagram at a port from the inbox.
 fn take_first<A: Allocator>(inbox: &mut Vec<Arrival<A>, A>, port: u16) -> Option<Arrival<A>>
     ensures first { option_map waiting_of result ≡ first_to port (map waiting_of inbox.old.items) }
     ensures left { map waiting_of inbox.new.items ≡ without_first port (map waiting_of inbox.old.items) }
@@ -136,7 +136,7 @@ fn take_first<A: Allocator>(inbox: &mut Vec<Arrival<A>, A>, port: u16) -> Option
 }
 
 impl<A: Allocator> MemoryWire<A> {
-    // Whether this call is to fail.
+    // Counts a call. Returns whether it is to fail.
     fn is_failing(&mut self) -> bool
         ensures result { result ≡ (self.old.fails_in == 1) }
         ensures left { self.new ≡ counts_call self.old }
@@ -148,7 +148,7 @@ impl<A: Allocator> MemoryWire<A> {
         failing
     }
 
-    // One more failure.
+    // Counts a failure.
     fn rise(&mut self)
         ensures { self.new ≡ rises self.old }
     {
@@ -157,7 +157,7 @@ impl<A: Allocator> MemoryWire<A> {
         }
     }
 
-    // Writes a call down; false where there is no memory for that.
+    // Logs a call. Returns false, and stops telling, if there is no memory for the entry.
     fn note(&mut self, entry: Entry<A>) -> bool
         ensures { self.new ≡ notes result (entry_of entry) self.old }
     {
@@ -168,7 +168,7 @@ impl<A: Allocator> MemoryWire<A> {
         done
     }
 
-    // Tells the caller of `receive` that nothing has come.
+    // Ends a `receive` that found nothing.
     fn give_none(&mut self, port: u16) -> Result<Option<(usize, Endpoint)>, WireFault>
         ensures log { Grows (log_of self.old) (log_of self.new) ((if is_ok result then quiet port else failed port) ∷ []) }
         ensures none { IfOk result (λ got. got ≡ None) }
@@ -185,7 +185,7 @@ impl<A: Allocator> MemoryWire<A> {
         Err(WireFault::Receive)
     }
 
-    // Gives a datagram to the caller of `receive`.
+    // Hands a datagram to the caller of `receive`.
     fn give(
         &mut self,
         port: u16,
@@ -319,7 +319,7 @@ fn lesser_of(least: Option<u16>, port: u16) -> Option<u16>
     }
 }
 
-// The least port above this one to which something has come, or the least of all.
+// The least port above `after` at which a datagram waits, or the least of all such ports.
 fn next_at<A: Allocator>(inbox: &[Arrival<A>], after: u16) -> Option<u16>
     ensures { result ≡ next_ready after (map waiting_of inbox.now) }
 {
@@ -334,7 +334,7 @@ fn next_at<A: Allocator>(inbox: &[Arrival<A>], after: u16) -> Option<u16>
     above.or(least)
 }
 
-// The time when a wait ends: where nothing has come, the clock goes on to the moment that is waited for.
+// The time when a wait ends: if nothing has arrived, the clock advances to the moment that is waited for.
 fn end_of_wait(ready: Option<u16>, until: Option<u64>, time: u64) -> u64
     ensures { result ≡ time_after ready until time }
 {

@@ -14,8 +14,7 @@ use std::alloc::{Allocator, Global};
 use std::marker::Model;
 use tftp_packet::{Endpoint, Out};
 
-/// A put that runs over a wire: its client, the port that it has there, and how many quiet turns are left until it times
-/// out.
+/// A put that runs over a wire: its client, its port there, and how many quiet turns are left until it times out.
 #[derive(Drop)]
 #[derive_where(Debug)]
 pub struct PutRun<A: Allocator + Copy = Global> {
@@ -45,12 +44,12 @@ pub(crate) fn left_now(out: &Option<Out>, left: u64) -> u64
 }
 
 impl<A: Allocator + Copy> PutRun<A> {
-    /// Opens a port and sends the request from there to put this file. The server is at the host and the request port of
-    /// `server`. A request that is not sent is a loss.
+    /// Opens a port and sends from there the request to put this file. `server` is the server's host and request port.
+    /// A request that is not sent is a loss.
     ///
     /// # Errors
     ///
-    /// `Socket` where no port was opened; `Transfer(TooLong)` exactly where one was and the file has more than `MAX_FILE`
+    /// `Socket` if no port was opened; `Transfer(TooLong)` exactly if one was and the file has more than `MAX_FILE`
     /// bytes, and the port is closed again. The file is dropped.
     pub fn begin<W: Wire>(
         wire: &mut W,
@@ -79,7 +78,7 @@ impl<A: Allocator + Copy> PutRun<A> {
         }
     }
 
-    // A datagram has come.
+    // Handles a datagram.
     fn hear<W: Wire>(&mut self, wire: &mut W, from: Endpoint, bytes: &[u8])
         ensures { MakesRan (λ ok. run_heard from bytes.now granted self.old ok) self.new (W.log wire.old) (W.log wire.new) }
     {
@@ -88,7 +87,7 @@ impl<A: Allocator + Copy> PutRun<A> {
         send(wire, &out);
     }
 
-    // A quiet turn.
+    // Handles a quiet turn.
     fn wait<W: Wire>(&mut self, wire: &mut W)
         ensures { MakesRan (λ ok. run_quiet self.old ok) self.new (W.log wire.old) (W.log wire.new) }
     {
@@ -101,8 +100,8 @@ impl<A: Allocator + Copy> PutRun<A> {
         }
     }
 
-    /// One turn: receives, and sends what the client answers. It times out after `QUIET_TURNS` quiet turns since it began
-    /// or last sent.
+    /// Makes one turn: receives, and sends what the client returns. The client times out after `QUIET_TURNS` quiet
+    /// turns since it began or last sent.
     pub fn turn<W: Wire>(&mut self, wire: &mut W)
         ensures { MakesRunTurn self.old self.new (W.log wire.old) (W.log wire.new) }
     {
@@ -121,7 +120,7 @@ impl<A: Allocator + Copy> PutRun<A> {
         &self.put
     }
 
-    /// Makes turns until the client is over, at most this many.
+    /// Makes turns until the client is over, at most `turns`.
     pub(crate) fn turns<W: Wire>(&mut self, wire: &mut W, turns: u64)
         ensures { MakesRunTurns turns self.old self.new (W.log wire.old) (W.log wire.new) }
     {

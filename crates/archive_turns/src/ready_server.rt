@@ -40,14 +40,14 @@ impl<A: Allocator + Copy> Model for ReadyServer<A> {
     ghost invariant = { λ s. Tracks s.table s.timers };
 }
 
-// When a port times out that was opened or has sent at this time.
+// When a port that was opened or sent at `time` times out.
 fn deadline_at(time: u64) -> u64
     ensures { result ≡ deadline time }
 {
     time.saturating_add(TIMEOUT)
 }
 
-// The port that is noted as the last one.
+// The port to note as the last one visited.
 fn noted_port(last: u16, port: Option<u16>) -> u16
     ensures { result ≡ noted_or last port }
 {
@@ -64,7 +64,7 @@ fn is_request<A: Allocator + Copy>(table: &Table<A>, port: u16) -> bool
     port == table.request()
 }
 
-// A visit to a port, which may be the request port.
+// Visits a port, which may be the request port.
 fn visit_port<A: Allocator + Copy, W: Wire, K: Keeper>(
     table: &mut Table<A>,
     wire: &mut W,
@@ -81,7 +81,7 @@ fn visit_port<A: Allocator + Copy, W: Wire, K: Keeper>(
     }
 }
 
-// A visit to the port that is ready, if one is.
+// Visits the ready port, if there is one.
 fn visit_ready<A: Allocator + Copy, W: Wire, K: Keeper>(
     table: &mut Table<A>,
     wire: &mut W,
@@ -97,7 +97,7 @@ fn visit_ready<A: Allocator + Copy, W: Wire, K: Keeper>(
     }
 }
 
-// After a visit: the timers follow it, and the ports that are due time out.
+// Ends a round: updates the timers after the visit, and lets the ports that are due time out.
 fn end_round<A: Allocator + Copy, W: Wire>(
     table: &mut Table<A>,
     wire: &mut W,
@@ -117,8 +117,8 @@ fn end_round<A: Allocator + Copy, W: Wire>(
 }
 
 impl<A: Allocator + Copy> ReadyServer<A> {
-    /// A server with this request port, empty collections and no transfer, which has visited no port yet. It takes no
-    /// memory.
+    /// Returns a server with this request port, empty collections and no transfer, which has visited no port yet. Does
+    /// not allocate.
     pub fn new(alloc: A, request: u16) -> Self
         ensures request { result.table.request ≡ request }
         ensures lynx { result.table.maps.lynx ≡ record { «ruleset» = Lynx; entries = [] } }
@@ -130,8 +130,8 @@ impl<A: Allocator + Copy> ReadyServer<A> {
         Self::of(Table::new(alloc, request))
     }
 
-    /// A server like that of `new`, with the collections that a keeper has, empty where it has none. Nothing is
-    /// kept.
+    /// Returns a server like that of `new`, with the collections that a keeper has, empty where it has none. Keeps
+    /// nothing.
     ///
     /// # Errors
     ///
@@ -166,7 +166,7 @@ impl<A: Allocator + Copy> ReadyServer<A> {
         }
     }
 
-    /// One round: waits for a port that is ready, visits it, and lets each transfer time out that was opened or last sent
+    /// Makes one round: waits for a ready port, visits it, and lets each transfer time out that was opened or last sent
     /// `TIMEOUT` milliseconds ago or earlier. Returns whether a file was taken.
     pub fn round<W: ReadyWire, K: Keeper>(&mut self, wire: &mut W, keeper: &mut K) -> bool
         ensures { MakesRound self.old self.new result (W.log wire.old) (W.log wire.new) (K.log keeper.old) (K.log keeper.new) }

@@ -3,19 +3,19 @@ ghost use Rattle.archive_turns.specs.Wire.{Grows, waited};
 
 use crate::wire::Wire;
 
-/// What a wait for ready ports gives.
+/// The result of a wait for ready ports.
 #[derive(Clone, Copy, Debug, PartialEq, Eq)]
 pub struct Ready {
-    /// The port that has a datagram, if one has.
+    /// The port at which a datagram waits, if any.
     pub port: Option<u16>,
     /// The time of the wire's clock, in milliseconds.
     pub time: u64,
 }
 
-/// A wire that tells which port is ready, and has a clock.
+/// A wire that reports which port is ready, and has a clock.
 pub trait ReadyWire: Wire {
-    /// Waits until a datagram has come to a port, or until the moment `until` of the wire's clock, if there is one. Gives
-    /// the next ready port above `after`, or the least of all if there is none above, and the time.
+    /// Waits until a datagram arrives at a port, or until the moment `until` of the wire's clock, if there is one.
+    /// Returns the next ready port above `after`, or the least of all if there is none above, and the time.
     fn wait(&mut self, after: u16, until: Option<u64>) -> Ready
         ensures { Grows (Self.log self.old) (Self.log self.new) (waited after until result.port result.time ∷ []) };
 }

@@ -1,7 +1,7 @@
 use archive_client::Cause;
 use thiserror::Error;
 
-/// Why a run of a client did not do what it was to do.
+/// Why a run of a client failed.
 #[derive(Clone, Copy, Debug, PartialEq, Eq, Error)]
 pub enum RunFault {
     /// No port was opened.
@@ -10,10 +10,10 @@ pub enum RunFault {
     /// The transfer failed, or had not ended when its turns were used up.
     #[error("{0}")]
     Transfer(Cause),
-    /// Out of memory for what came.
+    /// Out of memory for a received block.
     #[error("Memory")]
     Memory,
-    /// The file was not written to its end.
+    /// The file was not written completely.
     #[error("Write")]
     Write,
 }

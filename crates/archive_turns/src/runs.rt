@@ -13,7 +13,7 @@ use std::io::Write;
 use tftp_packet::Endpoint;
 use tws_file::Ruleset;
 
-// Why a client failed.
+// The fault of a run whose client failed with this cause.
 fn fault(why: Cause) -> RunFault
     ensures { result ≡ fault_of why }
 {
@@ -23,7 +23,7 @@ fn fault(why: Cause) -> RunFault
     }
 }
 
-// What a put answers whose client is so far.
+// The result of a put whose client ends in this state.
 fn put_answer(state: State, len: u64) -> Result<u64, RunFault>
     ensures { result ≡ put_result state len }
 {
@@ -34,13 +34,13 @@ fn put_answer(state: State, len: u64) -> Result<u64, RunFault>
     }
 }
 
-/// Puts a file: begins, and makes turns until the client is over, at most this many. Returns how many bytes it has. The
-/// server is at the host and the request port of `server`.
+/// Puts a file: begins, and makes turns until the client is over, at most `turns`. Returns the file's length in bytes.
+/// `server` is the server's host and request port.
 ///
 /// # Errors
 ///
-/// Those of `PutRun::begin`. Else the cause with which the client failed, out of memory as `Memory`; a client that still
-/// runs when its turns are used up has timed out.
+/// Those of `PutRun::begin`. Otherwise the cause with which the client failed, out of memory as `Memory`; a client that
+/// still runs when its turns are used up has timed out.
 pub fn run_put<A: Allocator + Copy, W: Wire>(
     wire: &mut W,
     server: Endpoint,
@@ -56,7 +56,7 @@ pub fn run_put<A: Allocator + Copy, W: Wire>(
     }
 }
 
-// The turns of a put that has begun, and what it answers.
+// Makes the turns of a put that has begun. Returns its result.
 fn end_put<A: Allocator + Copy, W: Wire>(
     wire: &mut W,
     run: PutRun<A>,
@@ -70,14 +70,14 @@ fn end_put<A: Allocator + Copy, W: Wire>(
     put_answer(run.client().state(), len)
 }
 
-/// Gets the collection of a ruleset and writes it: begins, and makes turns until the client is over, at most this many;
-/// then writes what came, if all of it came. Returns how many bytes it has.
+/// Gets the collection of a ruleset and writes it: begins, and makes turns until the client is over, at most `turns`;
+/// then writes the file, if all of it was received. Returns its length in bytes.
 ///
 /// # Errors
 ///
-/// `Socket` where no port was opened; the cause with which the client failed, out of memory as `Memory`; a client that
-/// still waits for the file when its turns are used up has timed out. Then nothing is written. `Write` where the writer
-/// fails: a proper prefix of the file was written.
+/// `Socket` if no port was opened; the cause with which the client failed, out of memory as `Memory`; a client that
+/// still waits for the file when its turns are used up has timed out. In these cases nothing is written. `Write` if the
+/// writer fails: a proper prefix of the file was written.
 pub fn run_get<A: Allocator + Copy, W: Wire, O: Write>(
     alloc: A,
     wire: &mut W,
@@ -94,7 +94,7 @@ pub fn run_get<A: Allocator + Copy, W: Wire, O: Write>(
     }
 }
 
-// The turns of a get that has begun, and what it writes and answers.
+// Makes the turns of a get that has begun, and writes its file. Returns its result.
 fn end_get<A: Allocator + Copy, W: Wire, O: Write>(
     wire: &mut W,
     run: GetRun<A>,
@@ -108,7 +108,7 @@ fn end_get<A: Allocator + Copy, W: Wire, O: Write>(
     write_got(run.into_client(), out)
 }
 
-// Writes what a get has got.
+// Writes the file that a get has fetched.
 fn write_got<A: Allocator + Copy, O: Write>(get: Get<A>, out: &mut O) -> Result<u64, RunFault>
     ensures { WritesGot get result (O.contents out.old) (O.contents out.new) }
 {
@@ -121,7 +121,7 @@ fn write_got<A: Allocator + Copy, O: Write>(get: Get<A>, out: &mut O) -> Result<
     }
 }
 
-// Why a get whose client is so far has no file.
+// Why a get whose client ends in this state has no file.
 fn get_fault(state: State) -> RunFault
     ensures { result ≡ unfinished state }
 {

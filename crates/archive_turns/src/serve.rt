@@ -9,7 +9,7 @@ use crate::wire::Wire;
 use archive_table::Keeper;
 use std::alloc::Allocator;
 
-// One more file is taken, or none.
+// Counts a file, if one was taken.
 fn counted(taken: u64, took: bool) -> u64
     requires { taken < u64.MAX }
     ensures count { result ≡ count_if took taken }

@@ -39,14 +39,14 @@ impl<A: Allocator + Copy> Model for Server<A> {
     ghost invariant = { λ s. Tracks s.table s.timers };
 }
 
-// The port that is visited next; none is the request port.
+// The port to visit next; `None` means the request port.
 fn next_port<A: Allocator + Copy>(table: &Table<A>, last: u16) -> Option<u16>
     ensures { result ≡ port_above last table.now }
 {
     table.next_port(last)
 }
 
-// A visit to a transfer's port, or to the request port.
+// Visits a transfer's port, or the request port if `port` is `None`.
 fn visit<A: Allocator + Copy, W: Wire, K: Keeper>(
     table: &mut Table<A>,
     wire: &mut W,
@@ -62,7 +62,7 @@ fn visit<A: Allocator + Copy, W: Wire, K: Keeper>(
     }
 }
 
-// The port that is noted as the last one.
+// The port to note as the last one visited.
 fn noted_port(port: Option<u16>) -> u16
     ensures { result ≡ noted port }
 {
@@ -72,7 +72,7 @@ fn noted_port(port: Option<u16>) -> u16
     }
 }
 
-// After a visit: the timers follow it, and after a quiet turn those that are due time out.
+// Ends a turn: updates the timers after the visit, and lets those that are due after a quiet turn time out.
 fn end_turn<A: Allocator + Copy, W: Wire>(
     table: &mut Table<A>,
     wire: &mut W,
@@ -95,8 +95,8 @@ fn end_turn<A: Allocator + Copy, W: Wire>(
 }
 
 impl<A: Allocator + Copy> Server<A> {
-    /// A server with this request port, empty collections and no transfer, which has visited no port yet. It takes no
-    /// memory.
+    /// Returns a server with this request port, empty collections and no transfer, which has visited no port yet. Does
+    /// not allocate.
     pub fn new(alloc: A, request: u16) -> Self
         ensures request { result.table.request ≡ request }
         ensures lynx { result.table.maps.lynx ≡ record { «ruleset» = Lynx; entries = [] } }
@@ -108,8 +108,8 @@ impl<A: Allocator + Copy> Server<A> {
         Self::of(Table::new(alloc, request))
     }
 
-    /// A server like that of `new`, with the collections that a keeper has, empty where it has none. Nothing is
-    /// kept.
+    /// Returns a server like that of `new`, with the collections that a keeper has, empty where it has none. Keeps
+    /// nothing.
     ///
     /// # Errors
     ///
@@ -144,11 +144,11 @@ impl<A: Allocator + Copy> Server<A> {
         }
     }
 
-    /// One turn: visits the port after the last one. Returns whether a file was taken.
+    /// Makes one turn: visits the port after the last one. Returns whether a file was taken.
     ///
-    /// A datagram at the request port is answered from a spare port, which is opened for it and closed again unless a
-    /// transfer was opened on it. A turn in which nothing came is quiet; a transfer times out after `QUIET_TURNS` quiet
-    /// turns since it was opened or last sent. What fails on the wire is lost or ignored.
+    /// For a datagram at the request port a spare port is opened, and closed again unless a transfer was opened on it.
+    /// A turn in which nothing was received is quiet; a transfer times out after `QUIET_TURNS` quiet turns since it was
+    /// opened or last sent. A failed call of the wire is a loss or is ignored.
     pub fn turn<W: Wire, K: Keeper>(&mut self, wire: &mut W, keeper: &mut K) -> bool
         ensures { MakesTurn self.old self.new result (W.log wire.old) (W.log wire.new) (K.log keeper.old) (K.log keeper.new) }
     {

@@ -3,6 +3,6 @@
 pub(crate) struct Timer {
     /// The port.
     pub(crate) port: u16,
-    /// In the counted server how many quiet turns are left; in the ready server the time, in milliseconds.
+    /// In the server that counts turns, how many quiet turns are left; in the one that waits, the time in milliseconds.
     pub(crate) due: u64,
 }

@@ -9,7 +9,8 @@ use archive_table::LIVE;
 use arrayvec::ArrayVec;
 use std::marker::Model;
 
-/// A timer for each live port, in the order of the ports. They lie in a fixed row of `LIVE` places and take no memory.
+/// A timer for each live port, in the order of the ports. They are in a fixed row of `LIVE` places and allocate
+/// nothing.
 #[derive(Drop)]
 pub(crate) struct Timers {
     row: ArrayVec<Timer, LIVE>,
@@ -24,7 +25,7 @@ impl Model for Timers {
     ghost view = { λ t. t.row.items };
 }
 
-// Where a timer of this port goes.
+// The place in the row for a timer of this port.
 fn place_for(row: &[Timer], port: u16) -> usize
     ensures within { result ≤ length row.now }
     ensures place { (due : ℕ) → with_timer (record { port = port; due = due }) row.now ≡ insert row.now result (record { port = port; due = due }) }
@@ -37,7 +38,7 @@ fn place_for(row: &[Timer], port: u16) -> usize
     row.len()
 }
 
-// Where the timer of this port is.
+// The place in the row of this port's timer.
 fn place_of(row: &[Timer], port: u16) -> Option<usize>
     ensures within { IfSome result (λ i. i < length row.now) }
     ensures place { IfSome result (λ i. without_timer port row.now ≡ remove row.now i) }
@@ -51,7 +52,7 @@ fn place_of(row: &[Timer], port: u16) -> Option<usize>
     None
 }
 
-// A timer, which begins anew if it is that of the port.
+// A timer, restarted if it is that of the port.
 fn begun_anew(timer: Timer, port: u16, due: u64) -> Timer
     ensures { result ≡ renewed port due timer }
 {
@@ -72,7 +73,7 @@ fn one_less(timer: Timer) -> Timer
     }
 }
 
-// The timer of a port begins anew.
+// Restarts the timer of a port.
 fn renew_in(row: &mut [Timer], port: u16, due: u64)
     ensures { row.new ≡ map (renewed port due) row.old }
 {
@@ -81,7 +82,7 @@ fn renew_in(row: &mut [Timer], port: u16, due: u64)
     }
 }
 
-// A quiet turn has passed.
+// Counts a quiet turn.
 fn lower_in(row: &mut [Timer])
     ensures { row.new ≡ map lowered row.old }
 {
@@ -90,7 +91,7 @@ fn lower_in(row: &mut [Timer])
     }
 }
 
-// The lesser of this time and that of a timer.
+// The earlier of this time and that of a timer.
 fn earlier_of(least: Option<u64>, timer: Timer) -> Option<u64>
     ensures { result ≡ earlier least timer }
 {
@@ -101,7 +102,7 @@ fn earlier_of(least: Option<u64>, timer: Timer) -> Option<u64>
 }
 
 impl Timers {
-    /// No timer.
+    /// Returns one without timers.
     pub(crate) fn new() -> Self
         ensures { result ≡ [] }
     {
@@ -110,7 +111,7 @@ impl Timers {
         }
     }
 
-    /// What a visit makes of the timers.
+    /// Updates the timers after a visit.
     pub(crate) fn apply(&mut self, change: Change, due: u64)
         requires { HasRoom change self.old }
         ensures { self.new ≡ timed change due self.old }
@@ -126,7 +127,7 @@ impl Timers {
         }
     }
 
-    /// What a time-out of a port makes of the timers.
+    /// Updates the timers after a time-out of a port.
     pub(crate) fn apply_timeout(&mut self, change: Change, port: u16, due: u64)
         ensures { self.new ≡ timed_out change port due self.old }
     {
@@ -138,14 +139,14 @@ impl Timers {
         }
     }
 
-    // The timer of a port begins anew.
+    // Restarts the timer of a port.
     fn renew(&mut self, port: u16, due: u64)
         ensures { self.new ≡ with_due port due self.old }
     {
         renew_in(self.row.as_mut_slice(), port, due);
     }
 
-    // A port needs no timer any more.
+    // Removes the timer of a port.
     fn remove(&mut self, port: u16)
         ensures { self.new ≡ without_timer port self.old }
     {
@@ -154,14 +155,14 @@ impl Timers {
         }
     }
 
-    /// A quiet turn has passed.
+    /// Counts a quiet turn.
     pub(crate) fn lower(&mut self)
         ensures { self.new ≡ lower self.old }
     {
         lower_in(self.row.as_mut_slice());
     }
 
-    /// The ports that are due by now, in their order.
+    /// The ports that are due by `now`, in order.
     pub(crate) fn due(&self, now: u64) -> ArrayVec<u16, LIVE>
         ensures { result.items ≡ due_ports now self.now }
     {
@@ -174,7 +175,7 @@ impl Timers {
         ports
     }
 
-    /// The least time at which a port is due.
+    /// The earliest time at which a port is due, if there is a port.
     pub(crate) fn earliest(&self) -> Option<u64>
         ensures { result ≡ earliest self.now }
     {

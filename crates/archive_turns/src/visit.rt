@@ -1,4 +1,4 @@
-//! One visit to a port, and one time-out at a port, on the table alone.
+//! One visit to a port, and one time-out at a port, on the table only.
 
 ghost use Rattle.std.specs.Prelude.{◌≡◌, ◌≢◌, not, is_some, None, Some};
 ghost use Rattle.archive_table.specs.Server.{IsServer, transfer_at};
@@ -13,7 +13,7 @@ use archive_table::{Keeper, Step, Table};
 use std::alloc::Allocator;
 use tftp_packet::{Endpoint, Out};
 
-/// What a visit left: whether a file was taken, and what it was for the live ports.
+/// The result of a visit: whether a file was taken, and what changed for the live ports.
 #[derive(Clone, Copy, Debug)]
 pub(crate) struct Visit {
     pub(crate) taken: bool,
@@ -34,7 +34,7 @@ impl Visit {
     };
 }
 
-/// Sends what a step told, if anything. A failure is a loss.
+/// Sends the datagram of a step, if there is one. A failure is a loss.
 pub(crate) fn send<W: Wire>(wire: &mut W, out: &Option<Out>)
     ensures { SendsOut out.now (W.log wire.old) (W.log wire.new) }
 {
@@ -46,7 +46,7 @@ pub(crate) fn send<W: Wire>(wire: &mut W, out: &Option<Out>)
     }
 }
 
-// Closes a port where it is needed no more. A failure is ignored.
+// Closes a port if it is no longer needed. A failure is ignored.
 fn close<W: Wire>(wire: &mut W, closes: bool, port: u16)
     ensures { Acts closes port None (W.log wire.old) (W.log wire.new) }
 {
@@ -55,7 +55,7 @@ fn close<W: Wire>(wire: &mut W, closes: bool, port: u16)
     }
 }
 
-// The calls after a step.
+// Makes the calls after a step.
 fn act<W: Wire>(wire: &mut W, closes: bool, port: u16, out: &Option<Out>)
     ensures { Acts closes port out.now (W.log wire.old) (W.log wire.new) }
 {
@@ -63,7 +63,7 @@ fn act<W: Wire>(wire: &mut W, closes: bool, port: u16, out: &Option<Out>)
     close(wire, closes, port);
 }
 
-// What a step at a transfer's port was for the live ports.
+// What a step at a transfer's port changed for the live ports.
 fn change_at<A: Allocator>(port: u16, step: &Step<A>) -> Change
     ensures { result ≡ transfer_change step.now.closed step.now.out port }
 {
@@ -76,7 +76,7 @@ fn change_at<A: Allocator>(port: u16, step: &Step<A>) -> Change
     }
 }
 
-// After a step at a transfer's port.
+// Ends a step at a transfer's port: makes the calls after it.
 fn end_step<A: Allocator, W: Wire>(wire: &mut W, port: u16, step: &Step<A>) -> Visit
     ensures calls { Acts step.now.closed port step.now.out (W.log wire.old) (W.log wire.new) }
     ensures taken { result.taken ≡ is_some step.now.taken }
@@ -89,7 +89,7 @@ fn end_step<A: Allocator, W: Wire>(wire: &mut W, port: u16, step: &Step<A>) -> V
     }
 }
 
-/// A visit to a transfer's port.
+/// Visits a transfer's port.
 pub(crate) fn visit_transfer<A: Allocator + Copy, W: Wire, K: Keeper>(
     table: &mut Table<A>,
     wire: &mut W,
@@ -110,7 +110,7 @@ pub(crate) fn visit_transfer<A: Allocator + Copy, W: Wire, K: Keeper>(
     }
 }
 
-/// A time-out at a transfer's port.
+/// Handles a time-out at a transfer's port.
 pub(crate) fn time_out<A: Allocator + Copy, W: Wire>(
     table: &mut Table<A>,
     wire: &mut W,
@@ -123,7 +123,7 @@ pub(crate) fn time_out<A: Allocator + Copy, W: Wire>(
     end_step(wire, port, &step).change
 }
 
-// After a request: the spare port is closed again unless a transfer was opened on it.
+// Ends a request: the spare port is closed again unless a transfer was opened on it.
 fn end_request<A: Allocator, W: Wire>(wire: &mut W, spare: u16, step: &Step<A>) -> Visit
     ensures calls { Acts (not step.now.opened) spare step.now.out (W.log wire.old) (W.log wire.new) }
     ensures taken { result.taken ≡ is_some step.now.taken }
@@ -147,7 +147,7 @@ fn is_usable<A: Allocator + Copy>(table: &Table<A>, spare: u16) -> bool
     spare != 0 && spare != table.request() && !table.is_live(spare)
 }
 
-/// A visit to the request port.
+/// Visits the request port.
 pub(crate) fn visit_request<A: Allocator + Copy, W: Wire>(
     table: &mut Table<A>,
     wire: &mut W,
@@ -163,7 +163,7 @@ pub(crate) fn visit_request<A: Allocator + Copy, W: Wire>(
     }
 }
 
-// A datagram of these bytes has come to the request port.
+// Handles a datagram of these bytes, received at the request port.
 fn answer_request<A: Allocator + Copy, W: Wire>(
     table: &mut Table<A>,
     wire: &mut W,
@@ -183,7 +183,7 @@ fn answer_request<A: Allocator + Copy, W: Wire>(
     }
 }
 
-/// Lets each port time out that is due by now, in the order of the ports. Its timer begins anew at `due`, unless its
+/// Lets each port that is due by `now` time out, in the order of the ports. Its timer restarts at `due`, unless its
 /// transfer has ended.
 pub(crate) fn time_out_due<A: Allocator + Copy, W: Wire>(
     table: &mut Table<A>,

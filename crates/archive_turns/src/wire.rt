@@ -5,22 +5,24 @@ ghost use Rattle.archive_turns.specs.Wire.{Entry, Grows, opened, closed, sent, p
 use crate::wire_fault::WireFault;
 use tftp_packet::{Endpoint, Out};
 
-/// How many bytes `receive` takes of a datagram: one more than any packet has, so that a longer one is told from it.
+/// How many bytes of a datagram `receive` takes: one more than any packet has, so that a longer datagram can be
+/// recognised.
 pub const RECEIVE_SIZE: usize = 517;
 
-/// What datagrams are sent and received by: UDP ports on this host.
+/// Sends and receives datagrams: UDP ports on this host.
 pub trait Wire {
-    /// An entry for each call in order, if this wire tells them. Once it stops telling them, it never starts again.
+    /// An entry for each call, in order, if this wire tells its calls. Once it stops telling them, it never starts
+    /// again.
     ghost log: { Self → Option (List Entry) };
 
-    /// How many calls failed so far, up to the greatest u64.
+    /// The number of calls that failed so far, saturating at the greatest u64.
     ghost failed: { Self → ℕ };
 
-    /// Opens a port of its own choice. That the port is fresh is not promised.
+    /// Opens a port that the wire chooses. It need not be a fresh one.
     ///
     /// # Errors
     ///
-    /// `Open`, only where `failures` rose in this call or is the greatest u64.
+    /// `Open`, only if `failures` rose in this call or is the greatest u64.
     fn open(&mut self) -> Result<u16, WireFault>
         ensures log { Grows (log self.old) (log self.new) (opened (port_opened result) ∷ []) }
         ensures fault { IfErr result (λ e. e ≡ WireFault.Open) }
@@ -30,18 +32,18 @@ pub trait Wire {
     ///
     /// # Errors
     ///
-    /// `Close`, only where `failures` rose in this call or is the greatest u64.
+    /// `Close`, only if `failures` rose in this call or is the greatest u64.
     fn close(&mut self, port: u16) -> Result<(), WireFault>
         ensures log { Grows (log self.old) (log self.new) (closed port (was_done result) ∷ []) }
         ensures fault { IfErr result (λ e. e ≡ WireFault.Close) }
         ensures failed { OnErr result (FailsAt (failed self.old) (failed self.new)) };
 
-    /// The next datagram that has come to a port: how many of its bytes are in the buffer, and where it came from. None
-    /// where nothing came within the wire's wait.
+    /// Receives the next datagram at a port. Returns how many of its bytes are in the buffer and the endpoint that it
+    /// came from, or `None` if nothing arrived within the wire's wait.
     ///
     /// # Errors
     ///
-    /// `Receive`, only where `failures` rose in this call or is the greatest u64.
+    /// `Receive`, only if `failures` rose in this call or is the greatest u64.
     fn receive(
         &mut self,
         port: u16,
@@ -56,13 +58,13 @@ pub trait Wire {
     ///
     /// # Errors
     ///
-    /// `Send`, only where `failures` rose in this call or is the greatest u64.
+    /// `Send`, only if `failures` rose in this call or is the greatest u64.
     fn send(&mut self, out: &Out) -> Result<(), WireFault>
         ensures log { Grows (log self.old) (log self.new) (sent out.now (was_done result) ∷ []) }
         ensures fault { IfErr result (λ e. e ≡ WireFault.Send) }
         ensures failed { OnErr result (FailsAt (failed self.old) (failed self.new)) };
 
-    /// How many calls failed so far, up to the greatest u64.
+    /// The number of calls that failed so far, saturating at the greatest u64.
     fn failures(&self) -> u64
         ensures { result ≡ failed self.now };
 }
