@@ -21,7 +21,7 @@ marked Nothing = Nothing
 marked Perhaps = Reported
 marked Reported = Reported
 
--- a port that was read is to be read again
+-- a port that was read is marked as ready again
 abbrev pub marked_read : OpenPort → OpenPort
 marked_read o = record o { arrival = marked o.arrival }
 
@@ -29,7 +29,7 @@ abbrev pub lesser_if : Bool → Option ℕ → ℕ → Option ℕ
 lesser_if true least port = lesser least port
 lesser_if false least port = least
 
--- the least of the ports that are ready, and the least of those above this one
+-- the least ready port, and the least one above `after`
 abbrev pub ready_least : List OpenPort → Option ℕ
 ready_least ports = fold (λ least o. lesser_if (is_reported o.arrival) least o.port) None ports
 
@@ -37,11 +37,11 @@ abbrev pub ready_above : (after : ℕ) → List OpenPort → Option ℕ
 ready_above after ports =
     fold (λ least o. lesser_if (is_reported o.arrival && nat_lt after o.port) least o.port) None ports
 
--- whether a datagram may have come to one of the ports that was not read
+-- whether one of the ports may have a datagram that was not read
 abbrev pub one_may_have_more : List OpenPort → Bool
 one_may_have_more ports = fold (λ found o. may_have_more o.arrival || found) false ports
 
--- the port of this number is open no more, or there was none
+-- the port with this number is no longer open, or there was none
 abbrev pub Closes : (port : ℕ) (was_open : Bool) (old new : List OpenPort) → Type 0
 Closes port true old new =
     (i : ℕ) × (o : OpenPort) × (slice_get old i ≡ Some o) × (o.port ≡ port) × (new ≡ remove old i)

@@ -1,7 +1,7 @@
-/// What is known of the datagrams that have come to a port and were not read. The system reports an arrival once.
+/// What is known about the unread datagrams at a port. The system reports an arrival only once.
 #[derive(Clone, Copy, Debug, PartialEq, Eq)]
 pub(crate) enum Arrival {
-    /// There is none of which the system has reported.
+    /// There is none that the system has reported.
     Nothing,
     /// One was read since the last report, so there may be more.
     Perhaps,

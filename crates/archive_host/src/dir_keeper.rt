@@ -14,8 +14,9 @@ use tws_best::Collection;
 use tws_file::Ruleset;
 
 /// A keeper that has the collection of each ruleset in a file of a folder: `lynx.tws` and `ms.tws`. A collection is
-/// written whole to `lynx.new` or `ms.new`, synced, and renamed over the last one, so a stop at any moment leaves one or
-/// the other. A `.new` that is left from such a stop is written over by the next keep, and never loaded. It tells nothing.
+/// written whole to `lynx.new` or `ms.new`, synced, and renamed over the last one, so a stop at any moment leaves one
+/// or the other. A `.new` file left by such a stop is overwritten by the next keep, and never loaded. The keeper tells
+/// nothing.
 #[derive(Drop)]
 pub struct DirKeeper<R: Files + AllocGlobal + Copy> {
     rt: R,
@@ -31,7 +32,7 @@ fn names(kind: Ruleset) -> (&'static str, &'static str) {
     }
 }
 
-// Why a call of the system or of std failed. An error of the system has a number, whatever it is about.
+// The fault for an error of the system or of std. Only errors raised by std itself lack an OS error code.
 fn fault_of(e: io::Error) -> KeepFault {
     if e.kind() == ErrorKind::OutOfMemory && e.raw_os_error().is_none() {
         KeepFault::Memory
@@ -41,7 +42,7 @@ fn fault_of(e: io::Error) -> KeepFault {
 }
 
 impl<R: Files + AllocGlobal + Copy> DirKeeper<R> {
-    /// A keeper over this folder. It touches no file and takes no memory.
+    /// Returns a keeper over this folder. It accesses no file and does not allocate.
     pub fn new(rt: R, dir: String) -> Self
         ensures dir { result.dir ≡ dir }
         ensures failures { result.failures ≡ 0 }
@@ -53,7 +54,7 @@ impl<R: Files + AllocGlobal + Copy> DirKeeper<R> {
         }
     }
 
-    // The path of a file of the folder.
+    // The path of a file in the folder.
     fn path(&self, name: &str) -> Result<PathBuf, KeepFault>
         ensures { IfErr result (λ e. e ≡ KeepFault.Memory) }
     {
@@ -63,7 +64,7 @@ impl<R: Files + AllocGlobal + Copy> DirKeeper<R> {
         }
     }
 
-    // Counts a call of the device that failed.
+    // Counts a fault if the device failed.
     fn count(&mut self, fault: KeepFault)
         ensures more { self.old.failures ≤ self.new.failures }
         ensures device { fault ≡ KeepFault.Device → FailsAt self.old.failures self.new.failures }
@@ -86,15 +87,15 @@ impl<R: Files + AllocGlobal + Copy> DirKeeper<R> {
         file.sync_all().map_err(fault_of)
     }
 
-    // Renames a file over another, and syncs the folder, so that the new name outlives a loss of power. The folder is opened
-    // before that: once the file has its new name, only the sync can fail.
+    // Renames a file over another, and syncs the folder, so that the new name survives a loss of power. The folder is
+    // opened first: once the file has its new name, only the sync can fail.
     fn rename(&self, from: Path<'_>, to: Path<'_>) -> Result<(), KeepFault> {
         let folder = fs::open(&self.rt, self.dir.as_str()).map_err(fault_of)?;
         fs::rename(&self.rt, from, to).map_err(fault_of)?;
         folder.sync_all().map_err(fault_of)
     }
 
-    // `keep` without the count of failures.
+    // `keep` without counting failures.
     fn keep_in<A: Allocator>(
         &self,
         kind: Ruleset,
@@ -107,7 +108,7 @@ impl<R: Files + AllocGlobal + Copy> DirKeeper<R> {
         self.rename(new.as_path(), last.as_path())
     }
 
-    // `load` without the count of failures.
+    // `load` without counting failures.
     fn load_from<A: Allocator>(
         &self,
         alloc: A,

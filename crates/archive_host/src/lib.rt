@@ -1,10 +1,10 @@
 //! What touches the system: a wire over UDP sockets, and a keeper over a folder.
 //!
-//! No clause can say what a socket or a file gives or takes. What is proved is that each call ends if the system's calls
-//! do, that a fault of the wire has the name of its call, and that failures are counted. The rest is tested.
+//! No clause can say what a socket or a file does. What is proved is that each call ends if the system's calls do, that
+//! a fault of the wire is named after its call, and that failures are counted. The rest is tested.
 //!
-//! `specs/Arrivals.antt` is the file to read first: which port is read next, and which are open. docs/CALLING.md says how
-//! the crate is called.
+//! Read `specs/Arrivals.antt` first: which port is read next, and which are open. docs/CALLING.md shows how the crate
+//! is called.
 #![tactic(auto)]
 
 mod arrival;

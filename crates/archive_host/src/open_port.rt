@@ -20,11 +20,11 @@ pub(crate) struct OpenPort {
 }
 
 impl OpenPort {
-    /// Opens a port at every address of this host, and has the poll report what comes to it.
+    /// Opens a port at every address of this host, and has the poll report what arrives there.
     ///
     /// # Errors
     ///
-    /// Those of the system. The port is not open then.
+    /// Those of the system. The port is then not open.
     pub(crate) fn open<N: Net>(net: &N, poll: &Poll, port: u16) -> io::Result<Self>
         ensures { IfOk result (λ o. o.port ≡ port) }
     {
@@ -47,7 +47,7 @@ impl OpenPort {
         self.port
     }
 
-    /// Whether a datagram was reported and none was read since.
+    /// Whether a datagram was reported and none has been read since.
     pub(crate) fn is_ready(&self) -> bool
         ensures { result ≡ is_reported self.now.arrival }
     {
@@ -57,14 +57,14 @@ impl OpenPort {
         }
     }
 
-    /// Notes that a datagram has come.
+    /// Notes that a datagram was reported.
     pub(crate) fn mark(&mut self)
         ensures { self.new ≡ record self.old { arrival = Reported } }
     {
         self.arrival = Arrival::Reported;
     }
 
-    /// Whether a datagram may have come that was not read.
+    /// Whether there may be a datagram that was not read.
     pub(crate) fn may_have_more(&self) -> bool
         ensures { result ≡ may_have_more self.now.arrival }
     {
@@ -74,7 +74,7 @@ impl OpenPort {
         }
     }
 
-    /// A port that was read is to be read again.
+    /// Marks the port as ready again if it was read.
     pub(crate) fn mark_read(&mut self)
         ensures { self.new ≡ marked_read self.old }
     {
@@ -83,12 +83,12 @@ impl OpenPort {
         }
     }
 
-    /// The oldest datagram that was not read: how many of its bytes are in the buffer, and where it came from. None if
-    /// there is none. It does not wait.
+    /// Reads the oldest unread datagram, without waiting. Returns how many of its bytes are in the buffer and the
+    /// endpoint that it came from, or `None` if there is none.
     ///
     /// # Errors
     ///
-    /// Those of the system. A later call may give a datagram.
+    /// Those of the system. A later call may return a datagram.
     pub(crate) fn read(
         &mut self,
         buffer: &mut [u8; RECEIVE_SIZE],

@@ -21,7 +21,7 @@ fn lesser(least: Option<u16>, port: u16) -> Option<u16>
     }
 }
 
-// Marks those that were read.
+// Marks the ports that were read as ready again.
 fn mark_read_in(ports: &mut [OpenPort])
     ensures { ports.new ≡ map marked_read ports.old }
 {
@@ -31,7 +31,7 @@ fn mark_read_in(ports: &mut [OpenPort])
 }
 
 impl OpenPorts {
-    /// No port. It takes no memory.
+    /// Returns one without ports. Does not allocate.
     pub(crate) fn new(alloc: Global) -> Self {
         OpenPorts {
             ports: Vec::new(alloc),
@@ -42,7 +42,7 @@ impl OpenPorts {
     ///
     /// # Errors
     ///
-    /// Out of memory: the port is closed again, the others are as they were.
+    /// Out of memory: the port is closed again, and the others do not change.
     pub(crate) fn push(&mut self, port: OpenPort) -> Result<(), AllocError>
         ensures ok { OnOk result (self.new.ports.items ≡ self.old.ports.items ++ port ∷ []) }
         ensures err { OnErr result (self.new.ports.items ≡ self.old.ports.items) }
@@ -51,7 +51,7 @@ impl OpenPorts {
         Ok(())
     }
 
-    // Where a port is.
+    // The place of a port in the list.
     fn place(&self, port: u16) -> Option<usize>
         ensures within { IfSome result (λ i. i < length self.now.ports.items) }
         ensures port { IfSome result (λ i. (o : _) → slice_get self.now.ports.items i ≡ Some o → o.port ≡ port) }
@@ -60,7 +60,7 @@ impl OpenPorts {
         self.ports.iter().position(|open| open.port() == port)
     }
 
-    /// The open port of this number.
+    /// The open port with this number.
     pub(crate) fn get(&self, port: u16) -> Option<&OpenPort>
         ensures { IfSome result (λ o. o.now.port ≡ port) }
     {
@@ -68,7 +68,7 @@ impl OpenPorts {
         Some(&self.ports[place])
     }
 
-    /// The open port of this number, to be changed.
+    /// The open port with this number, to be changed.
     pub(crate) fn get_mut(&mut self, port: u16) -> Option<&mut OpenPort>
         ensures { IfSome result (λ o. o.now.port ≡ port) }
     {
@@ -89,7 +89,7 @@ impl OpenPorts {
         }
     }
 
-    /// The least port above this one that is ready.
+    /// The least ready port above `after`.
     pub(crate) fn ready_above(&self, after: u16) -> Option<u16>
         ensures { result ≡ ready_above after self.now.ports.items }
     {
@@ -102,7 +102,7 @@ impl OpenPorts {
         least
     }
 
-    /// The least port that is ready.
+    /// The least ready port.
     pub(crate) fn ready_least(&self) -> Option<u16>
         ensures { result ≡ ready_least self.now.ports.items }
     {
@@ -115,7 +115,7 @@ impl OpenPorts {
         least
     }
 
-    /// Whether a datagram may have come to a port that was not read.
+    /// Whether one of the ports may have a datagram that was not read.
     pub(crate) fn may_have_more(&self) -> bool
         ensures { result ≡ one_may_have_more self.now.ports.items }
     {

@@ -4,10 +4,10 @@ ghost use Rattle.archive_host.specs.declared.port_range.TheConstants.{FIRST};
 // The least port for private use, RFC 6335 section 6. The greatest is 65535.
 const FIRST: u16 = 49152;
 
-// How many ports that are.
+// The number of ports in the range.
 const COUNT: u16 = 16384;
 
-/// The ports for private use, 49152 to 65535, in turn: each comes again only after all others.
+/// The ports for private use, 49152 to 65535, in turn: each is taken again only after all the others.
 #[derive(Drop)]
 pub(crate) struct PortRange {
     next: u16,
@@ -15,10 +15,10 @@ pub(crate) struct PortRange {
 }
 
 impl PortRange {
-    /// How many ports there are.
+    /// The number of ports in the range.
     pub(crate) const LEN: u16 = COUNT;
 
-    /// The ports from this place on, where places begin again after the last.
+    /// Returns the ports from this place on. After the last place the range starts over.
     pub(crate) fn from_place(place: u32) -> Self
         ensures { result.next ≡ FIRST + place % COUNT }
     {
@@ -27,7 +27,7 @@ impl PortRange {
         }
     }
 
-    /// The next port. After the greatest comes the least.
+    /// Takes the next port. After the greatest the least follows.
     pub(crate) fn take(&mut self) -> u16
         ensures port { result ≡ self.old.next }
         ensures next { self.old.next < 65535 → self.new.next ≡ self.old.next + 1 }

@@ -16,20 +16,20 @@ use std::net::Net;
 use std::time::Clock;
 use tftp_packet::{Endpoint, Out};
 
-// How long `receive` waits, in milliseconds.
+// How long `receive` waits at most, in milliseconds.
 const WAIT: u64 = 5;
 
-// How often `receive` looks at the system in that time. Each arrival at another port ends a look, and a system whose clock
-// or reports fail would end none.
+// How many times `receive` looks at the system in that time, at most. Each arrival at another port ends a look, and the
+// wait might never end if the system's clock or reports failed.
 const LOOKS: u32 = 1000;
 
-// In one of so many laps over the ports, those that were read are read again.
+// In every `LAPS`th lap over the ports, those that were read are read again.
 const LAPS: u8 = 16;
 
-/// A wire over UDP and IPv4, whose ports are open at every address of this host. `receive` waits 5 ms at most, and not at
-/// all at the port that `wait` has just given. To `wait` a port that was just read is ready again only where no other is, or
-/// in every sixteenth lap over the ports, and it may turn out to have nothing. Its clock is in milliseconds. It does not
-/// tell its log.
+/// A wire over UDP and IPv4, whose ports are open at every address of this host. `receive` waits 5 ms at most, and not
+/// at all at the port that `wait` has just returned. For `wait`, a port that was just read is ready again only if no
+/// other is, or in every sixteenth lap over the ports, and it may turn out to have nothing. The clock is in
+/// milliseconds. The wire does not tell its log.
 #[derive(Drop)]
 pub struct UdpWire<R: Net + Clock + AllocGlobal + Copy> {
     rt: R,
@@ -43,8 +43,8 @@ pub struct UdpWire<R: Net + Clock + AllocGlobal + Copy> {
     ghost laps: { lap < LAPS },
 }
 
-// A place that differs from one start of a program to the next, so that a port that was open before a restart is seldom
-// soon open again.
+// A place that differs from one start of the program to the next, so that a port that was open before a restart is
+// seldom opened again soon.
 fn place<R: Clock>(rt: &R) -> u32 {
     match rt.since_1970() {
         Ok(time) => time.subsec_nanos() / 1000,
@@ -53,7 +53,7 @@ fn place<R: Clock>(rt: &R) -> u32 {
 }
 
 impl<R: Net + Clock + AllocGlobal + Copy> UdpWire<R> {
-    /// A wire that has no port. It takes no memory.
+    /// Returns a wire without ports. Does not allocate.
     pub fn new(rt: R) -> Self
         ensures failures { result.failures ≡ 0 }
     {
@@ -69,11 +69,11 @@ impl<R: Net + Clock + AllocGlobal + Copy> UdpWire<R> {
         }
     }
 
-    /// A wire that has this port. At port 0 the system chooses one, which no call names.
+    /// Returns a wire that has this port. At port 0 the system chooses one, which no method names.
     ///
     /// # Errors
     ///
-    /// `Open` where the port cannot be opened.
+    /// `Open` if the port cannot be opened.
     pub fn listen(rt: R, port: u16) -> Result<Self, WireFault>
         ensures failures { IfOk result (λ wire. wire.failures ≡ 0) }
         ensures fault { IfErr result (λ e. e ≡ WireFault.Open) }
@@ -85,7 +85,7 @@ impl<R: Net + Clock + AllocGlobal + Copy> UdpWire<R> {
         }
     }
 
-    // One more failure.
+    // Counts a failure.
     fn rise(&mut self)
         ensures { FailsAt self.old.failures self.new.failures }
     {
@@ -111,7 +111,7 @@ impl<R: Net + Clock + AllocGlobal + Copy> UdpWire<R> {
         }
     }
 
-    // Opens the next port that no other socket has. Any other error of the system ends the search.
+    // Opens the next port that no other socket has. Any error other than `AddrInUse` ends the search.
     fn open_next(&mut self) -> Option<u16>
         ensures failures { self.new.failures ≡ self.old.failures }
     {
@@ -129,7 +129,7 @@ impl<R: Net + Clock + AllocGlobal + Copy> UdpWire<R> {
         None
     }
 
-    // The time of the clock. Where the system does not tell it, the last one.
+    // The time of the clock, or the last known time if the system does not report it.
     fn now(&mut self) -> u64
         ensures failures { self.new.failures ≡ self.old.failures }
     {
@@ -140,7 +140,7 @@ impl<R: Net + Clock + AllocGlobal + Copy> UdpWire<R> {
         self.time
     }
 
-    // Looks at the system, for this many milliseconds at most.
+    // Looks for arrivals, for at most `millis` milliseconds.
     fn look(&mut self, millis: Option<u64>)
         ensures failures { self.new.failures ≡ self.old.failures }
     {
@@ -149,7 +149,7 @@ impl<R: Net + Clock + AllocGlobal + Copy> UdpWire<R> {
         }
     }
 
-    // One read of a port, without a wait.
+    // Reads a port once, without waiting.
     fn read(
         &mut self,
         port: u16,
@@ -164,7 +164,7 @@ impl<R: Net + Clock + AllocGlobal + Copy> UdpWire<R> {
         }
     }
 
-    // Reads a port until something has come or the wait is over.
+    // Reads a port until a datagram arrives or the wait is over.
     fn read_within(
         &mut self,
         port: u16,
@@ -185,7 +185,7 @@ impl<R: Net + Clock + AllocGlobal + Copy> UdpWire<R> {
         Ok(None)
     }
 
-    // How long to wait for a moment, if nothing is left to be read.
+    // How long to wait for the moment `until`: not at all if a datagram may be left to read.
     fn until(&mut self, until: Option<u64>) -> Option<u64>
         ensures failures { self.new.failures ≡ self.old.failures }
         ensures at_once { one_may_have_more self.old.ports.ports.items ≡ true → result ≡ Some 0 }
@@ -198,8 +198,9 @@ impl<R: Net + Clock + AllocGlobal + Copy> UdpWire<R> {
         until.map(|until| until.saturating_sub(now))
     }
 
-    // Begins a lap over the ports: the system is looked at. A port that was read mostly has no second datagram, so it is
-    // read again where no other is ready, and in each sixteenth lap, so that what has come to it is not kept back for long.
+    // Begins a lap over the ports: looks for arrivals. A port that was read mostly has no second datagram, so it is
+    // read again only if no other port is ready, or in every sixteenth lap, so that a datagram there is not held back
+    // for long.
     fn begin_lap(&mut self, until: Option<u64>)
         ensures failures { self.new.failures ≡ self.old.failures }
     {
@@ -211,8 +212,8 @@ impl<R: Net + Clock + AllocGlobal + Copy> UdpWire<R> {
         }
     }
 
-    // The next ready port. Once no port above this one is ready a lap begins, so that the system is looked at once in each,
-    // however busy the ports are.
+    // The next ready port. Once no port above `after` is ready a lap begins, so that arrivals are looked for once in
+    // each lap, however busy the ports are.
     fn next_ready(&mut self, after: u16, until: Option<u64>) -> Option<u16>
         ensures failures { self.new.failures ≡ self.old.failures }
     {

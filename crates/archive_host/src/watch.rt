@@ -7,10 +7,10 @@ use std::io::ErrorKind;
 use std::net::Net;
 use std::time::Duration;
 
-// How many reports one look takes. What is left is reported by the next one.
+// The most reports that one look takes. The rest are left to the next look.
 const REPORTS: usize = 64;
 
-/// What the system reports of open ports.
+/// The system's reports about open ports.
 #[derive(Drop)]
 pub(crate) struct Watch {
     poll: Poll,
@@ -18,7 +18,7 @@ pub(crate) struct Watch {
 }
 
 impl Watch {
-    /// A watch of no port.
+    /// Returns a watch without ports.
     ///
     /// # Errors
     ///
@@ -31,17 +31,17 @@ impl Watch {
         }
     }
 
-    /// Opens a port that is watched.
+    /// Opens a port and watches it.
     ///
     /// # Errors
     ///
-    /// Those of the system. The port is not open then.
+    /// Those of the system. The port is then not open.
     pub(crate) fn open<N: Net>(&self, net: &N, port: u16) -> io::Result<OpenPort> {
         OpenPort::open(net, &self.poll, port)
     }
 
-    /// Waits until something has come to a port or this many milliseconds are over, without end if none are given, and
-    /// marks the ports to which something has come. Where the system fails it marks none.
+    /// Waits until a datagram arrives at a port or `millis` milliseconds have passed, without limit if that is `None`,
+    /// and marks the ports with arrivals. If the system fails, no port is marked.
     pub(crate) fn look(&mut self, ports: &mut OpenPorts, millis: Option<u64>) {
         let limit = millis.map(Duration::from_millis);
         if self.poll.poll(&mut self.events, limit).is_err() {
