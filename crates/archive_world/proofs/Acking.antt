@@ -1,4 +1,4 @@
--- What the ends of the server's transfers send and become, as the claims on them say.
+-- What the ends of the server's transfers send and become, as the claims about them say.
 use Rattle.std.proofs.Common.{◌≡◌, ◌≢◌, ◌⊎◌, ℕ, ◌+◌, Bool, true, false, ◌==◌, List, Option, None, Some, IfSome, refl, sym, subst, inr}
 use Rattle.tftp_packet.specs.declared.endpoint.Endpoint.{Endpoint}
 use Rattle.tftp_packet.specs.Packet.{Packet, ack}
@@ -50,13 +50,13 @@ module _ (w : World) (h : Holds w) (port : ℕ) (t : Transfer) (is : transfer_at
   sender-holds : (s : Sender) (a : SendAnswer) → IsServing w t.peer port s → KeepsSender s a → Holds (after_transfer (sender_answered port t.peer a w.server) w)
   sender-holds s a serving k = sender_in a.sender.state s a serving k
 
-  -- an ACK comes
+  -- an ACK arrives
   pub ack-holds : (n : ℕ) (s : Sender) → IsServing w t.peer port s → Holds (after_transfer (ack_at (sending s) port t.peer n w.server) w)
   ack-holds n s serving = sender-holds s (sender_ack n s) serving (sender_ack-keeps n s)
 
 -- ---- a receiver
 
--- what has come by now, where the transfer goes on
+-- what was received by now, if the transfer goes on
 abbrev pub MayHaveCome : World → Endpoint → (file : List ℕ) → Receiver → RecvState → Type 0
 MayHaveCome w e file r recv.Running = HoldsFirst file r
 MayHaveCome w e file r recv.Complete = HasTaken w e file × (r.file ≡ None)

@@ -1,4 +1,4 @@
--- A datagram comes to a client, or nothing comes to it for a while.
+-- A datagram arrives at a client, or the client times out.
 use Rattle.std.proofs.Common.{◌≡◌, ℕ, ◌+◌, Bool, true, false, ◌==◌, List, Option, None, Some, Result, Ok, Err, refl, ap, ◌∙◌, subst, arith}
 use Rattle.std.proofs.lemmas.Bool.{eqb-true}
 use Rattle.tftp_packet.specs.declared.endpoint.Endpoint.{Endpoint}
@@ -26,7 +26,7 @@ use Rattle.archive_world.proofs.Changing.{never_sent, never_got, moves-holds, st
 use Rattle.archive_world.proofs.Putting.{acked_by, answered-holds, acked-holds, put_waits-holds}
 use Rattle.archive_world.proofs.Getting.{served_by, took-holds, get_answered-holds, get_refused-holds, get_waits-holds}
 
--- ---- what an ACK or a DATA that is heard is
+-- ---- what an ACK or a DATA for the client is
 
 module _ (d : Datagram) where
   abbrev FromPeer : Option ℕ → Type 0
@@ -74,7 +74,7 @@ module _ (d : Datagram) where
   heard_knows : (host : ℕ) (peer : Option ℕ) → Knows host peer (heard host peer d.source d.bytes)
   heard_knows host peer = at_knows host peer (d.source.host == host) refl
 
--- ---- a datagram comes
+-- ---- a datagram arrives
 
 module _ (w : World) (h : Holds w) (own : HasOwnPorts w) (d : Datagram) (among : Has w.net d) (c : Client) (is : client_at d.target w ≡ Some c) (verdict : Verdict) where
   abbrev e : Endpoint
@@ -155,7 +155,7 @@ pub request_binds : (operation : Operation) → Binds (decode_bytes (encode (req
 request_binds (put file) binds = subst Binds (request_fields (put file)) binds
 request_binds (get kind) binds = subst Binds (request_fields (get kind)) binds
 
--- ---- nothing comes
+-- ---- a time-out
 
 module _ (w : World) (h : Holds w) (own : HasOwnPorts w) (e : Endpoint) (c : Client) (is : client_at e w ≡ Some c) where
   asks_row : (last : Bool) (operation : Operation) (misses : ℕ) → c.phase ≡ asking operation misses → IsAskingFor w e operation → Holds (after_client e c (asks_again last operation misses c) w)

@@ -20,9 +20,9 @@ use Rattle.archive_world.proofs.Invariant.{TakesOnce, Holds}
 use Rattle.archive_world.proofs.Sending.{honest_packet}
 use Rattle.archive_world.proofs.Answering.{request_fields, request_says, request_binds}
 
--- ---- one datagram more
+-- ---- one more datagram
 
--- it is the new one that binds
+-- the new datagram is the one that binds
 pub record BindsBy (d : Datagram) (f : Endpoint) (port : ℕ) : Type 0 where
   pub source : d.source ≡ f
   pub binds : Binds (decode_bytes d.bytes)
@@ -36,7 +36,7 @@ bound_split w v d net f port b =
 
 -- ---- a begin
 
--- the request is not too long
+-- the file is not too long
 pub may_begin : (operation : Operation) → is_too_long operation ≡ false → IsOperation operation
 may_begin (put file) short = ltb-false MAX_FILE (length file) short
 may_begin (get kind) short = tt
@@ -73,7 +73,7 @@ module _ (w : World) (h : Holds w) (e : Endpoint) (operation : Operation) (away 
   begun_now : HasBegun after e
   begun_now = record { begun = began; among = Has-last w.begun began; client = refl }
 
-  -- nothing that binds is from there
+  -- nothing from there binds
   unsaid : {P : Type 0} (target : Endpoint) (p : Packet) → Binds (Ok p) → Says w e target p → P
   unsaid target (read name mode) binds says = absurd binds
   unsaid target (write name mode) binds says = absurd binds

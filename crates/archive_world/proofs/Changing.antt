@@ -64,7 +64,7 @@ sent_same s e = let both = newly_sent-from s s e in let apart : state.Running �
 got_same : {P : Type 0} (s : State) → newly_got s s ≡ true → P
 got_same s e = let both = newly_got-from s s e in let apart : state.Running ≡ state.Got = sym both.0 ∙ both.1 in absurd cc
 
--- ---- what is told
+-- ---- files newly sent and fetched
 
 sent_by : (w : World) (e : Endpoint) (newly : Bool) → (newly ≡ true → IsSent w e) → (x : Endpoint) → Has (sent_with newly e w.sent) x → Has w.sent x ⊎ IsSent w x
 sent_by w e true sends x has =
@@ -79,7 +79,7 @@ got_by w e false file gets g has = inl has
 
 -- ---- a step by its next phase
 
--- what is to be shown
+-- what must be shown
 pub record Changing (w : World) (e : Endpoint) (c : Client) (phase : Phase) (out : Option Out) : Type 0 where
   pub pursuing : IsPursuing w e phase
   pub sending : IfSome out (SendsHonestly w e)
@@ -123,7 +123,7 @@ module _ (w : World) (h : Holds w) (e : Endpoint) (c : Client) (is : client_at e
   failed_got : (why : Cause) → state.Failed why ≢ state.Got
   failed_got why = λ apart. cc
 
-  -- it fails, and may say so
+  -- it fails, and may send an ERROR
   pub fails_with : (why : Cause) (out : Option Out) → IfSome out (SendsHonestly w e) → IfSome out (BindsTo c (in_phase (failed why) c)) → Holds (after_client e c (moves (failed why) out c) w)
   fails_with why out sending binding =
       moves-holds (failed why) out
@@ -141,7 +141,7 @@ module _ (w : World) (h : Holds w) (e : Endpoint) (c : Client) (is : client_at e
 
   -- ---- what is sent
 
-  -- the client's own endpoint is where it sends from
+  -- the client sends from its own endpoint
   own_endpoint : e ≡ record { host = e.host; port = c.port }
   own_endpoint = endpoint_is e e.host c.port refl (sym (h.clients e c is).port)
 
@@ -169,7 +169,7 @@ module _ (w : World) (h : Holds w) (e : Endpoint) (c : Client) (is : client_at e
         gets = λ new f file. got_same (phase_state c.phase) new;
       })
 
-  -- what goes to the port that the next phase is bound to binds the client there
+  -- a packet to the port that the next phase is bound to binds the client there
   pub binds_there : (port : ℕ) (p : Packet) (next : Client) → ((q : ℕ) → q ≡ port → MayBind next.phase q) → ((q : ℕ) → MayBind c.phase q → q ≡ port) → BindsTo c next (out_to port p c)
   binds_there port p next there was binds q to =
       let same : q ≡ port = sym (ap (λ (x : Endpoint). x.port) to) in

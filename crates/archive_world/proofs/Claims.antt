@@ -1,5 +1,5 @@
--- What holds of each datagram of the network, of each transfer and of each client. All of it is said of lists that only
--- grow, so it lasts.
+-- What holds for each datagram of the network, for each transfer and for each client. All of it is about lists that
+-- only grow, so it lasts.
 use Rattle.std.proofs.Common.{◌≡◌, ◌≢◌, ◌⊎◌, ℕ, ◌≤◌, List, length, take, None, Some, Result, Ok, Err}
 use Rattle.tftp_packet.specs.declared.endpoint.Endpoint.{Endpoint}
 use Rattle.tftp_packet.specs.declared.packet_fault.PacketFault.{PacketFault}
@@ -21,7 +21,7 @@ use Rattle.archive_world.proofs.Places.{Has, Extends}
 
 -- ---- what has happened
 
--- the lists of which claims speak have only grown
+-- the lists that the claims are about have only grown
 pub record GrowsTo (w v : World) : Type 0 where
   pub net : Extends w.net v.net
   pub begun : Extends w.begun v.begun
@@ -52,7 +52,7 @@ pub record HasOpened (w : World) (e : Endpoint) (port : ℕ) (asked : Asked) (co
 pub record HasTaken (w : World) (e : Endpoint) (file : List ℕ) : Type 0 where
   pub among : Has w.taken (record { peer = e; file = file })
 
--- the text is the collection over this many first files
+-- the text is the collection over the first `count` files
 pub record IsTextOf (taken : List Taken) (count : ℕ) (kind : Ruleset) (text : List ℕ) : Type 0 where
   pub within : count ≤ length taken
   pub best : IsBestOver kind (files_of (take count taken)) text
@@ -139,7 +139,8 @@ pub record IsServing (w : World) (e : Endpoint) (port : ℕ) (s : Sender) : Type
   pub serves : Serves w e port kind s.file
   pub bounds : IsSender s
 
--- what has come of a put's file, by the receiver's state: a receiver with the whole file has none, since it was taken
+-- what was received of a put's file, by the receiver's state: a receiver that has had the whole file has none, since it
+-- was taken
 abbrev pub HasCome : World → Endpoint → (file : List ℕ) → Receiver → RecvState → Type 0
 HasCome w e file r recv.Running = HoldsFirst file r
 HasCome w e file r recv.Complete = HasTaken w e file × (r.file ≡ None)

@@ -1,4 +1,4 @@
--- What has to be shown of a step of a client, so that the world after it is as the invariant says.
+-- What must be shown about a step of a client for the invariant to hold in the world after it.
 use Rattle.std.proofs.Common.{◌≡◌, ◌⊎◌, ℕ, List, Option, None, Some, IfSome, refl, ap, sym, ◌∙◌, subst, inl, inr, ⊎_elim}
 use Rattle.std.specs.Map.{lookup, set_value}
 use Rattle.tftp_packet.specs.declared.endpoint.Endpoint.{Endpoint}
@@ -40,7 +40,7 @@ abbrev pub BindsTo : (was next : Client) → Out → Type 0
 BindsTo was next o =
     Binds (decode_bytes o.dgram) → (port : ℕ) → o.to ≡ record { host = server_endpoint.host; port = port } → MayBind next.phase port × ((p : ℕ) → MayBind was.phase p → p ≡ port)
 
--- what is to be shown
+-- what must be shown
 pub record Acting (w : World) (e : Endpoint) (was next : Client) (out : Option Out) (sent : List Endpoint) (got : List Got) : Type 0 where
   pub is : client_at e w ≡ Some was
   pub client : IsFaithful w e next

@@ -1,4 +1,4 @@
--- What a client has answered, where it is the first of a list at its endpoint.
+-- The result of a client's step, if the client is the first of a list at its endpoint.
 use Rattle.std.specs.Map.{lookup, set_value}
 use Rattle.std.specs.Prelude.{◌≡◌, ℕ, Bool, true, false, List, Option, None, Some, Result, Ok, Err, IfOk}
 use Rattle.std.proofs.Common.{refl, sym, ap, subst, slice_set, ◌∙◌}
@@ -14,7 +14,7 @@ use Rattle.archive_world.specs.World.{World, Got, at_endpoint, newly_got, newly_
 use Rattle.archive_world.specs.Inside.{IsFirst, Answers, answered_by, newly_fetched}
 use Rattle.archive_world.proofs.Firsts.{first_lookup, first_set}
 
--- what a client's step tells is said of the client after it
+-- what a client's step returned, in terms of the client after it
 pub answers_at : (step : Client → client.Answer) (e : Endpoint) (xs : List (Endpoint × Client)) (i : ℕ) (entry : Endpoint × Client) (here : Endpoint) (before after : Client) (was : State) (sent : Bool) (file : Option (List ℕ)) (out : Option Out) → IsFirst (at_endpoint e) i xs → (here, before) ≡ get_or xs i entry → after ≡ (step before).client → was ≡ state_of before → sent ≡ newly_sent was (state_of after) → file ≡ newly_fetched (newly_got was (state_of after)) (phase_file after.phase) → out ≡ (step before).out → Answers step e xs (slice_set xs i (here, after)) sent file out
 answers_at step e xs i entry here before after was sent file out first whole after-is was-is sent-is file-is out-is =
     record {
@@ -32,7 +32,7 @@ answers_at step e xs i entry here before after was sent file out first whole aft
       out_is = out-is;
     }
 
--- the same of a datagram, which was heard as it is
+-- the same for a datagram, which was delivered unchanged
 pub hears_at : (verdict : Verdict) (heard d : Datagram) → heard ≡ d → (xs : List (Endpoint × Client)) (i : ℕ) (entry : Endpoint × Client) (here : Endpoint) (before after : Client) (was : State) (sent : Bool) (file : Option (List ℕ)) (out told : Option Out) → IsFirst (at_endpoint d.target) i xs → (here, before) ≡ get_or xs i entry → after ≡ (client_datagram verdict heard.source heard.bytes before).client → was ≡ state_of before → sent ≡ newly_sent was (state_of after) → file ≡ newly_fetched (newly_got was (state_of after)) (phase_file after.phase) → out ≡ told → told ≡ (client_datagram verdict heard.source heard.bytes before).out → (v : Verdict) × Answers (client_datagram v d.source d.bytes) d.target xs (slice_set xs i (here, after)) sent file out
 hears_at verdict heard d is-heard xs i entry here before after was sent file out told first whole after-is was-is sent-is file-is out-is told-is =
     let step : Datagram → client.Answer = λ x. client_datagram verdict x.source x.bytes before in (
@@ -43,7 +43,7 @@ hears_at verdict heard d is-heard xs i entry here before after was sent file out
           (out-is ∙ told-is ∙ ap (λ (x : Datagram). (step x).out) is-heard),
     )
 
--- three facts of a result, where there is one
+-- joins three facts about a result, if it is `Ok`
 pub told_all : {T E : Type 0} (r : Result T E) (P Q R S : T → Type 0) → ((t : T) → P t → Q t → R t → S t) → IfOk r P → IfOk r Q → IfOk r R → IfOk r S
 told_all (Ok t) P Q R S joins p q r = joins t p q r
 told_all (Err e) P Q R S joins p q r = tt

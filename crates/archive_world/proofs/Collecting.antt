@@ -1,4 +1,4 @@
--- Where each file that is taken joins the collections, these are the best over the files taken, and so what can be kept.
+-- If each file that is taken joins the collections, they are the best over the files taken, and so can be kept.
 use Rattle.std.proofs.Common.{◌≡◌, ℕ, List, [], ◌∷◌, ◌++◌, sym, subst, inl, inr, append-nil}
 use Rattle.std.specs.List.{AllByRecursion}
 use Rattle.tws_file.specs.declared.«ruleset».Ruleset.{Ruleset}

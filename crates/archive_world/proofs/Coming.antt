@@ -1,4 +1,4 @@
--- What a DATA of a put makes of its receiver: it holds more of the file, or the whole, or waits as before.
+-- What a DATA of a put does to its receiver: it holds more of the file, or all of it, or waits as before.
 use Rattle.std.proofs.Common.{◌≡◌, ◌≢◌, ◌⊎◌, ℕ, ◌+◌, Bool, true, false, ◌==◌, List, length, None, Some, refl, ap, sym, ◌∙◌, subst, inl, inr}
 use Rattle.tftp_packet.specs.declared.endpoint.Endpoint.{Endpoint}
 use Rattle.tftp_packet.specs.declared.sizes.TheConstants.{BLOCK_SIZE}
@@ -87,7 +87,7 @@ take_in_stops recv.Complete x f given = λ e. cc
 take_in_stops recv.TimedOut x f given = λ e. cc
 take_in_stops recv.Over x f given = λ e. cc
 
--- a file is given by a receiver that waits for no more blocks
+-- only a receiver that waits for no more blocks hands out a file
 pub take-stops : (x : Receiver) (f : List ℕ) → (receiver_take x).file ≡ Some f → (receiver_take x).receiver.state ≢ recv.Running
 take-stops x f given = λ e. take_in_stops x.state x f given (sym (take-state x) ∙ e)
 
@@ -111,7 +111,7 @@ pub data-come : (w : World) (e : Endpoint) (file : List ℕ) (r : Receiver) (ver
 data-come w e file r verdict n body is_block come = data_in_come w e file r verdict n body is_block r.state refl come
 
 module _ (w : World) (e : Endpoint) (file : List ℕ) (r x : Receiver) where
-  -- where no file is given
+  -- if no file is handed out
   none_in : (state : RecvState) → x.state ≡ state → HoldsOrTaken w e file r x → (receiver_take_in state x).file ≡ None → HasCome w e file (receiver_take_in state x).receiver state
   none_in recv.Running is (inl holds) none = holds.1
   none_in recv.Running is (inr gone) none = let both : recv.Complete ≡ recv.Running = sym gone.2 ∙ is in absurd cc
@@ -126,7 +126,7 @@ module _ (w : World) (e : Endpoint) (file : List ℕ) (r x : Receiver) where
   none-come held none =
       subst (HasCome w e file (receiver_take x).receiver) (sym (take-state x)) (none_in x.state refl held none)
 
-  -- where one is given, it is the put's; the receiver was running, and is complete
+  -- if one is handed out, it is the put's; the receiver was running, and is complete
   abbrev pub IsWholeFile : (f : List ℕ) → Type 0
   IsWholeFile f = (f ≡ file) × (r.state ≡ recv.Running) × (x.state ≡ recv.Complete)
 
@@ -145,7 +145,7 @@ module _ (w : World) (e : Endpoint) (file : List ℕ) (r x : Receiver) where
   pub some-come : (f : List ℕ) → IsReceiver x → HoldsOrTaken w e file r x → (receiver_take x).file ≡ Some f → IsWholeFile f
   some-come f bounds held given = some_in x.state f refl bounds held given
 
--- a file that was given is gone
+-- a file that was handed out is gone
 take_in_gone : (state : RecvState) (x : Receiver) (f : List ℕ) → (receiver_take_in state x).file ≡ Some f → (receiver_take_in state x).receiver.file ≡ None
 take_in_gone recv.Running x f given = absurd cc
 take_in_gone recv.Complete x f given = refl

@@ -1,4 +1,4 @@
--- The headline follows from the invariant, where no port is reused.
+-- The headline follows from the invariant if no port is reused.
 use Rattle.std.proofs.Common.{◌≡◌, ◌⊎◌, ℕ, List, Contains, refl, subst, inl, inr, ⊎_elim}
 use Rattle.tftp_packet.specs.declared.endpoint.Endpoint.{Endpoint}
 use Rattle.archive_table.specs.Server.{Taken}

@@ -1,4 +1,4 @@
--- What has begun are operations of the events.
+-- Every operation that has begun is that of an event.
 use Rattle.std.proofs.Common.{◌≡◌, ◌⊎◌, ℕ, Bool, true, false, ◌==◌, List, [], ◌∷◌, ◌++◌, length, slice_get, Contains, Option, None, Some, refl, ap, sym, inl, inr}
 use Rattle.archive_table.specs.Server.{Maps, Grant, Transfer, transfer_at}
 use Rattle.archive_client.specs.Client.{Operation, Client}

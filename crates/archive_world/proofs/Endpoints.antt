@@ -1,4 +1,4 @@
--- Endpoints are told apart.
+-- The comparison of endpoints is exact.
 use Rattle.std.proofs.Common.{◌≡◌, ℕ, Bool, true, false, ◌==◌, ◌&&◌, refl, ap, ◌∙◌}
 use Rattle.std.proofs.lemmas.Bool.{eqb-true, eq-eqb}
 use Rattle.tftp_packet.specs.declared.endpoint.Endpoint.{Endpoint}

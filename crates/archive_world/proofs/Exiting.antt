@@ -1,4 +1,4 @@
--- What each event makes, from what its call has answered.
+-- What each event does, given the result of its call.
 use Rattle.std.specs.Prelude.{◌≡◌, ◌≢◌, ℕ, Bool, true, false, ◌==◌, List, [], ◌∷◌, ◌++◌, length, slice_get, Option, None, Some, is_some, Result, Ok, Err, OnOk, IfErr}
 use Rattle.std.proofs.Common.{refl, ap, sym, ◌∙◌, subst, inl, inr}
 use Rattle.std.proofs.lemmas.Bool.{eq-eqb, ne_eqb, true≢false}
@@ -31,7 +31,7 @@ use Rattle.archive_world.proofs.Tracing.{begins_fits, strays_fits, delivers_fits
 pub remain-merged : (w v : World) → Remain w v → (t : Taken) → v.taken ≡ w.taken ++ t ∷ [] → IsMerged t.file w.server.maps v.server.maps
 remain-merged w v remain t e = not_more w.taken t (sym remain.0 ∙ e)
 
--- ---- a keeper that told its list tells it after
+-- ---- a keeper that told its list still tells it
 
 some_none : (before : List Keeping) → Some before ≡ None → ⊥
 some_none before e = cc
@@ -96,7 +96,7 @@ taken_merged : (ts : List Taken) (t : Taken) (taken : Option Taken) (old new : M
 taken_merged ts t None old new merges e = not_more ts t e
 taken_merged ts t (Some x) old new merges e = subst (λ (y : Taken). IsMerged y.file old new) (one_last ts x t e) merges
 
--- ---- what was granted to a request, by whether a transfer was opened
+-- ---- what a request was granted, judged by whether a transfer was opened
 
 abbrev request_grant : (opened : Bool) → Grant
 request_grant true = all
@@ -291,12 +291,12 @@ module _ (w v : World) (d : Datagram) (index spare : ℕ) (there : slice_get w.n
   abbrev may_deliver : (d.target ≡ record { host = server_endpoint.host; port = w.server.request } → IsFree spare w) → MayDeliver index spare w
   may_deliver free = record { datagram = d; is = there; spare_is = free }
 
-  -- by which grant a client made this of it
+  -- the world after the delivery, by the host at which the datagram arrives
   delivered : (grant : Grant) (maps : Maps) → MayDeliver index spare w → (ours : Bool) → (d.target.host == server_endpoint.host) ≡ ours → event_happens (deliver index spare) grant maps w ≡ comes ours spare grant maps d w
   delivered grant maps may ours is =
       delivers_fits w d index spare grant maps there may ∙ ap (λ (b : Bool). comes b spare grant maps d w) is
 
-  -- what is kept at a delivery
+  -- the file that the delivery takes if everything is granted
   wanted_here : (ours : Bool) → (d.target.host == server_endpoint.host) ≡ ours → wanted_by (slice_get w.net index) w ≡ wanted_of ours d w
   wanted_here ours is =
       ap (λ (o : Option Datagram). wanted_by o w) there ∙ ap (λ (b : Bool). wanted_of b d w) is
@@ -508,6 +508,6 @@ module _ (w v : World) (d : Datagram) (index spare : ℕ) (there : slice_get w.n
         λ ready. subst (λ (x : World). Makes (deliver index spare) old new w x) (sym is) stepped_makes,
       )
 
--- the same of an event that is this one
+-- the same for an event that equals this one
 pub comes-at : (e f : Event) (r : Result (Unit {0}) EventFault) (old new : Option (List Keeping)) (w v : World) → e ≡ f → Comes r f old new w v → Comes r e old new w v
 comes-at e f r old new w v is comes = subst (λ (x : Event). Comes r x old new w v) (sym is) comes

@@ -38,7 +38,7 @@ module _ (w v : World) (h : Holds w) (k : Holds v) (own : HasOwnPorts v) (g : Gr
   counted e kind other m (inr has) began =
       ap (λ (b : Begun). b.taken) (one_operation v own _ (record { client = e; operation = get other; taken = m }) has began.among refl)
 
-  -- and its rules are those that it began with
+  -- and its ruleset is the one that it began with
   same_rules : (e : Endpoint) (kind other : Ruleset) (m : ℕ) → (e.host ≡ server_endpoint.host) ⊎ Has v.begun (record { client = e; operation = get kind; taken = length w.taken }) → HasGet v e other m → kind ≡ other
   same_rules e kind other m (inl ours) began = absurd (begun_away v k e (get_begun v e other m began) ours)
   same_rules e kind other m (inr has) began =

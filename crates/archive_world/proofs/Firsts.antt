@@ -24,14 +24,14 @@ first_within test [] (suc i) first = absurd first
 first_within test (x ∷ xs) zero first = (omega arith)
 first_within test (x ∷ xs) (suc i) first = let later = first_within test xs i first.1 in omega arith
 
--- all were asked
+-- all entries were tested
 pub none_all : {K X : Type 0} (test : K → Bool) (xs : List (K × X)) (i : ℕ) → length xs ≤ i → NoneBefore test i xs → lookup test xs ≡ None
 none_all test [] i all none = refl
 none_all test (x ∷ xs) zero all none = absurd (omega arith)
 none_all test (x ∷ xs) (suc i) all none =
     ap (λ b. cond b (Some x.1) (lookup test xs)) none.0 ∙ none_all test xs i (omega arith) none.1
 
--- what is looked up
+-- what a look-up finds
 pub first_lookup : {K X : Type 0} (test : K → Bool) (xs : List (K × X)) (i : ℕ) (d : K × X) → IsFirst test i xs → lookup test xs ≡ Some (get_or xs i d).1
 first_lookup test [] zero d first = absurd first
 first_lookup test [] (suc i) d first = absurd first
@@ -39,7 +39,7 @@ first_lookup test (x ∷ xs) zero d first = ap (λ b. cond b (Some x.1) (lookup 
 first_lookup test (x ∷ xs) (suc i) d first =
     ap (λ b. cond b (Some x.1) (lookup test xs)) first.0 ∙ first_lookup test xs i d first.1
 
--- what is written
+-- what a write changes
 pub first_set : {K X : Type 0} (test : K → Bool) (xs : List (K × X)) (i : ℕ) (d : K × X) (w : X) → IsFirst test i xs → set_value test xs w ≡ set xs i ((get_or xs i d).0, w)
 first_set test [] zero d w first = absurd first
 first_set test [] (suc i) d w first = absurd first

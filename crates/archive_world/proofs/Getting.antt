@@ -59,7 +59,7 @@ same_file : (r : Receiver) (f file : List ℕ) → r.file ≡ Some f → r.file 
 same_file r f file is also = cc
 
 module _ (w : World) (h : Holds w) (own : HasOwnPorts w) (e : Endpoint) where
-  -- what is served to a get is of its rules, and was opened since it began
+  -- what is served to a get is of its ruleset, and was opened since it began
   pub record IsSince (kind : Ruleset) (count : ℕ) (port : ℕ) (file : List ℕ) : Type 0 where
     pub serves : Serves w e port kind file
     pub since : count ≤ serves.count
@@ -91,7 +91,7 @@ module _ (w : World) (h : Holds w) (own : HasOwnPorts w) (e : Endpoint) where
       record { kind = g.kind; count = g.count; began = g.began; file = g.file; serves = g.serves; holds = holds; bounds = bounds }
 
   module _ (c : Client) (is : client_at e w ≡ Some c) where
-    -- ---- it is bound, or is now
+    -- ---- it is bound, or binds now
 
     module _ (port : ℕ) (was : (q : ℕ) → MayBind c.phase q → q ≡ port) where
       ack_sends : (kind : Ruleset) (count : ℕ) → HasGet w e kind count → (out : Option Packet) (n : ℕ) → IfSome out ReadsBack → IfSome out (λ p. p ≡ ack n) → IfSome (sends_to port out c) (SendsHonestly w e)
@@ -116,7 +116,7 @@ module _ (w : World) (h : Holds w) (own : HasOwnPorts w) (e : Endpoint) where
             gets = is_got port next g (phase_state c.phase);
           })
 
-      -- a DATA comes
+      -- a DATA arrives
       module _ (r : Receiver) (g : IsGetting w e port r) (verdict : Verdict) (n : ℕ) (body : List ℕ) (short : length body ≤ BLOCK_SIZE) (is_block : body ≡ block_of g.file n) where
         abbrev came : DataAnswer
         came = receiver_data verdict n body r
@@ -138,7 +138,7 @@ module _ (w : World) (h : Holds w) (own : HasOwnPorts w) (e : Endpoint) where
         pub took-holds : Holds (after_client e c (get_took port came.receiver came.result c) w)
         took-holds = took_in came.result refl
 
-      -- nothing comes
+      -- a time-out
       module _ (r : Receiver) (g : IsGetting w e port r) where
         getting_waited : IsGetting w e port (receiver_timeout r).receiver
         getting_waited =

@@ -1,4 +1,5 @@
--- Every event lets the lists of a world grow, so where no port is reused at the end of a run, none is at any moment of it.
+-- Every event only adds to the lists of a world, so if no port is reused at the end of a run, none is at any earlier
+-- moment.
 use Rattle.std.proofs.Common.{ℕ, Bool, true, false, ◌==◌, List, [], ◌∷◌, slice_get, Option, None, Some}
 use Rattle.archive_table.specs.Server.{Maps, Grant, Transfer, Taken, memory_of, transfer_at, server_request, server_datagram, server_timeout}
 use Rattle.archive_table.specs.Server as table
@@ -139,7 +140,7 @@ grows-on u v w first next =
       strays = Extends-on u.strays v.strays w.strays first.strays next.strays;
     }
 
--- own at the end, own before
+-- no port is reused at the end, so none was before
 pub run-own : (steps : List Step) (w : World) → HasOwnPorts (run_from steps w) → HasOwnPorts w
 run-own [] w own = own
 run-own (s ∷ steps) w own = own-before w (happens s w) (step-grows w s) (run-own steps (happens s w) own)

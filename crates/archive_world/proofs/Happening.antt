@@ -18,7 +18,7 @@ use Rattle.archive_world.proofs.Beginning.{may_begin, begins-holds}
 use Rattle.archive_world.proofs.Straying.{strays-holds, restarts-holds}
 use Rattle.archive_world.proofs.Growing.{step-grows, run-own}
 
--- where a file is taken, it has made the collections after it
+-- if a file is taken, it has made the collections after it
 abbrev pub Merged : (w v : World) → Type 0
 Merged w v = (t : Taken) → v.taken ≡ w.taken ++ t ∷ [] → IsMerged t.file w.server.maps v.server.maps
 

@@ -1,4 +1,4 @@
--- A datagram comes to a port of the server that is not the request port.
+-- A datagram arrives at a port of the server other than the request port.
 use Rattle.std.proofs.Common.{◌≡◌, ◌⊎◌, ℕ, Bool, true, false, List, Option, None, Some, Result, Ok, Err, refl, ap, sym, ◌∙◌, subst, inl, inr, ⊎_elim}
 use Rattle.tftp_packet.specs.declared.endpoint.Endpoint.{Endpoint}
 use Rattle.tftp_packet.specs.declared.packet_fault.PacketFault.{PacketFault}

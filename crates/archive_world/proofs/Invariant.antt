@@ -1,5 +1,5 @@
--- What every event keeps of a world. Where it says that something has not happened, each step has to be looked at; all else
--- lasts by itself.
+-- The invariant of a world, which every event keeps. Where it says that something has not happened, each step must be
+-- examined; all else lasts by itself.
 use Rattle.std.proofs.Common.{◌≡◌, ◌≢◌, ◌⊎◌, ℕ, ◌≤◌, true, List, [], length, slice_get, None, Some, Ordering, Less, Equal, Greater, is_eq, nat_cmp, refl, ap, sym}
 use Rattle.std.specs.Cmp.{nat_cmp_is}
 use Rattle.std.proofs.lemmas.Map.Lookups.{exact_unsigned}
@@ -20,7 +20,7 @@ equal_from Less e = absurd cc
 equal_from Equal e = refl
 equal_from Greater e = absurd cc
 
--- ports are told apart
+-- the comparison of ports is exact
 pub exact_port : (a b : ℕ) → at_port a b ≡ true → a ≡ b
 exact_port a b e = exact_unsigned a b (equal_from (nat_cmp a b) e)
 
@@ -32,7 +32,7 @@ pub record AreBest (taken : List Taken) (maps : Maps) : Type 0 where
   pub lynx : IsCollectionOf Lynx (files_of taken) maps.lynx
   pub ms : IsCollectionOf Ms (files_of taken) maps.ms
 
--- of two files from one peer, the peer is a stranger or they are one
+-- of two files from one peer, the peer is a stranger or they are the same
 abbrev pub TakesOnce : World → Type 0
 TakesOnce w =
     (i j : ℕ) (t u : Taken) → slice_get w.taken i ≡ Some t → slice_get w.taken j ≡ Some u → t.peer ≡ u.peer → IsStranger w t.peer ⊎ (i ≡ j)

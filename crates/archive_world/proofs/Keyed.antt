@@ -1,4 +1,4 @@
--- Look-ups in lists of keys and values, after a value was written, put in or taken out.
+-- Look-ups in lists of keys and values, after a value was written, inserted or removed.
 use Rattle.std.proofs.Common.{◌≡◌, ◌⊎◌, Bool, true, false, cond, List, [], ◌∷◌, Option, None, Some, Ordering, Less, Equal, Greater, is_eq, refl, ap, sym, ◌∙◌, inl, inr}
 use Rattle.std.specs.Map.{lookup, set_value, remove_entry}
 use Rattle.std.specs.BTreeMap.{insert_entry}
@@ -65,7 +65,7 @@ module _ {K X : Type 0} (same : K → K → Bool) (exact : (a b : K) → same a 
   set_none [] k v q e = e
   set_none (entry ∷ es) k v q e = set_none_at es entry.0 entry.1 v k q (set_none es k v q) e (same k entry.0)
 
-  -- ---- a value is taken out
+  -- ---- a value is removed
 
   remove_none_at : (es : List (K × X)) (key : K) (old : X) (k q : K) → (lookup (same q) es ≡ None → lookup (same q) (remove_entry (same k) es) ≡ None) → lookup (same q) ((key, old) ∷ es) ≡ None → (there : Bool) → lookup (same q) (cond there es ((key, old) ∷ remove_entry (same k) es)) ≡ None
   remove_none_at es key old k q later e true = none_rest (same q key) old (lookup (same q) es) e
@@ -76,7 +76,7 @@ module _ {K X : Type 0} (same : K → K → Bool) (exact : (a b : K) → same a 
   remove_none [] k q e = e
   remove_none (entry ∷ es) k q e = remove_none_at es entry.0 entry.1 k q (remove_none es k q) e (same k entry.0)
 
-  -- each key is there once
+  -- each key occurs once
   abbrev pub IsApart : List (K × X) → Type 0
   IsApart [] = Unit {0}
   IsApart (entry ∷ es) = (lookup (same entry.0) es ≡ None) × IsApart es
@@ -96,7 +96,7 @@ module _ {K X : Type 0} (same : K → K → Bool) (exact : (a b : K) → same a 
   remove_at es key old k q x apart later false e =
       rest_later (same q key) old x (lookup (same q) (remove_entry (same k) es)) (lookup (same q) es) later e
 
-  -- what is found then was there
+  -- what is found afterwards was there before
   pub lookup-remove : (es : List (K × X)) (k q : K) (x : X) → IsApart es → lookup (same q) (remove_entry (same k) es) ≡ Some x → lookup (same q) es ≡ Some x
   lookup-remove [] k q x apart e = e
   lookup-remove (entry ∷ es) k q x apart e =
@@ -118,12 +118,12 @@ module _ {K X : Type 0} (same : K → K → Bool) (exact : (a b : K) → same a 
   apart-remove [] k apart = tt
   apart-remove (entry ∷ es) k apart = remove_apart_at es entry.0 entry.1 k apart (apart-remove es k apart.1) (same k entry.0)
 
--- ---- an entry is put in, in the order of the keys
+-- ---- an entry is inserted, in the order of the keys
 
 abbrev pub same_by : {K : Type 0} → (K → K → Ordering) → K → K → Bool
 same_by cmp a b = is_eq (cmp a b)
 
--- a test of keys that is exact and holds of each key with itself is symmetric
+-- a test of keys that is exact and holds for each key with itself is symmetric
 turned : {K : Type 0} (cmp : K → K → Ordering) (exact : (a b : K) → is_eq (cmp a b) ≡ true → a ≡ b) (reflexive : (a : K) → same_by cmp a a ≡ true) (a b : K) → same_by cmp a b ≡ false → (there : Bool) → same_by cmp b a ≡ there → same_by cmp b a ≡ false
 turned cmp exact reflexive a b other true is =
     let both : same_by cmp a b ≡ true = ap (λ k. same_by cmp a k) (exact b a is) ∙ reflexive a in

@@ -1,4 +1,4 @@
--- What a keeper has is what the server has, and what is loaded from it is that.
+-- A keeper has what the server has, and that is what is loaded from it.
 use Rattle.std.proofs.Common.{◌≡◌, ◌⊎◌, ℕ, Bool, true, false, List, [], ◌∷◌, ◌++◌, Option, None, Some, refl, ap, sym, ◌∙◌, subst, inl, inr, append-nil}
 use Rattle.tws_file.specs.declared.«ruleset».Ruleset.{Ruleset}
 use Rattle.tws_file.specs.declared.«ruleset».Ruleset.TheVariants.{Lynx, Ms}
@@ -36,7 +36,7 @@ same Ms = refl
 
 -- ---- a step
 
--- the list after it, where nothing was added
+-- the list after it, if nothing was added
 unchanged : (kind : Ruleset) (before after : List Keeping) (c : Collected) → after ≡ before ++ [] → IsTextAt kind (last_kept kind before) c → IsTextAt kind (last_kept kind after) c
 unchanged kind before after c grows kept =
     subst (λ (l : List Keeping). IsTextAt kind (last_kept kind l) c) (sym (grows ∙ append-nil before)) kept
@@ -51,7 +51,7 @@ kept_own kind before after old new rules (inr changed) kept =
     let last : last_kept kind after ≡ Some (collection_text new) = ap (last_kept kind) changed.1 ∙ last_own kind before k own refl in
     subst (λ (o : Option (List ℕ)). IsTextAt kind o new) (sym last) refl
 
--- that of the other ruleset has the text that it had
+-- the collection of the other ruleset still has its text
 kept_other : (kind : Ruleset) (before after : List Keeping) (old new c : Collected) → same_kind kind new.ruleset ≡ false → KeepsOne old new (Some before) (Some after) → IsTextAt kind (last_kept kind before) c → IsTextAt kind (last_kept kind after) c
 kept_other kind before after old new c other (inl stayed) kept = unchanged kind before after c stayed.1 kept
 kept_other kind before after old new c other (inr changed) kept =
@@ -104,7 +104,7 @@ failed_maps now old new before after (inr ms) kept = failed_one now before after
 refused_keep : (wanted : Option Taken) (old : Maps) (before after : List Keeping) → RefusesKeep wanted old (Some before) (Some after) → HasKept before old → HasKept after old
 refused_keep wanted old before after failed kept = failed_maps old old failed.0 before after failed.2 kept
 
--- the collections stayed where not all was granted
+-- the collections did not change if not everything was granted
 stayed_at : (grant : Grant) (old new : Maps) (after : List Keeping) → (grant ≡ all → ⊥) → (grant ≡ all) ⊎ (new ≡ old) → HasKept after old → HasKept after new
 stayed_at grant old new after other (inl is) kept = absurd (other is)
 stayed_at grant old new after other (inr same_maps) kept = subst (HasKept after) (sym same_maps) kept
@@ -133,7 +133,7 @@ loads-the_same log maps kept fits_lynx fits_ms lynx ms from_lynx from_ms =
 
 -- ---- a load that fails
 
--- a kept text is that of a collection, so it is a file's of its rules
+-- a kept text is that of a collection, so it is the text of a file of its ruleset
 read_fails : (kind : Ruleset) (bytes : List ℕ) (now : Collected) (fault : LoadFault) → bytes ≡ collection_text now → IsCollected now → now.ruleset ≡ kind → IsMisread kind bytes fault → IsOutside fault
 read_fails kind bytes now (Keep e) text fits rules misread = tt
 read_fails kind bytes now (Unreadable e) text fits rules misread =

@@ -1,4 +1,4 @@
--- What a file that is taken makes of the collections.
+-- What a file that is taken does to the collections.
 use Rattle.std.proofs.Common.{◌≡◌, ◌⊎◌, ℕ, List, [], ◌∷◌, ◌++◌, Contains, refl, ap, sym, ◌∙◌, subst, inl, inr, append-nil}
 use Rattle.std.proofs.lemmas.List.{map-append}
 use Rattle.tws_file.specs.declared.«ruleset».Ruleset.{Ruleset}
@@ -12,11 +12,11 @@ use Rattle.archive_world.specs.Headline.{files_of}
 use Rattle.archive_world.proofs.Readability.{readable_or_not}
 use Rattle.archive_world.proofs.Invariant.{AreBest}
 
--- a file of this ruleset joins their collection
+-- a file of this ruleset joins its collection
 joins : (kind : Ruleset) (texts : List (List ℕ)) (text : List ℕ) (f : File) (old new : Collected) → IsCollectionOf kind texts old → IsText text f → IsJoined f old new → IsCollectionOf kind (texts ++ text ∷ []) new
 joins kind texts text f old new best is joined = one_more_text kind texts text f old new best is joined.kind joined.best
 
--- the collection of the other ruleset is that over one text more
+-- the collection of the other ruleset is also that over one more text
 no_solutions : (kind : Ruleset) (f : File) (c : Collected) → solved_by c.ruleset f.ruleset f.records ≡ [] → solutions_of c.ruleset (f ∷ []) ≡ []
 no_solutions kind f c none = ap (λ (es : List Entry). es ++ []) none
 
@@ -54,7 +54,7 @@ module _ (texts : List (List ℕ)) (text : List ℕ) (old new : Maps) (lynx : Is
   merged : IsMerged text old new → Both
   merged m = merged_by m (readable_or_not text)
 
--- the collections are the best over one file more
+-- the collections are the best over one more file
 pub best-taken : (taken : List Taken) (t : Taken) (old new : Maps) → AreBest taken old → IsMerged t.file old new → AreBest (taken ++ t ∷ []) new
 best-taken taken t old new best m =
     let both = merged (files_of taken) t.file old new best.lynx best.ms m in

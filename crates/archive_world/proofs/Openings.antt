@@ -1,4 +1,4 @@
--- A request comes to the server.
+-- A request arrives at the server.
 use Rattle.std.proofs.Common.{◌≡◌, ◌≢◌, ◌⊎◌, ℕ, ◌≤◌, ◌<◌, nat_cmp, List, [], ◌∷◌, ◌++◌, length, take, None, Some, Ok, refl, ap, sym, ◌∙◌, subst, inl, inr, arith, le_refl, take_all}
 use Rattle.std.specs.BTreeMap.{insert_entry}
 use Rattle.tftp_packet.specs.declared.endpoint.Endpoint.{Endpoint}
@@ -55,7 +55,7 @@ module _ (w : World) (h : Holds w) (spare : ℕ) (free : transfer_at spare w.ser
           strays = Extends-same w.strays;
         }
 
-    -- what is to be shown
+    -- what must be shown
     pub record IsFine : Type 0 where
       pub away : from.host ≢ server_endpoint.host
       pub live : IsLiveEnd opened from spare end
@@ -130,7 +130,7 @@ module _ (w : World) (h : Holds w) (spare : ℕ) (free : transfer_at spare w.ser
 -- ---- a request to read
 
 module _ (w : World) (h : Holds w) (d : Datagram) (among : Has w.net d) where
-  -- who reads is a stranger or a get
+  -- whoever reads is a stranger or a get
   pub reads : (name mode : List ℕ) → decode_bytes d.bytes ≡ Ok (read name mode) → IsStranger w d.source ⊎ AsksToRead w d.source name
   reads name mode is = either (λ s. s) (λ says. says (read name mode) is) (h.net d among).says
 

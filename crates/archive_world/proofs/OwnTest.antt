@@ -1,4 +1,4 @@
--- Whether no port is reused, by a test of the world that a worked run computes.
+-- A test that no port is reused, on the world that a sample run computes.
 use Rattle.std.proofs.Common.{◌≡◌, ℕ, zero, suc, Bool, true, false, cond, List, [], ◌∷◌, slice_get, Some, refl, ap, sym, ◌∙◌}
 use Rattle.archive_world.specs.World.{Datagram, Begun, Opening, World, has_begun}
 use Rattle.archive_world.specs.Headline.{HasOperation, HasOwnPorts}

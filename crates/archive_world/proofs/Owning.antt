@@ -1,5 +1,5 @@
--- What follows where no port is reused: at one endpoint one operation, at one port one opening, and no stranger at the endpoint
--- of an operation.
+-- What follows if no port is reused: at one endpoint one operation, at one port one opening, and no stranger at the
+-- endpoint of an operation.
 use Rattle.std.proofs.Common.{◌≡◌, ℕ, List, take, refl, ap, sym, ◌∙◌, subst}
 use Rattle.tftp_packet.specs.declared.endpoint.Endpoint.{Endpoint}
 use Rattle.tws_file.specs.declared.«ruleset».Ruleset.{Ruleset}
@@ -19,7 +19,7 @@ pub get_begun : (w : World) (e : Endpoint) (kind : Ruleset) (count : ℕ) → Ha
 get_begun w e kind count h =
     record { begun = record { client = e; operation = get kind; taken = count }; among = h.among; client = refl }
 
--- where no port is reused by now, none was at any moment before
+-- if no port is reused by now, none was at any moment before
 pub own-before : (w v : World) → GrowsTo w v → HasOwnPorts v → HasOwnPorts w
 own-before w v g own =
     record {

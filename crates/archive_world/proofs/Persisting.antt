@@ -1,4 +1,4 @@
--- Over a run, what the keeper has is what the server has, and so a restart loads it.
+-- Throughout a run the keeper has what the server has, and so a restart loads it.
 use Rattle.std.proofs.Common.{◌≡◌, ◌⊎◌, ℕ, ◌==◌, List, [], ◌∷◌, Option, ap, sym, subst, inl, inr}
 use Rattle.tws_file.specs.declared.«ruleset».Ruleset.TheVariants.{Lynx, Ms}
 use Rattle.tws_best.specs.Best.{Collected}
@@ -16,7 +16,7 @@ own-rules taken maps best = record { lynx = best.lynx.kind_is; ms = best.ms.kind
 
 -- ---- a step
 
--- all was granted, or the collections remain
+-- everything was granted, or the collections remain
 granted_or : (w v : World) (grant : Grant) → StepTakes grant w v → (grant ≡ all) ⊎ (v.server.maps ≡ w.server.maps)
 granted_or w v grant (inl remain) = inr remain.1
 granted_or w v grant (inr takes) = inl takes.2

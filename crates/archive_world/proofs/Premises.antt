@@ -1,4 +1,4 @@
--- The premises of the law can be met, also where a file is taken.
+-- The premises of the law can be met, even if a file is taken.
 use Rattle.std.proofs.Common.{◌≡◌, ℕ, zero, suc, List, [], ◌∷◌, ◌++◌, length, slice_get, Contains, Some, refl, ap, sym, ◌∙◌, subst, arith, length-append}
 use Rattle.tftp_packet.specs.Packet.{encode}
 use Rattle.tftp_packet.specs.Decode.{decode_bytes}
@@ -28,7 +28,7 @@ empty_put-own =
 not_more : {P : Type 0} (ts : List Taken) (t : Taken) → ts ≡ ts ++ t ∷ [] → P
 not_more ts t e = let more = ap length e ∙ length-append ts (t ∷ []) in absurd (omega arith)
 
--- no bytes are no file's text
+-- the empty list is not the text of a file
 empty_unreadable : (f : File) → IsText [] f → ⊥
 empty_unreadable f is = let cut = is.text in absurd cc
 

@@ -122,14 +122,14 @@ module _ (w : World) (h : Holds w) (e : Endpoint) (c : Client) (is : client_at e
           gets = λ new f given. never_got (phase_state c.phase) (send_state a.sender.state) (not_got a.sender.state) new;
         })
 
-    -- an ACK comes
+    -- an ACK arrives
     pub acked-holds : HasOwnPorts w → (n : ℕ) → AcksPut w e n → Holds (after_client e c (put_sent peer (sender_ack n s) c) w)
     acked-holds own n acks =
         let same = one_put w own e acks.file s.file acks.began there.began in
         let last = λ (by : (n ≡ s.current) × (n ≡ block_count s.file)). subst (HasTaken w e) same (acks.is_taken (by.1 ∙ ap block_count (sym same))) in
         sent-holds (sender_ack n s) (sender_ack-keeps n s) (λ finished. ⊎_elim (λ was. inl was) (λ by. inr (last by)) (sender_ack-finishes n s finished))
 
-    -- nothing comes
+    -- a time-out
     waited_in : (state : SendState) → Holds (after_client e c (put_waited state peer (sender_timeout s) c) w)
     waited_in send.Running = sent-holds (sender_timeout s) (sender_timeout-keeps s) (λ finished. inl (sender_timeout-finishes s finished))
     waited_in send.Finished = sent-holds (sender_timeout s) (sender_timeout-keeps s) (λ finished. inl (sender_timeout-finishes s finished))

@@ -1,4 +1,4 @@
--- Whether bytes are a file's text is decided, also where some are no bytes.
+-- Whether numbers are the text of a file is decidable, even if some of them are not bytes.
 use Rattle.std.proofs.Common.{◌⊎◌, ℕ, zero, suc, ◌<◌, ◌≤◌, List, [], ◌∷◌, ◌++◌, length, flat_map, sym, subst, arith, inl, inr, ⊎_elim}
 use Rattle.std.specs.List.{AllByRecursion}
 use Rattle.std.proofs.lemmas.Bool.{cases_lt}

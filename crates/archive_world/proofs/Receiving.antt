@@ -1,4 +1,4 @@
--- A DATA comes to a receiver of the server.
+-- A DATA arrives at a receiver of the server.
 use Rattle.std.proofs.Common.{◌≡◌, ◌⊎◌, ℕ, ◌≤◌, List, length, Option, None, Some, IfSome, Result, Ok, Err, refl, ap, sym, ◌∙◌, subst, inl, inr}
 use Rattle.tftp_packet.specs.declared.sizes.TheConstants.{BLOCK_SIZE}
 use Rattle.tftp_packet.specs.declared.refusal.Refusal.TheVariants.{OutOfMemory, NotKept}
@@ -22,12 +22,12 @@ use Rattle.archive_world.proofs.Merging.{best-taken}
 use Rattle.archive_world.proofs.Taking.{TakesFrom, Taking, taken_of, world_taken, takes-holds}
 use Rattle.archive_world.proofs.Coming.{HoldsOrTaken, data-come, data-running, take-state, take-count, take-stops, take-gone, none-come, some-come}
 
--- where a file is taken, it has made the collections
+-- if a file is taken, it has made the collections
 abbrev pub Joined : World → Answer → Type 0
 Joined w a = (u : Taken) → a.told.taken ≡ Some u → IsMerged u.file w.server.maps a.server.maps
 
 module _ (w : World) (h : Holds w) (own : HasOwnPorts w) (port : ℕ) (t : Transfer) (is : transfer_at port w.server ≡ Some t) (r : Receiver) (end : t.end ≡ receiving r) (there : IsReceivingAt w t.peer port r) (n : ℕ) (body : List ℕ) (short : length body ≤ BLOCK_SIZE) (grant : Grant) where
-  -- the answer, and that to the question for the file
+  -- the receiver's answer, and what is then taken out of it
   abbrev came : DataAnswer
   came = receiver_data (memory_of grant) n body r
 
@@ -53,7 +53,7 @@ module _ (w : World) (h : Holds w) (own : HasOwnPorts w) (port : ℕ) (t : Trans
       let sends = subst (λ (x : Result (Option Packet) RecvFault). IfSome (sent_of x) (λ p. p ≡ ack came.receiver.count)) e keeps.sends in
       subst (λ (k : ℕ). IfSome out (λ p. p ≡ ack k)) (sym (take-count came.receiver)) sends
 
-  -- ---- no file is given
+  -- ---- no file is handed out
 
   put_goes_on : (p : ReceivesPut w t.peer r) → HoldsOrTaken w t.peer p.file r came.receiver → took.file ≡ None → ReceivesPut w t.peer took.receiver
   put_goes_on p held none =
@@ -72,7 +72,7 @@ module _ (w : World) (h : Holds w) (own : HasOwnPorts w) (port : ℕ) (t : Trans
       let says = ack_says w port t.peer out took.receiver.count (acked out e) (either (λ s. s) acks_of whose) in
       goes_on-holds w h port t (receiving took.receiver) (dgram_of out) is next onward (sends_packet w port t.peer out (reads_back out e) says)
 
-  -- ---- a file is given
+  -- ---- a file is handed out
 
   module _ (file : List ℕ) (given : took.file ≡ Some file) (maps : Maps) (out : Option Packet) (e : came.result ≡ Ok out) where
     abbrev after : World
@@ -88,7 +88,7 @@ module _ (w : World) (h : Holds w) (own : HasOwnPorts w) (port : ℕ) (t : Trans
           strays = Extends-same w.strays;
         }
 
-    -- a put's file is given whole, for the first time
+    -- a put's file is handed out whole, for the first time
     pub record IsGiven : Type 0 where
       pub began : HasPut w t.peer file
       pub running : r.state ≡ recv.Running
@@ -150,9 +150,9 @@ module _ (w : World) (h : Holds w) (own : HasOwnPorts w) (port : ℕ) (t : Trans
     file_grant unkept bound whose joined =
         closes-holds w h port t.peer (Some (refusal_dgram NotKept)) (honest_refusal w (from_port port) t.peer NotKept)
 
-  -- ---- the row
+  -- ---- the step
 
-  -- what comes is from the peer: a stranger, or a block of its put
+  -- what arrives is from the peer: a stranger's, or a block of its put
   module _ (maps : Maps) (bound : IsBound w t.peer port) (heard : IsStranger w t.peer ⊎ PutsBlock w t.peer n body) where
     held_by : PutsBlock w t.peer n body → (p : ReceivesPut w t.peer r) → HoldsOrTaken w t.peer p.file r came.receiver
     held_by puts p =

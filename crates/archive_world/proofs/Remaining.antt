@@ -1,4 +1,4 @@
--- The collections remain as they are but where a step takes a file, and a file is taken only where all is granted.
+-- The collections remain unless a step takes a file, and a file is taken only if everything is granted.
 use Rattle.std.proofs.Common.{◌≡◌, ◌⊎◌, ℕ, Bool, true, false, ◌==◌, List, [], ◌∷◌, ◌++◌, slice_get, Option, None, Some, Result, Ok, Err, refl, ap, sym, subst, inl, inr}
 use Rattle.tftp_packet.specs.declared.endpoint.Endpoint.{Endpoint}
 use Rattle.tftp_packet.specs.declared.packet_fault.PacketFault.{PacketFault}
@@ -23,7 +23,7 @@ use Rattle.archive_world.specs.World as world
 abbrev Leaves : Answer → Server → Type 0
 Leaves a s = (a.told.taken ≡ None) × (a.server.maps ≡ s.maps)
 
--- the answer by the collections that a file would make: it is one that leaves them, or a file is taken and makes them
+-- the answer, by the collections that a file would make: either it leaves them, or a file is taken and makes them
 abbrev TakesOrLeaves : Grant → (Maps → Answer) → Server → Type 0
 TakesOrLeaves grant a s =
     ((one : Answer) × Leaves one s × ((maps : Maps) → a maps ≡ one))
@@ -131,8 +131,8 @@ found_takes None grant port from bytes s = leaves grant _ s (refl, refl)
 abbrev pub Remain : (w v : World) → Type 0
 Remain w v = (v.taken ≡ w.taken) × (v.server.maps ≡ w.server.maps)
 
--- The world after it by the collections that a file would make: it is one in which they remain, or a file is taken, which
--- makes them, and all was granted.
+-- The world after the event, by the collections that a file would make: either they remain, or a file is taken, which
+-- makes them, and everything was granted.
 abbrev pub TakesOrRemain : Grant → World → (Maps → World) → Type 0
 TakesOrRemain grant w v =
     ((one : World) × Remain w one × ((maps : Maps) → v maps ≡ one))
@@ -213,7 +213,7 @@ event-takes w event grant = event_takes w event grant
 
 -- ---- a step
 
--- no file is taken and the collections remain, or a file is taken and all was granted
+-- no file is taken and the collections remain, or a file is taken and everything was granted
 abbrev pub StepTakes : Grant → (w v : World) → Type 0
 StepTakes grant w v = Remain w v ⊎ ((t : Taken) × (v.taken ≡ w.taken ++ t ∷ []) × (grant ≡ all))
 

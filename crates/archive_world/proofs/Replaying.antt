@@ -152,7 +152,7 @@ module _ {A : Type 0} (es : List (events.Event A)) (i : ℕ) (x : events.Event A
     one_more : Comes (Ok tt) e now after w v → HasHappened (events_of (take (i + 1) es)) told after v
     one_more comes = made_more v comes.1
 
-    -- what had happened before it, where the keeper has what it had
+    -- what had happened before it, if the keeper has what it had
     so_before : after ≡ now → HasHappened (take i (events_of es)) told after w
     so_before same =
         first_are i told after w (subst (λ (o : Option (List Keeping)). HasHappened (events_of (take i es)) told o w) (sym same) so_far)
@@ -173,7 +173,7 @@ module _ {A : Type 0} (es : List (events.Event A)) (i : ℕ) (x : events.Event A
           happened = first_are (i + 1) told after made.0 (made_more made.0 made.1);
         }
 
-    -- a load fails where what is kept is readable
+    -- what is kept is readable, so a failed load has another cause
     fails_outside : e ≡ restart → (f : LoadFault) → TableFails now f → IsOutside f
     fails_outside is f fails =
         let k : KeeperHas now w = happened_kept (events_of (take i es)) told now w (none_told is) so_far in

@@ -1,4 +1,4 @@
--- What the server makes of each request: it refuses it, or opens a transfer.
+-- What the server does with each request: it refuses it, or opens a transfer.
 use Rattle.std.proofs.Common.{◌≡◌, ◌⊎◌, ℕ, ◌≤◌, Bool, true, false, List, length, Option, None, Some, Result, Ok, Err, refl, inr, arith}
 use Rattle.std.proofs.lemmas.Bool.{ltb-false}
 use Rattle.tftp_packet.specs.declared.packet_fault.PacketFault.{PacketFault}

@@ -1,4 +1,4 @@
--- By which tests no port is reused.
+-- The tests for the reuse of a port.
 use Rattle.std.proofs.Common.{◌≡◌, ℕ, zero, suc, ◌<◌, Bool, true, false, ◌==◌, ◌&&◌, cond, List, [], ◌∷◌, ◌++◌, length, slice_get, Contains, Some, refl, ap, sym, ◌∙◌, inl, inr, ⊎_elim, arith}
 use Rattle.std.proofs.lemmas.Bool.{eqb-true, eq-eqb}
 use Rattle.tftp_packet.specs.declared.endpoint.Endpoint.{Endpoint}

@@ -1,4 +1,4 @@
--- What the files of the samples make of the collections.
+-- What the files of the samples do to the collections.
 use Rattle.std.proofs.Common.{◌≡◌, ℕ, zero, suc, ◌<◌, ◌^◌, List, [], ◌∷◌, ◌++◌, Contains, refl, ap, sym, ◌∙◌, subst, arith}
 use Rattle.byte_output.specs.Bytes.{IsBytes}
 use Rattle.tws_file.specs.declared.key.Key.{Key}
@@ -17,7 +17,7 @@ use Rattle.archive_world.specs.Samples.{sample_file, sample_entry, sample_maps}
 
 -- ---- the text of a Lynx collection
 
--- the best of the old entries and of its own
+-- the best of the old entries and of these
 abbrev pub with_entries : List Entry → Maps → Maps
 with_entries entries old =
     record { lynx = record { «ruleset» = Lynx; entries = best_of (old.lynx.entries ++ entries) }; ms = old.ms }

@@ -1,4 +1,4 @@
--- The worked runs meet the premises of the law.
+-- The sample runs meet the premises of the law.
 use Rattle.std.proofs.Common.{◌≡◌, ℕ, suc, List, [], ◌∷◌, ◌++◌, refl, subst, arith}
 use Rattle.tftp_packet.specs.Packet.{encode}
 use Rattle.tftp_packet.specs.Decode.{decode_bytes}

@@ -1,4 +1,4 @@
--- What some runs come to.
+-- The outcomes of some runs.
 use Rattle.std.proofs.Common.{◌≡◌, [], ◌∷◌, refl}
 use Rattle.tftp_packet.specs.Packet.{encode}
 use Rattle.tftp_packet.specs.Decode.{decode_bytes}

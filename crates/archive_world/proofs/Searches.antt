@@ -12,7 +12,7 @@ either : (b c : Bool) → c ≡ true → cond b true c ≡ true
 either true c h = refl
 either false c h = h
 
--- what one of the rest has, one of all has
+-- if one of the rest passes, one of all passes
 rest : {T : Type 0} (f : T → Bool) (g : List T → Bool) → ((x : T) (xs : List T) → g (x ∷ xs) ≡ cond (f x) true (g xs)) → (i : ℕ) (xs : List T) → g (drop i xs) ≡ true → g xs ≡ true
 rest f g step zero xs h = h
 rest f g step (suc i) [] h = h

@@ -89,7 +89,7 @@ module _ (w : World) (h : Holds w) where
   once_after live out i j t u at_i at_j same =
       either (stranger-lasts w (moved live out) (moved_grows live out) t.peer) (λ e. e) (h.once i j t u at_i at_j same)
 
-  -- each transfer was there, or is as it may be
+  -- each of these transfers is as the invariant says
   pub moved-holds : (live : List (ℕ × Transfer)) (out : Option Out) → SendsHonest w out → IsApart at_port exact_port live → ((port : ℕ) (t : Transfer) → lookup (at_port port) live ≡ Some t → IsLive w port t × IsUntaken w port t) → Holds (moved live out)
   moved-holds live out honest apart fits =
       let g = moved_grows live out in

@@ -1,4 +1,4 @@
--- What has to be shown of a step of the server, so that the world after it is as the invariant says.
+-- What must be shown about a step of the server for the invariant to hold in the world after it.
 use Rattle.std.proofs.Common.{◌≡◌, ◌≢◌, ◌⊎◌, ℕ, List, Some, refl, ap, sym, ◌∙◌, ⊎_elim, le_trans}
 use Rattle.tftp_packet.specs.declared.endpoint.Endpoint.{Endpoint}
 use Rattle.archive_table.specs.Server.{Server, Taken, Transfer, at_port, transfer_at}
@@ -31,7 +31,7 @@ served net server taken opened w =
 pub begun_away : (w : World) → Holds w → (e : Endpoint) → HasBegun w e → e.host ≢ server_endpoint.host
 begun_away w h e b = λ ours. (h.begun b.begun b.among).away (ap (λ (f : Endpoint). f.host) b.client ∙ ours)
 
--- what is to be shown
+-- what must be shown
 pub record Serving (w : World) (net : List Datagram) (server : Server) (taken : List Taken) (opened : List Opening) : Type 0 where
   pub more_net : Extends w.net net
   pub more_taken : Extends w.taken taken

@@ -1,4 +1,4 @@
--- What a call of the machine makes of its world, from what the call of the table or of the client has told.
+-- What a call of the machine does to its world, given what the call of the table or of the client returned.
 use Rattle.std.specs.Prelude.{◌≡◌, List, [], Option, Some, Result, Ok, Err, OnOk}
 use Rattle.std.proofs.Common.{sym, ap, subst, ◌∙◌}
 use Rattle.archive_table.specs.Server.{Server, Told, Taken, Grant, all, Merges, server_datagram}
@@ -18,7 +18,7 @@ on-ok (Err e) f p = p
 abbrev asks : Grant → Server → Datagram → World → table.Answer
 asks grant server d w = server_datagram grant server.maps d.target.port d.source d.bytes w.server
 
--- the file that is taken if all is granted
+-- the file that is taken if everything is granted
 abbrev wants : Datagram → World → Option Taken
 wants d w = (server_datagram all w.server.maps d.target.port d.source d.bytes w.server).told.taken
 
@@ -45,7 +45,7 @@ restarts-same log old new kept lynx ms from-lynx from-ms is =
     ∙ ap (λ (c : Collected). record old { server = record { request = old.server.request; maps = record { lynx = c; ms = new.server.maps.ms }; live = [] } }) same.0
     ∙ ap (λ (c : Collected). record old { server = record { request = old.server.request; maps = record { lynx = old.server.maps.lynx; ms = c }; live = [] } }) same.1
 
--- the same of a call that may fail, and of a keeper that may tell its list
+-- the same for a call that may fail, and for a keeper that may tell its list
 pub restarted : {T E : Type 0} (r : Result T E) (old new : World) (told : Option (List Keeping)) → OnOk r (LoadedFrom Lynx told new.server.maps.lynx) → OnOk r (LoadedFrom Ms told new.server.maps.ms) → OnOk r (new ≡ record old { server = record { request = old.server.request; maps = new.server.maps; live = [] } }) → OnOk r ((log : List Keeping) → told ≡ Some log → HasKept log old.server.maps → IsCollected old.server.maps.lynx → IsCollected old.server.maps.ms → new ≡ restarts old)
 restarted (Ok x) old new told from-lynx from-ms is = λ log tells kept lynx ms.
     restarts-same log old new kept lynx ms

@@ -36,7 +36,7 @@ module _ (w : World) (h : Holds w) (d : Datagram) (away : d.source.host ≢ serv
   strange : (f : Endpoint) (port : ℕ) → BindsBy d f port → IsStranger after f
   strange f port new = subst (IsStranger after) new.source stranger
 
-  -- an endpoint with an operation is no stranger's
+  -- an endpoint with an operation is not a stranger's
   before : (f : Endpoint) (port : ℕ) → HasBegun after f → IsBound after f port → IsBound w f port
   before f port begun b =
       ⊎_elim (λ old. old) (λ (new : BindsBy d f port). no_stranger after own f begun (strange f port new)) (split f port b)

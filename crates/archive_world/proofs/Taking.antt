@@ -38,7 +38,7 @@ abbrev pub world_taken : Maps → (port : ℕ) → Transfer → (file : List ℕ
 world_taken maps port t file next out w =
     served (net_with server_endpoint.host w.net out) (server_with maps port (with_end t next) w.server) (w.taken ++ taken_of t file ∷ []) w.opened w
 
--- what is to be shown
+-- what must be shown
 pub record Taking (w : World) (maps : Maps) (port : ℕ) (t : Transfer) (file : List ℕ) (next : Receiver) (out : Option Out) : Type 0 where
   pub is : transfer_at port w.server ≡ Some t
   pub there : IsReceivingAt (world_taken maps port t file next out w) t.peer port next

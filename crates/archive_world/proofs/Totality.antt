@@ -1,4 +1,4 @@
--- What a file makes of the collections exists and is one: so there is a run of every list of events and grants, and one.
+-- The collections that a file makes exist and are unique, so every list of events and grants has exactly one run.
 use Rattle.std.proofs.Common.{◌≡◌, ◌⊎◌, ℕ, List, [], ◌∷◌, ◌++◌, length, slice_get, Some, refl, ap, sym, ◌∙◌, subst, arith, inl, inr, length-append}
 use Rattle.tws_file.specs.declared.«ruleset».Ruleset.{Ruleset}
 use Rattle.tws_file.specs.declared.«ruleset».Ruleset.TheVariants.{Lynx, Ms}
@@ -17,7 +17,7 @@ use Rattle.archive_world.proofs.Merging.{best-taken}
 use Rattle.archive_world.proofs.Remaining.{TakesOrRemain, event-takes}
 use Rattle.archive_world.proofs.Collecting.{step-best, start-best}
 
--- ---- what a file makes
+-- ---- the collections that a file makes
 
 joined : (file : File) (old : Collected) → (new : Collected) × IsJoined file old new
 joined file old =

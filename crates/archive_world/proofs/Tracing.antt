@@ -1,4 +1,4 @@
--- The run of a trace's steps makes just the trace's deeds.
+-- The run of a trace's steps does exactly the trace's deeds.
 use Rattle.std.proofs.Common.{◌≡◌, ◌≢◌, ℕ, suc, ◌+◌, Bool, true, false, ◌==◌, List, [], ◌∷◌, ◌++◌, length, slice_get, Option, None, Some, refl, ap, sym, ◌∙◌, subst, arith, length-append}
 use Rattle.std.specs.Option.{option_map}
 use Rattle.std.specs.Str.{bytes_eq}
@@ -116,9 +116,9 @@ trace-makes (m ∷ members) w may =
     ∙ trace-makes members (run_from steps w) parts.1
     ∙ ap (trace_from members) (deed_fits w m.deed m.grant m.maps parts.0)
 
--- ---- what it takes
+-- ---- the files that it takes
 
--- the deed has made the collections, where it is these worlds' step
+-- a file that is taken between these worlds has made the collections
 abbrev MergesTo : (w v : World) → Type 0
 MergesTo w v = (t : Taken) → v.taken ≡ w.taken ++ t ∷ [] → IsMerged t.file w.server.maps v.server.maps
 

@@ -1,4 +1,4 @@
--- What the functions inside a replay say, each by what it answers.
+-- What the functions inside a replay guarantee, by their results.
 use Rattle.std.specs.Prelude.{◌≡◌, ◌≢◌, ◌⊎◌, ℕ, List, Option, Some, Result, Ok, Err}
 use Rattle.tws_best.specs.Best.{IsCollected}
 use Rattle.archive_table.specs.Keeper.{Keeping}
@@ -20,12 +20,12 @@ pub record KeeperHas (told : Option (List Keeping)) (w : World) : Type 0 where
   pub lynx : IsCollected w.server.maps.lynx
   pub ms : IsCollected w.server.maps.ms
 
--- what an event makes; of a restart, where the keeper has what the server has
+-- what an event does; for a restart, if the keeper has what the server has
 abbrev pub MakesKept : Event → (told now : Option (List Keeping)) → (w v : World) → Type 0
 MakesKept e told now w v = (e ≡ restart → KeeperHas told w) → Makes e told now w v
 
--- By what a call for an event answers. Where memory runs out, the event was not begun, or the server made its step. At a
--- restart that is a load that fails.
+-- By the result of a call for an event. If it runs out of memory, the event was not begun, or the server made its step. A
+-- restart never runs out of memory by itself: the load fails.
 abbrev pub Comes : Result (Unit {0}) EventFault → Event → (told now : Option (List Keeping)) → (w v : World) → Type 0
 Comes (Ok done) e told now w v = (v.server.request ≡ w.server.request) × MakesKept e told now w v
 Comes (Err Bad) e told now w v = (now ≡ told) × (MayHappen e w → ⊥)
@@ -40,7 +40,7 @@ fault_of Reused index = world.PortReused index
 fault_of NotLoaded index = world.NotLoaded index
 fault_of Memory index = world.Memory
 
--- by what a call for a list of events answers
+-- by the result of a call for a list of events
 abbrev pub Ends : Result (Unit {0}) WorldFault → List Event → (told now : Option (List Keeping)) → (v : World) → Type 0
 Ends (Ok done) events told now v = HasHappened events told now v
 Ends (Err (world.BadEvent i)) events told now v = IsBadAt events told now i

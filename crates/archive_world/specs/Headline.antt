@@ -1,4 +1,4 @@
--- What holds of every run: of the operations that began, the files that were taken, sent and fetched, and the
+-- What holds for every run, about the operations that began, the files that were taken, sent and fetched, and the
 -- collections.
 use Rattle.std.specs.Prelude.{◌≡◌, ◌⊎◌, ℕ, ◌≤◌, List, [], ◌∷◌, ◌++◌, map, take, length, slice_get, Contains, Some}
 use Rattle.tftp_packet.specs.declared.endpoint.Endpoint.{Endpoint}
@@ -31,7 +31,7 @@ HasOwnPorts w = OwnPorts w.begun w.opened w.strays
 abbrev pub files_of : List Taken → List (List ℕ)
 files_of taken = map (λ (t : Taken). t.file) taken
 
--- the text of the best over these files, of the readable ones of this ruleset, in whatever order they came
+-- the text of the best over the readable files of this ruleset among these, in whatever order they arrived
 abbrev pub IsBestOver : Ruleset → (files : List (List ℕ)) → (text : List ℕ) → Type 0
 IsBestOver kind files text = (c : Collected) × IsCollectionOf kind files c × (text ≡ collection_text c)
 
@@ -41,16 +41,16 @@ IsBestOver kind files text = (c : Collected) × IsCollectionOf kind files c × (
 abbrev pub IsStrayFrom : List Datagram → Endpoint → Type 0
 IsStrayFrom strays e = (d : Datagram) × Contains strays d × (d.source ≡ e)
 
--- A file that comes from the endpoint of an operation is taken at most once and unchanged: it is the file of the put
--- there, and no other file is taken from there. Every other file that is taken is a stranger's.
+-- A file from the endpoint of an operation is taken at most once and unchanged: it is the file of the put there, and no
+-- other file is taken from there. Every other file that is taken is a stranger's.
 pub record TakenOnce (begun : List Begun) (taken : List Taken) (strays : List Datagram) : Type 0 where
   pub known : (t : Taken) → Contains taken t → HasOperation begun t.peer ⊎ IsStrayFrom strays t.peer
   pub unchanged : (t : Taken) → Contains taken t → HasOperation begun t.peer →
       (b : Begun) × Contains begun b × (b.client ≡ t.peer) × (b.operation ≡ put t.file)
   pub once : (i j : ℕ) (t u : Taken) → slice_get taken i ≡ Some t → slice_get taken j ≡ Some u → HasOperation begun t.peer → t.peer ≡ u.peer → i ≡ j
 
--- What a client counts as sent is taken exactly once: there is a put at its endpoint, and one file, that one, is taken
--- from there.
+-- A file that a client counts as sent is taken exactly once: there is a put at its endpoint, and only that one file is
+-- taken from there.
 pub record SentOnce (begun : List Begun) (taken : List Taken) (e : Endpoint) : Type 0 where
   pub file : List ℕ
   pub began : (b : Begun) × Contains begun b × (b.client ≡ e) × (b.operation ≡ put file)
@@ -58,7 +58,7 @@ pub record SentOnce (begun : List Begun) (taken : List Taken) (e : Endpoint) : T
   pub is_taken : slice_get taken place ≡ Some (record { peer = e; file = file })
   pub only : (i : ℕ) (t : Taken) → slice_get taken i ≡ Some t → t.peer ≡ e → i ≡ place
 
--- What a get has fetched is the collection of its rules over the first files taken, as many as were taken when a
+-- What a get has fetched is the collection of its ruleset over the first files taken, as many as were taken when a
 -- transfer to it was opened, and no fewer than when it began.
 pub record IsFinishedGet (begun : List Begun) (taken : List Taken) (opened : List Opening) (g : Got) : Type 0 where
   pub kind : Ruleset
@@ -76,7 +76,8 @@ pub record IsFinishedGet (begun : List Begun) (taken : List Taken) (opened : Lis
   pub best : IsBestOver kind (files_of (take opening.taken taken)) g.file
 
 -- Whatever the network does: a put's file is taken at most once and unchanged, and exactly once if its client counts it
--- as sent. The collections are the best over the files taken. A finished get is the collection at a request of its own.
+-- as sent. The collections are the best over the files taken. A finished get is the collection at one of its own
+-- requests.
 pub record Headline (w : World) : Type 0 where
   pub taken : TakenOnce w.begun w.taken w.strays
   pub sent : (e : Endpoint) → Contains w.sent e → SentOnce w.begun w.taken e
@@ -84,7 +85,7 @@ pub record Headline (w : World) : Type 0 where
   pub ms : IsBestOver Ms (files_of w.taken) (collection_text w.server.maps.ms)
   pub got : (g : Got) → Contains w.got g → IsFinishedGet w.begun w.taken w.opened g
 
--- What was fetched is the best of this ruleset over some first files taken, and the file that was sent from this
+-- What was fetched is the best of this ruleset over the first `count` files taken, and the file that was sent from this
 -- endpoint is among them.
 pub record IsFetchedWith (kind : Ruleset) (taken : List Taken) (sent : Endpoint) (g : Got) : Type 0 where
   pub count : ℕ
@@ -97,8 +98,8 @@ abbrev pub FetchesSent : (before after : List Step) → Step → Type 0
 FetchesSent before after s =
     (e : Endpoint) (kind : Ruleset) → s.event ≡ begin e (get kind) → (x : Endpoint) → Contains (run before).sent x → (g : Got) → Contains (run (before ++ s ∷ after)).got g → g.client ≡ e → IsFetchedWith kind (run (before ++ s ∷ after)).taken x g
 
--- An operation that has begun is that of an event; and the files that were taken by then are those of the run before
--- it.
+-- An operation that has begun is that of an event, and it counts the files that were taken in the run before that
+-- event.
 pub record BeganBy (steps : List Step) (b : Begun) : Type 0 where
   pub before : List Step
   pub step : Step

@@ -1,4 +1,4 @@
--- The world that a machine has, without where its bytes lie in memory.
+-- The world of a machine, without its layout in memory.
 use Rattle.std.specs.Prelude.{◌≡◌, ℕ, zero, suc, Bool, true, false, List, [], ◌∷◌, Option, None, Some}
 use Rattle.tftp_packet.specs.declared.endpoint.Endpoint.{Endpoint}
 use Rattle.archive_client.specs.Client.{Client, state_of, phase_file, verdict_after}
@@ -31,7 +31,7 @@ abbrev pub running_file : {A : Type 0} → runnings.Running A → Option (List �
 running_file (Put c) = None
 running_file (Get c) = phase_file c.phase
 
--- what was granted to a client that is this now
+-- what a client's step was granted, judged by the client after it
 abbrev pub verdict_in : {A : Type 0} → runnings.Running A → Verdict
 verdict_in (Put c) = granted
 verdict_in (Get c) = verdict_after c
@@ -49,7 +49,7 @@ IsFirst test zero (x ∷ xs) = test x.0 ≡ true
 IsFirst test (suc i) [] = ⊥
 IsFirst test (suc i) (x ∷ xs) = (test x.0 ≡ false) × IsFirst test i xs
 
--- the world that a machine has
+-- the world of a machine
 abbrev pub world_of : {A : Type 0} → machines.Inside A → World
 world_of m =
     record {
@@ -66,23 +66,23 @@ world_of m =
 
 -- ---- a datagram at a port of the server
 
--- What a world is after a datagram has come to a port of the server, with what was granted; and what the keeper's list is
--- then.
+-- The world after a datagram has arrived at a port of the server, with what was granted; and the keeper's list after
+-- that.
 pub record HearsAtPort (d : Datagram) (before after : Option (List Keeping)) (old new : World) : Type 0 where
   pub grant : Grant
   pub is : new ≡ after_transfer (server_datagram grant new.server.maps d.target.port d.source d.bytes old.server) old
   pub merges : Merges (server_datagram grant new.server.maps d.target.port d.source d.bytes old.server).told.taken old.server.maps new.server.maps
-  -- by the file that is taken if all is granted
+  -- by the file that is taken if everything is granted
   pub keeps : StepKeeps grant (server_datagram all old.server.maps d.target.port d.source d.bytes old.server).told.taken old.server.maps new.server.maps before after
 
 -- ---- a client
 
--- the file that a client has, if it has it newly
+-- the file of a client, if it has just fetched it
 abbrev pub newly_fetched : (newly : Bool) → Option (List ℕ) → Option (List ℕ)
 newly_fetched true file = file
 newly_fetched false file = None
 
--- Of the client at an endpoint: what its step has told, as a list of clients and a program see it.
+-- For the client at an endpoint: what its step returned, as a list of clients and a program see it.
 pub record Answers (step : Client → client.Answer) (e : Endpoint) (before after : List (Endpoint × Client)) (sent : Bool) (file : Option (List ℕ)) (out : Option Out) : Type 0 where
   pub client : Client
   pub there : lookup (at_endpoint e) before ≡ Some client
@@ -91,7 +91,7 @@ pub record Answers (step : Client → client.Answer) (e : Endpoint) (before afte
   pub file_is : file ≡ newly_fetched (newly_got (state_of client) (state_of (step client).client)) (phase_file (step client).client.phase)
   pub out_is : out ≡ (step client).out
 
--- a machine's world once these are its clients, one of which has told this
+-- a machine's world with these clients, after a step of one of them has returned this
 abbrev pub answered_by : Endpoint → List (Endpoint × Client) → (sent : Bool) → (file : Option (List ℕ)) → Option Out → World → World
 answered_by e clients sent file out w =
     record {

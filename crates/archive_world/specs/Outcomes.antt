@@ -1,4 +1,4 @@
--- What a run leaves of its world.
+-- The outcome of a run: what is recorded of its world.
 use Rattle.std.specs.Prelude.{ℕ, List}
 use Rattle.tftp_packet.specs.declared.endpoint.Endpoint.{Endpoint}
 use Rattle.tws_best.specs.Best.{collection_text}
@@ -11,14 +11,14 @@ pub record Outcome : Type 0 where
   pub taken : List Taken
   -- the clients that count their files as sent
   pub sent : List Endpoint
-  -- what clients have fetched whole
+  -- the files that clients have fetched whole
   pub got : List Got
   -- the transfers that were opened
   pub opened : List Opening
   -- the texts of the server's collections
   pub lynx : List ℕ
   pub ms : List ℕ
-  -- the datagrams that were ever sent, the strangers' among them
+  -- all datagrams that were ever sent, those of strangers too
   pub datagrams : List Datagram
 
 abbrev pub outcome_of : World → Outcome

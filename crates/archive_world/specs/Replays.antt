@@ -1,4 +1,4 @@
--- What a replay of events says: that all of them have happened, or which one is the first at fault, and why.
+-- What a replay of events guarantees: that all of them have happened, or which one is the first at fault, and why.
 use Rattle.std.specs.Prelude.{◌≡◌, ◌≢◌, ℕ, ◌≤◌, List, [], ◌∷◌, map, take, length, slice_get, Contains, Option, Some}
 use Rattle.archive_table.specs.Server.{Grant, unkept, Maps, Taken, IsMerged}
 use Rattle.archive_table.specs.Keeper.{Keeping, TableFails}
@@ -8,13 +8,13 @@ use Rattle.archive_world.specs.Headline.{HasOwnPorts, Headline}
 use Rattle.archive_world.specs.Restarts.{EventKeeps, wanted_by, IsOutside}
 use Rattle.archive_world.specs.Outcomes.{Outcome, outcome_of}
 
--- What the keeper has after these steps, where before them it had the first; a restart leaves its list.
+-- What the keeper has after these steps, if it has `before` at first. A restart does not change its list.
 abbrev pub HaveKept : List Step → World → (before last : List Keeping) → Type 0
 HaveKept [] w before last = last ≡ before
 HaveKept (s ∷ steps) w before last =
     (after : List Keeping) × EventKeeps s.event s.grant w (happens s w) before after × (s.event ≡ restart → after ≡ before) × HaveKept steps (happens s w) after last
 
--- A keep is refused only where the file would have changed a collection.
+-- A keep is refused only if the file would have changed a collection.
 abbrev pub IsDue : Event → Grant → World → Type 0
 IsDue (begin e operation) grant w = Unit {0}
 IsDue (deliver index spare) grant w =
@@ -28,8 +28,8 @@ abbrev pub AllDue : List Step → World → Type 0
 AllDue [] w = Unit {0}
 AllDue (s ∷ steps) w = IsDue s.event s.grant w × AllDue steps (happens s w)
 
--- From the start, these events have led to this world. Each was one that may happen, and no port is reused. A keeper that
--- told its list tells it now, and has what the steps have kept.
+-- From the start, these events have led to this world. Each was allowed to happen, and no port is reused. A keeper that
+-- told its list still tells it, and has what the steps have kept.
 pub record HasHappened (events : List Event) (told now : Option (List Keeping)) (w : World) : Type 0 where
   pub steps : List Step
   pub events_are : map (λ (s : Step). s.event) steps ≡ events
@@ -40,7 +40,7 @@ pub record HasHappened (events : List Event) (told now : Option (List Keeping)) 
   pub due : AllDue steps start
   pub keeps : (before : List Keeping) → told ≡ Some before → (log : List Keeping) × (now ≡ Some log) × HaveKept steps start before log
 
--- what one event makes of a world and of a keeper's list, where it may happen and reuses no port
+-- what one event does to a world and to a keeper's list, if it may happen and reuses no port
 pub record Makes (e : Event) (told now : Option (List Keeping)) (w v : World) : Type 0 where
   pub grant : Grant
   pub maps : Maps
@@ -50,23 +50,23 @@ pub record Makes (e : Event) (told now : Option (List Keeping)) (w v : World) : 
   pub merged : HasMerged (record { event = e; grant = grant; maps = maps }) w
   pub due : IsDue e grant w
   pub keeps : (before : List Keeping) → told ≡ Some before → (after : List Keeping) × (now ≡ Some after) × EventKeeps e grant w v before after
-  -- a restart leaves its list
+  -- a restart does not change the list
   pub stays : e ≡ restart → now ≡ told
 
 -- ---- the end of a replay
 
--- Where the server restarts, the keeper tells its list, and has nothing at first. Else any keeper will do.
+-- If the server restarts, the keeper tells its list, and has nothing at first. Otherwise any keeper will do.
 abbrev pub IsReady : (told : Option (List Keeping)) → List Event → Type 0
 IsReady told events = Contains events restart → told ≡ Some []
 
--- All events have happened, the outcome is that of the world after them, and the headline holds of it.
+-- All events have happened, the outcome is that of the world after them, and the headline holds for it.
 pub record HasRun (events : List Event) (told now : Option (List Keeping)) (outcome : Outcome) : Type 0 where
   pub world : World
   pub happened : HasHappened events told now world
   pub is : outcome ≡ outcome_of world
   pub headline : Headline world
 
--- The events before this place have happened, and the one there may not happen then.
+-- The events before this place have happened, and the one there may not happen after them.
 pub record IsBadAt (events : List Event) (told now : Option (List Keeping)) (i : ℕ) : Type 0 where
   pub event : Event
   pub there : slice_get events i ≡ Some event
@@ -91,14 +91,14 @@ pub record IsReusedAt (events : List Event) (told now : Option (List Keeping)) (
   pub reuses : Reuses event world
 
 -- The events before this place have happened, and the one there is a restart. What the keeper has then is not at fault: a
--- load of it fails only where the keeper fails or memory runs out.
+-- load of it fails only by a fault of the keeper or out of memory.
 pub record IsNotLoadedAt (events : List Event) (told now : Option (List Keeping)) (i : ℕ) : Type 0 where
   pub there : slice_get events i ≡ Some restart
   pub world : World
   pub happened : HasHappened (take i events) told now world
   pub outside : (fault : LoadFault) → TableFails now fault → IsOutside fault
 
--- Some first events have happened, and the keeper has what they have kept.
+-- The first `count` events have happened, and the keeper has what they have kept.
 pub record HasStopped (events : List Event) (told now : Option (List Keeping)) : Type 0 where
   pub count : ℕ
   pub within : count ≤ length events

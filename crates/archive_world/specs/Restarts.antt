@@ -1,4 +1,4 @@
--- Why a restart leaves the collections as they are: what a keeper has is, after each step, what the server has.
+-- Why a restart does not change the collections: after each step the keeper has what the server has.
 use Rattle.std.specs.Prelude.{◌≡◌, ◌⊎◌, ℕ, Bool, true, false, ◌==◌, List, [], ◌∷◌, slice_get, Option, None, Some}
 use Rattle.tws_file.specs.declared.«ruleset».Ruleset.{Ruleset}
 use Rattle.tws_file.specs.declared.«ruleset».Ruleset.TheVariants.{Lynx, Ms}
@@ -9,22 +9,23 @@ use Rattle.archive_table.specs.declared.load_fault.LoadFault.{LoadFault}
 use Rattle.archive_table.specs.declared.load_fault.LoadFault.TheVariants.{Keep, Unreadable, WrongRuleset, Memory}
 use Rattle.archive_world.specs.World.{Datagram, Event, begin, deliver, client_times_out, server_times_out, stray, restart, Step, World, server_endpoint, restarts, happens}
 
--- the text is the collection's; where there is none, the collection is empty
+-- the text is the collection's; if there is none, the collection is empty
 abbrev pub IsTextAt : Ruleset → Option (List ℕ) → Collected → Type 0
 IsTextAt kind None c = c ≡ record { «ruleset» = kind; entries = [] }
 IsTextAt kind (Some text) c = text ≡ collection_text c
 
--- what was kept last of each ruleset is the current collection
+-- for each ruleset, what was kept last is the current collection
 pub record HasKept (log : List Keeping) (maps : Maps) : Type 0 where
   pub lynx : IsTextAt Lynx (last_kept Lynx log) maps.lynx
   pub ms : IsTextAt Ms (last_kept Ms log) maps.ms
 
--- each collection is of its own rules
+-- each collection is of its own ruleset
 pub record AreOwnRules (maps : Maps) : Type 0 where
   pub lynx : maps.lynx.ruleset ≡ Lynx
   pub ms : maps.ms.ruleset ≡ Ms
 
--- a step of the server after which the keeper still has what the server has: all was granted, or the collections stayed
+-- a step of the server after which the keeper still has what the server has: everything was granted, or the collections
+-- did not change
 abbrev pub StepStaysKept : Grant → (wanted : Option Taken) → (old new : Maps) → (before after : List Keeping) → Type 0
 StepStaysKept grant wanted old new before after =
     StepKeeps grant wanted old new (Some before) (Some after) → (grant ≡ all) ⊎ (new ≡ old) → AreOwnRules new → HasKept before old → HasKept after new
@@ -34,25 +35,25 @@ abbrev pub LoadsTheSame : List Keeping → Maps → Type 0
 LoadsTheSame log maps =
     HasKept log maps → IsCollected maps.lynx → IsCollected maps.ms → (lynx ms : Collected) → LoadedFrom Lynx (Some log) lynx → LoadedFrom Ms (Some log) ms → (lynx ≡ maps.lynx) × (ms ≡ maps.ms)
 
--- The keeper failed, or memory ran out. What was kept is not at fault.
+-- The keeper failed, or an allocation was refused. What was kept is not at fault.
 abbrev pub IsOutside : LoadFault → Type 0
 IsOutside (Keep fault) = Unit {0}
 IsOutside (Unreadable fault) = ⊥
 IsOutside WrongRuleset = ⊥
 IsOutside Memory = Unit {0}
 
--- what is kept is readable, so a load fails only so
+-- what is kept is readable, so a load fails for no other cause
 abbrev pub FailsOutside : List Keeping → Type 0
 FailsOutside log = (fault : LoadFault) → TableFails (Some log) fault → IsOutside fault
 
 -- ---- over a run
 
--- whether it comes to the request port, where no file is taken
+-- whether it arrives at the request port, where no file is taken
 abbrev pub wanted_at : (request : Bool) → Datagram → World → Option Taken
 wanted_at true d w = None
 wanted_at false d w = (server_datagram all w.server.maps d.target.port d.source d.bytes w.server).told.taken
 
--- whether it comes to the server's host
+-- whether it arrives at the server's host
 abbrev pub wanted_of : (ours : Bool) → Datagram → World → Option Taken
 wanted_of true d w = wanted_at (d.target.port == w.server.request) d w
 wanted_of false d w = None
@@ -61,13 +62,13 @@ abbrev pub wanted_by : Option Datagram → World → Option Taken
 wanted_by None w = None
 wanted_by (Some d) w = wanted_of (d.target.host == server_endpoint.host) d w
 
--- A delivery that leaves the collections and asks nothing of the keeper leaves its list. Any other one is a step of the
--- server, and the list after it is as that step's contract says.
+-- A delivery that does not change the collections and asks nothing of the keeper does not change its list. Any other
+-- delivery is a step of the server, and the list after it is as that step's contract says.
 abbrev pub DeliveryKeeps : Grant → (wanted : Option Taken) → (old new : Maps) → (before after : List Keeping) → Type 0
 DeliveryKeeps grant wanted old new before after =
     ((new ≡ old) × (after ≡ before)) ⊎ StepKeeps grant wanted old new (Some before) (Some after)
 
--- what was kept last of each ruleset is the same
+-- for each ruleset, what was kept last is the same
 abbrev pub AreAlike : (before after : List Keeping) → Type 0
 AreAlike before after = (kind : Ruleset) → last_kept kind after ≡ last_kept kind before
 
@@ -81,13 +82,13 @@ EventKeeps (server_times_out port) grant w v before after = after ≡ before
 EventKeeps (stray d) grant w v before after = after ≡ before
 EventKeeps restart grant w v before after = AreAlike before after
 
--- what the keeper has after these steps, where before them it had the first
+-- what the keeper has after these steps, if it has `before` at first
 abbrev pub RunKeeps : List Step → World → (before last : List Keeping) → Type 0
 RunKeeps [] w before last = last ≡ before
 RunKeeps (s ∷ steps) w before last =
     (after : List Keeping) × EventKeeps s.event s.grant w (happens s w) before after × RunKeeps steps (happens s w) after last
 
--- the server that a load makes of these collections
+-- the server that a load makes from these collections
 abbrev pub loaded_server : (request : ℕ) → (lynx ms : Collected) → Server
 loaded_server request lynx ms =
     record { request = request; maps = record { lynx = lynx; ms = ms }; live = [] }

@@ -1,4 +1,4 @@
--- Which events reuse a port: the tests, event by event.
+-- Which events reuse a port: the test for each kind of event.
 use Rattle.std.specs.Prelude.{◌≡◌, ◌↔◌, ℕ, Bool, true, false, ◌==◌, ◌&&◌, cond, List, [], ◌∷◌, ◌++◌}
 use Rattle.tftp_packet.specs.declared.endpoint.Endpoint.{Endpoint}
 use Rattle.archive_table.specs.Server.{is_same}
@@ -6,7 +6,7 @@ use Rattle.archive_client.specs.Client.{Operation}
 use Rattle.archive_world.specs.World.{Datagram, Opening, World, has_begun, begins, strays_in}
 use Rattle.archive_world.specs.Headline.{OwnPorts, HasOwnPorts}
 
--- a stranger's datagram came from this endpoint
+-- a stranger's datagram was sent from this endpoint
 abbrev pub has_strayed : Endpoint → List Datagram → Bool
 has_strayed e [] = false
 has_strayed e (d ∷ ds) = cond (is_same e d.source) true (has_strayed e ds)
@@ -24,7 +24,7 @@ pub record IsUnused (e : Endpoint) (w : World) : Type 0 where
   pub unbegun : has_begun e w.begun ≡ false
   pub unstrayed : has_strayed e w.strays ≡ false
 
--- after a begin, ports are still own exactly if nothing was at its endpoint
+-- after a begin, no port is reused exactly if nothing was at its endpoint
 abbrev pub BeginKeepsOwn : World → Endpoint → Operation → Type 0
 BeginKeepsOwn w e operation = HasOwnPorts (begins e operation w) ↔ IsUnused e w
 

@@ -9,7 +9,7 @@ use Rattle.archive_world.specs.World.{Event, begin, deliver, client_times_out, s
 
 -- ---- a file of one solution
 
--- by how many ticks
+-- the body of its record, with this many ticks
 abbrev pub sample_body : (ticks : ℕ) → List ℕ
 sample_body ticks = 1 ∷ 0 ∷ 0x42 ∷ 0x44 ∷ 0x48 ∷ 0x50 ∷ 0 ∷ 0 ∷ 0 ∷ 0 ∷ 0 ∷ 0 ∷ ticks ∷ 0 ∷ 0 ∷ 0 ∷ []
 
@@ -32,7 +32,7 @@ sample_client number = record { host = number + 1; port = 5000 }
 abbrev pub stranger : Endpoint
 stranger = record { host = 100; port = 7 }
 
--- all is granted, and a file that is taken makes these collections
+-- everything is granted, and these are the collections after a file is taken
 abbrev pub steps_of : (ticks : ℕ) → List Event → List Step
 steps_of ticks [] = []
 steps_of ticks (event ∷ events) = record { event = event; grant = all; maps = sample_maps ticks } ∷ steps_of ticks events
@@ -44,14 +44,14 @@ plain_steps (event ∷ events) = record { event = event; grant = all; maps = emp
 
 -- ---- the runs
 
--- The request comes twice, and two transfers are opened; the client binds to the first.
+-- The request arrives twice, and two transfers are opened; the client binds to the first.
 abbrev pub request_twice : List Step
 request_twice =
     steps_of 100
     (begin (sample_client 1) (put (sample_file 100)) ∷ deliver 0 4000 ∷ deliver 0 4001 ∷ deliver 1 0 ∷ deliver 2 0 ∷ deliver 4 0 ∷ deliver 3 0
     ∷ deliver 5 0 ∷ [])
 
--- Each ACK of the last block is late; the client sends that again, and the file is taken once.
+-- Each ACK of the last block is late; the client sends that block again, and the file is taken once.
 abbrev pub late_ack : List Step
 late_ack =
     steps_of 100
@@ -59,11 +59,11 @@ late_ack =
     ∷ deliver 4 0 ∷ client_times_out (sample_client 1) ∷ deliver 6 0 ∷ client_times_out (sample_client 1) ∷ deliver 8 0 ∷ deliver 9 0
     ∷ [])
 
--- a put to its end
+-- a complete put
 abbrev pub one_put : List Event
 one_put = begin (sample_client 1) (put (sample_file 100)) ∷ deliver 0 4000 ∷ deliver 1 0 ∷ deliver 2 0 ∷ deliver 3 0 ∷ []
 
--- A better solution comes while the first is fetched: that get has the collection as it was.
+-- A better solution arrives while the first is fetched: that get has the collection as it was.
 abbrev pub crossed_get : List Step
 crossed_get =
     steps_of 100 (one_put ++ begin (sample_client 2) (get Lynx) ∷ deliver 4 4001 ∷ [])
@@ -82,7 +82,7 @@ abbrev pub from_stranger : (port : ℕ) → List ℕ → Event
 from_stranger port bytes =
     stray (record { source = stranger; target = record { host = server_endpoint.host; port = port }; bytes = bytes })
 
--- A stranger acknowledges a block in the put's transfer, which is refused, and then puts a file of its own.
+-- A stranger acknowledges a block in the put's transfer, which is refused, and then puts another file.
 abbrev pub strange_put : List Step
 strange_put =
     steps_of 90
@@ -95,7 +95,7 @@ abbrev pub restart_between : List Step
 restart_between =
     steps_of 100 (one_put ++ restart ∷ server_times_out 4000 ∷ begin (sample_client 2) (get Lynx) ∷ deliver 4 4001 ∷ deliver 5 0 ∷ [])
 
--- A file of no bytes, which is no solution file, changes no collection.
+-- A file without bytes, which is not a solution file, changes no collection.
 abbrev pub empty_put : List Step
 empty_put =
     plain_steps (begin (sample_client 1) (put []) ∷ deliver 0 4000 ∷ deliver 1 0 ∷ deliver 2 0 ∷ deliver 3 0 ∷ [])
@@ -115,11 +115,11 @@ barred_strays =
     (begin (sample_client 1) (put []) ∷ stray_from (sample_client 1) ∷ stray_from (record { host = server_endpoint.host; port = 7 })
     ∷ [])
 
--- The request comes again after a restart, and finds the same port free.
+-- The request arrives again after a restart, and finds the same port free.
 abbrev pub opened_again : List Step
 opened_again = plain_steps (begin (sample_client 1) (put []) ∷ deliver 0 4000 ∷ restart ∷ deliver 0 4000 ∷ [])
 
--- ---- what a run comes to, in short
+-- ---- the outcome of a run, in short
 
 pub record Summary : Type 0 where
   -- how many datagrams were sent, and how many of them were strays
@@ -146,7 +146,7 @@ summary_of w =
       ms = collection_text w.server.maps.ms;
     }
 
--- a file without records, of the rules with this code
+-- a file without records, of the ruleset with this code
 abbrev pub bare_file : (code : ℕ) → List ℕ
 bare_file code = 0x35 ∷ 0x33 ∷ 0x9B ∷ 0x99 ∷ code ∷ 0 ∷ 0 ∷ 0 ∷ []
 

@@ -1,5 +1,6 @@
--- Traces: what the server and the clients do, told by themselves. A trace names each datagram that comes, where a run
--- names its place in the network; nothing in it is looked up or tested. It is what a running server or client can tell.
+-- Traces: what the server and the clients do, as they tell it themselves. A trace names each datagram that arrives,
+-- while a run names its place in the network; nothing in a trace is looked up or tested. It is what a running server or
+-- client can tell.
 use Rattle.std.specs.Prelude.{◌≡◌, ℕ, ◌+◌, Bool, true, false, ◌==◌, ◌&&◌, List, [], ◌∷◌, ◌++◌, length, Option, None, Some}
 use Rattle.std.specs.Option.{option_map}
 use Rattle.std.specs.Str.{bytes_eq}
@@ -12,9 +13,9 @@ use Rattle.archive_world.specs.World.{Datagram, Event, begin, deliver, client_ti
 pub data Deed : Type 0 where
   -- a client starts
   starts : (client : Endpoint) (operation : Operation) → Deed
-  -- this datagram comes to its target; at the request port, with this spare port
+  -- this datagram arrives at its target; at the request port, with this spare port
   hears : (datagram : Datagram) (spare : ℕ) → Deed
-  -- nothing has come to a client, or to a port of the server
+  -- a client, or a port of the server, times out
   client_waits_long : (client : Endpoint) → Deed
   server_waits_long : (port : ℕ) → Deed
   -- the server restarts with the collections that it has kept
@@ -45,7 +46,7 @@ abbrev pub named_in : (place : Option ℕ) → Datagram → World → World
 named_in (Some place) d w = w
 named_in None d w = strays_in d w
 
--- ---- what a deed leaves
+-- ---- the world after a deed
 
 abbrev pub server_comes : (request : Bool) → (spare : ℕ) → Grant → Maps → Datagram → World → World
 server_comes true spare grant maps d w =
@@ -69,7 +70,7 @@ abbrev pub trace_from : List Member → World → World
 trace_from [] w = w
 trace_from (m ∷ ms) w = trace_from ms (after_deed m.deed m.grant m.maps w)
 
--- Where the deed takes a file, the file has made the collections after it.
+-- If the deed takes a file, that file has made the collections after it.
 abbrev pub DeedMerged : Member → World → Type 0
 DeedMerged m w =
     (t : Taken) → (after_deed m.deed m.grant m.maps w).taken ≡ w.taken ++ t ∷ [] → IsMerged t.file w.server.maps (after_deed m.deed m.grant m.maps w).server.maps

@@ -1,4 +1,4 @@
--- The plain values of events and of what a run leaves, without where their bytes lie in memory.
+-- The plain values of events and of the outcome of a run, without their layout in memory.
 use Rattle.std.specs.Prelude.{List, map}
 use Rattle.archive_table.specs.Server.{Taken}
 use Rattle.archive_client.specs.Client.{Operation, put, get}

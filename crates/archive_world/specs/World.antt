@@ -1,4 +1,4 @@
--- The server, its clients and the network between them, and what each event makes of them. A step of the server is that
+-- The server, its clients and the network between them, and what each event does to them. A step of the server is that
 -- of archive_table, a step of a client that of archive_client.
 use Rattle.std.specs.Prelude.{◌≡◌, ◌≢◌, ℕ, Bool, true, false, ◌==◌, nat_lt, cond, List, [], ◌∷◌, ◌++◌, map, length, slice_get, Option, None, Some, Result, Ok, Err}
 use Rattle.std.specs.Map.{lookup, set_value}
@@ -20,7 +20,7 @@ use Rattle.archive_client.specs.Client as client
 
 -- ---- what a world is
 
--- a datagram, and between which endpoints
+-- a datagram with its source and target
 pub record Datagram : Type 0 where
   pub source : Endpoint
   pub target : Endpoint
@@ -73,27 +73,27 @@ pub record World : Type 0 where
 pub data Event : Type 0 where
   -- an operation begins at an endpoint
   begin : (client : Endpoint) (operation : Operation) → Event
-  -- the datagram at this place of the network comes to its target; any may come again, and in any order. If the target
-  -- is the server's request port, this spare port is free for a transfer
+  -- the datagram at this place of the network arrives at its target; any may arrive again, and in any order. If the
+  -- target is the server's request port, this spare port is free for a transfer
   deliver : (index spare : ℕ) → Event
-  -- nothing has come to a client for a while
+  -- a client times out
   client_times_out : (client : Endpoint) → Event
-  -- nothing has come to this port of the server for a while
+  -- this port of the server times out
   server_times_out : (port : ℕ) → Event
   -- a stranger's datagram enters the network
   stray : (datagram : Datagram) → Event
   -- the server restarts, with the collections that it has kept
   restart : Event
 
--- an event, and what is not in the hands of the network
+-- an event, and what the network does not control
 pub record Step : Type 0 where
   pub event : Event
   -- what the step is granted: memory, and that a changed collection is kept
   pub grant : Grant
-  -- where a file is taken, the collections after it
+  -- if the step takes a file, the collections after it
   pub maps : Maps
 
--- the server's request port
+-- the server's host and its request port
 abbrev pub server_endpoint : Endpoint
 server_endpoint = record { host = 1; port = 6969 }
 
@@ -127,13 +127,13 @@ abbrev pub has_begun : Endpoint → List Begun → Bool
 has_begun e [] = false
 has_begun e (b ∷ bs) = cond (is_same e b.client) true (has_begun e bs)
 
--- ---- what a step leaves
+-- ---- the world after a step
 
 abbrev pub datagram_of : (host : ℕ) → Out → Datagram
 datagram_of host out =
     record { source = record { host = host; port = out.from_port }; target = out.to; bytes = out.dgram }
 
--- what a host sends joins the network
+-- adds to the network what a host sends
 abbrev pub net_with : (host : ℕ) → List Datagram → Option Out → List Datagram
 net_with host net None = net
 net_with host net (Some out) = net ++ datagram_of host out ∷ []
@@ -161,7 +161,7 @@ after_request peer port asked a w =
       strays = w.strays;
     }
 
--- after any other answer of the server; none but a request opens a transfer
+-- after any other answer of the server; only a request opens a transfer
 abbrev pub after_transfer : table.Answer → World → World
 after_transfer a w =
     record {
@@ -176,7 +176,7 @@ after_transfer a w =
       strays = w.strays;
     }
 
--- whether a client that was in the first state counts its file as sent now, and likewise as fetched
+-- whether a client that was in the first state now counts its file as sent, and likewise as fetched
 abbrev pub newly_sent : (was now : State) → Bool
 newly_sent state.Running state.Running = false
 newly_sent state.Running state.Sent = true
@@ -204,7 +204,7 @@ got_with true e (Some file) gs = gs ++ record { client = e; file = file } ∷ []
 got_with true e None gs = gs
 got_with false e file gs = gs
 
--- after the answer of the client at an endpoint, which was this one
+-- after the answer of the client at an endpoint, which was `c` before
 abbrev pub after_client : Endpoint → Client → client.Answer → World → World
 after_client e c a w =
     record {
@@ -248,7 +248,7 @@ begins_unless false false e operation w = begins e operation w
 
 -- ---- a delivery
 
--- what is asked for by the name; no transfer is opened for another one
+-- what a request to read this name asks for; for an unknown name no transfer is opened
 abbrev pub asked_named : Option Ruleset → Asked
 asked_named (Some kind) = to_read kind
 asked_named None = to_write
@@ -275,20 +275,20 @@ request_comes false (Some t) spare grant d w = w
 request_comes false None spare grant d w =
     after_request d.source spare (asked_of d.bytes) (server_request (memory_of grant) spare d.source d.bytes w.server) w
 
--- a datagram comes to the server's host: whether to the request port
+-- a datagram arrives at the server's host: whether at the request port
 abbrev pub server_hears : (request : Bool) → (spare : ℕ) → Grant → Maps → Datagram → World → World
 server_hears true spare grant maps d w =
     request_comes (spare == w.server.request) (transfer_at spare w.server) spare grant d w
 server_hears false spare grant maps d w =
     after_transfer (server_datagram grant maps d.target.port d.source d.bytes w.server) w
 
--- a datagram for an endpoint with no client changes nothing
+-- a datagram for an endpoint without a client changes nothing
 abbrev pub client_hears : Option Client → Grant → Datagram → World → World
 client_hears None grant d w = w
 client_hears (Some c) grant d w =
     after_client d.target c (client_datagram (memory_of grant) d.source d.bytes c) w
 
--- whether it comes to the server's host
+-- whether it arrives at the server's host
 abbrev pub arrives : (ours : Bool) → (spare : ℕ) → Grant → Maps → Datagram → World → World
 arrives true spare grant maps d w = server_hears (d.target.port == w.server.request) spare grant maps d w
 arrives false spare grant maps d w = client_hears (client_at d.target w) grant d w
@@ -363,7 +363,7 @@ run_from (s ∷ steps) w = run_from steps (happens s w)
 abbrev pub run : List Step → World
 run steps = run_from steps start
 
--- Where the step takes a file, the file has made the collections after it.
+-- If the step takes a file, that file has made the collections after it.
 abbrev pub HasMerged : Step → World → Type 0
 HasMerged s w =
     (t : Taken) → (happens s w).taken ≡ w.taken ++ t ∷ [] → IsMerged t.file w.server.maps (happens s w).server.maps
@@ -372,7 +372,7 @@ abbrev pub AllMerged : List Step → World → Type 0
 AllMerged [] w = Unit {0}
 AllMerged (s ∷ steps) w = HasMerged s w × AllMerged steps (happens s w)
 
--- what is asked of a world: all but the collections, which follow from it
+-- the events and grants of these steps; the collections follow from them
 abbrev pub asked_by : List Step → List (Event × Grant)
 asked_by steps = map (λ (s : Step). (s.event, s.grant)) steps
 
@@ -383,7 +383,7 @@ pub record IsFree (spare : ℕ) (w : World) : Type 0 where
   pub other : spare ≢ w.server.request
   pub free : transfer_at spare w.server ≡ None
 
--- a datagram was sent, and where it goes to the request port, the spare port is free
+-- a datagram was sent, and if it goes to the request port, the spare port is free
 pub record MayDeliver (index spare : ℕ) (w : World) : Type 0 where
   pub datagram : Datagram
   pub is : slice_get w.net index ≡ Some datagram

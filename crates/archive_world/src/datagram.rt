@@ -5,7 +5,7 @@ use std::marker::Model;
 use tftp_packet::Endpoint;
 use tws_file::Bytes;
 
-/// A datagram, and between which endpoints.
+/// A datagram with its source and target.
 #[derive(Drop)]
 #[derive_where(Debug)]
 pub struct Datagram<A: Allocator = Global> {
@@ -28,7 +28,7 @@ impl<A: Allocator> Model for Datagram<A> {
 }
 
 impl<A: Allocator> Datagram<A> {
-    /// The same datagram again.
+    /// A copy of the datagram.
     ///
     /// # Errors
     ///

@@ -9,19 +9,19 @@ use tftp_packet::Endpoint;
 pub enum Event<A: Allocator = Global> {
     /// An operation begins: its client sends its request.
     Begin(Op<A>),
-    /// A datagram that was sent comes to its target; any may come again, and in any order.
+    /// A datagram that was sent arrives at its target; any may arrive again, and in any order.
     Deliver {
         /// Which one, counted from 0 over all that were ever sent.
         index: usize,
-        /// Where it goes to the server's request port: the port that is free for a transfer.
+        /// If it goes to the server's request port: the port that is free for a transfer.
         spare: u16,
     },
-    /// Nothing has come to a client for a while.
+    /// A client times out.
     ClientTimeout {
         /// The client's endpoint.
         client: Endpoint,
     },
-    /// Nothing has come to a port of the server for a while.
+    /// A port of the server times out.
     ServerTimeout {
         /// The port.
         port: u16,

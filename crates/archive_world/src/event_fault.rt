@@ -1,9 +1,9 @@
-/// Why an event has no step.
+/// Why an event fails.
 #[derive(Clone, Copy, Debug, PartialEq, Eq)]
 pub(crate) enum EventFault {
     /// It may not happen.
     Bad,
-    /// A pair of endpoints would serve two transfers, or two ends have one endpoint.
+    /// A pair of endpoints would serve two transfers, or two ends would have one endpoint.
     Reused,
     /// The server cannot load what its keeper has.
     NotLoaded,

@@ -1,4 +1,4 @@
-//! Events, tested and then made by the machine.
+//! Events: each is tested, and then made to happen by the machine.
 
 ghost use Rattle.std.specs.Prelude.{◌≡◌, ◌≢◌, ◌==◌, List, Some, Ok, Err, IfOk, IfErr, OnOk, OnErr, false, true};
 ghost use Rattle.archive_table.specs.Server.{all, server_request, request_verdict};
@@ -38,12 +38,12 @@ fn is_ours(e: Endpoint) -> bool
     e.host == SERVER.host
 }
 
-/// An operation begins.
+/// Begins an operation.
 ///
 /// # Errors
 ///
-/// `Bad` where that is on the server's host, or with a file that is too long; `Reused` where an operation or a stranger
-/// has been at its endpoint; out of memory.
+/// `Bad` if it is on the server's host, or has a file that is too long; `Reused` if an operation or a stranger has been
+/// at its endpoint; out of memory.
 pub(crate) fn begin<A: Allocator + Copy>(
     machine: &mut Machine<A>,
     op: &Op<A>,
@@ -68,11 +68,11 @@ pub(crate) fn begin<A: Allocator + Copy>(
     }
 }
 
-/// A stranger's datagram enters the network.
+/// Adds a stranger's datagram to the network.
 ///
 /// # Errors
 ///
-/// `Bad` where it comes from the server's host or from the endpoint of an operation; out of memory.
+/// `Bad` if it comes from the server's host or from the endpoint of an operation; out of memory.
 pub(crate) fn stray<A: Allocator + Copy>(
     machine: &mut Machine<A>,
     d: &Datagram<A>,
@@ -93,11 +93,11 @@ pub(crate) fn stray<A: Allocator + Copy>(
     }
 }
 
-/// Nothing has come to a client for a while.
+/// Handles a time-out of a client.
 ///
 /// # Errors
 ///
-/// `Bad` where no operation has begun at this endpoint; out of memory.
+/// `Bad` if no operation has begun at this endpoint; out of memory.
 pub(crate) fn client_timeout<A: Allocator + Copy>(
     machine: &mut Machine<A>,
     e: Endpoint,
@@ -117,7 +117,7 @@ pub(crate) fn client_timeout<A: Allocator + Copy>(
     }
 }
 
-/// Nothing has come to a port of the server for a while.
+/// Handles a time-out at a port of the server.
 ///
 /// # Errors
 ///
@@ -135,12 +135,13 @@ pub(crate) fn server_timeout<A: Allocator + Copy>(
     }
 }
 
-/// A datagram comes to the server's request port, and this port is spare. Whether a transfer was opened there.
+/// Delivers a datagram to the server's request port, with `spare` as the spare port. Returns whether a transfer was
+/// opened there.
 ///
 /// # Errors
 ///
-/// `Bad` where the spare port is the request port or has a transfer; `Reused` where a transfer was opened at it, as one
-/// was before for the same peer; out of memory.
+/// `Bad` if the spare port is the request port or has a transfer; `Reused` if a transfer was opened at it where one was
+/// opened before for the same peer; out of memory.
 pub(crate) fn request<A: Allocator + Copy>(
     machine: &mut Machine<A>,
     spare: u16,
@@ -173,8 +174,8 @@ pub(crate) fn request<A: Allocator + Copy>(
     }
 }
 
-/// The server restarts. Where the keeper tells its list, and what it kept last is what the server has, the collections
-/// stay as they are.
+/// Restarts the server. If the keeper tells its list, and what it kept last is what the server has, the collections do
+/// not change.
 ///
 /// # Errors
 ///

@@ -1,4 +1,4 @@
-//! An event, by its kind.
+//! Makes an event happen, by its kind.
 
 ghost use Rattle.std.specs.Prelude.{◌≡◌, ◌≢◌, List, Option, Some, ℕ, slice_get};
 ghost use Rattle.archive_table.specs.Keeper.{Keeping};
@@ -15,7 +15,7 @@ use crate::server_endpoint::SERVER;
 use archive_table::Keeper;
 use std::alloc::Allocator;
 
-// The datagram comes to a client's host.
+// Delivers a datagram to a client's host.
 fn hear<A: Allocator + Copy>(machine: &mut Machine<A>, d: &Datagram<A>) -> Result<(), EventFault>
     requires away { d.now.target.host ≢ server_endpoint.host }
     ensures { (told : Option (List Keeping)) (index spare : ℕ) → slice_get machine.old.net index ≡ Some d.now → Comes result (deliver index spare) told told machine.old machine.new }
@@ -26,7 +26,7 @@ fn hear<A: Allocator + Copy>(machine: &mut Machine<A>, d: &Datagram<A>) -> Resul
     }
 }
 
-// The datagram comes to the request port.
+// Delivers a datagram to the request port.
 fn ask<A: Allocator + Copy>(
     machine: &mut Machine<A>,
     spare: u16,
@@ -43,7 +43,7 @@ fn ask<A: Allocator + Copy>(
     }
 }
 
-// The datagram comes to another port of the server.
+// Delivers a datagram to another port of the server.
 fn transfer<K: Keeper, A: Allocator + Copy>(
     machine: &mut Machine<A>,
     keeper: &mut K,
@@ -60,7 +60,7 @@ fn transfer<K: Keeper, A: Allocator + Copy>(
     }
 }
 
-// The datagram comes to its target.
+// Delivers a datagram to its target.
 fn arrive<K: Keeper, A: Allocator + Copy>(
     machine: &mut Machine<A>,
     keeper: &mut K,
@@ -80,7 +80,7 @@ fn arrive<K: Keeper, A: Allocator + Copy>(
     transfer(machine, keeper, d)
 }
 
-// The datagram at this place of the network comes to its target.
+// Delivers the datagram at this place of the network to its target.
 fn deliver<K: Keeper, A: Allocator + Copy>(
     machine: &mut Machine<A>,
     keeper: &mut K,
@@ -98,12 +98,12 @@ fn deliver<K: Keeper, A: Allocator + Copy>(
     arrive(machine, keeper, spare, &d)
 }
 
-/// An event happens, where it may.
+/// Makes an event happen, if it may.
 ///
 /// # Errors
 ///
-/// `Bad` where it may not happen; `Reused` where it would reuse a port; `NotLoaded` where the server cannot
-/// load its collections; out of memory.
+/// `Bad` if it may not happen; `Reused` if it would reuse a port; `NotLoaded` if the server cannot load its
+/// collections; out of memory.
 pub(crate) fn happen<K: Keeper, A: Allocator + Copy>(
     machine: &mut Machine<A>,
     keeper: &mut K,

@@ -1,4 +1,4 @@
-//! What holds of every run. These functions do nothing: each contract is a theorem.
+//! What holds for every run. These functions do nothing: each contract is a theorem.
 
 ghost use Rattle.std.specs.Prelude.{◌≡◌, List, [], ◌∷◌, ◌++◌, Contains, Option};
 ghost use Rattle.archive_world.specs.Samples.{request_twice, late_ack, crossed_get, unanswered, strange_put, restart_between, empty_put, empty_get, barred_strays, opened_again, summary_of, sample_opening, one_put_summary, no_file_summary, crossed_get_summary, strange_put_summary, restart_summary, empty_put_summary, empty_get_summary};
@@ -12,42 +12,43 @@ ghost use Rattle.archive_world.specs.Restarts.{HasKept, StepStaysKept, LoadsTheS
 ghost use Rattle.archive_world.specs.Traces.{Member, trace_from, trace_steps, AllDeedsMerged};
 ghost use Rattle.archive_world.specs.Headline.{HasOwnPorts, Headline, FetchesSent, BeganBy, StraysBy};
 
-/// Of every list of begins, deliveries of any datagram ever sent, losses, time-outs, strangers' datagrams and restarts,
-/// whatever memory is refused and whatever is not kept: where no two operations begin at one endpoint, no pair of
-/// endpoints serves two transfers and no stranger has the endpoint of an operation, a put's file is taken at most once
-/// and unchanged, and exactly once if its client counts it as sent; each collection is the best over the files taken;
-/// and a finished get is the collection at a request of its own. Where a step takes a file, the collections after it
-/// are those that the server's contract says.
+/// For every list of begins, deliveries of any datagram ever sent, losses, time-outs, strangers' datagrams and
+/// restarts, whatever memory is refused and whatever is not kept: if no two operations begin at one endpoint, no pair
+/// of endpoints serves two transfers and no stranger has the endpoint of an operation, a put's file is taken at most
+/// once and unchanged, and exactly once if its client counts it as sent; each collection is the best over the files
+/// taken; and a finished get is the collection at one of its own requests. If a step takes a file, the collections
+/// after it are those that the server's contract says.
 pub fn network_law()
     ensures headline { (steps : List Step) → HasOwnPorts (run steps) → AllMerged steps start → Headline (run steps) }
-    // What has begun are operations of the events, each with the number of files that were taken before its event.
+    // Every operation that has begun is that of an event, with the number of files that were taken before that event.
     ensures began { (steps : List Step) (b : Begun) → Contains (run steps).begun b → BeganBy steps b }
     // The strays are those of the events.
     ensures strays { (steps : List Step) (d : Datagram) → Contains (run steps).strays d → StraysBy steps d }
     // So a put that was counted as sent before a get began is in what that get has fetched.
     ensures since { (before after : List Step) (s : Step) → HasOwnPorts (run (before ++ s ∷ after)) → AllMerged (before ++ s ∷ after) start → FetchesSent before after s }
-    // For all events and grants there are collections that the server's contract says, and the world after them is one.
+    // For all events and grants there are collections as the server's contract says, and the world after them is
+    // unique.
     ensures total { (asked : List (Event × Grant)) → (steps : List Step) × (asked_by steps ≡ asked) × AllMerged steps start }
     ensures one { (first second : List Step) → asked_by first ≡ asked_by second → AllMerged first start → AllMerged second start → run first ≡ run second }
 {}
 
-/// The server's host and its request port as numbers. The definitions name them.
+/// The values of the server's host and its request port, which the definitions refer to by name.
 pub fn server_values()
     ensures host { server_endpoint.host ≡ 1 }
     ensures port { server_endpoint.port ≡ 6969 }
 {}
 
-/// Of every trace, which names the datagrams that come: if each event that it makes may happen, so that each datagram
-/// that it names was sent before or is a stranger's, the run of these events, with what the trace was granted, makes
-/// just the trace's deeds. So the headline holds of every such trace in which no port is reused.
+/// For every trace, which names the datagrams that arrive: if each event that it makes may happen, so that each
+/// datagram that it names was sent before or is a stranger's, the run of these events, with what the trace was granted,
+/// does exactly the trace's deeds. So the headline holds for every such trace in which no port is reused.
 pub fn trace_law()
     ensures run { (members : List Member) → AllMayHappen (trace_steps members start) start → run (trace_steps members start) ≡ trace_from members start }
     ensures headline { (members : List Member) → AllMayHappen (trace_steps members start) start → HasOwnPorts (trace_from members start) → AllDeedsMerged members start → Headline (trace_from members start) }
 {}
 
-/// Some runs, so that nobody has to take it on trust that a run does something: a request that comes twice, a last ACK
-/// that is late three times, a put that crosses a get, a put that nobody answers, a stranger, a restart, a file of no
-/// bytes, a get of nothing, strays that may not happen.
+/// Some runs, so that nobody has to take it on trust that a run does something: a request that arrives twice, a last
+/// ACK that is late three times, a put that crosses a get, a put that nobody answers, a stranger, a restart, a file
+/// without bytes, a get from a server that has nothing, strays that may not happen.
 pub fn sample_runs()
     ensures twice { summary_of (run request_twice) ≡ one_put_summary 6 (sample_opening 1 4000 to_write 0 ∷ sample_opening 1 4001 to_write 0 ∷ []) }
     ensures late { summary_of (run late_ack) ≡ one_put_summary 10 (sample_opening 1 4000 to_write 0 ∷ []) }
@@ -67,27 +68,27 @@ pub fn sample_runs()
     ensures opened_again { HasOwnPorts (run opened_again) → ⊥ }
 {}
 
-/// The tests by which no port is reused: a begin reuses none if neither an operation nor a stranger has been at its
+/// The tests for the reuse of a port: a begin reuses none if neither an operation nor a stranger has been at its
 /// endpoint; an opening, if none before had its peer and its port; a stray, if no operation has begun at its endpoint.
 pub fn own_ports()
     ensures start { HasOwnPorts start }
     ensures begin { (w : World) → HasOwnPorts w → (e : Endpoint) (operation : Operation) → BeginKeepsOwn w e operation }
     ensures opening { (w : World) → HasOwnPorts w → (o : Opening) → OpeningKeepsOwn w o }
     ensures stray { (w : World) → HasOwnPorts w → (d : Datagram) → StrayKeepsOwn w d }
-    // A port that was reused stays so.
+    // Once a port was reused, it stays reused.
     ensures before { (w : World) (s : Step) → HasOwnPorts (happens s w) → HasOwnPorts w }
 {}
 
-/// What a keeper has is, after each step, what the server has, and what a table loads from it is that: so a restart
-/// leaves the collections as they are. A keeper that holds nothing has the empty collections; each step of the server
-/// keeps what it changes; a load gives what was kept last. So over every run whose steps keep as the server's contract
-/// says, what is loaded at a restart is what the world has after it, and where nothing is loaded the keeper has failed
-/// or memory has run out.
+/// After each step a keeper has what the server has, and that is what a table loads from it: so a restart does not
+/// change the collections. A keeper that holds nothing has the empty collections; each step of the server keeps what it
+/// changes; a load returns what was kept last. So for every run whose steps keep as the server's contract says, what is
+/// loaded at a restart is what the world has after it, and if nothing is loaded, the keeper has failed or an allocation
+/// was refused.
 pub fn restart_law()
     ensures start { HasKept [] empty_maps }
     ensures step { (grant : Grant) (wanted : Option Taken) (old new : Maps) (before after : List Keeping) → StepStaysKept grant wanted old new before after }
     ensures load { (log : List Keeping) (maps : Maps) → LoadsTheSame log maps }
-    // Over every run, from a keeper that holds nothing. The beginning of a run is a run, so this holds at each restart.
+    // For every run, from a keeper that holds nothing. The beginning of a run is a run, so this holds at each restart.
     ensures run { (steps : List Step) (log : List Keeping) → AllMerged steps start → RunKeeps steps start [] log → HasKept log (run steps).server.maps × RestartsFrom log (run steps) }
     ensures fails { (steps : List Step) (log : List Keeping) → AllMerged steps start → RunKeeps steps start [] log → FailsOutside log }
     // Every run with merged collections has such a list.

@@ -1,10 +1,11 @@
-//! The archive and its clients as one: a server, clients, and the network between them, over every schedule of begins,
-//! deliveries, time-outs, strangers' datagrams and restarts. docs/HEADLINE.md states the promise and why it holds.
+//! The archive and its clients as one system: a server, clients, and the network between them, over every schedule of
+//! begins, deliveries, time-outs, strangers' datagrams and restarts. docs/HEADLINE.md states the promise and why it
+//! holds.
 //!
-//! `specs/World.antt` is the file to read first: what a world is, and what each event makes of it. `specs/Headline.antt`
-//! has the premise on ports and what holds of every run. `Traces` has runs as their ends tell them, `Reuse` the tests by
-//! which no port is reused, `Restarts` why a restart leaves the collections as they are, `Outcomes` what a run leaves,
-//! `Replays` what a replay of events says, and `Samples` some runs. docs/CALLING.md says how `replay` is called.
+//! Read `specs/World.antt` first: what a world is, and what each event does to it. `specs/Headline.antt` has the
+//! premise on ports and what holds for every run. `Traces` has runs as their ends tell them, `Reuse` the tests for the
+//! reuse of a port, `Restarts` why a restart does not change the collections, `Outcomes` the outcome of a run,
+//! `Replays` what a replay of events guarantees, and `Samples` some runs. docs/CALLING.md shows how `replay` is called.
 #![tactic(auto)]
 
 mod answered;

@@ -58,7 +58,7 @@ impl<A: Allocator + Copy> Model for Machine<A> {
 }
 
 impl<A: Allocator + Copy> Machine<A> {
-    /// Nothing was sent, and the server has nothing.
+    /// Returns the start: nothing was sent, and the server has nothing.
     pub(crate) fn new(alloc: A) -> Self
         ensures { result ≡ start }
     {
@@ -76,7 +76,7 @@ impl<A: Allocator + Copy> Machine<A> {
         }
     }
 
-    // What a host sends joins the network.
+    // Adds the datagram that a host sends, if any, to the network.
     fn send(&mut self, host: u32, out: Option<Out>) -> Result<(), AllocError>
         ensures { OnOk result (self.new ≡ record self.old { net = net_with host self.old.net out }) }
     {
@@ -96,7 +96,7 @@ impl<A: Allocator + Copy> Machine<A> {
         Ok(())
     }
 
-    // The server has taken a file.
+    // Records the file that the server has taken, if any.
     fn take(&mut self, taken: Option<Taken<A>>) -> Result<(), AllocError>
         ensures { OnOk result (self.new ≡ record self.old { taken = taken_with taken self.old.taken }) }
     {
@@ -108,7 +108,7 @@ impl<A: Allocator + Copy> Machine<A> {
         Ok(())
     }
 
-    // What the server tells after any input but a request.
+    // Records what a step of the server returned, for any input other than a request.
     fn tell(&mut self, step: Step<A>) -> Result<(), AllocError>
         ensures { OnOk result (self.new ≡ after_transfer (record { server = self.old.server; told = step }) self.old) }
     {
@@ -117,7 +117,7 @@ impl<A: Allocator + Copy> Machine<A> {
         self.take(taken)
     }
 
-    /// Nothing has come to a port of the server for a while.
+    /// Handles a time-out at a port of the server.
     ///
     /// # Errors
     ///
@@ -129,7 +129,7 @@ impl<A: Allocator + Copy> Machine<A> {
         self.tell(step)
     }
 
-    /// A stranger's datagram enters the network.
+    /// Adds a stranger's datagram to the network.
     ///
     /// # Errors
     ///
@@ -144,7 +144,7 @@ impl<A: Allocator + Copy> Machine<A> {
         Ok(())
     }
 
-    /// A datagram comes to a port of the server other than the request port.
+    /// Delivers a datagram to a port of the server other than the request port.
     ///
     /// # Errors
     ///
@@ -162,7 +162,7 @@ impl<A: Allocator + Copy> Machine<A> {
         self.tell(step)
     }
 
-    /// The server restarts with what the keeper has.
+    /// Restarts the server with what the keeper has.
     ///
     /// # Errors
     ///
@@ -180,7 +180,7 @@ impl<A: Allocator + Copy> Machine<A> {
         Ok(())
     }
 
-    /// An operation begins: its client sends its request.
+    /// Begins an operation: its client sends its request.
     ///
     /// # Errors
     ///
@@ -211,7 +211,7 @@ impl<A: Allocator + Copy> Machine<A> {
         is_begun(self.begun.as_slice(), e)
     }
 
-    /// Whether a stranger's datagram has come from this endpoint.
+    /// Whether a stranger's datagram was sent from this endpoint.
     pub(crate) fn has_strayed(&self, e: Endpoint) -> bool
         ensures { result ≡ has_strayed e self.now.strays }
     {
@@ -225,7 +225,7 @@ impl<A: Allocator + Copy> Machine<A> {
         self.table.is_live(port)
     }
 
-    /// The datagram at this place of the network, copied; none where nothing was sent there.
+    /// A copy of the datagram at this place of the network; `None` if nothing was sent there.
     ///
     /// # Errors
     ///
@@ -239,7 +239,7 @@ impl<A: Allocator + Copy> Machine<A> {
         }
     }
 
-    // A client has fetched a file, if this is one.
+    // Records the file that a client has fetched, if any.
     fn fetch(&mut self, client: Endpoint, file: Option<Bytes<A>>) -> Result<(), AllocError>
         ensures { OnOk result (self.new ≡ record self.old { got = got_with true client file self.old.got }) }
     {
@@ -250,7 +250,7 @@ impl<A: Allocator + Copy> Machine<A> {
         Ok(())
     }
 
-    // A client has answered.
+    // Records what a client's step returned.
     fn answer(&mut self, e: Endpoint, told: Answered<A>) -> Result<(), AllocError>
         ensures { OnOk result (self.new ≡ answered_by e self.old.clients told.sent told.file told.out self.old) }
     {
@@ -262,7 +262,7 @@ impl<A: Allocator + Copy> Machine<A> {
         self.send(e.host, out)
     }
 
-    /// Nothing has come to a client for a while. Where none is at this endpoint, nothing changes.
+    /// Handles a time-out of a client. If none is at this endpoint, nothing changes.
     ///
     /// # Errors
     ///
@@ -277,7 +277,7 @@ impl<A: Allocator + Copy> Machine<A> {
         self.answer(e, told)
     }
 
-    /// A datagram comes to a client's host. Where no client is at its target, nothing changes.
+    /// Delivers a datagram to a client's host. If no client is at its target, nothing changes.
     ///
     /// # Errors
     ///
@@ -299,7 +299,8 @@ impl<A: Allocator + Copy> Machine<A> {
         is_opened(self.opened.as_slice(), peer, port)
     }
 
-    /// A datagram comes to the request port, and this port is spare. Whether a transfer was opened there.
+    /// Delivers a datagram to the request port, with `spare` as the spare port. Returns whether a transfer was opened
+    /// there.
     ///
     /// # Errors
     ///
@@ -317,7 +318,7 @@ impl<A: Allocator + Copy> Machine<A> {
         Ok(opened)
     }
 
-    /// What all that has happened leaves.
+    /// The outcome of all that has happened.
     ///
     /// # Errors
     ///
@@ -346,7 +347,7 @@ impl<A: Allocator + Copy> Machine<A> {
         })
     }
 
-    // A transfer was opened at this port for a request, or none was.
+    // Records the transfer that was opened at this port for a request, if one was.
     fn open(&mut self, opened: bool, port: u16, d: &Datagram<A>) -> Result<(), AllocError>
         ensures { OnOk result (self.new ≡ record self.old { opened = opened_with opened (record { peer = d.now.source; port = port; asked = asked_of d.now.bytes; taken = length self.old.taken }) self.old.opened }) }
     {
@@ -387,7 +388,7 @@ fn asked_by(bytes: &[u8]) -> Asked
     }
 }
 
-// What is read by this name.
+// What a request to read this name asks for.
 fn asked_named(name: &[u8]) -> Asked
     ensures { asked_as result ≡ asked_named (kind_named name.now) }
 {
@@ -397,14 +398,14 @@ fn asked_named(name: &[u8]) -> Asked
     }
 }
 
-// Whether this is the transfer of a peer at a port.
+// Whether this is the opening of a transfer for this peer at this port.
 fn is_opening(one: &Opening, peer: Endpoint, port: u16) -> bool
     ensures { result ≡ is_opening_at peer port one.now }
 {
     peer.host == one.peer.host && peer.port == one.peer.port && port == one.port
 }
 
-// Whether the transfer of a peer at a port is among these.
+// Whether the opening of a transfer for this peer at this port is among these.
 #[tactic(auto, using(crate::proofs::Searches::opened_here))]
 fn is_opened(openings: &[Opening], peer: Endpoint, port: u16) -> bool
     ensures { result ≡ was_opened peer port openings.now }
@@ -426,7 +427,7 @@ fn is_begun_at<A: Allocator>(one: &Begun<A>, e: Endpoint) -> bool
     is_one(e, one.client)
 }
 
-// Whether an operation among these has begun at an endpoint.
+// Whether one of these operations has begun at an endpoint.
 #[tactic(auto, using(crate::proofs::Searches::begun_here))]
 fn is_begun<A: Allocator>(begun: &[Begun<A>], e: Endpoint) -> bool
     ensures { result ≡ has_begun e begun.now }
@@ -448,7 +449,7 @@ fn is_from<A: Allocator>(one: &Datagram<A>, e: Endpoint) -> bool
     is_one(e, one.from)
 }
 
-// Whether a datagram among these comes from an endpoint.
+// Whether one of these datagrams comes from an endpoint.
 #[tactic(auto, using(crate::proofs::Searches::strayed_here))]
 fn is_strayed<A: Allocator>(strays: &[Datagram<A>], e: Endpoint) -> bool
     ensures { result ≡ has_strayed e strays.now }

@@ -15,7 +15,7 @@ pub enum OpKind<A: Allocator = Global> {
 }
 
 impl<A: Allocator> OpKind<A> {
-    /// The same again.
+    /// A copy of it.
     ///
     /// # Errors
     ///

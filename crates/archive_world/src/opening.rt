@@ -5,7 +5,7 @@ use tftp_packet::Endpoint;
 /// A transfer that the server has opened.
 #[derive(Debug, Drop)]
 pub struct Opening {
-    /// The endpoint that it is with.
+    /// The peer's endpoint.
     pub peer: Endpoint,
     /// The server's port.
     pub port: u16,

@@ -7,7 +7,7 @@ use std::marker::Model;
 use tftp_packet::Endpoint;
 use tws_file::Bytes;
 
-/// What a run leaves. Each list is in the order in which things happened.
+/// The outcome of a run. Each list is in the order in which things happened.
 #[derive(Drop)]
 #[derive_where(Debug)]
 pub struct Outcome<A: Allocator = Global> {
@@ -23,7 +23,7 @@ pub struct Outcome<A: Allocator = Global> {
     pub lynx: Bytes<A>,
     /// The text of its MS collection.
     pub ms: Bytes<A>,
-    /// The datagrams that were ever sent, by strangers too.
+    /// All datagrams that were ever sent, those of strangers too.
     pub datagrams: Vec<Datagram<A>, A>,
 }
 

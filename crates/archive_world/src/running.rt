@@ -21,7 +21,7 @@ pub(crate) enum Running<A: Allocator + Copy = Global> {
 }
 
 impl<A: Allocator + Copy> Running<A> {
-    /// A client at this port that begins, and its request.
+    /// Returns a client at this port that begins, and its request.
     ///
     /// # Errors
     ///
@@ -46,7 +46,7 @@ impl<A: Allocator + Copy> Running<A> {
         }
     }
 
-    /// A datagram of these bytes has come from `from`.
+    /// Handles a datagram of these bytes, received from `from`.
     pub(crate) fn hear(&mut self, from: Endpoint, bytes: &[u8]) -> Option<Out>
         ensures client { running_of self.new ≡ (client_datagram (verdict_in self.new) from bytes.now (running_of self.old)).client }
         ensures sent { result ≡ (client_datagram (verdict_in self.new) from bytes.now (running_of self.old)).out }
@@ -57,7 +57,7 @@ impl<A: Allocator + Copy> Running<A> {
         }
     }
 
-    /// Nothing has come for a while.
+    /// Handles a time-out.
     pub(crate) fn wait(&mut self) -> Option<Out>
         ensures client { running_of self.new ≡ (client_timeout (running_of self.old)).client }
         ensures sent { result ≡ (client_timeout (running_of self.old)).out }
@@ -68,7 +68,7 @@ impl<A: Allocator + Copy> Running<A> {
         }
     }
 
-    /// Its state. Only a get ever has got its file.
+    /// The client's state. Only a get is ever `Got`.
     pub(crate) fn state(&self) -> State
         ensures is { result ≡ state_of (running_of self.now) }
         ensures got { result ≡ State.Got → running_file self.now ≡ phase_file (running_of self.now).phase }
@@ -79,7 +79,7 @@ impl<A: Allocator + Copy> Running<A> {
         }
     }
 
-    /// A copy of the file that it has fetched whole; none where it has not.
+    /// A copy of the file that it has fetched whole; `None` if it has not.
     ///
     /// # Errors
     ///

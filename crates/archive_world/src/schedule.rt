@@ -1,4 +1,4 @@
-//! A list of events, made one by one.
+//! Makes a list of events happen, one by one.
 
 ghost use Rattle.std.specs.Prelude.{◌≡◌, ℕ, Err, IfOk};
 ghost use Rattle.archive_world.specs.World.{start};
@@ -15,7 +15,7 @@ use crate::world_fault::WorldFault;
 use archive_table::Keeper;
 use std::alloc::Allocator;
 
-// Why there is no run, by the fault of the event at this place.
+// Why there is no run, given the fault of the event at this place.
 fn fault_at(fault: EventFault, index: usize) -> WorldFault
     ensures { result ≡ fault_of fault index }
 {
@@ -27,7 +27,7 @@ fn fault_at(fault: EventFault, index: usize) -> WorldFault
     }
 }
 
-// Makes these events in a machine, in order.
+// Makes these events happen in a machine, in order.
 fn happen_all<K: Keeper, A: Allocator + Copy>(
     machine: &mut Machine<A>,
     keeper: &mut K,
@@ -47,13 +47,13 @@ fn happen_all<K: Keeper, A: Allocator + Copy>(
     Ok(())
 }
 
-/// What these events leave, from a start at which nothing was sent and the server has nothing. The server keeps its
-/// collections by the keeper, and finds them there at a restart.
+/// Returns the outcome of these events, from a start at which nothing was sent and the server has nothing. The server
+/// keeps its collections with the keeper, and loads them from it at a restart.
 ///
 /// # Errors
 ///
 /// The first event that may not happen, that reuses a port, or at which the server cannot load its collections; out of
-/// memory. The keeper then has what the steps before have kept.
+/// memory. The keeper then has what the earlier steps have kept.
 pub fn replay<K: Keeper, A: Allocator + Copy>(
     alloc: A,
     keeper: &mut K,

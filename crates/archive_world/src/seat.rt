@@ -3,7 +3,7 @@ use std::alloc::{Allocator, Global};
 use std::marker::Model;
 use tftp_packet::Endpoint;
 
-/// A client, and where it is.
+/// A client, and its endpoint.
 #[derive(Drop)]
 pub(crate) struct Seat<A: Allocator + Copy = Global> {
     pub(crate) client: Endpoint,

@@ -16,7 +16,7 @@ use archive_client::State;
 use std::alloc::{AllocError, Allocator};
 use tftp_packet::{Endpoint, Out};
 
-// Whether two endpoints are one.
+// Whether two endpoints are the same.
 pub(crate) fn is_one(a: Endpoint, b: Endpoint) -> bool
     ensures { result ≡ is_same a b }
 {
@@ -30,7 +30,7 @@ fn is_at<A: Allocator + Copy>(seat: &Seat<A>, e: Endpoint) -> bool
     is_one(e, seat.client)
 }
 
-// Where the first client at an endpoint is.
+// The place of the first client at an endpoint.
 #[tactic(auto, using(crate::proofs::Firsts::none_more, crate::proofs::Firsts::first_here, crate::proofs::Firsts::first_within, crate::proofs::Firsts::none_all))]
 pub(crate) fn find<A: Allocator + Copy>(clients: &[Seat<A>], e: Endpoint) -> Option<usize>
     ensures none { result ≡ None → lookup (at_endpoint e) clients.now ≡ None }
@@ -69,7 +69,7 @@ fn is_newly_got(was: State, now: State) -> bool
     }
 }
 
-// What a client's step tells, by how far the client was before it.
+// What a client's step returned, given the client's state before it.
 fn answered<A: Allocator + Copy>(
     alloc: A,
     client: &Running<A>,
@@ -93,7 +93,7 @@ fn answered<A: Allocator + Copy>(
     Ok(Answered { sent, file, out })
 }
 
-/// Nothing has come to the client at this place, which is that at an endpoint.
+/// Handles a time-out of the client at this place, which is the one at endpoint `e`.
 ///
 /// # Errors
 ///
@@ -114,7 +114,8 @@ pub(crate) fn wait_at<A: Allocator + Copy>(
     answered(alloc, &seat.running, was, out)
 }
 
-/// A datagram of these bytes has come to that client. What it was granted is told by the clause alone.
+/// Delivers a datagram to the client at this place, which is the one at its target. What the step was granted appears
+/// in the clause only.
 ///
 /// # Errors
 ///

@@ -6,7 +6,7 @@ pub enum WorldFault {
     /// This event may not happen.
     #[error("BadEvent({0})")]
     BadEvent(usize),
-    /// By this event a pair of endpoints would serve two transfers, or two ends have one endpoint.
+    /// With this event a pair of endpoints would serve two transfers, or two ends would have one endpoint.
     #[error("PortReused({0})")]
     PortReused(usize),
     /// At this event the server cannot load what its keeper has.

@@ -2,7 +2,7 @@ use Rattle.std.proofs.Common.{◌≡◌, ◌≤◌, false, length, drop}
 use Rattle.archive_world.specs.Reuse.{was_opened}
 use Rattle.archive_world.proofs.machine.is_opened.Given as goal
 
--- none of those from here on
+-- no opening from here on is for this peer at this port
 abbrev pub invariant-loop-i : goal.invariant-loop-i
 invariant-loop-i l = (l.i ≤ length l.openings) × (was_opened l.peer l.port (drop l.i l.openings) ≡ false)
 

@@ -3,7 +3,7 @@ use Rattle.archive_world.specs.World.{at_endpoint}
 use Rattle.archive_world.specs.Inside.{NoneBefore}
 use Rattle.archive_world.proofs.seats.find.Given as goal
 
--- none of those so far
+-- no client so far is at the endpoint
 abbrev pub invariant-loop-i : goal.invariant-loop-i
 invariant-loop-i g l = (l.i ≤ length l.clients) × NoneBefore (at_endpoint l.e) l.i l.clients
 
