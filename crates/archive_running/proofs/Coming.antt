@@ -1,4 +1,4 @@
--- What each deed leaves of an archive and its world.
+-- An archive and its world after each deed.
 use Rattle.std.proofs.Common.{◌≡◌, ◌≢◌, ◌⊎◌, ℕ, zero, suc, Bool, true, false, ◌==◌, ◌&&◌, List, [], ◌∷◌, ◌++◌, length, slice_get, Option, None, Some, is_some, refl, ap, sym, ◌∙◌, subst, inl, inr, true≢false}
 use Rattle.std.specs.Str.{bytes_eq}
 use Rattle.std.specs.Map.{lookup}
@@ -86,7 +86,7 @@ module _ (a : Archive) (w : World) (h : Shows a w) where
       let same : u ≡ t = one_last ts u t e in
       subst (λ (x : Taken). IsMerged x.file old new) same merges
 
-  -- by a world that is what the deed leaves
+  -- for a world that equals the one after the deed
   deed_merged : (m : Member) (v : World) → after_deed m.deed m.grant m.maps w ≡ v → (told : Option Taken) → v.taken ≡ taken_with told w.taken → Merges told a.server.maps v.server.maps → DeedMerged m w
   deed_merged m v is told taken merges t e =
       let made = merged_by told w.taken a.server.maps v.server.maps merges t (sym taken ∙ ap (λ (x : World). x.taken) (sym is) ∙ e) in

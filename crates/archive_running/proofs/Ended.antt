@@ -1,4 +1,4 @@
--- What a client counts as sent or has fetched, it has since the step in which it came to that.
+-- What a client counts as sent or has fetched after a step is either new with that step or was so before.
 use Rattle.std.proofs.Common.{◌≡◌, ◌⊎◌, ℕ, ◌+◌, ◌==◌, Bool, true, false, List, Option, Some, refl, ap, sym, ◌∙◌, inl, inr}
 use Rattle.tftp_packet.specs.declared.endpoint.Endpoint.{Endpoint}
 use Rattle.tftp_ends.specs.declared.send_state.SendState.{SendState}
@@ -17,7 +17,7 @@ pub record Ends (c next : Client) : Type 0 where
   pub sent : state_of next ≡ state.Sent → (newly_sent (state_of c) (state_of next) ≡ true) ⊎ (state_of c ≡ state.Sent)
   pub got : (file : List ℕ) → phase_file next.phase ≡ Some file → (newly_got (state_of c) (state_of next) ≡ true) ⊎ (phase_file c.phase ≡ Some file)
 
--- ---- of a client that still runs, and of one that stays in its phase
+-- ---- a client that still runs, and one that stays in its phase
 
 gives_got : (s : RecvState) (count misses : ℕ) (held : Option (List ℕ)) (file : List ℕ) → (receiver_take (record { count = count; file = held; misses = misses; state = s })).file ≡ Some file → recv_state s ≡ state.Got
 gives_got recv.Running count misses held file e = absurd cc

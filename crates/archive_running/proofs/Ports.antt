@@ -1,4 +1,4 @@
--- The request port is no transfer's, after each step of a server.
+-- After each step of a server, no transfer is at the request port.
 use Rattle.std.proofs.Common.{◌≡◌, ◌≢◌, ℕ, Bool, true, false, cond, List, [], ◌∷◌, Option, None, Some, Result, Ok, Err, sym, subst}
 use Rattle.std.specs.List.{All}
 use Rattle.std.specs.Prelude.{filter}

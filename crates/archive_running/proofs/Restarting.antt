@@ -1,5 +1,4 @@
--- What the keeper has is what the server has, after each move of the server; so a restart loads the current
--- collections.
+-- After each move of the server the keeper has what the server has, so a restart loads the current collections.
 use Rattle.std.proofs.Common.{◌≡◌, ◌⊎◌, ℕ, Bool, true, false, ◌==◌, List, [], ◌∷◌, fold, Option, None, Some, refl, ap, sym, ◌∙◌, subst, inl, inr, ⊎_elim}
 use Rattle.tftp_packet.specs.declared.endpoint.Endpoint.{Endpoint}
 use Rattle.tftp_packet.specs.Decode.{decode_bytes}
@@ -23,7 +22,7 @@ abbrev pub KeptIn : Option (List Keeping) → Maps → Type 0
 KeptIn None maps = Unit {0}
 KeptIn (Some log) maps = HasKept log maps
 
--- ---- a keeper that has told nothing tells nothing after
+-- ---- a keeper that told nothing before tells nothing afterwards
 
 one_untold : (old new : Collected) (now : List Keeping) → KeepsOne old new None (Some now) → ⊥
 one_untold old new now (inl same) = same.1
@@ -48,7 +47,7 @@ step_untold unkept wanted old new now keeps = fails_untold old keeps.0 now keeps
 
 -- ---- a step
 
--- all was granted, or the collections are as they were
+-- everything was granted, or the collections did not change
 abbrev pub IsFine : Option Asks → (old new : Maps) → Type 0
 IsFine (Some a) old new = (a.grant ≡ all) ⊎ (new ≡ old)
 IsFine None old new = new ≡ old
@@ -116,7 +115,7 @@ ends_maps false v late old = refl
 
 -- ---- a turn
 
--- by what the visit and the time-outs make of the collections
+-- by what the visit and the time-outs do to the collections
 ends_kept : (asks : Option Asks) (old mid new : Maps) (kept now : Option (List Keeping)) → KeepsAsked asks old mid kept now → IsFine asks old mid → new ≡ mid → AreOwnRules new → KeptIn kept old → KeptIn now new
 ends_kept asks old mid new kept now keeps fine is rules has =
     subst (KeptIn now) (sym is) (asked-kept asks old mid kept now keeps fine (subst AreOwnRules is rules) has)

@@ -1,4 +1,4 @@
--- A run of the archive is a trace, and what that leaves.
+-- A run of the archive is a trace, and what follows from that.
 use Rattle.std.proofs.Common.{◌≡◌, ◌≢◌, ◌⊎◌, ℕ, Bool, true, false, nat_le, List, [], ◌∷◌, ◌++◌, Contains, Option, None, Some, Result, Ok, Err, refl, sym, ◌∙◌, subst, inl, inr, append-nil}
 use Rattle.std.specs.Map.{lookup}
 use Rattle.std.proofs.lemmas.List.Elements.{All-nil}
@@ -184,7 +184,7 @@ reached told = idle_made (Some []) start-kept
 reached untold = idle_made None tt
 reached (more before move) = moved (reached before) move
 
--- a put answers Ok only where its client counts the file as sent
+-- a put returns Ok only if its client counts the file as sent
 put_sent : (s : State) (len n : ℕ) → put_result s len ≡ Ok n → s ≡ state.Sent
 put_sent state.Running len n e = absurd cc
 put_sent state.Sent len n e = refl

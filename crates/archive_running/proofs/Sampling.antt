@@ -1,4 +1,4 @@
--- Runs of the archive: a put of a file of no bytes, to its end, and a get of the empty collection.
+-- Runs of the archive: a complete put of a file without bytes, and a get of the empty collection.
 use Rattle.std.proofs.Common.{◌≡◌, ℕ, zero, suc, Bool, true, false, List, [], ◌∷◌, ◌++◌, slice_get, Option, Some, Ok, is_some, refl, ap, sym, ◌∙◌, inl}
 use Rattle.tftp_packet.specs.declared.endpoint.Endpoint.{Endpoint}
 use Rattle.tftp_packet.specs.Packet.{encode, ack, data_block}
@@ -31,7 +31,7 @@ one_there : (x d : Datagram) (i : ℕ) → slice_get (x ∷ []) i ≡ Some d →
 one_there x d zero e = cc
 one_there x d (suc i) e = absurd cc
 
--- one datagram comes, which is at this place of what was sent
+-- one datagram arrives, which is at this place of those that were sent
 brings_at : (host : ℕ) (calls : List Entry) (a : Archive) (x : Datagram) (n : ℕ) → come_to host calls ≡ x ∷ [] → slice_get a.net n ≡ Some x → Brings host calls a
 brings_at host calls a x n come at d among =
     let has = Has-from_contains (come_to host calls) d among in
@@ -126,7 +126,7 @@ abbrev opened_members : Operation → List Member
 opened_members operation =
     [] ++ begin_members operation ++ server_members (begun operation) (request operation)
 
--- ---- the client hears of it
+-- ---- the client receives the answer
 
 abbrev bound : Operation → List ℕ → Run
 bound operation bytes = (run_turn (answered bytes) (asking operation)).run

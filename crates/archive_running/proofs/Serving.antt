@@ -191,7 +191,7 @@ after_visit a w v end ms late first next s calls server_is calls_are =
     let sent = subst (λ (l : List Datagram). Makes (make end.server l) (ms ++ late) w) net both in
     subst (λ (t : Server). Makes (make t (a.net ++ sent_by server_endpoint.host calls)) (ms ++ late) w) (sym server_is) sent
 
--- what the keeper has is no part of it
+-- the keeper's list is not part of it
 keeps-makes : (now : Option (List Keeping)) (s : Server) (told : Option Taken) (calls : List Entry) (a : Archive) (ms : List Member) (w : World) → Makes (after_server s told calls a.kept a) ms w → Makes (after_server s told calls now a) ms w
 keeps-makes now s told calls a ms w made =
     let h = made.shows in
@@ -211,7 +211,7 @@ keeps-makes now s told calls a ms w made =
       };
     }
 
--- the same archive, whose server is named otherwise
+-- the same archive, with an equal server
 abbrev as_server : Server → Archive → Archive
 as_server s a = record { server = s; clients = a.clients; begun = a.begun; taken = a.taken; net = a.net; kept = a.kept }
 

@@ -24,7 +24,8 @@ use Rattle.archive_running.specs.Archive.{Archive, Mirrors, after_restart}
 use Rattle.archive_running.proofs.Ports.{IsApart}
 use Rattle.archive_running.proofs.Ended.{Ends}
 
--- what is promised, by places, with what it needs: that operations have clients, and that the request port is no transfer's
+-- what is promised, by places, with what it needs: that operations have clients, and that no transfer is at the request
+-- port
 pub record Shows (a : Archive) (w : World) : Type 0 where
   pub server : w.server ≡ a.server
   pub clients : w.clients ≡ a.clients

@@ -1,6 +1,6 @@
--- The archive as it runs: a server and its clients, each over a wire that tells its calls, and the network that joins
--- these wires. Each move is taken at the moment at which its `receive` answers, and one that receives nothing at its
--- first call; so what a move receives was sent by moves before it.
+-- The running archive: a server and its clients, each over a wire that tells its calls, and the network that joins
+-- these wires. Each move is taken at the moment at which its `receive` returns, and one that receives nothing at its
+-- first call; so what a move receives was sent by earlier moves.
 use Rattle.std.specs.Prelude.{◌≡◌, ◌≢◌, ◌⊎◌, ℕ, Bool, List, [], ◌∷◌, ◌++◌, length, Contains, Option, None, Some, Ok}
 use Rattle.std.specs.Map.{lookup, set_value}
 use Rattle.std.specs.Io.KnownBytes.{Appends}
@@ -58,7 +58,7 @@ pub record IsStrangers (d : Datagram) (a : Archive) : Type 0 where
 abbrev pub Brings : (host : ℕ) → List Entry → Archive → Type 0
 Brings host calls a = (d : Datagram) → Contains (come_to host calls) d → Contains a.net d ⊎ IsStrangers d a
 
--- ---- what a move leaves
+-- ---- the archive after a move
 
 abbrev pub after_server : Server → Option Taken → (calls : List Entry) → (kept : Option (List Keeping)) → Archive → Archive
 after_server s told calls kept a =
@@ -107,8 +107,8 @@ after_restart maps kept a =
       kept = kept;
     }
 
--- What a restart loads: what the keeper has, which may be a new one that has the same of each ruleset. Of a keeper that
--- does not tell its list it is a premise that it has the current collections.
+-- What a restart loads: what the keeper has. This may be a new keeper, which has the same for each ruleset. For a
+-- keeper that does not tell its list it is a premise that it has the current collections.
 abbrev pub LoadsKept : (before now : Option (List Keeping)) → (old new : Maps) → Type 0
 LoadsKept None now old new = (now ≡ None) × (new ≡ old)
 LoadsKept (Some log) None old new = ⊥
@@ -117,10 +117,10 @@ LoadsKept (Some log) (Some told) old new =
 
 -- ---- how it moves
 
--- One move: a turn of the server or of a client, a begin, or a restart; with the members of the trace that it is. A
--- begin that fails sends nothing and leaves no client, so it is none.
+-- One move: a turn of the server or of a client, a begin, or a restart; with its members of the trace. A begin that
+-- fails sends nothing and leaves no client, so it is not a move.
 pub data Moves : (old new : Archive) → List Member → Type 0 where
-  -- the server that counts its turns makes one; which port it visited last, and its timers, may be any
+  -- the server that counts its turns makes one; the port that it visited last, and its timers, may be any
   server_turns : (a : Archive) (old new : Counted) (took : Bool) (calls : List Entry) (now : Option (List Keeping)) (t : IsTurn old new took calls a.kept now) → a.server ≡ old.table → Brings server_endpoint.host calls a → Moves a (after_server new.table (next_visit old.last t.answers old.table).taken calls now a) (visit_members (port_above old.last old.table) t.answers old.table ++ late_members t.late)
   -- the server that waits makes a round
   server_rounds : (a : Archive) (old new : Clocked) (took : Bool) (calls : List Entry) (now : Option (List Keeping)) (t : IsRound old new took calls a.kept now) → a.server ≡ old.table → Brings server_endpoint.host calls a → Moves a (after_server new.table (ready_visit t.ready t.answers old.table).taken calls now a) (ready_members t.ready t.answers old.table ++ late_members t.late)
@@ -129,7 +129,8 @@ pub data Moves : (old new : Archive) → List Member → Type 0 where
   client_begins : (a : Archive) (host : ℕ) (operation : Operation) (port : Option ℕ) (replies : Replies) (r : Run) → host ≢ server_endpoint.host → (begin_opened port server_endpoint operation replies).result ≡ Ok r → Moves a (after_begin host operation r (begin_opened port server_endpoint operation replies).calls a) (does (starts (own_endpoint host r) operation) ∷ [])
   client_turns : (a : Archive) (host : ℕ) (old new : Run) (calls : List Entry) (t : IsRunTurn old new calls) → host ≢ server_endpoint.host → lookup (at_endpoint (own_endpoint host old)) a.clients ≡ Some old.client → Brings host calls a → Moves a (after_client host old new calls a) (client_members t.answers host old)
 
--- The archive comes to this by one move after another, and these are their members. At first the keeper has nothing.
+-- The archive reaches this state by one move after another, and these are their members. At first the keeper has
+-- nothing.
 pub data Reaches : Archive → List Member → Type 0 where
   told : Reaches (idle (Some [])) []
   untold : Reaches (idle None) []
@@ -149,7 +150,7 @@ pub record Mirrors (a : Archive) (w : World) : Type 0 where
   pub sent : (e : Endpoint) (c : Client) → lookup (at_endpoint e) a.clients ≡ Some c → state_of c ≡ state.Sent → Contains w.sent e
   pub got : (e : Endpoint) (c : Client) (file : List ℕ) → lookup (at_endpoint e) a.clients ≡ Some c → file_of c ≡ Ok file → Contains w.got (record { client = e; file = file })
 
--- What a get has written that answered Ok: the file that its client has got, whole; and that is a finished get.
+-- What a get that returned Ok has written: the whole file that its client has got, which is a finished get.
 pub record WritesFinished (e : Endpoint) (c : Client) (len : ℕ) (w : World) (written now : Option (List ℕ)) : Type 0 where
   pub file : List ℕ
   pub is_got : file_of c ≡ Ok file
@@ -159,7 +160,7 @@ pub record WritesFinished (e : Endpoint) (c : Client) (len : ℕ) (w : World) (w
 
 -- ---- samples
 
--- the archive can come to a client of which this holds, and reuses no port
+-- the archive can reach a client for which `P` holds, without reusing a port
 pub record CanReach (P : Client → Type 0) : Type 0 where
   pub archive : Archive
   pub members : List Member

@@ -43,7 +43,7 @@ come_to host calls = flat_map (come_in host) calls
 
 -- ---- one member
 
--- The grant and the collections matter only where a step asks for them, and these deeds do not.
+-- The grant and the collections matter only if a step asks for them, and these deeds do not.
 abbrev pub does : Deed → Member
 does deed = record { deed = deed; grant = all; maps = empty_maps }
 
@@ -62,7 +62,7 @@ transfer_members (datagram from bytes) a port =
 transfer_members nothing a port = []
 transfer_members fault a port = []
 
--- A request is dropped where no port could be opened for it, or where the port cannot be used.
+-- A request is dropped if no port could be opened for it, or if the port cannot be used.
 abbrev pub used_members : (usable : Bool) → (spare : ℕ) → Verdict → (from : Endpoint) (bytes : List ℕ) → Server → List Member
 used_members true spare verdict from bytes s =
     hearing (arrival server_endpoint.host s.request from bytes) spare (grant_for verdict) empty_maps ∷ []
@@ -82,7 +82,7 @@ abbrev pub visit_members : Option ℕ → Answers → Server → List Member
 visit_members (Some port) a s = transfer_members a.receipt a port
 visit_members None a s = request_members a.receipt a s
 
--- that of the server that waits: to the port that is ready, if one is
+-- that of the server that waits: to the ready port, if there is one
 abbrev pub port_members : (is_request : Bool) → (port : ℕ) → Answers → Server → List Member
 port_members true port a s = request_members a.receipt a s
 port_members false port a s = transfer_members a.receipt a port

@@ -1,4 +1,4 @@
-//! What holds of the archive as it runs. This function does nothing: its contract is a theorem.
+//! What holds for the running archive. This function does nothing: its contract is a theorem.
 
 ghost use Rattle.std.specs.Prelude.{◌≡◌, ℕ, List, Option, Some, Ok};
 ghost use Rattle.std.specs.Map.{lookup};
@@ -11,11 +11,11 @@ ghost use Rattle.archive_world.specs.Headline.{HasOwnPorts, Headline, SentOnce};
 ghost use Rattle.archive_world.specs.Traces.{Member, trace_from, trace_steps};
 ghost use Rattle.archive_running.specs.Archive.{Archive, Reaches, Mirrors, WritesFinished, CanReach};
 
-/// Every run of a server and its clients, made of turns as archive_turns defines them, in which whatever is received was
-/// sent before or is a stranger's, is a trace whose events may all happen; the world after it mirrors the archive. So
-/// where no port is reused the headline holds of it: a put that has answered Ok was taken exactly once, and what a get
-/// that has answered Ok has written is the collection at a request of its own. Openings of the world are the requests that
-/// opened a transfer, and strays are datagrams that came though no wire was given them to send.
+/// Every run of a server and its clients, made of turns as archive_turns defines them, in which whatever is received
+/// was sent before or is a stranger's, is a trace whose events may all happen; the world after it mirrors the archive.
+/// So if no port is reused the headline holds for it: the file of a put that returned Ok was taken exactly once, and
+/// what a get that returned Ok has written is the collection at one of its own requests. Openings of the world are the
+/// requests that opened a transfer, and strays are datagrams that arrived although no wire was given them to send.
 pub fn running_law()
     ensures mirrors { (a : Archive) (members : List Member) → Reaches a members → Mirrors a (trace_from members start) }
     ensures happens { (a : Archive) (members : List Member) → Reaches a members → AllMayHappen (trace_steps members start) start }
@@ -24,7 +24,7 @@ pub fn running_law()
     // By `mirrors`, the operations and files of this world are those of the archive.
     ensures sent { (a : Archive) (members : List Member) → Reaches a members → HasOwnPorts (trace_from members start) → (e : Endpoint) (c : Client) (len n : ℕ) → lookup (at_endpoint e) a.clients ≡ Some c → put_result (state_of c) len ≡ Ok n → SentOnce (trace_from members start).begun (trace_from members start).taken e }
     ensures fetched { (a : Archive) (members : List Member) → Reaches a members → HasOwnPorts (trace_from members start) → (e : Endpoint) (c : Client) (len : ℕ) (written now : Option (List ℕ)) → lookup (at_endpoint e) a.clients ≡ Some c → WritesGot c (Ok len) written now → WritesFinished e c len (trace_from members start) written now }
-    // There are runs in which a client counts its file as sent, and in which one has fetched a collection.
+    // There are runs in which a client counts its file as sent, and runs in which one has fetched a collection.
     ensures sends { CanReach (λ c. state_of c ≡ Sent) }
     ensures fetches { CanReach (λ c. (file : List ℕ) × (file_of c ≡ Ok file)) }
 {}
