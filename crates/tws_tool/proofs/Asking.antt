@@ -1,4 +1,4 @@
--- Which job arguments ask for.
+-- Which job the arguments ask for.
 use Rattle.std.proofs.Common.{true, false, refl, subst, Bor, map, option_map, unwrap_or, Result, Ok, Err, ⊎_elim, inl, ◌⊎◌, ◌≡◌, ◌≢◌, ◌≤◌, ℕ, List, [], ◌∷◌, Option, Some, None, ap, sym, ◌∙◌, arith, slice_index, codes}
 use Rattle.std.proofs.lemmas.Option.{none-some}
 use Rattle.clap.specs.Words.{App, FailsBy, HasKind, HasMatchesOf, Row, Text, fault_of, first_of, is_simple, is_simple_and_free, kind_of, subcommand_of, subcommand_rows_of}
@@ -34,13 +34,13 @@ no_such_rules rows name is other (Put target) asks = let bad : 98 ≡ 112 = ap f
 no_such_rules rows name is other (Get kind target) asks = let bad : 98 ≡ 103 = ap first_byte asks.0 in absurd (omega (arith, bad))
 no_such_rules rows name is other (Best kind files) asks = absurd (other kind (ap (λ (o : Option Text). unwrap_or o []) (sym is ∙ asks.1)))
 
--- the names of the files that were found, where some were
+-- the names of the files that were found, if some were
 pub files_are : (found : Option (Bor (List (Bor Text)))) (names none : Bor (List (Bor Text))) (all : Option (List Text)) → names ≡ unwrap_or found none → none.now ≡ []
     → option_map (λ s. map (λ text. text.now) s.now) found ≡ all → map (λ text. text.now) names.now ≡ unwrap_or all []
 files_are (Some texts) names none all names-is empty is = ap (λ (n : Bor (List (Bor Text))). map (λ text. text.now) n.now) names-is ∙ ap (λ (ts : Option (List Text)). unwrap_or ts []) is
 files_are None names none all names-is empty is = ap (λ (n : Bor (List (Bor Text))). map (λ text. text.now) n.now) names-is ∙ ap (map (λ text. text.now)) empty ∙ ap (λ (ts : Option (List Text)). unwrap_or ts []) is
 
--- ---- the command line is one of which `clap` says all that it finds, and why it refuses
+-- ---- the command line is one for which `clap` states all that it finds, and why it refuses
 
 pub is_simple_app : (names : RuleNames) → is_simple (tws_app names) ≡ true
 unfolding clap_on_literals
@@ -64,7 +64,7 @@ module _ (app : App) (names : RuleNames) (words : List Text) (app-is : app ≡ t
   pub its_command : (found : ArgMatches) → HasMatchesOf app words found → subcommand_rows_of found ≡ subcommand_of (tws_app names) words
   its_command found has = (has (ap is_simple app-is ∙ is_simple_app names)).1 ∙ ap (λ (a : App). subcommand_of a words) app-is
 
--- an error of the arguments, as it is answered
+-- an error of the arguments, as it is returned
 pub refused : (words : List Text) (names : RuleNames) (error : Error) (e : JobFault) → AreRuleNames names → HasKind (fault_of (tws_app names) words) error
     → ((kind_of error ≡ OutOfMemory) × (e ≡ Memory)) ⊎ ((kind_of error ≢ OutOfMemory) × (e ≡ Words error)) → RefusesWords words e
 refused words names error e are has gives =
@@ -91,7 +91,7 @@ pub asks_for_serve : (names : RuleNames) (program : Text) → WordsAskFor names 
 unfolding clap_on_literals
 asks_for_serve names program = (refl, (_, refl, (refl, record { port_is = refl; turns_are = refl; dir_is = refl })))
 
--- a number of digits alone
+-- a number of digits only
 pub counted_number : (most n : ℕ) (text : Text) → IsNumeral 10 (without_leading_plus text) → n ≡ digits_value 10 (without_leading_plus text) → 1 ≤ n → n ≤ most → IsNumberUpTo most text n
 counted_number most n text numeral value least greatest = record { numeral = numeral; value = value; least = least; greatest = greatest }
 

@@ -1,4 +1,4 @@
--- Why a put fails, and what one has sent that is done.
+-- Why a put fails, and what a put that succeeded has sent.
 use Rattle.std.proofs.Common.{◌≡◌, ◌≢◌, ◌∙◌, ℕ, Bool, true, false, List, length, Option, Some, None, Result, Ok, Err, refl, ap, sym, subst, inl, inr}
 use Rattle.std.specs.Io.KnownBytes.{Appends}
 use Rattle.tws_file.specs.Text.{IsReadable}
@@ -19,7 +19,7 @@ use Rattle.tws_tool.specs.Faults.{run_fault}
 use Rattle.tws_tool.specs.Archiving.{IsBlamed, PutFails, PutRuns, Puts, SaysSent}
 use Rattle.tws_tool.specs.Lines.{sent_line}
 
--- a put writes nothing, so that nothing it writes fails
+-- a put writes nothing, so it has no write fault
 no_write_of : (why : Cause) (len : ℕ) → put_result (state.Failed why) len ≢ Err run.Write
 no_write_of (cause.Refused code) len is = absurd cc
 no_write_of cause.TimedOut len is = absurd cc
@@ -63,7 +63,7 @@ module _ (known : Option (List ℕ)) (server : Endpoint) (before after : Option 
   pub put_fails : (why : RunFault) (e : ToolFault) → e ≡ run_fault why → PutRuns known server (Err why) before after → PutFails known server before after old old e
   put_fails why e is runs = subst (PutFails known server before after old old) (sym is) (fails_by why runs)
 
--- ---- a put that is done
+-- ---- a put that succeeded
 
 abbrev count_in : Result ℕ RunFault → ℕ
 count_in (Ok len) = len
@@ -88,7 +88,7 @@ put_says (Some bytes) server before after old new puts =
     let is : puts.put.bytes ≡ bytes = puts.put.whole.known_is in
     (subst IsReadable is puts.put.whole.readable, subst (λ (n : ℕ). Appends old new (sent_line n)) (count ∙ ap length is) puts.said)
 
--- an input that a put calls unreadable has that fault
+-- an input that a put reports as unreadable has that fault
 pub put_blames : (known : Option (List ℕ)) (server : Endpoint) (before after : Option (List Entry)) (old new : Option (List ℕ)) (e : ToolFault) → PutFails known server before after old new e → IsBlamed known e
 put_blames known server before after old new tool.Read fails = tt
 put_blames known server before after old new tool.Write fails = tt

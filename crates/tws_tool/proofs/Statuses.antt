@@ -1,4 +1,4 @@
--- What a run did, by what its command answered.
+-- What a run did, by the result of its command.
 use Rattle.std.proofs.Common.{[], ◌∷◌, ◌++◌, ◌≡◌, ◌≢◌, ◌<◌, ◌≤◌, ◌^◌, ◌-◌, ℕ, List, length, Option, None, Result, Ok, Err, OnOk, IfErr, refl, arith, ap, sym, subst, length-append, inl, inr, ⊎_elim}
 use Rattle.std.specs.Io.KnownBytes.{IsAtEnd}
 use Rattle.tws_file.specs.declared.«ruleset».Ruleset.{Ruleset}
@@ -62,7 +62,7 @@ status_no_usage Memory = λ is. omega (arith, is)
 status_no_usage Socket = λ is. omega (arith, is)
 status_no_usage (Transfer why) = λ is. omega (arith, is)
 
--- only what was done has status 0
+-- only a command that succeeded has status 0
 pub at_zero : {P : Type 0} (r : Result (Unit {0}) ToolFault) → OnOk r P → answer_status r ≡ 0 → P
 at_zero (Ok done) p zero = p
 at_zero (Err e) p zero = absurd (status_some e zero)
@@ -169,7 +169,7 @@ module _ (old new : Option (List ℕ)) where
       nowhere = λ one. absurd (no_usage r one);
     }
 
-  -- nothing is sent to a text that is no address
+  -- nothing is sent to a text that is not an address
   pub put_nowhere : (known : Option (List ℕ)) (address : List ℕ) (port status : ℕ) (log : Option (List Entry)) → status ≡ 1 → Transfers address sent_line status old new → PutRan known address port status log log old new
   put_nowhere known address port status log one transfers = record { transfers = transfers; sent = λ e. absurd (omega (arith, e, one)); unreadable = λ e. absurd (omega (arith, e, one)); ended = λ other. absurd (other one); nowhere = λ e. refl }
 
@@ -218,7 +218,7 @@ module _ (port turns : ℕ) (kept mid now : Option (List Keeping)) (same : mid �
   waiting first last most fresh unvisited none taken made =
       inr (most, record { first = first; last = last; loaded = fresh; unvisited = unvisited; timers = none; made = subst (λ (k : Option (List Keeping)). MakesRounds (2 ^ 64 - 1) first last taken None None k now) same made })
 
--- a writer that does not tell what it holds
+-- a writer that does not tell its contents
 pub unwritten : (P : Type 0) (r : Result (Unit {0}) ToolFault) → IfErr r (Unless P) → answer_status r ≢ 0 → answer_status r ≢ 2 → P
 unwritten P (Ok done) unless a b = absurd (a refl)
 unwritten P (Err e) unless a b = ⊎_elim (λ (w : e ≡ Write). absurd (b (ap status_of w))) (λ rest. ⊎_elim (λ (m : e ≡ Memory). absurd (b (ap status_of m))) (λ p. p) rest) unless

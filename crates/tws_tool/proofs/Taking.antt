@@ -1,4 +1,4 @@
--- A piece more of an input is taken.
+-- One more piece of an input is taken.
 use Rattle.std.proofs.Common.{◌≡◌, OnOk, subst, ◌≢◌, ℕ, List, ◌++◌, Option, Some, None, Result, Ok, Err, refl, ap, ◌∙◌, sym, append_assoc}
 use Rattle.std.specs.Io.KnownBytes.{Consumes}
 use Rattle.tws_file.specs.declared.file_fault.FileFault.{FileFault}
@@ -11,7 +11,7 @@ Consumes-then (Some xs) None new x y p q = absurd p
 Consumes-then (Some xs) (Some ys) None x y p q = absurd q
 Consumes-then (Some xs) (Some ys) (Some zs) x y p q = p ∙ ap (λ (b : List ℕ). x ++ b) q ∙ sym (append_assoc x y zs)
 
--- a push that memory sufficed for took its piece
+-- a push that did not run out of memory took its piece
 pub was_taken : (result : Result (Unit {0}) FileFault) (bytes : List ℕ) (new : Reading) → result ≢ Err Memory → TakesPiece result bytes new → HasTaken new bytes
 was_taken (Ok done) bytes new enough taken = taken
 was_taken (Err (ShortHeader n)) bytes new enough taken = taken
@@ -22,6 +22,6 @@ was_taken (Err (BadSize offset)) bytes new enough taken = taken
 was_taken (Err (MoveCut place)) bytes new enough taken = taken
 was_taken (Err Memory) bytes new enough taken = absurd (enough refl)
 
--- what is known of a result that is no error
+-- what is known about a result that is not an error
 pub at_ok : {T E P : Type 0} (r : Result T E) (x : T) → r ≡ Ok x → OnOk r P → P
 at_ok {T} {E} {P} r x e p = subst (λ (q : Result T E). OnOk q P) e p

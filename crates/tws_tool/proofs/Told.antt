@@ -1,4 +1,4 @@
--- Inputs that tell what bytes they have, and what is collected of them.
+-- Inputs that tell their bytes, and what is collected from them.
 use Rattle.std.proofs.Common.{◌≡◌, ℕ, zero, suc, ◌+◌, ◌<◌, List, [], ◌∷◌, ◌++◌, length, take, drop, get_or, slice_set, map, Option, Some, IfSome, refl, ap, sym, subst, ◌∙◌, arith, get_or-drop, drop-drop}
 use Rattle.std.specs.List.{AllByRecursion, Contains}
 use Rattle.std.proofs.Math.Seq.{take-length}
@@ -47,7 +47,7 @@ told_at (x ∷ knowns) [] i k told inside = absurd told
 told_at (x ∷ knowns) (t ∷ texts) zero k told inside = told.0
 told_at (x ∷ knowns) (t ∷ texts) (suc i) k told inside = told_at knowns texts i k told.1 (omega (arith, inside))
 
--- ---- one input more
+-- ---- one more input
 
 none_told : (texts : List (List ℕ)) → AreTold [] texts → [] ≡ texts
 none_told [] told = refl

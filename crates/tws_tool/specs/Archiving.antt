@@ -25,25 +25,25 @@ pub record IsWhole (known : Option (List ℕ)) (bytes : List ℕ) : Type 0 where
   pub known_is : IfSome known (λ (xs : List ℕ). bytes ≡ xs)
   pub readable : IsReadable bytes
 
--- a run of a put of them to its end, with this answer
+-- a complete run of a put of these bytes, with this result
 pub record PutRuns (known : Option (List ℕ)) (server : Endpoint) (result : Result ℕ RunFault) (before after : Option (List Entry)) : Type 0 where
   pub bytes : List ℕ
   pub whole : IsWhole known bytes
   pub runs : RunsPut server bytes TURNS result before after
 
--- the whole input was put, and the line that says so was written
+-- the whole input was put, and the line that reports it was written
 pub record Puts (known : Option (List ℕ)) (server : Endpoint) (before after : Option (List Entry)) (old new : Option (List ℕ)) : Type 0 where
   pub len : ℕ
   pub put : PutRuns known server (Ok len) before after
   pub said : Appends old new (sent_line len)
 
--- a put that ran but was not said: of the line a proper prefix was written
+-- a put that ran but was not reported: a proper prefix of the line was written
 pub record PutUnsaid (known : Option (List ℕ)) (server : Endpoint) (before after : Option (List Entry)) (old new : Option (List ℕ)) : Type 0 where
   pub len : ℕ
   pub put : PutRuns known server (Ok len) before after
   pub prefix : AppendsPrefix old new (sent_line len)
 
--- Nothing goes out by the wire where the input is not read to its end or is no file.
+-- Nothing is sent over the wire if the input is not read to its end or is not a solution file.
 abbrev pub PutFails : (known : Option (List ℕ)) (server : Endpoint) (before after : Option (List Entry)) (old new : Option (List ℕ)) → ToolFault → Type 0
 PutFails known server before after old new Read = (after ≡ before) × (new ≡ old)
 PutFails known server before after old new Write = PutUnsaid known server before after old new
@@ -52,11 +52,11 @@ PutFails known server before after old new Memory = (new ≡ old) × ((after ≡
 PutFails known server before after old new Socket = (new ≡ old) × PutRuns known server (Err run.Socket) before after
 PutFails known server before after old new (Transfer why) = (new ≡ old) × PutRuns known server (Err (run.Transfer why)) before after
 
--- the whole input is a file's text, and the line was written that so many bytes were sent
+-- the whole input is a file's text, and the line with its length was written
 abbrev pub SaysSent : (known old new : Option (List ℕ)) → Type 0
 SaysSent known old new = IfSome known (λ (bytes : List ℕ). IsReadable bytes × Appends old new (sent_line (length bytes)))
 
--- an input that is called unreadable has that fault
+-- an input that is reported as unreadable has that fault
 abbrev pub IsBlamed : (known : Option (List ℕ)) → ToolFault → Type 0
 IsBlamed known Read = Unit {0}
 IsBlamed known Write = Unit {0}
@@ -65,15 +65,15 @@ IsBlamed known Memory = Unit {0}
 IsBlamed known Socket = Unit {0}
 IsBlamed known (Transfer why) = Unit {0}
 
--- a put of a file that has these bytes to the server at this host and port ended so
+-- a put of a file with these bytes, to the server at this host and port, ended with this status
 pub record PutEnds (known : Option (List ℕ)) (server : Endpoint) (status : ℕ) (before after : Option (List Entry)) (old new : Option (List ℕ)) : Type 0 where
   pub done : Result (Unit {0}) ToolFault
   pub status_is : status ≡ answer_status done
   pub puts : OnOk done (Puts known server before after old new)
   pub fails : IfErr done (PutFails known server before after old new)
 
--- what `put` of a file that has these bytes did, by the exit status. The server is at the host that the address writes,
--- and at this port.
+-- what `put` of a file with these bytes did, by the exit status. The server is at the host of this address, and at this
+-- port.
 pub record PutRan (known : Option (List ℕ)) (address : List ℕ) (port status : ℕ) (before after : Option (List Entry)) (old new : Option (List ℕ)) : Type 0 where
   pub transfers : Transfers address sent_line status old new
   pub sent : status ≡ 0 → SaysSent known old new
@@ -83,7 +83,7 @@ pub record PutRan (known : Option (List ℕ)) (address : List ℕ) (port status 
 
 -- ---- get
 
--- the collection was fetched into the file, and the line that says so was written
+-- the collection was fetched into the file, and the line that reports it was written
 pub record Gets (server : Endpoint) (kind : Ruleset) (before after : Option (List Entry)) (written now old new : Option (List ℕ)) : Type 0 where
   pub len : ℕ
   pub got : RunsGet server kind TURNS (Ok len) before after written now
@@ -93,7 +93,7 @@ pub record Gets (server : Endpoint) (kind : Ruleset) (before after : Option (Lis
 abbrev pub GetRuns : (server : Endpoint) (kind : Ruleset) (before after : Option (List Entry)) (written now old new : Option (List ℕ)) → RunFault → Type 0
 GetRuns server kind before after written now old new why = (new ≡ old) × RunsGet server kind TURNS (Err why) before after written now
 
--- a get that was done but not said: of the line not all was written
+-- a get that was done but not reported: the line was not written whole
 pub record GetUnsaid (server : Endpoint) (kind : Ruleset) (before after : Option (List Entry)) (written now : Option (List ℕ)) (Left : List ℕ → Type 0) : Type 0 where
   pub len : ℕ
   pub got : RunsGet server kind TURNS (Ok len) before after written now
@@ -107,7 +107,7 @@ GetFails server kind before after written now old new Memory = GetRuns server ki
 GetFails server kind before after written now old new Socket = GetRuns server kind before after written now old new run.Socket
 GetFails server kind before after written now old new (Transfer why) = GetRuns server kind before after written now old new (run.Transfer why)
 
--- A get into a file that has this once it is created. Where it is not created nothing is sent.
+-- A get into a file that has `created` once it is created. If it cannot be created nothing is sent.
 abbrev pub Fetches : (server : Endpoint) (kind : Ruleset) (before after : Option (List Entry)) (created old new : Option (List ℕ)) → Type 0
 Fetches server kind before after created old new = (now : Option (List ℕ)) × Gets server kind before after created now old new
 
@@ -115,15 +115,15 @@ abbrev pub FetchFails : (server : Endpoint) (kind : Ruleset) (before after : Opt
 FetchFails server kind before after created old new e =
     ((e ≡ Write) × (after ≡ before) × (new ≡ old)) ⊎ ((now : Option (List ℕ)) × GetFails server kind before after created now old new e)
 
--- a get of this ruleset from the server at this host and port ended so
+-- a get of this ruleset, from the server at this host and port, ended with this status
 pub record GetEnds (server : Endpoint) (kind : Ruleset) (status : ℕ) (before after : Option (List Entry)) (created old new : Option (List ℕ)) : Type 0 where
   pub done : Result (Unit {0}) ToolFault
   pub status_is : status ≡ answer_status done
   pub gets : OnOk done (Fetches server kind before after created old new)
   pub fails : IfErr done (FetchFails server kind before after created old new)
 
--- what `get` of this ruleset did, by the exit status, where its file has this once it is created. The server is where that
--- of `put` is.
+-- what `get` of this ruleset did, by the exit status, if its file has `created` once it is created. The server is at
+-- the host of this address, and at this port.
 pub record GetRan (kind : Ruleset) (created : Option (List ℕ)) (address : List ℕ) (port status : ℕ) (before after : Option (List Entry)) (old new : Option (List ℕ)) : Type 0 where
   pub transfers : Transfers address got_line status old new
   pub readable : status ≢ 3

@@ -11,25 +11,25 @@ use Rattle.tws_best.specs.Best.{Collected, IsCollectionOf, collection_text}
 use Rattle.tws_tool.specs.declared.tool_fault.ToolFault.{ToolFault}
 use Rattle.tws_tool.specs.declared.tool_fault.ToolFault.TheVariants.{Read, Write, Unreadable, Memory, Socket, Transfer}
 
--- the inputs tell what bytes they have, and these are they
+-- the inputs tell their bytes, and these are the bytes
 abbrev pub AreTold : List (Option (List ℕ)) → List (List ℕ) → Type 0
 AreTold [] [] = Unit {0}
 AreTold [] (text ∷ texts) = ⊥
 AreTold (known ∷ knowns) [] = ⊥
 AreTold (known ∷ knowns) (text ∷ texts) = (known ≡ Some text) × AreTold knowns texts
 
--- all inputs are files' texts, and this is the collection over them
+-- all inputs are texts of files, and this is the collection over them
 pub record Collects (kind : Ruleset) (knowns : List (Option (List ℕ))) (c : Collected) : Type 0 where
   pub readable : (texts : List (List ℕ)) → AreTold knowns texts → AllByRecursion IsReadable texts
   pub best : (texts : List (List ℕ)) → AreTold knowns texts → IsCollectionOf kind texts c
 
--- the input with this number, counted from 0, is the first that is no file's text, and has this fault
+-- the input with this number, counted from 0, is the first that is not the text of a file, and has this fault
 pub record IsFirstUnreadable (texts : List (List ℕ)) (index : ℕ) (fault : FileFault) : Type 0 where
   pub within : index < length texts
   pub before : AllByRecursion IsReadable (take index texts)
   pub has_fault : HasFault (slice_index_or texts index []) fault
 
--- some input is no file's text
+-- some input is not the text of a file
 abbrev pub HasUnreadable : List (Option (List ℕ)) → Type 0
 HasUnreadable knowns = (index : ℕ) × (fault : FileFault) × ((texts : List (List ℕ)) → AreTold knowns texts → IsFirstUnreadable texts index fault)
 
@@ -42,7 +42,7 @@ CollectFails knowns Memory = Unit {0}
 CollectFails knowns Socket = ⊥
 CollectFails knowns (Transfer why) = ⊥
 
--- the inputs up to one that is called unreadable were read to their ends
+-- the inputs up to one that is reported as unreadable were read to their ends
 abbrev pub AreReadOut : {R : Type 0} → (R → Option (List ℕ)) → List R → ToolFault → Type 0
 AreReadOut told files Read = Unit {0}
 AreReadOut told files Write = Unit {0}

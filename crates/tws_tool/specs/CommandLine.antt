@@ -30,7 +30,7 @@ show_app = with_rule (new_app (codes "show")) (record (new_rule (codes "moves"))
 abbrev pub pack_app : App
 pack_app = new_app (codes "pack")
 
--- the names of the rules, as references to them
+-- references to the names of the rulesets
 abbrev pub RuleNames : Type 0
 RuleNames = Bor (List (Bor Text))
 
@@ -47,7 +47,7 @@ files_rule = record (new_rule (codes "files")) { value_names = 1; range = Some (
 abbrev pub best_app : RuleNames → App
 best_app names = with_rule (with_rule (new_app (codes "best")) (rules_rule names)) files_rule
 
--- an option with a number from 1 to the most
+-- an option with a number from 1 to `most`
 abbrev pub number_rule : (name : Text) → (most : ℕ) → Rule
 number_rule name most = record (new_rule name) { long = Some name; value_names = 1; parser = Some (parser.Unsigned 1 most) }
 
@@ -81,7 +81,7 @@ get_app names = with_rule (with_rule (with_rule (with_rule (new_app (codes "get"
 abbrev pub top_app : App
 top_app = let plain : App = new_app (codes "tws") in record plain { top = record plain.top { subcommand_required = true } }
 
--- with the commands on files alone
+-- with only the commands on files
 abbrev pub files_app : RuleNames → App
 files_app names = with_subcommand (with_subcommand (with_subcommand top_app show_app.top) pack_app.top) (best_app names).top
 
@@ -90,23 +90,23 @@ tws_app names = with_subcommand (with_subcommand (with_subcommand (files_app nam
 
 -- ---- jobs
 
--- the name of the rules
+-- the name of the ruleset
 abbrev pub rules_word : Ruleset → Text
 rules_word Lynx = codes "lynx"
 rules_word Ms = codes "ms"
 
--- the flag, whose entry has this text, is set
+-- whether a flag is set, by the text of its entry
 abbrev pub IsFlag : Option Text → Bool → Type 0
 IsFlag text flag = (text ≡ Some (codes "true") → flag ≡ true) × (text ≡ Some (codes "false") → flag ≡ false) × (text ≡ None → flag ≡ false)
 
--- the text is a number from 1 to the most
+-- the text is a number from 1 to `most`
 pub record IsNumberUpTo (most : ℕ) (text : Text) (n : ℕ) : Type 0 where
   pub numeral : IsNumeral 10 (without_leading_plus text)
   pub value : n ≡ digits_value 10 (without_leading_plus text)
   pub least : 1 ≤ n
   pub greatest : n ≤ most
 
--- the number that was given, or the default where none was
+-- the number that was given, or the default if none was
 abbrev pub IsNumberOr : (default most : ℕ) → Option Text → ℕ → Type 0
 IsNumberOr default most (Some text) n = IsNumberUpTo most text n
 IsNumberOr default most None n = n ≡ default
@@ -123,7 +123,7 @@ pub record HasTarget (rows : List Row) (target : Target) : Type 0 where
   pub file_is : first_of (codes "file") rows ≡ Some (string_bytes target.file)
   pub port_is : IsNumberOr PORT MAX_PORT (first_of (codes "port") rows) target.port
 
--- the target that was given, or none where none was
+-- the target that was given, or none if none was
 abbrev pub AnswersTarget : List Row → Option Target → Type 0
 AnswersTarget rows (Some target) = HasTarget rows target
 AnswersTarget rows None = (target : Target) → HasTarget rows target → ⊥
@@ -137,7 +137,7 @@ AsksFor command (Serve port turns dir) = (command.0 ≡ codes "serve") × AsksTo
 AsksFor command (Put target) = (command.0 ≡ codes "put") × HasTarget command.1 target
 AsksFor command (Get kind target) = (command.0 ≡ codes "get") × (first_of (codes "rules") command.1 ≡ Some (rules_word kind)) × HasTarget command.1 target
 
--- the job that the command asks for, or none where it asks for none
+-- the job that the command asks for, or none if it asks for none
 abbrev pub AnswersCommand : Text × List Row → Option Job → Type 0
 AnswersCommand command (Some job) = AsksFor command job
 AnswersCommand command None = (job : Job) → AsksFor command job → ⊥
@@ -155,7 +155,7 @@ abbrev pub RefusesWords : List Text → JobFault → Type 0
 RefusesWords words (fault.Words error) = (names : RuleNames) × AreRuleNames names × (IsAmong (kind_of error) (fault_of (tws_app names) words) ⊎ ((kind_of error ≡ InvalidSubcommand) × (fault_of (tws_app names) words ≡ []) × ((job : Job) → WordsAskFor names words job → ⊥)))
 RefusesWords words fault.Memory = Unit {0}
 
--- what the arguments ask for, or why they ask for nothing
+-- what the arguments ask for, or why they ask for no job
 abbrev pub AnswersWords : List Text → Result Job JobFault → Type 0
 AnswersWords words (Ok job) = (names : RuleNames) × AreRuleNames names × WordsAskFor names words job
 AnswersWords words (Err why) = RefusesWords words why

@@ -11,19 +11,19 @@ use Rattle.tws_file.specs.Fault.{HasFault}
 use Rattle.tws_tool.specs.declared.tool_fault.ToolFault.{ToolFault}
 use Rattle.tws_tool.specs.declared.tool_fault.ToolFault.TheVariants.{Read, Write, Unreadable, Memory, Socket, Transfer}
 
--- a fault of writing, as a command's
+-- the command's fault for a fault of writing
 abbrev pub written_fault : OutFault → ToolFault
 written_fault out.Io = Write
 written_fault out.Memory = Memory
 
--- a fault of a transfer, as a command's
+-- the command's fault for a fault of a transfer
 abbrev pub run_fault : RunFault → ToolFault
 run_fault run.Socket = Socket
 run_fault (run.Transfer why) = Transfer why
 run_fault run.Memory = Memory
 run_fault run.Write = Write
 
--- a fault of reading a file, as a command's
+-- the command's fault for a fault of reading a file
 abbrev pub input_fault : ℕ → FileFault → ToolFault
 input_fault index file.Memory = Memory
 input_fault index fault = Unreadable index fault
@@ -32,7 +32,7 @@ input_fault index fault = Unreadable index fault
 abbrev pub IsReadFault : ToolFault → Type 0
 IsReadFault e = (e ≡ Read) ⊎ (e ≡ Memory)
 
--- an input that is called unreadable was read to its end
+-- an input that is reported as unreadable was read to its end
 abbrev pub IsReadOut : (left : Option (List ℕ)) → ToolFault → Type 0
 IsReadOut left Read = Unit {0}
 IsReadOut left Write = Unit {0}
@@ -41,7 +41,7 @@ IsReadOut left Memory = Unit {0}
 IsReadOut left Socket = Unit {0}
 IsReadOut left (Transfer why) = Unit {0}
 
--- the fault comes before anything is written
+-- the fault occurs before anything is written
 abbrev pub IsBeforeOutput : ToolFault → Type 0
 IsBeforeOutput Read = Unit {0}
 IsBeforeOutput Write = ⊥
@@ -50,7 +50,7 @@ IsBeforeOutput Memory = ⊥
 IsBeforeOutput Socket = Unit {0}
 IsBeforeOutput (Transfer why) = Unit {0}
 
--- no file was read from the input of this index, which had these bytes
+-- no file was read from the input with this index, which had these bytes
 abbrev pub ReadFails : ℕ → Option (List ℕ) → ToolFault → Type 0
 ReadFails index known Read = Unit {0}
 ReadFails index known Write = ⊥
@@ -59,7 +59,7 @@ ReadFails index known Memory = Unit {0}
 ReadFails index known Socket = ⊥
 ReadFails index known (Transfer why) = ⊥
 
--- the exit status of a program that failed so
+-- the exit status of a program that failed with this fault
 abbrev pub status_of : ToolFault → ℕ
 status_of Read = 2
 status_of Write = 2
@@ -68,7 +68,7 @@ status_of Memory = 2
 status_of Socket = 2
 status_of (Transfer why) = 4
 
--- the exit status of a command that answered so
+-- the exit status of a command with this result
 abbrev pub answer_status : Result (Unit {0}) ToolFault → ℕ
 answer_status (Ok done) = 0
 answer_status (Err e) = status_of e

@@ -1,4 +1,4 @@
--- What is written where help is asked for: a text that `clap` makes, of at least one byte.
+-- What is written when help is asked for: a text that `clap` makes, of at least one byte.
 use Rattle.std.specs.Prelude.{◌≡◌, ◌≢◌, ℕ, List, [], Option}
 use Rattle.std.specs.Io.KnownBytes.{Appends}
 use Rattle.byte_output.specs.Output.{AppendsPrefix}

@@ -1,11 +1,11 @@
--- What a reading of a whole input gives. The bytes that a reader has left are known where it tells them.
+-- The result of reading a whole input. The bytes that a reader has left are known if it tells them.
 use Rattle.std.specs.Prelude.{ℕ, List, Option, IfSome}
 use Rattle.std.specs.Io.KnownBytes.{IsAtEnd}
 use Rattle.tws_file.specs.declared.file_fault.FileFault.{FileFault}
 use Rattle.tws_file.specs.Fault.{HasFault}
 use Rattle.tws_file.specs.Text.{File, IsText}
 
--- the bytes, where they are known, are no file's text
+-- the bytes, if they are known, are not the text of a file
 abbrev pub IsUnreadable : (known : Option (List ℕ)) → Type 0
 IsUnreadable known = (fault : FileFault) × IfSome known (λ (bytes : List ℕ). HasFault bytes fault)
 

@@ -1,5 +1,5 @@
--- What a run of the program did, by its exit status: 0 where all was done, 1 for a usage error, 2 where reading, writing,
--- a socket or memory failed, 3 for an unreadable solution file, 4 for a failed transfer.
+-- What a run of the program did, by its exit status: 0 if all was done, 1 for a usage error, 2 if reading, writing, a
+-- socket or memory failed, 3 for an unreadable solution file, 4 for a failed transfer.
 use Rattle.std.specs.Prelude.{◌≡◌, ◌≢◌, ◌⊎◌, ℕ, ◌≤◌, List, map, Option, None, Result, Ok, Err, string_bytes}
 use Rattle.std.specs.Io.KnownBytes.{IsAtEnd}
 use Rattle.clap.specs.Words.{kind_of}
@@ -21,8 +21,8 @@ use Rattle.tws_tool.specs.Archiving.{PutRan, GetRan}
 use Rattle.tws_tool.specs.Serving.{Served}
 use Rattle.tws_tool.specs.Help.{WritesHelp, WritesHelpPrefix}
 
--- a command of one input, which writes this text of the file: what the input had and has left, what the output held and
--- holds
+-- a command with one input, which writes this text of the file: what the input had and has left, and the output before
+-- and after
 pub record Ran (text : File → List ℕ) (status : ℕ) (known left old new : Option (List ℕ)) : Type 0 where
   pub done : status ≡ 0 → IsAtEnd left × Writes text known old new
   pub failed : status ≡ 2 → (new ≡ old) ⊎ WritesPrefix text known old new
@@ -30,7 +30,7 @@ pub record Ran (text : File → List ℕ) (status : ℕ) (known left old new : O
   pub never : status ≢ 1
   pub few : status ≤ 3
 
--- `best` over files that have these bytes: their collection was written, or nothing or a proper prefix of it; or one of them
+-- `best` over files with these bytes: their collection was written, or nothing or a proper prefix of it; or one of them
 -- is unreadable
 pub record BestRan (kind : Ruleset) (knowns : List (Option (List ℕ))) (status : ℕ) (old new : Option (List ℕ)) : Type 0 where
   pub done : status ≡ 0 → BestWrites kind knowns old new
@@ -51,8 +51,9 @@ pub record Explained (error : Error) (status : ℕ) (old new : Option (List ℕ)
   pub usage : status ≡ 1 → new ≡ old
   pub few : status ≤ 2
 
--- what a job did, where the file of each name has the bytes that are told of it, and a file that is created by a name has
--- what is told: the log of the wire before and after, what standard input had and has left, what the output held and holds
+-- what a job did, given what is told of the bytes of the file with each name, and of the contents of a file that is
+-- created with a name: the log of the wire before and after, what standard input had and has left, and the output
+-- before and after
 abbrev pub JobRuns : (bytes_of created_of : List ℕ → Option (List ℕ)) → Result Job JobFault → (status : ℕ) → (before after : Option (List Entry)) → (known left old new : Option (List ℕ)) → Type 0
 JobRuns bytes_of created_of (Ok (Show moves)) status before after known left old new = (after ≡ before) × Ran (listing_of moves) status known left old new
 JobRuns bytes_of created_of (Ok Pack) status before after known left old new = (after ≡ before) × Ran packed_text status known left old new

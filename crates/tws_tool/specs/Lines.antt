@@ -22,7 +22,7 @@ sent_line len = number_line (codes "sent ") len (codes " bytes")
 abbrev pub got_line : ℕ → List ℕ
 got_line len = number_line (codes "got ") len (codes " bytes")
 
--- a line was not written: the writer failed in it, or there was no memory for it
+-- a line was not written: the writer failed in it, or an allocation for it was refused
 abbrev pub LineFails : (line : List ℕ) (old new : Option (List ℕ)) → ToolFault → Type 0
 LineFails line old new Read = ⊥
 LineFails line old new Write = AppendsPrefix old new line
@@ -49,7 +49,7 @@ Unsaid text old new Memory = IsCut text old new
 Unsaid text old new Socket = new ≡ old
 Unsaid text old new (Transfer why) = new ≡ old
 
--- a fault of a line that was not written whole, or this holds
+-- the fault is that of a line that was not written whole, or `P` holds
 abbrev pub Unless : Type 0 → ToolFault → Type 0
 Unless P e = (e ≡ Write) ⊎ (e ≡ Memory) ⊎ P
 

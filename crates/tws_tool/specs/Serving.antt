@@ -11,7 +11,7 @@ use Rattle.tws_tool.specs.declared.tool_fault.ToolFault.{ToolFault}
 use Rattle.tws_tool.specs.declared.tool_fault.ToolFault.TheVariants.{Socket}
 use Rattle.tws_tool.specs.Lines.{LineFails, serving_line, taken_line}
 
--- the port was said, then the turns were made, and then said how many files they took
+-- the port was printed, then the turns were made, and then it was printed how many files they took
 pub record Serves (port : ℕ) (Made : (taken : ℕ) → Type 0) (old new : Option (List ℕ)) : Type 0 where
   pub taken : ℕ
   pub made : Made taken
@@ -19,7 +19,7 @@ pub record Serves (port : ℕ) (Made : (taken : ℕ) → Type 0) (old new : Opti
   pub first : Appends old between (serving_line port)
   pub last : Appends between new (taken_line taken)
 
--- the turns were made, but not said how many files they took
+-- the turns were made, but it was not printed how many files they took
 pub record ServesUnsaid (port : ℕ) (Made : (taken : ℕ) → Type 0) (old new : Option (List ℕ)) (e : ToolFault) : Type 0 where
   pub taken : ℕ
   pub made : Made taken
@@ -27,7 +27,7 @@ pub record ServesUnsaid (port : ℕ) (Made : (taken : ℕ) → Type 0) (old new 
   pub first : Appends old between (serving_line port)
   pub fails : LineFails (taken_line taken) between new e
 
--- a line was not written: of the first one, and no turn was made, or of the last
+-- a line was not written: the first one, and no turn was made, or the last one
 abbrev pub ServeFails : (port : ℕ) (Unmade : Type 0) (Made : (taken : ℕ) → Type 0) (old new : Option (List ℕ)) → ToolFault → Type 0
 ServeFails port Unmade Made old new e = (Unmade × LineFails (serving_line port) old new e) ⊎ ServesUnsaid port Made old new e
 
@@ -40,7 +40,8 @@ pub record IsFresh (port : ℕ) (kept : Option (List Keeping)) (table : Server) 
   pub ms : LoadedFrom Ms kept table.maps.ms
   pub live : table.live ≡ []
 
--- the server that counts turns was loaded, and made these: what was kept before and after, and how many files were taken
+-- the server that counts turns was loaded, and made these turns: what was kept before and after, and how many files
+-- were taken
 pub record CountedServed (port turns : ℕ) (kept now : Option (List Keeping)) (taken : ℕ) : Type 0 where
   pub first : Counted
   pub last : Counted
@@ -49,7 +50,7 @@ pub record CountedServed (port turns : ℕ) (kept now : Option (List Keeping)) (
   pub timers : first.timers ≡ []
   pub made : MakesTurns turns first last taken None None kept now
 
--- the same of the server that waits for ready ports, which makes more rounds than any server lives for
+-- the same for the server that waits for ready ports, which makes more rounds than any server will live to make
 pub record WaitingServed (port : ℕ) (kept now : Option (List Keeping)) (taken : ℕ) : Type 0 where
   pub first : Clocked
   pub last : Clocked
@@ -58,7 +59,7 @@ pub record WaitingServed (port : ℕ) (kept now : Option (List Keeping)) (taken 
   pub timers : first.timers ≡ []
   pub made : MakesRounds (2 ^ 64 - 1) first last taken None None kept now
 
--- a server that is given fewer turns than the most there are counts them
+-- a server that is given fewer turns than the maximum counts them
 abbrev pub ServerServed : (port turns : ℕ) (kept now : Option (List Keeping)) (taken : ℕ) → Type 0
 ServerServed port turns kept now taken =
     ((turns < TURNS) × CountedServed port turns kept now taken) ⊎ ((TURNS ≤ turns) × WaitingServed port kept now taken)
@@ -69,7 +70,7 @@ ServerServed port turns kept now taken =
 abbrev pub ServeStops : (port : ℕ) (Unmade : Type 0) (Made : (taken : ℕ) → Type 0) (old new : Option (List ℕ)) → ToolFault → Type 0
 ServeStops port Unmade Made old new e = ((e ≡ Socket) × (new ≡ old) × Unmade) ⊎ ServeFails port Unmade Made old new e
 
--- what `serve` on this port did, with so many turns: what its keeper had and has
+-- what `serve` on this port did, with this many turns: what its keeper had and has
 pub record Served (port turns status : ℕ) (kept now : Option (List Keeping)) (old new : Option (List ℕ)) : Type 0 where
   pub done : status ≡ 0 → Serves port (ServerServed port turns kept now) old new
   pub failed : status ≡ 2 → ((new ≡ old) × (now ≡ kept)) ⊎ ((e : ToolFault) × ServeStops port (now ≡ kept) (ServerServed port turns kept now) old new e)

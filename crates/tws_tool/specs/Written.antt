@@ -22,7 +22,7 @@ text_by packed file = packed_text file
 abbrev pub Writes : (File → List ℕ) → (known old new : Option (List ℕ)) → Type 0
 Writes text known old new = IfSome known (λ (bytes : List ℕ). (file : File) × IsText bytes file × Appends old new (text file))
 
--- they are a file's text, and a proper prefix of the file's text was written
+-- the bytes are a file's text, and a proper prefix of this text of the file was written
 abbrev pub WritesPrefix : (File → List ℕ) → (known old new : Option (List ℕ)) → Type 0
 WritesPrefix text known old new = IfSome known (λ (bytes : List ℕ). (file : File) × IsText bytes file × AppendsPrefix old new (text file))
 

@@ -5,13 +5,13 @@ ghost use Rattle.tws_tool.specs.Address.{IsAddress};
 
 use std::net::Ipv4Addr;
 
-/// An IPv4 address as a number, whose most significant byte is the first of the four numbers that are written.
+/// An IPv4 address as a number. Its most significant byte is the first of the four numbers as they are written.
 #[derive(Clone, Copy, Debug, PartialEq, Eq)]
 pub struct Address {
     pub host: u32,
 }
 
-// The number that has these bytes, the most significant one first.
+// The number with these bytes, most significant byte first.
 fn number_of(bytes: [u8; 4]) -> u32
     ensures { result ≡ ((slice_index bytes 0 * 256 + slice_index bytes 1) * 256 + slice_index bytes 2) * 256 + slice_index bytes 3 }
 {
@@ -22,8 +22,8 @@ fn number_of(bytes: [u8; 4]) -> u32
 }
 
 impl Address {
-    /// The address that the text writes: four decimal numbers of 0 to 255 without leading zeros, joined by dots. None
-    /// where it writes none.
+    /// Reads an address: four decimal numbers from 0 to 255 without leading zeros, joined by dots. Returns `None` for
+    /// any other text.
     pub fn read(text: &str) -> Option<Self>
         ensures some { IfSome result (λ address. IsAddress text.now address.host) }
         ensures none { IfNone result ((host : ℕ) → IsAddress text.now host → ⊥) }

@@ -27,15 +27,15 @@ fn collect<R: Read>(alloc: Global, kind: Ruleset, files: &mut [R]) -> Result<Col
     Ok(collection)
 }
 
-/// Reads solution files to their ends, in order, and writes the collection of the best solutions of all that were
-/// played under this ruleset.
+/// Reads solution files to their ends, in order, and writes the collection of the best solutions in those of this
+/// ruleset.
 ///
 /// # Errors
 ///
-/// The first input that fails decides. `Read` where it fails or does not end within `INPUT_READS` reads, and
-/// `Unreadable` with its number, counted from 0, and the fault of its bytes: then nothing was written. `Write` where
-/// the writer fails: then a proper prefix of the collection's text was written. `Memory` where memory ran out, and
-/// nothing was written.
+/// The first input that fails decides. `Read` if it fails or does not end within `INPUT_READS` reads, and `Unreadable`
+/// with its number, counted from 0, and the fault of its bytes: then nothing was written. `Write` if the writer fails:
+/// then a proper prefix of the collection's text was written. `Memory` if an allocation was refused: then nothing was
+/// written.
 pub fn run_best<R: Read, W: Write>(
     alloc: Global,
     kind: Ruleset,
@@ -46,7 +46,7 @@ pub fn run_best<R: Read, W: Write>(
     ensures collected { OnOk result (BestWrites kind (map (λ file. R.remaining file) files.old) (W.contents out.old) (W.contents out.new)) }
     ensures fails { IfErr result (BestFails kind (map (λ file. R.remaining file) files.old) (W.contents out.old) (W.contents out.new)) }
     ensures unreadable { IfErr result (AreReadOut (λ file. R.remaining file) files.new) }
-    // Also of a writer that does not tell what it holds.
+    // Holds also for a writer that does not tell its contents.
     ensures unwritten { IfErr result (λ e. e ≢ ToolFault.Write → out.new ≡ out.old) }
 {
     let collection = collect(alloc, kind, files)?;

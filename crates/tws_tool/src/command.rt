@@ -12,7 +12,7 @@ use std::alloc::{AllocError, Global};
 
 const RULES: [&str; 2] = ["lynx", "ms"];
 
-/// The names of the rules.
+/// The names of the rulesets.
 pub(crate) fn rule_names() -> &'static [&'static str]
     ensures { AreRuleNames result }
 {
@@ -159,7 +159,7 @@ fn get_command<'a>(alloc: Global, names: &'a [&'a str]) -> Result<Command<'a>, A
         .arg(port_argument(alloc))
 }
 
-// The program with its commands on files alone.
+// The program with only its commands on files.
 fn files_command<'a>(alloc: Global, names: &'a [&'a str]) -> Result<Command<'a>, AllocError>
     ensures app { IfOk result (λ command. app_of command ≡ files_app names.entry) }
     ensures local { IfOk result (λ command. (out-Command command).has_globals ≡ false) }
@@ -174,7 +174,7 @@ fn files_command<'a>(alloc: Global, names: &'a [&'a str]) -> Result<Command<'a>,
     command.subcommand(best)
 }
 
-/// The command line of the program, with these names of the rules.
+/// The command line of the program, with these names of the rulesets.
 pub(crate) fn command<'a>(alloc: Global, names: &'a [&'a str]) -> Result<Command<'a>, AllocError>
     ensures { IfOk result (λ command. app_of command ≡ tws_app names.entry) }
 {

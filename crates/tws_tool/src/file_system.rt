@@ -7,7 +7,7 @@ use std::io::{Read, Write};
 use std::rt::Files;
 use std::{fs, io};
 
-/// Where files are opened and created by their names. It may tell what each of them has; that of the system tells nothing.
+/// Opens and creates files by their names. It may tell what each of them has; that of the system tells nothing.
 pub trait FileSystem {
     /// A file that is open to be read.
     type File: Read + Drop;
@@ -15,25 +15,25 @@ pub trait FileSystem {
     /// A file that was created, and is open to be written.
     type Created: Write + Drop;
 
-    /// What the file of a name has, where that is told.
+    /// The bytes of the file with a name, if they are told.
     ghost bytes_of: { Self → List ℕ → Option (List ℕ) };
 
-    /// What a file has that was just created by a name, where that is told.
+    /// The contents of a file that was just created with a name, if they are told.
     ghost created_of: { Self → List ℕ → Option (List ℕ) };
 
     /// Opens the file of this name, to be read from its start.
     ///
     /// # Errors
     ///
-    /// Where there is no such file, or it cannot be opened.
+    /// Fails if there is no such file, or it cannot be opened.
     fn open(&self, name: &str) -> io::Result<Self::File>
         ensures { IfOk result (λ file. Self.File.remaining file ≡ bytes_of self.now name.now) };
 
-    /// Creates the file of this name, to be written from its start. What a file of the name had is gone.
+    /// Creates the file of this name, to be written from its start. What an existing file of this name had is lost.
     ///
     /// # Errors
     ///
-    /// Where it cannot be created.
+    /// Fails if it cannot be created.
     fn create(&self, name: &str) -> io::Result<Self::Created>
         ensures { IfOk result (λ file. Self.Created.contents file ≡ created_of self.now name.now) };
 }
@@ -42,7 +42,7 @@ pub trait FileSystem {
 #[derive(Clone, Copy)]
 pub(crate) struct SystemFiles<P: Files + Copy>(pub(crate) P);
 
-/// A file of the system, which does not tell what it has.
+/// A file of the system, which does not tell its contents.
 #[derive(Drop)]
 pub(crate) struct SystemFile<F>(F);
 

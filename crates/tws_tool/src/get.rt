@@ -13,13 +13,13 @@ use std::io::Write;
 use tftp_packet::Endpoint;
 use tws_file::Ruleset;
 
-/// Fetches the collection of this ruleset from the archive at the host and the request port of `server` into a file, in
-/// at most `TURNS` turns; then says how many bytes it has.
+/// Fetches the collection of this ruleset from the archive into a file, in at most `TURNS` turns; then prints its
+/// length in bytes. `server` is the archive's host and request port.
 ///
 /// # Errors
 ///
-/// `Socket` where no port was opened, and `Transfer` with the cause of the failed transfer: then nothing is written to
-/// the file. `Write` where a writer fails, and `Memory` where an allocation was refused.
+/// `Socket` if no port was opened, and `Transfer` with the cause of the failed transfer: then nothing is written to the
+/// file. `Write` if a writer fails, and `Memory` if an allocation was refused.
 pub fn get_file<N: Wire, F: Write, W: Write>(
     alloc: Global,
     wire: &mut N,
@@ -30,7 +30,7 @@ pub fn get_file<N: Wire, F: Write, W: Write>(
 ) -> Result<(), ToolFault>
     ensures got { OnOk result (Gets server kind (N.log wire.old) (N.log wire.new) (F.contents file.old) (F.contents file.new) (W.contents out.old) (W.contents out.new)) }
     ensures fails { IfErr result (GetFails server kind (N.log wire.old) (N.log wire.new) (F.contents file.old) (F.contents file.new) (W.contents out.old) (W.contents out.new)) }
-    // Also of a writer that does not tell what it holds.
+    // Holds also for a writer that does not tell its contents.
     ensures unwritten { IfErr result (Unless (out.new ≡ out.old)) }
 {
     let len = run_get(alloc, wire, server, kind, TURNS, file)?;

@@ -1,5 +1,5 @@
-//! The commands of the archive, as the program does them: files by their names, an address as it was typed, and the
-//! sockets of a server.
+//! The archive's commands, as the program runs them: files by their names, an address as it was typed, and the sockets
+//! of a server.
 
 ghost use Rattle.std.specs.Prelude.{◌≡◌, ◌≢◌, ◌⊎◌, ◌^◌, ◌-◌, None, OnOk, IfErr, string_bytes};
 ghost use Rattle.archive_turns.specs.Ready.{MakesRounds};
@@ -31,7 +31,7 @@ use tws_file::Ruleset;
 
 const FAILED: u8 = 2;
 
-// Says that an address is none, and returns the status.
+// Reports a malformed address, and returns the status.
 fn bad_address<E: Write>(errors: &mut E) -> u8
     ensures { result ≡ 1 }
 {
@@ -39,7 +39,7 @@ fn bad_address<E: Write>(errors: &mut E) -> u8
     USAGE
 }
 
-// Says that what a folder keeps was not loaded, and returns the status.
+// Reports that a folder's collections could not be loaded, and returns the status.
 fn not_loaded<E: Write>(name: &str, errors: &mut E) -> u8
     ensures { result ≡ 2 }
 {
@@ -88,7 +88,7 @@ fn fetch<S: FileSystem, N: Wire, W: Write>(
     get_file(alloc, wire, Endpoint { host, port }, kind, &mut file, out)
 }
 
-/// Does what `put` asks for over this wire, and returns the status.
+/// Runs `put` over this wire, and returns the status.
 pub(crate) fn put<S: FileSystem, N: Wire, W: Write, E: Write>(
     system: &S,
     wire: &mut N,
@@ -110,7 +110,7 @@ pub(crate) fn put<S: FileSystem, N: Wire, W: Write, E: Write>(
     }
 }
 
-/// Does what `get` asks for over this wire, and returns the status.
+/// Runs `get` over this wire, and returns the status.
 pub(crate) fn get<S: FileSystem, N: Wire, W: Write, E: Write>(
     system: &S,
     wire: &mut N,
@@ -153,7 +153,7 @@ fn count<P: Net + Clock + AllocGlobal + Copy, K: Keeper, W: Write>(
     serve_counted(alloc, &mut wire, keeper, server, port, turns, out)
 }
 
-// Opens the server's request port, and makes rounds of the server that waits: more than any server lives for.
+// Opens the server's request port, and makes rounds of the server that waits: more than any server will live to make.
 fn wait<P: Net + Clock + AllocGlobal + Copy, K: Keeper, W: Write>(
     rt: P,
     alloc: Global,
@@ -172,7 +172,7 @@ fn wait<P: Net + Clock + AllocGlobal + Copy, K: Keeper, W: Write>(
     serve_waiting(alloc, &mut wire, keeper, server, port, u64::MAX, out)
 }
 
-/// Does what `serve` asks for with this keeper, whose name is for its faults, and returns the status.
+/// Runs `serve` with this keeper, whose name its faults are reported with, and returns the status.
 pub(crate) fn serve<P: Net + Clock + AllocGlobal + Copy, K: Keeper, W: Write, E: Write>(
     rt: P,
     alloc: Global,

@@ -9,10 +9,10 @@ use std::alloc::Global;
 use std::io::Read;
 use tws_file::{FileFault, Reader, TwsFile};
 
-/// How often one input is read. One whose last read gave no bytes has ended, also where that read was the last allowed.
+/// How often one input is read at most. An input has ended once a read returned no bytes, even the last one allowed.
 pub const INPUT_READS: u32 = 1 << 26;
 
-// The solution file that the input of this index holds. A fault of its bytes is answered once it was read to its end.
+// Reads the solution file in the input with this index. A fault of its bytes is returned once it was read to its end.
 pub(crate) fn read_input<R: Read>(
     alloc: Global,
     index: usize,

@@ -58,7 +58,7 @@ pub enum Job {
     },
 }
 
-/// Why arguments ask for nothing.
+/// Why the arguments ask for no job.
 #[derive(Drop)]
 pub enum JobFault {
     /// A usage error, or a request for help.
@@ -84,7 +84,7 @@ impl<T: Drop> From<AllocFailed<T>> for JobFault {
 }
 
 impl From<clap::Error> for JobFault {
-    // An error of running out of memory is no usage error.
+    // An out-of-memory error is not a usage error.
     ghost from_gives = { λ error e. ((kind_of error ≡ OutOfMemory) × (e ≡ Memory)) ⊎ ((kind_of error ≢ OutOfMemory) × (e ≡ Words error)) };
 
     fn from(error: clap::Error) -> Self {
@@ -95,7 +95,7 @@ impl From<clap::Error> for JobFault {
     }
 }
 
-// The rules of this name.
+// The ruleset with this name.
 fn rules_of(name: &str) -> Option<Ruleset>
     ensures some { IfSome result (λ kind. name.now ≡ rules_word kind) }
     ensures none { IfNone result ((kind : Ruleset) → name.now ≢ rules_word kind) }
@@ -107,7 +107,7 @@ fn rules_of(name: &str) -> Option<Ruleset>
     }
 }
 
-// The texts, in memory of their own.
+// Copies of the texts.
 fn copied(alloc: Global, texts: &[&str]) -> Result<Vec<String>, JobFault>
     ensures copied { IfOk result (λ copies. map string_bytes copies.items ≡ map (λ text. text.now) texts.now) }
     ensures memory { IfErr result (λ e. e ≡ Memory) }
@@ -119,7 +119,7 @@ fn copied(alloc: Global, texts: &[&str]) -> Result<Vec<String>, JobFault>
     Ok(copies)
 }
 
-// What the arguments after `best` ask for; nothing if they name no rules.
+// What the arguments after `best` ask for; `None` if the ruleset is unknown.
 fn best_of(alloc: Global, words: &ArgMatches) -> Result<Option<Job>, JobFault>
     ensures asked { IfOk result (AnswersCommand (codes "best", rows_of (found_of words.now))) }
     ensures memory { IfErr result (λ e. e ≡ Memory) }
@@ -134,7 +134,7 @@ fn best_of(alloc: Global, words: &ArgMatches) -> Result<Option<Job>, JobFault>
     Ok(Some(Job::Best { ruleset, files }))
 }
 
-// The text that was given by this name, in memory of its own.
+// A copy of the text that was given for this argument, if any.
 fn text_of(alloc: Global, words: &ArgMatches, name: &str) -> Result<Option<String>, JobFault>
     ensures copied { IfOk result (λ text. option_map string_bytes text ≡ first_of name.now (rows_of (found_of words.now))) }
     ensures memory { IfErr result (λ e. e ≡ Memory) }
@@ -145,7 +145,7 @@ fn text_of(alloc: Global, words: &ArgMatches, name: &str) -> Result<Option<Strin
     }
 }
 
-// The port that was given, or the default.
+// The port that was given, or the default; `None` if it is out of range.
 fn port_of(words: &ArgMatches) -> Option<u16>
     ensures some { IfSome result (IsNumberOr PORT MAX_PORT (first_of (codes "port") (rows_of (found_of words.now)))) }
     ensures none { IfNone result ((n : ℕ) → IsNumberOr PORT MAX_PORT (first_of (codes "port") (rows_of (found_of words.now))) n → ⊥) }
@@ -154,7 +154,7 @@ fn port_of(words: &ArgMatches) -> Option<u16>
     Some(port as u16)
 }
 
-// What the arguments after `serve` ask for; nothing if a number is none.
+// What the arguments after `serve` ask for; `None` if a number is out of range.
 fn serve_of(alloc: Global, words: &ArgMatches) -> Result<Option<Job>, JobFault>
     ensures asked { IfOk result (AnswersCommand (codes "serve", rows_of (found_of words.now))) }
     ensures memory { IfErr result (λ e. e ≡ Memory) }
@@ -169,7 +169,7 @@ fn serve_of(alloc: Global, words: &ArgMatches) -> Result<Option<Job>, JobFault>
     Ok(Some(Job::Serve { port, turns, dir }))
 }
 
-// The target that the arguments name; nothing if they name none, or the port is none.
+// The target that the arguments name; `None` if they name none, or the port is out of range.
 fn target_of(alloc: Global, words: &ArgMatches) -> Result<Option<Target>, JobFault>
     ensures asked { IfOk result (AnswersTarget (rows_of (found_of words.now))) }
     ensures memory { IfErr result (λ e. e ≡ Memory) }
@@ -190,7 +190,7 @@ fn target_of(alloc: Global, words: &ArgMatches) -> Result<Option<Target>, JobFau
     }))
 }
 
-// What the arguments after `put` ask for; nothing if they name no target.
+// What the arguments after `put` ask for; `None` if they name no target.
 fn put_of(alloc: Global, words: &ArgMatches) -> Result<Option<Job>, JobFault>
     ensures asked { IfOk result (AnswersCommand (codes "put", rows_of (found_of words.now))) }
     ensures memory { IfErr result (λ e. e ≡ Memory) }
@@ -201,7 +201,7 @@ fn put_of(alloc: Global, words: &ArgMatches) -> Result<Option<Job>, JobFault>
     Ok(Some(Job::Put { target }))
 }
 
-// What the arguments after `get` ask for; nothing if they name no rules or no target.
+// What the arguments after `get` ask for; `None` if the ruleset is unknown, or they name no target.
 fn get_of(alloc: Global, words: &ArgMatches) -> Result<Option<Job>, JobFault>
     ensures asked { IfOk result (AnswersCommand (codes "get", rows_of (found_of words.now))) }
     ensures memory { IfErr result (λ e. e ≡ Memory) }
@@ -218,7 +218,7 @@ fn get_of(alloc: Global, words: &ArgMatches) -> Result<Option<Job>, JobFault>
     Ok(Some(Job::Get { ruleset, target }))
 }
 
-// What the arguments of a command ask for; nothing if there is no command of this name.
+// What the arguments of a command ask for; `None` if there is no command of this name.
 fn job_by(alloc: Global, name: &str, words: &ArgMatches) -> Result<Option<Job>, JobFault>
     ensures asked { IfOk result (AnswersCommand (name.now, rows_of (found_of words.now))) }
     ensures memory { IfErr result (λ e. e ≡ Memory) }
@@ -260,12 +260,11 @@ fn no_command(alloc: Global) -> Result<clap::Error, JobFault>
     Ok(command.error(ErrorKind::InvalidSubcommand, "no such command")?)
 }
 
-/// What the arguments ask for, of which the first is the program's name.
+/// What the arguments ask for. The first of them is the program's name.
 ///
 /// # Errors
 ///
-/// `Words` where they ask for help, have a fault, or ask for nothing that there is; `Memory` where an allocation was
-/// refused.
+/// `Words` if they ask for help, have a fault, or ask for nothing that there is; `Memory` if an allocation was refused.
 pub fn job_of(alloc: Global, words: &[String]) -> Result<Job, JobFault>
     ensures { AnswersWords (map string_bytes words.now) result }
 {

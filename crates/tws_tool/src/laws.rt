@@ -1,4 +1,4 @@
-//! What holds of the commands whatever they read. These functions do nothing: their contracts are theorems.
+//! What holds for the commands, whatever they read. These functions do nothing: their contracts are theorems.
 
 ghost use Rattle.std.specs.Prelude.{◌≡◌, [], ◌∷◌, codes, None, true, false};
 ghost use Rattle.tws_tool.specs.CommandLine.{AskFor};
@@ -7,7 +7,7 @@ ghost use Rattle.tws_tool.specs.declared.job.Job.TheVariants.{Show, Pack, Serve}
 use crate::input::INPUT_READS;
 use crate::limits::{MAX_PORT, PORT, TURNS};
 
-/// The limits as numbers. The definitions name them.
+/// The values of the limits, which the definitions refer to by name.
 pub fn limit_values()
     ensures reads { INPUT_READS ≡ 67108864 }
     ensures port { PORT ≡ 6969 }
@@ -15,7 +15,7 @@ pub fn limit_values()
     ensures turns { TURNS ≡ 1000000000 }
 {}
 
-/// The arguments `show`, `show --moves`, `pack`, `serve`, and `serve` with a port and turns.
+/// What these arguments ask for: `show`, `show --moves`, `pack`, `serve`, and `serve` with a port and turns.
 pub fn words_of_commands()
     ensures show { AskFor (codes "show" ∷ []) (Show false) }
     ensures moves { AskFor (codes "show" ∷ codes "--moves" ∷ []) (Show true) }

@@ -1,7 +1,7 @@
-//! The commands of the program `tws`, over any reader and writer. `specs/Inputs.antt`, then `specs/Jobs.antt`, are the files
-//! to read first.
+//! The commands of the program `tws`, over any reader and writer. Read `specs/Inputs.antt` first, then
+//! `specs/Jobs.antt`.
 //!
-//! How it is called, by a crate that lists `tws_tool` and `tws_file`; this needs no proof file:
+//! How to call it, from a crate that lists `tws_tool` and `tws_file`; this needs no proof file:
 //!
 //! ```text
 //! ghost use Rattle.std.specs.Prelude.{[], true, IfOk, Some};

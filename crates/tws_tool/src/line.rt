@@ -20,7 +20,7 @@ fn push_line(text: &mut String, before: &str, number: u64, after: &str) -> Resul
 ///
 /// # Errors
 ///
-/// `Write` where the writer fails: a proper prefix of the line was written. `Memory` where there was none for the line, and
+/// `Write` if the writer fails: a proper prefix of the line was written. `Memory` if out of memory for the line:
 /// nothing was written.
 pub(crate) fn say<W: Write>(
     alloc: Global,

@@ -14,9 +14,9 @@ use tws_file::{pack, write_file};
 ///
 /// # Errors
 ///
-/// `Read` where the reader fails or does not end within `INPUT_READS` reads, and `Unreadable` with index 0 and the
-/// fault of the bytes: then nothing was written. `Write` where the writer fails: then a proper prefix of the packed
-/// file was written. `Memory` where an allocation was refused, and nothing was written.
+/// `Read` if the reader fails or does not end within `INPUT_READS` reads, and `Unreadable` with index 0 and the fault
+/// of the bytes: then nothing was written. `Write` if the writer fails: then a proper prefix of the packed file was
+/// written. `Memory` if an allocation was refused: then nothing was written.
 pub fn run_pack<R: Read, W: Write>(
     alloc: Global,
     input: &mut R,
@@ -26,7 +26,7 @@ pub fn run_pack<R: Read, W: Write>(
     ensures unreadable { IfErr result (IsReadOut (R.remaining input.new)) }
     ensures packed { OnOk result (Writes packed_text (R.remaining input.old) (W.contents out.old) (W.contents out.new)) }
     ensures fails { IfErr result (WriteFails packed_text (R.remaining input.old) (W.contents out.old) (W.contents out.new)) }
-    // Also of a writer that does not tell what it holds.
+    // Holds also for a writer that does not tell its contents.
     ensures unwritten { IfErr result (λ e. e ≢ ToolFault.Write → out.new ≡ out.old) }
 {
     let file = read_input(alloc, 0, input)?;

@@ -1,4 +1,4 @@
-//! The whole program but for where its arguments and streams come from.
+//! The whole program, except where its arguments and streams come from.
 
 ghost use Rattle.std.specs.Prelude.{◌≡◌, ◌≢◌, ◌⊎◌, ◌≤◌, None, Result, map, string_bytes, OnOk, IfOk, IfErr};
 ghost use Rattle.tws_tool.specs.declared.job.Job.{Job};
@@ -33,12 +33,12 @@ const DONE: u8 = 0;
 
 pub(crate) const USAGE: u8 = 1;
 
-// Says why a command failed whose inputs have these names, and returns the status. An input without a name is standard
-// input.
+// Reports why a command failed, and returns the status. `names` are the names of its inputs; an input without a name is
+// standard input.
 fn report<E: Write>(fault: ToolFault, names: &[String], errors: &mut E) -> u8
     ensures { result ≡ status_of fault }
 {
-    // There is no place left to say that this failed.
+    // There is nowhere left to report that this failed.
     let _ = match fault {
         ToolFault::Unreadable { index, fault } => {
             let name = match names.get(index) {
@@ -52,7 +52,7 @@ fn report<E: Write>(fault: ToolFault, names: &[String], errors: &mut E) -> u8
     fault.status()
 }
 
-// Says why a command failed, if it did, and returns the status.
+// Reports why a command failed, if it did, and returns the status.
 pub(crate) fn finish<E: Write>(done: Result<(), ToolFault>, names: &[String], errors: &mut E) -> u8
     ensures status { result ≡ answer_status done }
     ensures few { result ≤ 4 }
@@ -64,7 +64,7 @@ pub(crate) fn finish<E: Write>(done: Result<(), ToolFault>, names: &[String], er
     }
 }
 
-// Writes the text of a request for help, which ends its last line.
+// Writes the help text, with its last line ended.
 fn write_help<W: Write>(alloc: Global, error: &clap::Error, out: &mut W) -> Result<(), ToolFault>
     ensures written { OnOk result (WritesHelp (W.contents out.old) (W.contents out.new)) }
     ensures fails { IfErr result (HelpFails (W.contents out.old) (W.contents out.new)) }
@@ -76,7 +76,7 @@ fn write_help<W: Write>(alloc: Global, error: &clap::Error, out: &mut W) -> Resu
     Ok(())
 }
 
-// Shows help, or says what is wrong with the arguments, and returns the status.
+// Prints help, or reports what is wrong with the arguments, and returns the status.
 fn explain<W: Write, E: Write>(
     alloc: Global,
     error: &clap::Error,
@@ -94,7 +94,7 @@ fn explain<W: Write, E: Write>(
     finish(write_help(alloc, error, out), &[], errors)
 }
 
-// Opens the files of these names, before one is read.
+// Opens the files of these names, all of them before one is read.
 fn open_all<S: FileSystem>(
     system: &S,
     alloc: Global,
@@ -123,7 +123,7 @@ fn write_best<S: FileSystem, W: Write>(
 ) -> Result<(), ToolFault>
     ensures collected { OnOk result (BestWrites kind (map (λ name. S.bytes_of system.now (string_bytes name)) names.now) (W.contents out.old) (W.contents out.new)) }
     ensures fails { IfErr result (BestFails kind (map (λ name. S.bytes_of system.now (string_bytes name)) names.now) (W.contents out.old) (W.contents out.new)) }
-    // Also of a writer that does not tell what it holds.
+    // Holds also for a writer that does not tell its contents.
     ensures unwritten { IfErr result (λ e. e ≢ ToolFault.Write → out.new ≡ out.old) }
 {
     let mut files = open_all(system, alloc, names)?;
@@ -165,7 +165,7 @@ fn serve_job<P: Files + Net + Clock + AllocGlobal + Copy, W: Write, E: Write>(
     }
 }
 
-// Does a job, or says why there is none, and returns the status.
+// Does a job, or reports why there is none, and returns the status.
 fn run_job<
     S: FileSystem,
     N: Wire,
@@ -186,7 +186,7 @@ fn run_job<
     ensures ran { JobRuns (S.bytes_of system.now) (S.created_of system.now) job result (N.log wire.old) (N.log wire.new) (R.remaining input.old) (R.remaining input.new) (W.contents out.old) (W.contents out.new) }
     ensures usage { result ≡ 1 → (input.new ≡ input.old) × (out.new ≡ out.old) }
     ensures status { result ≤ 4 }
-    // At status 0, where input was read, a command's text of it was written.
+    // At status 0, if input was read, a command's text for it was written.
     ensures written { result ≡ 0 → (input.new ≡ input.old) ⊎ (text : CommandText) × Writes (text_by text) (R.remaining input.old) (W.contents out.old) (W.contents out.new) }
     ensures unreadable { result ≡ 3 → out.new ≡ out.old }
     ensures silent { result ≡ 0 → errors.new ≡ errors.old }
@@ -208,13 +208,13 @@ fn run_job<
     }
 }
 
-/// Does what the arguments ask for, of which the first is the program's name, and returns the exit status. The files of
+/// Does what the arguments ask for, and returns the exit status. The first argument is the program's name. The files of
 /// `system` are read and created, and `put` and `get` go over `wire`; the folder and the sockets of `serve` are the
 /// runtime's.
 ///
-/// A fault goes to `errors` as one line. The status is 0 where all was done, and for help, whose text goes to `out`;
-/// 1 for a usage error or a bad address; 2 where reading, writing, a socket or memory failed; 3 for an unreadable solution
-/// file; 4 for a failed transfer.
+/// A fault goes to `errors` as one line. The status is 0 if all was done, and for help, whose text goes to `out`; 1 for
+/// a usage error or a bad address; 2 if reading, writing, a socket or memory failed; 3 for an unreadable solution file;
+/// 4 for a failed transfer.
 pub fn run_words_with<
     S: FileSystem,
     N: Wire,
@@ -234,10 +234,10 @@ pub fn run_words_with<
 ) -> u8
     // The job is the one that the arguments ask for, with the files that they name.
     ensures ran { (job : Result Job JobFault) × AnswersWords (map string_bytes words.now) job × JobRuns (S.bytes_of system.now) (S.created_of system.now) job result (N.log wire.old) (N.log wire.new) (R.remaining input.old) (R.remaining input.new) (W.contents out.old) (W.contents out.new) }
-    // A usage error leaves input and output as they were, and an unreadable file the output.
+    // A usage error leaves input and output untouched, and an unreadable file the output.
     ensures usage { result ≡ 1 → (input.new ≡ input.old) × (out.new ≡ out.old) }
     ensures status { result ≤ 4 }
-    // At status 0, where input was read, a command's text of it was written.
+    // At status 0, if input was read, a command's text for it was written.
     ensures written { result ≡ 0 → (input.new ≡ input.old) ⊎ (text : CommandText) × Writes (text_by text) (R.remaining input.old) (W.contents out.old) (W.contents out.new) }
     ensures unreadable { result ≡ 3 → out.new ≡ out.old }
     ensures silent { result ≡ 0 → errors.new ≡ errors.old }

@@ -20,7 +20,7 @@ use std::io::{Read, Write};
 use tftp_packet::Endpoint;
 use tws_file::read_file;
 
-// All bytes of an input. However much it has, it is read at most `INPUT_READS` times.
+// Reads all bytes of an input, in at most `INPUT_READS` reads.
 fn read_bytes<R: Read>(alloc: Global, input: &mut R) -> Result<Vec<u8>, ToolFault>
     ensures bytes { IfOk result (λ bytes. IfSome (R.remaining input.old) (λ xs. bytes.items ≡ xs)) }
     ensures end { OnOk result (IsAtEnd (R.remaining input.new)) }
@@ -40,7 +40,7 @@ fn read_bytes<R: Read>(alloc: Global, input: &mut R) -> Result<Vec<u8>, ToolFaul
     Err(ToolFault::Read)
 }
 
-// All bytes of an input, which are a solution file's text.
+// Reads all bytes of an input, which must be the text of a solution file.
 fn read_whole<R: Read>(alloc: Global, input: &mut R) -> Result<Vec<u8>, ToolFault>
     ensures whole { IfOk result (λ bytes. IsWhole (R.remaining input.old) bytes.items) }
     ensures end { OnOk result (IsAtEnd (R.remaining input.new)) }
@@ -54,14 +54,14 @@ fn read_whole<R: Read>(alloc: Global, input: &mut R) -> Result<Vec<u8>, ToolFaul
     }
 }
 
-/// Reads a solution file to its end, and sends it to the archive at the host and the request port of `server`, in at
-/// most `TURNS` turns; then says how many bytes it has.
+/// Reads a solution file to its end, and sends it to the archive in at most `TURNS` turns; then prints its length in
+/// bytes. `server` is the archive's host and request port.
 ///
 /// # Errors
 ///
-/// `Read` where the reader fails or does not end within `INPUT_READS` reads, and `Unreadable` with index 0 and the
-/// fault of the bytes: then nothing is sent. `Socket` where no port was opened, and `Transfer` with the cause of the
-/// failed transfer. `Write` where the writer fails, after the file was sent. `Memory` where an allocation was refused.
+/// `Read` if the reader fails or does not end within `INPUT_READS` reads, and `Unreadable` with index 0 and the fault
+/// of the bytes: then nothing is sent. `Socket` if no port was opened, and `Transfer` with the cause of the failed
+/// transfer. `Write` if the writer fails, after the file was sent. `Memory` if an allocation was refused.
 pub fn put_file<R: Read, N: Wire, W: Write>(
     alloc: Global,
     input: &mut R,
@@ -73,7 +73,7 @@ pub fn put_file<R: Read, N: Wire, W: Write>(
     ensures unreadable { IfErr result (IsReadOut (R.remaining input.new)) }
     ensures sent { OnOk result (Puts (R.remaining input.old) server (N.log wire.old) (N.log wire.new) (W.contents out.old) (W.contents out.new)) }
     ensures fails { IfErr result (PutFails (R.remaining input.old) server (N.log wire.old) (N.log wire.new) (W.contents out.old) (W.contents out.new)) }
-    // Also of a writer that does not tell what it holds.
+    // Holds also for a writer that does not tell its contents.
     ensures unwritten { IfErr result (Unless (out.new ≡ out.old)) }
 {
     let bytes = read_whole(alloc, input)?;

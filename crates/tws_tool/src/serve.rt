@@ -12,12 +12,12 @@ use archive_turns::{ReadyServer, ReadyWire, Server, Wire, serve_ready, serve_tur
 use std::alloc::Global;
 use std::io::Write;
 
-/// Says that a server serves on this port, makes this many turns of it, and says how many files were taken.
+/// Prints that a server serves on this port, makes this many turns of it, and prints how many files were taken.
 ///
 /// # Errors
 ///
-/// `Write` where the writer fails, and `Memory` where there was none for a line. Where that is the first line no turn was
-/// made, and else all.
+/// `Write` if the writer fails, and `Memory` if out of memory for a line. If that is the first line no turn was made,
+/// otherwise all of them were.
 pub fn serve_counted<N: Wire, K: Keeper, W: Write>(
     alloc: Global,
     wire: &mut N,
@@ -35,7 +35,7 @@ pub fn serve_counted<N: Wire, K: Keeper, W: Write>(
     say(alloc, "taken ", taken, "", out)
 }
 
-/// The same of a server that waits for ready ports, for this many rounds.
+/// The same for a server that waits for ready ports, for this many rounds.
 ///
 /// # Errors
 ///

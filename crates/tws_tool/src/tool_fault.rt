@@ -17,14 +17,14 @@ pub enum ToolFault {
     /// The writer failed.
     #[error("write fault")]
     Write,
-    /// An input is no solution file.
+    /// An input is not a solution file.
     #[error("input {index}: unreadable: {fault}")]
     Unreadable {
         /// Which input, counted from 0.
         index: usize,
         fault: FileFault,
     },
-    /// Memory ran out.
+    /// Out of memory.
     #[error("out of memory")]
     Memory,
     /// A port could not be opened.
@@ -36,7 +36,8 @@ pub enum ToolFault {
 }
 
 impl ToolFault {
-    /// What the fault of a file that was read is at the input of this index. Running out of memory is not the file's.
+    /// The fault of a command that could not read the input with this index. Running out of memory is not the file's
+    /// fault.
     pub(crate) fn of_input(index: usize, fault: FileFault) -> Self
         ensures { result ≡ input_fault index fault }
     {
@@ -46,7 +47,7 @@ impl ToolFault {
         }
     }
 
-    /// The exit status of a program that failed so.
+    /// The exit status of a program that failed with this fault.
     pub(crate) fn status(self) -> u8
         ensures { result ≡ status_of self }
     {

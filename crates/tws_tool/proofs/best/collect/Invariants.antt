@@ -4,7 +4,7 @@ use Rattle.std.specs.Io.KnownBytes.{IsAtEnd}
 use Rattle.tws_tool.specs.Collecting.{Collects}
 use Rattle.tws_tool.proofs.best.collect.Given as goal
 
--- the first inputs were read, and are collected; the others are as they were
+-- the first inputs were read, and are collected; the others are unchanged
 abbrev pub invariant-loop-index : goal.invariant-loop-index
 invariant-loop-index g l = record {
   count : length l.files ≡ length l.fn.files;
