@@ -11,13 +11,13 @@ fn run(rt: &HostRuntime) -> io::Result<u8> {
     Ok(run_words(rt, rt.alloc(), &words, &mut input, &mut out, &mut errors))
 }
 
-// Says why the process's arguments could not be read.
+// Reports why the process's arguments could not be read.
 fn refuse(rt: &HostRuntime, error: io::Error) -> u8 {
     let (status, text) = match error.kind() {
         io::ErrorKind::OutOfMemory => (2, "out of memory"),
         _ => (1, "an argument is not UTF-8"),
     };
-    // There is no place left to say that this failed.
+    // There is nowhere left to report that this failed.
     let _ = eprintln!(rt; "tws: {text}");
     status
 }
