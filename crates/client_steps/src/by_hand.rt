@@ -86,7 +86,7 @@ fn a_put_that_is_never_answered(rt: HostRuntime) -> Result<(), Fail> {
     Ok(())
 }
 
-// Whether a put of so many bytes begins.
+// Whether a put of `len` bytes begins.
 fn starts(alloc: Global, len: usize) -> Result<bool, Fail> {
     let file = filled(alloc, len)?;
     match Put::start(5000, SERVER, file) {
@@ -97,7 +97,7 @@ fn starts(alloc: Global, len: usize) -> Result<bool, Fail> {
     }
 }
 
-// It has 8,191 whole blocks, and an empty one will end it.
+// It has 8,191 whole blocks, and an empty one ends it.
 #[test]
 fn a_file_of_many_whole_blocks(rt: HostRuntime) -> Result<(), Fail> {
     assert!(rt; starts(rt.alloc(), 4193792)?);
@@ -121,7 +121,7 @@ fn a_file_that_is_too_long(rt: HostRuntime) -> Result<(), Fail> {
     Ok(())
 }
 
-// The client that comes back where its file is asked for too early.
+// Asks for the file too early. Returns the client that comes back.
 fn asked_too_early(get: Get) -> Result<Get, Fail> {
     match get.into_file() {
         Ok(_file) => Err(Fail::new("a file before any answer")),

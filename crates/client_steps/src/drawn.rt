@@ -1,5 +1,5 @@
-// A thousand runs of one client, each of sixty inputs that fit or not. A plain program beside it, written from the
-// table of a client's states, says what the client sends and how far it is after each input.
+// A thousand runs of one client, each of sixty inputs that may fit or not. A plain program, written from the table of a
+// client's states, predicts what the client sends and its state after each input.
 use archive_client::{Cause, Get, Put, State};
 use std::alloc::Global;
 use std::test::Fail;
@@ -13,7 +13,7 @@ const SERVER: Endpoint = Endpoint {
 
 const SIZES: [usize; 5] = [0, 1, 512, 700, 1024];
 
-// Numbers by a linear congruence, from a fixed seed.
+// Pseudo-random numbers from a linear congruential generator with a fixed seed.
 #[derive(Drop)]
 struct Draws(u64);
 
@@ -53,7 +53,7 @@ fn byte(i: usize) -> u8 {
     (i % 251) as u8
 }
 
-// What block n of a file of this length has: where it begins, and where it ends.
+// Where block `n` of a file of this length begins, and where it ends.
 fn block(len: usize, n: u16) -> (usize, usize) {
     let start = usize::from(n.saturating_sub(1)).wrapping_mul(512);
     (start.min(len), start.wrapping_add(512).min(len))
@@ -84,7 +84,7 @@ fn input_bytes(alloc: Global, input: Input) -> Result<Vec<u8>, Fail> {
             push_packet(&mut bytes, 5, code)?;
             bytes.push(0)?;
         }
-        // An ACK with a byte too many.
+        // An ACK with one byte too many.
         Input::Malformed => {
             push_packet(&mut bytes, 4, 0)?;
             bytes.push(0)?;
@@ -186,7 +186,7 @@ impl Plain {
         }
     }
 
-    // What is drawn next: mostly what goes on.
+    // The next input: mostly one that continues the transfer.
     fn draw(&self, draws: &mut Draws) -> Input {
         let near = self.block.wrapping_add(draws.below(3)).saturating_sub(1);
         match draws.below(16) {
@@ -205,7 +205,7 @@ impl Plain {
     }
 }
 
-// Mostly the peer, or where there is none the first port.
+// The source of the next input: mostly the peer, or the first port if there is none.
 fn source(plain: &Plain, draws: &mut Draws) -> Endpoint {
     let peer = plain.peer.unwrap_or(4000);
     match draws.below(10) {
@@ -242,7 +242,8 @@ fn reply_bytes(alloc: Global, plain: &Plain, reply: Reply) -> Result<Vec<u8>, Fa
     Ok(bytes)
 }
 
-// Whether this is what is sent: a request to the server's port, a refusal to the stranger, all else to the peer.
+// Whether `out` is what must be sent: a request goes to the server's port, a refusal to the stranger, all else to the
+// peer.
 fn fits(
     alloc: Global,
     plain: &Plain,
@@ -314,7 +315,8 @@ fn is_file(bytes: &[u8], len: usize) -> bool {
     bytes.len() == len && bytes.iter().enumerate().all(|(i, b)| *b == byte(i))
 }
 
-// How far a get came that hands out its file exactly where the plain one has got it, and is else the same client.
+// The state in which a get ended. It hands out its file exactly if the plain one has got it, and otherwise comes back
+// as the same client.
 fn how_it_ended(alloc: Global, client: Get, plain: &Plain) -> Result<State, Fail> {
     match (plain.state, client.into_file()) {
         (State::Got, Ok(file)) if is_file(&file.to_vec(alloc)?, plain.got) => Ok(State::Got),
