@@ -1,4 +1,4 @@
-// A table whose requests come to port 6969, and what a call of it is wanted to tell.
+// A table with request port 6969, and what its calls must return.
 use archive_table::{Keeper, LoadFault, MemoryKeeper, Step, Table};
 use std::alloc::Global;
 use std::marker::Model;
@@ -31,7 +31,7 @@ impl Archive {
         }
     }
 
-    // With what the keeper has.
+    // An archive with what the keeper has.
     pub(crate) fn load<K: Keeper>(alloc: Global, keeper: &mut K) -> Result<Self, LoadFault> {
         match Table::load(alloc, REQUEST, keeper) {
             Ok(table) => Ok(Archive { table }),
@@ -39,7 +39,7 @@ impl Archive {
         }
     }
 
-    // A datagram comes to the request port. The spare port is to be free.
+    // Handles a datagram at the request port. The spare port must be free.
     #[tactic(auto, using(archive_table::proofs::SamePort::request_same))]
     pub(crate) fn ask(&mut self, spare: u16, from: Endpoint, bytes: &[u8]) -> Result<Step, Fail> {
         if spare == REQUEST || self.table.is_live(spare) {
@@ -48,7 +48,7 @@ impl Archive {
         Ok(self.table.on_request(spare, from, bytes))
     }
 
-    // A datagram comes to a transfer's port.
+    // Handles a datagram at a transfer's port.
     #[tactic(auto, using(archive_table::proofs::SamePort::datagram_same))]
     pub(crate) fn hear<K: Keeper>(
         &mut self,
@@ -60,7 +60,7 @@ impl Archive {
         self.table.on_datagram(keeper, port, from, bytes)
     }
 
-    // Nothing comes to a port for a while.
+    // Handles a time-out at a port.
     #[tactic(auto, using(archive_table::proofs::SamePort::timeout_same))]
     pub(crate) fn wait(&mut self, port: u16) -> Step {
         self.table.on_timeout(port)
@@ -78,7 +78,8 @@ impl Archive {
     }
 }
 
-// What a call tells: what it sends, from which port and to whom; whether it opens; what it takes, and from whom; whether it closes.
+// What a call returns: what it sends, from which port and to whom; whether it opens; what it takes, and from whom;
+// whether it closes.
 #[derive(Clone, Copy)]
 pub(crate) struct Wanted<'a> {
     pub(crate) out: Option<(u16, Endpoint, &'a [u8])>,
@@ -87,8 +88,8 @@ pub(crate) struct Wanted<'a> {
     pub(crate) closed: bool,
 }
 
-// The same of a step by hand, by what it does: it sends these bytes from this port to the client with this host, opens a
-// transfer by it, takes the file that is named last, or closes its transfer.
+// The same for a step by hand, by what it does: it sends these bytes from this port to the client on this host, opens a
+// transfer with them, takes the file that is named last, or closes its transfer.
 #[derive(Clone, Copy)]
 pub(crate) enum Told<'a> {
     Nothing,
@@ -129,7 +130,7 @@ fn is_out(out: &Option<Out>, wanted: Option<(u16, Endpoint, &[u8])>) -> bool {
     }
 }
 
-// Whether a call tells just this.
+// Whether a call returned exactly this.
 pub(crate) fn is_step(alloc: Global, step: &Step, wanted: Wanted<'_>) -> Result<bool, Fail> {
     let is_taken = match (&step.taken, wanted.taken) {
         (None, None) => true,
@@ -155,8 +156,8 @@ pub(crate) fn client(host: u32) -> Endpoint {
     Endpoint { host, port: 5000 }
 }
 
-// What comes: to the request port with this spare port, to a transfer's port, or nothing for a while. The number is the
-// client's host.
+// An input: a datagram at the request port with this spare port, one at a transfer's port, or a time-out. The second
+// number is the client's host.
 #[derive(Clone, Copy)]
 pub(crate) enum Input<'a> {
     Ask(u16, u32, &'a [u8]),
@@ -172,7 +173,7 @@ fn step<K: Keeper>(archive: &mut Archive, keeper: &mut K, input: Input<'_>) -> R
     }
 }
 
-// The first of these inputs that tells something else than wanted, if there is one.
+// The index of the first of these inputs whose step is not the expected one, if there is one.
 pub(crate) fn first_other<K: Keeper>(
     alloc: Global,
     archive: &mut Archive,
@@ -188,7 +189,7 @@ pub(crate) fn first_other<K: Keeper>(
     Ok(None)
 }
 
-// The collections' texts are these.
+// Whether the collections' texts are these.
 pub(crate) fn has_texts(
     alloc: Global,
     archive: &Archive,
@@ -201,12 +202,12 @@ pub(crate) fn has_texts(
     )
 }
 
-// How many transfers there are, and the least port of one.
+// Whether there are this many transfers, and this is the least port of one.
 pub(crate) fn is_live(archive: &Archive, count: usize, least: Option<u16>) -> bool {
     archive.table().live() == count && archive.table().next_port(0) == least
 }
 
-// What inputs leave: the collections' texts, how many transfers there are, and the least port of one.
+// What is left after inputs: the collections' texts, how many transfers there are, and the least port of one.
 #[derive(Clone, Copy)]
 pub(crate) struct Left<'a> {
     pub(crate) lynx: &'a [u8],
@@ -215,7 +216,7 @@ pub(crate) struct Left<'a> {
     pub(crate) least: Option<u16>,
 }
 
-// What is left of a new archive to which nothing came that counts.
+// What is left of a new archive after inputs without effect.
 pub(crate) const NOTHING: Left<'static> = Left {
     lynx: b"\x35\x33\x9B\x99\x01\0\0\0",
     ms: b"\x35\x33\x9B\x99\x02\0\0\0",
@@ -223,8 +224,8 @@ pub(crate) const NOTHING: Left<'static> = Left {
     least: None,
 };
 
-// The first of these inputs to an archive that tells something else than wanted; the number of all where they leave
-// something else.
+// The index of the first of these inputs to an archive whose step is not the expected one; the number of inputs if they
+// leave something else.
 fn other_at<K: Keeper>(
     alloc: Global,
     archive: &mut Archive,
@@ -241,7 +242,7 @@ fn other_at<K: Keeper>(
     Ok(if is_left { None } else { Some(rows.len()) })
 }
 
-// The same of an archive that is not needed after them.
+// The same for an archive that is not needed after them.
 pub(crate) fn other_of<K: Keeper>(
     alloc: Global,
     archive: Archive,
@@ -253,7 +254,7 @@ pub(crate) fn other_of<K: Keeper>(
     other_at(alloc, &mut archive, keeper, rows, left)
 }
 
-// The same of a new archive, whose keeper has nothing yet.
+// The same for a new archive, whose keeper has nothing yet.
 pub(crate) fn other_of_new(
     alloc: Global,
     rows: &[(Input<'_>, Told<'_>)],

@@ -1,4 +1,4 @@
-// What comes to a transfer's port.
+// Datagrams at a transfer's port.
 use crate::archive::{
     Archive, Input, Left, NOTHING, Told, client, first_other, has_told, is_live, other_of,
     other_of_new,
@@ -34,12 +34,13 @@ const TOO_LONG: &[u8; 24] = b"\0\x05\0\0collection too long\0";
 
 const FILE_TOO_LONG: &[u8; 18] = b"\0\x05\0\x03file too long\0";
 
-// How DATA 1 of a Lynx file begins whose solution has password AAAA. The record's size and its level are not yet in it.
+// The beginning of DATA 1 of a Lynx file whose solution has password AAAA. The record's size and its level are not yet
+// in it.
 const LONG_HEADER: &[u8; 32] =
     b"\0\x03\0\x01\x35\x33\x9B\x99\x01\0\0\0\0\0\0\0\0\0AAAA\0\0\0\0\0\0\0\0\0\0";
 
-// Of two transfers that one request opened the client ends the one that it is not bound to, and by the other its file is
-// taken once, though its last block comes twice.
+// Of two transfers that were opened for one request the client ends the one that it is not bound to, and through the
+// other its file is taken once, although its last block arrives twice.
 #[test]
 fn a_request_that_came_twice(rt: HostRuntime) -> Result<(), Fail> {
     let rows = [
@@ -62,7 +63,7 @@ fn a_request_that_came_twice(rt: HostRuntime) -> Result<(), Fail> {
     Ok(())
 }
 
-// A datagram of another source changes nothing: the transfer goes on as if it had not come.
+// A datagram from another source changes nothing: the transfer goes on as if it had not arrived.
 #[test]
 fn another_source(rt: HostRuntime) -> Result<(), Fail> {
     let empty = b"\0\x03\0\x01\x35\x33\x9B\x99\x01\0\0\0";
@@ -153,7 +154,7 @@ fn takes_sevens(alloc: Global, archive: &mut Archive, number: u16) -> Result<boo
     has_told(alloc, &step, Told::Sends(4000, 2, &[0, 4, high, low]))
 }
 
-// Opens a transfer, to which 65,534 whole blocks of sevens come.
+// Opens a transfer that receives 65,534 whole blocks of sevens.
 fn fill(alloc: Global, archive: &mut Archive) -> Result<(), Fail> {
     archive.ask(4000, client(2), WRQ)?;
     for number in 1..65535_u16 {
@@ -189,8 +190,8 @@ fn a_block_too_many(rt: HostRuntime) -> Result<(), Fail> {
     Ok(())
 }
 
-// Whether the last block completes a file of sevens, and comes again. After it no number comes next: block 0 and block 1 are
-// not taken.
+// Whether the last block completes a file of sevens, and is acknowledged again when it is repeated. No number follows
+// it: block 0 and block 1 are not taken.
 fn takes_the_last(alloc: Global, file: &[u8]) -> Result<bool, Fail> {
     let mut data = [7; 515];
     data[..4].copy_from_slice(b"\0\x03\xFF\xFF");
@@ -220,7 +221,8 @@ fn the_greatest_file(rt: HostRuntime) -> Result<(), Fail> {
     Ok(())
 }
 
-// A file of so many bytes comes: one solution of this level, whose moves have one byte each.
+// Sends a file of `size` bytes: one solution of this level, whose moves have one byte each. Returns whether it is
+// taken.
 fn long_file(archive: &mut Archive, port: u16, level: u8, size: u32) -> Result<bool, Fail> {
     let host = client(u32::from(level));
     archive.ask(port, host, WRQ)?;
@@ -247,7 +249,7 @@ fn long_file(archive: &mut Archive, port: u16, level: u8, size: u32) -> Result<b
     }
 }
 
-// An archive to which two files of so many bytes have come.
+// An archive that has taken two files of `size` bytes.
 fn with_two_files(alloc: Global, size: u32) -> Result<Archive, Fail> {
     let mut archive = Archive::new(alloc);
     if long_file(&mut archive, 4000, 1, size)? && long_file(&mut archive, 4002, 2, size)? {
@@ -314,7 +316,7 @@ fn serves_text(archive: &mut Archive, text: &[u8]) -> Result<bool, Fail> {
     Ok(first.opened && is_served(archive, 4003, first, text) && is_live(archive, 2, Some(4000)))
 }
 
-// Whether the collection of two files of these sizes has so many bytes, and a request to read it is served.
+// Whether the collection of two files of `file` bytes has `size` bytes, and a request to read it is served.
 fn serves(alloc: Global, file: u32, size: usize) -> Result<bool, Fail> {
     let mut archive = with_two_files(alloc, file)?;
     let text = archive.text(alloc, Ruleset::Lynx)?;

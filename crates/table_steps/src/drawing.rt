@@ -1,4 +1,4 @@
-// What comes to a server in a drawn run.
+// The inputs of a server in a drawn run.
 use crate::archive::REQUEST;
 use crate::plain::{End, Plain};
 use std::alloc::Global;
@@ -8,7 +8,7 @@ use tftp_packet::Endpoint;
 // The sizes of the drawn files' moves: a block and less, a whole block, more than one, and two blocks.
 const MOVES: [usize; 5] = [0, 2, 484, 700, 996];
 
-// Numbers by a linear congruence, from a fixed seed.
+// Pseudo-random numbers from a linear congruential generator with a fixed seed.
 #[derive(Drop)]
 pub(crate) struct Draws(pub(crate) u64);
 
@@ -24,13 +24,13 @@ impl Draws {
         }
     }
 
-    // Whether something happens that happens once in `n`.
+    // Returns true about once in `n` draws.
     pub(crate) fn once_in(&mut self, n: u16) -> bool {
         self.below(n) == 0
     }
 }
 
-// What comes to a server: a datagram at the request port with a spare port, one at another port, or nothing for a while.
+// An input of a server: a datagram at the request port with a spare port, one at another port, or a time-out.
 #[derive(Drop)]
 pub(crate) enum Input {
     Ask {
@@ -55,7 +55,7 @@ fn peer(draws: &mut Draws) -> Endpoint {
     }
 }
 
-// The file of this number up to the moves of its record, which has so many bytes.
+// The file with this number up to the moves of its record, which has `size` bytes.
 fn without_moves(i: u16, size: usize) -> [u8; 28] {
     let level = (i % 11) as u8;
     let mut bytes = [0; 28];
@@ -71,8 +71,9 @@ fn without_moves(i: u16, size: usize) -> [u8; 28] {
     bytes
 }
 
-// A file of one record, of a few levels of each ruleset, with different ticks and moves. In one of nine that has moves the
-// last one is cut short, one of seven has a byte after its record, and the record of two of eleven is no solution.
+// A file of one record, for one of a few levels of either ruleset, with different ticks and moves. In one of nine files
+// with moves the last move is cut short, one of seven has a byte after its record, and the record of two of eleven is
+// not a solution.
 fn file(alloc: Global, i: u16) -> Result<Vec<u8>, Fail> {
     let moves = MOVES.get(usize::from(i / 3 % 5)).copied().unwrap_or(0);
     let mut bytes = Vec::from_slice(alloc, &without_moves(i, 16 + moves % 1000))?;
@@ -113,7 +114,7 @@ fn request(alloc: Global, draws: &mut Draws) -> Result<Vec<u8>, Fail> {
     Ok(Vec::from_slice(alloc, bytes)?)
 }
 
-// The block of this number of a file. Sometimes it is cut short.
+// DATA with block `n` of a file. Sometimes the block is cut short.
 fn block(alloc: Global, draws: &mut Draws, file: &[u8], n: u16) -> Result<Vec<u8>, Fail> {
     let mut body = Vec::new(alloc);
     let start = usize::from(n.saturating_sub(1)).wrapping_mul(512);
@@ -128,7 +129,7 @@ fn block(alloc: Global, draws: &mut Draws, file: &[u8], n: u16) -> Result<Vec<u8
     packet(alloc, 3, n, &body)
 }
 
-// What comes to a live transfer: mostly what goes on.
+// A datagram for a live transfer: mostly one that continues it.
 fn fitting(
     alloc: Global,
     draws: &mut Draws,
@@ -173,7 +174,7 @@ fn datagram(
     }
 }
 
-// A port that is free: the first from a drawn one on, of which at most `LIVE` are not.
+// A free port: the first from a drawn one on, of which at most `LIVE` are not free.
 fn spare(draws: &mut Draws, plain: &Plain, crowded: bool) -> u16 {
     let drawn = if draws.once_in(50) {
         0
@@ -189,7 +190,7 @@ fn spare(draws: &mut Draws, plain: &Plain, crowded: bool) -> u16 {
     drawn
 }
 
-// A port of a datagram or a time-out: mostly this one, or else one that is perhaps not live, or the request port.
+// The port of a datagram or a time-out: mostly this one, otherwise one that may not be live, or the request port.
 fn port(draws: &mut Draws, live: u16) -> u16 {
     match draws.below(30) {
         0 => REQUEST,

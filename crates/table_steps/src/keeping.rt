@@ -1,4 +1,4 @@
-// Collections that are kept, or not, and found again by a server that starts.
+// Collections that are kept, or not, and loaded again by a server that starts.
 use crate::archive::{Archive, Input, Left, NOTHING, Told, client, has_texts, is_live, other_of};
 use archive_table::{KeepFault, LoadFault, MemoryKeeper};
 use std::alloc::Global;
@@ -19,14 +19,14 @@ const FIRST: &[u8; 32] =
 
 const NOT_KEPT: &[u8; 13] = b"\0\x05\0\0not kept\0";
 
-// DATA 1 with seven bytes that are no file.
+// DATA 1 with seven bytes that are not a file.
 const CUT: &[u8; 11] = b"\0\x03\0\x01\x35\x33\x9B\x98\x02\0\0";
 
 const ACK_0: &[u8; 4] = b"\0\x04\0\0";
 
 const ACK_1: &[u8; 4] = b"\0\x04\0\x01";
 
-// Whether the keeper was given this file of Lynx so often, and whether it was kept each time.
+// Whether the keeper was given the Lynx file once for each of `wanted`, and kept it each time or not, as that says.
 fn was_given(keeper: &MemoryKeeper, wanted: &[bool]) -> bool {
     let kept = keeper.kept();
     for (one, ok) in kept.iter().zip(wanted) {
@@ -40,8 +40,8 @@ fn was_given(keeper: &MemoryKeeper, wanted: &[bool]) -> bool {
     kept.len() == wanted.len()
 }
 
-// The first of these inputs to a new archive that tells something else than wanted, where this call of its keeper fails and
-// no other; the number of all where they leave something else, or the keeper was given something else.
+// The index of the first of these inputs to a new archive whose step is not the expected one, if only this call of its
+// keeper fails; the number of inputs if they leave something else, or the keeper was given something else.
 fn other_kept(
     alloc: Global,
     failing: u64,
@@ -58,7 +58,8 @@ fn other_kept(
     Ok(other)
 }
 
-// A file that is not kept is refused, and joins no collection: the same of another client is given to the keeper again.
+// A file that is not kept is refused, and joins no collection: the same file from another client is given to the keeper
+// again.
 #[test]
 fn a_keep_that_fails(rt: HostRuntime) -> Result<(), Fail> {
     let rows = [
@@ -82,7 +83,7 @@ fn a_keep_that_fails(rt: HostRuntime) -> Result<(), Fail> {
     Ok(())
 }
 
-// The second file changes nothing, and nothing is kept for it; nor for bytes that are no file.
+// The second file changes nothing, and nothing is kept for it; nor for bytes that are not a file.
 #[test]
 fn nothing_to_keep(rt: HostRuntime) -> Result<(), Fail> {
     let cut = b"\x35\x33\x9B\x98\x02\0\0";
@@ -124,7 +125,7 @@ fn copied(alloc: Global, text: Option<&[u8]>) -> Result<Option<Vec<u8>>, Fail> {
     }
 }
 
-// Why nothing is loaded from a keeper with these texts for Lynx and MS, of which this call fails.
+// Why nothing is loaded from a keeper with these texts for Lynx and MS, if this call of it fails.
 fn fault_of(
     alloc: Global,
     lynx: Option<&[u8]>,
@@ -136,10 +137,10 @@ fn fault_of(
     Ok(fault(alloc, &mut keeper))
 }
 
-// Seven bytes that are no file.
+// Seven bytes that are not a file.
 const SHORT: &[u8; 7] = b"\x35\x33\x9B\x98\x02\0\0";
 
-// Of a Lynx text that is of no use, the second call is never made, so that it cannot fail.
+// After a Lynx text that cannot be loaded the second call is never made, so it cannot fail.
 #[test]
 fn loading_lynx_refused(rt: HostRuntime) -> Result<(), Fail> {
     let device = LoadFault::Keep(KeepFault::Device);
@@ -177,7 +178,7 @@ fn loading_ms_refused(rt: HostRuntime) -> Result<(), Fail> {
     Ok(())
 }
 
-// Whether a server that starts with what the keeper has has these texts, and no transfer.
+// Whether a server loaded from this keeper has these texts, and no transfer.
 fn loads(alloc: Global, keeper: &mut MemoryKeeper, lynx: &[u8], ms: &[u8]) -> Result<bool, Fail> {
     match Archive::load(alloc, keeper) {
         Ok(archive) => Ok(has_texts(alloc, &archive, lynx, ms)? && is_live(&archive, 0, None)),
@@ -185,7 +186,7 @@ fn loads(alloc: Global, keeper: &mut MemoryKeeper, lynx: &[u8], ms: &[u8]) -> Re
     }
 }
 
-// Whether both texts are loaded of a keeper that has them.
+// Whether both texts are loaded from a keeper that has them.
 fn loads_both(alloc: Global, lynx: &[u8], ms: &[u8]) -> Result<bool, Fail> {
     let one = Vec::from_slice(alloc, lynx)?;
     let other = Vec::from_slice(alloc, ms)?;
@@ -208,7 +209,7 @@ fn takes(archive: &mut Archive, keeper: &mut MemoryKeeper) -> Result<bool, Fail>
     Ok(step.taken.is_some())
 }
 
-// Whether a server finds what was taken, and no more.
+// Whether a server loads what was taken, and no more.
 fn finds(alloc: Global, keeper: &mut MemoryKeeper, is_taken: bool) -> Result<bool, Fail> {
     let lynx = if is_taken {
         HUNDRED.as_slice()
@@ -218,8 +219,8 @@ fn finds(alloc: Global, keeper: &mut MemoryKeeper, is_taken: bool) -> Result<boo
     loads(alloc, keeper, lynx, EMPTY_MS)
 }
 
-// Whether a server finds what was taken when it starts again after this call of its keeper has failed. The first call keeps
-// the file, the second and third load.
+// Whether a server loads what was taken when it starts again after this call of its keeper has failed. The first call
+// keeps the file, the second and third load.
 fn finds_what_was_taken(alloc: Global, failing: u64) -> Result<bool, Fail> {
     let mut keeper = MemoryKeeper::new(alloc);
     keeper.fail_at(failing);

@@ -1,6 +1,7 @@
-//! Tests alone: the steps of the server's table, by hand and drawn. RFC 1350 sections 2, 4 and 5.
+//! Tests only: the steps of the server's table, by hand and drawn. RFC 1350 sections 2, 4 and 5.
 //!
-//! What is wanted of a step by hand is written out as bytes. Drawn steps are compared with a plain server over lists.
+//! The expected result of a step by hand is written out as bytes. Drawn steps are compared with a plain server over
+//! lists.
 #![tactic(auto)]
 
 #[cfg(test)]

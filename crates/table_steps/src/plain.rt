@@ -54,7 +54,7 @@ pub(crate) struct Keeping {
     pub(crate) keeps: bool,
 }
 
-// What a step tells, and what the keeper is given in it.
+// What a step returns, and what the keeper is given in it.
 #[derive(Drop)]
 pub(crate) struct Said {
     pub(crate) out: Option<(u16, Endpoint, Vec<u8>)>,
@@ -188,7 +188,7 @@ impl Plain {
         None
     }
 
-    // The least live port above this one.
+    // The least live port above `after`.
     pub(crate) fn next_port(&self, after: u16) -> Option<u16> {
         let mut least = None;
         for transfer in &self.live {
@@ -378,8 +378,8 @@ impl Plain {
         }
     }
 
-    // What a keeper is given for the solutions of a file, if they change the collection, which is then as it is with them
-    // where they are kept.
+    // Merges the solutions of a file. Returns what the keeper is given, if they change the collection, which is
+    // replaced only if `keeps`.
     fn merge(
         &mut self,
         kind: Ruleset,
@@ -401,7 +401,7 @@ impl Plain {
         Ok(Some(Keeping { kind, text, keeps }))
     }
 
-    // The file of the transfer at this place of the list is whole.
+    // Handles the whole file of the transfer at this place of the list.
     fn on_file(&mut self, i: usize, n: usize, file: Vec<u8>, keeps: bool) -> Result<Said, Fail> {
         let kept = match read(self.alloc, &file)? {
             Some((kind, solutions)) => self.merge(kind, solutions, keeps)?,
@@ -416,7 +416,7 @@ impl Plain {
         Ok(said)
     }
 
-    // The file of the transfer at this place of the list is taken.
+    // Takes the file of the transfer at this place of the list.
     fn take(&mut self, i: usize, n: usize, file: Vec<u8>) -> Result<Said, Fail> {
         let Some(transfer) = self.live.get_mut(i) else {
             return Ok(silent());

@@ -14,7 +14,7 @@ fn byte(bytes: &[u8], i: usize) -> u8 {
     bytes.get(i).copied().unwrap_or(0)
 }
 
-// A number of four bytes, the least first.
+// A little-endian number of four bytes.
 fn little(bytes: &[u8], i: usize) -> u32 {
     u32::from_le_bytes([
         byte(bytes, i),
@@ -34,7 +34,7 @@ pub(crate) fn block_of(alloc: Global, file: &[u8], n: usize) -> Result<Vec<u8>, 
     Ok(block)
 }
 
-// How many bytes a move has that begins with this one.
+// The length in bytes of a move that begins with this byte.
 fn move_len(first: u8) -> usize {
     match first % 4 {
         0 | 1 => 1,
@@ -95,7 +95,7 @@ fn take_solution(alloc: Global, file: &[u8], at: usize, size: usize) -> Result<S
     Ok(Solution { key, body })
 }
 
-// The rules of a file and its solutions; none where the bytes are no file.
+// The ruleset of a file and its solutions; `None` if the bytes are not a file.
 pub(crate) fn read(alloc: Global, file: &[u8]) -> Result<Option<(Ruleset, Vec<Solution>)>, Fail> {
     let kind = match byte(file, 4) {
         1 => Ruleset::Lynx,
@@ -139,7 +139,7 @@ fn is_better(one: &[u8], other: &[u8]) -> bool {
     false
 }
 
-// Whether a solution is better than the one of its key, or the first.
+// Whether a solution is better than the one with its key, or is the first with that key.
 pub(crate) fn improves(collection: &[Solution], solution: &Solution) -> bool {
     for old in collection {
         if old.key == solution.key {

@@ -1,4 +1,4 @@
-// What comes to the request port.
+// Datagrams at the request port.
 use crate::archive::{
     Archive, Input, Left, NOTHING, Told, client, has_told, other_of, other_of_new,
 };
@@ -30,7 +30,7 @@ fn a_request_to_read(rt: HostRuntime) -> Result<(), Fail> {
     Ok(())
 }
 
-// A refused request leaves neither a transfer nor its port: the mode is looked at before the name.
+// A refused request leaves neither a transfer nor its port in use: the mode is checked before the name.
 #[test]
 fn requests_refused(rt: HostRuntime) -> Result<(), Fail> {
     let octet_only = Told::Sends(6969, 2, OCTET_ONLY);
@@ -46,7 +46,7 @@ fn requests_refused(rt: HostRuntime) -> Result<(), Fail> {
     Ok(())
 }
 
-// Nothing else that comes to the request port has an effect.
+// No other datagram at the request port has an effect.
 #[test]
 fn no_requests(rt: HostRuntime) -> Result<(), Fail> {
     let rows = [
@@ -65,7 +65,7 @@ fn no_requests(rt: HostRuntime) -> Result<(), Fail> {
     Ok(())
 }
 
-// Whether these bytes at the request port, with this spare port, tell this.
+// Whether these bytes at the request port, with this spare port, make this step.
 fn tells(
     alloc: Global,
     archive: &mut Archive,
@@ -77,7 +77,8 @@ fn tells(
     has_told(alloc, &step, told)
 }
 
-// Whether the first bytes of the request have no effect, or open a transfer once they have the byte that ends its mode.
+// Whether the first `count` bytes of the request have no effect, or open a transfer once they have the byte that ends
+// its mode.
 fn is_answered(alloc: Global, count: usize) -> Result<bool, Fail> {
     let told = if count < 15 {
         Told::Nothing
@@ -93,7 +94,7 @@ fn is_answered(alloc: Global, count: usize) -> Result<bool, Fail> {
     )
 }
 
-// A request that is cut short has no effect up to the byte that ends its mode; what follows that has none either.
+// A request that is cut short before the byte that ends its mode has no effect; what follows that byte has none either.
 #[test]
 fn a_request_cut_short(rt: HostRuntime) -> Result<(), Fail> {
     for count in 0..29 {
@@ -113,14 +114,14 @@ fn fill(alloc: Global, archive: &mut Archive) -> Result<(), Fail> {
     Ok(())
 }
 
-// A server with so many transfers.
+// A server with 64 transfers.
 fn full(alloc: Global) -> Result<Archive, Fail> {
     let mut archive = Archive::new(alloc);
     fill(alloc, &mut archive)?;
     Ok(archive)
 }
 
-// With so many transfers a request in another mode or for another file is still refused for that; any other, as busy.
+// With 64 transfers a request in another mode or for another file is still refused for that; any other, as busy.
 #[test]
 fn a_busy_server(rt: HostRuntime) -> Result<(), Fail> {
     let busy = Told::Sends(6969, 3, BUSY);

@@ -1,5 +1,6 @@
-// A thousand runs of the server, each of eighty inputs that fit or not, compared step by step with the plain server: what
-// is sent, opened, taken and closed, what the keeper is given, which ports are live, and the text of both collections.
+// A thousand runs of the server, each of eighty inputs that may fit or not, compared step by step with the plain
+// server: what is sent, opened, taken and closed, what the keeper is given, which ports are live, and the text of both
+// collections.
 use crate::archive::{Archive, REQUEST, Wanted, is_step};
 use crate::drawing::{Draws, Input, draw};
 use crate::plain::{Plain, Said};
@@ -37,7 +38,7 @@ fn is_said(alloc: Global, step: &Step, said: &Said) -> Result<bool, Fail> {
     is_step(alloc, step, wanted)
 }
 
-// Whether a port is live, or not, in both.
+// Whether a port is live in both, or in neither.
 fn is_same_at(archive: &Archive, plain: &Plain, port: u16) -> bool {
     archive.table().is_live(port) == plain.place(port).is_some()
 }
@@ -112,7 +113,7 @@ impl Counts {
     }
 }
 
-// One input, to both.
+// Gives one input to both.
 fn step(
     archive: &mut Archive,
     plain: &mut Plain,
@@ -149,7 +150,7 @@ fn is_given(keeper: &MemoryKeeper, said: &Said) -> bool {
     }
 }
 
-// What two servers differ in after an input, if they do: the answer, the ports or the collections.
+// What two servers differ in after an input, if they do: the step, the ports or the collections.
 fn difference(
     alloc: Global,
     archive: &Archive,
@@ -169,7 +170,7 @@ fn difference(
     Ok(None)
 }
 
-// Gives an input to both servers, which must agree on the answer, what is kept, the ports and the collections.
+// Gives an input to both servers, which must agree on the step, what is kept, the ports and the collections.
 fn agree(
     alloc: Global,
     archive: &mut Archive,
