@@ -15,7 +15,8 @@ const HEADER: &[u8; 8] = b"\x35\x33\x9B\x99\x01\0\0\0";
 // More turns than any of these runs needs.
 const TURNS: u32 = 4000;
 
-// The log of one wire up to here was carried; each datagram after it goes to the other wire, as often as this.
+// Carries each datagram in the log of one wire after its first `carried` entries to the other wire, `times` times.
+// Returns how many entries the log has.
 fn carry(
     alloc: Global,
     from: &MemoryWire,
@@ -39,7 +40,7 @@ fn carry(
     Ok(log.len())
 }
 
-// A Lynx file with so many bytes of records: of one solution, if that is enough for one.
+// A Lynx file with `size` bytes of records: one solution, if that is enough for one.
 fn file_of(alloc: Global, size: usize) -> Result<Vec<u8>, AllocError> {
     let mut bytes = Vec::from_slice(alloc, HEADER)?;
     if size < 20 {
@@ -66,7 +67,7 @@ struct Line {
 }
 
 impl Line {
-    // A wire that opens this port, beside this wire of the server.
+    // A line whose wire opens this port, beside this wire of the server.
     fn new(alloc: Global, port: u16, server: &MemoryWire) -> Result<Self, Fail> {
         Ok(Line {
             wire: wire_of(alloc, &[port])?,
@@ -75,7 +76,8 @@ impl Line {
         })
     }
 
-    // What the client has sent is carried, the server makes a turn, and what it has sent is carried. Whether it took a file.
+    // Carries what the client has sent, lets the server make a turn, and carries what that has sent. Returns whether it
+    // took a file.
     fn exchange(
         &mut self,
         alloc: Global,
@@ -90,7 +92,7 @@ impl Line {
     }
 }
 
-// Turns of a put until it is over, and has sent its file: how many files the server took.
+// Makes turns of a put until it is over, and has sent its file. Returns how many files the server took.
 fn finish_put(
     alloc: Global,
     server: &mut Server,
@@ -115,7 +117,7 @@ fn finish_put(
     }
 }
 
-// Puts a file: how many files the server took.
+// Puts a file. Returns how many files the server took.
 fn put(
     alloc: Global,
     server: &mut Server,
@@ -128,7 +130,7 @@ fn put(
     finish_put(alloc, server, wire, &mut line, &mut run, times)
 }
 
-// Turns of a get until it has its file.
+// Makes turns of a get until it has its file.
 fn finish_get(
     alloc: Global,
     server: &mut Server,
@@ -169,7 +171,7 @@ fn get(
     finish_get(alloc, server, wire, &mut line, &mut run, times)
 }
 
-// What a server gives after a put of this file, which it takes once.
+// What a get fetches from a server after a put of this file, which the server takes once.
 fn get_after_put(
     alloc: Global,
     server: &mut Server,
@@ -183,15 +185,15 @@ fn get_after_put(
     get(alloc, server, wire, times)
 }
 
-// The same of a new server.
+// The same for a new server.
 fn fetched_after_put(alloc: Global, file: Vec<u8>, times: u8) -> Result<Vec<u8>, Fail> {
     let mut wire = wire_of(alloc, &[4000, 4001, 4002, 4003])?;
     let mut server = Server::new(alloc, 6969);
     get_after_put(alloc, &mut server, &mut wire, file, times)
 }
 
-// A put and a get of a file with so many bytes of records. What is fetched is the file, or no more than its header where
-// its records are too few for a solution.
+// A put and a get of a file with `size` bytes of records. Whether what is fetched is the file, or only its header if
+// its records are too short for a solution.
 fn there_and_back(alloc: Global, size: usize, times: u8) -> Result<bool, Fail> {
     let file = file_of(alloc, size)?;
     let copy = Vec::from_slice(alloc, file.as_slice())?;

@@ -1,4 +1,4 @@
-//! Tests alone: servers and clients over wires in memory, by hand and joined. RFC 1350 sections 2, 4 and 5.
+//! Tests only: servers and clients over wires in memory, by hand and joined. RFC 1350 sections 2, 4 and 5.
 #![tactic(auto)]
 
 #[cfg(test)]

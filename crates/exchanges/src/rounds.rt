@@ -1,4 +1,4 @@
-// The ready server over wires in memory, whose clock the test sets.
+// The server that waits for ready ports, over wires in memory whose clock the test sets.
 use crate::wires::*;
 use archive_table::NoKeeper;
 use archive_turns::{MemoryWire, RECEIVE_SIZE, Ready, ReadyServer, ReadyWire, Wire, serve_ready};
@@ -6,19 +6,19 @@ use std::alloc::Global;
 use std::test::Fail;
 use tws_file::Ruleset;
 
-// One round of the server: how many files it takes, and whether it has sent this to the client last.
+// Makes one round of the server. Returns how many files it takes, and whether it has sent this to the client last.
 fn acks(wire: &mut MemoryWire, server: &mut ReadyServer, ack: &[u8; 4]) -> (u64, bool) {
     let taken = serve_ready(wire, &mut NoKeeper, server, 1);
     (taken, sent_last(wire, 4000, C1, ack))
 }
 
-// One round of the server: how many transfers are live after it.
+// Makes one round of the server. Returns how many transfers are live after it.
 fn lives(wire: &mut MemoryWire, server: &mut ReadyServer) -> usize {
     serve_ready(wire, &mut NoKeeper, server, 1);
     server.table().live()
 }
 
-// The round of a request, and that of the block that comes 999 milliseconds after it.
+// The round of a request, and that of the block that arrives 999 milliseconds after it.
 fn put_in_rounds(
     alloc: Global,
     wire: &mut MemoryWire,
@@ -37,7 +37,7 @@ fn a_put_to_the_ready_server(rt: HostRuntime) -> Result<(), Fail> {
     let rounds = put_in_rounds(rt.alloc(), &mut wire, &mut server)?;
     let sent = send_count(&wire);
     let solutions = server.table().collection(Ruleset::Lynx).len();
-    // It waits for the last block twice, and is closed.
+    // The transfer waits for the last block twice, and is closed.
     let live = (lives(&mut wire, &mut server), lives(&mut wire, &mut server));
     assert_eq!(rt;
         (rounds, sent, solutions, live, send_count(&wire)),
@@ -46,8 +46,8 @@ fn a_put_to_the_ready_server(rt: HostRuntime) -> Result<(), Fail> {
     Ok(())
 }
 
-// One round at each of these times, before which something comes to the request port that is no packet: whether so many
-// datagrams were sent by then.
+// Makes one round at each of these times, before which a malformed datagram arrives at the request port. Returns
+// whether each time the expected number of datagrams was sent.
 fn are_sent_in_time(
     alloc: Global,
     wire: &mut MemoryWire,
@@ -64,7 +64,7 @@ fn are_sent_in_time(
     Ok(true)
 }
 
-// A transfer times out one second after it last sent, however much comes to the request port meanwhile.
+// A transfer times out one second after it last sent, however much arrives at the request port meanwhile.
 #[test]
 fn a_busy_request_port(rt: HostRuntime) -> Result<(), Fail> {
     let mut wire = request_wire(rt.alloc(), 4000)?;
@@ -74,7 +74,7 @@ fn a_busy_request_port(rt: HostRuntime) -> Result<(), Fail> {
     Ok(())
 }
 
-// A wire to which an ACK comes at each of these ports.
+// A wire at which an ACK arrives at each of these ports.
 fn wire_with_acks(alloc: Global, ports: &[u16]) -> Result<MemoryWire, Fail> {
     let mut wire = wire_of(alloc, &[])?;
     for port in ports {
@@ -88,7 +88,7 @@ fn has_ack(wire: &mut MemoryWire, port: u16) -> bool {
     wire.receive(port, &mut [0; RECEIVE_SIZE]) == Ok(Some((4, C1)))
 }
 
-// Whether these ports are ready in this order, each after the one before it, and what is there is received.
+// Whether these ports are ready in this order, each after the one before it, and the datagram there is received.
 fn take_turns(wire: &mut MemoryWire, first: u16, ports: &[u16]) -> bool {
     let mut after = first;
     for port in ports {
@@ -104,7 +104,7 @@ fn take_turns(wire: &mut MemoryWire, first: u16, ports: &[u16]) -> bool {
     true
 }
 
-// Among ready ports it is the turn of the next above the last one.
+// Among ready ports the next one above the last has its turn.
 #[test]
 fn ports_that_are_ready(rt: HostRuntime) -> Result<(), Fail> {
     let mut wire = wire_with_acks(rt.alloc(), &[5, 9, 5, 7, 5])?;

@@ -18,7 +18,7 @@ fn a_put_of_one_whole_block(rt: HostRuntime) -> Result<(), Fail> {
     Ok(())
 }
 
-// A wire to which the only block of F1 has come.
+// A wire at which the only block of F1 has arrived.
 fn answered_wire(alloc: Global) -> Result<MemoryWire, Fail> {
     let mut wire = wire_of(alloc, &[5000])?;
     wire.arrive(alloc, 5000, at(4000), DATA_F1)?;
@@ -34,7 +34,7 @@ fn a_get_in_one_turn(rt: HostRuntime) -> Result<(), Fail> {
     Ok(())
 }
 
-// Whatever is taken of the file before the writer fails is a prefix of it.
+// Whatever is written before the writer fails is a prefix of the file.
 #[test]
 fn a_get_to_a_writer_that_fails(rt: HostRuntime) -> Result<(), Fail> {
     for j in 0..28usize {
@@ -56,7 +56,7 @@ fn a_put_without_a_port(rt: HostRuntime) -> Result<(), Fail> {
     Ok(())
 }
 
-// The request that was lost goes out again in turn 200.
+// The request that was lost is sent again in turn 200.
 #[test]
 fn a_put_whose_request_is_not_sent(rt: HostRuntime) -> Result<(), Fail> {
     for (turns, sent) in [(199, 1), (200, 2)] {

@@ -1,4 +1,4 @@
-// The counted server over wires in memory.
+// The server that counts turns, over wires in memory.
 use crate::wires::*;
 use archive_client::State;
 use archive_table::NoKeeper;
@@ -35,7 +35,7 @@ fn a_put_in_two_turns(rt: HostRuntime) -> Result<(), Fail> {
     Ok(())
 }
 
-// Whether a request came, this port was opened for it, and nothing more came.
+// Whether a request arrived, this port was opened for it, and nothing more arrived.
 fn has_opened_alone(wire: &MemoryWire, port: Option<u16>) -> bool {
     let [came, opened, quiet] = wire.log() else {
         return false;
@@ -63,8 +63,8 @@ fn a_ready_server_from_a_keeper(rt: HostRuntime) -> Result<(), Fail> {
     Ok(())
 }
 
-// Two turns of a server, of whose calls call number `n` fails: how many files are taken, how many transfers are live, and
-// how many calls failed.
+// Makes two turns of a server whose `n`-th call of the wire fails. Returns how many files are taken, how many transfers
+// are live, and how many calls failed.
 fn turns_with_failure(rt: &HostRuntime, n: u64) -> Result<(u64, usize, u64), Fail> {
     let mut wire = put_wire(rt.alloc(), 4000)?;
     wire.fail_at(n);
@@ -81,7 +81,7 @@ fn each_call_failing(rt: HostRuntime) -> Result<(), Fail> {
     Ok(())
 }
 
-// The log of two turns of a server, of whose calls call number `n` fails.
+// The wire after two turns of a server whose `n`-th call of it fails.
 fn failing_wire(rt: &HostRuntime, n: u64) -> Result<MemoryWire, Fail> {
     let mut wire = put_wire(rt.alloc(), 4000)?;
     wire.fail_at(n);
@@ -107,7 +107,7 @@ fn a_failing_receive(rt: HostRuntime) -> Result<(), Fail> {
     Ok(())
 }
 
-// Where no port is opened the request is as if it had not come: nothing is sent.
+// If no port is opened it is as if the request had not arrived: nothing is sent.
 #[test]
 fn a_failing_open(rt: HostRuntime) -> Result<(), Fail> {
     let wire = failing_wire(&rt, 2)?;
@@ -132,7 +132,7 @@ fn a_failing_receive_of_a_transfer(rt: HostRuntime) -> Result<(), Fail> {
     Ok(())
 }
 
-// Whether the ACK of the request and that of the last block were sent so.
+// Whether the ACK of the request and that of the last block were sent, with these results.
 fn has_acked(wire: &MemoryWire, first_ok: bool, last_ok: bool) -> bool {
     let [_, opened, first, came, last] = wire.log() else {
         return false;
@@ -151,7 +151,8 @@ fn failing_sends(rt: HostRuntime) -> Result<(), Fail> {
     Ok(())
 }
 
-// Turns in which nothing comes: for each so many, how many datagrams were sent by then, and how many transfers are live.
+// Makes turns in which nothing arrives. Each row has the number of turns, how many datagrams were sent by then, and how
+// many transfers are live.
 fn are_quiet(wire: &mut MemoryWire, server: &mut Server, rows: &[(u64, usize, usize)]) -> bool {
     for (turns, sent, live) in rows {
         serve_turns(wire, &mut NoKeeper, server, *turns);
@@ -162,7 +163,7 @@ fn are_quiet(wire: &mut MemoryWire, server: &mut Server, rows: &[(u64, usize, us
     true
 }
 
-// What is sent to a receiver is sent again after 200 quiet turns, four times; then the transfer is closed.
+// The last ACK of a transfer is sent again after 200 quiet turns, four times; then the transfer is closed.
 #[test]
 fn a_transfer_that_stays_quiet(rt: HostRuntime) -> Result<(), Fail> {
     let rows = [
@@ -179,8 +180,9 @@ fn a_transfer_that_stays_quiet(rt: HostRuntime) -> Result<(), Fail> {
     Ok(())
 }
 
-// The request of a put comes to a server twice, then an error, and the block: for each the port it comes to, how many files
-// are taken in four turns, how many transfers are live then, from which port was sent last, and what.
+// The request of a put arrives at a server twice, then an ERROR, and the block. Each row has the port at which it
+// arrives, its bytes, how many files are taken in four turns, how many transfers are live then, and the port and the
+// bytes of what was sent last.
 fn serves_twice(alloc: Global, wire: &mut MemoryWire, server: &mut Server) -> Result<bool, Fail> {
     for (port, bytes, taken, live, from, ack) in [
         (6969, WRQ.as_slice(), 0, 1, 4000, ACK_0),
@@ -197,7 +199,7 @@ fn serves_twice(alloc: Global, wire: &mut MemoryWire, server: &mut Server) -> Re
     Ok(true)
 }
 
-// The second request opens a second transfer. The client tells that one that it is unknown; it closes, and one file is
+// The second request opens a second transfer. The client refuses that one with ERROR 5; it is closed, and one file is
 // taken.
 #[test]
 fn a_request_that_comes_twice(rt: HostRuntime) -> Result<(), Fail> {
@@ -208,8 +210,8 @@ fn a_request_that_comes_twice(rt: HostRuntime) -> Result<(), Fail> {
     Ok(())
 }
 
-// ACKs come to a put from two ports: for each the port, the port to which was sent last after one turn, what, and how far
-// the client is.
+// ACKs arrive at a put from two ports. Each row has the port, the ACK, the target and the bytes of what was sent last
+// after one turn, and the client's state.
 fn stays_with_first(alloc: Global, wire: &mut MemoryWire, run: &mut PutRun) -> Result<bool, Fail> {
     for (from, ack, to, bytes, state) in [
         (4000, ACK_0, 4000, DATA_F1.as_slice(), State::Running),
@@ -225,7 +227,7 @@ fn stays_with_first(alloc: Global, wire: &mut MemoryWire, run: &mut PutRun) -> R
     Ok(true)
 }
 
-// The same from the side of the client, which stays with the first that answers.
+// The same from the side of the client, which stays with the first port that answers.
 #[test]
 fn two_answers_to_one_request(rt: HostRuntime) -> Result<(), Fail> {
     let mut wire = wire_of(rt.alloc(), &[5000])?;
@@ -236,8 +238,8 @@ fn two_answers_to_one_request(rt: HostRuntime) -> Result<(), Fail> {
     Ok(())
 }
 
-// A put, a get, a put by the third host of the file with 90 ticks, and another get: for each datagram the port it comes to,
-// the host it comes from, and how many files are taken in six turns.
+// A put, a get, a put by the third host of the file with 90 ticks, and another get. Each row has the port at which a
+// datagram arrives, the host that it comes from, its bytes, and how many files are taken in six turns.
 fn serves_across(alloc: Global, wire: &mut MemoryWire, server: &mut Server) -> Result<bool, Fail> {
     for (port, host, bytes, taken) in [
         (6969, 2, WRQ.as_slice(), 0),
@@ -255,7 +257,7 @@ fn serves_across(alloc: Global, wire: &mut MemoryWire, server: &mut Server) -> R
     Ok(true)
 }
 
-// Whether a get that this block answers from this port has just the bytes of the block.
+// Whether a get that is answered with this block from this port has exactly the bytes of the block.
 fn is_fetched(alloc: Global, port: u16, data: &[u8; 32]) -> Result<bool, Fail> {
     let mut wire = wire_of(alloc, &[5000])?;
     wire.arrive(alloc, 5000, at(port), data)?;
@@ -275,8 +277,8 @@ fn are_fetched(alloc: Global, wire: &MemoryWire) -> Result<bool, Fail> {
     Ok(true)
 }
 
-// The second put comes between the request and the first block of a get: that get still has the collection as it was, and
-// the next one has the new one.
+// The second put is made between the request and the first block of a get: that get still has the collection as it was,
+// and the next one has the new one.
 #[test]
 fn a_get_across_a_put(rt: HostRuntime) -> Result<(), Fail> {
     let mut wire = wire_of(rt.alloc(), &[4000, 4001, 4002, 4003])?;

@@ -1,4 +1,4 @@
-// Wires in memory for the tests, the datagrams of a put and a get by hand, RFC 1350, and what a log has.
+// Wires in memory for the tests, the datagrams of a put and a get by hand, RFC 1350, and tests of a log's entries.
 use archive_turns::{Entry, MemoryWire, PutRun};
 use std::alloc::Global;
 use std::test::Fail;
@@ -47,14 +47,14 @@ pub(crate) fn wire_of(alloc: Global, opens: &[u16]) -> Result<MemoryWire, Fail> 
     Ok(MemoryWire::new(alloc, Vec::from_slice(alloc, opens)?))
 }
 
-// A wire that opens this port, with a request by C1.
+// A wire that opens this port, with a request from C1.
 pub(crate) fn request_wire(alloc: Global, opens: u16) -> Result<MemoryWire, Fail> {
     let mut wire = wire_of(alloc, &[opens])?;
     wire.arrive(alloc, 6969, C1, WRQ)?;
     Ok(wire)
 }
 
-// The same with the whole put of F1, whose block comes to 4000.
+// The same with the whole put of F1, whose block arrives at 4000.
 pub(crate) fn put_wire(alloc: Global, opens: u16) -> Result<MemoryWire, Fail> {
     let mut wire = request_wire(alloc, opens)?;
     wire.arrive(alloc, 4000, C1, DATA_F1)?;
