@@ -79,7 +79,7 @@ pub(crate) const DATA_HUNDRED: &[u8; 32] =
 pub(crate) const DATA_NINETY: &[u8; 32] =
     b"\0\x03\0\x01\x35\x33\x9B\x99\x01\0\0\0\x10\0\0\0\x01\0BDHP\0\0\0\0\0\0\x5A\0\0\0";
 
-// Seven bytes, of which the fourth is another one than a solution file has; and DATA 1 with them.
+// Seven bytes, whose fourth is not that of a solution file; and DATA 1 with them.
 pub(crate) const NO_SOLUTION_FILE: &[u8; 7] = b"\x35\x33\x9B\x98\x02\0\0";
 
 pub(crate) const DATA_NO_SOLUTION_FILE: &[u8; 11] = b"\0\x03\0\x01\x35\x33\x9B\x98\x02\0\0";

@@ -9,17 +9,17 @@ use std::test::Fail;
 use tftp_packet::Endpoint;
 use tws_file::Ruleset;
 
-// How many events a list has at most.
+// The most events in a list.
 const EVENTS: usize = 60;
 
-// How many operations begin in a list at most.
+// The most operations that begin in a list.
 const OPERATIONS: u16 = 6;
 
-// How many bytes of moves a file has, beside 28 others: a block and less, a whole block, more than one, two whole blocks,
-// and more than two.
+// How many bytes of moves a file has, besides 28 others: a block and less, a whole block, more than one, two whole
+// blocks, and more than two.
 const MOVES: [u16; 8] = [0, 0, 2, 300, 484, 700, 996, 1200];
 
-// Numbers by a linear congruence, from a fixed seed.
+// Pseudo-random numbers from a linear congruential generator with a fixed seed.
 #[derive(Drop)]
 pub(crate) struct Draws(pub(crate) u64);
 
@@ -49,14 +49,15 @@ impl Draws {
 #[derive(Drop)]
 pub(crate) struct Drawn {
     pub(crate) events: Vec<Event>,
-    // The call of the keeper that fails; 0 where none does.
+    // The call of the keeper that fails; 0 if none does.
     pub(crate) fails: u64,
     // For each datagram that was sent by the last round, whether it was delivered or lost.
     gone: Vec<bool>,
     begun: u16,
 }
 
-// A file of one solution of one of three levels, of either rules. One in twelve is cut, and so is no solution file.
+// A file of one solution of one of three levels, of either ruleset. One in twelve is cut, and so is not a solution
+// file.
 fn file(alloc: Global, draws: &mut Draws) -> Result<Vec<u8>, Fail> {
     let moves = MOVES.get(usize::from(draws.below(8))).copied().unwrap_or(0);
     let rules = if draws.once_in(4) { 2 } else { 1 };
@@ -82,7 +83,7 @@ fn kind(draws: &mut Draws) -> Ruleset {
     }
 }
 
-// The next operation begins.
+// Begins the next operation.
 fn begin(alloc: Global, draws: &mut Draws, drawn: &mut Drawn) -> Result<(), Fail> {
     let kind = if draws.once_in(3) {
         OpKind::Get(kind(draws))
@@ -123,7 +124,7 @@ fn pending(alloc: Global, drawn: &Drawn, outcome: &Outcome) -> Result<Vec<usize>
     Ok(places)
 }
 
-// The datagram at this place is delivered or lost.
+// Notes that the datagram at this place is delivered or lost.
 fn take(drawn: &mut Drawn, i: usize) {
     if let Some(gone) = drawn.gone.get_mut(i) {
         *gone = true;
@@ -157,7 +158,7 @@ fn stranger(draws: &mut Draws) -> Endpoint {
     }
 }
 
-// DATA 1 to a transfer of a stranger. Its file is cut where it is longer than a block.
+// DATA 1 to a transfer of a stranger. Its file is cut if it is longer than a block.
 fn stray_file(alloc: Global, draws: &mut Draws, peer: Endpoint, port: u16) -> Result<Event, Fail> {
     let mut bytes = Vec::from_slice(alloc, b"\0\x03\0\x01")?;
     bytes.extend_from_slice(&file(alloc, draws)?)?;
@@ -165,7 +166,7 @@ fn stray_file(alloc: Global, draws: &mut Draws, peer: Endpoint, port: u16) -> Re
     event_of(alloc, Act::Stray(peer, at(port), &bytes))
 }
 
-// Something to another one's transfer, or to its peer.
+// A stranger's packet to someone else's transfer, or to its peer.
 fn stray_between(
     alloc: Global,
     draws: &mut Draws,
@@ -183,7 +184,7 @@ fn stray_between(
     event_of(alloc, act)
 }
 
-// A request of a stranger, or what it sends to a transfer.
+// A stranger's request, or what it sends to a transfer.
 fn stray(alloc: Global, draws: &mut Draws, outcome: &Outcome) -> Result<Event, Fail> {
     let i = draws.place(outcome.opened.len());
     let opening = match outcome.opened.get(i) {
@@ -200,7 +201,7 @@ fn stray(alloc: Global, draws: &mut Draws, outcome: &Outcome) -> Result<Event, F
 
 // ---- a list, round by round
 
-// An event in which not just the next datagram comes.
+// An event other than the delivery of the next datagram.
 fn disturb(
     alloc: Global,
     draws: &mut Draws,
@@ -218,7 +219,7 @@ fn disturb(
     }
 }
 
-// One event, or a loss, where these datagrams are on their way.
+// Adds one event, or a loss, while these datagrams are on their way.
 fn step(
     alloc: Global,
     draws: &mut Draws,
@@ -254,14 +255,14 @@ fn step(
     Ok(())
 }
 
-// What the events so far leave, if they have a run.
+// The outcome of the events so far, if they have a run.
 fn run(alloc: Global, drawn: &Drawn) -> Result<Outcome, WorldFault> {
     let mut keeper = MemoryKeeper::new(alloc);
     keeper.fail_at(drawn.fails);
     replay(alloc, &mut keeper, &drawn.events)
 }
 
-// What the events so far leave. An event that has no run is left out.
+// The outcome of the events so far. An event that has no run is left out.
 fn settle(alloc: Global, drawn: &mut Drawn) -> Result<Outcome, Fail> {
     for _ in 0..EVENTS {
         match run(alloc, drawn) {
@@ -278,7 +279,7 @@ fn settle(alloc: Global, drawn: &mut Drawn) -> Result<Outcome, Fail> {
     Err(Fail::new("too many faults"))
 }
 
-// Some events after these, all of them on what was sent by now.
+// Adds some events, all of them about what was sent so far.
 fn round(
     alloc: Global,
     draws: &mut Draws,
@@ -300,7 +301,7 @@ fn round(
     Ok(())
 }
 
-// A round after this outcome, and what it leaves.
+// Adds a round after this outcome. Returns the new outcome.
 fn next(
     alloc: Global,
     draws: &mut Draws,
@@ -311,7 +312,7 @@ fn next(
     settle(alloc, drawn)
 }
 
-// Rounds until the list is long enough. What it leaves.
+// Adds rounds until the list is long enough. Returns its outcome.
 fn fill(alloc: Global, draws: &mut Draws, drawn: &mut Drawn) -> Result<Outcome, Fail> {
     begin(alloc, draws, drawn)?;
     let mut outcome = settle(alloc, drawn)?;
@@ -324,7 +325,7 @@ fn fill(alloc: Global, draws: &mut Draws, drawn: &mut Drawn) -> Result<Outcome, 
     Ok(outcome)
 }
 
-// A list, and what it leaves. In one of eight lists a call of the keeper fails.
+// A list, and its outcome. In one of eight lists a call of the keeper fails.
 pub(crate) fn draw(alloc: Global, draws: &mut Draws) -> Result<(Drawn, Outcome), Fail> {
     let fails = if draws.once_in(8) {
         1 + u64::from(draws.below(4))

@@ -47,7 +47,7 @@ fn clients_where_none_may_be(rt: HostRuntime) -> Result<(), Fail> {
     Ok(())
 }
 
-// Also where an operation has begun there before.
+// Also if an operation has begun there before.
 #[test]
 fn a_put_of_a_file_that_is_too_long(rt: HostRuntime) -> Result<(), Fail> {
     let file = vec![in rt.alloc(); 7; 33_553_920]?;
@@ -107,7 +107,7 @@ fn a_fault_after_a_file_was_taken(rt: HostRuntime) -> Result<(), Fail> {
     Ok(())
 }
 
-// A time-out of a port without a transfer, and a datagram for an endpoint with no client.
+// A time-out of a port without a transfer, and a datagram for an endpoint without a client.
 #[test]
 fn events_that_change_nothing(rt: HostRuntime) -> Result<(), Fail> {
     let nobody = Endpoint {

@@ -12,7 +12,7 @@ use tws_file::Ruleset;
 
 const READ: Asked = Asked::Read(Ruleset::Lynx);
 
-// A put comes between the request and the first block of a get, and another get comes after it.
+// A put is made between the request and the first block of a get, and another get after it.
 const ACROSS: [Act<'static>; 15] = [
     Act::Put(C1, HUNDRED),
     Act::Ask(0, 4000),
@@ -94,7 +94,7 @@ fn a_get_of_an_empty_collection(rt: HostRuntime) -> Result<(), Fail> {
     Ok(())
 }
 
-// 65 gets begin, and all their requests come. The last client hears the answer, and waits.
+// 65 gets begin, and all their requests arrive. The last client receives the answer, and times out once.
 fn crowd(alloc: Global) -> Result<Vec<Act<'static>>, Fail> {
     let mut acts = Vec::new(alloc);
     for i in 0..65 {
@@ -108,7 +108,7 @@ fn crowd(alloc: Global) -> Result<Vec<Act<'static>>, Fail> {
     Ok(acts)
 }
 
-// What that leaves.
+// The outcome of that.
 fn after_crowd(alloc: Global) -> Result<Outcome, Fail> {
     run(alloc, &mut MemoryKeeper::new(alloc), &crowd(alloc)?)
 }
@@ -134,7 +134,7 @@ fn is_served(outcome: &Outcome, i: u16) -> bool {
         && is_datagram(answer, at(port), peer, DATA_EMPTY_LYNX)
 }
 
-// Whether the first 64 gets were served, each of its own client.
+// Whether the first 64 gets were served, each for its own client.
 fn are_served(outcome: &Outcome) -> bool {
     for i in 0..64 {
         let Some(opening) = outcome.opened.get(usize::from(i)) else {

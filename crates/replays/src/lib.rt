@@ -1,7 +1,7 @@
-//! Tests alone: lists of events for `replay`, by hand and drawn, and what each leaves. RFC 1350 sections 2, 4 and 5.
+//! Tests only: lists of events for `replay`, by hand and drawn, and the outcome of each. RFC 1350 sections 2, 4 and 5.
 //!
-//! What a list by hand leaves is written out, its datagrams as bytes. What a drawn one leaves is tested against every
-//! promise by a plain function.
+//! The expected outcome of a list by hand is written out, its datagrams as bytes. The outcome of a drawn list is tested
+//! against every promise by a plain function.
 #![tactic(auto)]
 
 #[cfg(test)]

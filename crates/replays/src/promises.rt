@@ -1,4 +1,4 @@
-// The promises of every run, tested on one outcome: slowly, and from the list of its events alone.
+// The promises of every run, tested on one outcome: slowly, and from the list of its events only.
 use archive_table::MemoryKeeper;
 use archive_world::{Asked, Event, GotFile, Op, OpKind, Opening, Outcome, TakenFile, replay};
 use std::alloc::Global;
@@ -17,7 +17,7 @@ fn op_by(event: &Event, e: Endpoint) -> Option<&Op> {
     }
 }
 
-// The operation at this endpoint, and by which event it begins.
+// The operation at this endpoint, and the index of the event by which it begins.
 fn op_at(events: &[Event], e: Endpoint) -> Option<(usize, &Op)> {
     for (i, event) in events.iter().enumerate() {
         if let Some(op) = op_by(event, e) {
@@ -112,7 +112,7 @@ fn has_file(taken: &[TakenFile], peer: Endpoint, file: &[u8]) -> bool {
     false
 }
 
-// There is a put at this endpoint, and its file is taken from there once, and no other.
+// Whether there is a put at this endpoint, and its file is taken from there once, and no other.
 fn is_sent_once(events: &[Event], taken: &[TakenFile], e: Endpoint) -> bool {
     let Some((_, op)) = op_at(events, e) else {
         return false;
@@ -142,7 +142,7 @@ fn merge(alloc: Global, best: &mut Collection, file: &[u8]) -> Result<(), Fail> 
     Ok(())
 }
 
-// The text of the best over these files. They are merged from the last one to the first, as order has no effect.
+// The text of the best over these files. They are merged from the last one to the first, since order has no effect.
 fn best_over(alloc: Global, kind: Ruleset, files: &[TakenFile]) -> Result<Vec<u8>, Fail> {
     let mut best = Collection::new(alloc, kind);
     for one in files.iter().rev() {
@@ -161,7 +161,7 @@ fn are_best(alloc: Global, outcome: &Outcome) -> Result<bool, Fail> {
 
 // ---- a finished get
 
-// How many files are taken by the events before this one. The keeper is to fail where it did.
+// How many files are taken by the events before this one. The keeper fails at the same call.
 fn taken_before(alloc: Global, events: &[Event], i: usize, fails: u64) -> Result<usize, Fail> {
     let Some(before) = events.get(..i) else {
         return Err(Fail::new("no such event"));
@@ -171,8 +171,8 @@ fn taken_before(alloc: Global, events: &[Event], i: usize, fails: u64) -> Result
     Ok(replay(alloc, &mut keeper, before)?.taken.len())
 }
 
-// Whether this opening is one for the get, with what was taken when the get began, and what was fetched is the collection at
-// it.
+// Whether this opening is for the get and has what was taken when the get began, and what was fetched is the collection
+// at it.
 fn is_from(
     alloc: Global,
     taken: &[TakenFile],
@@ -227,7 +227,7 @@ fn are_finished_gets(
     Ok(true)
 }
 
-// ---- no end is short of memory
+// ---- no end is out of memory
 
 // Whether the server or a client has sent ERROR 3.
 fn has_error_three(events: &[Event], outcome: &Outcome) -> bool {
@@ -239,7 +239,7 @@ fn has_error_three(events: &[Event], outcome: &Outcome) -> bool {
     false
 }
 
-// The promise that an outcome of these events breaks, if it breaks one. `fails` is the call of the keeper that has failed.
+// The promise that an outcome of these events breaks, if it breaks one. `fails` is the call of the keeper that fails.
 pub(crate) fn broken_promise(
     alloc: Global,
     events: &[Event],

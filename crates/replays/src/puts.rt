@@ -8,7 +8,7 @@ use archive_world::{Asked, SERVER};
 use std::test::Fail;
 use tws_file::Ruleset;
 
-// A file of 512 bytes has a second block, which is empty. It is no solution file, so nothing is kept.
+// A file of 512 bytes has a second block, which is empty. It is not a solution file, so nothing is kept.
 #[test]
 fn a_put_of_one_whole_block(rt: HostRuntime) -> Result<(), Fail> {
     let file = [7; 512];
@@ -44,8 +44,8 @@ fn a_put_of_one_whole_block(rt: HostRuntime) -> Result<(), Fail> {
     Ok(())
 }
 
-// The request comes twice and opens two transfers. The client tells the second one that it does not know it, and its file
-// is taken once.
+// The request arrives twice and opens two transfers. The client refuses the second one with ERROR 5, and its file is
+// taken once.
 #[test]
 fn a_request_that_comes_twice(rt: HostRuntime) -> Result<(), Fail> {
     let acts = [
@@ -130,7 +130,7 @@ fn a_put_that_is_never_answered(rt: HostRuntime) -> Result<(), Fail> {
     Ok(())
 }
 
-// The same file by three clients, one after another.
+// The same file from three clients, one after another.
 const THREE_PUTS: [Act<'static>; 15] = [
     Act::Put(C1, HUNDRED),
     Act::Ask(0, 4000),

@@ -48,7 +48,7 @@ fn a_restart_between_a_put_and_a_get(rt: HostRuntime) -> Result<(), Fail> {
     Ok(())
 }
 
-// The transfer at the port is gone by the restart; the same client may not have another one there.
+// The transfer at the port is gone after the restart; the same client may not have another one there.
 #[test]
 fn a_port_from_before_the_restart(rt: HostRuntime) -> Result<(), Fail> {
     let acts = [
@@ -64,7 +64,7 @@ fn a_port_from_before_the_restart(rt: HostRuntime) -> Result<(), Fail> {
     Ok(())
 }
 
-// The first keep fails: nothing is taken, and the client is told so. The next one's file is taken.
+// The first keep fails: nothing is taken, and the client is sent an ERROR. The next client's file is taken.
 #[test]
 fn a_keep_that_fails(rt: HostRuntime) -> Result<(), Fail> {
     let acts = [
@@ -115,7 +115,7 @@ const PUT_AND_RESTART: [Act<'static>; 5] = [
     Act::Restart,
 ];
 
-// The keep fails: nothing was taken, and the server finds nothing as it starts again.
+// The keep fails: nothing was taken, and the server loads nothing when it starts again.
 #[test]
 fn a_restart_after_a_keep_that_fails(rt: HostRuntime) -> Result<(), Fail> {
     let wanted = Wanted {
@@ -136,7 +136,7 @@ fn a_restart_after_a_keep_that_fails(rt: HostRuntime) -> Result<(), Fail> {
     Ok(())
 }
 
-// No call fails: the file was taken, and the server has it again. The client has not heard the last ACK.
+// No call fails: the file was taken, and the server has it again. The client has not received the last ACK.
 #[test]
 fn a_restart_after_a_put(rt: HostRuntime) -> Result<(), Fail> {
     let wanted = Wanted {
@@ -156,7 +156,7 @@ fn a_restart_after_a_put(rt: HostRuntime) -> Result<(), Fail> {
     Ok(())
 }
 
-// The fault of these events where this call of the keeper fails, and whether the keeper was given the put's file.
+// The fault of these events if this call of the keeper fails, and whether the keeper was given the put's file.
 fn failing(alloc: Global, call: u64, acts: &[Act<'_>]) -> Result<(Option<WorldFault>, bool), Fail> {
     let mut keeper = MemoryKeeper::new(alloc);
     keeper.fail_at(call);
@@ -183,7 +183,7 @@ fn a_restart_that_fails(rt: HostRuntime) -> Result<(), Fail> {
     Ok(())
 }
 
-// What a keeper has that is no file of this ruleset is not loaded.
+// What a keeper has is not loaded if it is not a file of the ruleset.
 #[test]
 fn a_restart_with_bytes_that_are_no_collection(rt: HostRuntime) -> Result<(), Fail> {
     let alloc = rt.alloc();

@@ -1,4 +1,4 @@
-// Lists of events in short, and what they are wanted to leave.
+// Lists of events in abbreviated form, and their expected outcomes.
 use crate::cast::{C1, EMPTY_LYNX, EMPTY_MS, HUNDRED};
 use archive_table::MemoryKeeper;
 use archive_world::{
@@ -9,18 +9,18 @@ use std::test::Fail;
 use tftp_packet::Endpoint;
 use tws_file::{Bytes, Ruleset};
 
-// An event in short.
+// An event in abbreviated form.
 #[derive(Clone, Copy)]
 pub(crate) enum Act<'a> {
     Put(Endpoint, &'a [u8]),
     Get(Endpoint, Ruleset),
-    // The datagram at this place comes to a client or to a transfer.
+    // The datagram at this place arrives at a client or at a transfer.
     Deliver(usize),
-    // The datagram at this place comes to the request port, where this port is spare.
+    // The datagram at this place arrives at the request port, with this spare port.
     Ask(usize, u16),
     ClientWaits(Endpoint),
     PortWaits(u16),
-    // From there, to there, these bytes.
+    // The source, the target and the bytes.
     Stray(Endpoint, Endpoint, &'a [u8]),
     Restart,
 }
@@ -58,7 +58,7 @@ pub(crate) fn events_of(alloc: Global, acts: &[Act<'_>]) -> Result<Vec<Event>, F
     Ok(events)
 }
 
-// What these events leave, by this keeper.
+// The outcome of these events with this keeper.
 pub(crate) fn run(
     alloc: Global,
     keeper: &mut MemoryKeeper,
@@ -68,7 +68,7 @@ pub(crate) fn run(
     Ok(replay(alloc, keeper, &events)?)
 }
 
-// Why these events have no run, by this keeper.
+// Why these events have no run with this keeper.
 pub(crate) fn fault_by(
     alloc: Global,
     keeper: &mut MemoryKeeper,
@@ -85,11 +85,11 @@ pub(crate) fn fault(alloc: Global, acts: &[Act<'_>]) -> Result<Option<WorldFault
     fault_by(alloc, &mut MemoryKeeper::new(alloc), acts)
 }
 
-// The call of a keeper that fails, where none does.
+// The call of a keeper that fails, if none does.
 pub(crate) const NO_CALL: u64 = 0;
 
-// What a run is to leave: a file with its peer or client; an opening's peer, port, request and count of files taken; a
-// datagram's source, target and bytes; the texts that the keeper was given, and whether it kept each.
+// The expected outcome of a run: a file with its peer or client; an opening's peer, port, request and count of files
+// taken; a datagram's source, target and bytes; the texts that the keeper was given, and whether it kept each.
 #[derive(Clone, Copy)]
 pub(crate) struct Wanted<'a> {
     pub(crate) taken: &'a [(Endpoint, &'a [u8])],
@@ -102,7 +102,7 @@ pub(crate) struct Wanted<'a> {
     pub(crate) given: &'a [(Ruleset, &'a [u8], bool)],
 }
 
-// What no event at all leaves.
+// The outcome of no event at all.
 pub(crate) const NOTHING: Wanted<'static> = Wanted {
     taken: &[],
     sent: &[],
@@ -114,8 +114,8 @@ pub(crate) const NOTHING: Wanted<'static> = Wanted {
     given: &[],
 };
 
-// What a put by the first client leaves, beside its datagrams: of the file of 100 ticks, with its transfer at port
-// 4000.
+// The outcome of a put by the first client, except for its datagrams: of the file of 100 ticks, with its transfer at
+// port 4000.
 pub(crate) const ONE_PUT: Wanted<'static> = Wanted {
     taken: &[(C1, HUNDRED)],
     sent: &[C1],
@@ -168,7 +168,7 @@ fn are_datagrams(datagrams: &[Datagram], wanted: &[(Endpoint, Endpoint, &[u8])])
     datagrams.len() == wanted.len()
 }
 
-// The part of an outcome that is not as wanted, if there is one.
+// The part of an outcome that is not as expected, if there is one.
 fn other_part(outcome: &Outcome, wanted: &Wanted<'_>) -> Option<&'static str> {
     if !are_taken(outcome.taken.as_slice(), wanted.taken) {
         return Some("taken");
@@ -194,7 +194,7 @@ fn other_part(outcome: &Outcome, wanted: &Wanted<'_>) -> Option<&'static str> {
     None
 }
 
-// Whether a keeper was given just these texts, and kept each or not.
+// Whether a keeper was given exactly these texts, and kept each or not.
 pub(crate) fn was_given(keeper: &MemoryKeeper, wanted: &[(Ruleset, &[u8], bool)]) -> bool {
     let kept = keeper.kept();
     for (one, (kind, text, ok)) in kept.iter().zip(wanted) {
@@ -205,7 +205,7 @@ pub(crate) fn was_given(keeper: &MemoryKeeper, wanted: &[(Ruleset, &[u8], bool)]
     kept.len() == wanted.len()
 }
 
-// The part that is not as wanted of what these events leave, if there is one. This call of the keeper fails.
+// The part of these events' outcome that is not as expected, if there is one. This call of the keeper fails.
 pub(crate) fn other_after(
     alloc: Global,
     acts: &[Act<'_>],

@@ -1,5 +1,5 @@
-// A thousand lists of up to sixty events, each outcome tested against every promise. The first two lists are fixed, each a
-// test of its own.
+// A thousand lists of up to sixty events, each outcome tested against every promise. The first two lists are fixed,
+// each with its own test.
 use crate::cast::{C1, C2, C3, C4, EMPTY_MS, NOT_KEPT, RRQ_LYNX, WRQ, at};
 use crate::drawn::{Draws, draw};
 use crate::promises::{begin_counts, broken_promise};
@@ -13,7 +13,7 @@ use tws_file::Ruleset;
 
 const READ: Asked = Asked::Read(Ruleset::Lynx);
 
-// How many lists are drawn, beside the two that are fixed.
+// How many lists are drawn, besides the two that are fixed.
 const DRAWN: u16 = 998;
 
 // ---- the fixed lists
@@ -101,7 +101,7 @@ fn is_line(bytes: &[u8], line: Line) -> bool {
     }
 }
 
-// Whether just these were sent, each from there to there.
+// Whether exactly these were sent, each with its source and target.
 fn were_sent(datagrams: &[Datagram], wanted: &[(Endpoint, Endpoint, Line)]) -> bool {
     for (one, (from, to, line)) in datagrams.iter().zip(wanted) {
         let is_sent = one.from == *from && one.to == *to;
@@ -112,7 +112,7 @@ fn were_sent(datagrams: &[Datagram], wanted: &[(Endpoint, Endpoint, Line)]) -> b
     datagrams.len() == wanted.len()
 }
 
-// What these events leave, which breaks no promise.
+// The outcome of these events, which must break no promise.
 fn unbroken(alloc: Global, events: &[Event]) -> Result<Outcome, Fail> {
     let outcome = replay(alloc, &mut MemoryKeeper::new(alloc), events)?;
     match broken_promise(alloc, events, &outcome, 0)? {
@@ -193,7 +193,7 @@ fn a_get_after_a_put(rt: HostRuntime) -> Result<(), Fail> {
     Ok(())
 }
 
-// The slow file is taken. Then the fast one is sent; one download has been asked for before that, another one begins
+// The slow file is taken. Then the fast one is sent; one download was asked for before that, another one begins
 // meanwhile, and both end after the fast file was taken.
 fn crossing<'a>(slow: &'a [u8], fast: &'a [u8]) -> [Act<'a>; 32] {
     [
@@ -320,7 +320,7 @@ fn restart_count(events: &[Event]) -> usize {
     count
 }
 
-// How many files are taken that are no put's.
+// How many of the files taken are not a put's.
 fn stranger_count(outcome: &Outcome) -> usize {
     let mut count = 0_usize;
     for one in &outcome.taken {
@@ -387,7 +387,7 @@ impl Tally {
     }
 }
 
-// Draws a list, which breaks no promise, and counts what happened in it.
+// Draws a list, which must break no promise, and counts what happened in it.
 fn count_draw(alloc: Global, draws: &mut Draws, tally: &mut Tally) -> Result<(), Fail> {
     let (drawn, outcome) = draw(alloc, draws)?;
     tally.count(&drawn.events, &outcome);

@@ -9,8 +9,8 @@ use tws_file::Ruleset;
 
 const PUT: Asked = Asked::Write;
 
-// A stranger's ACK to another one's transfer has no effect there. A transfer of its own is served, and its file counts
-// in the collection, beside that of the put, which goes on.
+// A stranger's ACK to someone else's transfer has no effect there. The stranger's own transfer is served, and its file
+// counts in the collection, besides that of the put, which goes on.
 #[test]
 fn a_stranger_beside_a_put(rt: HostRuntime) -> Result<(), Fail> {
     let acts = [
@@ -51,7 +51,7 @@ fn a_stranger_beside_a_put(rt: HostRuntime) -> Result<(), Fail> {
     Ok(())
 }
 
-// A client hears the server's host alone.
+// A client accepts datagrams only from the server's host.
 #[test]
 fn a_stranger_that_answers_a_client(rt: HostRuntime) -> Result<(), Fail> {
     let acts = [
