@@ -8,7 +8,7 @@ use std::{env, fs, process};
 use tws_best::Collection;
 use tws_file::{Ruleset, read_file};
 
-// A new folder among the temporary ones.
+// A new folder in the system's temporary one.
 fn folder(rt: &HostRuntime, name: &str) -> Result<String, Fail> {
     let process = process::id(rt.process());
     let name = format!(in rt.alloc(); "tws-host-{process}-{name}")?;
@@ -25,7 +25,7 @@ fn keeper_of(rt: HostRuntime, dir: &str) -> Result<DirKeeper<HostRuntime>, Fail>
     Ok(DirKeeper::new(rt, String::from_str(rt.alloc(), dir)?))
 }
 
-// Keeps the Lynx collection of a file, and returns what the keeper did.
+// Keeps the Lynx collection of a file. Returns the keeper's result.
 fn keep(
     rt: HostRuntime,
     keeper: &mut DirKeeper<HostRuntime>,
@@ -56,7 +56,7 @@ fn loads_none(
     Ok(keeper.load(rt.alloc(), kind)?.is_none())
 }
 
-// A keeper over a new folder loads nothing. It keeps the first file and loads it, and keeps the second.
+// Whether a keeper over a new folder loads nothing, keeps the first file and loads it, and keeps the second.
 fn keeps_both(rt: HostRuntime, dir: &str) -> Result<bool, Fail> {
     let mut keeper = keeper_of(rt, dir)?;
     let empty = loads_none(rt, &mut keeper, Ruleset::Lynx)?;
@@ -66,7 +66,7 @@ fn keeps_both(rt: HostRuntime, dir: &str) -> Result<bool, Fail> {
     Ok(empty && first.is_ok() && loaded && second.is_ok() && keeper.failures() == 0)
 }
 
-// Another keeper over that folder loads the second file, and nothing of the other ruleset.
+// Whether another keeper over that folder loads the second file, and nothing of the other ruleset.
 fn loads_the_second(rt: HostRuntime, dir: &str) -> Result<bool, Fail> {
     let mut keeper = keeper_of(rt, dir)?;
     let second = loads(rt, &mut keeper, Ruleset::Lynx, F2)?;
@@ -74,7 +74,7 @@ fn loads_the_second(rt: HostRuntime, dir: &str) -> Result<bool, Fail> {
     Ok(second && none && keeper.failures() == 0)
 }
 
-// In the folder is the second file, and none that was not renamed.
+// Whether the folder has the second file, and none that was not renamed.
 fn has_the_second(rt: HostRuntime, dir: &str) -> Result<bool, Fail> {
     let kept = file_in(&rt, dir, "lynx.tws")?;
     let new = file_in(&rt, dir, "lynx.new")?;
@@ -95,7 +95,7 @@ fn a_folder_keeps_the_last_collection(rt: HostRuntime) -> Result<(), Fail> {
     Ok(())
 }
 
-// A keeper loads nothing from this folder. It keeps an empty collection, and loads that.
+// Whether a keeper loads nothing from this folder, keeps an empty collection, and loads that.
 fn keeps_an_empty_one(rt: HostRuntime, dir: &str) -> Result<bool, Fail> {
     let mut keeper = keeper_of(rt, dir)?;
     let none = loads_none(rt, &mut keeper, Ruleset::Ms)?;
@@ -115,7 +115,7 @@ fn a_new_file_that_is_left_is_harmless(rt: HostRuntime) -> Result<(), Fail> {
     Ok(())
 }
 
-// There is no folder: a keep fails, and a load finds nothing.
+// Whether without a folder a keep fails, and a load finds nothing.
 fn fails_to_keep(rt: HostRuntime, keeper: &mut DirKeeper<HostRuntime>) -> Result<bool, Fail> {
     let kept = keep(rt, keeper, F1)?;
     let counted = keeper.failures() == 1;
@@ -123,7 +123,7 @@ fn fails_to_keep(rt: HostRuntime, keeper: &mut DirKeeper<HostRuntime>) -> Result
     Ok(kept == Err(KeepFault::Device) && counted && none)
 }
 
-// The collection's file is a folder: a load fails, and a keep.
+// Whether a load and a keep fail if the collection's file is a folder.
 fn fails_at_both(rt: HostRuntime, keeper: &mut DirKeeper<HostRuntime>) -> Result<bool, Fail> {
     let loaded = matches!(
         keeper.load(rt.alloc(), Ruleset::Lynx),
@@ -133,14 +133,14 @@ fn fails_at_both(rt: HostRuntime, keeper: &mut DirKeeper<HostRuntime>) -> Result
     Ok(loaded && kept == Err(KeepFault::Device) && keeper.failures() == 3)
 }
 
-// A folder with a folder in the place of the collection's file.
+// Makes a folder with a folder in the place of the collection's file.
 fn obstruct(rt: &HostRuntime, dir: &str) -> Result<(), Fail> {
     fs::create_dir(rt, dir)?;
     fs::create_dir(rt, file_in(rt, dir, "lynx.tws")?.as_str())?;
     Ok(())
 }
 
-// Whether the calls fail so without the folder, and then with one in the place of the collection's file.
+// Whether the calls fail as above without the folder, and then with a folder in the place of the collection's file.
 fn fails_twice(rt: HostRuntime, dir: &str) -> Result<(bool, bool), Fail> {
     let mut keeper = keeper_of(rt, dir)?;
     let without = fails_to_keep(rt, &mut keeper)?;
@@ -158,7 +158,7 @@ fn a_folder_that_fails(rt: HostRuntime) -> Result<(), Fail> {
     Ok(())
 }
 
-// A server's wire, to which a put of the file has come in two datagrams.
+// A server's wire, at which a put of the file has arrived in two datagrams.
 fn put_wire(rt: HostRuntime) -> Result<MemoryWire, Fail> {
     let mut wire = MemoryWire::new(rt.alloc(), vec![in rt.alloc(); 4000u16]?);
     wire.arrive(rt.alloc(), 6969, at(5000), b"\0\x02upload.tws\0octet\0")?;

@@ -1,4 +1,4 @@
-//! Tests alone: the wire over loopback and the keeper over a folder.
+//! Tests only: the wire over loopback and the keeper over a folder.
 #![tactic(auto)]
 
 #[cfg(test)]

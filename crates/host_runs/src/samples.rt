@@ -1,7 +1,7 @@
 // An address and files for the tests, written by hand.
 use tftp_packet::Endpoint;
 
-// The address of this host for itself, 127.0.0.1.
+// The loopback address of this host, 127.0.0.1.
 const LOOPBACK: u32 = 0x7F00_0001;
 
 // A Lynx file: level 1, BDHP, 100 ticks, no moves.

@@ -11,7 +11,7 @@ use std::time::Instant;
 use tftp_packet::{Endpoint, Out, encode_ack};
 use tws_file::Ruleset;
 
-// What a read of a port answers: the bytes of a datagram, and where it came from.
+// The result of a read of a port: the number of a datagram's bytes, and where it came from.
 type Came = Option<(usize, Endpoint)>;
 
 // A wire that listens, and its port.
@@ -93,14 +93,14 @@ fn puts_the_file(rt: HostRuntime, ends: &mut Ends, server: Endpoint) -> Result<b
     Ok(sent == Ok(28) && ends.taken)
 }
 
-// Whether a get brings the file.
+// Whether a get fetches the file.
 fn gets_the_file(rt: HostRuntime, ends: &mut Ends, server: Endpoint) -> bool {
     let mut got = Vec::new(rt.alloc());
     let answer = run_get(rt.alloc(), ends, server, Ruleset::Lynx, 100, &mut got);
     answer == Ok(28) && got.as_slice() == F1.as_slice()
 }
 
-// Whether a put and a get go well, and how many calls of either wire failed.
+// Whether a put and a get succeed, and how many calls of either wire failed.
 fn put_and_get(rt: HostRuntime) -> Result<(bool, bool, u64, u64), Fail> {
     let (mut ends, server) = connected(rt)?;
     let put = puts_the_file(rt, &mut ends, server)?;
@@ -114,7 +114,7 @@ fn loopback_put_get(rt: HostRuntime) -> Result<(), Fail> {
     Ok(())
 }
 
-// A port that was open.
+// A port that was open and is closed again.
 fn past_port(wire: &mut UdpWire<HostRuntime>) -> Result<u16, WireFault> {
     let port = wire.open()?;
     wire.close(port)?;
@@ -167,7 +167,7 @@ fn calls_that_fail_are_counted(rt: HostRuntime) -> Result<(), Fail> {
     Ok(())
 }
 
-// Whether nothing comes to a port in twenty reads.
+// Whether nothing arrives at a port in twenty reads.
 fn is_quiet(wire: &mut UdpWire<HostRuntime>, port: u16) -> bool {
     let mut buffer = [0; RECEIVE_SIZE];
     for _ in 0..20 {
@@ -191,8 +191,8 @@ fn a_quiet_port_is_waited_at(rt: HostRuntime) -> Result<(), Fail> {
     Ok(())
 }
 
-// Sends to a port a datagram that is too long for a packet, an empty one, and one of the greatest length, and returns where
-// they come from.
+// Sends three datagrams to a port: one that is too long for a packet, an empty one, and one of the greatest length.
+// Returns where they come from.
 fn send_three(rt: HostRuntime, port: u16) -> Result<Endpoint, Fail> {
     let peer = UdpSocket::bind(&rt, SocketAddr::from((Ipv4Addr::LOCALHOST, 0)))?;
     let target = SocketAddr::from((Ipv4Addr::LOCALHOST, port));
@@ -202,7 +202,7 @@ fn send_three(rt: HostRuntime, port: u16) -> Result<Endpoint, Fail> {
     Ok(at(peer.local_addr()?.port()))
 }
 
-// Whether three reads of a port give these datagrams.
+// Whether three reads of a port return these datagrams.
 fn reads_three(
     wire: &mut UdpWire<HostRuntime>,
     port: u16,
@@ -261,7 +261,7 @@ impl Pair {
     }
 }
 
-// Three datagrams go to each port.
+// Sends three datagrams to each port.
 fn send_to_both(pair: &mut Pair) -> Result<(), WireFault> {
     for block in 0..3 {
         pair.send(pair.low, block)?;
@@ -303,8 +303,8 @@ fn a_wait_ends_at_its_moment(rt: HostRuntime) -> Result<(), Fail> {
     Ok(())
 }
 
-// The ports that three waits give. Three datagrams have come to the upper port, and one comes to the lower once the upper
-// one was read.
+// The ports that three waits return. Three datagrams have arrived at the upper port, and one arrives at the lower after
+// the upper one was read.
 fn three_waits(pair: &mut Pair) -> Result<(u16, u16, Option<u16>), Fail> {
     let (low, high) = (pair.low, pair.high);
     for block in [1, 2, 3] {
@@ -324,8 +324,8 @@ fn a_busy_port_starves_no_other(rt: HostRuntime) -> Result<(), Fail> {
     Ok(())
 }
 
-// Closes the upper port. Returns what the next wait gives, what a read of the lower port does, and what the wait after it
-// gives.
+// Closes the upper port. Returns the ready port of the next wait, the result of a read of the lower port, and the ready
+// port of the wait after it.
 fn after_close(pair: &mut Pair) -> Result<(Option<u16>, Came, Option<u16>), WireFault> {
     pair.wire.close(pair.high)?;
     let ready = pair.wire.wait(pair.high, Some(0)).port;
@@ -344,8 +344,8 @@ fn a_closed_port_is_not_given(rt: HostRuntime) -> Result<(), Fail> {
     Ok(())
 }
 
-// How often the upper port is read in forty visits. Two datagrams have come to it, and before each visit another comes to the
-// lower port.
+// How often the upper port is read in forty visits. Two datagrams have arrived at it, and before each visit another
+// arrives at the lower port.
 fn visits_above(pair: &mut Pair) -> Result<u32, Fail> {
     pair.send(pair.high, 1)?;
     pair.send(pair.high, 2)?;
