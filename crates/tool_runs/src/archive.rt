@@ -1,4 +1,4 @@
-// The commands of the archive over wires in memory: what goes out, what is printed, and inputs that fail.
+// The commands of the archive over wires in memory: what is sent, what is printed, and inputs that fail.
 use crate::streams::*;
 use archive_table::NoKeeper;
 use archive_turns::{Entry, MemoryWire, ReadyServer, Server};
@@ -13,7 +13,7 @@ const SERVER: Endpoint = Endpoint {
     port: 6969,
 };
 
-// Where the server's transfer is.
+// The endpoint of the server's transfer.
 const PEER: Endpoint = Endpoint {
     host: 1,
     port: 4000,
@@ -40,7 +40,7 @@ fn wire_of(rt: &HostRuntime, opens: &[u16]) -> Result<MemoryWire, Fail> {
     Ok(MemoryWire::new(rt.alloc(), Vec::from_slice(rt.alloc(), opens)?))
 }
 
-// A client's wire, to which these datagrams come from the server's transfer.
+// A client's wire, at which these datagrams arrive from the server's transfer.
 fn answered(rt: &HostRuntime, answers: &[&[u8]]) -> Result<MemoryWire, Fail> {
     let mut wire = wire_of(rt, &[CLIENT.port])?;
     for bytes in answers {
@@ -58,7 +58,7 @@ fn is_sent(entry: &Entry, to: Endpoint, bytes: &[u8]) -> bool {
     }
 }
 
-// How often this was sent there.
+// How often these bytes were sent to this endpoint.
 fn sent(wire: &MemoryWire, to: Endpoint, bytes: &[u8]) -> usize {
     wire.log()
         .iter()
@@ -82,7 +82,7 @@ fn a_put(rt: HostRuntime) -> Result<(), Fail> {
     Ok(())
 }
 
-// What a put of this input answers, how many calls it makes of its wire, and how many bytes it prints.
+// The result of a put of this input, how many calls of its wire it makes, and how many bytes it prints.
 fn put_of<R: io::Read>(
     rt: &HostRuntime,
     input: &mut R,
@@ -116,7 +116,8 @@ fn a_put_of_an_input_that_ends_at_the_last_read(rt: HostRuntime) -> Result<(), F
     Ok(())
 }
 
-// Nothing goes out for a file that is read in part. A reader's own lack of memory is not ours.
+// Nothing is sent for a file that is read in part. A reader that runs out of memory is reported as `Read`, not as
+// `Memory`.
 #[test]
 fn a_put_of_an_input_that_breaks(rt: HostRuntime) -> Result<(), Fail> {
     for (bytes, kind) in [
@@ -175,7 +176,7 @@ fn put_wire(rt: &HostRuntime) -> Result<MemoryWire, Fail> {
     Ok(wire)
 }
 
-// Two turns of a new server, or two rounds of one that waits, whose lines go there.
+// Makes two turns of a new server, or two rounds of one that waits, whose lines go to `out`.
 fn serve_two(
     rt: &HostRuntime,
     waits: bool,

@@ -6,13 +6,13 @@ use std::test::Fail;
 use tws_file::{FileFault, Ruleset};
 use tws_tool::{INPUT_READS, ToolFault, run_best, run_show, run_words};
 
-// The same with two bytes of moves, the second of which begins a move that is cut.
+// The solution with two bytes of moves, the second of which begins a move that is cut.
 const CUT: [u8; 30] = [
     0x35, 0x33, 0x9B, 0x99, 0x01, 0x00, 0x00, 0x00, 0x12, 0x00, 0x00, 0x00, 0x01, 0x00, 0x42, 0x44,
     0x48, 0x50, 0x00, 0x00, 0x00, 0x00, 0x00, 0x00, 0x64, 0x00, 0x00, 0x00, 0x01, 0xFE,
 ];
 
-// The same with four moves in two bytes.
+// The solution with four moves in two bytes.
 const MOVED: [u8; 30] = [
     0x35, 0x33, 0x9B, 0x99, 0x01, 0x00, 0x00, 0x00, 0x12, 0x00, 0x00, 0x00, 0x01, 0x00, 0x42, 0x44,
     0x48, 0x50, 0x00, 0x00, 0x00, 0x00, 0x00, 0x00, 0x64, 0x00, 0x00, 0x00, 0x00, 0x61,
@@ -77,14 +77,14 @@ fn pack_refuses_what_is_no_file(rt: HostRuntime) -> Result<(), Fail> {
     Ok(())
 }
 
-// What `best` answers to these inputs, and how many bytes it writes.
+// The result of `best` for these inputs, and how many bytes it writes.
 fn best_of<R: io::Read>(rt: &HostRuntime, files: &mut [R]) -> (Result<(), ToolFault>, usize) {
     let mut out = Vec::new(rt.alloc());
     let done = run_best(rt.alloc(), Ruleset::Lynx, files, &mut out);
     (done, out.len())
 }
 
-// What `show` answers to this input, and how many bytes it writes.
+// The result of `show` for this input, and how many bytes it writes.
 fn show_of<R: io::Read>(rt: &HostRuntime, input: &mut R) -> (Result<(), ToolFault>, usize) {
     let mut out = Vec::new(rt.alloc());
     let done = run_show(rt.alloc(), input, &mut out, false);
@@ -134,11 +134,11 @@ fn show_to_a_writer_with_little_room(rt: HostRuntime) {
     }
 }
 
-// The first eight bytes of no file: the signature is another.
+// Eight bytes that do not begin a file: the signature is wrong.
 const UNSIGNED: [u8; 8] = [0x35, 0x33, 0x9B, 0x98, 2, 0, 0, 0];
 
-// The reader fails after a part of a record, after a header that would be a file, and after bytes that have a fault, which
-// then is not the one that is answered.
+// The reader fails after a part of a record, after a header that would be a file, and after bytes that have a fault,
+// which is then not the one that is reported.
 #[test]
 fn an_input_that_breaks(rt: HostRuntime) {
     for bytes in [&SOLUTION[..10], &SOLUTION[..8], &UNSIGNED[..8]] {
@@ -150,7 +150,7 @@ fn an_input_that_breaks(rt: HostRuntime) {
     }
 }
 
-// An input that failed is not read again, though it would give a whole file then.
+// An input that failed is not read again, although it would then return a whole file.
 #[test]
 fn an_input_that_stumbles(rt: HostRuntime) {
     let mut input = Stumbles {
@@ -183,7 +183,7 @@ fn an_input_that_ends_at_the_last_read(rt: HostRuntime) {
     assert_eq!(rt; show_of(&rt, &mut input), (Err(fault), 0));
 }
 
-// Gives bytes, or fails.
+// Returns bytes, or fails.
 #[derive(Drop)]
 enum Input<'a> {
     Whole(&'a [u8]),
@@ -209,7 +209,7 @@ fn best_answers_the_first_input_that_fails(rt: HostRuntime) {
     assert_eq!(rt; best_of(&rt, &mut files), (Err(fault), 0));
 }
 
-// A Lynx file of so many records, which say only that a level has a password, and its listing.
+// A Lynx file of `count` records that have only a level's password, and its listing.
 fn passwords(rt: &HostRuntime, count: u32) -> Result<(Vec<u8>, Vec<u8>), Fail> {
     let mut bytes = Vec::from_slice(rt.alloc(), &SOLUTION[..8])?;
     let mut listing = Vec::from_slice(rt.alloc(), b"ruleset lynx word 0000 extra 0\n")?;

@@ -1,4 +1,4 @@
-// Which job words ask for.
+// Which job the arguments ask for.
 use crate::outcome::owned;
 use std::test::Fail;
 use tws_tool::{Job, JobFault, job_of};

@@ -1,4 +1,4 @@
-//! Tests alone: the commands over words, readers, writers, files and wires in memory.
+//! Tests only: the commands over arguments, readers, writers, files and wires in memory.
 #![tactic(auto)]
 
 #[cfg(test)]

@@ -8,7 +8,7 @@ use std::test::Fail;
 use std::{env, fs, io, process};
 use tws_tool::{FileSystem, run_words_with};
 
-// The name of a file of these bytes among the temporary ones.
+// Writes a file of these bytes in the system's temporary folder. Returns its name.
 fn file(rt: &HostRuntime, name: &str, bytes: &[u8]) -> Result<String, Fail> {
     let process = process::id(rt.process());
     let name = format!(in rt.alloc(); "tws-{process}-{name}")?;
@@ -50,7 +50,7 @@ fn best_of_files(rt: HostRuntime) -> Result<(), Fail> {
     Ok(())
 }
 
-// A file system of one name, which tells what its file has.
+// A file system of one name, which tells the bytes of its file.
 #[derive(Drop)]
 struct One<'a> {
     name: &'a str,
@@ -83,7 +83,7 @@ impl<'a> FileSystem for One<'a> {
     }
 }
 
-// A run of the program with the files of such a system, over a wire in memory.
+// Runs the program with the files of such a system, over a wire in memory.
 fn run_with(
     rt: &HostRuntime,
     system: &One,
@@ -110,7 +110,7 @@ fn run_with(
     })
 }
 
-// The collection of Lynx over these files of a system that has one.
+// The Lynx collection over these files of a system that has one.
 fn best_of_one(rt: &HostRuntime, system: &One, names: &[&str]) -> Result<Outcome, Fail> {
     let mut words = owned(rt, &["tws", "best", "lynx"])?;
     words.append(&mut owned(rt, names)?)?;

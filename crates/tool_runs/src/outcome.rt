@@ -1,8 +1,8 @@
-// Runs of the program, and what they print and answer.
+// Runs of the program, and what they print and return.
 use std::test::Fail;
 use tws_tool::run_words;
 
-// What a run of the program printed and answered.
+// What a run of the program printed and returned.
 #[derive(Drop)]
 pub(crate) struct Outcome {
     pub(crate) status: u8,

@@ -1,7 +1,7 @@
 // Inputs and outputs for the tests, and files of one solution.
 use std::io;
 
-// Level 1, BDHP, 100 ticks, no moves, by the rules of Lynx.
+// A Lynx file: level 1, BDHP, 100 ticks, no moves.
 pub(crate) const SOLUTION: [u8; 28] = [
     0x35, 0x33, 0x9B, 0x99, 0x01, 0x00, 0x00, 0x00, 0x10, 0x00, 0x00, 0x00, 0x01, 0x00, 0x42, 0x44,
     0x48, 0x50, 0x00, 0x00, 0x00, 0x00, 0x00, 0x00, 0x64, 0x00, 0x00, 0x00,
@@ -13,7 +13,7 @@ pub(crate) const FASTER: [u8; 28] = [
     0x48, 0x50, 0x00, 0x00, 0x00, 0x00, 0x00, 0x00, 0x5A, 0x00, 0x00, 0x00,
 ];
 
-// Fails at its first read, and gives these bytes after that.
+// Fails at its first read, and returns these bytes after that.
 #[derive(Drop)]
 pub(crate) struct Stumbles<'a> {
     pub(crate) bytes: &'a [u8],
@@ -30,7 +30,7 @@ impl io::Read for Stumbles<'_> {
     }
 }
 
-// Gives a byte at each read, and ends after so many.
+// Returns one byte at each read, and ends after `left` of them.
 #[derive(Drop)]
 pub(crate) struct Drops {
     pub(crate) left: u32,
@@ -47,7 +47,7 @@ impl io::Read for Drops {
     }
 }
 
-// Gives these bytes at the first read, and fails at the next.
+// Returns these bytes at the first read, and fails at the next.
 #[derive(Drop)]
 pub(crate) struct Breaks<'a> {
     pub(crate) bytes: Option<&'a [u8]>,
