@@ -1,7 +1,7 @@
-//! Tests alone: each request for memory is refused in turn, in runs of the calls of a wire in memory that take memory, and
-//! in replays.
+//! Tests only: each allocation is refused in turn, in runs of the calls of a wire in memory that allocate, and in
+//! replays.
 //!
-//! Each run answers that memory ran out, or gives the full answer, and leaves nothing changed where it says so.
+//! Each run returns the full result, or reports out of memory and leaves unchanged what must not change.
 #![tactic(auto)]
 
 #[cfg(test)]

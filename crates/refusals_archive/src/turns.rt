@@ -1,4 +1,4 @@
-// A wire in memory: each allocation for what has come, and for its log, refused in turn.
+// A wire in memory: each allocation for its inbox, and for its log, is refused in turn.
 use archive_turns::{MemoryWire, RECEIVE_SIZE, Wire, WireFault};
 use refusing::{Outcome, Refusing, refuse_each};
 use std::alloc::{Allocator, Global};
@@ -14,7 +14,8 @@ fn is_telling<A: Allocator + Copy>(wire: &MemoryWire<A>, calls: usize) -> bool {
     wire.telling() && wire.failures() == 0 && wire.log().len() == calls
 }
 
-// Whether the first call failed, as the log could not grow. The next one is done, and is not in the log either.
+// Whether the first call failed because the log could not grow, and the next one succeeds. Its entry is in the log, but
+// the wire never tells its log again.
 fn has_stopped<A: Allocator + Copy>(wire: &mut MemoryWire<A>) -> bool {
     let stopped = !wire.telling() && wire.failures() == 1;
     let done = wire.close(4001).is_ok();
@@ -97,7 +98,7 @@ fn receiving_nothing(rt: HostRuntime) -> Result<(), Fail> {
     )?)
 }
 
-// Whether `receive` gives these bytes of the peer; nothing where it gives nothing.
+// Whether `receive` returns these bytes from the peer; `None` if it returns nothing.
 fn gives<A: Allocator + Copy>(
     wire: &mut MemoryWire<A>,
     bytes: &[u8],
@@ -109,7 +110,7 @@ fn gives<A: Allocator + Copy>(
     }
 }
 
-// A datagram that was refused has not come.
+// A datagram that was refused has not arrived.
 fn arrive_and_receive(refusing: &Refusing<Global>) -> Outcome {
     let mut wire = MemoryWire::new(refusing, Vec::new(refusing));
     if wire.arrive(refusing, 4000, PEER, b"news").is_err() {

@@ -1,4 +1,4 @@
-// A replay of a put, each allocation refused in turn.
+// A replay of a put, with each allocation refused in turn.
 use archive_table::MemoryKeeper;
 use archive_world::{
     Datagram, Event, Op, OpKind, Opening, Outcome as Left, SERVER, WorldFault, replay,
@@ -64,7 +64,7 @@ fn is_datagram<A: Allocator>(
     one.from == from && one.to == to && one.bytes.as_slice() == bytes
 }
 
-// Whether just these were sent.
+// Whether exactly these were sent.
 fn were_sent<A: Allocator>(
     datagrams: &[Datagram<A>],
     wanted: &[(Endpoint, Endpoint, &[u8])],
@@ -77,7 +77,7 @@ fn were_sent<A: Allocator>(
     datagrams.len() == wanted.len()
 }
 
-// Whether transfers were opened for the client at just these ports.
+// Whether transfers were opened for the client at exactly these ports.
 fn were_opened(opened: &[Opening], ports: &[u16]) -> bool {
     for (one, port) in opened.iter().zip(ports) {
         if one.peer != CLIENT || one.port != *port || one.taken != 0 {
@@ -87,7 +87,7 @@ fn were_opened(opened: &[Opening], ports: &[u16]) -> bool {
     opened.len() == ports.len()
 }
 
-// Nothing was taken, sent or fetched, and the server has nothing.
+// Whether nothing was taken, sent or fetched, and the server has nothing.
 fn has_nothing<A: Allocator>(left: &Left<A>) -> bool {
     left.taken.is_empty()
         && left.sent.is_empty()
@@ -95,7 +95,7 @@ fn has_nothing<A: Allocator>(left: &Left<A>) -> bool {
         && left.lynx.as_slice() == EMPTY
 }
 
-// The file was taken, and the server has it.
+// Whether the file was taken, and the server has it.
 fn has_file<A: Allocator>(left: &Left<A>) -> bool {
     let [one] = left.taken.as_slice() else {
         return false;
@@ -131,8 +131,8 @@ fn request(global: Global, refusing: &Refusing<Global>, unopened: &Cell<bool>) -
     Outcome::of(has_nothing(&left) && is_sent && were_opened(left.opened.as_slice(), &[4000]))
 }
 
-// A request and its answer: the replay is out of memory, or the request is refused, or all is as it is with ample
-// memory.
+// A request and its answer: the replay is out of memory, or the request is refused, or everything is as it is with
+// ample memory.
 #[test]
 fn a_request_in_a_replay(rt: HostRuntime) -> Result<(), Fail> {
     let global = rt.alloc();
@@ -146,11 +146,11 @@ fn a_request_in_a_replay(rt: HostRuntime) -> Result<(), Fail> {
     Ok(())
 }
 
-// ---- a request that comes twice
+// ---- a request that arrives twice
 
 const TWICE: [(usize, u16); 7] = [(0, 4000), (0, 4001), (1, 0), (2, 0), (4, 0), (3, 0), (5, 0)];
 
-// The datagrams of the run with ample memory; the last one is another where the block is refused.
+// Whether these are the datagrams of the run with ample memory; the last one differs if the block is refused.
 fn were_sent_twice<A: Allocator>(datagrams: &[Datagram<A>], last: &[u8]) -> bool {
     let sent = [
         (CLIENT, SERVER, TO_WRITE),
@@ -186,8 +186,8 @@ fn request_twice(global: Global, refusing: &Refusing<Global>, unopened: &Cell<bo
     Outcome::of(has_file(&left) && is_opened && is_sent)
 }
 
-// A request that is refused is answered, and sends no block to a second transfer: a later event is then on a datagram
-// that was not sent.
+// A request that is refused is answered, and no block is sent to a second transfer: a later event is then about a
+// datagram that was not sent.
 #[test]
 fn a_request_that_comes_twice_in_a_replay(rt: HostRuntime) -> Result<(), Fail> {
     let global = rt.alloc();
@@ -205,7 +205,7 @@ fn a_request_that_comes_twice_in_a_replay(rt: HostRuntime) -> Result<(), Fail> {
 
 const WHOLE: [(usize, u16); 3] = [(0, 4000), (1, 0), (2, 0)];
 
-// What a put and a restart leave: all of it, or nothing, if the last block was refused or the collection not kept.
+// What a put and a restart leave: all of it, or nothing if the last block was refused or the collection was not kept.
 fn judge_restart<A: Allocator>(left: &Left<A>) -> Outcome {
     if !were_opened(left.opened.as_slice(), &[4000]) {
         return Outcome::Wrong;
@@ -225,7 +225,7 @@ fn judge_restart<A: Allocator>(left: &Left<A>) -> Outcome {
     Outcome::of(is_begun && is_told && has_file(left))
 }
 
-// Whether a keeper has just the file.
+// Whether a keeper has exactly the file.
 fn keeps_file<A: Allocator + Copy>(keeper: &MemoryKeeper<A>) -> bool {
     let [one] = keeper.kept() else {
         return false;
@@ -233,7 +233,7 @@ fn keeps_file<A: Allocator + Copy>(keeper: &MemoryKeeper<A>) -> bool {
     one.ruleset == Ruleset::Lynx && one.text.as_slice() == FILE.as_slice() && one.ok
 }
 
-// What was refused in any run, beside the allocations of the replay itself.
+// What was refused in any run, besides the allocations of the replay itself.
 #[derive(Drop)]
 struct Seen {
     request: Cell<bool>,
