@@ -4,7 +4,6 @@ use Rattle.std.specs.Prelude.{◌≡◌, ◌≢◌, ℕ, ◌+◌, ◌<◌, ◌�
 use Rattle.tftp_packet.specs.declared.endpoint.Endpoint.{Endpoint}
 use Rattle.tftp_packet.specs.declared.out.Out.{Out}
 use Rattle.tftp_packet.specs.declared.packet_fault.PacketFault.{PacketFault}
-use Rattle.tftp_packet.specs.declared.refusal.Refusal.{Refusal}
 use Rattle.tftp_packet.specs.declared.refusal.Refusal.TheVariants.{UnknownTransfer}
 use Rattle.tftp_packet.specs.Packet.{Packet, read, write, data_block, ack, error, octet, encode}
 use Rattle.tftp_packet.specs.Blocks.{block_count}
@@ -353,10 +352,6 @@ file_of c = file_or (phase_file c.phase) c
 abbrev pub IsOperation : Operation → Type 0
 IsOperation (put file) = length file ≤ MAX_FILE
 IsOperation (get kind) = Unit {0}
-
-abbrev pub IsPut : Operation → Type 0
-IsPut (put file) = Unit {0}
-IsPut (get kind) = ⊥
 
 -- for a phase: its end is within bounds, has not given up and still has its file
 pub record IsSending (s : Sender) : Type 0 where

@@ -2,6 +2,7 @@
 use Rattle.std.proofs.Common.{◌≡◌, List, [], ◌∷◌, ◌++◌, refl, sym, subst}
 use Rattle.archive_world.specs.World.{Step, World, happens, run_from, AllMayHappen}
 use Rattle.archive_world.specs.Traces.{Member, after_deed, trace_from, member_steps, trace_steps, DeedMerged, AllDeedsMerged}
+use Rattle.archive_world.proofs.Happening.{may-append}
 use Rattle.archive_world.proofs.Tracing.{deed_fits}
 
 -- the events of a member may happen, and the file that it takes makes the collections after it
@@ -22,16 +23,12 @@ fit-append [] ys w first rest = rest
 fit-append (x ∷ xs) ys w first rest =
     (first.0, fit-append xs ys (after_deed x.deed x.grant x.maps w) first.1 rest)
 
-may_append : (xs ys : List Step) (w : World) → AllMayHappen xs w → AllMayHappen ys (run_from xs w) → AllMayHappen (xs ++ ys) w
-may_append [] ys w first rest = rest
-may_append (x ∷ xs) ys w first rest = (first.0, may_append xs ys (happens x w) first.1 rest)
-
 pub all-may : (ms : List Member) (w : World) → AllFit ms w → AllMayHappen (trace_steps ms w) w
 all-may [] w fit = tt
 all-may (m ∷ ms) w fit =
     let steps = member_steps m w in
     let made : run_from steps w ≡ after_deed m.deed m.grant m.maps w = deed_fits w m.deed m.grant m.maps fit.0.may in
-    may_append steps (trace_steps ms (run_from steps w)) w fit.0.may
+    may-append steps (trace_steps ms (run_from steps w)) w fit.0.may
     (subst (λ (v : World). AllMayHappen (trace_steps ms v) v) (sym made) (all-may ms (after_deed m.deed m.grant m.maps w) fit.1))
 
 pub all-merged : (ms : List Member) (w : World) → AllFit ms w → AllDeedsMerged ms w

@@ -12,7 +12,7 @@ use Rattle.tftp_ends.specs.Ends.{granted, Receiver, receiver_next, receiver_agai
 use Rattle.tws_file.specs.Reader.{Reading, HasTaken}
 use Rattle.archive_table.specs.Server.{IsReceiving}
 use Rattle.archive_table.specs.Incoming.{HasRead}
-use Rattle.archive_table.proofs.Found.{some_none}
+use Rattle.archive_table.proofs.Live.{some_none}
 
 -- whether it is answered
 abbrev pub is_answered : Result (Option Packet) RecvFault → Bool
@@ -96,7 +96,7 @@ module _ (n : ℕ) (body : List ℕ) (r : Receiver) where
 
 -- ---- the same in terms of the calls' results
 
-abbrev dgram_or : Result (Option (List ℕ)) RecvFault → Option (List ℕ)
+abbrev pub dgram_or : Result (Option (List ℕ)) RecvFault → Option (List ℕ)
 dgram_or (Ok out) = out
 dgram_or (Err e) = None
 

@@ -14,10 +14,7 @@ use Rattle.std.proofs.lemmas.Bool.{cases_Bool, true≢false}
 use Rattle.std.proofs.lemmas.List.Elements.{All-head, All-tail, All-cons, All-nil, All-weaker}
 use Rattle.std.proofs.lemmas.Map.Views.{All-values-insert_entry, All-map-remove_entry, IfSome-lookup_from_All}
 use Rattle.archive_table.specs.Ports.{entry_at, found_at, AreApart}
-use Rattle.archive_table.proofs.Live.{if_true, if_false}
-
-pub some_none : {X Y : Type 0} {x : X} → Some x ≡ None → Y
-some_none e = absurd (true≢false (ap is_some e))
+use Rattle.archive_table.proofs.Live.{if_true, if_false, some_none}
 
 pub some_is_none : {X : Type 0} (o : Option X) → IsSome o → o ≡ None → ⊥
 some_is_none None s e = true≢false (sym s)

@@ -25,13 +25,6 @@ remove_set {X} test (e ∷ es) w = elim (cases_Bool (test e.0)) [
   | inr n ↦ ap (remove_entry test) (if_false ((e.0, w) ∷ es) _ n) ∙ if_false _ _ n ∙ ap (λ (l : List (ℕ × X)). e ∷ l) (remove_set test es w) ∙ sym (if_false _ _ n)
 ]
 
-pub set_set : {X : Type 0} (test : ℕ → Bool) (es : List (ℕ × X)) (v w : X) → set_value test (set_value test es v) w ≡ set_value test es w
-set_set test [] v w = refl
-set_set {X} test (e ∷ es) v w = elim (cases_Bool (test e.0)) [
-  | inl y ↦ ap (λ l. set_value test l w) (if_true ((e.0, v) ∷ es) _ y) ∙ if_true _ _ y ∙ sym (if_true _ _ y)
-  | inr n ↦ ap (λ l. set_value test l w) (if_false ((e.0, v) ∷ es) _ n) ∙ if_false _ _ n ∙ ap (λ (l : List (ℕ × X)). e ∷ l) (set_set test es v w) ∙ sym (if_false _ _ n)
-]
-
 pub set_same : {X : Type 0} (test : ℕ → Bool) (es : List (ℕ × X)) (v : X) → lookup test es ≡ Some v → set_value test es v ≡ es
 set_same test [] v h = refl
 set_same {X} test (e ∷ es) v h = elim (cases_Bool (test e.0)) [
@@ -52,13 +45,13 @@ done_come all maps port peer file r out s = refl
 done_come no_memory maps port peer file r out s = ap (λ (l : List (ℕ × Transfer)). closed_with l port peer (Some (refusal_dgram OutOfMemory)) s) (remove_set (at_port port) s.live (record { peer = peer; end = receiving r }))
 done_come unkept maps port peer file r out s = ap (λ (l : List (ℕ × Transfer)). closed_with l port peer (Some (refusal_dgram NotKept)) s) (remove_set (at_port port) s.live (record { peer = peer; end = receiving r }))
 
-pub none_some : {X Y : Type 0} {x : X} → Some x ≡ None → Y
-none_some e = absurd (true≢false (ap is_some e))
+pub some_none : {X Y : Type 0} {x : X} → Some x ≡ None → Y
+some_none e = absurd (true≢false (ap is_some e))
 
 -- if nothing is found, nothing is removed
 pub remove_none : {X : Type 0} (test : ℕ → Bool) (es : List (ℕ × X)) → lookup test es ≡ None → remove_entry test es ≡ es
 remove_none test [] h = refl
 remove_none {X} test (e ∷ es) h = elim (cases_Bool (test e.0)) [
-  | inl y ↦ none_some (sym (if_true (Some e.1) (lookup test es) y) ∙ h)
+  | inl y ↦ some_none (sym (if_true (Some e.1) (lookup test es) y) ∙ h)
   | inr n ↦ if_false es (e ∷ remove_entry test es) n ∙ ap (λ (l : List (ℕ × X)). e ∷ l) (remove_none test es (sym (if_false (Some e.1) (lookup test es) n) ∙ h))
 ]

@@ -13,7 +13,7 @@ use Rattle.tftp_packet.specs.declared.endpoint.Endpoint.{Endpoint}
 use Rattle.tftp_packet.specs.declared.refusal.Refusal.{Refusal}
 use Rattle.tftp_packet.specs.declared.refusal.Refusal.TheVariants.{NotKept, UnknownTransfer}
 use Rattle.tftp_packet.specs.Packet.{encode}
-use Rattle.archive_table.specs.Server.{Maps, Server, Taken, Grant, all, no_memory, unkept, dgram_grant, refusal_dgram, IsJoined, JoinsOwn, IsMerged, IsServer}
+use Rattle.archive_table.specs.Server.{Maps, Taken, Grant, all, no_memory, unkept, dgram_grant, refusal_dgram, IsJoined, JoinsOwn, IsMerged}
 use Rattle.tftp_ends.specs.Ends.{refusal_of}
 use Rattle.archive_table.specs.Keeper.{Keeping, Grows, RefusesJoin, RefusesFile, StepKeeps}
 use Rattle.archive_table.proofs.Replies.{memory_grant, past_grant}
@@ -84,11 +84,6 @@ keeps_nothing no_memory wanted maps log other = grows_not log
 keeps_nothing unkept wanted maps log other = absurd (other refl)
 
 -- ---- the invariant
-
--- the collections are replaced by others of the same rulesets
-pub maps_fit : (s : Server) (lynx ms : Collected) → IsServer s → lynx.«ruleset» ≡ s.maps.lynx.«ruleset» → ms.«ruleset» ≡ s.maps.ms.«ruleset» → IsServer (record { request = s.request; maps = both lynx ms; live = s.live })
-maps_fit s lynx ms h l m =
-    record { lynx = l ∙ h.lynx; ms = m ∙ h.ms; few = h.few; ordered = h.ordered; apart = h.apart; ends = h.ends }
 
 -- ---- when nothing is to be kept
 

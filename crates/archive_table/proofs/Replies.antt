@@ -6,11 +6,9 @@ use Rattle.tftp_packet.specs.Packet.{Packet, ack, encode}
 use Rattle.tftp_ends.specs.declared.recv_fault.RecvFault.{RecvFault}
 use Rattle.tftp_ends.specs.declared.recv_state.RecvState.{RecvState}
 use Rattle.tftp_ends.specs.declared.recv_state.RecvState.TheVariants.{Running, Complete, TimedOut, Over}
-use Rattle.tftp_packet.specs.Blocks.{block_count}
-use Rattle.tftp_ends.specs.declared.send_state.SendState.{SendState}
-use Rattle.tftp_ends.specs.declared.send_state.SendState.TheVariants as sending
-use Rattle.tftp_ends.specs.Ends.{dgram_of, Sender, data_packet, sender_goes_on, sender_acked, sender_ack_in, sender_ack, Verdict, granted, refused, Receiver, receiver_takes, receiver_next, receiver_again, receiver_running, receiver_data_in, receiver_data, is_past, is_last_come, answer_of}
+use Rattle.tftp_ends.specs.Ends.{data_packet, Verdict, granted, refused, Receiver, receiver_takes, receiver_next, receiver_again, receiver_running, receiver_data_in, receiver_data, is_past, is_last_come, answer_of}
 use Rattle.archive_table.specs.Server.{all, no_memory, dgram_grant, reply_grant, refusal_dgram, grant_of, sends_from}
+use Rattle.archive_table.proofs.Blocks.{dgram_or}
 use Rattle.tftp_packet.specs.declared.endpoint.Endpoint.{Endpoint}
 use Rattle.tftp_packet.specs.declared.refusal.Refusal.TheVariants.{FileTooLong, OutOfMemory}
 
@@ -45,17 +43,13 @@ pub ack_grant : (k : ℕ) → dgram_grant (encode (ack k)) ≡ all
 unfolding encode
 ack_grant k = refl
 
-abbrev answer_or : Result (Option (List ℕ)) RecvFault → Option (List ℕ)
-answer_or (Ok out) = out
-answer_or (Err e) = None
-
 abbrev is_answer : Result (Option (List ℕ)) RecvFault → Bool
 is_answer (Ok out) = true
 is_answer (Err e) = false
 
 read_out : (result : Result (Option Packet) RecvFault) (out : Option (List ℕ)) → IsAckOut result → Ok out ≡ answer_of result → reply_grant out ≡ all
-read_out (Ok None) out h e = ap reply_grant (ap answer_or e)
-read_out (Ok (Some p)) out h e = ap reply_grant (ap answer_or e) ∙ ap (λ (q : Packet). dgram_grant (encode q)) h.1 ∙ ack_grant h.0
+read_out (Ok None) out h e = ap reply_grant (ap dgram_or e)
+read_out (Ok (Some p)) out h e = ap reply_grant (ap dgram_or e) ∙ ap (λ (q : Packet). dgram_grant (encode q)) h.1 ∙ ack_grant h.0
 read_out (Err x) out h e = absurd (true≢false (ap is_answer e))
 
 -- the refusals of a block, read back
@@ -81,19 +75,3 @@ sent_grant port peer (Some dgram) e = e
 pub data_grant : (file : List ℕ) (k : ℕ) → dgram_grant (encode (data_packet file k)) ≡ all
 unfolding encode
 data_grant file k = refl
-
-ack_last : (last : Bool) (s : Sender) → reply_grant (dgram_of (sender_goes_on last s).out) ≡ all
-ack_last true s = refl
-ack_last false s = data_grant s.file (s.current + 1)
-
-ack_current : (current : Bool) (s : Sender) → reply_grant (dgram_of (sender_acked current s).out) ≡ all
-ack_current true s = ack_last (s.current == block_count s.file) s
-ack_current false s = refl
-
-ack_in : (state : SendState) (n : ℕ) (s : Sender) → reply_grant (dgram_of (sender_ack_in state n s).out) ≡ all
-ack_in sending.Running n s = ack_current (n == s.current) s
-ack_in sending.Finished n s = refl
-ack_in sending.TimedOut n s = refl
-
-pub sender_grant : (n : ℕ) (s : Sender) → reply_grant (dgram_of (sender_ack n s).out) ≡ all
-sender_grant n s = ack_in s.state n s

@@ -13,12 +13,8 @@ use Rattle.tftp_ends.specs.declared.recv_fault.RecvFault.{RecvFault}
 use Rattle.tftp_ends.specs.Ends.{Verdict, granted, refused, SendAnswer, Receiver, RecvAnswer, answer_of, receiver_take, receiver_data, sender_ack, sender_timeout, receiver_timeout}
 use Rattle.tws_file.specs.declared.«ruleset».Ruleset.{Ruleset}
 use Rattle.tws_best.specs.Best.{Collected}
-use Rattle.archive_table.specs.Server.{End, sending, receiving, Transfer, Maps, Server, Grant, all, no_memory, unkept, Heard, nothing, stray, ended, acked, block, map_of, has_place, is_too_long, memory_of, heard, transfer_at, opens_if, read_fits, read_placed, read_named, read_asked, write_placed, write_asked, request_packet, request_decoded, server_request, file_come, file_asked, block_answered, data_at, sender_goes_on, ack_at, transfer_heard, datagram_at, server_datagram, receiver_goes_on, waits_at, timeout_at, server_timeout}
+use Rattle.archive_table.specs.Server.{End, sending, receiving, Transfer, Maps, Server, Grant, all, no_memory, unkept, Heard, nothing, stray, ended, acked, block, map_of, has_place, is_too_long, memory_of, heard, transfer_at, read_fits, read_placed, read_named, read_asked, write_placed, write_asked, request_packet, request_decoded, server_request, file_come, file_asked, block_answered, data_at, sender_goes_on, ack_at, transfer_heard, datagram_at, server_datagram, receiver_goes_on, waits_at, timeout_at, server_timeout}
 use Rattle.tws_file.specs.Names.{kind_named}
-
-opened_same : (v : Verdict) (spare : ℕ) (from : Endpoint) (end : End) (first : List ℕ) (s : Server) → (opens_if v spare from end first s).server.request ≡ s.request
-opened_same granted spare from end first s = refl
-opened_same refused spare from end first s = refl
 
 fits_same : (long : Bool) (v : Verdict) (spare : ℕ) (from : Endpoint) (c : Collected) (s : Server) → (read_fits long v spare from c s).server.request ≡ s.request
 fits_same true v spare from c s = refl

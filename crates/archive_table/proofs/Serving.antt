@@ -17,7 +17,7 @@ use Rattle.std.proofs.lemmas.Map.Views.{All-values-insert_entry, All-keys-insert
 use Rattle.tws_file.specs.declared.«ruleset».Ruleset.TheVariants.{Lynx, Ms}
 use Rattle.archive_table.specs.declared.limits.TheConstants.{LIVE}
 use Rattle.archive_table.specs.Server.{Server, Transfer, IsEnd, AreRising, IsServer, at_port, transfer_at, with_live, has_place}
-use Rattle.archive_table.proofs.Live.{if_true, if_false, none_some}
+use Rattle.archive_table.proofs.Live.{if_true, if_false, some_none}
 
 -- less, equal or greater
 order_of : {P : Type 0} (a b : ℕ) → (a < b → P) → (a ≡ b → P) → (b < a → P) → P
@@ -35,7 +35,7 @@ module _ {T : Type 0} where
   rising_insert port x (e ∷ es) h free = order_of port e.0
       (λ less. subst (λ r. AreRising (keys_of (match_ordering r ((port, x) ∷ e ∷ es) ((e.0, x) ∷ es) (e ∷ insert_entry nat_cmp es port x)))) (nat_cmp_is port e.0 Less less)
       (All-cons (λ m. port < m) e.0 (keys_of es) less (All-weaker (λ m. e.0 < m) (λ m. port < m) (λ m l. omega (arith, less, l)) (keys_of es) h.0), h))
-      (λ same. none_some (ap (λ r. cond (is_eq r) (Some e.1) (lookup (at_port port) es)) (nat_cmp_is port e.0 Equal same) ∙ free))
+      (λ same. some_none (ap (λ r. cond (is_eq r) (Some e.1) (lookup (at_port port) es)) (nat_cmp_is port e.0 Equal same) ∙ free))
       (λ more. subst (λ r. AreRising (keys_of (match_ordering r ((port, x) ∷ e ∷ es) ((e.0, x) ∷ es) (e ∷ insert_entry nat_cmp es port x)))) (nat_cmp_is port e.0 Greater more) (
         All-keys-insert_entry nat_cmp port x (λ m. e.0 < m) es h.0 more,
         rising_insert port x es h.1 (ap (λ r. cond (is_eq r) (Some e.1) (lookup (at_port port) es)) (nat_cmp_is port e.0 Greater more) ∙ free),

@@ -110,10 +110,6 @@ timeout_tracks r port s due timers same =
 abbrev make_walk : Server → List Timer → List Entry → Walk
 make_walk s timers calls = record { server = s; timers = timers; calls = calls }
 
-pub walks_none : (due : ℕ) (s : Server) (timers : List Timer) (log : Option (List Entry)) → Walks [] due s s timers timers log log
-walks_none due s timers log =
-    record { late = []; late_are = refl; server = refl; timers_are = refl; log = grows_none log }
-
 -- one more port times out
 pub walks_more : {before mid after : Option (List Entry)} (ports : List ℕ) (due port : ℕ) (s old new : Server) (timers left : List Timer) (change : Change) → Walks ports due s old timers left before mid → IsTimeout (λ r. timeout_visit r port old) new change mid after → Walks (ports ++ port ∷ []) due s new timers (timed_out change port due left) before after
 walks_more {before} {mid} {after} ports due port s old new timers left change walks timeout =

@@ -98,11 +98,3 @@ some_none r log = record { calls = []; runs = none r; log = grows_none log }
 pub some_more : {before mid after : Option (List Entry)} (n : ℕ) (old between new : Run) → MakesSome n old between before mid → is_over between.client ≡ false → MakesRunTurn between new mid after → MakesSome (n + 1) old new before after
 some_more n old between new so_far alive turn =
     record { calls = so_far.calls ++ turn.calls; runs = more so_far.runs alive turn.turn; log = grows_join so_far.log turn.log }
-
-pub ended_over : {before after : Option (List Entry)} (n turns : ℕ) (old new : Run) → MakesSome n old new before after → n ≤ turns → is_over new.client ≡ true → MakesRunTurns turns old new before after
-ended_over n turns old new made most over =
-    record { calls = made.calls; runs = record { made = n; most = most; runs = made.runs; ends = inl over }; log = made.log }
-
-pub ended_used : {before after : Option (List Entry)} (n turns : ℕ) (old new : Run) → MakesSome n old new before after → n ≡ turns → MakesRunTurns turns old new before after
-ended_used n turns old new made used =
-    record { calls = made.calls; runs = record { made = n; most = omega (arith, used); runs = made.runs; ends = inr used }; log = made.log }

@@ -32,22 +32,6 @@ visit_room port s new taken change timers visit same fits =
 
 -- ---- the end of a turn
 
-pub ends_quiet : {before after : Option (List Entry)} (change : Change) (s new : Server) (timers left : List Timer) → change ≡ Quiet → Walks (due_ports 0 (lower timers)) QUIET_TURNS s new (lower timers) left before after → Ends change s new timers left before after
-ends_quiet {before} {after} change s new timers left e walks =
-    let here : Ends Quiet s new timers left before after = record { late = walks.late; late_are = walks.late_are; server = walks.server; timers_are = walks.timers_are; log = walks.log } in
-    subst (λ (c : Change). Ends c s new timers left before after) (sym e) here
-
-pub ends_busy : (log : Option (List Entry)) (change : Change) (s : Server) (timers left : List Timer) → (change ≡ Quiet → ⊥) → left ≡ timed change QUIET_TURNS timers → Ends change s s timers left log log
-ends_busy log Quiet s timers left not e = absurd (not refl)
-ends_busy log Nothing s timers left not e =
-    record { late = []; late_are = refl; server = refl; timers_are = e; log = grows_none log }
-ends_busy log (Opened port) s timers left not e =
-    record { late = []; late_are = refl; server = refl; timers_are = e; log = grows_none log }
-ends_busy log (Sent port) s timers left not e =
-    record { late = []; late_are = refl; server = refl; timers_are = e; log = grows_none log }
-ends_busy log (Closed port) s timers left not e =
-    record { late = []; late_are = refl; server = refl; timers_are = e; log = grows_none log }
-
 -- ---- the turn
 
 abbrev counted : Server → (last : ℕ) → List Timer → Counted

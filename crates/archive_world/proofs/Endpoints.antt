@@ -1,12 +1,8 @@
 -- The comparison of endpoints is exact.
 use Rattle.std.proofs.Common.{◌≡◌, ℕ, Bool, true, false, ◌==◌, ◌&&◌, refl, ap, ◌∙◌}
-use Rattle.std.proofs.lemmas.Bool.{eqb-true, eq-eqb}
+use Rattle.std.proofs.lemmas.Bool.{and_parts, eqb-true, eq-eqb}
 use Rattle.tftp_packet.specs.declared.endpoint.Endpoint.{Endpoint}
 use Rattle.archive_table.specs.Server.{is_same}
-
-pub both_true : (x y : Bool) → (x && y) ≡ true → (x ≡ true) × (y ≡ true)
-both_true true y e = (refl, e)
-both_true false y e = absurd cc
 
 pub endpoint_is : (e : Endpoint) (host port : ℕ) → e.host ≡ host → e.port ≡ port → e ≡ record { host = host; port = port }
 endpoint_is e host port same_host same_port =
@@ -16,7 +12,7 @@ endpoint_is e host port same_host same_port =
 
 pub exact_endpoint : (a b : Endpoint) → is_same a b ≡ true → a ≡ b
 exact_endpoint a b e =
-    let both = both_true (a.host == b.host) (a.port == b.port) e in
+    let both = and_parts (a.host == b.host) (a.port == b.port) e in
     endpoint_is a b.host b.port (eqb-true _ _ both.0) (eqb-true _ _ both.1)
 
 pub same_endpoint : (a : Endpoint) → is_same a a ≡ true

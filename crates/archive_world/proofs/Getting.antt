@@ -59,11 +59,6 @@ same_file : (r : Receiver) (f file : List ℕ) → r.file ≡ Some f → r.file 
 same_file r f file is also = cc
 
 module _ (w : World) (h : Holds w) (own : HasOwnPorts w) (e : Endpoint) where
-  -- what is served to a get is of its ruleset, and was opened since it began
-  pub record IsSince (kind : Ruleset) (count : ℕ) (port : ℕ) (file : List ℕ) : Type 0 where
-    pub serves : Serves w e port kind file
-    pub since : count ≤ serves.count
-
   since_by : (kind other : Ruleset) (count : ℕ) (port : ℕ) (file : List ℕ) → HasGet w e kind count → (s : Serves w e port other file) → IsStranger w e ⊎ IsAskedBy w (record { peer = e; port = port; asked = to_read other; taken = s.count }) (to_read other) → (other ≡ kind) × (count ≤ s.count)
   since_by kind other count port file began s (inl stranger) =
       no_stranger w own e (get_begun w e kind count began) stranger

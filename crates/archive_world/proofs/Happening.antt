@@ -4,7 +4,7 @@ use Rattle.std.proofs.lemmas.Bool.{eqb-true, eqb-false}
 use Rattle.archive_table.specs.Server.{Maps, Grant, Transfer, Taken, Answer, memory_of, transfer_at, server_datagram, IsMerged}
 use Rattle.archive_client.specs.Client.{Operation, Client}
 use Rattle.tftp_packet.specs.declared.endpoint.Endpoint.{Endpoint}
-use Rattle.archive_world.specs.World.{Datagram, World, Event, begin, deliver, client_times_out, server_times_out, stray, restart, Step, server_endpoint, client_at, has_begun, is_too_long, taken_with, after_transfer, begins_unless, request_comes, server_hears, client_hears, arrives, delivers, client_waits, strays_unless, event_happens, happens, run_from, run, start, HasMerged, AllMerged}
+use Rattle.archive_world.specs.World.{Datagram, World, Event, begin, deliver, client_times_out, server_times_out, stray, restart, Step, server_endpoint, client_at, has_begun, is_too_long, taken_with, after_transfer, begins_unless, request_comes, server_hears, client_hears, arrives, delivers, client_waits, strays_unless, event_happens, happens, run_from, run, start, HasMerged, AllMerged, AllMayHappen}
 use Rattle.archive_world.specs.Headline.{HasOwnPorts}
 use Rattle.archive_world.proofs.Places.{Has}
 use Rattle.archive_world.proofs.Invariant.{Holds, start-holds}
@@ -94,6 +94,10 @@ run-holds steps own merged = run_from-holds steps start start-holds own merged
 pub run-append : (xs ys : List Step) (w : World) → run_from (xs ++ ys) w ≡ run_from ys (run_from xs w)
 run-append [] ys w = refl
 run-append (x ∷ xs) ys w = run-append xs ys (happens x w)
+
+pub may-append : (xs ys : List Step) (w : World) → AllMayHappen xs w → AllMayHappen ys (run_from xs w) → AllMayHappen (xs ++ ys) w
+may-append [] ys w first rest = rest
+may-append (x ∷ xs) ys w first rest = (first.0, may-append xs ys (happens x w) first.1 rest)
 
 pub merged-first : (xs ys : List Step) (w : World) → AllMerged (xs ++ ys) w → AllMerged xs w
 merged-first [] ys w merged = tt

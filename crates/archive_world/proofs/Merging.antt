@@ -16,10 +16,6 @@ use Rattle.archive_world.proofs.Invariant.{AreBest}
 joins : (kind : Ruleset) (texts : List (List ℕ)) (text : List ℕ) (f : File) (old new : Collected) → IsCollectionOf kind texts old → IsText text f → IsJoined f old new → IsCollectionOf kind (texts ++ text ∷ []) new
 joins kind texts text f old new best is joined = one_more_text kind texts text f old new best is joined.kind joined.best
 
--- the collection of the other ruleset is also that over one more text
-no_solutions : (kind : Ruleset) (f : File) (c : Collected) → solved_by c.ruleset f.ruleset f.records ≡ [] → solutions_of c.ruleset (f ∷ []) ≡ []
-no_solutions kind f c none = ap (λ (es : List Entry). es ++ []) none
-
 stays : (kind : Ruleset) (texts : List (List ℕ)) (text : List ℕ) (f : File) (old new : Collected) → IsCollectionOf kind texts old → IsText text f → solutions_of old.ruleset (f ∷ []) ≡ [] → new ≡ old → IsCollectionOf kind (texts ++ text ∷ []) new
 stays kind texts text f old new best is none same =
     let all : old.entries ++ solutions_of old.ruleset (f ∷ []) ≡ old.entries = ap (λ (es : List Entry). old.entries ++ es) none ∙ append-nil old.entries in

@@ -55,11 +55,6 @@ module _ (w : World) (own : HasOwnPorts w) where
   one_put e file other h k =
       same_put file other (ap (λ (b : Begun). b.operation) (one_operation _ _ h.among k.among refl))
 
-  pub put_or_get : {P : Type 0} (e : Endpoint) (file : List ℕ) (kind : Ruleset) (count : ℕ) → HasPut w e file → HasGet w e kind count → P
-  put_or_get e file kind count h k =
-      let both : put file ≡ get kind = ap (λ (b : Begun). b.operation) (one_operation _ _ h.among k.among refl) in
-      absurd cc
-
   -- one get at an endpoint: of one kind, and one count
   pub one_get : (e : Endpoint) (kind other : Ruleset) (m n : ℕ) → HasGet w e kind m → HasGet w e other n → (kind ≡ other) × (m ≡ n)
   one_get e kind other m n h k =

@@ -1,5 +1,5 @@
 -- The premises of the law can be met, even if a file is taken.
-use Rattle.std.proofs.Common.{◌≡◌, ℕ, zero, suc, List, [], ◌∷◌, ◌++◌, length, slice_get, Contains, Some, refl, ap, sym, ◌∙◌, subst, arith, length-append}
+use Rattle.std.proofs.Common.{◌≡◌, ℕ, zero, suc, [], ◌∷◌, ◌++◌, slice_get, Some, refl, sym, ◌∙◌, subst}
 use Rattle.tftp_packet.specs.Packet.{encode}
 use Rattle.tftp_packet.specs.Decode.{decode_bytes}
 use Rattle.tftp_packet.specs.Blocks.{block_of}
@@ -8,13 +8,12 @@ use Rattle.archive_table.specs.Server.{Taken, IsMerged}
 use Rattle.archive_world.specs.World.{run, start, empty_maps, AllMerged}
 use Rattle.archive_world.specs.Headline.{HasOwnPorts}
 use Rattle.archive_world.specs.Samples.{empty_put}
+use Rattle.archive_world.proofs.Reusing.{none_there}
+use Rattle.archive_world.proofs.Totality.{not_more}
 
 one_place : {A : Type 0} (x y : A) (i : ℕ) → slice_get (x ∷ []) i ≡ Some y → i ≡ 0
 one_place x y zero e = refl
 one_place x y (suc i) e = absurd cc
-
-none_in : {A P : Type 0} (x : A) → Contains [] x → P
-none_in x c = absurd (omega (arith, c.1))
 
 pub empty_put-own : HasOwnPorts (run empty_put)
 unfolding encode decode_bytes block_of
@@ -22,11 +21,8 @@ empty_put-own =
     record {
       operations = λ i j b c at_i at_j same. one_place _ b i at_i ∙ sym (one_place _ c j at_j);
       openings = λ i j o p at_i at_j peer port. one_place _ o i at_i ∙ sym (one_place _ p j at_j);
-      strangers = λ d among. none_in d among;
+      strangers = λ d among. none_there d among;
     }
-
-not_more : {P : Type 0} (ts : List Taken) (t : Taken) → ts ≡ ts ++ t ∷ [] → P
-not_more ts t e = let more = ap length e ∙ length-append ts (t ∷ []) in absurd (omega arith)
 
 -- the empty list is not the text of a file
 empty_unreadable : (f : File) → IsText [] f → ⊥

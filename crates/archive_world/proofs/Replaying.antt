@@ -13,7 +13,7 @@ use Rattle.archive_world.specs.declared.event_fault.EventFault.{EventFault}
 use Rattle.archive_world.specs.declared.event_fault.EventFault.TheVariants as fault
 use Rattle.archive_world.specs.declared.world_fault.WorldFault.{WorldFault}
 use Rattle.archive_world.specs.declared.world_fault.WorldFault.TheVariants as world
-use Rattle.archive_world.specs.World.{Event, restart, Step, World, start, happens, run_from, run, HasMerged, MayHappen, AllMayHappen}
+use Rattle.archive_world.specs.World.{Event, restart, Step, World, start, happens, run_from, run, HasMerged, MayHappen}
 use Rattle.archive_world.specs.Headline.{HasOwnPorts, Headline}
 use Rattle.archive_world.specs.Restarts.{EventKeeps, RunKeeps, IsOutside}
 use Rattle.archive_world.specs.View.{event_of, events_of}
@@ -22,7 +22,7 @@ use Rattle.archive_world.specs.Replays.{HaveKept, IsDue, AllDue, HasHappened, Ma
 use Rattle.archive_world.specs.Exits.{KeeperHas, MakesKept, Comes, fault_of, Ends}
 use Rattle.archive_world.proofs.Collecting.{best-collected, start-best, run_from-best}
 use Rattle.archive_world.proofs.Concluding.{run-headline}
-use Rattle.archive_world.proofs.Happening.{run-append}
+use Rattle.archive_world.proofs.Happening.{run-append, may-append}
 use Rattle.archive_world.proofs.Loading.{fails-outside}
 use Rattle.archive_world.proofs.Places.{Has-contains}
 use Rattle.archive_world.proofs.Persisting.{own-rules, run-kept}
@@ -30,10 +30,6 @@ use Rattle.archive_world.proofs.Reusing.{start-own}
 use Rattle.archive_world.proofs.Tracing.{merged_append}
 
 -- ---- two runs as one
-
-may_append : (xs ys : List Step) (w : World) → AllMayHappen xs w → AllMayHappen ys (run_from xs w) → AllMayHappen (xs ++ ys) w
-may_append [] ys w first rest = rest
-may_append (x ∷ xs) ys w first rest = (first.0, may_append xs ys (happens x w) first.1 rest)
 
 due_append : (xs ys : List Step) (w : World) → AllDue xs w → AllDue ys (run_from xs w) → AllDue (xs ++ ys) w
 due_append [] ys w first rest = rest
@@ -114,7 +110,7 @@ module _ (events : List Event) (e : Event) (told now after : Option (List Keepin
         steps = steps;
         events_are = map_push (λ (s : Step). s.event) h.steps step ∙ ap (λ (es : List Event). es ++ e ∷ []) h.events_are;
         is = run_more;
-        may = may_append h.steps (step ∷ []) start h.may (subst (MayHappen e) h.is m.may, tt);
+        may = may-append h.steps (step ∷ []) start h.may (subst (MayHappen e) h.is m.may, tt);
         own = m.own h.own;
         merged = merged_append h.steps (step ∷ []) start h.merged (subst (HasMerged step) h.is m.merged, tt);
         due = due_append h.steps (step ∷ []) start h.due (subst (IsDue e m.grant) h.is m.due, tt);

@@ -1,4 +1,5 @@
 -- The tests for the reuse of a port.
+use Rattle.std.proofs.lemmas.Bool.{and_parts}
 use Rattle.std.proofs.Common.{◌≡◌, ℕ, zero, suc, ◌<◌, Bool, true, false, ◌==◌, ◌&&◌, cond, List, [], ◌∷◌, ◌++◌, length, slice_get, Contains, Some, refl, ap, sym, ◌∙◌, inl, inr, ⊎_elim, arith}
 use Rattle.std.proofs.lemmas.Bool.{eqb-true, eq-eqb}
 use Rattle.tftp_packet.specs.declared.endpoint.Endpoint.{Endpoint}
@@ -8,7 +9,7 @@ use Rattle.archive_world.specs.World.{Datagram, Begun, Opening, World, start, ha
 use Rattle.archive_world.specs.Headline.{OwnPorts, HasOwnPorts, HasOperation}
 use Rattle.archive_world.specs.Reuse.{has_strayed, is_opening_at, was_opened, IsUnused, BeginKeepsOwn, OpeningKeepsOwn, StrayKeepsOwn}
 use Rattle.archive_world.proofs.Places.{Has, Has-last, Has-push, Has-contains, Has-from_contains, OldOrLast, at-push, at-append, at-last, before_last}
-use Rattle.archive_world.proofs.Endpoints.{both_true, exact_endpoint, same_endpoint}
+use Rattle.archive_world.proofs.Endpoints.{exact_endpoint, same_endpoint}
 
 -- ---- a test of any member
 
@@ -148,7 +149,7 @@ module _ (w : World) (own : HasOwnPorts w) where
     opening_unused : OwnPorts w.begun (w.opened ++ o ∷ []) w.strays → was_opened o.peer o.port w.opened ≡ false
     opening_unused later =
         opened_any o.peer o.port w.opened ∙ all_fail (is_opening_at o.peer o.port) w.opened (λ i p is passes.
-        let both = both_true (is_same o.peer p.peer) (o.port == p.port) passes in
+        let both = and_parts (is_same o.peer p.peer) (o.port == p.port) passes in
         let place : i < length w.opened = before_last w.opened i p is in
         let same : i ≡ length w.opened = later.openings i (length w.opened) p o (at-append w.opened (o ∷ []) i p is) (at-last w.opened o) (sym (exact_endpoint o.peer p.peer both.0)) (sym (eqb-true o.port p.port both.1)) in
         omega arith)
@@ -183,7 +184,7 @@ module _ (w : World) (own : HasOwnPorts w) where
 
 -- ---- the start
 
-none_there : {A P : Type 0} (x : A) → Contains [] x → P
+pub none_there : {A P : Type 0} (x : A) → Contains [] x → P
 none_there x c = absurd (omega (arith, c.1))
 
 pub start-own : HasOwnPorts start

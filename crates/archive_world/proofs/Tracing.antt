@@ -1,4 +1,5 @@
 -- The run of a trace's steps does exactly the trace's deeds.
+use Rattle.std.proofs.lemmas.Bool.{and_parts}
 use Rattle.std.proofs.Common.{◌≡◌, ◌≢◌, ℕ, suc, ◌+◌, Bool, true, false, ◌==◌, List, [], ◌∷◌, ◌++◌, length, slice_get, Option, None, Some, refl, ap, sym, ◌∙◌, subst, arith, length-append}
 use Rattle.std.specs.Option.{option_map}
 use Rattle.std.specs.Str.{bytes_eq}
@@ -13,7 +14,7 @@ use Rattle.archive_world.specs.Headline.{HasOwnPorts, Headline}
 use Rattle.archive_world.proofs.Happening.{run-append}
 use Rattle.archive_world.proofs.Concluding.{run-headline}
 use Rattle.archive_world.proofs.Places.{at-last}
-use Rattle.archive_world.proofs.Endpoints.{both_true, endpoint_is, exact_endpoint}
+use Rattle.archive_world.proofs.Endpoints.{endpoint_is, exact_endpoint}
 
 -- ---- the place of a datagram
 
@@ -28,8 +29,8 @@ datagram_is a b source target bytes =
 
 exact_datagram : (a b : Datagram) → is_same_datagram a b ≡ true → a ≡ b
 exact_datagram a b e =
-    let first = both_true (is_same a.source b.source) _ e in
-    let rest = both_true (is_same a.target b.target) (bytes_eq a.bytes b.bytes) first.1 in
+    let first = and_parts (is_same a.source b.source) _ e in
+    let rest = and_parts (is_same a.target b.target) (bytes_eq a.bytes b.bytes) first.1 in
     datagram_is a b (exact_endpoint a.source b.source first.0) (exact_endpoint a.target b.target rest.0) (exact_bytes a.bytes b.bytes rest.1)
 
 one_later : (later : Option ℕ) (place : ℕ) → option_map (λ n. n + 1) later ≡ Some place → (n : ℕ) × (later ≡ Some n) × (place ≡ suc n)

@@ -1,6 +1,7 @@
 -- A file and its blocks.
-use Rattle.std.proofs.Common.{◌≡◌, ℕ, zero, suc, ◌+◌, ◌-◌, ◌*◌, ◌^◌, ◌<◌, ◌≤◌, min, List, [], ◌∷◌, ◌++◌, length, take, drop, refl, ap, sym, ◌∙◌, arith, length-take, length-drop, append-nil, inl, inr}
-use Rattle.std.proofs.lemmas.Bool.{cases_lt}
+use Rattle.std.proofs.Math.Nat.{min_comm}
+use Rattle.std.proofs.lemmas.List.{take_min}
+use Rattle.std.proofs.Common.{◌≡◌, ℕ, zero, suc, ◌+◌, ◌-◌, ◌*◌, ◌^◌, ◌<◌, ◌≤◌, min, List, [], ◌∷◌, ◌++◌, length, take, drop, refl, ap, sym, ◌∙◌, arith, length-take, length-drop, append-nil}
 use Rattle.std.proofs.Math.Seq.{take-add}
 use Rattle.std.proofs.lemmas.List.{take_all, take_at, take_rest}
 use Rattle.std.proofs.lemmas.List.Folds.{concat-append}
@@ -67,16 +68,6 @@ numbered file fits = omega arith
 
 -- ---- a block from a file in one piece
 
--- a prefix that is cut where the list ends
-pub take-min : (n : ℕ) (xs : List ℕ) → take (min (length xs) n) xs ≡ take n xs
-take-min n xs =
-    elim (cases_lt (length xs) n) [
-      | inl lt ↦ take_all (min (length xs) n) xs (omega arith) ∙ sym (take_all n xs (omega arith))
-      | inr le ↦
-          let whole : min (length xs) n ≡ n = omega arith in
-          ap (λ (m : ℕ). take m xs) whole
-    ]
-
 block_of-rest : (file rest : List ℕ) (k number : ℕ) → number ≡ k → rest ≡ drop (BLOCK_SIZE * (number - 1)) file → take BLOCK_SIZE rest ≡ block_of file k
 unfolding block_of
 block_of-rest file rest k number number-is rest-is =
@@ -85,7 +76,7 @@ block_of-rest file rest k number number-is rest-is =
 -- `count` bytes of a rest that begins with the block were copied to the start of a buffer
 pub copied_prefix : (file rest out copied : List ℕ) (k count : ℕ) → count ≡ min (length rest) BLOCK_SIZE → copied ≡ take count rest → take BLOCK_SIZE rest ≡ block_of file k → (count ≡ length (block_of file k)) × (take count (copied ++ out) ≡ block_of file k)
 copied_prefix file rest out copied k count count-is copied-is is_block =
-    let block = ap (λ n. take n rest) count-is ∙ take-min BLOCK_SIZE rest ∙ is_block in
+    let block = ap (λ n. take n rest) count-is ∙ (ap (λ n. take n rest) (min_comm (length rest) BLOCK_SIZE) ∙ take_min BLOCK_SIZE rest) ∙ is_block in
     let size : count ≡ length (take count rest) = omega (arith, length-take count rest) in
     (size ∙ ap length block, take_at copied out count (ap length copied-is ∙ sym size) ∙ copied-is ∙ block)
 

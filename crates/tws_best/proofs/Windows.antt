@@ -1,8 +1,9 @@
 -- The bytes of a block, taken record by record.
-use Rattle.std.proofs.Common.{◌≡◌, ℕ, zero, suc, ◌+◌, ◌-◌, ◌*◌, ◌<◌, ◌≤◌, min, List, [], ◌∷◌, ◌++◌, length, take, drop, get_or, refl, ap, sym, ◌∙◌, arith, inl, inr, append_assoc, append-nil, length-append, length-take, take-append-drop}
-use Rattle.std.proofs.lemmas.Bool.{cases_lt}
+use Rattle.std.proofs.Math.Nat.{min_comm}
+use Rattle.std.proofs.lemmas.List.{take_min}
+use Rattle.std.proofs.Common.{◌≡◌, ℕ, zero, suc, ◌+◌, ◌-◌, ◌*◌, ◌<◌, ◌≤◌, min, List, [], ◌∷◌, ◌++◌, length, take, drop, get_or, refl, ap, sym, ◌∙◌, arith, append_assoc, append-nil, length-append, length-take, take-append-drop}
 use Rattle.std.proofs.lemmas.List.{take_all, take_more, take-append-le, drop-append-le, drop_more}
-use Rattle.std.proofs.Math.Seq.{take-append-add, drop-append-add, take-length}
+use Rattle.std.proofs.Math.Seq.{take-append-add, drop-append-add}
 use Rattle.std.proofs.lemmas.List.Concat.{flat_map-append}
 use Rattle.tftp_packet.specs.Blocks.{block_of}
 use Rattle.tws_best.specs.Best.{body_text}
@@ -16,18 +17,12 @@ take_again zero xs ys = refl
 take_again (suc n) [] ys = refl
 take_again (suc n) (x ∷ xs) ys = ap (λ (zs : List ℕ). x ∷ zs) (take_again n xs ys)
 
-take_min : (n : ℕ) (ys : List ℕ) → take (min (length ys) n) ys ≡ take n ys
-take_min n ys = elim (cases_lt n (length ys)) [
-  | inl lt ↦ (let is : min (length ys) n ≡ n = omega arith in ap (λ k. take k ys) is)
-  | inr le ↦ (let is : min (length ys) n ≡ length ys = omega arith in ap (λ k. take k ys) is ∙ take-length ys ∙ sym (take_all n ys le))
-]
-
 -- there is room for all of xs, and for some of ys
 pub part_pushed : (xs ys : List ℕ) (room count : ℕ) → length xs ≤ 512 → room ≡ 512 - length xs → count ≡ min (length ys) room → xs ++ take count ys ≡ take 512 (xs ++ ys)
 part_pushed xs ys room count fits room-is count-is =
     let whole : length xs + room ≡ 512 = omega arith in
     ap (λ k. xs ++ take k ys) count-is
-    ∙ ap (λ (zs : List ℕ). xs ++ zs) (take_min room ys)
+    ∙ ap (λ (zs : List ℕ). xs ++ zs) (ap (λ n. take n ys) (min_comm (length ys) room) ∙ take_min room ys)
     ∙ sym (take-append-add xs ys room)
     ∙ ap (λ k. take k (xs ++ ys)) whole
 

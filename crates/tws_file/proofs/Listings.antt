@@ -1,5 +1,6 @@
 -- The words of the listing as they are written.
-use Rattle.std.proofs.Common.{◌≡◌, ℕ, ◌+◌, ◌-◌, ◌^◌, ◌<◌, Bool, true, false, ◌&&◌, List, [], ◌∷◌, ◌++◌, length, take, get_or, Option, Result, Ok, Err, MatchOption, MatchResult, IsAscii, IsUtf8, Bor, refl, ap, sym, ◌∙◌, arith}
+use Rattle.std.proofs.lemmas.Bool.{and_parts}
+use Rattle.std.proofs.Common.{◌≡◌, ℕ, ◌+◌, ◌-◌, ◌^◌, ◌<◌, true, false, List, [], ◌∷◌, ◌++◌, length, take, get_or, Option, Result, Ok, Err, MatchOption, MatchResult, IsAscii, IsUtf8, Bor, ap, sym, ◌∙◌, arith}
 use Rattle.std.specs.List.{list_all}
 use Rattle.std.specs.Result.{result_ok}
 use Rattle.std.specs.Char.{is_ascii_alphabetic}
@@ -22,17 +23,13 @@ hex-more bytes i inside fits =
 
 -- ---- letters
 
-and_true : (a b : Bool) → (a && b) ≡ true → (a ≡ true) × (b ≡ true)
-and_true true b e = (refl, e)
-and_true false b e = absurd cc
-
 letter_is_ascii : (b : ℕ) → is_ascii_alphabetic b ≡ true → b < 128
 letter_is_ascii b e = grind (arith, nat_tests)
 
 letters_are_ascii : (bytes : List ℕ) → list_all is_ascii_alphabetic bytes ≡ true → IsAscii bytes
 letters_are_ascii [] e = IsAscii-nil
 letters_are_ascii (b ∷ bytes) e =
-    let parts = and_true (is_ascii_alphabetic b) (list_all is_ascii_alphabetic bytes) e in
+    let parts = and_parts (is_ascii_alphabetic b) (list_all is_ascii_alphabetic bytes) e in
     IsAscii-cons b bytes (letter_is_ascii b parts.0) (letters_are_ascii bytes parts.1)
 
 -- letters are text

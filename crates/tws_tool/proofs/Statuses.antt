@@ -40,10 +40,6 @@ best_ran kind knowns (Err Memory) old new writes fails = record { done = λ e. a
 best_ran kind knowns (Err Socket) old new writes fails = absurd fails
 best_ran kind knowns (Err (Transfer why)) old new writes fails = absurd fails
 
--- no file was read, and nothing was written
-pub none_written : (kind : Ruleset) (knowns : List (Option (List ℕ))) (old : Option (List ℕ)) (e : ToolFault) → IsReadFault e → BestFails kind knowns old old e
-none_written kind knowns old e fault = ⊎_elim (λ (is : e ≡ Read). subst (BestFails kind knowns old old) (sym is) refl) (λ (is : e ≡ Memory). subst (BestFails kind knowns old old) (sym is) (inl refl)) fault
-
 -- ---- by the exit status
 
 status_some : (e : ToolFault) → status_of e ≢ 0
@@ -205,9 +201,6 @@ module _ (old new : Option (List ℕ)) where
         let two = stops_status port (now ≡ kept) (ServerServed port turns kept now) e stops in
         record { done = λ z. absurd (omega (arith, z, two)); failed = λ z. inr (e, stops); few = inr two }
 
-    pub not_served : (status : ℕ) → status ≡ 2 → new ≡ old → now ≡ kept → Served port turns status kept now old new
-    not_served status two same still = record { done = λ z. absurd (omega (arith, z, two)); failed = λ z. inl (same, still); few = inr two }
-
 -- the two servers, from their load on; a load keeps nothing
 module _ (port turns : ℕ) (kept mid now : Option (List Keeping)) (same : mid ≡ kept) where
   pub counted : (first last : Counted) → turns < TURNS → IsFresh port kept first.table → first.last ≡ 0 → first.timers ≡ [] → (taken : ℕ) → MakesTurns turns first last taken None None mid now → ServerServed port turns kept now taken
@@ -217,8 +210,3 @@ module _ (port turns : ℕ) (kept mid now : Option (List Keeping)) (same : mid �
   pub waiting : (first last : Clocked) → TURNS ≤ turns → IsFresh port kept first.table → first.last ≡ 0 → first.timers ≡ [] → (taken : ℕ) → MakesRounds (2 ^ 64 - 1) first last taken None None mid now → ServerServed port turns kept now taken
   waiting first last most fresh unvisited none taken made =
       inr (most, record { first = first; last = last; loaded = fresh; unvisited = unvisited; timers = none; made = subst (λ (k : Option (List Keeping)). MakesRounds (2 ^ 64 - 1) first last taken None None k now) same made })
-
--- a writer that does not tell its contents
-pub unwritten : (P : Type 0) (r : Result (Unit {0}) ToolFault) → IfErr r (Unless P) → answer_status r ≢ 0 → answer_status r ≢ 2 → P
-unwritten P (Ok done) unless a b = absurd (a refl)
-unwritten P (Err e) unless a b = ⊎_elim (λ (w : e ≡ Write). absurd (b (ap status_of w))) (λ rest. ⊎_elim (λ (m : e ≡ Memory). absurd (b (ap status_of m))) (λ p. p) rest) unless

@@ -21,7 +21,3 @@ was_taken (Err (ShortRecord offset)) bytes new enough taken = taken
 was_taken (Err (BadSize offset)) bytes new enough taken = taken
 was_taken (Err (MoveCut place)) bytes new enough taken = taken
 was_taken (Err Memory) bytes new enough taken = absurd (enough refl)
-
--- what is known about a result that is not an error
-pub at_ok : {T E P : Type 0} (r : Result T E) (x : T) → r ≡ Ok x → OnOk r P → P
-at_ok {T} {E} {P} r x e p = subst (λ (q : Result T E). OnOk q P) e p
