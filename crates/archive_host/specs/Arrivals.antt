@@ -3,27 +3,27 @@ use Rattle.std.specs.Prelude.{ℕ, nat_lt, Bool, true, false, ◌&&◌, ◌||◌
 use Rattle.std.specs.List.{remove}
 use Rattle.archive_turns.specs.Noted.{lesser}
 use Rattle.archive_host.specs.declared.open_port.OpenPort.{OpenPort}
-use Rattle.archive_host.specs.declared.arrival.Arrival.{Arrival}
-use Rattle.archive_host.specs.declared.arrival.Arrival.TheVariants.{Nothing, Perhaps, Reported}
+use Rattle.archive_host.specs.declared.unread.Unread.{Unread}
+use Rattle.archive_host.specs.declared.unread.Unread.TheVariants.{Nothing, Perhaps, Reported}
 
-abbrev pub is_reported : Arrival → Bool
+abbrev pub is_reported : Unread → Bool
 is_reported Nothing = false
 is_reported Perhaps = false
 is_reported Reported = true
 
-abbrev pub may_have_more : Arrival → Bool
+abbrev pub may_have_more : Unread → Bool
 may_have_more Nothing = false
 may_have_more Perhaps = true
 may_have_more Reported = true
 
-abbrev pub marked : Arrival → Arrival
+abbrev pub marked : Unread → Unread
 marked Nothing = Nothing
 marked Perhaps = Reported
 marked Reported = Reported
 
 -- a port that was read is marked as ready again
 abbrev pub marked_read : OpenPort → OpenPort
-marked_read o = record o { arrival = marked o.arrival }
+marked_read o = record o { unread = marked o.unread }
 
 abbrev pub lesser_if : Bool → Option ℕ → ℕ → Option ℕ
 lesser_if true least port = lesser least port
@@ -31,15 +31,15 @@ lesser_if false least port = least
 
 -- the least ready port, and the least one above `after`
 abbrev pub ready_least : List OpenPort → Option ℕ
-ready_least ports = fold (λ least o. lesser_if (is_reported o.arrival) least o.port) None ports
+ready_least ports = fold (λ least o. lesser_if (is_reported o.unread) least o.port) None ports
 
 abbrev pub ready_above : (after : ℕ) → List OpenPort → Option ℕ
 ready_above after ports =
-    fold (λ least o. lesser_if (is_reported o.arrival && nat_lt after o.port) least o.port) None ports
+    fold (λ least o. lesser_if (is_reported o.unread && nat_lt after o.port) least o.port) None ports
 
 -- whether one of the ports may have a datagram that was not read
 abbrev pub one_may_have_more : List OpenPort → Bool
-one_may_have_more ports = fold (λ found o. may_have_more o.arrival || found) false ports
+one_may_have_more ports = fold (λ found o. may_have_more o.unread || found) false ports
 
 -- the port with this number is no longer open, or there was none
 abbrev pub Closes : (port : ℕ) (was_open : Bool) (old new : List OpenPort) → Type 0

@@ -65,7 +65,7 @@ impl<R: Files + AllocGlobal + Copy> DirKeeper<R> {
     }
 
     // Counts a fault if the device failed.
-    fn count(&mut self, fault: KeepFault)
+    fn count_failure(&mut self, fault: KeepFault)
         ensures more { self.old.failures ≤ self.new.failures }
         ensures device { fault ≡ KeepFault.Device → FailsAt self.old.failures self.new.failures }
     {
@@ -145,7 +145,7 @@ impl<R: Files + AllocGlobal + Copy> Keeper for DirKeeper<R> {
         match self.keep_in(kind, collection) {
             Ok(()) => Ok(()),
             Err(fault) => {
-                self.count(fault);
+                self.count_failure(fault);
                 Err(fault)
             }
         }
@@ -159,7 +159,7 @@ impl<R: Files + AllocGlobal + Copy> Keeper for DirKeeper<R> {
         match self.load_from(alloc, kind) {
             Ok(text) => Ok(text),
             Err(fault) => {
-                self.count(fault);
+                self.count_failure(fault);
                 Err(fault)
             }
         }

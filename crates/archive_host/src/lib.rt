@@ -7,12 +7,12 @@
 //! is called.
 #![tactic(auto)]
 
-mod arrival;
 mod dir_keeper;
 mod open_port;
 mod open_ports;
 mod port_range;
 mod udp_wire;
+mod unread;
 mod watch;
 
 pub use dir_keeper::DirKeeper;

@@ -1,8 +1,8 @@
 ghost use Rattle.std.specs.Prelude.{◌≡◌, ◌≤◌, IfOk, OnErr, IfSome, IfNone};
-ghost use Rattle.archive_host.specs.declared.arrival.Arrival.TheVariants.{Nothing, Perhaps, Reported};
+ghost use Rattle.archive_host.specs.declared.unread.Unread.TheVariants.{Nothing, Perhaps, Reported};
 ghost use Rattle.archive_host.specs.Arrivals.{is_reported, may_have_more, marked_read};
 
-use crate::arrival::Arrival;
+use crate::unread::Unread;
 use archive_turns::RECEIVE_SIZE;
 use mio::net::UdpSocket;
 use mio::{Interest, Poll, Token};
@@ -16,7 +16,7 @@ use tftp_packet::{Endpoint, Out};
 pub(crate) struct OpenPort {
     port: u16,
     socket: UdpSocket,
-    arrival: Arrival,
+    unread: Unread,
 }
 
 impl OpenPort {
@@ -36,7 +36,7 @@ impl OpenPort {
         Ok(OpenPort {
             port,
             socket,
-            arrival: Arrival::Nothing,
+            unread: Unread::Nothing,
         })
     }
 
@@ -49,28 +49,28 @@ impl OpenPort {
 
     /// Whether a datagram was reported and none has been read since.
     pub(crate) fn is_ready(&self) -> bool
-        ensures { result ≡ is_reported self.now.arrival }
+        ensures { result ≡ is_reported self.now.unread }
     {
-        match self.arrival {
-            Arrival::Reported => true,
-            Arrival::Nothing | Arrival::Perhaps => false,
+        match self.unread {
+            Unread::Reported => true,
+            Unread::Nothing | Unread::Perhaps => false,
         }
     }
 
     /// Notes that a datagram was reported.
     pub(crate) fn mark(&mut self)
-        ensures { self.new ≡ record self.old { arrival = Reported } }
+        ensures { self.new ≡ record self.old { unread = Reported } }
     {
-        self.arrival = Arrival::Reported;
+        self.unread = Unread::Reported;
     }
 
     /// Whether there may be a datagram that was not read.
     pub(crate) fn may_have_more(&self) -> bool
-        ensures { result ≡ may_have_more self.now.arrival }
+        ensures { result ≡ may_have_more self.now.unread }
     {
-        match self.arrival {
-            Arrival::Reported | Arrival::Perhaps => true,
-            Arrival::Nothing => false,
+        match self.unread {
+            Unread::Reported | Unread::Perhaps => true,
+            Unread::Nothing => false,
         }
     }
 
@@ -78,8 +78,8 @@ impl OpenPort {
     pub(crate) fn mark_read(&mut self)
         ensures { self.new ≡ marked_read self.old }
     {
-        if let Arrival::Perhaps = self.arrival {
-            self.arrival = Arrival::Reported;
+        if let Unread::Perhaps = self.unread {
+            self.unread = Unread::Reported;
         }
     }
 
@@ -95,13 +95,13 @@ impl OpenPort {
     ) -> io::Result<Option<(usize, Endpoint)>>
         ensures count { IfOk result (λ got. IfSome got (λ g. g.0 ≤ RECEIVE_SIZE)) }
         ensures port { self.new.port ≡ self.old.port }
-        ensures came { IfOk result (λ got. IfSome got (λ _. self.new.arrival ≡ Perhaps)) }
-        ensures nothing { IfOk result (λ got. IfNone got (self.new.arrival ≡ Nothing)) }
-        ensures failed { OnErr result (self.new.arrival ≡ self.old.arrival) }
+        ensures came { IfOk result (λ got. IfSome got (λ _. self.new.unread ≡ Perhaps)) }
+        ensures nothing { IfOk result (λ got. IfNone got (self.new.unread ≡ Nothing)) }
+        ensures failed { OnErr result (self.new.unread ≡ self.old.unread) }
     {
         match self.socket.recv_from(&mut buffer[..]) {
             Ok((count, SocketAddr::V4(from))) => {
-                self.arrival = Arrival::Perhaps;
+                self.unread = Unread::Perhaps;
                 let host = from.ip().to_bits();
                 let port = from.port();
                 Ok(Some((count, Endpoint { host, port })))
@@ -109,7 +109,7 @@ impl OpenPort {
             Ok(_) => Err(io::Error::from(ErrorKind::InvalidData)),
             Err(e) => {
                 if e.kind() == ErrorKind::WouldBlock {
-                    self.arrival = Arrival::Nothing;
+                    self.unread = Unread::Nothing;
                     Ok(None)
                 } else {
                     Err(e)

@@ -4,9 +4,6 @@ ghost use Rattle.archive_host.specs.declared.port_range.TheConstants.{FIRST};
 // The least port for private use, RFC 6335 section 6. The greatest is 65535.
 const FIRST: u16 = 49152;
 
-// The number of ports in the range.
-const COUNT: u16 = 16384;
-
 /// The ports for private use, 49152 to 65535, in turn: each is taken again only after all the others.
 #[derive(Drop)]
 pub(crate) struct PortRange {
@@ -16,14 +13,14 @@ pub(crate) struct PortRange {
 
 impl PortRange {
     /// The number of ports in the range.
-    pub(crate) const LEN: u16 = COUNT;
+    pub(crate) const LEN: u16 = 16_384;
 
     /// Returns the ports from this place on. After the last place the range starts over.
     pub(crate) fn from_place(place: u32) -> Self
-        ensures { result.next ≡ FIRST + place % COUNT }
+        ensures { result.next ≡ FIRST + place % Self.LEN }
     {
         PortRange {
-            next: FIRST + (place % COUNT as u32) as u16,
+            next: FIRST + (place % u32::from(Self::LEN)) as u16,
         }
     }
 

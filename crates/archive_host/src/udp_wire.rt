@@ -86,7 +86,7 @@ impl<R: Net + Clock + AllocGlobal + Copy> UdpWire<R> {
     }
 
     // Counts a failure.
-    fn rise(&mut self)
+    fn count_failure(&mut self)
         ensures { FailsAt self.old.failures self.new.failures }
     {
         if self.failures < u64::MAX {
@@ -237,7 +237,7 @@ impl<R: Net + Clock + AllocGlobal + Copy> Wire for UdpWire<R> {
         match self.open_next() {
             Some(port) => Ok(port),
             None => {
-                self.rise();
+                self.count_failure();
                 Err(WireFault::Open)
             }
         }
@@ -247,7 +247,7 @@ impl<R: Net + Clock + AllocGlobal + Copy> Wire for UdpWire<R> {
         if self.ports.close(port) {
             Ok(())
         } else {
-            self.rise();
+            self.count_failure();
             Err(WireFault::Close)
         }
     }
@@ -266,7 +266,7 @@ impl<R: Net + Clock + AllocGlobal + Copy> Wire for UdpWire<R> {
         match got {
             Ok(got) => Ok(got),
             Err(_) => {
-                self.rise();
+                self.count_failure();
                 Err(WireFault::Receive)
             }
         }
@@ -280,7 +280,7 @@ impl<R: Net + Clock + AllocGlobal + Copy> Wire for UdpWire<R> {
         if sent {
             Ok(())
         } else {
-            self.rise();
+            self.count_failure();
             Err(WireFault::Send)
         }
     }

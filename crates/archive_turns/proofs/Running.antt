@@ -13,7 +13,7 @@ use Rattle.archive_turns.specs.declared.run_fault.RunFault.{RunFault}
 use Rattle.archive_turns.specs.declared.run_fault.RunFault.TheVariants as fails
 use Rattle.archive_turns.specs.Wire.{Entry, opened, closed, came, quiet, failed, sent, Grows}
 use Rattle.archive_turns.specs.Turn.{Replies, datagram, nothing, fault}
-use Rattle.archive_turns.specs.Run.{Run, Begun, Begins, is_long, begin_sized, begin_started, run_heard, run_quiet, run_received, MakesRan, MakesRunTurn, none, more, MakesRunTurns, MakesSome}
+use Rattle.archive_turns.specs.Run.{Run, Begun, Begins, is_long, begin_sized, begin_started, run_heard, run_quiet, run_received, MakesRan, MakesRunTurn, none, more, MakesSome}
 use Rattle.archive_turns.proofs.Log.{grows_none, grows_join}
 
 abbrev replies : (send_done close_done : Bool) → Replies

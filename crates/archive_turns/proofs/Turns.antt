@@ -5,12 +5,11 @@ use Rattle.archive_table.specs.declared.limits.TheConstants.{LIVE}
 use Rattle.archive_table.specs.Server.{Server, IsServer, Merges, port_above}
 use Rattle.archive_table.specs.Keeper.{Keeping}
 use Rattle.archive_turns.specs.declared.change.Change.{Change}
-use Rattle.archive_turns.specs.declared.change.Change.TheVariants.{Quiet, Nothing, Opened, Sent, Closed}
-use Rattle.archive_turns.specs.declared.limits.TheConstants.{QUIET_TURNS}
+use Rattle.archive_turns.specs.declared.change.Change.TheVariants.{Quiet}
 use Rattle.archive_turns.specs.declared.timer.Timer.{Timer}
 use Rattle.archive_turns.specs.Wire.{Entry}
-use Rattle.archive_turns.specs.Timers.{ports_of, live_ports, lower, due_ports, timed, HasRoom}
-use Rattle.archive_turns.specs.Parts.{IsVisit, Walks, Ends}
+use Rattle.archive_turns.specs.Timers.{ports_of, live_ports, lower, timed, HasRoom}
+use Rattle.archive_turns.specs.Parts.{IsVisit, Ends}
 use Rattle.archive_turns.specs.Turn.{Answers, Visited, visit_at, visit_asks, KeepsAsked, next_visit, Counted, IsTurn, MakesTurn, MakesTurns, none, more, count_if, noted, turn_visited}
 use Rattle.archive_turns.proofs.Log.{grows_none, grows_join}
 use Rattle.archive_turns.proofs.Ports.{ports_lower}

@@ -1,4 +1,5 @@
 ghost use Rattle.std.specs.Prelude.{◌≤◌, length};
+ghost use Rattle.archive_turns.specs.declared.wire.TheConstants.{RECEIVE_SIZE};
 
 use std::alloc::{Allocator, Global};
 use tftp_packet::Endpoint;
@@ -11,5 +12,5 @@ pub(crate) struct Arrival<A: Allocator = Global> {
     pub(crate) port: u16,
     pub(crate) from: Endpoint,
     pub(crate) bytes: Bytes<A>,
-    ghost short: { length bytes ≤ 517 },
+    ghost short: { length bytes ≤ RECEIVE_SIZE },
 }

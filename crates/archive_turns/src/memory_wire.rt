@@ -137,7 +137,7 @@ fn take_first<A: Allocator>(inbox: &mut Vec<Arrival<A>, A>, port: u16) -> Option
 
 impl<A: Allocator> MemoryWire<A> {
     // Counts a call. Returns whether it is to fail.
-    fn is_failing(&mut self) -> bool
+    fn count_call(&mut self) -> bool
         ensures result { result ≡ (self.old.fails_in == 1) }
         ensures left { self.new ≡ counts_call self.old }
     {
@@ -149,7 +149,7 @@ impl<A: Allocator> MemoryWire<A> {
     }
 
     // Counts a failure.
-    fn rise(&mut self)
+    fn count_failure(&mut self)
         ensures { self.new ≡ rises self.old }
     {
         if self.failures < u64::MAX {
@@ -181,7 +181,7 @@ impl<A: Allocator> MemoryWire<A> {
         if self.note(Entry::Quiet(port)) {
             return Ok(None);
         }
-        self.rise();
+        self.count_failure();
         Err(WireFault::Receive)
     }
 
@@ -207,7 +207,7 @@ impl<A: Allocator> MemoryWire<A> {
         if self.note(Entry::Came { port, from, bytes }) {
             return Ok(Some((count, from)));
         }
-        self.rise();
+        self.count_failure();
         Err(WireFault::Receive)
     }
 }
@@ -228,7 +228,7 @@ impl<A: Allocator> Wire for MemoryWire<A> {
         ensures failed { OnErr result (FailsAt self.old.failures self.new.failures) }
         ensures steady { OnOk result (self.new.failures ≡ self.old.failures) }
     {
-        let port = if self.is_failing() {
+        let port = if self.count_call() {
             None
         } else {
             take_next(&mut self.opens)
@@ -238,7 +238,7 @@ impl<A: Allocator> Wire for MemoryWire<A> {
                 return Ok(port);
             }
         }
-        self.rise();
+        self.count_failure();
         Err(WireFault::Open)
     }
 
@@ -251,11 +251,11 @@ impl<A: Allocator> Wire for MemoryWire<A> {
         ensures failed { OnErr result (FailsAt self.old.failures self.new.failures) }
         ensures steady { OnOk result (self.new.failures ≡ self.old.failures) }
     {
-        let ok = !self.is_failing();
+        let ok = !self.count_call();
         if self.note(Entry::Closed(port, ok)) && ok {
             return Ok(());
         }
-        self.rise();
+        self.count_failure();
         Err(WireFault::Close)
     }
 
@@ -273,9 +273,9 @@ impl<A: Allocator> Wire for MemoryWire<A> {
         ensures failed { OnErr result (FailsAt self.old.failures self.new.failures) }
         ensures steady { OnOk result (self.new.failures ≡ self.old.failures) }
     {
-        if self.is_failing() {
+        if self.count_call() {
             self.note(Entry::Failed(port));
-            self.rise();
+            self.count_failure();
             return Err(WireFault::Receive);
         }
         match take_first(&mut self.inbox, port) {
@@ -293,14 +293,14 @@ impl<A: Allocator> Wire for MemoryWire<A> {
         ensures failed { OnErr result (FailsAt self.old.failures self.new.failures) }
         ensures steady { OnOk result (self.new.failures ≡ self.old.failures) }
     {
-        let ok = !self.is_failing();
+        let ok = !self.count_call();
         let Ok(out) = out.clone() else {
             unreachable!();
         };
         if self.note(Entry::Sent { out, ok }) && ok {
             return Ok(());
         }
-        self.rise();
+        self.count_failure();
         Err(WireFault::Send)
     }
 

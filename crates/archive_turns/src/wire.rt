@@ -3,11 +3,11 @@ ghost use Rattle.archive_table.specs.Keeper.{FailsAt};
 ghost use Rattle.archive_turns.specs.Wire.{Entry, Grows, opened, closed, sent, port_opened, was_done, received};
 
 use crate::wire_fault::WireFault;
-use tftp_packet::{Endpoint, Out};
+use tftp_packet::{Endpoint, MAX_DATAGRAM, Out};
 
 /// How many bytes of a datagram `receive` takes: one more than any packet has, so that a longer datagram can be
 /// recognised.
-pub const RECEIVE_SIZE: usize = 517;
+pub const RECEIVE_SIZE: usize = MAX_DATAGRAM + 1;
 
 /// Sends and receives datagrams: UDP ports on this host.
 pub trait Wire {

@@ -5,11 +5,11 @@ use Rattle.tws_file.specs.declared.«ruleset».Ruleset.{Ruleset}
 use Rattle.tws_file.specs.Text.{File}
 use Rattle.tws_tool.specs.declared.tool_fault.ToolFault.{ToolFault}
 use Rattle.tws_tool.specs.declared.tool_fault.ToolFault.TheVariants.{Read, Write, Unreadable, Memory, Socket, Transfer}
-use Rattle.tws_tool.specs.Faults.{IsReadFault, IsReadOut, answer_status, status_of}
+use Rattle.tws_tool.specs.Faults.{IsReadOut, answer_status, status_of}
 use Rattle.tftp_packet.specs.declared.endpoint.Endpoint.{Endpoint}
 use Rattle.archive_turns.specs.Wire.{Entry}
 use Rattle.tws_tool.specs.Address.{IsAddress}
-use Rattle.tws_tool.specs.Lines.{LineFails, Says, Transfers, Unless, Unsaid, got_line, sent_line, serving_line, taken_line}
+use Rattle.tws_tool.specs.Lines.{LineFails, Says, Transfers, Unsaid, got_line, sent_line, serving_line, taken_line}
 use Rattle.archive_table.specs.Keeper.{Keeping}
 use Rattle.tws_tool.specs.Inputs.{IsUnreadable}
 use Rattle.archive_turns.specs.Turn.{Counted, MakesTurns}

@@ -1,5 +1,5 @@
 -- One more piece of an input is taken.
-use Rattle.std.proofs.Common.{◌≡◌, OnOk, subst, ◌≢◌, ℕ, List, ◌++◌, Option, Some, None, Result, Ok, Err, refl, ap, ◌∙◌, sym, append_assoc}
+use Rattle.std.proofs.Common.{◌≢◌, ℕ, List, ◌++◌, Option, Some, None, Result, Ok, Err, refl, ap, ◌∙◌, sym, append_assoc}
 use Rattle.std.specs.Io.KnownBytes.{Consumes}
 use Rattle.tws_file.specs.declared.file_fault.FileFault.{FileFault}
 use Rattle.tws_file.specs.declared.file_fault.FileFault.TheVariants.{ShortHeader, BadSignature, BadRuleset, ShortRecord, BadSize, MoveCut, Memory}

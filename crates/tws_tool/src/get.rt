@@ -5,7 +5,7 @@ ghost use Rattle.tws_tool.specs.Lines.{Unless};
 ghost use Rattle.tws_tool.specs.Archiving.{Gets, GetFails};
 
 use crate::limits::TURNS;
-use crate::line::say;
+use crate::line::write_line;
 use crate::tool_fault::ToolFault;
 use archive_turns::{Wire, run_get};
 use std::alloc::Global;
@@ -34,5 +34,5 @@ pub fn get_file<N: Wire, F: Write, W: Write>(
     ensures unwritten { IfErr result (Unless (out.new ≡ out.old)) }
 {
     let len = run_get(alloc, wire, server, kind, TURNS, file)?;
-    say(alloc, "got ", len, " bytes", out)
+    write_line(alloc, "got ", len, " bytes", out)
 }

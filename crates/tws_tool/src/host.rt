@@ -13,9 +13,10 @@ use crate::address::Address;
 use crate::file_system::FileSystem;
 use crate::get::get_file;
 use crate::limits::TURNS;
-use crate::program::{USAGE, finish};
+use crate::program::finish;
 use crate::put::put_file;
 use crate::serve::{serve_counted, serve_waiting};
+use crate::status::{FAILED, USAGE};
 use crate::target::Target;
 use crate::tool_fault::ToolFault;
 use archive_host::UdpWire;
@@ -28,8 +29,6 @@ use std::slice;
 use std::time::Clock;
 use tftp_packet::Endpoint;
 use tws_file::Ruleset;
-
-const FAILED: u8 = 2;
 
 // Reports a malformed address, and returns the status.
 fn bad_address<E: Write>(errors: &mut E) -> u8

@@ -37,6 +37,7 @@ mod program;
 mod put;
 mod serve;
 mod show;
+mod status;
 mod target;
 mod tool_fault;
 

@@ -22,7 +22,7 @@ fn push_line(text: &mut String, before: &str, number: u64, after: &str) -> Resul
 ///
 /// `Write` if the writer fails: a proper prefix of the line was written. `Memory` if out of memory for the line:
 /// nothing was written.
-pub(crate) fn say<W: Write>(
+pub(crate) fn write_line<W: Write>(
     alloc: Global,
     before: &str,
     number: u64,

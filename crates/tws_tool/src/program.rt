@@ -17,6 +17,7 @@ use crate::host;
 use crate::job::{Job, JobFault, job_of};
 use crate::pack::run_pack;
 use crate::show::run_show;
+use crate::status::{DONE, USAGE};
 use crate::tool_fault::ToolFault;
 use archive_host::{DirKeeper, UdpWire};
 use archive_table::NoKeeper;
@@ -28,10 +29,6 @@ use std::net::Net;
 use std::rt::Files;
 use std::time::Clock;
 use tws_file::Ruleset;
-
-const DONE: u8 = 0;
-
-pub(crate) const USAGE: u8 = 1;
 
 // Reports why a command failed, and returns the status. `names` are the names of its inputs; an input without a name is
 // standard input.

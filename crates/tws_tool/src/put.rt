@@ -12,7 +12,7 @@ ghost use Rattle.tws_tool.specs.Archiving.{IsWhole, PutFails, PutRuns, Puts};
 
 use crate::input::INPUT_READS;
 use crate::limits::TURNS;
-use crate::line::say;
+use crate::line::write_line;
 use crate::tool_fault::ToolFault;
 use archive_turns::{RunFault, Wire, run_put};
 use std::alloc::Global;
@@ -78,5 +78,5 @@ pub fn put_file<R: Read, N: Wire, W: Write>(
 {
     let bytes = read_whole(alloc, input)?;
     let len = run_put(wire, server, bytes, TURNS)?;
-    say(alloc, "sent ", len, " bytes", out)
+    write_line(alloc, "sent ", len, " bytes", out)
 }

@@ -5,7 +5,7 @@ ghost use Rattle.tws_tool.specs.Serving.{Serves, ServeFails};
 ghost use Rattle.archive_turns.specs.Ready.{MakesRounds};
 ghost use Rattle.archive_turns.specs.Turn.{MakesTurns};
 
-use crate::line::say;
+use crate::line::write_line;
 use crate::tool_fault::ToolFault;
 use archive_table::Keeper;
 use archive_turns::{ReadyServer, ReadyWire, Server, Wire, serve_ready, serve_turns};
@@ -30,9 +30,9 @@ pub fn serve_counted<N: Wire, K: Keeper, W: Write>(
     ensures served { OnOk result (Serves port (λ taken. MakesTurns turns server.old server.new taken (N.log wire.old) (N.log wire.new) (K.log keeper.old) (K.log keeper.new)) (W.contents out.old) (W.contents out.new)) }
     ensures fails { IfErr result (ServeFails port ((server.new ≡ server.old) × (N.log wire.new ≡ N.log wire.old) × (K.log keeper.new ≡ K.log keeper.old)) (λ taken. MakesTurns turns server.old server.new taken (N.log wire.old) (N.log wire.new) (K.log keeper.old) (K.log keeper.new)) (W.contents out.old) (W.contents out.new)) }
 {
-    say(alloc, "serving on port ", port as u64, "", out)?;
+    write_line(alloc, "serving on port ", port as u64, "", out)?;
     let taken = serve_turns(wire, keeper, server, turns);
-    say(alloc, "taken ", taken, "", out)
+    write_line(alloc, "taken ", taken, "", out)
 }
 
 /// The same for a server that waits for ready ports, for this many rounds.
@@ -52,7 +52,7 @@ pub fn serve_waiting<N: ReadyWire, K: Keeper, W: Write>(
     ensures served { OnOk result (Serves port (λ taken. MakesRounds rounds server.old server.new taken (N.log wire.old) (N.log wire.new) (K.log keeper.old) (K.log keeper.new)) (W.contents out.old) (W.contents out.new)) }
     ensures fails { IfErr result (ServeFails port ((server.new ≡ server.old) × (N.log wire.new ≡ N.log wire.old) × (K.log keeper.new ≡ K.log keeper.old)) (λ taken. MakesRounds rounds server.old server.new taken (N.log wire.old) (N.log wire.new) (K.log keeper.old) (K.log keeper.new)) (W.contents out.old) (W.contents out.new)) }
 {
-    say(alloc, "serving on port ", port as u64, "", out)?;
+    write_line(alloc, "serving on port ", port as u64, "", out)?;
     let taken = serve_ready(wire, keeper, server, rounds);
-    say(alloc, "taken ", taken, "", out)
+    write_line(alloc, "taken ", taken, "", out)
 }

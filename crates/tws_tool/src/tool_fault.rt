@@ -2,6 +2,7 @@ ghost use Rattle.std.specs.Prelude.{◌≡◌};
 ghost use Rattle.tws_tool.specs.Faults.{written_fault, input_fault, run_fault, status_of};
 ghost use Rattle.tws_tool.specs.declared.tool_fault.ToolFault.TheVariants.{Memory};
 
+use crate::status::{FAILED, NOT_TRANSFERRED, UNREADABLE};
 use archive_client::Cause;
 use archive_turns::RunFault;
 use std::alloc::{AllocError, AllocFailed};
@@ -52,9 +53,9 @@ impl ToolFault {
         ensures { result ≡ status_of self }
     {
         match self {
-            ToolFault::Read | ToolFault::Write | ToolFault::Memory | ToolFault::Socket => 2,
-            ToolFault::Unreadable { .. } => 3,
-            ToolFault::Transfer(_) => 4,
+            ToolFault::Read | ToolFault::Write | ToolFault::Memory | ToolFault::Socket => FAILED,
+            ToolFault::Unreadable { .. } => UNREADABLE,
+            ToolFault::Transfer(_) => NOT_TRANSFERRED,
         }
     }
 }

@@ -4,4 +4,4 @@ use Rattle.archive_host.proofs.open_ports.OpenPorts.ready_above.Given as goal
 
 abbrev pub invariant-loop-open : goal.invariant-loop-open
 invariant-loop-open l =
-    l.least ≡ fold (λ least o. lesser_if (is_reported o.arrival && nat_lt l.after o.port) least o.port) None (take l.open-index l.open-items)
+    l.least ≡ fold (λ least o. lesser_if (is_reported o.unread && nat_lt l.after o.port) least o.port) None (take l.open-index l.open-items)

@@ -1,6 +1,6 @@
 /// What is known about the unread datagrams at a port. The system reports an arrival only once.
 #[derive(Clone, Copy, Debug, PartialEq, Eq)]
-pub(crate) enum Arrival {
+pub(crate) enum Unread {
     /// There is none that the system has reported.
     Nothing,
     /// One was read since the last report, so there may be more.
