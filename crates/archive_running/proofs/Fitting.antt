@@ -1,6 +1,6 @@
 -- Members that may happen, one after another.
 use Rattle.std.proofs.Common.{◌≡◌, List, [], ◌∷◌, ◌++◌, refl, sym, subst}
-use Rattle.archive_world.specs.World.{Step, World, happens, run_from, AllMayHappen}
+use Rattle.archive_world.specs.World.{World, run_from, AllMayHappen}
 use Rattle.archive_world.specs.Traces.{Member, after_deed, trace_from, member_steps, trace_steps, DeedMerged, AllDeedsMerged}
 use Rattle.archive_world.proofs.Happening.{may-append}
 use Rattle.archive_world.proofs.Tracing.{deed_fits}
