@@ -7,11 +7,11 @@ use Rattle.std.proofs.lemmas.Slice.Eq.{bytes_eq-Decides}
 use Rattle.tftp_packet.specs.declared.endpoint.Endpoint.{Endpoint}
 use Rattle.tftp_packet.specs.Decode.{decode_bytes}
 use Rattle.tftp_ends.specs.Ends.{Verdict, granted, refused}
-use Rattle.archive_table.specs.Server.{Server, Maps, Grant, Taken, Answer, Merges, IsMerged, memory_of, is_same, transfer_at, server_request, server_datagram, server_timeout}
+use Rattle.archive_table.specs.Server.{Server, Maps, Grant, Taken, Answer, Merges, IsMerged, memory_of, is_same, transfer_at, server_request, server_datagram, server_timeout, empty_maps}
 use Rattle.archive_table.specs.Keeper.{Keeping}
 use Rattle.archive_client.specs.Client.{Operation, Client, client_datagram, client_timeout}
 use Rattle.archive_client.specs.Client as client
-use Rattle.archive_world.specs.World.{Datagram, World, server_endpoint, empty_maps, at_endpoint, has_begun, is_too_long, asked_of, taken_with, after_request, after_transfer, after_client, client_hears, client_waits, begins, restarts, strays_in, AllMayHappen, MayDeliver, IsFree}
+use Rattle.archive_world.specs.World.{Datagram, World, server_endpoint, at_endpoint, has_begun, is_too_long, asked_of, taken_with, after_request, after_transfer, after_client, client_hears, client_waits, begins, restarts, strays_in, AllMayHappen, MayDeliver, IsFree}
 use Rattle.archive_world.specs.Traces.{Member, server_waits_long, client_waits_long, starts, loads, is_same_datagram, place_after, place_of, named_in, server_comes, comes, after_deed, delivery, steps_with, member_steps, trace_from, DeedMerged}
 use Rattle.archive_world.proofs.Places.{Has, at-last}
 use Rattle.archive_world.proofs.Endpoints.{same_endpoint}

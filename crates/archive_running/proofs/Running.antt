@@ -6,7 +6,7 @@ use Rattle.std.proofs.lemmas.Map.Steps.{set_value_same}
 use Rattle.tftp_packet.specs.declared.endpoint.Endpoint.{Endpoint}
 use Rattle.tftp_ends.specs.Ends.{Verdict}
 use Rattle.tws_file.specs.declared.«ruleset».Ruleset.TheVariants.{Lynx, Ms}
-use Rattle.archive_table.specs.Server.{Server, Maps}
+use Rattle.archive_table.specs.Server.{Server, Maps, empty_maps}
 use Rattle.archive_table.specs.Keeper.{Keeping}
 use Rattle.archive_client.specs.declared.state.State.{State}
 use Rattle.archive_client.specs.declared.state.State.TheVariants as state
@@ -15,7 +15,7 @@ use Rattle.archive_turns.specs.declared.limits.TheConstants.{QUIET_TURNS}
 use Rattle.archive_turns.specs.Wire.{Entry}
 use Rattle.archive_turns.specs.Turn.{Replies, Receipt, datagram, nothing, fault}
 use Rattle.archive_turns.specs.Run.{Run, IsRunTurn, run_received, run_waited, begin_sized, begin_opened, is_long, put_result, Writes, WritesGot}
-use Rattle.archive_world.specs.World.{Datagram, World, server_endpoint, at_endpoint, is_too_long, start, empty_maps, run_from, AllMayHappen, AllMerged}
+use Rattle.archive_world.specs.World.{Datagram, World, server_endpoint, at_endpoint, is_too_long, start, run_from, AllMayHappen, AllMerged}
 use Rattle.archive_world.specs.Headline.{HasOwnPorts, Headline, SentOnce}
 use Rattle.archive_world.specs.Traces.{Member, starts, loads, trace_from, trace_steps}
 use Rattle.archive_world.specs.Restarts.{AreOwnRules}

@@ -8,7 +8,7 @@ use Rattle.tftp_ends.specs.Ends.{granted}
 use Rattle.tws_file.specs.declared.«ruleset».Ruleset.TheVariants.{Lynx}
 use Rattle.tws_best.specs.Best.{collection_text}
 use Rattle.archive_table.specs.Keeper.{Keeping}
-use Rattle.archive_table.specs.Server.{Merges, all, port_above}
+use Rattle.archive_table.specs.Server.{Merges, all, port_above, empty_maps}
 use Rattle.archive_table.proofs.Merged.{keeps_all}
 use Rattle.archive_client.specs.declared.state.State.TheVariants as state
 use Rattle.archive_client.specs.Client.{Operation, put, get, client_start, request_out, state_of, file_of}
@@ -16,7 +16,7 @@ use Rattle.archive_turns.specs.declared.limits.TheConstants.{QUIET_TURNS}
 use Rattle.archive_turns.specs.Wire.{Entry}
 use Rattle.archive_turns.specs.Turn.{Replies, datagram, Answers, Counted, IsTurn, Visited, KeepsAsked, visit_asks, next_visit, is_quiet, ports_late, turn_visited, noted}
 use Rattle.archive_turns.specs.Run.{Run, RunAnswers, run_turn, begin_opened}
-use Rattle.archive_world.specs.World.{Datagram, server_endpoint, empty_maps, start}
+use Rattle.archive_world.specs.World.{Datagram, server_endpoint, start}
 use Rattle.archive_world.specs.Traces.{Member, starts, trace_from}
 use Rattle.archive_world.specs.Headline.{HasOwnPorts}
 use Rattle.archive_world.proofs.Places.{Has-contains, Has-from_contains}

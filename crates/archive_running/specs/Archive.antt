@@ -6,7 +6,7 @@ use Rattle.std.specs.Map.{lookup, set_value}
 use Rattle.std.specs.Io.KnownBytes.{Appends}
 use Rattle.tftp_packet.specs.declared.endpoint.Endpoint.{Endpoint}
 use Rattle.tws_file.specs.declared.«ruleset».Ruleset.TheVariants.{Lynx, Ms}
-use Rattle.archive_table.specs.Server.{Server, Maps, Taken, port_above}
+use Rattle.archive_table.specs.Server.{Server, Maps, Taken, port_above, empty_maps}
 use Rattle.archive_table.specs.Keeper.{Keeping, LoadedFrom}
 use Rattle.archive_client.specs.declared.state.State.TheVariants as state
 use Rattle.archive_client.specs.Client.{Client, Operation, state_of, file_of}
@@ -14,7 +14,7 @@ use Rattle.archive_turns.specs.Wire.{Entry}
 use Rattle.archive_turns.specs.Turn.{Replies, Counted, IsTurn, next_visit}
 use Rattle.archive_turns.specs.Ready.{Clocked, IsRound, ready_visit}
 use Rattle.archive_turns.specs.Run.{Run, begin_opened, IsRunTurn}
-use Rattle.archive_world.specs.World.{Datagram, Begun, World, server_endpoint, empty_maps, at_endpoint, taken_with, start}
+use Rattle.archive_world.specs.World.{Datagram, Begun, World, server_endpoint, at_endpoint, taken_with, start}
 use Rattle.archive_world.specs.Headline.{HasOwnPorts, IsFinishedGet}
 use Rattle.archive_world.specs.Restarts.{AreAlike}
 use Rattle.archive_world.specs.Traces.{starts, loads, Member, trace_from}

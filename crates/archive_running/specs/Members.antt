@@ -3,11 +3,11 @@
 use Rattle.std.specs.Prelude.{ℕ, ◌==◌, Bool, true, false, nat_le, List, [], ◌∷◌, map, flat_map, Option, None, Some}
 use Rattle.tftp_packet.specs.declared.endpoint.Endpoint.{Endpoint}
 use Rattle.tftp_ends.specs.Ends.{Verdict, granted, refused}
-use Rattle.archive_table.specs.Server.{Server, Maps, Grant, all, no_memory}
+use Rattle.archive_table.specs.Server.{Server, Maps, Grant, all, no_memory, empty_maps}
 use Rattle.archive_turns.specs.Wire.{Entry, opened, closed, came, quiet, failed, sent, waited}
 use Rattle.archive_turns.specs.Turn.{Replies, Receipt, datagram, nothing, fault, Answers, is_usable}
 use Rattle.archive_turns.specs.Run.{Run, RunAnswers}
-use Rattle.archive_world.specs.World.{Datagram, server_endpoint, empty_maps, datagram_of}
+use Rattle.archive_world.specs.World.{Datagram, server_endpoint, datagram_of}
 use Rattle.archive_world.specs.Traces.{Deed, hears, client_waits_long, server_waits_long, Member}
 
 -- ---- what calls of a wire on this host send and receive

@@ -12,7 +12,7 @@ use Rattle.archive_table.specs.declared.keep_fault.KeepFault.TheVariants.{Device
 use Rattle.archive_table.specs.declared.load_fault.LoadFault.{LoadFault}
 use Rattle.archive_table.specs.declared.load_fault.LoadFault.TheVariants.{Keep, Unreadable, WrongRuleset}
 use Rattle.archive_table.specs.declared.load_fault.LoadFault.TheVariants as load
-use Rattle.archive_table.specs.Server.{Maps, Taken, IsJoined, IsMerged, Merges, Grant, all, no_memory, unkept}
+use Rattle.archive_table.specs.Server.{Maps, Server, empty_collection, Taken, IsJoined, IsMerged, Merges, Grant, all, no_memory, unkept}
 
 pub record Keeping : Type 0 where
   pub «ruleset» : Ruleset
@@ -61,13 +61,20 @@ Loads kind (Some log) text = text ≡ last_kept kind log
 
 -- the collection of this ruleset that is loaded from this text, empty if there is none
 abbrev pub IsLoaded : Ruleset → Option (List ℕ) → Collected → Type 0
-IsLoaded kind None c = c ≡ record { «ruleset» = kind; entries = [] }
+IsLoaded kind None c = c ≡ empty_collection kind
 IsLoaded kind (Some bytes) c =
     (file : File) × IsText bytes file × (file.«ruleset» ≡ kind) × (c.«ruleset» ≡ kind) × IsBestOf (Contains (solutions_of file.«ruleset» (file ∷ []))) c.entries
 
 -- the collection that the keeper has
 abbrev pub LoadedFrom : Ruleset → Option (List Keeping) → Collected → Type 0
 LoadedFrom kind log c = (text : Option (List ℕ)) × Loads kind log text × IsLoaded kind text c
+
+-- a server with the collections that the keeper has, and no transfer
+pub record HasLoaded (request : ℕ) (log : Option (List Keeping)) (s : Server) : Type 0 where
+  pub port : s.request ≡ request
+  pub lynx : LoadedFrom Lynx log s.maps.lynx
+  pub ms : LoadedFrom Ms log s.maps.ms
+  pub idle : s.live ≡ []
 
 -- why this text cannot be loaded
 abbrev pub IsMisread : Ruleset → (bytes : List ℕ) → LoadFault → Type 0

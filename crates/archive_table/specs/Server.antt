@@ -55,6 +55,17 @@ pub record Server : Type 0 where
   -- the transfers, a finite map from their ports, in the order of the ports
   pub live : List (ℕ × Transfer)
 
+-- a collection without solutions
+abbrev pub empty_collection : Ruleset → Collected
+empty_collection kind = record { «ruleset» = kind; entries = [] }
+
+abbrev pub empty_maps : Maps
+empty_maps = record { lynx = empty_collection Lynx; ms = empty_collection Ms }
+
+-- a server with empty collections and no transfer
+abbrev pub empty_server : (request : ℕ) → Server
+empty_server request = record { request = request; maps = empty_maps; live = [] }
+
 -- a file that was received whole, and the endpoint that sent it
 pub record Taken : Type 0 where
   pub peer : Endpoint

@@ -1,9 +1,9 @@
 //! The table of a server.
 
 ghost use Rattle.std.specs.Prelude.{◌≡◌, ◌≢◌, ◌≤◌, [], None, Some, Err, IfOk, IfErr, true, length, is_some};
-ghost use Rattle.archive_table.specs.Server.{nothing_told, refuses, opens_if, request_verdict, server_request, server_timeout, transfer_at, has_place, read_asked, read_placed, write_asked, map_of, port_above, IsEnd, IsServer, server_datagram, grant_of, all, unkept, Merges};
+ghost use Rattle.archive_table.specs.Server.{empty_server, nothing_told, refuses, opens_if, request_verdict, server_request, server_timeout, transfer_at, has_place, read_asked, read_placed, write_asked, map_of, port_above, IsEnd, IsServer, server_datagram, grant_of, all, unkept, Merges};
 ghost use Rattle.tftp_packet.specs.Packet.{is_octet as octet_mode};
-ghost use Rattle.archive_table.specs.Keeper.{StepKeeps, LoadedFrom, TableFails, FailsAt};
+ghost use Rattle.archive_table.specs.Keeper.{StepKeeps, HasLoaded, TableFails, FailsAt};
 ghost use Rattle.archive_table.specs.View.{end_of};
 
 mod datagram;
@@ -50,10 +50,7 @@ impl<A: Allocator + Copy> Model for Table<A> {
 impl<A: Allocator + Copy> Table<A> {
     /// Returns a server with this request port, empty collections and no transfer. Does not allocate.
     pub fn new(alloc: A, request: u16) -> Self
-        ensures request { result.request ≡ request }
-        ensures lynx { result.maps.lynx ≡ record { «ruleset» = Ruleset.Lynx; entries = [] } }
-        ensures ms { result.maps.ms ≡ record { «ruleset» = Ruleset.Ms; entries = [] } }
-        ensures live { result.live ≡ [] }
+        ensures server { result ≡ empty_server request }
         ensures fits { IsServer result }
     {
         Table {
@@ -73,10 +70,7 @@ impl<A: Allocator + Copy> Table<A> {
     /// Fails at the first of these, for Lynx and then for MS: the keeper fails; what was kept is not a solution file;
     /// it is a file of the other ruleset. It may run out of memory at any point.
     pub fn load<K: Keeper>(alloc: A, request: u16, keeper: &mut K) -> Result<Self, LoadFault>
-        ensures request { IfOk result (λ t. t.request ≡ request) }
-        ensures lynx { IfOk result (λ t. LoadedFrom Ruleset.Lynx (K.log keeper.old) t.maps.lynx) }
-        ensures ms { IfOk result (λ t. LoadedFrom Ruleset.Ms (K.log keeper.old) t.maps.ms) }
-        ensures live { IfOk result (λ t. t.live ≡ []) }
+        ensures loaded { IfOk result (HasLoaded request (K.log keeper.old)) }
         ensures fault { IfErr result (TableFails (K.log keeper.old)) }
         ensures log { K.log keeper.new ≡ K.log keeper.old }
         ensures failed { result ≡ Err (LoadFault.Keep KeepFault.Device) → FailsAt (K.failed keeper.old) (K.failed keeper.new) }

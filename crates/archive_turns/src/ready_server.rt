@@ -1,9 +1,8 @@
 //! The server that waits for ready ports.
 
 ghost use Rattle.std.specs.Prelude.{◌≡◌, Err, IfOk, IfErr, ◌==◌, []};
-ghost use Rattle.tws_file.specs.declared.«ruleset».Ruleset.TheVariants.{Lynx, Ms};
-ghost use Rattle.archive_table.specs.Server.{IsServer};
-ghost use Rattle.archive_table.specs.Keeper.{LoadedFrom, TableFails, FailsAt};
+ghost use Rattle.archive_table.specs.Server.{empty_server, IsServer};
+ghost use Rattle.archive_table.specs.Keeper.{HasLoaded, TableFails, FailsAt};
 ghost use Rattle.archive_turns.specs.Timers.{ports_of, live_ports, due_ports, timed, HasRoom, Tracks};
 ghost use Rattle.archive_turns.specs.Parts.{IsVisit, Walks};
 ghost use Rattle.archive_turns.specs.Ready.{MakesRound, ready_visit, ready_asks, port_visit, port_asks, noted_or, deadline};
@@ -120,12 +119,7 @@ impl<A: Allocator + Copy> ReadyServer<A> {
     /// Returns a server with this request port, empty collections and no transfer, which has visited no port yet. Does
     /// not allocate.
     pub fn new(alloc: A, request: u16) -> Self
-        ensures request { result.table.request ≡ request }
-        ensures lynx { result.table.maps.lynx ≡ record { «ruleset» = Lynx; entries = [] } }
-        ensures ms { result.table.maps.ms ≡ record { «ruleset» = Ms; entries = [] } }
-        ensures live { result.table.live ≡ [] }
-        ensures last { result.last ≡ 0 }
-        ensures timers { result.timers ≡ [] }
+        ensures { result ≡ record { table = empty_server request; last = 0; timers = [] } }
     {
         Self::of(Table::new(alloc, request))
     }
@@ -137,12 +131,8 @@ impl<A: Allocator + Copy> ReadyServer<A> {
     ///
     /// Those of `Table::load`.
     pub fn load<K: Keeper>(alloc: A, request: u16, keeper: &mut K) -> Result<Self, LoadFault>
-        ensures request { IfOk result (λ s. s.table.request ≡ request) }
-        ensures lynx { IfOk result (λ s. LoadedFrom Lynx (K.log keeper.old) s.table.maps.lynx) }
-        ensures ms { IfOk result (λ s. LoadedFrom Ms (K.log keeper.old) s.table.maps.ms) }
-        ensures live { IfOk result (λ s. s.table.live ≡ []) }
-        ensures last { IfOk result (λ s. s.last ≡ 0) }
-        ensures timers { IfOk result (λ s. s.timers ≡ []) }
+        ensures loaded { IfOk result (λ s. HasLoaded request (K.log keeper.old) s.table) }
+        ensures fresh { IfOk result (λ s. s ≡ record { table = s.table; last = 0; timers = [] }) }
         ensures fault { IfErr result (TableFails (K.log keeper.old)) }
         ensures log { K.log keeper.new ≡ K.log keeper.old }
         ensures failed { result ≡ Err (LoadFault.Keep KeepFault.Device) → FailsAt (K.failed keeper.old) (K.failed keeper.new) }

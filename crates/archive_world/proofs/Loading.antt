@@ -7,12 +7,11 @@ use Rattle.tws_file.proofs.Faults.{text_without_fault}
 use Rattle.tws_file.proofs.FileText.{one_file}
 use Rattle.tws_best.specs.Best.{Collected, IsCollected, collection_text}
 use Rattle.tws_best.proofs.Texts.{file_from, is_text, file_rules, read_back}
-use Rattle.archive_table.specs.Server.{Maps, Taken, Grant, all, no_memory, unkept}
+use Rattle.archive_table.specs.Server.{Maps, Taken, Grant, all, no_memory, unkept, empty_maps}
 use Rattle.archive_table.specs.Keeper.{Keeping, keeping, same_kind, later_or, last_kept, IsLoaded, LoadedFrom, KeepsOne, KeepsMaps, RefusesKeep, FailsKeep, FailsKeepOf, IsMisread, FailsToLoad}
 use Rattle.archive_table.specs.declared.load_fault.LoadFault.{LoadFault}
 use Rattle.archive_table.specs.declared.load_fault.LoadFault.TheVariants.{Keep, Unreadable, WrongRuleset}
 use Rattle.archive_table.specs.declared.load_fault.LoadFault.TheVariants as load
-use Rattle.archive_world.specs.World.{empty_maps}
 use Rattle.archive_world.specs.Restarts.{IsTextAt, HasKept, AreOwnRules, StepStaysKept, LoadsTheSame, IsOutside, FailsOutside}
 
 -- ---- one more in the list

@@ -11,8 +11,7 @@ use Rattle.tws_best.specs.Best.{Entry, Collected, IsCollected, collection_text, 
 use Rattle.tws_best.specs.Choice.{best_of}
 use Rattle.tws_best.proofs.Choices.{best_of_is}
 use Rattle.tws_best.proofs.Texts.{file_from, is_text, file_solves, file_rules}
-use Rattle.archive_table.specs.Server.{Maps, IsJoined, JoinsOwn, IsMerged}
-use Rattle.archive_world.specs.World.{empty_maps}
+use Rattle.archive_table.specs.Server.{Maps, IsJoined, JoinsOwn, IsMerged, empty_maps}
 use Rattle.archive_world.specs.Samples.{sample_file, sample_entry, sample_maps}
 
 -- ---- the text of a Lynx collection

@@ -1,9 +1,9 @@
 -- What a call of the machine does to its world, given what the call of the table or of the client returned.
-use Rattle.std.specs.Prelude.{◌≡◌, List, [], Option, Some, Result, Ok, Err, OnOk}
+use Rattle.std.specs.Prelude.{◌≡◌, ℕ, List, [], Option, Some, Result, Ok, Err, OnOk}
 use Rattle.std.proofs.Common.{sym, ap, subst, ◌∙◌}
-use Rattle.archive_table.specs.Server.{Server, Told, Taken, Grant, all, Merges, server_datagram}
+use Rattle.archive_table.specs.Server.{Server, Transfer, Told, Taken, Grant, all, Merges, server_datagram}
 use Rattle.archive_table.specs.Server as table
-use Rattle.archive_table.specs.Keeper.{Keeping, StepKeeps, LoadedFrom}
+use Rattle.archive_table.specs.Keeper.{HasLoaded, Keeping, StepKeeps, LoadedFrom}
 use Rattle.tws_best.specs.Best.{Collected, IsCollected}
 use Rattle.tws_file.specs.declared.«ruleset».Ruleset.TheVariants.{Lynx, Ms}
 use Rattle.archive_world.specs.Restarts.{HasKept}
@@ -46,10 +46,12 @@ restarts-same log old new kept lynx ms from-lynx from-ms is =
     ∙ ap (λ (c : Collected). record old { server = record { request = old.server.request; maps = record { lynx = old.server.maps.lynx; ms = c }; live = [] } }) same.1
 
 -- the same for a call that may fail, and for a keeper that may tell its list
-pub restarted : {T E : Type 0} (r : Result T E) (old new : World) (told : Option (List Keeping)) → OnOk r (LoadedFrom Lynx told new.server.maps.lynx) → OnOk r (LoadedFrom Ms told new.server.maps.ms) → OnOk r (new ≡ record old { server = record { request = old.server.request; maps = new.server.maps; live = [] } }) → OnOk r ((log : List Keeping) → told ≡ Some log → HasKept log old.server.maps → IsCollected old.server.maps.lynx → IsCollected old.server.maps.ms → new ≡ restarts old)
-restarted (Ok x) old new told from-lynx from-ms is = λ log tells kept lynx ms.
+pub restarted : {T E : Type 0} (r : Result T E) (old new : World) (told : Option (List Keeping)) → OnOk r (HasLoaded old.server.request told new.server) → OnOk r (new ≡ record old { server = new.server }) → OnOk r ((log : List Keeping) → told ≡ Some log → HasKept log old.server.maps → IsCollected old.server.maps.lynx → IsCollected old.server.maps.ms → new ≡ restarts old)
+restarted (Ok x) old new told loaded is = λ log tells kept lynx ms.
+    let make : ℕ → List (ℕ × Transfer) → Server = λ p live. record { request = p; maps = new.server.maps; live = live } in
+    let server : make new.server.request new.server.live ≡ make old.server.request [] = (let port = loaded.port in let idle = loaded.idle in cc) in
     restarts-same log old new kept lynx ms
-    (subst (λ (o : Option (List Keeping)). LoadedFrom Lynx o new.server.maps.lynx) tells from-lynx)
-    (subst (λ (o : Option (List Keeping)). LoadedFrom Ms o new.server.maps.ms) tells from-ms)
-    is
-restarted (Err e) old new told from-lynx from-ms is = is
+    (subst (λ (o : Option (List Keeping)). LoadedFrom Lynx o new.server.maps.lynx) tells loaded.lynx)
+    (subst (λ (o : Option (List Keeping)). LoadedFrom Ms o new.server.maps.ms) tells loaded.ms)
+    (is ∙ ap (λ (s : Server). record old { server = s }) server)
+restarted (Err e) old new told loaded is = is

@@ -3,9 +3,9 @@ use Rattle.std.specs.Prelude.{ℕ, ◌+◌, List, [], ◌∷◌, ◌++◌, lengt
 use Rattle.tftp_packet.specs.declared.endpoint.Endpoint.{Endpoint}
 use Rattle.tws_file.specs.declared.«ruleset».Ruleset.TheVariants.{Lynx, Ms}
 use Rattle.tws_best.specs.Best.{Entry, collection_text}
-use Rattle.archive_table.specs.Server.{Maps, Taken, all}
+use Rattle.archive_table.specs.Server.{Maps, Taken, all, empty_maps}
 use Rattle.archive_client.specs.Client.{put, get}
-use Rattle.archive_world.specs.World.{Event, begin, deliver, client_times_out, server_times_out, stray, restart, Step, World, Asked, to_write, to_read, Opening, Got, server_endpoint, empty_maps}
+use Rattle.archive_world.specs.World.{Event, begin, deliver, client_times_out, server_times_out, stray, restart, Step, World, Asked, to_write, to_read, Opening, Got, server_endpoint}
 
 -- ---- a file of one solution
 

@@ -9,8 +9,7 @@ use Rattle.tftp_packet.specs.Packet.{Packet, read, write, data_block, ack, error
 use Rattle.tftp_packet.specs.Decode.{decode_bytes}
 use Rattle.tftp_ends.specs.declared.limits.TheConstants.{MAX_FILE}
 use Rattle.tws_file.specs.declared.«ruleset».Ruleset.{Ruleset}
-use Rattle.tws_file.specs.declared.«ruleset».Ruleset.TheVariants.{Lynx, Ms}
-use Rattle.archive_table.specs.Server.{Server, Maps, Transfer, Taken, Grant, memory_of, is_same, transfer_at, server_request, server_datagram, server_timeout, IsMerged}
+use Rattle.archive_table.specs.Server.{Server, Maps, empty_server, Transfer, Taken, Grant, memory_of, is_same, transfer_at, server_request, server_datagram, server_timeout, IsMerged}
 use Rattle.tws_file.specs.Names.{kind_named}
 use Rattle.archive_table.specs.Server as table
 use Rattle.archive_client.specs.declared.state.State.{State}
@@ -97,15 +96,12 @@ pub record Step : Type 0 where
 abbrev pub server_endpoint : Endpoint
 server_endpoint = record { host = 1; port = 6969 }
 
-abbrev pub empty_maps : Maps
-empty_maps = record { lynx = record { «ruleset» = Lynx; entries = [] }; ms = record { «ruleset» = Ms; entries = [] } }
-
 -- nothing was sent, and the server has nothing
 abbrev pub start : World
 start =
     record {
       net = [];
-      server = record { request = server_endpoint.port; maps = empty_maps; live = [] };
+      server = empty_server server_endpoint.port;
       clients = [];
       begun = [];
       taken = [];

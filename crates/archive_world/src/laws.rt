@@ -5,8 +5,8 @@ ghost use Rattle.archive_world.specs.Samples.{request_twice, late_ack, crossed_g
 ghost use Rattle.tftp_packet.specs.declared.endpoint.Endpoint.{Endpoint};
 ghost use Rattle.archive_client.specs.Client.{Operation};
 ghost use Rattle.archive_world.specs.Reuse.{BeginKeepsOwn, OpeningKeepsOwn, StrayKeepsOwn};
-ghost use Rattle.archive_world.specs.World.{Begun, Datagram, Opening, to_write, World, Event, Step, happens, start, run, server_endpoint, empty_maps, AllMerged, asked_by, AllMayHappen};
-ghost use Rattle.archive_table.specs.Server.{Grant, Maps, Taken};
+ghost use Rattle.archive_world.specs.World.{Begun, Datagram, Opening, to_write, World, Event, Step, happens, start, run, server_endpoint, AllMerged, asked_by, AllMayHappen};
+ghost use Rattle.archive_table.specs.Server.{Grant, Maps, Taken, empty_maps};
 ghost use Rattle.archive_table.specs.Keeper.{Keeping};
 ghost use Rattle.archive_world.specs.Restarts.{HasKept, StepStaysKept, LoadsTheSame, FailsOutside, RunKeeps, RestartsFrom};
 ghost use Rattle.archive_world.specs.Traces.{Member, trace_from, trace_steps, AllDeedsMerged};

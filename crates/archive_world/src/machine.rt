@@ -3,7 +3,7 @@
 ghost use Rattle.std.specs.Prelude.{◌≡◌, false, true, is_some, ◌≢◌, [], OnOk, OnErr, IfOk, IfErr, Some, None, length, slice_get};
 ghost use Rattle.archive_table.specs.Server.{request_verdict, server_request, server_datagram, server_timeout, grant_of, transfer_at, is_same, Grant};
 ghost use Rattle.tws_file.specs.Names.{kind_named};
-ghost use Rattle.archive_table.specs.Keeper.{LoadedFrom, TableFails};
+ghost use Rattle.archive_table.specs.Keeper.{HasLoaded, TableFails};
 ghost use Rattle.archive_world.specs.View.{asked_as, operation_of};
 ghost use Rattle.archive_world.specs.World.{World, start, has_begun, begins, is_too_long, server_endpoint, net_with, taken_with, opened_with, got_with, asked_of, asked_named, after_request, after_transfer, strays_in, client_at, client_waits, client_hears};
 ghost use Rattle.archive_world.specs.Inside.{HearsAtPort, answered_by};
@@ -169,9 +169,8 @@ impl<A: Allocator + Copy> Machine<A> {
     /// Those of `Table::load`; nothing changes then.
     pub(crate) fn restart<K: Keeper>(&mut self, keeper: &mut K) -> Result<(), LoadFault>
         requires request { self.old.server.request ≡ server_endpoint.port }
-        ensures lynx { OnOk result (LoadedFrom Ruleset.Lynx (K.log keeper.old) self.new.server.maps.lynx) }
-        ensures ms { OnOk result (LoadedFrom Ruleset.Ms (K.log keeper.old) self.new.server.maps.ms) }
-        ensures world { OnOk result (self.new ≡ record self.old { server = record { request = self.old.server.request; maps = self.new.server.maps; live = [] } }) }
+        ensures loaded { OnOk result (HasLoaded self.old.server.request (K.log keeper.old) self.new.server) }
+        ensures world { OnOk result (self.new ≡ record self.old { server = self.new.server }) }
         ensures log { K.log keeper.new ≡ K.log keeper.old }
         ensures fault { IfErr result (TableFails (K.log keeper.old)) }
         ensures err { OnErr result (self.new ≡ self.old) }

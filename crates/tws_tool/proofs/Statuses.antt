@@ -10,12 +10,12 @@ use Rattle.tftp_packet.specs.declared.endpoint.Endpoint.{Endpoint}
 use Rattle.archive_turns.specs.Wire.{Entry}
 use Rattle.tws_tool.specs.Address.{IsAddress}
 use Rattle.tws_tool.specs.Lines.{LineFails, Says, Transfers, Unsaid, got_line, sent_line, serving_line, taken_line}
-use Rattle.archive_table.specs.Keeper.{Keeping}
+use Rattle.archive_table.specs.Keeper.{Keeping, HasLoaded}
 use Rattle.tws_tool.specs.Inputs.{IsUnreadable}
 use Rattle.archive_turns.specs.Turn.{Counted, MakesTurns}
 use Rattle.archive_turns.specs.Ready.{Clocked, MakesRounds}
 use Rattle.tws_tool.specs.declared.limits.TheConstants.{TURNS}
-use Rattle.tws_tool.specs.Serving.{IsFresh, ServeStops, Served, ServerServed, Serves}
+use Rattle.tws_tool.specs.Serving.{ServeStops, Served, ServerServed, Serves}
 use Rattle.tws_tool.specs.Archiving.{FetchFails, Fetches, GetFails, GetRan, IsBlamed, PutFails, PutRan, Puts}
 use Rattle.tws_tool.proofs.Sending.{put_blames, put_says}
 use Rattle.tws_tool.specs.Written.{Writes, WriteFails}
@@ -203,10 +203,10 @@ module _ (old new : Option (List ℕ)) where
 
 -- the two servers, from their load on; a load keeps nothing
 module _ (port turns : ℕ) (kept mid now : Option (List Keeping)) (same : mid ≡ kept) where
-  pub counted : (first last : Counted) → turns < TURNS → IsFresh port kept first.table → first.last ≡ 0 → first.timers ≡ [] → (taken : ℕ) → MakesTurns turns first last taken None None mid now → ServerServed port turns kept now taken
-  counted first last few fresh unvisited none taken made =
-      inl (few, record { first = first; last = last; loaded = fresh; unvisited = unvisited; timers = none; made = subst (λ (k : Option (List Keeping)). MakesTurns turns first last taken None None k now) same made })
+  pub counted : (first last : Counted) → turns < TURNS → HasLoaded port kept first.table → first ≡ record { table = first.table; last = 0; timers = [] } → (taken : ℕ) → MakesTurns turns first last taken None None mid now → ServerServed port turns kept now taken
+  counted first last few loaded fresh taken made =
+      inl (few, record { first = first; last = last; loaded = loaded; fresh = fresh; made = subst (λ (k : Option (List Keeping)). MakesTurns turns first last taken None None k now) same made })
 
-  pub waiting : (first last : Clocked) → TURNS ≤ turns → IsFresh port kept first.table → first.last ≡ 0 → first.timers ≡ [] → (taken : ℕ) → MakesRounds (2 ^ 64 - 1) first last taken None None mid now → ServerServed port turns kept now taken
-  waiting first last most fresh unvisited none taken made =
-      inr (most, record { first = first; last = last; loaded = fresh; unvisited = unvisited; timers = none; made = subst (λ (k : Option (List Keeping)). MakesRounds (2 ^ 64 - 1) first last taken None None k now) same made })
+  pub waiting : (first last : Clocked) → TURNS ≤ turns → HasLoaded port kept first.table → first ≡ record { table = first.table; last = 0; timers = [] } → (taken : ℕ) → MakesRounds (2 ^ 64 - 1) first last taken None None mid now → ServerServed port turns kept now taken
+  waiting first last most loaded fresh taken made =
+      inr (most, record { first = first; last = last; loaded = loaded; fresh = fresh; made = subst (λ (k : Option (List Keeping)). MakesRounds (2 ^ 64 - 1) first last taken None None k now) same made })

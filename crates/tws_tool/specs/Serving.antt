@@ -1,9 +1,7 @@
 -- What the command `serve` does and prints.
 use Rattle.std.specs.Prelude.{◌≡◌, ◌⊎◌, ℕ, ◌<◌, ◌≤◌, ◌^◌, ◌-◌, List, [], Option, None}
 use Rattle.std.specs.Io.KnownBytes.{Appends}
-use Rattle.tws_file.specs.declared.«ruleset».Ruleset.TheVariants.{Lynx, Ms}
-use Rattle.archive_table.specs.Server.{Server}
-use Rattle.archive_table.specs.Keeper.{Keeping, LoadedFrom}
+use Rattle.archive_table.specs.Keeper.{Keeping, HasLoaded}
 use Rattle.archive_turns.specs.Turn.{Counted, MakesTurns}
 use Rattle.archive_turns.specs.Ready.{Clocked, MakesRounds}
 use Rattle.tws_tool.specs.declared.limits.TheConstants.{TURNS}
@@ -33,30 +31,21 @@ ServeFails port Unmade Made old new e = (Unmade × LineFails (serving_line port)
 
 -- ---- the servers, from their load on
 
--- a table as it was loaded: with this request port, the collections that the keeper had, and no transfer
-pub record IsFresh (port : ℕ) (kept : Option (List Keeping)) (table : Server) : Type 0 where
-  pub request : table.request ≡ port
-  pub lynx : LoadedFrom Lynx kept table.maps.lynx
-  pub ms : LoadedFrom Ms kept table.maps.ms
-  pub live : table.live ≡ []
-
 -- the server that counts turns was loaded, and made these turns: what was kept before and after, and how many files
 -- were taken
 pub record CountedServed (port turns : ℕ) (kept now : Option (List Keeping)) (taken : ℕ) : Type 0 where
   pub first : Counted
   pub last : Counted
-  pub loaded : IsFresh port kept first.table
-  pub unvisited : first.last ≡ 0
-  pub timers : first.timers ≡ []
+  pub loaded : HasLoaded port kept first.table
+  pub fresh : first ≡ record { table = first.table; last = 0; timers = [] }
   pub made : MakesTurns turns first last taken None None kept now
 
 -- the same for the server that waits for ready ports, which makes more rounds than any server will live to make
 pub record WaitingServed (port : ℕ) (kept now : Option (List Keeping)) (taken : ℕ) : Type 0 where
   pub first : Clocked
   pub last : Clocked
-  pub loaded : IsFresh port kept first.table
-  pub unvisited : first.last ≡ 0
-  pub timers : first.timers ≡ []
+  pub loaded : HasLoaded port kept first.table
+  pub fresh : first ≡ record { table = first.table; last = 0; timers = [] }
   pub made : MakesRounds (2 ^ 64 - 1) first last taken None None kept now
 
 -- a server that is given fewer turns than the maximum counts them

@@ -1,5 +1,5 @@
 use Rattle.std.proofs.Common.{◌≡◌, ℕ, arith, sym, subst, ◌∙◌}
-use Rattle.tws_tool.specs.Serving.{IsFresh, Served}
+use Rattle.tws_tool.specs.Serving.{Served}
 use Rattle.tws_tool.proofs.Statuses.{counted, map_err, map_ok, served, serves_so, stops_so, waiting}
 use Rattle.tws_tool.proofs.host.serve.Goals as goal
 
@@ -12,8 +12,7 @@ returns-in-Ok-clause-served g c =
     let port = c.args.port in
     let turns = c.args.turns in
     let loaded = c.in-Ok.ensures in
-    let fresh : IsFresh port kept c.in-Ok.server.table = record { request = loaded.request; lynx = loaded.lynx; ms = loaded.ms; live = loaded.live } in
-    let made = counted port turns kept _ now c.load.ensures.log c.in-Ok.server c.count-done.new.server c.if-turns-lt-TURNS.true fresh loaded.last loaded.timers in
+    let made = counted port turns kept _ now c.load.ensures.log c.in-Ok.server c.count-done.new.server c.if-turns-lt-TURNS.true loaded.loaded loaded.fresh in
     let done = c.count-done.result in
     let serves = map_ok done (serves_so old new port _ (now ≡ kept) _ _ (λ still. still ∙ c.load.ensures.log) made) c.count-done.ensures.served in
     let stops = map_err done (stops_so old new port _ (now ≡ kept) _ _ (λ still. still ∙ c.load.ensures.log) made) c.count-done.ensures.stops in
@@ -28,8 +27,7 @@ returns-in-Ok-load-clause-served g c =
     let port = c.args.port in
     let turns = c.args.turns in
     let loaded = c.in-Ok-load.ensures in
-    let fresh : IsFresh port kept c.in-Ok-load.server.table = record { request = loaded.request; lynx = loaded.lynx; ms = loaded.ms; live = loaded.live } in
-    let made = waiting port turns kept _ now c.load-2.ensures.log c.in-Ok-load.server c.wait-done.new.server (omega (arith, c.if-turns-lt-TURNS.false)) fresh loaded.last loaded.timers in
+    let made = waiting port turns kept _ now c.load-2.ensures.log c.in-Ok-load.server c.wait-done.new.server (omega (arith, c.if-turns-lt-TURNS.false)) loaded.loaded loaded.fresh in
     let done = c.wait-done.result in
     let serves = map_ok done (serves_so old new port _ (now ≡ kept) _ _ (λ still. still ∙ c.load-2.ensures.log) made) c.wait-done.ensures.served in
     let stops = map_err done (stops_so old new port _ (now ≡ kept) _ _ (λ still. still ∙ c.load-2.ensures.log) made) c.wait-done.ensures.stops in
