@@ -1,6 +1,6 @@
 -- A client: what it asks for, its phase, and what each datagram and each time-out does to it. RFC 1350 sections 2, 4
 -- and 6. docs/FORMATS.md has it as a table.
-use Rattle.std.specs.Prelude.{◌≡◌, ◌≢◌, ℕ, ◌+◌, ◌<◌, ◌≤◌, Bool, true, false, ◌==◌, List, length, Option, None, Some, IsSome, Result, Ok, Err}
+use Rattle.std.specs.Prelude.{◌≡◌, ◌≢◌, ℕ, ◌+◌, ◌<◌, ◌≤◌, nat_lt, Bool, true, false, ◌==◌, List, length, Option, None, Some, IsSome, Result, Ok, Err}
 use Rattle.tftp_packet.specs.declared.endpoint.Endpoint.{Endpoint}
 use Rattle.tftp_packet.specs.declared.out.Out.{Out}
 use Rattle.tftp_packet.specs.declared.packet_fault.PacketFault.{PacketFault}
@@ -348,6 +348,11 @@ abbrev pub file_of : Client → Result (List ℕ) Client
 file_of c = file_or (phase_file c.phase) c
 
 -- ---- the invariant
+
+-- whether it is a put whose file has more bytes than can be sent
+abbrev pub is_too_long : Operation → Bool
+is_too_long (put file) = nat_lt MAX_FILE (length file)
+is_too_long (get kind) = false
 
 abbrev pub IsOperation : Operation → Type 0
 IsOperation (put file) = length file ≤ MAX_FILE

@@ -9,9 +9,9 @@ use Rattle.tftp_packet.specs.Decode.{decode_bytes}
 use Rattle.tftp_ends.specs.Ends.{Verdict, granted, refused}
 use Rattle.archive_table.specs.Server.{Server, Maps, Grant, Taken, Answer, Merges, IsMerged, memory_of, is_same, transfer_at, server_request, server_datagram, server_timeout, empty_maps}
 use Rattle.archive_table.specs.Keeper.{Keeping}
-use Rattle.archive_client.specs.Client.{Operation, Client, client_datagram, client_timeout}
+use Rattle.archive_client.specs.Client.{Operation, Client, client_datagram, client_timeout, is_too_long}
 use Rattle.archive_client.specs.Client as client
-use Rattle.archive_world.specs.World.{Datagram, World, server_endpoint, at_endpoint, has_begun, is_too_long, asked_of, taken_with, after_request, after_transfer, after_client, client_hears, client_waits, begins, restarts, strays_in, AllMayHappen, MayDeliver, IsFree}
+use Rattle.archive_world.specs.World.{Datagram, World, server_endpoint, has_begun, asked_of, taken_with, after_request, after_transfer, after_client, client_hears, client_waits, begins, restarts, strays_in, AllMayHappen, MayDeliver, IsFree}
 use Rattle.archive_world.specs.Traces.{Member, server_waits_long, client_waits_long, starts, loads, is_same_datagram, place_after, place_of, named_in, server_comes, comes, after_deed, delivery, steps_with, member_steps, trace_from, DeedMerged}
 use Rattle.archive_world.proofs.Places.{Has, at-last}
 use Rattle.archive_world.proofs.Endpoints.{same_endpoint}
@@ -199,7 +199,7 @@ module _ (a : Archive) (w : World) (h : Shows a w) where
       (deed_merged m (begins e operation w) refl None refl (ap (λ (s : Server). s.maps) h.server))
       (shows-begin a w h e operation)
 
-  module _ (e : Endpoint) (c : Client) (away : e.host ≢ server_endpoint.host) (is : lookup (at_endpoint e) a.clients ≡ Some c) where
+  module _ (e : Endpoint) (c : Client) (away : e.host ≢ server_endpoint.host) (is : lookup (is_same e) a.clients ≡ Some c) where
     module _ (from : Endpoint) (bytes : List ℕ) (verdict : Verdict) where
       abbrev client_d : Datagram
       client_d = arrival e.host e.port from bytes
@@ -213,7 +213,7 @@ module _ (a : Archive) (w : World) (h : Shows a w) where
       client_is : (v : World) → v.clients ≡ a.clients → comes (e.host == server_endpoint.host) 0 (grant_for verdict) empty_maps client_d v ≡ after_client e c client_x v
       client_is v same =
           ap (λ (b : Bool). comes b 0 (grant_for verdict) empty_maps client_d v) (ne_eqb e.host server_endpoint.host away)
-          ∙ ap (λ (o : Option Client). client_hears o (grant_for verdict) client_d v) (ap (lookup (at_endpoint e)) same ∙ is)
+          ∙ ap (λ (o : Option Client). client_hears o (grant_for verdict) client_d v) (ap (lookup (is_same e)) same ∙ is)
           ∙ ap (λ (m : Verdict). after_client e c (client_datagram m from bytes c) v) (memory_is verdict)
 
       not_server : client_d.target ≡ record { host = server_endpoint.host; port = w.server.request } → ⊥
@@ -237,7 +237,7 @@ module _ (a : Archive) (w : World) (h : Shows a w) where
         let x = client_timeout c in
         let m = does (client_waits_long e) in
         let after = after_client e c x w in
-        let made : after_deed m.deed m.grant m.maps w ≡ after = ap (λ (o : Option Client). client_waits o e w) (ap (lookup (at_endpoint e)) h.clients ∙ is) in
+        let made : after_deed m.deed m.grant m.maps w ≡ after = ap (λ (o : Option Client). client_waits o e w) (ap (lookup (is_same e)) h.clients ∙ is) in
         let begun : has_begun e w.begun ≡ true = h.known e ∙ ap is_some is in
         one_made _ m after made (begun, tt)
         (deed_merged m after made None refl (ap (λ (s : Server). s.maps) h.server))

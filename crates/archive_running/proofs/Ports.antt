@@ -22,7 +22,7 @@ use Rattle.tftp_ends.specs.declared.recv_fault.RecvFault.{RecvFault}
 use Rattle.tftp_ends.specs.Ends.{Verdict, granted, refused, answer_of, Receiver, SendAnswer, RecvAnswer, receiver_data, receiver_take, receiver_timeout, sender_ack, sender_timeout}
 use Rattle.tws_file.specs.declared.«ruleset».Ruleset.{Ruleset}
 use Rattle.tws_best.specs.Best.{Collected}
-use Rattle.archive_table.specs.Server.{Server, Maps, Transfer, End, sending, receiving, Grant, all, no_memory, unkept, memory_of, map_of, is_too_long, has_place, at_port, with_live, opens_if, read_fits, read_placed, read_named, read_asked, write_placed, write_asked, request_packet, request_decoded, server_request, Heard, nothing, stray, ended, acked, block, heard, transfer_at, first_port, port_above, file_come, file_asked, block_answered, data_at, sender_goes_on, ack_at, transfer_heard, datagram_at, server_datagram, receiver_goes_on, waits_at, timeout_at, server_timeout}
+use Rattle.archive_table.specs.Server.{Server, Maps, Transfer, End, sending, receiving, Grant, all, no_memory, unkept, memory_of, map_of, has_place, at_port, with_live, opens_if, read_fits, read_placed, read_named, read_asked, write_placed, write_asked, request_packet, request_decoded, server_request, Heard, nothing, stray, ended, acked, block, heard, transfer_at, first_port, port_above, file_come, file_asked, block_answered, data_at, sender_goes_on, ack_at, transfer_heard, datagram_at, server_datagram, receiver_goes_on, waits_at, timeout_at, server_timeout, has_long_text}
 use Rattle.tws_file.specs.Names.{kind_named}
 
 abbrev pub IsApart : Server → Type 0
@@ -65,7 +65,7 @@ module _ (spare : ℕ) (from : Endpoint) (s : Server) (apart : IsApart s) (other
   fits_apart false verdict c = opens_apart verdict _ _
 
   read_apart : (place : Bool) (verdict : Verdict) (c : Collected) → IsApart (read_placed place verdict spare from c s).server
-  read_apart true verdict c = fits_apart (is_too_long c) verdict c
+  read_apart true verdict c = fits_apart (has_long_text c) verdict c
   read_apart false verdict c = apart
 
   named_apart : (name : Option Ruleset) (verdict : Verdict) → IsApart (read_named name verdict spare from s).server

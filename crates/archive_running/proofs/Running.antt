@@ -1,21 +1,21 @@
 -- A run of the archive is a trace, and what follows from that.
-use Rattle.std.proofs.Common.{◌≡◌, ◌≢◌, ◌⊎◌, ℕ, Bool, true, false, nat_le, List, [], ◌∷◌, ◌++◌, Contains, Option, None, Some, Result, Ok, Err, refl, sym, ◌∙◌, subst, inl, inr, append-nil}
+use Rattle.std.proofs.Common.{◌≡◌, ◌≢◌, ◌⊎◌, ℕ, Bool, true, false, nat_le, List, [], ◌∷◌, ◌++◌, Contains, Option, None, Some, Result, Ok, Err, refl, sym, subst, inl, inr, append-nil}
 use Rattle.std.specs.Map.{lookup}
 use Rattle.std.proofs.lemmas.List.Elements.{All-nil}
 use Rattle.std.proofs.lemmas.Map.Steps.{set_value_same}
 use Rattle.tftp_packet.specs.declared.endpoint.Endpoint.{Endpoint}
 use Rattle.tftp_ends.specs.Ends.{Verdict}
 use Rattle.tws_file.specs.declared.«ruleset».Ruleset.TheVariants.{Lynx, Ms}
-use Rattle.archive_table.specs.Server.{Server, Maps, empty_maps}
+use Rattle.archive_table.specs.Server.{Server, Maps, empty_maps, is_same}
 use Rattle.archive_table.specs.Keeper.{Keeping}
 use Rattle.archive_client.specs.declared.state.State.{State}
 use Rattle.archive_client.specs.declared.state.State.TheVariants as state
-use Rattle.archive_client.specs.Client.{Operation, put, get, Client, client_start, client_datagram, client_timeout, state_of, file_of}
+use Rattle.archive_client.specs.Client.{Operation, Client, client_start, client_datagram, client_timeout, state_of, file_of, is_too_long}
 use Rattle.archive_turns.specs.declared.limits.TheConstants.{QUIET_TURNS}
 use Rattle.archive_turns.specs.Wire.{Entry}
 use Rattle.archive_turns.specs.Turn.{Replies, Receipt, datagram, nothing, fault}
-use Rattle.archive_turns.specs.Run.{Run, IsRunTurn, run_received, run_waited, begin_sized, begin_opened, is_long, put_result, Writes, WritesGot}
-use Rattle.archive_world.specs.World.{Datagram, World, server_endpoint, at_endpoint, is_too_long, start, run_from, AllMayHappen, AllMerged}
+use Rattle.archive_turns.specs.Run.{Run, IsRunTurn, run_received, run_waited, begin_sized, begin_opened, put_result, Writes, WritesGot}
+use Rattle.archive_world.specs.World.{Datagram, World, server_endpoint, start, run_from, AllMayHappen, AllMerged}
 use Rattle.archive_world.specs.Headline.{HasOwnPorts, Headline, SentOnce}
 use Rattle.archive_world.specs.Traces.{Member, starts, loads, trace_from, trace_steps}
 use Rattle.archive_world.specs.Restarts.{AreOwnRules}
@@ -35,13 +35,13 @@ use Rattle.archive_running.proofs.Serving.{Brought, makes-then, sent-sendings, t
 
 -- ---- a turn of a client
 
-shows-idle : (a : Archive) (w : World) (e : Endpoint) (c : Client) → lookup (at_endpoint e) a.clients ≡ Some c → Shows a w → Shows (with_client e c [] a) w
+shows-idle : (a : Archive) (w : World) (e : Endpoint) (c : Client) → lookup (is_same e) a.clients ≡ Some c → Shows a w → Shows (with_client e c [] a) w
 shows-idle a w e c is h =
     let make : List (Endpoint × Client) → List Datagram → Archive = λ cs l. record { server = a.server; clients = cs; begun = a.begun; taken = a.taken; net = l; kept = a.kept } in
     let net = subst (λ (l : List Datagram). Shows (make a.clients l) w) (sym (append-nil a.net)) h in
-    subst (λ (cs : List (Endpoint × Client)). Shows (make cs (a.net ++ [])) w) (sym (set_value_same (at_endpoint e) a.clients c is)) net
+    subst (λ (cs : List (Endpoint × Client)). Shows (make cs (a.net ++ [])) w) (sym (set_value_same (is_same e) a.clients c is)) net
 
-module _ (a : Archive) (w : World) (h : Shows a w) (host : ℕ) (r : Run) (away : host ≢ server_endpoint.host) (is : lookup (at_endpoint (own_endpoint host r)) a.clients ≡ Some r.client) where
+module _ (a : Archive) (w : World) (h : Shows a w) (host : ℕ) (r : Run) (away : host ≢ server_endpoint.host) (is : lookup (is_same (own_endpoint host r)) a.clients ≡ Some r.client) where
   waited_made : (last : Bool) (ok : Bool) →
       let ran = run_waited last r ok in
       Makes (with_client (own_endpoint host r) ran.run.client (sent_by host ran.calls) a) (quiet_members last host r) w
@@ -72,22 +72,18 @@ module _ (a : Archive) (w : World) (h : Shows a w) (host : ℕ) (r : Run) (away 
 
 -- ---- a begin
 
-not_long : (operation : Operation) → is_long operation ≡ is_too_long operation
-not_long (put file) = refl
-not_long (get kind) = refl
-
 module _ (a : Archive) (w : World) (h : Shows a w) (host : ℕ) (operation : Operation) (replies : Replies) (r : Run) (away : host ≢ server_endpoint.host) where
-  sized_made : (long : Bool) (port : ℕ) → is_long operation ≡ long → (begin_sized long server_endpoint operation port replies).result ≡ Ok r → Makes (after_begin host operation r (begin_sized long server_endpoint operation port replies).calls a) (does (starts (own_endpoint host r) operation) ∷ []) w
+  sized_made : (long : Bool) (port : ℕ) → is_too_long operation ≡ long → (begin_sized long server_endpoint operation port replies).result ≡ Ok r → Makes (after_begin host operation r (begin_sized long server_endpoint operation port replies).calls a) (does (starts (own_endpoint host r) operation) ∷ []) w
   sized_made true port is e = absurd cc
   sized_made false port is e =
       let begun = begin_sized false server_endpoint operation port replies in
       let first : Run = record { client = client_start port server_endpoint operation; port = port; left = QUIET_TURNS } in
       let same : first ≡ r = cc in
       subst (λ (x : Run). Makes (after_begin host operation x begun.calls a) (does (starts (own_endpoint host x) operation) ∷ []) w) same
-      (begin-makes a w h (record { host = host; port = port }) operation away (sym (not_long operation) ∙ is))
+      (begin-makes a w h (record { host = host; port = port }) operation away is)
 
   begin_made : (port : Option ℕ) → (begin_opened port server_endpoint operation replies).result ≡ Ok r → Makes (after_begin host operation r (begin_opened port server_endpoint operation replies).calls a) (does (starts (own_endpoint host r) operation) ∷ []) w
-  begin_made (Some port) e = sized_made (is_long operation) port refl e
+  begin_made (Some port) e = sized_made (is_too_long operation) port refl e
   begin_made None e = absurd cc
 
 -- ---- a run
@@ -208,10 +204,10 @@ module _ (a : Archive) (members : List Member) (reaches : Reaches a members) whe
     run-headline = trace-headline members run-happens own (all-merged members start (reached reaches).makes.fit)
 
     module _ (e : Endpoint) (c : Client) where
-      pub run-sent : (len n : ℕ) → lookup (at_endpoint e) a.clients ≡ Some c → put_result (state_of c) len ≡ Ok n → SentOnce (trace_from members start).begun (trace_from members start).taken e
+      pub run-sent : (len n : ℕ) → lookup (is_same e) a.clients ≡ Some c → put_result (state_of c) len ≡ Ok n → SentOnce (trace_from members start).begun (trace_from members start).taken e
       run-sent len n is ok = run-headline.sent e (run-mirrors.sent e c is (put_sent (state_of c) len n ok))
 
-      written_finished : (file : Result (List ℕ) Client) → file_of c ≡ file → (len : ℕ) (written now : Option (List ℕ)) → lookup (at_endpoint e) a.clients ≡ Some c → Writes file (Ok len) written now → WritesFinished e c len (trace_from members start) written now
+      written_finished : (file : Result (List ℕ) Client) → file_of c ≡ file → (len : ℕ) (written now : Option (List ℕ)) → lookup (is_same e) a.clients ≡ Some c → Writes file (Ok len) written now → WritesFinished e c len (trace_from members start) written now
       written_finished (Ok file) given len written now is writes =
           record {
             file = file;
@@ -222,5 +218,5 @@ module _ (a : Archive) (members : List Member) (reaches : Reaches a members) whe
           }
       written_finished (Err k) given len written now is writes = absurd writes
 
-      pub run-fetched : (len : ℕ) (written now : Option (List ℕ)) → lookup (at_endpoint e) a.clients ≡ Some c → WritesGot c (Ok len) written now → WritesFinished e c len (trace_from members start) written now
+      pub run-fetched : (len : ℕ) (written now : Option (List ℕ)) → lookup (is_same e) a.clients ≡ Some c → WritesGot c (Ok len) written now → WritesFinished e c len (trace_from members start) written now
       run-fetched len written now is writes = written_finished (file_of c) refl len written now is writes.writes

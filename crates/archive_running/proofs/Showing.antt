@@ -13,7 +13,7 @@ use Rattle.archive_table.specs.Server as table
 use Rattle.archive_client.specs.declared.state.State.TheVariants as state
 use Rattle.archive_client.specs.Client.{Operation, Client, request_out, client_start, state_of, phase_file, file_or, file_of}
 use Rattle.archive_client.specs.Client as client
-use Rattle.archive_world.specs.World.{Datagram, Begun, Opening, Got, World, server_endpoint, at_endpoint, has_begun, datagram_of, net_with, taken_with, sent_with, got_with, newly_sent, newly_got, after_client, begins, restarts}
+use Rattle.archive_world.specs.World.{Datagram, Begun, Opening, Got, World, server_endpoint, has_begun, datagram_of, net_with, taken_with, sent_with, got_with, newly_sent, newly_got, after_client, begins, restarts}
 use Rattle.archive_world.specs.Traces.{named_in}
 use Rattle.archive_world.proofs.Places.{Has, Has-contains, Has-from_contains, Has-extends, Extends-push, Has-last, Has-push}
 use Rattle.archive_world.proofs.Keyed.{lookup-set}
@@ -33,9 +33,9 @@ pub record Shows (a : Archive) (w : World) : Type 0 where
   pub taken : w.taken ≡ a.taken
   pub net : (d : Datagram) → Has a.net d → Has w.net d
   pub others : (d : Datagram) → Has w.net d → Has a.net d ⊎ Has w.strays d
-  pub sent : (e : Endpoint) (c : Client) → lookup (at_endpoint e) a.clients ≡ Some c → state_of c ≡ state.Sent → Has w.sent e
-  pub got : (e : Endpoint) (c : Client) (file : List ℕ) → lookup (at_endpoint e) a.clients ≡ Some c → phase_file c.phase ≡ Some file → Has w.got (record { client = e; file = file })
-  pub known : (e : Endpoint) → has_begun e w.begun ≡ is_some (lookup (at_endpoint e) a.clients)
+  pub sent : (e : Endpoint) (c : Client) → lookup (is_same e) a.clients ≡ Some c → state_of c ≡ state.Sent → Has w.sent e
+  pub got : (e : Endpoint) (c : Client) (file : List ℕ) → lookup (is_same e) a.clients ≡ Some c → phase_file c.phase ≡ Some file → Has w.got (record { client = e; file = file })
+  pub known : (e : Endpoint) → has_begun e w.begun ≡ is_some (lookup (is_same e) a.clients)
   pub apart : IsApart a.server
 
 given_file : (file : Option (List ℕ)) (c : Client) (f : List ℕ) → file_or file c ≡ Ok f → file ≡ Some f
@@ -154,7 +154,7 @@ abbrev pub with_client : Endpoint → Client → List Datagram → Archive → A
 with_client e next sent a =
     record {
       server = a.server;
-      clients = set_value (at_endpoint e) a.clients next;
+      clients = set_value (is_same e) a.clients next;
       begun = a.begun;
       taken = a.taken;
       net = a.net ++ sent;
@@ -181,7 +181,7 @@ got_still true e (Some f) gs g has = Has-extends gs _ g (Extends-push gs _) has
 got_still true e None gs g has = has
 got_still false e file gs g has = has
 
-module _ (a : Archive) (w : World) (h : Shows a w) (e : Endpoint) (c : Client) (is : lookup (at_endpoint e) a.clients ≡ Some c) (x : client.Answer) (ends : Ends c x.client) where
+module _ (a : Archive) (w : World) (h : Shows a w) (e : Endpoint) (c : Client) (is : lookup (is_same e) a.clients ≡ Some c) (x : client.Answer) (ends : Ends c x.client) where
   abbrev newly_s : Bool
   newly_s = newly_sent (state_of c) (state_of x.client)
 
@@ -192,7 +192,7 @@ module _ (a : Archive) (w : World) (h : Shows a w) (e : Endpoint) (c : Client) (
   sent_here (inl now) = sent_now newly_s e w.sent now
   sent_here (inr was) = sent_still newly_s e e w.sent (h.sent e c is was)
 
-  sent_at : (f : Endpoint) (k : Client) → state_of k ≡ state.Sent → ((f ≡ e) × (k ≡ x.client)) ⊎ (lookup (at_endpoint f) a.clients ≡ Some k) → Has (sent_with newly_s e w.sent) f
+  sent_at : (f : Endpoint) (k : Client) → state_of k ≡ state.Sent → ((f ≡ e) × (k ≡ x.client)) ⊎ (lookup (is_same f) a.clients ≡ Some k) → Has (sent_with newly_s e w.sent) f
   sent_at f k sent (inl new) =
       subst (Has (sent_with newly_s e w.sent)) (sym new.0) (sent_here (ends.sent (ap state_of (sym new.1) ∙ sent)))
   sent_at f k sent (inr old) = sent_still newly_s e f w.sent (h.sent f k old sent)
@@ -201,30 +201,30 @@ module _ (a : Archive) (w : World) (h : Shows a w) (e : Endpoint) (c : Client) (
   got_here file given (inl now) = got_now newly_g e (phase_file x.client.phase) w.got file now given
   got_here file given (inr was) = got_still newly_g e (phase_file x.client.phase) w.got _ (h.got e c file is was)
 
-  got_at : (f : Endpoint) (k : Client) (file : List ℕ) → phase_file k.phase ≡ Some file → ((f ≡ e) × (k ≡ x.client)) ⊎ (lookup (at_endpoint f) a.clients ≡ Some k) → Has (got_with newly_g e (phase_file x.client.phase) w.got) (record { client = f; file = file })
+  got_at : (f : Endpoint) (k : Client) (file : List ℕ) → phase_file k.phase ≡ Some file → ((f ≡ e) × (k ≡ x.client)) ⊎ (lookup (is_same f) a.clients ≡ Some k) → Has (got_with newly_g e (phase_file x.client.phase) w.got) (record { client = f; file = file })
   got_at f k file given (inl new) =
       let now : phase_file x.client.phase ≡ Some file = ap (λ (y : Client). phase_file y.phase) (sym new.1) ∙ given in
       subst (λ g. Has (got_with newly_g e (phase_file x.client.phase) w.got) (record { client = g; file = file })) (sym new.0) (got_here file now (ends.got file now))
   got_at f k file given (inr old) =
       got_still newly_g e (phase_file x.client.phase) w.got _ (h.got f k file old given)
 
-  known_still : (f : Endpoint) → is_some (lookup (at_endpoint f) a.clients) ≡ is_some (lookup (at_endpoint f) (set_value (at_endpoint e) a.clients x.client))
+  known_still : (f : Endpoint) → is_some (lookup (is_same f) a.clients) ≡ is_some (lookup (is_same f) (set_value (is_same e) a.clients x.client))
   known_still f =
-      is_some-lookup (at_endpoint f) a.clients
-      ∙ ap (list_any (at_endpoint f)) (sym (keys-set_value (at_endpoint e) a.clients x.client))
-      ∙ sym (is_some-lookup (at_endpoint f) (set_value (at_endpoint e) a.clients x.client))
+      is_some-lookup (is_same f) a.clients
+      ∙ ap (list_any (is_same f)) (sym (keys-set_value (is_same e) a.clients x.client))
+      ∙ sym (is_some-lookup (is_same f) (set_value (is_same e) a.clients x.client))
 
   pub shows-client : Shows (with_client e x.client (outs e.host x.out) a) (after_client e c x w)
   shows-client =
       record {
         server = h.server;
-        clients = ap (λ (cs : List (Endpoint × Client)). set_value (at_endpoint e) cs x.client) h.clients;
+        clients = ap (λ (cs : List (Endpoint × Client)). set_value (is_same e) cs x.client) h.clients;
         begun = h.begun;
         taken = h.taken;
         net = has_out e.host x.out a.net w.net h.net;
         others = other_out e.host x.out a.net w.net w.strays h.others;
-        sent = λ f k found sent. sent_at f k sent (lookup-set at_endpoint exact_endpoint a.clients e x.client f k found);
-        got = λ f k file found given. got_at f k file given (lookup-set at_endpoint exact_endpoint a.clients e x.client f k found);
+        sent = λ f k found sent. sent_at f k sent (lookup-set is_same exact_endpoint a.clients e x.client f k found);
+        got = λ f k file found given. got_at f k file given (lookup-set is_same exact_endpoint a.clients e x.client f k found);
         known = λ f. h.known f ∙ known_still f;
         apart = h.apart;
       }
@@ -279,14 +279,14 @@ module _ (a : Archive) (w : World) (h : Shows a w) (e : Endpoint) (operation : O
         net = has_out e.host (Some (request_out operation begun_client)) a.net w.net h.net;
         others = other_out e.host (Some (request_out operation begun_client)) a.net w.net w.strays h.others;
         sent = λ f k found sent.
-            first_or (is_same f e) begun_client k (lookup (at_endpoint f) a.clients) found
+            first_or (is_same f e) begun_client k (lookup (is_same f) a.clients) found
             (λ new. let running : state.Running ≡ state.Sent = ap state_of new ∙ sent in absurd cc)
             (λ old. h.sent f k old sent);
         got = λ f k file found given.
-            first_or (is_same f e) begun_client k (lookup (at_endpoint f) a.clients) found
+            first_or (is_same f e) begun_client k (lookup (is_same f) a.clients) found
             (λ new. let nothing : None ≡ Some file = ap (λ (y : Client). phase_file y.phase) new ∙ given in absurd cc)
             (λ old. h.got f k file old given);
         known = λ f.
-            begun_more f w.begun _ ∙ ap (λ (b : Bool). is_same f e || b) (h.known f) ∙ found_first (is_same f e) begun_client (lookup (at_endpoint f) a.clients);
+            begun_more f w.begun _ ∙ ap (λ (b : Bool). is_same f e || b) (h.known f) ∙ found_first (is_same f e) begun_client (lookup (is_same f) a.clients);
         apart = h.apart;
       }

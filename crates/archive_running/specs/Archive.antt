@@ -6,7 +6,7 @@ use Rattle.std.specs.Map.{lookup, set_value}
 use Rattle.std.specs.Io.KnownBytes.{Appends}
 use Rattle.tftp_packet.specs.declared.endpoint.Endpoint.{Endpoint}
 use Rattle.tws_file.specs.declared.«ruleset».Ruleset.TheVariants.{Lynx, Ms}
-use Rattle.archive_table.specs.Server.{Server, Maps, Taken, port_above, empty_maps}
+use Rattle.archive_table.specs.Server.{Server, Maps, Taken, port_above, empty_maps, is_same}
 use Rattle.archive_table.specs.Keeper.{Keeping, LoadedFrom}
 use Rattle.archive_client.specs.declared.state.State.TheVariants as state
 use Rattle.archive_client.specs.Client.{Client, Operation, state_of, file_of}
@@ -14,7 +14,7 @@ use Rattle.archive_turns.specs.Wire.{Entry}
 use Rattle.archive_turns.specs.Turn.{Replies, Counted, IsTurn, next_visit}
 use Rattle.archive_turns.specs.Ready.{Clocked, IsRound, ready_visit}
 use Rattle.archive_turns.specs.Run.{Run, begin_opened, IsRunTurn}
-use Rattle.archive_world.specs.World.{Datagram, Begun, World, server_endpoint, at_endpoint, taken_with, start}
+use Rattle.archive_world.specs.World.{Datagram, Begun, World, server_endpoint, taken_with, start}
 use Rattle.archive_world.specs.Headline.{HasOwnPorts, IsFinishedGet}
 use Rattle.archive_world.specs.Restarts.{AreAlike}
 use Rattle.archive_world.specs.Traces.{starts, loads, Member, trace_from}
@@ -52,7 +52,7 @@ idle kept =
 -- A stranger's datagram: its source is not on the server's host, and no operation has begun there.
 pub record IsStrangers (d : Datagram) (a : Archive) : Type 0 where
   pub away : d.source.host ≢ server_endpoint.host
-  pub unbegun : lookup (at_endpoint d.source) a.clients ≡ None
+  pub unbegun : lookup (is_same d.source) a.clients ≡ None
 
 -- Each datagram that these calls receive on this host was sent to it before, or is a stranger's.
 abbrev pub Brings : (host : ℕ) → List Entry → Archive → Type 0
@@ -89,7 +89,7 @@ abbrev pub after_client : (host : ℕ) → (old new : Run) → (calls : List Ent
 after_client host old new calls a =
     record {
       server = a.server;
-      clients = set_value (at_endpoint (own_endpoint host old)) a.clients new.client;
+      clients = set_value (is_same (own_endpoint host old)) a.clients new.client;
       begun = a.begun;
       taken = a.taken;
       net = a.net ++ sent_by host calls;
@@ -127,7 +127,7 @@ pub data Moves : (old new : Archive) → List Member → Type 0 where
   server_restarts : (a : Archive) (maps : Maps) (now : Option (List Keeping)) → LoadsKept a.kept now a.server.maps maps → Moves a (after_restart maps now a) (does loads ∷ [])
   -- an operation begins on another host than the server's
   client_begins : (a : Archive) (host : ℕ) (operation : Operation) (port : Option ℕ) (replies : Replies) (r : Run) → host ≢ server_endpoint.host → (begin_opened port server_endpoint operation replies).result ≡ Ok r → Moves a (after_begin host operation r (begin_opened port server_endpoint operation replies).calls a) (does (starts (own_endpoint host r) operation) ∷ [])
-  client_turns : (a : Archive) (host : ℕ) (old new : Run) (calls : List Entry) (t : IsRunTurn old new calls) → host ≢ server_endpoint.host → lookup (at_endpoint (own_endpoint host old)) a.clients ≡ Some old.client → Brings host calls a → Moves a (after_client host old new calls a) (client_members t.answers host old)
+  client_turns : (a : Archive) (host : ℕ) (old new : Run) (calls : List Entry) (t : IsRunTurn old new calls) → host ≢ server_endpoint.host → lookup (is_same (own_endpoint host old)) a.clients ≡ Some old.client → Brings host calls a → Moves a (after_client host old new calls a) (client_members t.answers host old)
 
 -- The archive reaches this state by one move after another, and these are their members. At first the keeper has
 -- nothing.
@@ -147,8 +147,8 @@ pub record Mirrors (a : Archive) (w : World) : Type 0 where
   pub taken : w.taken ≡ a.taken
   pub net : (d : Datagram) → Contains a.net d → Contains w.net d
   pub others : (d : Datagram) → Contains w.net d → Contains a.net d ⊎ Contains w.strays d
-  pub sent : (e : Endpoint) (c : Client) → lookup (at_endpoint e) a.clients ≡ Some c → state_of c ≡ state.Sent → Contains w.sent e
-  pub got : (e : Endpoint) (c : Client) (file : List ℕ) → lookup (at_endpoint e) a.clients ≡ Some c → file_of c ≡ Ok file → Contains w.got (record { client = e; file = file })
+  pub sent : (e : Endpoint) (c : Client) → lookup (is_same e) a.clients ≡ Some c → state_of c ≡ state.Sent → Contains w.sent e
+  pub got : (e : Endpoint) (c : Client) (file : List ℕ) → lookup (is_same e) a.clients ≡ Some c → file_of c ≡ Ok file → Contains w.got (record { client = e; file = file })
 
 -- What a get that returned Ok has written: the whole file that its client has got, which is a finished get.
 pub record WritesFinished (e : Endpoint) (c : Client) (len : ℕ) (w : World) (written now : Option (List ℕ)) : Type 0 where
@@ -168,5 +168,5 @@ pub record CanReach (P : Client → Type 0) : Type 0 where
   pub own : HasOwnPorts (trace_from members start)
   pub endpoint : Endpoint
   pub client : Client
-  pub there : lookup (at_endpoint endpoint) archive.clients ≡ Some client
+  pub there : lookup (is_same endpoint) archive.clients ≡ Some client
   pub holds : P client

@@ -1,12 +1,13 @@
 //! What holds for the running archive. This function does nothing: its contract is a theorem.
 
 ghost use Rattle.std.specs.Prelude.{◌≡◌, ℕ, List, Option, Some, Ok};
+ghost use Rattle.archive_table.specs.Server.{is_same};
 ghost use Rattle.std.specs.Map.{lookup};
 ghost use Rattle.tftp_packet.specs.declared.endpoint.Endpoint.{Endpoint};
 ghost use Rattle.archive_client.specs.Client.{Client, state_of, file_of};
 ghost use Rattle.archive_client.specs.declared.state.State.TheVariants.{Sent};
 ghost use Rattle.archive_turns.specs.Run.{put_result, WritesGot};
-ghost use Rattle.archive_world.specs.World.{at_endpoint, start, AllMayHappen, AllMerged};
+ghost use Rattle.archive_world.specs.World.{start, AllMayHappen, AllMerged};
 ghost use Rattle.archive_world.specs.Headline.{HasOwnPorts, Headline, SentOnce};
 ghost use Rattle.archive_world.specs.Traces.{Member, trace_from, trace_steps};
 ghost use Rattle.archive_running.specs.Archive.{Archive, Reaches, Mirrors, WritesFinished, CanReach};
@@ -22,8 +23,8 @@ pub fn running_law()
     ensures merged { (a : Archive) (members : List Member) → Reaches a members → AllMerged (trace_steps members start) start }
     ensures headline { (a : Archive) (members : List Member) → Reaches a members → HasOwnPorts (trace_from members start) → Headline (trace_from members start) }
     // By `mirrors`, the operations and files of this world are those of the archive.
-    ensures sent { (a : Archive) (members : List Member) → Reaches a members → HasOwnPorts (trace_from members start) → (e : Endpoint) (c : Client) (len n : ℕ) → lookup (at_endpoint e) a.clients ≡ Some c → put_result (state_of c) len ≡ Ok n → SentOnce (trace_from members start).begun (trace_from members start).taken e }
-    ensures fetched { (a : Archive) (members : List Member) → Reaches a members → HasOwnPorts (trace_from members start) → (e : Endpoint) (c : Client) (len : ℕ) (written now : Option (List ℕ)) → lookup (at_endpoint e) a.clients ≡ Some c → WritesGot c (Ok len) written now → WritesFinished e c len (trace_from members start) written now }
+    ensures sent { (a : Archive) (members : List Member) → Reaches a members → HasOwnPorts (trace_from members start) → (e : Endpoint) (c : Client) (len n : ℕ) → lookup (is_same e) a.clients ≡ Some c → put_result (state_of c) len ≡ Ok n → SentOnce (trace_from members start).begun (trace_from members start).taken e }
+    ensures fetched { (a : Archive) (members : List Member) → Reaches a members → HasOwnPorts (trace_from members start) → (e : Endpoint) (c : Client) (len : ℕ) (written now : Option (List ℕ)) → lookup (is_same e) a.clients ≡ Some c → WritesGot c (Ok len) written now → WritesFinished e c len (trace_from members start) written now }
     // There are runs in which a client counts its file as sent, and runs in which one has fetched a collection.
     ensures sends { CanReach (λ c. state_of c ≡ Sent) }
     ensures fetches { CanReach (λ c. (file : List ℕ) × (file_of c ≡ Ok file)) }

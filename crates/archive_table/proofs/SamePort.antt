@@ -13,7 +13,7 @@ use Rattle.tftp_ends.specs.declared.recv_fault.RecvFault.{RecvFault}
 use Rattle.tftp_ends.specs.Ends.{Verdict, granted, refused, SendAnswer, Receiver, RecvAnswer, answer_of, receiver_take, receiver_data, sender_ack, sender_timeout, receiver_timeout}
 use Rattle.tws_file.specs.declared.«ruleset».Ruleset.{Ruleset}
 use Rattle.tws_best.specs.Best.{Collected}
-use Rattle.archive_table.specs.Server.{End, sending, receiving, Transfer, Maps, Server, Grant, all, no_memory, unkept, Heard, nothing, stray, ended, acked, block, map_of, has_place, is_too_long, memory_of, heard, transfer_at, read_fits, read_placed, read_named, read_asked, write_placed, write_asked, request_packet, request_decoded, server_request, file_come, file_asked, block_answered, data_at, sender_goes_on, ack_at, transfer_heard, datagram_at, server_datagram, receiver_goes_on, waits_at, timeout_at, server_timeout}
+use Rattle.archive_table.specs.Server.{End, sending, receiving, Transfer, Maps, Server, Grant, all, no_memory, unkept, Heard, nothing, stray, ended, acked, block, map_of, has_place, memory_of, heard, transfer_at, read_fits, read_placed, read_named, read_asked, write_placed, write_asked, request_packet, request_decoded, server_request, file_come, file_asked, block_answered, data_at, sender_goes_on, ack_at, transfer_heard, datagram_at, server_datagram, receiver_goes_on, waits_at, timeout_at, server_timeout, has_long_text}
 use Rattle.tws_file.specs.Names.{kind_named}
 
 fits_same : (long : Bool) (v : Verdict) (spare : ℕ) (from : Endpoint) (c : Collected) (s : Server) → (read_fits long v spare from c s).server.request ≡ s.request
@@ -22,7 +22,7 @@ fits_same false granted spare from c s = refl
 fits_same false refused spare from c s = refl
 
 placed_same : (place : Bool) (v : Verdict) (spare : ℕ) (from : Endpoint) (c : Collected) (s : Server) → (read_placed place v spare from c s).server.request ≡ s.request
-placed_same true v spare from c s = fits_same (is_too_long c) v spare from c s
+placed_same true v spare from c s = fits_same (has_long_text c) v spare from c s
 placed_same false v spare from c s = refl
 
 named_same : (kind : Option Ruleset) (v : Verdict) (spare : ℕ) (from : Endpoint) (s : Server) → (read_named kind v spare from s).server.request ≡ s.request

@@ -164,8 +164,8 @@ map_of Ms maps = maps.ms
 abbrev pub has_place : Server → Bool
 has_place s = nat_lt (length s.live) LIVE
 
-abbrev pub is_too_long : Collected → Bool
-is_too_long c = nat_lt MAX_FILE (length (collection_text c))
+abbrev pub has_long_text : Collected → Bool
+has_long_text c = nat_lt MAX_FILE (length (collection_text c))
 
 -- whether there is memory for the transfer
 abbrev pub opens_if : Verdict → (spare : ℕ) → (from : Endpoint) → End → (first : List ℕ) → Server → Answer
@@ -184,7 +184,7 @@ read_fits false verdict spare from c s = read_opens verdict spare from c s
 
 -- whether there is a place for one more transfer
 abbrev pub read_placed : (place : Bool) → Verdict → (spare : ℕ) → (from : Endpoint) → Collected → Server → Answer
-read_placed true verdict spare from c s = read_fits (is_too_long c) verdict spare from c s
+read_placed true verdict spare from c s = read_fits (has_long_text c) verdict spare from c s
 read_placed false verdict spare from c s = refuses ServerBusy from s
 
 -- which collection is meant

@@ -8,7 +8,7 @@ use Rattle.tftp_packet.specs.Decode.{decode_bytes}
 use Rattle.tftp_ends.specs.Ends.{Verdict, granted, refused}
 use Rattle.tws_file.specs.declared.«ruleset».Ruleset.{Ruleset}
 use Rattle.tws_best.specs.Best.{Collected}
-use Rattle.archive_table.specs.Server.{Server, Answer, End, Merges, transfer_at, has_place, map_of, is_too_long, opens_if, read_fits, read_placed, read_named, read_asked, write_placed, write_asked, request_packet, request_decoded, server_request}
+use Rattle.archive_table.specs.Server.{Server, Answer, End, Merges, transfer_at, has_place, map_of, opens_if, read_fits, read_placed, read_named, read_asked, write_placed, write_asked, request_packet, request_decoded, server_request, has_long_text}
 use Rattle.tws_file.specs.Names.{kind_named}
 use Rattle.archive_turns.specs.Timers.{live_ports}
 use Rattle.archive_turns.proofs.Ports.{insert_port, keys_insert}
@@ -27,7 +27,7 @@ fits_step true v spare from c s free = record { merges = refl; ports = refl }
 fits_step false v spare from c s free = opens_step v spare from _ _ s free
 
 placed_step : (place : Bool) (v : Verdict) (spare : ℕ) (from : Endpoint) (c : Collected) (s : Server) → transfer_at spare s ≡ None → RequestStep spare s (read_placed place v spare from c s)
-placed_step true v spare from c s free = fits_step (is_too_long c) v spare from c s free
+placed_step true v spare from c s free = fits_step (has_long_text c) v spare from c s free
 placed_step false v spare from c s free = record { merges = refl; ports = refl }
 
 named_step : (kind : Option Ruleset) (v : Verdict) (spare : ℕ) (from : Endpoint) (s : Server) → transfer_at spare s ≡ None → RequestStep spare s (read_named kind v spare from s)

@@ -7,13 +7,13 @@ use Rattle.tftp_packet.specs.declared.out.Out.{Out}
 use Rattle.tftp_ends.specs.declared.limits.TheConstants.{MAX_FILE}
 use Rattle.tftp_ends.specs.Ends.{Verdict, granted}
 use Rattle.archive_client.specs.declared.cause.Cause.TheVariants as cause
-use Rattle.archive_client.specs.Client.{Client, Operation, put, client_start, request_out, is_over}
+use Rattle.archive_client.specs.Client.{Client, Operation, put, client_start, request_out, is_over, is_too_long}
 use Rattle.archive_turns.specs.declared.limits.TheConstants.{QUIET_TURNS}
 use Rattle.archive_turns.specs.declared.run_fault.RunFault.{RunFault}
 use Rattle.archive_turns.specs.declared.run_fault.RunFault.TheVariants as fails
 use Rattle.archive_turns.specs.Wire.{Entry, opened, closed, came, quiet, failed, sent, Grows}
 use Rattle.archive_turns.specs.Turn.{Replies, datagram, nothing, fault}
-use Rattle.archive_turns.specs.Run.{Run, Begun, Begins, is_long, begin_sized, begin_started, run_heard, run_quiet, run_received, MakesRan, MakesRunTurn, none, more, MakesSome}
+use Rattle.archive_turns.specs.Run.{Run, Begun, Begins, begin_sized, begin_started, run_heard, run_quiet, run_received, MakesRan, MakesRunTurn, none, more, MakesSome}
 use Rattle.archive_turns.proofs.Log.{grows_none, grows_join}
 
 abbrev replies : (send_done close_done : Bool) → Replies
@@ -31,9 +31,9 @@ run_at c port = record { client = c; port = port; left = QUIET_TURNS }
 abbrev ok_run : Run → Result Run RunFault
 ok_run r = Ok r
 
-pub begin_made : {before mid after : Option (List Entry)} (server : Endpoint) (operation : Operation) (port : ℕ) (c : Client) (out : Out) (ok : Bool) → is_long operation ≡ false → c ≡ client_start port server operation → out ≡ request_out operation c → Grows before mid (opened (Some port) ∷ []) → Grows mid after (sent out ok ∷ []) → Begins server operation (Ok (run_at c port)) before after
+pub begin_made : {before mid after : Option (List Entry)} (server : Endpoint) (operation : Operation) (port : ℕ) (c : Client) (out : Out) (ok : Bool) → is_too_long operation ≡ false → c ≡ client_start port server operation → out ≡ request_out operation c → Grows before mid (opened (Some port) ∷ []) → Grows mid after (sent out ok ∷ []) → Begins server operation (Ok (run_at c port)) before after
 begin_made {before} {mid} {after} server operation port c out ok short c-is out-is first then =
-    let used : begin_started (client_start port server operation) operation port ok ≡ begin_sized (is_long operation) server operation port (replies ok true) = ap (λ (b : Bool). begin_sized b server operation port (replies ok true)) (sym short) in
+    let used : begin_started (client_start port server operation) operation port ok ≡ begin_sized (is_too_long operation) server operation port (replies ok true) = ap (λ (b : Bool). begin_sized b server operation port (replies ok true)) (sym short) in
     let goes : Grows mid after (sent (request_out operation (client_start port server operation)) ok ∷ []) = subst (λ (o : Out). Grows mid after (sent o ok ∷ [])) (out-is ∙ ap (request_out operation) c-is) then in
     record {
       port = Some port;
@@ -42,9 +42,9 @@ begin_made {before} {mid} {after} server operation port c out ok short c-is out-
       log = subst (λ (b : Begun). Grows before after b.calls) used (grows_join first goes);
     }
 
-pub begin_long : {before mid after : Option (List Entry)} (server : Endpoint) (operation : Operation) (port : ℕ) (ok : Bool) → is_long operation ≡ true → Grows before mid (opened (Some port) ∷ []) → Grows mid after (closed port ok ∷ []) → Begins server operation (Err (fails.Transfer cause.TooLong)) before after
+pub begin_long : {before mid after : Option (List Entry)} (server : Endpoint) (operation : Operation) (port : ℕ) (ok : Bool) → is_too_long operation ≡ true → Grows before mid (opened (Some port) ∷ []) → Grows mid after (closed port ok ∷ []) → Begins server operation (Err (fails.Transfer cause.TooLong)) before after
 begin_long {before} {mid} {after} server operation port ok long first then =
-    let used : begin_sized true server operation port (replies true ok) ≡ begin_sized (is_long operation) server operation port (replies true ok) = ap (λ (b : Bool). begin_sized b server operation port (replies true ok)) (sym long) in
+    let used : begin_sized true server operation port (replies true ok) ≡ begin_sized (is_too_long operation) server operation port (replies true ok) = ap (λ (b : Bool). begin_sized b server operation port (replies true ok)) (sym long) in
     record {
       port = Some port;
       replies = replies true ok;
@@ -52,13 +52,13 @@ begin_long {before} {mid} {after} server operation port ok long first then =
       log = subst (λ (b : Begun). Grows before after b.calls) used (grows_join first then);
     }
 
-pub short_put : (file : List ℕ) → length file ≤ MAX_FILE → is_long (put file) ≡ false
+pub short_put : (file : List ℕ) → length file ≤ MAX_FILE → is_too_long (put file) ≡ false
 short_put file short = elim (cases_Bool (nat_lt MAX_FILE (length file))) [
   | inl y ↦ let above : MAX_FILE < length file = ltb-true MAX_FILE (length file) y in absurd (omega arith)
   | inr n ↦ n
 ]
 
-pub long_put : (file : List ℕ) → MAX_FILE < length file → is_long (put file) ≡ true
+pub long_put : (file : List ℕ) → MAX_FILE < length file → is_too_long (put file) ≡ true
 long_put file long = lt-ltb MAX_FILE (length file) long
 
 -- ---- a turn

@@ -1,17 +1,16 @@
 -- A client that runs over a wire: how it begins, one turn of it, and how a whole run ends.
-use Rattle.std.specs.Prelude.{◌≡◌, ◌⊎◌, ℕ, ◌≤◌, ◌+◌, ◌-◌, Bool, true, false, nat_lt, nat_le, List, [], ◌∷◌, ◌++◌, length, Option, None, Some, Result, Ok, Err}
+use Rattle.std.specs.Prelude.{◌≡◌, ◌⊎◌, ℕ, ◌≤◌, ◌+◌, ◌-◌, Bool, true, false, nat_le, List, [], ◌∷◌, ◌++◌, length, Option, None, Some, Result, Ok, Err}
 use Rattle.std.specs.Io.KnownBytes.{Appends}
 use Rattle.byte_output.specs.Output.{AppendsPrefix}
 use Rattle.tws_file.specs.declared.«ruleset».Ruleset.{Ruleset}
 use Rattle.tftp_packet.specs.declared.endpoint.Endpoint.{Endpoint}
 use Rattle.tftp_packet.specs.declared.out.Out.{Out}
-use Rattle.tftp_ends.specs.declared.limits.TheConstants.{MAX_FILE}
 use Rattle.tftp_ends.specs.Ends.{Verdict}
 use Rattle.archive_client.specs.declared.cause.Cause.{Cause}
 use Rattle.archive_client.specs.declared.cause.Cause.TheVariants as cause
 use Rattle.archive_client.specs.declared.state.State.{State}
 use Rattle.archive_client.specs.declared.state.State.TheVariants as state
-use Rattle.archive_client.specs.Client.{Client, Operation, put, get, Answer, client_start, request_out, client_datagram, client_timeout, state_of, is_over, file_of}
+use Rattle.archive_client.specs.Client.{Client, Operation, put, get, is_too_long, Answer, client_start, request_out, client_datagram, client_timeout, state_of, is_over, file_of}
 use Rattle.archive_turns.specs.declared.limits.TheConstants.{QUIET_TURNS}
 use Rattle.archive_turns.specs.declared.run_fault.RunFault.{RunFault}
 use Rattle.archive_turns.specs.declared.run_fault.RunFault.TheVariants as fails
@@ -36,10 +35,6 @@ pub record Ran : Type 0 where
 
 -- ---- the begin
 
-abbrev pub is_long : Operation → Bool
-is_long (put file) = nat_lt MAX_FILE (length file)
-is_long (get kind) = false
-
 abbrev pub begin_started : Client → Operation → (port : ℕ) → (ok : Bool) → Begun
 begin_started c operation port ok =
     record {
@@ -58,7 +53,7 @@ begin_sized false server operation port replies =
     begin_started (client_start port server operation) operation port replies.sent
 
 abbrev pub begin_opened : (port : Option ℕ) → Endpoint → Operation → Replies → Begun
-begin_opened (Some port) server operation replies = begin_sized (is_long operation) server operation port replies
+begin_opened (Some port) server operation replies = begin_sized (is_too_long operation) server operation port replies
 begin_opened None server operation replies = record { result = Err fails.Socket; calls = opened None ∷ [] }
 
 -- a run begins: a port is opened, and the request is sent from there

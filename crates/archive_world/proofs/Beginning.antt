@@ -7,8 +7,8 @@ use Rattle.tftp_packet.specs.Packet.{Packet, read, write, data_block, ack, error
 use Rattle.tftp_packet.specs.Decode.{decode_bytes}
 use Rattle.tftp_ends.specs.declared.limits.TheConstants.{MAX_FILE}
 use Rattle.archive_table.specs.Server.{is_same}
-use Rattle.archive_client.specs.Client.{Operation, put, get, Client, IsOperation, client_start, request_packet}
-use Rattle.archive_world.specs.World.{Datagram, Begun, World, server_endpoint, client_at, is_too_long, begins}
+use Rattle.archive_client.specs.Client.{Operation, put, get, Client, IsOperation, client_start, request_packet, is_too_long}
+use Rattle.archive_world.specs.World.{Datagram, Begun, World, server_endpoint, client_at, begins}
 use Rattle.archive_world.specs.Headline.{HasOwnPorts}
 use Rattle.archive_world.proofs.Places.{Has, Has-last, Has-push, Extends-push, at-extends, at-last, before_last}
 use Rattle.archive_world.proofs.Endpoints.{exact_endpoint}

@@ -4,9 +4,9 @@ use Rattle.std.specs.Map.{lookup, set_value}
 use Rattle.tftp_packet.specs.declared.endpoint.Endpoint.{Endpoint}
 use Rattle.tftp_packet.specs.declared.out.Out.{Out}
 use Rattle.tftp_packet.specs.Decode.{decode_bytes}
-use Rattle.archive_table.specs.Server.{Taken, Transfer, transfer_at}
+use Rattle.archive_table.specs.Server.{Taken, Transfer, transfer_at, is_same}
 use Rattle.archive_client.specs.Client.{Client}
-use Rattle.archive_world.specs.World.{Datagram, World, Got, server_endpoint, datagram_of, net_with, at_endpoint, client_at}
+use Rattle.archive_world.specs.World.{Datagram, World, Got, server_endpoint, datagram_of, net_with, client_at}
 use Rattle.archive_world.proofs.Places.{Has, Extends-same, Has-push}
 use Rattle.archive_world.proofs.Keyed.{NewOrOld, lookup-set, lookup-written}
 use Rattle.archive_world.proofs.Endpoints.{endpoint_is, exact_endpoint}
@@ -21,7 +21,7 @@ acted e next out sent got w =
     record {
       net = net_with e.host w.net out;
       server = w.server;
-      clients = set_value (at_endpoint e) w.clients next;
+      clients = set_value (is_same e) w.clients next;
       begun = w.begun;
       taken = w.taken;
       sent = sent;
@@ -115,17 +115,17 @@ module _ (w : World) (h : Holds w) (e : Endpoint) (was next : Client) (out : Opt
   -- the client at the endpoint is the new one
   found_next : (f : Endpoint) (c : Client) → client_at f after ≡ Some c → f ≡ e → c ≡ next
   found_next f c is same =
-      let written = lookup-written at_endpoint exact_endpoint w.clients e was next a.is in
-      let here : lookup (at_endpoint e) (set_value (at_endpoint e) w.clients next) ≡ Some c = ap (λ (x : Endpoint). lookup (at_endpoint x) (set_value (at_endpoint e) w.clients next)) (sym same) ∙ is in
+      let written = lookup-written is_same exact_endpoint w.clients e was next a.is in
+      let here : lookup (is_same e) (set_value (is_same e) w.clients next) ≡ Some c = ap (λ (x : Endpoint). lookup (is_same x) (set_value (is_same e) w.clients next)) (sym same) ∙ is in
       same_some c next (sym here ∙ written)
 
-  client_in : (f : Endpoint) (c : Client) → NewOrOld at_endpoint exact_endpoint w.clients e next f c → IsFaithful w f c
+  client_in : (f : Endpoint) (c : Client) → NewOrOld is_same exact_endpoint w.clients e next f c → IsFaithful w f c
   client_in f c (inl new) =
       subst (IsFaithful w f) (sym new.1) (subst (λ (x : Endpoint). IsFaithful w x next) (sym new.0) a.client)
   client_in f c (inr old) = h.clients f c old
 
   -- it was bound before
-  old_bound : (f : Endpoint) (c : Client) → NewOrOld at_endpoint exact_endpoint w.clients e next f c → (port : ℕ) → IsBound w f port → MayBind c.phase port
+  old_bound : (f : Endpoint) (c : Client) → NewOrOld is_same exact_endpoint w.clients e next f c → (port : ℕ) → IsBound w f port → MayBind c.phase port
   old_bound f c (inl new) port b =
       let at_e : IsBound w e port = subst (λ (x : Endpoint). IsBound w x port) new.0 b in
       subst (λ (x : Client). MayBind x.phase port) (sym new.1) (a.still port (h.bound e was a.is port at_e))
@@ -134,7 +134,7 @@ module _ (w : World) (h : Holds w) (e : Endpoint) (was next : Client) (out : Opt
   bound_in : (f : Endpoint) (c : Client) → client_at f after ≡ Some c → (port : ℕ) → IsBound after f port → MayBind c.phase port
   bound_in f c is port b =
       ⊎_elim
-      (old_bound f c (lookup-set at_endpoint exact_endpoint w.clients e next f c is) port)
+      (old_bound f c (lookup-set is_same exact_endpoint w.clients e next f c is) port)
       (λ (new : NewBound f port). subst (λ (x : Client). MayBind x.phase port) (sym (found_next f c is new.by)) (binding_of f port new).0)
       (split f port b)
 
@@ -181,7 +181,7 @@ module _ (w : World) (h : Holds w) (e : Endpoint) (was next : Client) (out : Opt
         apart = h.apart;
         live = λ port t is. live-lasts w after grows port t (h.live port t is);
         untaken = untaken_in;
-        clients = λ f c is. faithful-lasts w after grows f c (client_in f c (lookup-set at_endpoint exact_endpoint w.clients e next f c is));
+        clients = λ f c is. faithful-lasts w after grows f c (client_in f c (lookup-set is_same exact_endpoint w.clients e next f c is));
         bound = bound_in;
         one_port = λ f p q begun b c.
             one_port_in f p q (record { begun = begun.begun; among = begun.among; client = begun.client }) (split f p b) (split f q c);

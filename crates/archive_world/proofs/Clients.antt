@@ -7,22 +7,22 @@ use Rattle.tftp_packet.specs.declared.endpoint.Endpoint.{Endpoint}
 use Rattle.tftp_packet.specs.declared.out.Out.{Out}
 use Rattle.archive_client.specs.declared.state.State.{State}
 use Rattle.tftp_ends.specs.Ends.{Verdict, granted, refused}
-use Rattle.archive_table.specs.Server.{Grant, all, no_memory, memory_of}
+use Rattle.archive_table.specs.Server.{Grant, all, no_memory, memory_of, is_same}
 use Rattle.archive_client.specs.Client.{Client, phase_file, state_of, client_datagram, client_timeout}
 use Rattle.archive_client.specs.Client as client
-use Rattle.archive_world.specs.World.{World, Got, at_endpoint, newly_got, newly_sent, got_with, sent_with, net_with, after_client, client_at, client_waits, client_hears, Datagram}
+use Rattle.archive_world.specs.World.{World, Got, newly_got, newly_sent, got_with, sent_with, net_with, after_client, client_at, client_waits, client_hears, Datagram}
 use Rattle.archive_world.specs.Inside.{IsFirst, Answers, answered_by, newly_fetched}
 use Rattle.archive_world.proofs.Firsts.{first_lookup, first_set}
 
 -- what a client's step returned, in terms of the client after it
-pub answers_at : (step : Client → client.Answer) (e : Endpoint) (xs : List (Endpoint × Client)) (i : ℕ) (entry : Endpoint × Client) (here : Endpoint) (before after : Client) (was : State) (sent : Bool) (file : Option (List ℕ)) (out : Option Out) → IsFirst (at_endpoint e) i xs → (here, before) ≡ get_or xs i entry → after ≡ (step before).client → was ≡ state_of before → sent ≡ newly_sent was (state_of after) → file ≡ newly_fetched (newly_got was (state_of after)) (phase_file after.phase) → out ≡ (step before).out → Answers step e xs (slice_set xs i (here, after)) sent file out
+pub answers_at : (step : Client → client.Answer) (e : Endpoint) (xs : List (Endpoint × Client)) (i : ℕ) (entry : Endpoint × Client) (here : Endpoint) (before after : Client) (was : State) (sent : Bool) (file : Option (List ℕ)) (out : Option Out) → IsFirst (is_same e) i xs → (here, before) ≡ get_or xs i entry → after ≡ (step before).client → was ≡ state_of before → sent ≡ newly_sent was (state_of after) → file ≡ newly_fetched (newly_got was (state_of after)) (phase_file after.phase) → out ≡ (step before).out → Answers step e xs (slice_set xs i (here, after)) sent file out
 answers_at step e xs i entry here before after was sent file out first whole after-is was-is sent-is file-is out-is =
     record {
       client = before;
-      there = first_lookup (at_endpoint e) xs i entry first ∙ ap (λ (y : Endpoint × Client). Some y.1) (sym whole);
+      there = first_lookup (is_same e) xs i entry first ∙ ap (λ (y : Endpoint × Client). Some y.1) (sym whole);
       written = ap (λ (k : Endpoint). slice_set xs i (k, after)) (ap (λ (y : Endpoint × Client). y.0) whole)
           ∙ ap (λ (c : Client). slice_set xs i ((get_or xs i entry).0, c)) after-is
-          ∙ sym (first_set (at_endpoint e) xs i entry (step before).client first);
+          ∙ sym (first_set (is_same e) xs i entry (step before).client first);
       sent_is = sent-is
           ∙ ap (λ (s : State). newly_sent s (state_of after)) was-is
           ∙ ap (λ (c : Client). newly_sent (state_of before) (state_of c)) after-is;
@@ -33,7 +33,7 @@ answers_at step e xs i entry here before after was sent file out first whole aft
     }
 
 -- the same for a datagram, which was delivered unchanged
-pub hears_at : (verdict : Verdict) (heard d : Datagram) → heard ≡ d → (xs : List (Endpoint × Client)) (i : ℕ) (entry : Endpoint × Client) (here : Endpoint) (before after : Client) (was : State) (sent : Bool) (file : Option (List ℕ)) (out told : Option Out) → IsFirst (at_endpoint d.target) i xs → (here, before) ≡ get_or xs i entry → after ≡ (client_datagram verdict heard.source heard.bytes before).client → was ≡ state_of before → sent ≡ newly_sent was (state_of after) → file ≡ newly_fetched (newly_got was (state_of after)) (phase_file after.phase) → out ≡ told → told ≡ (client_datagram verdict heard.source heard.bytes before).out → (v : Verdict) × Answers (client_datagram v d.source d.bytes) d.target xs (slice_set xs i (here, after)) sent file out
+pub hears_at : (verdict : Verdict) (heard d : Datagram) → heard ≡ d → (xs : List (Endpoint × Client)) (i : ℕ) (entry : Endpoint × Client) (here : Endpoint) (before after : Client) (was : State) (sent : Bool) (file : Option (List ℕ)) (out told : Option Out) → IsFirst (is_same d.target) i xs → (here, before) ≡ get_or xs i entry → after ≡ (client_datagram verdict heard.source heard.bytes before).client → was ≡ state_of before → sent ≡ newly_sent was (state_of after) → file ≡ newly_fetched (newly_got was (state_of after)) (phase_file after.phase) → out ≡ told → told ≡ (client_datagram verdict heard.source heard.bytes before).out → (v : Verdict) × Answers (client_datagram v d.source d.bytes) d.target xs (slice_set xs i (here, after)) sent file out
 hears_at verdict heard d is-heard xs i entry here before after was sent file out told first whole after-is was-is sent-is file-is out-is told-is =
     let step : Datagram → client.Answer = λ x. client_datagram verdict x.source x.bytes before in (
       verdict,
@@ -59,10 +59,10 @@ answered_alike : (step : Client → client.Answer) (e : Endpoint) (w : World) (a
 answered_alike step e w after sent file out is =
     let next : Client = (step is.client).client in
     ap (λ (l : List (Endpoint × Client)). answered_by e l sent file out w) is.written
-    ∙ ap (λ (b : Bool). answered_by e (set_value (at_endpoint e) w.clients next) b file out w) is.sent_is
-    ∙ ap (λ (o : Option Out). answered_by e (set_value (at_endpoint e) w.clients next) (newly_sent (state_of is.client) (state_of next)) file o w) is.out_is
-    ∙ ap (λ (f : Option (List ℕ)). answered_by e (set_value (at_endpoint e) w.clients next) (newly_sent (state_of is.client) (state_of next)) f (step is.client).out w) is.file_is
-    ∙ ap (λ (gs : List Got). record { net = net_with e.host w.net (step is.client).out; server = w.server; clients = set_value (at_endpoint e) w.clients next; begun = w.begun; taken = w.taken; sent = sent_with (newly_sent (state_of is.client) (state_of next)) e w.sent; got = gs; opened = w.opened; strays = w.strays })
+    ∙ ap (λ (b : Bool). answered_by e (set_value (is_same e) w.clients next) b file out w) is.sent_is
+    ∙ ap (λ (o : Option Out). answered_by e (set_value (is_same e) w.clients next) (newly_sent (state_of is.client) (state_of next)) file o w) is.out_is
+    ∙ ap (λ (f : Option (List ℕ)). answered_by e (set_value (is_same e) w.clients next) (newly_sent (state_of is.client) (state_of next)) f (step is.client).out w) is.file_is
+    ∙ ap (λ (gs : List Got). record { net = net_with e.host w.net (step is.client).out; server = w.server; clients = set_value (is_same e) w.clients next; begun = w.begun; taken = w.taken; sent = sent_with (newly_sent (state_of is.client) (state_of next)) e w.sent; got = gs; opened = w.opened; strays = w.strays })
     (fetched_alike (newly_got (state_of is.client) (state_of next)) e (phase_file next.phase) w.got)
 
 pub waited : (e : Endpoint) (w seen new : World) → seen ≡ w → (before after : List (Endpoint × Client)) (sent : Bool) (file : Option (List ℕ)) (out : Option Out) → before ≡ seen.clients → Answers client_timeout e before after sent file out → new ≡ answered_by e after sent file out seen → new ≡ client_waits (client_at e w) e w
@@ -73,9 +73,9 @@ waited e w seen new is-seen before after sent file out same told new-is =
     ∙ ap (λ (o : Option Client). client_waits o e seen) (sym is.there)
     ∙ ap (λ (v : World). client_waits (client_at e v) e v) is-seen
 
-pub waited_none : (e : Endpoint) (w seen : World) → seen ≡ w → (before : List (Endpoint × Client)) → before ≡ seen.clients → lookup (at_endpoint e) before ≡ None → w ≡ client_waits (client_at e w) e w
+pub waited_none : (e : Endpoint) (w seen : World) → seen ≡ w → (before : List (Endpoint × Client)) → before ≡ seen.clients → lookup (is_same e) before ≡ None → w ≡ client_waits (client_at e w) e w
 waited_none e w seen is-seen before same nobody =
-    let none = subst (λ (l : List (Endpoint × Client)). lookup (at_endpoint e) l ≡ None) same nobody in
+    let none = subst (λ (l : List (Endpoint × Client)). lookup (is_same e) l ≡ None) same nobody in
     sym is-seen
     ∙ ap (λ (o : Option Client). client_waits o e seen) (sym none)
     ∙ ap (λ (v : World). client_waits (client_at e v) e v) is-seen
@@ -101,9 +101,9 @@ heard d e w seen new is-there is-seen before after sent file out same answers ne
           ∙ ap (λ (v : World). client_hears (client_at d.target v) (grant_with is.0) d v) is-seen,
     )
 
-pub heard_none : (d : Datagram) (e : Endpoint) (w seen : World) → e ≡ d.target → seen ≡ w → (before : List (Endpoint × Client)) → before ≡ seen.clients → lookup (at_endpoint e) before ≡ None → (grant : Grant) × (w ≡ client_hears (client_at d.target w) grant d w)
+pub heard_none : (d : Datagram) (e : Endpoint) (w seen : World) → e ≡ d.target → seen ≡ w → (before : List (Endpoint × Client)) → before ≡ seen.clients → lookup (is_same e) before ≡ None → (grant : Grant) × (w ≡ client_hears (client_at d.target w) grant d w)
 heard_none d e w seen is-there is-seen before same nobody =
-    let none = subst (λ (l : List (Endpoint × Client)). lookup (at_endpoint e) l ≡ None) same nobody in (
+    let none = subst (λ (l : List (Endpoint × Client)). lookup (is_same e) l ≡ None) same nobody in (
       all,
       sym is-seen
           ∙ ap (λ (o : Option Client). client_hears o all d seen) (sym none)

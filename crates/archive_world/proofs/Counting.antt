@@ -1,9 +1,9 @@
 -- Every operation that has begun is that of an event.
 use Rattle.std.proofs.Common.{◌≡◌, ◌⊎◌, ℕ, Bool, true, false, ◌==◌, List, [], ◌∷◌, ◌++◌, length, slice_get, Contains, Option, None, Some, refl, ap, sym, inl, inr}
 use Rattle.archive_table.specs.Server.{Maps, Grant, Transfer, transfer_at}
-use Rattle.archive_client.specs.Client.{Operation, Client}
+use Rattle.archive_client.specs.Client.{Operation, Client, is_too_long}
 use Rattle.tftp_packet.specs.declared.endpoint.Endpoint.{Endpoint}
-use Rattle.archive_world.specs.World.{Datagram, Begun, Event, begin, deliver, client_times_out, server_times_out, stray, restart, World, Step, server_endpoint, client_at, has_begun, is_too_long, begins_unless, request_comes, server_hears, client_hears, arrives, delivers, client_waits, strays_unless, event_happens, happens, run_from, run, start}
+use Rattle.archive_world.specs.World.{Datagram, Begun, Event, begin, deliver, client_times_out, server_times_out, stray, restart, World, Step, server_endpoint, client_at, has_begun, begins_unless, request_comes, server_hears, client_hears, arrives, delivers, client_waits, strays_unless, event_happens, happens, run_from, run, start}
 use Rattle.archive_world.specs.Headline.{BeganBy}
 use Rattle.archive_world.proofs.Places.{Has, Has-push, Has-from_contains}
 

@@ -3,7 +3,7 @@ use Rattle.std.specs.Prelude.{◌≡◌, ◌≢◌, ℕ, Bool, true, false, ◌=
 use Rattle.std.proofs.Common.{refl, ap, sym, ◌∙◌, subst, inl, inr}
 use Rattle.std.proofs.lemmas.Bool.{eq-eqb, ne_eqb, true≢false}
 use Rattle.tftp_packet.specs.declared.endpoint.Endpoint.{Endpoint}
-use Rattle.archive_client.specs.Client.{Operation, Client}
+use Rattle.archive_client.specs.Client.{Operation, Client, is_too_long}
 use Rattle.archive_table.specs.Server.{Maps, Taken, Grant, all, no_memory, unkept, memory_of, IsMerged, Merges, request_verdict, server_request, server_datagram, server_timeout, transfer_at, empty_maps}
 use Rattle.archive_table.specs.Server as table
 use Rattle.tftp_ends.specs.Ends.{Verdict, granted}
@@ -12,7 +12,7 @@ use Rattle.archive_table.specs.Keeper.{Keeping, KeepsOne, KeepsMaps, FailsKeep, 
 use Rattle.archive_table.proofs.SamePort.{request_same, datagram_same, timeout_same}
 use Rattle.archive_world.specs.declared.event_fault.EventFault.{EventFault}
 use Rattle.archive_world.specs.declared.event_fault.EventFault.TheVariants as fault
-use Rattle.archive_world.specs.World.{Event, begin, deliver, client_times_out, server_times_out, stray, restart, World, Datagram, Opening, server_endpoint, has_begun, is_too_long, client_at, begins_unless, client_hears, client_waits, strays_unless, restarts, opened_with, taken_with, asked_of, after_request, event_happens, HasMerged, IsFree, MayDeliver, MayHappen}
+use Rattle.archive_world.specs.World.{Event, begin, deliver, client_times_out, server_times_out, stray, restart, World, Datagram, Opening, server_endpoint, has_begun, client_at, begins_unless, client_hears, client_waits, strays_unless, restarts, opened_with, taken_with, asked_of, after_request, event_happens, HasMerged, IsFree, MayDeliver, MayHappen}
 use Rattle.archive_world.specs.Headline.{OwnPorts, HasOwnPorts}
 use Rattle.archive_world.specs.Reuse.{IsUnused, was_opened}
 use Rattle.archive_world.specs.Restarts.{HasKept, EventKeeps, wanted_at, wanted_of, wanted_by}

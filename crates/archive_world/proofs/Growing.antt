@@ -3,10 +3,10 @@
 use Rattle.std.proofs.Common.{ℕ, Bool, true, false, ◌==◌, List, [], ◌∷◌, slice_get, Option, None, Some}
 use Rattle.archive_table.specs.Server.{Maps, Grant, Transfer, Taken, memory_of, transfer_at, server_request, server_datagram, server_timeout}
 use Rattle.archive_table.specs.Server as table
-use Rattle.archive_client.specs.Client.{Operation, Client, client_datagram, client_timeout}
+use Rattle.archive_client.specs.Client.{Operation, Client, client_datagram, client_timeout, is_too_long}
 use Rattle.archive_client.specs.Client as client
 use Rattle.tftp_packet.specs.declared.endpoint.Endpoint.{Endpoint}
-use Rattle.archive_world.specs.World.{Datagram, Opening, Asked, World, Event, begin, deliver, client_times_out, server_times_out, stray, restart, Step, server_endpoint, client_at, has_begun, is_too_long, opened_with, taken_with, after_request, after_transfer, after_client, begins, begins_unless, asked_of, request_comes, server_hears, client_hears, arrives, delivers, client_waits, strays_in, strays_unless, restarts, event_happens, happens, run_from}
+use Rattle.archive_world.specs.World.{Datagram, Opening, Asked, World, Event, begin, deliver, client_times_out, server_times_out, stray, restart, Step, server_endpoint, client_at, has_begun, opened_with, taken_with, after_request, after_transfer, after_client, begins, begins_unless, asked_of, request_comes, server_hears, client_hears, arrives, delivers, client_waits, strays_in, strays_unless, restarts, event_happens, happens, run_from}
 use Rattle.archive_world.specs.Headline.{HasOwnPorts}
 use Rattle.archive_world.proofs.Places.{Extends, Extends-on, Extends-same, Extends-push}
 use Rattle.archive_world.proofs.Claims.{GrowsTo}

@@ -2,9 +2,9 @@
 use Rattle.std.proofs.Common.{◌≡◌, ℕ, Bool, true, false, ◌==◌, List, [], ◌∷◌, ◌++◌, slice_get, Option, None, Some, refl, ap}
 use Rattle.std.proofs.lemmas.Bool.{eqb-true, eqb-false}
 use Rattle.archive_table.specs.Server.{Maps, Grant, Transfer, Taken, Answer, memory_of, transfer_at, server_datagram, IsMerged}
-use Rattle.archive_client.specs.Client.{Operation, Client}
+use Rattle.archive_client.specs.Client.{Operation, Client, is_too_long}
 use Rattle.tftp_packet.specs.declared.endpoint.Endpoint.{Endpoint}
-use Rattle.archive_world.specs.World.{Datagram, World, Event, begin, deliver, client_times_out, server_times_out, stray, restart, Step, server_endpoint, client_at, has_begun, is_too_long, taken_with, after_transfer, begins_unless, request_comes, server_hears, client_hears, arrives, delivers, client_waits, strays_unless, event_happens, happens, run_from, run, start, HasMerged, AllMerged, AllMayHappen}
+use Rattle.archive_world.specs.World.{Datagram, World, Event, begin, deliver, client_times_out, server_times_out, stray, restart, Step, server_endpoint, client_at, has_begun, taken_with, after_transfer, begins_unless, request_comes, server_hears, client_hears, arrives, delivers, client_waits, strays_unless, event_happens, happens, run_from, run, start, HasMerged, AllMerged, AllMayHappen}
 use Rattle.archive_world.specs.Headline.{HasOwnPorts}
 use Rattle.archive_world.proofs.Places.{Has}
 use Rattle.archive_world.proofs.Invariant.{Holds, start-holds}

@@ -1,10 +1,11 @@
 -- Throughout a run the keeper has what the server has, and so a restart loads it.
 use Rattle.std.proofs.Common.{◌≡◌, ◌⊎◌, ℕ, ◌==◌, List, [], ◌∷◌, Option, ap, sym, subst, inl, inr}
+use Rattle.archive_client.specs.Client.{is_too_long}
 use Rattle.tws_file.specs.declared.«ruleset».Ruleset.TheVariants.{Lynx, Ms}
 use Rattle.tws_best.specs.Best.{Collected}
 use Rattle.archive_table.specs.Server.{Maps, Taken, Grant, all, transfer_at}
 use Rattle.archive_table.specs.Keeper.{Keeping}
-use Rattle.archive_world.specs.World.{Event, begin, deliver, client_times_out, server_times_out, stray, restart, World, Step, server_endpoint, client_at, has_begun, is_too_long, start, run_from, run, happens, event_happens, AllMerged}
+use Rattle.archive_world.specs.World.{Event, begin, deliver, client_times_out, server_times_out, stray, restart, World, Step, server_endpoint, client_at, has_begun, start, run_from, run, happens, event_happens, AllMerged}
 use Rattle.archive_world.specs.Restarts.{IsTextAt, HasKept, AreOwnRules, DeliveryKeeps, AreAlike, EventKeeps, RunKeeps, loaded_server, RestartsFrom, FailsOutside}
 use Rattle.archive_world.proofs.Invariant.{AreBest}
 use Rattle.archive_world.proofs.Remaining.{timeout_leaves, StepTakes, begins_remain, waits_remain, strays_remain, step-takes}

@@ -12,9 +12,9 @@ use Rattle.tftp_ends.specs.declared.recv_fault.RecvFault.{RecvFault}
 use Rattle.tftp_ends.specs.Ends.{Verdict, granted, refused, answer_of, Receiver, SendAnswer, RecvAnswer, receiver_data, receiver_take, receiver_timeout, sender_ack, sender_timeout}
 use Rattle.tws_file.specs.declared.«ruleset».Ruleset.{Ruleset}
 use Rattle.tws_best.specs.Best.{Collected}
-use Rattle.archive_table.specs.Server.{Server, Maps, Transfer, Taken, Answer, End, sending, receiving, Grant, all, no_memory, unkept, memory_of, map_of, is_too_long, has_place, opens_if, read_fits, read_placed, read_named, read_asked, write_placed, write_asked, request_packet, request_decoded, Heard, nothing, stray, ended, acked, block, heard, transfer_at, file_come, file_asked, block_answered, data_at, sender_goes_on, ack_at, transfer_heard, datagram_at, server_datagram, receiver_goes_on, waits_at, timeout_at, server_timeout}
+use Rattle.archive_table.specs.Server.{Server, Maps, Transfer, Taken, Answer, End, sending, receiving, Grant, all, no_memory, unkept, memory_of, map_of, has_place, opens_if, read_fits, read_placed, read_named, read_asked, write_placed, write_asked, request_packet, request_decoded, Heard, nothing, stray, ended, acked, block, heard, transfer_at, file_come, file_asked, block_answered, data_at, sender_goes_on, ack_at, transfer_heard, datagram_at, server_datagram, receiver_goes_on, waits_at, timeout_at, server_timeout, has_long_text}
 use Rattle.tws_file.specs.Names.{kind_named}
-use Rattle.archive_client.specs.Client.{Operation, Client}
+use Rattle.archive_client.specs.Client.{Operation, is_too_long, Client}
 use Rattle.archive_world.specs.World.{Datagram, Event, begin, deliver, client_times_out, server_times_out, restart, Step, World, server_endpoint, client_at, has_begun, begins_unless, request_comes, server_hears, client_hears, arrives, delivers, client_waits, strays_unless, event_happens, happens}
 use Rattle.archive_world.specs.World as world
 
@@ -41,7 +41,7 @@ fits_leaves true verdict spare from c s = (refl, refl)
 fits_leaves false verdict spare from c s = opens_leaves verdict spare from _ _ s
 
 read_leaves : (place : Bool) (verdict : Verdict) (spare : ℕ) (from : Endpoint) (c : Collected) (s : Server) → Leaves (read_placed place verdict spare from c s) s
-read_leaves true verdict spare from c s = fits_leaves (is_too_long c) verdict spare from c s
+read_leaves true verdict spare from c s = fits_leaves (has_long_text c) verdict spare from c s
 read_leaves false verdict spare from c s = (refl, refl)
 
 named_leaves : (name : Option Ruleset) (verdict : Verdict) (spare : ℕ) (from : Endpoint) (s : Server) → Leaves (read_named name verdict spare from s) s
@@ -197,7 +197,7 @@ module _ (w : World) where
 
   event_takes : (event : Event) (grant : Grant) → TakesOrRemain grant w (λ maps. event_happens event grant maps w)
   event_takes (begin e operation) grant =
-      remains grant w _ (begins_remain (e.host == server_endpoint.host) (world.is_too_long operation) e operation)
+      remains grant w _ (begins_remain (e.host == server_endpoint.host) (is_too_long operation) e operation)
   event_takes (deliver index spare) grant = delivers_takes (slice_get w.net index) spare grant
   event_takes (client_times_out e) grant = remains grant w _ (waits_remain (client_at e w) e)
   event_takes (server_times_out port) grant =

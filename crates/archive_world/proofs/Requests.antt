@@ -10,7 +10,7 @@ use Rattle.tftp_ends.specs.Ends.{Verdict, granted, refused, sender_start, data_p
 use Rattle.tftp_ends.proofs.Steps.{IsReceiver-start, ack-reads_back}
 use Rattle.tws_file.specs.declared.«ruleset».Ruleset.{Ruleset}
 use Rattle.tws_best.specs.Best.{collection_text}
-use Rattle.archive_table.specs.Server.{sending, receiving, transfer_at, map_of, has_place, is_too_long, read_opens, read_fits, read_placed, read_named, read_asked, write_opens, write_placed, write_asked, request_packet, request_decoded, server_request}
+use Rattle.archive_table.specs.Server.{sending, receiving, transfer_at, map_of, has_place, read_opens, read_fits, read_placed, read_named, read_asked, write_opens, write_placed, write_asked, request_packet, request_decoded, server_request, has_long_text}
 use Rattle.tws_file.specs.Names.{kind_named}
 use Rattle.archive_world.specs.World.{Datagram, World, to_write, to_read, after_request, asked_named, asked_packet, asked_decoded, asked_of}
 use Rattle.archive_world.specs.Headline.{HasOwnPorts}
@@ -31,14 +31,14 @@ module _ (w : World) (h : Holds w) (d : Datagram) (among : Has w.net d) (spare :
       (read_fine w h d among granted spare free kind short name is whose)
   read_memory refused kind name is whose short own = refuses-holds w h d among spare (to_read kind) OutOfMemory
 
-  read_size : (long : Bool) → (verdict : Verdict) (kind : Ruleset) (name : List ℕ) → kind_named name ≡ Some kind → IsStranger w d.source ⊎ AsksToRead w d.source name → is_too_long (map_of kind w.server.maps) ≡ long → HasOwnPorts (after_request d.source spare (to_read kind) (read_fits long verdict spare d.source (map_of kind w.server.maps) w.server) w) → Holds (after_request d.source spare (to_read kind) (read_fits long verdict spare d.source (map_of kind w.server.maps) w.server) w)
+  read_size : (long : Bool) → (verdict : Verdict) (kind : Ruleset) (name : List ℕ) → kind_named name ≡ Some kind → IsStranger w d.source ⊎ AsksToRead w d.source name → has_long_text (map_of kind w.server.maps) ≡ long → HasOwnPorts (after_request d.source spare (to_read kind) (read_fits long verdict spare d.source (map_of kind w.server.maps) w.server) w) → Holds (after_request d.source spare (to_read kind) (read_fits long verdict spare d.source (map_of kind w.server.maps) w.server) w)
   read_size true verdict kind name is whose size own = refuses-holds w h d among spare (to_read kind) CollectionTooLong
   read_size false verdict kind name is whose size own =
       read_memory verdict kind name is whose (ltb-false MAX_FILE (length (collection_text (map_of kind w.server.maps))) size) own
 
   read_place : (place : Bool) → (verdict : Verdict) (kind : Ruleset) (name : List ℕ) → kind_named name ≡ Some kind → IsStranger w d.source ⊎ AsksToRead w d.source name → HasOwnPorts (after_request d.source spare (to_read kind) (read_placed place verdict spare d.source (map_of kind w.server.maps) w.server) w) → Holds (after_request d.source spare (to_read kind) (read_placed place verdict spare d.source (map_of kind w.server.maps) w.server) w)
   read_place true verdict kind name is whose own =
-      read_size (is_too_long (map_of kind w.server.maps)) verdict kind name is whose refl own
+      read_size (has_long_text (map_of kind w.server.maps)) verdict kind name is whose refl own
   read_place false verdict kind name is whose own = refuses-holds w h d among spare (to_read kind) ServerBusy
 
   read_name : (found : Option Ruleset) → (verdict : Verdict) (name : List ℕ) → kind_named name ≡ found → IsStranger w d.source ⊎ AsksToRead w d.source name → HasOwnPorts (after_request d.source spare (asked_named found) (read_named found verdict spare d.source w.server) w) → Holds (after_request d.source spare (asked_named found) (read_named found verdict spare d.source w.server) w)

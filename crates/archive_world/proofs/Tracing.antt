@@ -7,8 +7,8 @@ use Rattle.std.proofs.lemmas.Bool.{eqb-true, ne_eqb}
 use Rattle.std.proofs.lemmas.Slice.Eq.{bytes_eq-Decides}
 use Rattle.tftp_packet.specs.declared.endpoint.Endpoint.{Endpoint}
 use Rattle.archive_table.specs.Server.{Maps, Grant, Taken, IsMerged, Transfer, is_same, transfer_at}
-use Rattle.archive_client.specs.Client.{Operation}
-use Rattle.archive_world.specs.World.{Datagram, deliver, stray, Step, World, server_endpoint, has_begun, is_too_long, begins, begins_unless, request_comes, server_hears, arrives, delivers, strays_in, strays_unless, event_happens, happens, run_from, run, start, IsFree, MayDeliver, AllMayHappen, AllMerged}
+use Rattle.archive_client.specs.Client.{Operation, is_too_long}
+use Rattle.archive_world.specs.World.{Datagram, deliver, stray, Step, World, server_endpoint, has_begun, begins, begins_unless, request_comes, server_hears, arrives, delivers, strays_in, strays_unless, event_happens, happens, run_from, run, start, IsFree, MayDeliver, AllMayHappen, AllMerged}
 use Rattle.archive_world.specs.Traces.{Deed, starts, hears, client_waits_long, server_waits_long, loads, Member, is_same_datagram, place_after, place_of, named_in, server_comes, comes, after_deed, trace_from, delivery, events_of, steps_with, member_steps, trace_steps, AllDeedsMerged}
 use Rattle.archive_world.specs.Headline.{HasOwnPorts, Headline}
 use Rattle.archive_world.proofs.Happening.{run-append}

@@ -12,8 +12,8 @@ use Rattle.archive_world.specs.declared.running.Running.TheVariants.{Put, Get}
 use Rattle.archive_world.specs.declared.begun.Begun.TheInside as beginning
 use Rattle.archive_world.specs.declared.machine.Machine.TheInside as machines
 use Rattle.archive_world.specs.View.{operation_of}
-use Rattle.archive_world.specs.World.{World, Begun, Datagram, after_transfer, at_endpoint, net_with, sent_with, got_with, newly_sent, newly_got}
-use Rattle.archive_table.specs.Server.{Grant, all, Merges, server_datagram}
+use Rattle.archive_world.specs.World.{World, Begun, Datagram, after_transfer, net_with, sent_with, got_with, newly_sent, newly_got}
+use Rattle.archive_table.specs.Server.{Grant, all, Merges, server_datagram, is_same}
 use Rattle.archive_table.specs.Keeper.{Keeping, StepKeeps}
 
 abbrev pub running_of : {A : Type 0} → runnings.Running A → Client
@@ -85,8 +85,8 @@ newly_fetched false file = None
 -- For the client at an endpoint: what its step returned, as a list of clients and a program see it.
 pub record Answers (step : Client → client.Answer) (e : Endpoint) (before after : List (Endpoint × Client)) (sent : Bool) (file : Option (List ℕ)) (out : Option Out) : Type 0 where
   pub client : Client
-  pub there : lookup (at_endpoint e) before ≡ Some client
-  pub written : after ≡ set_value (at_endpoint e) before (step client).client
+  pub there : lookup (is_same e) before ≡ Some client
+  pub written : after ≡ set_value (is_same e) before (step client).client
   pub sent_is : sent ≡ newly_sent (state_of client) (state_of (step client).client)
   pub file_is : file ≡ newly_fetched (newly_got (state_of client) (state_of (step client).client)) (phase_file (step client).client.phase)
   pub out_is : out ≡ (step client).out

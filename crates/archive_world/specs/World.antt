@@ -1,20 +1,19 @@
 -- The server, its clients and the network between them, and what each event does to them. A step of the server is that
 -- of archive_table, a step of a client that of archive_client.
-use Rattle.std.specs.Prelude.{◌≡◌, ◌≢◌, ℕ, Bool, true, false, ◌==◌, nat_lt, cond, List, [], ◌∷◌, ◌++◌, map, length, slice_get, Option, None, Some, Result, Ok, Err}
+use Rattle.std.specs.Prelude.{◌≡◌, ◌≢◌, ℕ, Bool, true, false, ◌==◌, cond, List, [], ◌∷◌, ◌++◌, map, length, slice_get, Option, None, Some, Result, Ok, Err}
 use Rattle.std.specs.Map.{lookup, set_value}
 use Rattle.tftp_packet.specs.declared.endpoint.Endpoint.{Endpoint}
 use Rattle.tftp_packet.specs.declared.out.Out.{Out}
 use Rattle.tftp_packet.specs.declared.packet_fault.PacketFault.{PacketFault}
 use Rattle.tftp_packet.specs.Packet.{Packet, read, write, data_block, ack, error}
 use Rattle.tftp_packet.specs.Decode.{decode_bytes}
-use Rattle.tftp_ends.specs.declared.limits.TheConstants.{MAX_FILE}
 use Rattle.tws_file.specs.declared.«ruleset».Ruleset.{Ruleset}
 use Rattle.archive_table.specs.Server.{Server, Maps, empty_server, Transfer, Taken, Grant, memory_of, is_same, transfer_at, server_request, server_datagram, server_timeout, IsMerged}
 use Rattle.tws_file.specs.Names.{kind_named}
 use Rattle.archive_table.specs.Server as table
 use Rattle.archive_client.specs.declared.state.State.{State}
 use Rattle.archive_client.specs.declared.state.State.TheVariants as state
-use Rattle.archive_client.specs.Client.{Operation, put, get, Client, request_out, client_start, client_datagram, client_timeout, state_of, phase_file}
+use Rattle.archive_client.specs.Client.{Operation, put, get, is_too_long, Client, request_out, client_start, client_datagram, client_timeout, state_of, phase_file}
 use Rattle.archive_client.specs.Client as client
 
 -- ---- what a world is
@@ -113,11 +112,8 @@ start =
 
 -- ---- clients by their endpoints
 
-abbrev pub at_endpoint : Endpoint → Endpoint → Bool
-at_endpoint e f = is_same e f
-
 abbrev pub client_at : Endpoint → World → Option Client
-client_at e w = lookup (at_endpoint e) w.clients
+client_at e w = lookup (is_same e) w.clients
 
 abbrev pub has_begun : Endpoint → List Begun → Bool
 has_begun e [] = false
@@ -206,7 +202,7 @@ after_client e c a w =
     record {
       net = net_with e.host w.net a.out;
       server = w.server;
-      clients = set_value (at_endpoint e) w.clients a.client;
+      clients = set_value (is_same e) w.clients a.client;
       begun = w.begun;
       taken = w.taken;
       sent = sent_with (newly_sent (state_of c) (state_of a.client)) e w.sent;
@@ -216,10 +212,6 @@ after_client e c a w =
     }
 
 -- ---- a begin
-
-abbrev pub is_too_long : Operation → Bool
-is_too_long (put file) = nat_lt MAX_FILE (length file)
-is_too_long (get kind) = false
 
 -- a new client that sends its request
 abbrev pub begins : Endpoint → Operation → World → World

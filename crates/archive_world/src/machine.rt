@@ -1,11 +1,12 @@
 //! The server, the clients and the network, as a program.
 
 ghost use Rattle.std.specs.Prelude.{◌≡◌, false, true, is_some, ◌≢◌, [], OnOk, OnErr, IfOk, IfErr, Some, None, length, slice_get};
+ghost use Rattle.archive_client.specs.Client.{is_too_long};
 ghost use Rattle.archive_table.specs.Server.{request_verdict, server_request, server_datagram, server_timeout, grant_of, transfer_at, is_same, Grant};
 ghost use Rattle.tws_file.specs.Names.{kind_named};
 ghost use Rattle.archive_table.specs.Keeper.{HasLoaded, TableFails};
 ghost use Rattle.archive_world.specs.View.{asked_as, operation_of};
-ghost use Rattle.archive_world.specs.World.{World, start, has_begun, begins, is_too_long, server_endpoint, net_with, taken_with, opened_with, got_with, asked_of, asked_named, after_request, after_transfer, strays_in, client_at, client_waits, client_hears};
+ghost use Rattle.archive_world.specs.World.{World, start, has_begun, begins, server_endpoint, net_with, taken_with, opened_with, got_with, asked_of, asked_named, after_request, after_transfer, strays_in, client_at, client_waits, client_hears};
 ghost use Rattle.archive_world.specs.Inside.{HearsAtPort, answered_by};
 ghost use Rattle.archive_world.specs.Outcomes.{outcome_of};
 ghost use Rattle.archive_world.specs.Reuse.{has_strayed, was_opened, is_opening_at};

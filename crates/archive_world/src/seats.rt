@@ -3,7 +3,7 @@
 ghost use Rattle.std.specs.Prelude.{◌≡◌, ◌<◌, length, true, None, IfSome, IfOk};
 ghost use Rattle.std.specs.Map.{lookup};
 ghost use Rattle.archive_table.specs.Server.{is_same};
-ghost use Rattle.archive_world.specs.World.{at_endpoint, newly_sent, newly_got};
+ghost use Rattle.archive_world.specs.World.{newly_sent, newly_got};
 ghost use Rattle.archive_world.specs.Inside.{IsFirst, Answers, running_of, newly_fetched};
 ghost use Rattle.archive_client.specs.Client.{client_timeout, client_datagram, phase_file, state_of};
 ghost use Rattle.tftp_ends.specs.Ends.{Verdict};
@@ -25,7 +25,7 @@ pub(crate) fn is_one(a: Endpoint, b: Endpoint) -> bool
 
 // Whether this client is at an endpoint.
 fn is_at<A: Allocator + Copy>(seat: &Seat<A>, e: Endpoint) -> bool
-    ensures { result ≡ at_endpoint e seat.now.0 }
+    ensures { result ≡ is_same e seat.now.0 }
 {
     is_one(e, seat.client)
 }
@@ -33,8 +33,8 @@ fn is_at<A: Allocator + Copy>(seat: &Seat<A>, e: Endpoint) -> bool
 // The place of the first client at an endpoint.
 #[tactic(auto, using(crate::proofs::Firsts::none_more, crate::proofs::Firsts::first_here, crate::proofs::Firsts::first_within, crate::proofs::Firsts::none_all))]
 pub(crate) fn find<A: Allocator + Copy>(clients: &[Seat<A>], e: Endpoint) -> Option<usize>
-    ensures none { result ≡ None → lookup (at_endpoint e) clients.now ≡ None }
-    ensures first { IfSome result (λ i. IsFirst (at_endpoint e) i clients.now) }
+    ensures none { result ≡ None → lookup (is_same e) clients.now ≡ None }
+    ensures first { IfSome result (λ i. IsFirst (is_same e) i clients.now) }
     ensures within { IfSome result (λ i. i < length clients.now) }
 {
     let mut i = 0;
@@ -104,7 +104,7 @@ pub(crate) fn wait_at<A: Allocator + Copy>(
     i: usize,
     e: Endpoint,
 ) -> Result<Answered<A>, AllocError>
-    requires first { IsFirst (at_endpoint e) i clients.old.items }
+    requires first { IsFirst (is_same e) i clients.old.items }
     requires within { i < length clients.old.items }
     ensures { IfOk result (λ told. Answers client_timeout e clients.old.items clients.new.items told.sent told.file told.out) }
 {
@@ -126,7 +126,7 @@ pub(crate) fn hear_at<A: Allocator + Copy>(
     i: usize,
     d: &Datagram<A>,
 ) -> Result<Answered<A>, AllocError>
-    requires first { IsFirst (at_endpoint d.now.target) i clients.old.items }
+    requires first { IsFirst (is_same d.now.target) i clients.old.items }
     requires within { i < length clients.old.items }
     ensures { IfOk result (λ told. (verdict : Verdict) × Answers (client_datagram verdict d.now.source d.now.bytes) d.now.target clients.old.items clients.new.items told.sent told.file told.out) }
 {

@@ -1,5 +1,6 @@
 -- Which job the arguments ask for.
 use Rattle.std.proofs.Common.{true, false, refl, subst, Bor, map, option_map, unwrap_or, Result, Ok, Err, ⊎_elim, inl, ◌⊎◌, ◌≡◌, ◌≢◌, ◌≤◌, ℕ, List, [], ◌∷◌, Option, Some, None, ap, sym, ◌∙◌, arith, slice_index, codes}
+use Rattle.tws_file.specs.Listing.{ruleset_name}
 use Rattle.std.proofs.lemmas.Option.{none-some}
 use Rattle.clap.specs.Words.{App, FailsBy, HasKind, HasMatchesOf, Row, Text, fault_of, first_of, is_simple, is_simple_and_free, kind_of, subcommand_of, subcommand_rows_of}
 use Rattle.clap.specs.declared.parser.matches.ArgMatches.{ArgMatches}
@@ -12,7 +13,7 @@ use Rattle.tws_tool.specs.declared.job.Job.TheVariants.{Show, Pack, Best, Serve,
 use Rattle.tws_tool.specs.declared.job.JobFault.{JobFault}
 use Rattle.tws_tool.specs.declared.job.JobFault.TheVariants.{Words, Memory}
 use Rattle.std.specs.Str.Parse.{IsNumeral, digits_value, without_leading_plus}
-use Rattle.tws_tool.specs.CommandLine.{AreRuleNames, AsksFor, IsNumberUpTo, RefusesWords, RuleNames, WordsAskFor, rules_word, tws_app}
+use Rattle.tws_tool.specs.CommandLine.{AreRuleNames, AsksFor, IsNumberUpTo, RefusesWords, RuleNames, WordsAskFor, tws_app}
 
 -- the first bytes of two texts
 abbrev first_byte : Text → ℕ
@@ -24,9 +25,9 @@ no_rules rows none Pack asks = let bad : 98 ≡ 112 = ap first_byte asks in absu
 no_rules rows none (Serve port turns dir) asks = let bad : 98 ≡ 115 = ap first_byte asks.0 in absurd (omega (arith, bad))
 no_rules rows none (Put target) asks = let bad : 98 ≡ 112 = ap first_byte asks.0 in absurd (omega (arith, bad))
 no_rules rows none (Get kind target) asks = let bad : 98 ≡ 103 = ap first_byte asks.0 in absurd (omega (arith, bad))
-no_rules rows none (Best kind files) asks = none-some (rules_word kind) (sym none ∙ asks.1)
+no_rules rows none (Best kind files) asks = none-some (ruleset_name kind) (sym none ∙ asks.1)
 
-pub no_such_rules : (rows : List Row) (name : Text) → first_of (codes "rules") rows ≡ Some name → ((kind : Ruleset) → name ≢ rules_word kind) → (job : Job) → AsksFor (codes "best", rows) job → ⊥
+pub no_such_rules : (rows : List Row) (name : Text) → first_of (codes "rules") rows ≡ Some name → ((kind : Ruleset) → name ≢ ruleset_name kind) → (job : Job) → AsksFor (codes "best", rows) job → ⊥
 no_such_rules rows name is other (Show moves) asks = let bad : 98 ≡ 115 = ap first_byte asks.0 in absurd (omega (arith, bad))
 no_such_rules rows name is other Pack asks = let bad : 98 ≡ 112 = ap first_byte asks in absurd (omega (arith, bad))
 no_such_rules rows name is other (Serve port turns dir) asks = let bad : 98 ≡ 115 = ap first_byte asks.0 in absurd (omega (arith, bad))

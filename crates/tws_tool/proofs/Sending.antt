@@ -7,12 +7,12 @@ use Rattle.archive_client.specs.declared.state.State.{State}
 use Rattle.archive_client.specs.declared.state.State.TheVariants as state
 use Rattle.archive_client.specs.declared.cause.Cause.{Cause}
 use Rattle.archive_client.specs.declared.cause.Cause.TheVariants as cause
-use Rattle.archive_client.specs.Client.{Operation, put, state_of}
+use Rattle.archive_client.specs.Client.{Operation, put, state_of, is_too_long}
 use Rattle.archive_turns.specs.declared.run_fault.RunFault.{RunFault}
 use Rattle.archive_turns.specs.declared.run_fault.RunFault.TheVariants as run
 use Rattle.archive_turns.specs.Turn.{Replies}
 use Rattle.archive_turns.specs.Wire.{Entry}
-use Rattle.archive_turns.specs.Run.{Run, PutAfter, RunsPut, begin_opened, begin_sized, is_long, put_result}
+use Rattle.archive_turns.specs.Run.{Run, PutAfter, RunsPut, begin_opened, begin_sized, put_result}
 use Rattle.tws_tool.specs.declared.tool_fault.ToolFault.{ToolFault}
 use Rattle.tws_tool.specs.declared.tool_fault.ToolFault.TheVariants as tool
 use Rattle.tws_tool.specs.Faults.{run_fault}
@@ -38,7 +38,7 @@ no_write_sized false server operation port replies is = absurd cc
 
 no_write_begun : (port : Option ℕ) (server : Endpoint) (operation : Operation) (replies : Replies) → (begin_opened port server operation replies).result ≢ Err run.Write
 no_write_begun None server operation replies is = absurd cc
-no_write_begun (Some port) server operation replies is = no_write_sized (is_long operation) server operation port replies is
+no_write_begun (Some port) server operation replies is = no_write_sized (is_too_long operation) server operation port replies is
 
 abbrev fault_in : Result ℕ RunFault → RunFault
 fault_in (Ok len) = run.Write

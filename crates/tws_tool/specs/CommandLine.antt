@@ -11,8 +11,7 @@ use Rattle.clap.specs.declared.builder.action.ArgAction.TheVariants.{SetTrue}
 use Rattle.clap.specs.declared.parser.matches.ArgMatches.{ArgMatches}
 use Rattle.clap.specs.declared.builder.value_parser.ValueParser.TheVariants as parser
 use Rattle.clap.specs.declared.error.kind.ErrorKind.TheVariants.{InvalidSubcommand}
-use Rattle.tws_file.specs.declared.«ruleset».Ruleset.{Ruleset}
-use Rattle.tws_file.specs.declared.«ruleset».Ruleset.TheVariants.{Lynx, Ms}
+use Rattle.tws_file.specs.Listing.{ruleset_name}
 use Rattle.tws_tool.specs.declared.limits.TheConstants.{PORT, MAX_PORT, TURNS}
 use Rattle.tws_tool.specs.declared.job.Job.{Job}
 use Rattle.tws_tool.specs.declared.job.Job.TheVariants.{Show, Pack, Best, Serve, Put, Get}
@@ -90,11 +89,6 @@ tws_app names = with_subcommand (with_subcommand (with_subcommand (files_app nam
 
 -- ---- jobs
 
--- the name of the ruleset
-abbrev pub rules_word : Ruleset → Text
-rules_word Lynx = codes "lynx"
-rules_word Ms = codes "ms"
-
 -- whether a flag is set, by the text of its entry
 abbrev pub IsFlag : Option Text → Bool → Type 0
 IsFlag text flag = (text ≡ Some (codes "true") → flag ≡ true) × (text ≡ Some (codes "false") → flag ≡ false) × (text ≡ None → flag ≡ false)
@@ -132,10 +126,10 @@ AnswersTarget rows None = (target : Target) → HasTarget rows target → ⊥
 abbrev pub AsksFor : Text × List Row → Job → Type 0
 AsksFor command (Show moves) = (command.0 ≡ codes "show") × IsFlag (one_of (codes "moves") command.1) moves
 AsksFor command Pack = command.0 ≡ codes "pack"
-AsksFor command (Best kind files) = (command.0 ≡ codes "best") × (first_of (codes "rules") command.1 ≡ Some (rules_word kind)) × (map string_bytes files.items ≡ unwrap_or (all_of (codes "files") command.1) [])
+AsksFor command (Best kind files) = (command.0 ≡ codes "best") × (first_of (codes "rules") command.1 ≡ Some (ruleset_name kind)) × (map string_bytes files.items ≡ unwrap_or (all_of (codes "files") command.1) [])
 AsksFor command (Serve port turns dir) = (command.0 ≡ codes "serve") × AsksToServe command.1 port turns (option_map string_bytes dir)
 AsksFor command (Put target) = (command.0 ≡ codes "put") × HasTarget command.1 target
-AsksFor command (Get kind target) = (command.0 ≡ codes "get") × (first_of (codes "rules") command.1 ≡ Some (rules_word kind)) × HasTarget command.1 target
+AsksFor command (Get kind target) = (command.0 ≡ codes "get") × (first_of (codes "rules") command.1 ≡ Some (ruleset_name kind)) × HasTarget command.1 target
 
 -- the job that the command asks for, or none if it asks for none
 abbrev pub AnswersCommand : Text × List Row → Option Job → Type 0

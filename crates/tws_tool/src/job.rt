@@ -1,11 +1,12 @@
 //! What the arguments of a command line ask for.
 
 ghost use Rattle.std.specs.Prelude.{◌≡◌, ◌≢◌, ◌⊎◌, ℕ, map, option_map, IfOk, IfErr, IfSome, IfNone, string_bytes, codes};
+ghost use Rattle.tws_file.specs.Listing.{ruleset_name};
 ghost use Rattle.clap.specs.Matches.{found_of};
 ghost use Rattle.clap.specs.Values.{kind_of};
 ghost use Rattle.clap.specs.Words.{rows_of, first_of};
 ghost use Rattle.clap.specs.declared.error.kind.ErrorKind.TheVariants.{OutOfMemory, InvalidSubcommand};
-ghost use Rattle.tws_tool.specs.CommandLine.{rules_word, AreRuleNames, AnswersCommand, AnswersTarget, FindsCommand, IsNumberOr, RefusesWords, AnswersWords};
+ghost use Rattle.tws_tool.specs.CommandLine.{AreRuleNames, AnswersCommand, AnswersTarget, FindsCommand, IsNumberOr, RefusesWords, AnswersWords};
 ghost use Rattle.tws_tool.specs.declared.limits.TheConstants.{PORT, MAX_PORT};
 ghost use Rattle.tws_tool.specs.declared.job.JobFault.TheVariants.{Memory, Words};
 
@@ -97,8 +98,8 @@ impl From<clap::Error> for JobFault {
 
 // The ruleset with this name.
 fn rules_of(name: &str) -> Option<Ruleset>
-    ensures some { IfSome result (λ kind. name.now ≡ rules_word kind) }
-    ensures none { IfNone result ((kind : Ruleset) → name.now ≢ rules_word kind) }
+    ensures some { IfSome result (λ kind. name.now ≡ ruleset_name kind) }
+    ensures none { IfNone result ((kind : Ruleset) → name.now ≢ ruleset_name kind) }
 {
     match name {
         "lynx" => Some(Ruleset::Lynx),

@@ -1,8 +1,8 @@
 use Rattle.std.proofs.Common.{rules, refl, ap, ◌≡◌, sym, ◌∙◌, codes, Some, None, option_map}
+use Rattle.tws_file.specs.Listing.{ruleset_name}
 use Rattle.clap.specs.Matches.{found_of}
 use Rattle.clap.specs.Words.{rows_of}
 use Rattle.clap.proofs.WalkLemmas.{first_value-rows, raw_values-rows}
-use Rattle.tws_tool.specs.CommandLine.{rules_word}
 use Rattle.tws_tool.proofs.Asking.{files_are, no_rules, no_such_rules}
 use Rattle.tws_tool.proofs.job.best_of.Goals as goal
 
@@ -22,6 +22,6 @@ pub returns-clause-asked : goal.returns-clause-asked
 returns-clause-asked c =
     let found = found_of c.args.words.now in
     let name : option_map (λ s. s.now) c.get_str.result ≡ Some c.in-Some.name.now = search rules in
-    let rules_are : c.in-Some.name.now ≡ rules_word c.in-Some-rules_of.ruleset = search rules in
+    let rules_are : c.in-Some.name.now ≡ ruleset_name c.in-Some-rules_of.ruleset = search rules in
     let files = files_are c.get_raw.result c.unwrap_or.result _ _ c.unwrap_or.ensures refl (c.get_raw.ensures ∙ raw_values-rows found (codes "files")) in
     (refl, sym (first_value-rows found (codes "rules")) ∙ sym c.get_str.ensures ∙ name ∙ ap Some rules_are, c.in_ok-files.ensures.copied ∙ files)
