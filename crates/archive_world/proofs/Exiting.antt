@@ -1,81 +1,32 @@
--- What each event does, given the result of its call.
-use Rattle.std.specs.Prelude.{◌≡◌, ◌≢◌, ℕ, Bool, true, false, ◌==◌, List, [], ◌∷◌, ◌++◌, length, slice_get, Option, None, Some, is_some, Result, Ok, Err, OnOk, IfErr}
-use Rattle.std.proofs.Common.{refl, ap, sym, ◌∙◌, subst, inl, inr}
-use Rattle.std.proofs.lemmas.Bool.{eq-eqb, ne_eqb, true≢false}
+-- What each event other than a delivery does, given the result of its call.
+use Rattle.std.specs.Prelude.{◌≡◌, ◌≢◌, ℕ, Bool, true, false, ◌==◌, List, [], ◌∷◌, ◌++◌, Option, None, Some, Result, Ok, Err, OnOk, IfErr}
+use Rattle.std.proofs.Common.{refl, ap, sym, ◌∙◌, subst, inl}
+use Rattle.std.proofs.lemmas.Bool.{true≢false}
 use Rattle.tftp_packet.specs.declared.endpoint.Endpoint.{Endpoint}
 use Rattle.archive_client.specs.Client.{Operation, Client, is_too_long}
-use Rattle.archive_table.specs.Server.{Maps, Taken, Grant, all, no_memory, unkept, memory_of, IsMerged, Merges, request_verdict, server_request, server_datagram, server_timeout, transfer_at, empty_maps}
-use Rattle.archive_table.specs.Server as table
-use Rattle.tftp_ends.specs.Ends.{Verdict, granted}
-use Rattle.tws_file.specs.declared.«ruleset».Ruleset.{Ruleset}
-use Rattle.archive_table.specs.Keeper.{Keeping, KeepsOne, KeepsMaps, FailsKeep, FailsKeepOf, RefusesKeep, StepKeeps}
-use Rattle.archive_table.proofs.SamePort.{request_same, datagram_same, timeout_same}
+use Rattle.archive_table.specs.Server.{Taken, all, IsMerged, transfer_at, empty_maps}
+use Rattle.archive_table.specs.Keeper.{Keeping}
+use Rattle.archive_table.proofs.SamePort.{timeout_same}
 use Rattle.archive_world.specs.declared.event_fault.EventFault.{EventFault}
 use Rattle.archive_world.specs.declared.event_fault.EventFault.TheVariants as fault
-use Rattle.archive_world.specs.World.{Event, begin, deliver, client_times_out, server_times_out, stray, restart, World, Datagram, Opening, server_endpoint, has_begun, client_at, begins_unless, client_hears, client_waits, strays_unless, restarts, opened_with, taken_with, asked_of, after_request, event_happens, HasMerged, IsFree, MayDeliver, MayHappen}
-use Rattle.archive_world.specs.Headline.{OwnPorts, HasOwnPorts}
-use Rattle.archive_world.specs.Reuse.{IsUnused, was_opened}
-use Rattle.archive_world.specs.Restarts.{HasKept, EventKeeps, wanted_at, wanted_of, wanted_by}
-use Rattle.archive_world.specs.Traces.{server_comes, comes}
-use Rattle.archive_world.specs.Inside.{HearsAtPort}
-use Rattle.tws_best.specs.Best.{Collected, IsCollected}
-use Rattle.archive_world.specs.Replays.{IsDue, Makes, Reuses}
+use Rattle.archive_world.specs.World.{Event, begin, deliver, client_times_out, server_times_out, stray, restart, World, Datagram, server_endpoint, has_begun, client_at, begins_unless, client_waits, strays_unless, restarts, taken_with, event_happens, HasMerged, MayHappen}
+use Rattle.archive_world.specs.Headline.{HasOwnPorts}
+use Rattle.archive_world.specs.Reuse.{IsUnused}
+use Rattle.archive_world.specs.Restarts.{HasKept}
+use Rattle.archive_world.specs.Traces.{comes}
+use Rattle.tws_best.specs.Best.{IsCollected}
+use Rattle.archive_world.specs.Replays.{Makes}
 use Rattle.archive_world.specs.Exits.{Comes}
-use Rattle.archive_world.proofs.Remaining.{Remain, begins_remain, client_remains, request_remains, waits_remain, strays_remain, timeout_leaves}
-use Rattle.archive_world.proofs.Reusing.{begin-keeps_own, opening-keeps_own, stray-keeps_own}
-use Rattle.archive_world.proofs.Endpoints.{endpoint_is}
-use Rattle.archive_world.proofs.Totality.{not_more, one_last}
-use Rattle.archive_world.proofs.Tracing.{begins_fits, strays_fits, delivers_fits}
+use Rattle.archive_world.proofs.Remaining.{Remain, begins_remain, waits_remain, strays_remain, timeout_leaves}
+use Rattle.archive_world.proofs.Reusing.{begin-keeps_own, stray-keeps_own}
+use Rattle.archive_world.proofs.Totality.{not_more}
+use Rattle.archive_world.proofs.Tracing.{begins_fits, strays_fits}
 
 -- no file is taken, so none has to be merged
 pub remain-merged : (w v : World) → Remain w v → (t : Taken) → v.taken ≡ w.taken ++ t ∷ [] → IsMerged t.file w.server.maps v.server.maps
 remain-merged w v remain t e = not_more w.taken t (sym remain.0 ∙ e)
 
--- ---- a keeper that told its list still tells it
-
-some_none : (before : List Keeping) → Some before ≡ None → ⊥
-some_none before e = cc
-
-none_one : (old new : Collected) (before : List Keeping) → KeepsOne old new (Some before) None → ⊥
-none_one old new before (inl stays) = some_none before stays.1
-none_one old new before (inr changes) = some_none before changes.1
-
-none_maps : (old new : Maps) (before : List Keeping) → KeepsMaps old new (Some before) None → ⊥
-none_maps old new before (inl lynx) = none_one old.lynx new.lynx before lynx.1
-none_maps old new before (inr ms) = none_one old.ms new.ms before ms.1
-
-none_fails : (kind : Ruleset) (new : Collected) (before : List Keeping) → FailsKeep kind new (Some before) None → ⊥
-none_fails kind new before (inl none) = some_none before none
-none_fails kind new before (inr failed) = some_none before failed
-
-none_fails_of : (old new : Maps) (before : List Keeping) → FailsKeepOf old new (Some before) None → ⊥
-none_fails_of old new before (inl lynx) = none_fails new.lynx.ruleset new.lynx before lynx.2
-none_fails_of old new before (inr ms) = none_fails new.ms.ruleset new.ms before ms.2
-
-none_tells : (grant : Grant) (wanted : Option Taken) (old new : Maps) (before : List Keeping) → StepKeeps grant wanted old new (Some before) None → ⊥
-none_tells all wanted old new before keeps = none_maps old new before keeps
-none_tells no_memory wanted old new before keeps = some_none before keeps
-none_tells unkept wanted old new before keeps = none_fails_of old keeps.0 before keeps.2
-
-told_after : (grant : Grant) (wanted : Option Taken) (old new : Maps) (before : List Keeping) (now : Option (List Keeping)) → StepKeeps grant wanted old new (Some before) now → (after : List Keeping) × (now ≡ Some after)
-told_after grant wanted old new before None keeps = absurd (none_tells grant wanted old new before keeps)
-told_after grant wanted old new before (Some after) keeps = (after, refl)
-
--- ---- a keep that was refused
-
-changed_of : (old new : Maps) (before after : Option (List Keeping)) → FailsKeepOf old new before after → new ≢ old
-changed_of old new before after (inl lynx) = λ is. lynx.1 (ap (λ (m : Maps). m.lynx) is)
-changed_of old new before after (inr ms) = λ is. ms.1 (ap (λ (m : Maps). m.ms) is)
-
-kept_due : (grant : Grant) (wanted : Option Taken) (t : Taken) (old new : Maps) (before after : Option (List Keeping)) → grant ≡ unkept → wanted ≡ Some t → StepKeeps grant wanted old new before after → (maps : Maps) × IsMerged t.file old maps × (maps ≢ old)
-kept_due grant wanted t old new before after is wants keeps =
-    let refused : RefusesKeep wanted old before after = subst (λ (g : Grant). StepKeeps g wanted old new before after) is keeps in (
-      refused.0,
-      subst (λ (o : Option Taken). Merges o old refused.0) wants refused.1,
-      changed_of old refused.0 before after refused.2,
-    )
-
-abbrev is_restart : Event → Bool
+abbrev pub is_restart : Event → Bool
 is_restart (begin e operation) = false
 is_restart (deliver index spare) = false
 is_restart (client_times_out e) = false
@@ -84,27 +35,8 @@ is_restart (stray d) = false
 is_restart restart = true
 
 -- no event of another kind is a restart
-no_restart : (e : Event) → is_restart e ≡ false → e ≡ restart → ⊥
+pub no_restart : (e : Event) → is_restart e ≡ false → e ≡ restart → ⊥
 no_restart e other is = true≢false (sym (ap is_restart is) ∙ other)
-
-none_some : (t : Taken) → None ≡ Some t → ⊥
-none_some t is = true≢false (sym (ap (λ (o : Option Taken). is_some o) is))
-
--- ---- a file that was taken
-
-taken_merged : (ts : List Taken) (t : Taken) (taken : Option Taken) (old new : Maps) → Merges taken old new → taken_with taken ts ≡ ts ++ t ∷ [] → IsMerged t.file old new
-taken_merged ts t None old new merges e = not_more ts t e
-taken_merged ts t (Some x) old new merges e = subst (λ (y : Taken). IsMerged y.file old new) (one_last ts x t e) merges
-
--- ---- what a request was granted, judged by whether a transfer was opened
-
-abbrev request_grant : (opened : Bool) → Grant
-request_grant true = all
-request_grant false = no_memory
-
-request_memory : (opened : Bool) → memory_of (request_grant opened) ≡ request_verdict opened
-request_memory true = refl
-request_memory false = refl
 
 -- ---- a begin
 
@@ -284,229 +216,6 @@ module _ (w v : World) (told now : Option (List Keeping)) (same : now ≡ told) 
     λ ready. let has = ready refl in
         restart_makes (made has.log has.tells has.kept has.lynx has.ms),
   )
-
--- ---- a delivery
-
-module _ (w v : World) (d : Datagram) (index spare : ℕ) (there : slice_get w.net index ≡ Some d) where
-  abbrev may_deliver : (d.target ≡ record { host = server_endpoint.host; port = w.server.request } → IsFree spare w) → MayDeliver index spare w
-  may_deliver free = record { datagram = d; is = there; spare_is = free }
-
-  -- the world after the delivery, by the host at which the datagram arrives
-  delivered : (grant : Grant) (maps : Maps) → MayDeliver index spare w → (ours : Bool) → (d.target.host == server_endpoint.host) ≡ ours → event_happens (deliver index spare) grant maps w ≡ comes ours spare grant maps d w
-  delivered grant maps may ours is =
-      delivers_fits w d index spare grant maps there may ∙ ap (λ (b : Bool). comes b spare grant maps d w) is
-
-  -- the file that the delivery takes if everything is granted
-  wanted_here : (ours : Bool) → (d.target.host == server_endpoint.host) ≡ ours → wanted_by (slice_get w.net index) w ≡ wanted_of ours d w
-  wanted_here ours is =
-      ap (λ (o : Option Datagram). wanted_by o w) there ∙ ap (λ (b : Bool). wanted_of b d w) is
-
-  -- ---- to a client
-
-  module _ (away : d.target.host ≢ server_endpoint.host) where
-    away_may : MayDeliver index spare w
-    away_may = may_deliver (λ to. absurd (away (ap (λ (e : Endpoint). e.host) to)))
-
-    away_due : (grant : Grant) → IsDue (deliver index spare) grant w
-    away_due grant = λ is t wants.
-        absurd (none_some t (sym (wanted_here false (ne_eqb d.target.host server_endpoint.host away)) ∙ wants))
-
-    heard_as : (grant : Grant) → event_happens (deliver index spare) grant empty_maps w ≡ client_hears (client_at d.target w) grant d w
-    heard_as grant = delivered grant empty_maps away_may false (ne_eqb d.target.host server_endpoint.host away)
-
-    heard_own : (found : Option Client) (grant : Grant) → HasOwnPorts w → HasOwnPorts (client_hears found grant d w)
-    heard_own None grant own = own
-    heard_own (Some c) grant own =
-        record { operations = own.operations; openings = own.openings; strangers = own.strangers }
-
-    heard_request : (found : Option Client) (grant : Grant) → (client_hears found grant d w).server.request ≡ w.server.request
-    heard_request None grant = refl
-    heard_request (Some c) grant = refl
-
-    heard_makes : (grant : Grant) → v ≡ client_hears (client_at d.target w) grant d w → (keeper : Option (List Keeping)) → Makes (deliver index spare) keeper keeper w v
-    heard_makes grant is keeper =
-        let remain = client_remains w (client_at d.target w) grant d in
-        record {
-          grant = grant;
-          maps = empty_maps;
-          is = is ∙ sym (heard_as grant);
-          may = away_may;
-          own = λ own. subst HasOwnPorts (sym is) (heard_own (client_at d.target w) grant own);
-          merged = remain-merged w (event_happens (deliver index spare) grant empty_maps w) (subst (Remain w) (sym (heard_as grant)) remain);
-          due = away_due grant;
-          keeps = λ before tells. (before, tells, inl (ap (λ (x : World). x.server.maps) is ∙ remain.1, refl));
-          stays = λ is. refl;
-        }
-
-    pub hear-comes : (told : Option (List Keeping)) → (grant : Grant) × (v ≡ client_hears (client_at d.target w) grant d w) → Comes (Ok tt) (deliver index spare) told told w v
-    hear-comes told heard = (
-      ap (λ (x : World). x.server.request) heard.1 ∙ heard_request (client_at d.target w) heard.0,
-      λ ready. heard_makes heard.0 heard.1 told,
-    )
-
-  -- ---- to the server
-
-  module _ (ours : d.target.host ≡ server_endpoint.host) where
-    came_as : (grant : Grant) (maps : Maps) → MayDeliver index spare w → (request : Bool) → (d.target.port == w.server.request) ≡ request → event_happens (deliver index spare) grant maps w ≡ server_comes request spare grant maps d w
-    came_as grant maps may request is =
-        delivered grant maps may true (eq-eqb d.target.host server_endpoint.host ours)
-        ∙ ap (λ (b : Bool). server_comes b spare grant maps d w) is
-
-    -- ---- to its request port
-
-    module _ (at : d.target.port ≡ w.server.request) where
-      free_may : IsFree spare w → MayDeliver index spare w
-      free_may free = may_deliver (λ to. free)
-
-      may_free : MayDeliver index spare w → IsFree spare w
-      may_free may =
-          let both : Some may.datagram ≡ Some d = sym may.is ∙ there in
-          let same : may.datagram ≡ d = cc in
-          may.spare_is (ap (λ (x : Datagram). x.target) same ∙ endpoint_is d.target server_endpoint.host w.server.request ours at)
-
-      abbrev answered : Verdict → table.Answer
-      answered verdict = server_request verdict spare d.source d.bytes w.server
-
-      abbrev asked : Verdict → World
-      asked verdict = after_request d.source spare (asked_of d.bytes) (answered verdict) w
-
-      abbrev opening : Opening
-      opening = record { peer = d.source; port = spare; asked = asked_of d.bytes; taken = length w.taken }
-
-      asked_as : (grant : Grant) → IsFree spare w → event_happens (deliver index spare) grant empty_maps w ≡ asked (memory_of grant)
-      asked_as grant free = came_as grant empty_maps (free_may free) true (eq-eqb d.target.port w.server.request at)
-
-      asked_due : (grant : Grant) → IsDue (deliver index spare) grant w
-      asked_due grant = λ is t wants.
-          let none = wanted_here true (eq-eqb d.target.host server_endpoint.host ours) ∙ ap (λ (b : Bool). wanted_at b d w) (eq-eqb d.target.port w.server.request at) in
-          absurd (none_some t (sym none ∙ wants))
-
-      asked_merged : (grant : Grant) → IsFree spare w → HasMerged (record { event = deliver index spare; grant = grant; maps = empty_maps }) w
-      asked_merged grant free =
-          remain-merged w (event_happens (deliver index spare) grant empty_maps w)
-          (subst (Remain w) (sym (asked_as grant free)) (request_remains w false None spare grant d))
-
-      own_opened : (opened : Bool) → (opened ≡ true → was_opened d.source spare w.opened ≡ false) → HasOwnPorts w → OwnPorts w.begun (opened_with opened opening w.opened) w.strays
-      own_opened true none own = (opening-keeps_own w own opening).1 (none refl)
-      own_opened false none own = own
-
-      asked_own : (opened : Bool) → opened ≡ (answered (request_verdict opened)).told.opened → (opened ≡ true → was_opened d.source spare w.opened ≡ false) → HasOwnPorts w → HasOwnPorts (asked (request_verdict opened))
-      asked_own opened told none own =
-          let ports : OwnPorts w.begun (opened_with (answered (request_verdict opened)).told.opened opening w.opened) w.strays = subst (λ (b : Bool). OwnPorts w.begun (opened_with b opening w.opened) w.strays) told (own_opened opened none own) in
-          record { operations = ports.operations; openings = ports.openings; strangers = ports.strangers }
-
-      asked_makes : (opened : Bool) → v ≡ asked (request_verdict opened) → IsFree spare w → opened ≡ (answered (request_verdict opened)).told.opened → (opened ≡ true → was_opened d.source spare w.opened ≡ false) → (keeper : Option (List Keeping)) → Makes (deliver index spare) keeper keeper w v
-      asked_makes opened is free told none keeper =
-          let grant = request_grant opened in
-          record {
-            grant = grant;
-            maps = empty_maps;
-            is = is ∙ ap asked (sym (request_memory opened)) ∙ sym (asked_as grant free);
-            may = free_may free;
-            own = λ own. subst HasOwnPorts (sym is) (asked_own opened told none own);
-            merged = asked_merged grant free;
-            due = asked_due grant;
-            keeps = λ before tells. (before, tells, inl (ap (λ (x : World). x.server.maps) (is ∙ ap asked (sym (request_memory opened))) ∙ (request_remains w false None spare grant d).1, refl));
-            stays = λ is. refl;
-          }
-
-      reused_by : HasOwnPorts w → IsFree spare w → was_opened d.source spare w.opened ≡ true → (answered granted).told.opened ≡ true → HasOwnPorts (event_happens (deliver index spare) all empty_maps w) → ⊥
-      reused_by own free used opens later =
-          let ports : HasOwnPorts (asked granted) = subst HasOwnPorts (asked_as all free) later in
-          let also : OwnPorts w.begun (opened_with (answered granted).told.opened opening w.opened) w.strays = record { operations = ports.operations; openings = ports.openings; strangers = ports.strangers } in
-          let new : OwnPorts w.begun (w.opened ++ opening ∷ []) w.strays = subst (λ (b : Bool). OwnPorts w.begun (opened_with b opening w.opened) w.strays) opens also in
-          let none : was_opened d.source spare w.opened ≡ false = (opening-keeps_own w own opening).0 new in
-          true≢false (sym used ∙ none)
-
-      asked_reuses : IsFree spare w → was_opened d.source spare w.opened ≡ true → (answered granted).told.opened ≡ true → HasOwnPorts w → Reuses (deliver index spare) w
-      asked_reuses free used opens own =
-          record {
-            may = free_may free;
-            grant = all;
-            maps = empty_maps;
-            merged = asked_merged all free;
-            reused = reused_by own free used opens;
-          }
-
-      pub ask-comes : (r : Result Bool EventFault) (opened : Bool) (told : Option (List Keeping)) → v ≡ asked (request_verdict opened) → IsFree spare w → opened ≡ (answered (request_verdict opened)).told.opened → r ≡ Ok opened → (r ≡ Ok true → was_opened d.source spare w.opened ≡ false) → Comes (Ok tt) (deliver index spare) told told w v
-      ask-comes r opened told is free opens ok none = (
-        ap (λ (x : World). x.server.request) is ∙ request_same (request_verdict opened) spare d.source d.bytes w.server,
-        λ ready. asked_makes opened is free opens (λ e. none (ok ∙ ap (λ (b : Bool). Ok b) e)) told,
-      )
-
-      pub ask-fails : (r : Result Bool EventFault) (f : EventFault) (told : Option (List Keeping)) → r ≡ Err f → (r ≡ Err fault.Bad → IsFree spare w → ⊥) → (r ≡ Err fault.Reused → IsFree spare w) → (r ≡ Err fault.Reused → was_opened d.source spare w.opened ≡ true) → r ≢ Err fault.NotLoaded → (r ≡ Err fault.Reused → (answered granted).told.opened ≡ true) → Comes (Err f) (deliver index spare) told told w v
-      ask-fails r fault.Bad told is bad reused used loads opens = (refl, λ may. bad is (may_free may))
-      ask-fails r fault.Reused told is bad reused used loads opens =
-          (refl, λ own. asked_reuses (reused is) (used is) (opens is) own)
-      ask-fails r fault.NotLoaded told is bad reused used loads opens = absurd (loads is)
-      ask-fails r fault.Memory told is bad reused used loads opens = (no_restart (deliver index spare) refl, inl refl)
-
-    -- ---- to another port
-
-    module _ (other : d.target.port ≢ w.server.request) (old new : Option (List Keeping)) (u : World) (h : HearsAtPort d old new w u) where
-      other_may : MayDeliver index spare w
-      other_may = may_deliver (λ to. absurd (other (ap (λ (e : Endpoint). e.port) to)))
-
-      abbrev stepped : World
-      stepped = event_happens (deliver index spare) h.grant u.server.maps w
-
-      stepped_is : u ≡ stepped
-      stepped_is = h.is ∙ sym (came_as h.grant u.server.maps other_may false (ne_eqb d.target.port w.server.request other))
-
-      stepped_own : HasOwnPorts w → HasOwnPorts u
-      stepped_own own =
-          subst HasOwnPorts (sym h.is) (record { operations = own.operations; openings = own.openings; strangers = own.strangers })
-
-      stepped_merged : HasMerged (record { event = deliver index spare; grant = h.grant; maps = u.server.maps }) w
-      stepped_merged =
-          subst (λ (x : World). (t : Taken) → x.taken ≡ w.taken ++ t ∷ [] → IsMerged t.file w.server.maps x.server.maps) stepped_is
-          (λ t e. taken_merged w.taken t _ w.server.maps u.server.maps h.merges (sym (ap (λ (x : World). x.taken) h.is) ∙ e))
-
-      abbrev wanted : Option Taken
-      wanted = (server_datagram all w.server.maps d.target.port d.source d.bytes w.server).told.taken
-
-      stepped_wanted : wanted_by (slice_get w.net index) w ≡ wanted
-      stepped_wanted =
-          wanted_here true (eq-eqb d.target.host server_endpoint.host ours)
-          ∙ ap (λ (b : Bool). wanted_at b d w) (ne_eqb d.target.port w.server.request other)
-
-      stepped_keeps : (before after : List Keeping) → old ≡ Some before → new ≡ Some after → StepKeeps h.grant (wanted_by (slice_get w.net index) w) w.server.maps u.server.maps (Some before) (Some after)
-      stepped_keeps before after old_is new_is =
-          subst (λ (o : Option (List Keeping)). StepKeeps h.grant (wanted_by (slice_get w.net index) w) w.server.maps u.server.maps o (Some after)) old_is
-          (subst (λ (o : Option (List Keeping)). StepKeeps h.grant (wanted_by (slice_get w.net index) w) w.server.maps u.server.maps old o) new_is
-          (subst (λ (o : Option Taken). StepKeeps h.grant o w.server.maps u.server.maps old new) (sym stepped_wanted) h.keeps))
-
-      now_keeps : (before : List Keeping) → old ≡ Some before → (after : List Keeping) × (new ≡ Some after) × EventKeeps (deliver index spare) h.grant w u before after
-      now_keeps before is =
-          let now = told_after h.grant wanted w.server.maps u.server.maps before new (subst (λ (o : Option (List Keeping)). StepKeeps h.grant wanted w.server.maps u.server.maps o new) is h.keeps) in
-          (now.0, now.1, inr (stepped_keeps before now.0 is now.1))
-
-      stepped_due : IsDue (deliver index spare) h.grant w
-      stepped_due = λ is t wants.
-          kept_due h.grant wanted t w.server.maps u.server.maps old new is (sym stepped_wanted ∙ wants) h.keeps
-
-      stepped_makes : Makes (deliver index spare) old new w u
-      stepped_makes =
-          record {
-            grant = h.grant;
-            maps = u.server.maps;
-            is = stepped_is;
-            may = other_may;
-            own = stepped_own;
-            merged = stepped_merged;
-            due = stepped_due;
-            keeps = now_keeps;
-            stays = λ is. absurd (no_restart (deliver index spare) refl is);
-          }
-
-      pub transfer-fails : Comes (Err fault.Memory) (deliver index spare) old new w v
-      transfer-fails = (no_restart (deliver index spare) refl, inr (u, λ ready. stepped_makes))
-
-      pub transfer-comes : v ≡ u → Comes (Ok tt) (deliver index spare) old new w v
-      transfer-comes is = (
-        ap (λ (x : World). x.server.request) (is ∙ h.is) ∙ datagram_same h.grant u.server.maps d.target.port d.source d.bytes w.server,
-        λ ready. subst (λ (x : World). Makes (deliver index spare) old new w x) (sym is) stepped_makes,
-      )
 
 -- the same for an event that equals this one
 pub comes-at : (e f : Event) (r : Result (Unit {0}) EventFault) (old new : Option (List Keeping)) (w v : World) → e ≡ f → Comes r f old new w v → Comes r e old new w v

@@ -47,4 +47,5 @@ pub mod Firsts
 pub mod Clients
 pub mod Entering
 pub mod Exiting
+pub mod Delivering
 pub mod Replaying

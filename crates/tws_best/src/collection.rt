@@ -103,9 +103,7 @@ impl<A: Allocator + Copy> Collection<A> {
             kept,
         })
     }
-}
 
-impl<A: Allocator + Copy> Collection<A> {
     /// Returns a snapshot of the current text, which later merges do not change. The text must have fewer than 2^64
     /// bytes. The bodies are shared, not copied.
     ///

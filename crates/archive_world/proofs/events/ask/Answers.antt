@@ -1,5 +1,5 @@
 use Rattle.std.proofs.Common.{sym, ◌∙◌}
-use Rattle.archive_world.proofs.Exiting.{ask-comes, ask-fails}
+use Rattle.archive_world.proofs.Delivering.{ask-comes, ask-fails}
 use Rattle.archive_world.proofs.events.ask.Goals as goal
 
 pub returns-in-Ok : goal.returns-in-Ok

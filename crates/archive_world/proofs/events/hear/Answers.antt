@@ -1,4 +1,4 @@
-use Rattle.archive_world.proofs.Exiting.{hear-comes}
+use Rattle.archive_world.proofs.Delivering.{hear-comes}
 use Rattle.archive_world.proofs.events.hear.Goals as goal
 
 pub returns-in-Ok : goal.returns-in-Ok

@@ -1,5 +1,5 @@
 use Rattle.std.proofs.Common.{◌∙◌}
-use Rattle.archive_world.proofs.Exiting.{transfer-comes, transfer-fails}
+use Rattle.archive_world.proofs.Delivering.{transfer-comes, transfer-fails}
 use Rattle.archive_world.proofs.events.transfer.Goals as goal
 
 pub returns-in-Ok : goal.returns-in-Ok
