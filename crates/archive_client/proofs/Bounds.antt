@@ -16,8 +16,9 @@ use Rattle.tftp_ends.specs.declared.recv_state.RecvState.TheVariants as recv
 use Rattle.tftp_ends.specs.declared.recv_fault.RecvFault.{RecvFault}
 use Rattle.tftp_ends.specs.Ends.{Verdict, granted, refused, Sender, SendAnswer, sender_goes_on, sender_acked, sender_ack_in, sender_timeout, IsSender, Receiver, RecvAnswer, receiver_start, receiver_appends, state_after, receiver_takes, receiver_next, receiver_again, is_past, is_last_come, receiver_running, receiver_data_in, receiver_data, receiver_missed, receiver_dallied, receiver_timeout_in, receiver_timeout, IsReceiver}
 use Rattle.tftp_ends.proofs.Steps.{sender_ack-keeps, sender_timeout-keeps, IsSender-start, receiver_data-keeps, receiver_timeout-keeps, IsReceiver-start}
+use Rattle.tftp_ends.specs.Heard.{Heard, nothing, stray, refusal, acked, block, heard_from_peer, heard_from_other, heard_packet}
 use Rattle.archive_client.proofs.Machine.{client_at}
-use Rattle.archive_client.specs.Client.{Operation, put, get, Phase, asking, sending, receiving, failed, Client, Heard, nothing, stray, refusal, acked, block, IsOperation, IsPhase, IsClient, is_over, heard_from_peer, heard_from_other, heard_bound, heard_packet, heard_decoded, heard_at, heard, phase_peer, client_heard, client_unless_over, client_datagram, client_timeout, asks_again, put_answered, put_waited, get_took, get_answered, get_refused, get_waited}
+use Rattle.archive_client.specs.Client.{Operation, put, get, Phase, asking, sending, receiving, failed, Client, IsOperation, IsPhase, IsClient, is_over, heard_decoded, heard_at, heard, phase_peer, client_heard, client_unless_over, client_datagram, client_timeout, asks_again, put_answered, put_waited, get_took, get_answered, get_refused, get_waited, heard_at_port}
 use Rattle.archive_client.specs.View.{IsHeard}
 
 -- ---- the body of a received block is no longer than a block
@@ -36,16 +37,16 @@ from_other-short (data_block n body) = tt
 from_other-short (ack n) = tt
 from_other-short (error code text) = tt
 
-bound-short : (same : Bool) (p : Packet) → HasFields p → IsHeard (heard_bound same p)
-bound-short true p fields = from_peer-short p fields
-bound-short false p fields = from_other-short p
+packet-short : (same : Bool) (p : Packet) → HasFields p → IsHeard (heard_packet same p)
+packet-short true p fields = from_peer-short p fields
+packet-short false p fields = from_other-short p
 
-packet-short : (peer : Option ℕ) (port : ℕ) (p : Packet) → HasFields p → IsHeard (heard_packet peer port p)
-packet-short None port p fields = from_peer-short p fields
-packet-short (Some peer) port p fields = bound-short (port == peer) p fields
+at_port-short : (peer : Option ℕ) (port : ℕ) (p : Packet) → HasFields p → IsHeard (heard_at_port peer port p)
+at_port-short None port p fields = from_peer-short p fields
+at_port-short (Some peer) port p fields = packet-short (port == peer) p fields
 
 decoded-short : (peer : Option ℕ) (port : ℕ) (bytes : List ℕ) (answer : Result Packet PacketFault) → IsBytes bytes → decode_bytes bytes ≡ answer → IsHeard (heard_decoded peer port answer)
-decoded-short peer port bytes (Ok p) is e = packet-short peer port p (decoded_packet bytes p is e).fields
+decoded-short peer port bytes (Ok p) is e = at_port-short peer port p (decoded_packet bytes p is e).fields
 decoded-short peer port bytes (Err fault) is e = tt
 
 at-short : (ours : Bool) (peer : Option ℕ) (port : ℕ) (bytes : List ℕ) → IsBytes bytes → IsHeard (heard_at ours peer port bytes)

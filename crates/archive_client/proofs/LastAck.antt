@@ -14,9 +14,10 @@ use Rattle.tftp_ends.specs.declared.recv_state.RecvState.TheVariants as recv
 use Rattle.tftp_ends.specs.declared.recv_fault.RecvFault.{RecvFault}
 use Rattle.tftp_ends.specs.Ends.{Verdict, Sender, SendAnswer, sender_timeout, Receiver, RecvAnswer, receiver_start, receiver_data, receiver_timeout}
 use Rattle.tftp_ends.proofs.Steps.{sender_ack-finishes, sender_timeout-finishes}
+use Rattle.tftp_ends.specs.Heard.{Heard, nothing, stray, refusal, acked, block, heard_from_peer, heard_from_other, heard_packet}
 use Rattle.archive_client.specs.declared.state.State.TheVariants.{Sent}
 use Rattle.archive_client.proofs.Machine.{client_at}
-use Rattle.archive_client.specs.Client.{Operation, put, get, Phase, asking, sending, receiving, failed, Client, Heard, nothing, stray, refusal, acked, block, IsLastAck, state_of, phase_state, send_state, recv_state, is_over, heard_from_peer, heard_from_other, heard_bound, heard_decoded, heard_at, heard, phase_peer, client_heard, client_unless_over, client_datagram, client_timeout, asks_again, put_answered, put_waited, get_took, get_answered, get_refused, get_waited}
+use Rattle.archive_client.specs.Client.{Operation, put, get, Phase, asking, sending, receiving, failed, Client, IsLastAck, state_of, phase_state, send_state, recv_state, is_over, heard_decoded, heard_at, heard, phase_peer, client_heard, client_unless_over, client_datagram, client_timeout, asks_again, put_answered, put_waited, get_took, get_answered, get_refused, get_waited}
 
 -- ---- when a file counts as sent
 
@@ -52,13 +53,13 @@ from_other-acked (data_block m body) n = λ e. cc
 from_other-acked (ack m) n = λ e. cc
 from_other-acked (error code text) n = λ e. cc
 
-bound-acked : (same : Bool) (peer n : ℕ) (from : Endpoint) (bytes : List ℕ) (p : Packet) → (from.port == peer) ≡ same → decode_bytes bytes ≡ Ok p → heard_bound same p ≡ acked n → IsAckOf peer n from bytes
-bound-acked true peer n from bytes p is_same is e =
+packet-acked : (same : Bool) (peer n : ℕ) (from : Endpoint) (bytes : List ℕ) (p : Packet) → (from.port == peer) ≡ same → decode_bytes bytes ≡ Ok p → heard_packet same p ≡ acked n → IsAckOf peer n from bytes
+packet-acked true peer n from bytes p is_same is e =
     record { from_peer = eqb-true _ _ is_same; is_ack = is ∙ ap (λ (q : Packet). Ok q) (from_peer-acked p n e) }
-bound-acked false peer n from bytes p is_same is e = absurd (from_other-acked p n e)
+packet-acked false peer n from bytes p is_same is e = absurd (from_other-acked p n e)
 
 decoded-acked : (peer n : ℕ) (from : Endpoint) (bytes : List ℕ) (answer : Result Packet PacketFault) → decode_bytes bytes ≡ answer → heard_decoded (Some peer) from.port answer ≡ acked n → IsAckOf peer n from bytes
-decoded-acked peer n from bytes (Ok p) is e = bound-acked (from.port == peer) peer n from bytes p refl is e
+decoded-acked peer n from bytes (Ok p) is e = packet-acked (from.port == peer) peer n from bytes p refl is e
 decoded-acked peer n from bytes (Err fault) is e = cc
 
 at-acked : (ours : Bool) (peer n : ℕ) (from : Endpoint) (bytes : List ℕ) → heard_at ours (Some peer) from.port bytes ≡ acked n → IsAckOf peer n from bytes

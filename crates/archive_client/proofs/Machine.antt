@@ -9,7 +9,8 @@ use Rattle.tftp_ends.specs.declared.recv_state.RecvState.{RecvState}
 use Rattle.tftp_ends.specs.declared.recv_state.RecvState.TheVariants as recv
 use Rattle.tftp_ends.specs.declared.recv_fault.RecvFault.{RecvFault}
 use Rattle.tftp_ends.specs.Ends.{Verdict, Sender, SendAnswer, Receiver, RecvAnswer, sender_timeout, receiver_data, receiver_timeout}
-use Rattle.archive_client.specs.Client.{Phase, asking, sending, receiving, failed, Client, Heard, nothing, stray, refusal, acked, block, IsClient, IsPhase, IsBoundTo, IsBoundToStill, is_over, is_phase_over, is_send_over, is_recv_over, stays, heard, heard_at, phase_peer, client_heard, client_unless_over, client_datagram, client_timeout, phase_waits, get_took, get_refused, put_waited, get_waited}
+use Rattle.tftp_ends.specs.Heard.{Heard, nothing, stray, refusal, acked, block}
+use Rattle.archive_client.specs.Client.{Phase, asking, sending, receiving, failed, Client, IsClient, IsPhase, IsBoundTo, IsBoundToStill, is_over, is_phase_over, is_send_over, is_recv_over, stays, heard, heard_at, phase_peer, client_heard, client_unless_over, client_datagram, client_timeout, phase_waits, get_took, get_refused, put_waited, get_waited}
 
 -- a client with these parts
 abbrev pub client_at : (port : ℕ) → Endpoint → Phase → Client

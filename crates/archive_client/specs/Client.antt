@@ -16,6 +16,7 @@ use Rattle.tftp_ends.specs.declared.recv_state.RecvState.{RecvState}
 use Rattle.tftp_ends.specs.declared.recv_state.RecvState.TheVariants as recv
 use Rattle.tftp_ends.specs.declared.recv_fault.RecvFault.{RecvFault}
 use Rattle.tftp_ends.specs.declared.recv_fault.RecvFault.TheVariants as fault
+use Rattle.tftp_ends.specs.Heard.{Heard, nothing, stray, refusal, acked, block, heard_from_peer, heard_packet}
 use Rattle.tftp_ends.specs.Ends.{Verdict, granted, refused, Sender, SendAnswer, sender_start, sender_ack, sender_timeout, data_packet, IsSender, Receiver, RecvAnswer, DataAnswer, receiver_start, receiver_data, receiver_timeout, receiver_take, refusal_of, IsReceiver}
 use Rattle.tws_file.specs.declared.«ruleset».Ruleset.{Ruleset}
 use Rattle.tws_file.specs.Names.{file_name_of, upload_name}
@@ -143,46 +144,13 @@ phase_peer (sending peer s) = Some peer
 phase_peer (receiving peer r) = Some peer
 phase_peer (failed why) = None
 
-pub data Heard : Type 0 where
-  -- it has no effect
-  nothing : Heard
-  -- a packet other than an ERROR, from a port of the server's host that the client is not bound to
-  stray : Heard
-  -- an ERROR with this code, for the client
-  refusal : (code : ℕ) → Heard
-  -- ACK n, for the client
-  acked : (n : ℕ) → Heard
-  -- DATA n with this body, for the client
-  block : (n : ℕ) (body : List ℕ) → Heard
-
--- a packet from the right port
-abbrev pub heard_from_peer : Packet → Heard
-heard_from_peer (read name mode) = nothing
-heard_from_peer (write name mode) = nothing
-heard_from_peer (data_block n body) = block n body
-heard_from_peer (ack n) = acked n
-heard_from_peer (error code text) = refusal code
-
--- An ERROR is never answered with an ERROR.
-abbrev pub heard_from_other : Packet → Heard
-heard_from_other (read name mode) = stray
-heard_from_other (write name mode) = stray
-heard_from_other (data_block n body) = stray
-heard_from_other (ack n) = stray
-heard_from_other (error code text) = nothing
-
--- whether the port is the peer's
-abbrev pub heard_bound : (same : Bool) → Packet → Heard
-heard_bound true packet = heard_from_peer packet
-heard_bound false packet = heard_from_other packet
-
 -- Until there is a peer, any port of the host may answer.
-abbrev pub heard_packet : (peer : Option ℕ) (port : ℕ) → Packet → Heard
-heard_packet None port packet = heard_from_peer packet
-heard_packet (Some peer) port packet = heard_bound (port == peer) packet
+abbrev pub heard_at_port : (peer : Option ℕ) (port : ℕ) → Packet → Heard
+heard_at_port None port packet = heard_from_peer packet
+heard_at_port (Some peer) port packet = heard_packet (port == peer) packet
 
 abbrev pub heard_decoded : (peer : Option ℕ) (port : ℕ) → Result Packet PacketFault → Heard
-heard_decoded peer port (Ok packet) = heard_packet peer port packet
+heard_decoded peer port (Ok packet) = heard_at_port peer port packet
 heard_decoded peer port (Err e) = nothing
 
 -- whether the datagram comes from the server's host

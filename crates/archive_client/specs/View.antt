@@ -2,6 +2,7 @@
 use Rattle.std.specs.Prelude.{ℕ, ◌≤◌, List, length, Option, None, Some}
 use Rattle.tftp_packet.specs.declared.sizes.TheConstants.{BLOCK_SIZE}
 use Rattle.tftp_ends.specs.Ends.{Sender, Receiver}
+use Rattle.tftp_ends.specs.Heard.{Heard, nothing, stray, refusal, acked, block}
 use Rattle.tws_file.specs.declared.«ruleset».Ruleset.{Ruleset}
 use Rattle.archive_client.specs.declared.phase.Phase as kept
 use Rattle.archive_client.specs.declared.phase.Phase.TheVariants as phase
@@ -9,7 +10,7 @@ use Rattle.archive_client.specs.declared.heard.Heard as borrowed
 use Rattle.archive_client.specs.declared.heard.Heard.TheVariants as hears
 use Rattle.archive_client.specs.declared.put.Put.TheInside as putting
 use Rattle.archive_client.specs.declared.get.Get.TheInside as getting
-use Rattle.archive_client.specs.Client.{Phase, asking, sending, receiving, failed, Client, put, get, Heard, nothing, stray, refusal, acked, block}
+use Rattle.archive_client.specs.Client.{Phase, asking, sending, receiving, failed, Client, put, get}
 
 abbrev pub put_phase : kept.Phase (List ℕ) Sender → Phase
 put_phase (phase.Asking file misses) = asking (put file) misses

@@ -1,7 +1,8 @@
 //! Where a client sends its datagrams, and which of those it receives are for it.
 
 ghost use Rattle.std.specs.Prelude.{◌≡◌};
-ghost use Rattle.archive_client.specs.Client.{heard, heard_from_peer, heard_from_other};
+ghost use Rattle.tftp_ends.specs.Heard.{heard_from_peer, heard_from_other};
+ghost use Rattle.archive_client.specs.Client.{heard};
 ghost use Rattle.tftp_packet.specs.Packet.{HasFields};
 ghost use Rattle.tftp_packet.specs.View.{packet_of};
 ghost use Rattle.archive_client.specs.View.{heard_of, IsHeard};

@@ -7,10 +7,11 @@ use Rattle.tftp_ends.specs.declared.recv_state.RecvState.{RecvState}
 use Rattle.tftp_ends.specs.declared.recv_state.RecvState.TheVariants as recv
 use Rattle.tftp_ends.specs.Ends.{Verdict, Sender, Receiver, receiver_take, receiver_again, is_last_come, receiver_dallied}
 use Rattle.tftp_ends.specs.declared.limits.TheConstants.{DALLY}
+use Rattle.tftp_ends.specs.Heard.{Heard, nothing, stray, refusal, acked, block}
 use Rattle.archive_client.specs.declared.state.State.{State}
 use Rattle.archive_client.specs.declared.state.State.TheVariants as state
 use Rattle.archive_client.proofs.Machine.{client_at}
-use Rattle.archive_client.specs.Client.{Phase, asking, sending, receiving, failed, Client, Heard, nothing, stray, refusal, acked, block, state_of, phase_state, recv_state, phase_file, is_phase_over, is_send_over, is_recv_over, is_over, heard, phase_peer, client_heard, client_unless_over, client_datagram, client_timeout, get_waited, get_sent}
+use Rattle.archive_client.specs.Client.{Phase, asking, sending, receiving, failed, Client, state_of, phase_state, recv_state, phase_file, is_phase_over, is_send_over, is_recv_over, is_over, heard, phase_peer, client_heard, client_unless_over, client_datagram, client_timeout, get_waited, get_sent}
 use Rattle.archive_world.specs.World.{newly_sent, newly_got}
 
 pub record Ends (c next : Client) : Type 0 where

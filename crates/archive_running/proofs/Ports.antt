@@ -20,9 +20,10 @@ use Rattle.tftp_ends.specs.declared.recv_state.RecvState.{RecvState}
 use Rattle.tftp_ends.specs.declared.recv_state.RecvState.TheVariants as recv
 use Rattle.tftp_ends.specs.declared.recv_fault.RecvFault.{RecvFault}
 use Rattle.tftp_ends.specs.Ends.{Verdict, granted, refused, answer_of, Receiver, SendAnswer, RecvAnswer, receiver_data, receiver_take, receiver_timeout, sender_ack, sender_timeout}
+use Rattle.tftp_ends.specs.Heard.{Heard, nothing, stray, refusal, acked, block}
 use Rattle.tws_file.specs.declared.«ruleset».Ruleset.{Ruleset}
 use Rattle.tws_best.specs.Best.{Collected}
-use Rattle.archive_table.specs.Server.{Server, Maps, Transfer, End, sending, receiving, Grant, all, no_memory, unkept, memory_of, map_of, has_place, at_port, with_live, opens_if, read_fits, read_placed, read_named, read_asked, write_placed, write_asked, request_packet, request_decoded, server_request, Heard, nothing, stray, ended, acked, block, heard, transfer_at, first_port, port_above, file_come, file_asked, block_answered, data_at, sender_goes_on, ack_at, transfer_heard, datagram_at, server_datagram, receiver_goes_on, waits_at, timeout_at, server_timeout, has_long_text}
+use Rattle.archive_table.specs.Server.{Server, Maps, Transfer, End, sending, receiving, Grant, all, no_memory, unkept, memory_of, map_of, has_place, at_port, with_live, opens_if, read_fits, read_placed, read_named, read_asked, write_placed, write_asked, request_packet, request_decoded, server_request, heard, transfer_at, first_port, port_above, file_come, file_asked, block_answered, data_at, sender_goes_on, ack_at, transfer_heard, datagram_at, server_datagram, receiver_goes_on, waits_at, timeout_at, server_timeout, has_long_text}
 use Rattle.tws_file.specs.Names.{kind_named}
 
 abbrev pub IsApart : Server → Type 0
@@ -143,7 +144,7 @@ module _ (port : ℕ) (s : Server) (apart : IsApart s) where
   heard_apart : (h : Heard) (grant : Grant) (maps : Maps) (from : Endpoint) (t : Transfer) → IsApart (transfer_heard h grant maps port from t s).server
   heard_apart nothing grant maps from t = apart
   heard_apart stray grant maps from t = apart
-  heard_apart ended grant maps from t = remove_apart port s apart
+  heard_apart (refusal code) grant maps from t = remove_apart port s apart
   heard_apart (acked n) grant maps from t = ack_apart t.peer t.end n
   heard_apart (block n body) grant maps from t = data_apart t.peer t.end grant maps n body
 

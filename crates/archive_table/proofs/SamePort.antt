@@ -11,9 +11,10 @@ use Rattle.tftp_ends.specs.declared.recv_state.RecvState.{RecvState}
 use Rattle.tftp_ends.specs.declared.recv_state.RecvState.TheVariants as recv
 use Rattle.tftp_ends.specs.declared.recv_fault.RecvFault.{RecvFault}
 use Rattle.tftp_ends.specs.Ends.{Verdict, granted, refused, SendAnswer, Receiver, RecvAnswer, answer_of, receiver_take, receiver_data, sender_ack, sender_timeout, receiver_timeout}
+use Rattle.tftp_ends.specs.Heard.{Heard, nothing, stray, refusal, acked, block}
 use Rattle.tws_file.specs.declared.«ruleset».Ruleset.{Ruleset}
 use Rattle.tws_best.specs.Best.{Collected}
-use Rattle.archive_table.specs.Server.{End, sending, receiving, Transfer, Maps, Server, Grant, all, no_memory, unkept, Heard, nothing, stray, ended, acked, block, map_of, has_place, memory_of, heard, transfer_at, read_fits, read_placed, read_named, read_asked, write_placed, write_asked, request_packet, request_decoded, server_request, file_come, file_asked, block_answered, data_at, sender_goes_on, ack_at, transfer_heard, datagram_at, server_datagram, receiver_goes_on, waits_at, timeout_at, server_timeout, has_long_text}
+use Rattle.archive_table.specs.Server.{End, sending, receiving, Transfer, Maps, Server, Grant, all, no_memory, unkept, map_of, has_place, memory_of, heard, transfer_at, read_fits, read_placed, read_named, read_asked, write_placed, write_asked, request_packet, request_decoded, server_request, file_come, file_asked, block_answered, data_at, sender_goes_on, ack_at, transfer_heard, datagram_at, server_datagram, receiver_goes_on, waits_at, timeout_at, server_timeout, has_long_text}
 use Rattle.tws_file.specs.Names.{kind_named}
 
 fits_same : (long : Bool) (v : Verdict) (spare : ℕ) (from : Endpoint) (c : Collected) (s : Server) → (read_fits long v spare from c s).server.request ≡ s.request
@@ -85,7 +86,7 @@ ack_same (receiving r) port peer n s = refl
 heard_same : (h : Heard) (grant : Grant) (maps : Maps) (port : ℕ) (from : Endpoint) (t : Transfer) (s : Server) → (transfer_heard h grant maps port from t s).server.request ≡ s.request
 heard_same nothing grant maps port from t s = refl
 heard_same stray grant maps port from t s = refl
-heard_same ended grant maps port from t s = refl
+heard_same (refusal code) grant maps port from t s = refl
 heard_same (acked n) grant maps port from t s = ack_same t.end port t.peer n s
 heard_same (block n body) grant maps port from t s = data_same t.end grant maps port t.peer n body s
 

@@ -22,6 +22,7 @@ use Rattle.tftp_ends.specs.declared.send_state.SendState.TheVariants as send
 use Rattle.tftp_ends.specs.declared.recv_state.RecvState.{RecvState}
 use Rattle.tftp_ends.specs.declared.recv_state.RecvState.TheVariants as recv
 use Rattle.tftp_ends.specs.declared.recv_fault.RecvFault.{RecvFault}
+use Rattle.tftp_ends.specs.Heard.{Heard, nothing, stray, refusal, acked, block, heard_packet}
 use Rattle.tftp_ends.specs.Ends.{Verdict, granted, refused, dgram_of, answer_of, Sender, SendAnswer, sender_start, sender_ack, sender_timeout, data_packet, IsSender, Receiver, RecvAnswer, DataAnswer, TakeAnswer, receiver_start, receiver_data, receiver_timeout, receiver_take, refusal_of, IsReceiver, IsEnded}
 use Rattle.tws_file.specs.declared.«ruleset».Ruleset.{Ruleset}
 use Rattle.tws_file.specs.declared.«ruleset».Ruleset.TheVariants.{Lynx, Ms}
@@ -232,38 +233,6 @@ request_verdict false = refused
 
 -- ---- a datagram at a transfer's port: what it means to the transfer
 
-pub data Heard : Type 0 where
-  -- it has no effect
-  nothing : Heard
-  -- a packet other than an ERROR, from a source other than the peer
-  stray : Heard
-  -- an ERROR from the peer
-  ended : Heard
-  -- ACK n from the peer
-  acked : (n : ℕ) → Heard
-  -- DATA n from the peer, with this body
-  block : (n : ℕ) (body : List ℕ) → Heard
-
-abbrev pub heard_from_peer : Packet → Heard
-heard_from_peer (read name mode) = nothing
-heard_from_peer (write name mode) = nothing
-heard_from_peer (data_block n body) = block n body
-heard_from_peer (ack n) = acked n
-heard_from_peer (error code text) = ended
-
--- An ERROR is never answered with an ERROR.
-abbrev pub heard_from_other : Packet → Heard
-heard_from_other (read name mode) = stray
-heard_from_other (write name mode) = stray
-heard_from_other (data_block n body) = stray
-heard_from_other (ack n) = stray
-heard_from_other (error code text) = nothing
-
--- whether it comes from the peer
-abbrev pub heard_packet : (same : Bool) → Packet → Heard
-heard_packet true packet = heard_from_peer packet
-heard_packet false packet = heard_from_other packet
-
 abbrev pub is_same : Endpoint → Endpoint → Bool
 is_same a b = (a.host == b.host) && (a.port == b.port)
 
@@ -341,7 +310,7 @@ ack_at (receiving r) port peer n s = stays s
 abbrev pub transfer_heard : Heard → Grant → (maps : Maps) → (port : ℕ) → (from : Endpoint) → Transfer → Server → Answer
 transfer_heard nothing grant maps port from t s = stays s
 transfer_heard stray grant maps port from t s = replies (out_from port from (refusal_packet UnknownTransfer)) s
-transfer_heard ended grant maps port from t s = closes port t.peer None s
+transfer_heard (refusal code) grant maps port from t s = closes port t.peer None s
 transfer_heard (acked n) grant maps port from t s = ack_at t.end port t.peer n s
 transfer_heard (block n body) grant maps port from t s = data_at t.end grant maps port t.peer n body s
 

@@ -9,7 +9,8 @@ use Rattle.tftp_ends.specs.declared.recv_state.RecvState.{RecvState}
 use Rattle.tftp_ends.specs.declared.recv_state.RecvState.TheVariants as recv
 use Rattle.tftp_ends.specs.declared.recv_fault.RecvFault.{RecvFault}
 use Rattle.tftp_ends.specs.Ends.{SendAnswer, Receiver, RecvAnswer, DataAnswer, sender_ack, sender_timeout, receiver_data, receiver_timeout, receiver_take, answer_of, dgram_of, refusal_of}
-use Rattle.archive_table.specs.Server.{Server, Answer, End, sending, receiving, Transfer, Maps, Grant, all, no_memory, unkept, Heard, nothing, stray, ended, acked, block, heard, memory_of, refusal_dgram, stays, goes_on, closes, transfer_at, file_come, file_asked, block_answered, block_heard, data_at, sender_goes_on, ack_at, transfer_heard, datagram_at, server_datagram, receiver_goes_on, waits_at, timeout_at, server_timeout}
+use Rattle.tftp_ends.specs.Heard.{Heard, nothing, stray, refusal, acked, block}
+use Rattle.archive_table.specs.Server.{Server, Answer, End, sending, receiving, Transfer, Maps, Grant, all, no_memory, unkept, heard, memory_of, refusal_dgram, stays, goes_on, closes, transfer_at, file_come, file_asked, block_answered, block_heard, data_at, sender_goes_on, ack_at, transfer_heard, datagram_at, server_datagram, receiver_goes_on, waits_at, timeout_at, server_timeout}
 use Rattle.archive_turns.specs.Timers.{live_ports}
 use Rattle.archive_turns.proofs.Ports.{remove_port, keys_set, keys_remove}
 
@@ -63,7 +64,7 @@ ack_step (receiving r) port peer n s = stays_step port s
 transfer_step : (h : Heard) (g : Grant) (maps : Maps) (port : ℕ) (from : Endpoint) (t : Transfer) (s : Server) → TransferStep port s (transfer_heard h g maps port from t s)
 transfer_step nothing g maps port from t s = stays_step port s
 transfer_step stray g maps port from t s = record { ports = refl }
-transfer_step ended g maps port from t s = closes_step port t.peer None s
+transfer_step (refusal code) g maps port from t s = closes_step port t.peer None s
 transfer_step (acked n) g maps port from t s = ack_step t.end port t.peer n s
 transfer_step (block n body) g maps port from t s = data_step t.end g maps port t.peer n body s
 

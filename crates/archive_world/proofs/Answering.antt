@@ -10,12 +10,13 @@ use Rattle.tftp_packet.proofs.Packets.{decode_bytes-encode}
 use Rattle.tftp_packet.proofs.Sent.{data_size}
 use Rattle.tftp_ends.specs.declared.limits.TheConstants.{MISSES}
 use Rattle.tftp_ends.specs.Ends.{Verdict, Receiver}
+use Rattle.tftp_ends.specs.Heard.{Heard, nothing, stray, refusal, acked, block, heard_from_peer, heard_from_other, heard_packet}
 use Rattle.tws_file.specs.declared.«ruleset».Ruleset.{Ruleset}
 use Rattle.tws_file.specs.declared.«ruleset».Ruleset.TheVariants.{Lynx, Ms}
 use Rattle.tws_file.specs.Names.{file_name_of, upload_name, kind_named}
 use Rattle.archive_client.specs.declared.cause.Cause.TheVariants as cause
 use Rattle.archive_client.specs.declared.state.State.TheVariants as state
-use Rattle.archive_client.specs.Client.{Operation, put, get, Phase, asking, sending, receiving, failed, Client, Heard, nothing, stray, refusal, acked, block, request_packet, request_out, phase_state, phase_peer, is_over, heard_from_peer, heard_from_other, heard_bound, heard_packet, heard_decoded, heard_at, heard, ack_heard, data_heard, refusal_heard, client_heard, client_unless_over, client_datagram, asks_again, phase_waits, client_timeout}
+use Rattle.archive_client.specs.Client.{Operation, put, get, Phase, asking, sending, receiving, failed, Client, request_packet, request_out, phase_state, phase_peer, is_over, heard_decoded, heard_at, heard, ack_heard, data_heard, refusal_heard, client_heard, client_unless_over, client_datagram, asks_again, phase_waits, client_timeout, heard_at_port}
 use Rattle.archive_world.specs.World.{Datagram, World, server_endpoint, after_client, client_at}
 use Rattle.archive_world.specs.Headline.{HasOwnPorts}
 use Rattle.archive_world.proofs.Places.{Has}
@@ -55,16 +56,16 @@ module _ (d : Datagram) where
   from_other_knows host peer (ack n) = tt
   from_other_knows host peer (error code text) = tt
 
-  bound_knows : (host peer : ℕ) (p : Packet) → d.source.host ≡ host → decode_bytes d.bytes ≡ Ok p → (same : Bool) → (d.source.port == peer) ≡ same → Knows host (Some peer) (heard_bound same p)
-  bound_knows host peer p ours reads true same = from_peer_knows host (Some peer) p ours reads (eqb-true _ _ same)
-  bound_knows host peer p ours reads false same = from_other_knows host (Some peer) p
+  packet_knows : (host peer : ℕ) (p : Packet) → d.source.host ≡ host → decode_bytes d.bytes ≡ Ok p → (same : Bool) → (d.source.port == peer) ≡ same → Knows host (Some peer) (heard_packet same p)
+  packet_knows host peer p ours reads true same = from_peer_knows host (Some peer) p ours reads (eqb-true _ _ same)
+  packet_knows host peer p ours reads false same = from_other_knows host (Some peer) p
 
-  packet_knows : (host : ℕ) (peer : Option ℕ) (p : Packet) → d.source.host ≡ host → decode_bytes d.bytes ≡ Ok p → Knows host peer (heard_packet peer d.source.port p)
-  packet_knows host None p ours reads = from_peer_knows host None p ours reads tt
-  packet_knows host (Some peer) p ours reads = bound_knows host peer p ours reads (d.source.port == peer) refl
+  at_port_knows : (host : ℕ) (peer : Option ℕ) (p : Packet) → d.source.host ≡ host → decode_bytes d.bytes ≡ Ok p → Knows host peer (heard_at_port peer d.source.port p)
+  at_port_knows host None p ours reads = from_peer_knows host None p ours reads tt
+  at_port_knows host (Some peer) p ours reads = packet_knows host peer p ours reads (d.source.port == peer) refl
 
   decoded_knows : (host : ℕ) (peer : Option ℕ) (answer : Result Packet PacketFault) → d.source.host ≡ host → decode_bytes d.bytes ≡ answer → Knows host peer (heard_decoded peer d.source.port answer)
-  decoded_knows host peer (Ok p) ours reads = packet_knows host peer p ours reads
+  decoded_knows host peer (Ok p) ours reads = at_port_knows host peer p ours reads
   decoded_knows host peer (Err fault) ours reads = tt
 
   at_knows : (host : ℕ) (peer : Option ℕ) (ours : Bool) → (d.source.host == host) ≡ ours → Knows host peer (heard_at ours peer d.source.port d.bytes)

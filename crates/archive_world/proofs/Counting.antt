@@ -1,11 +1,12 @@
 -- Every operation that has begun is that of an event.
-use Rattle.std.proofs.Common.{◌≡◌, ◌⊎◌, ℕ, Bool, true, false, ◌==◌, List, [], ◌∷◌, ◌++◌, length, slice_get, Contains, Option, None, Some, refl, ap, sym, inl, inr}
-use Rattle.archive_table.specs.Server.{Maps, Grant, Transfer, transfer_at}
-use Rattle.archive_client.specs.Client.{Operation, Client, is_too_long}
+use Rattle.std.proofs.Common.{◌≡◌, ◌⊎◌, ℕ, Bool, true, false, ◌==◌, List, [], ◌∷◌, ◌++◌, length, slice_get, Contains, Option, None, Some, refl, ap, sym, subst, inl, inr}
+use Rattle.archive_table.specs.Server.{Maps, Grant}
+use Rattle.archive_client.specs.Client.{Operation, is_too_long}
 use Rattle.tftp_packet.specs.declared.endpoint.Endpoint.{Endpoint}
-use Rattle.archive_world.specs.World.{Datagram, Begun, Event, begin, deliver, client_times_out, server_times_out, stray, restart, World, Step, server_endpoint, client_at, has_begun, begins_unless, request_comes, server_hears, client_hears, arrives, delivers, client_waits, strays_unless, event_happens, happens, run_from, run, start}
+use Rattle.archive_world.specs.World.{Datagram, Begun, Event, begin, deliver, client_times_out, server_times_out, stray, restart, World, Step, server_endpoint, client_at, has_begun, begins_unless, strays_unless, event_happens, happens, run_from, run, start}
 use Rattle.archive_world.specs.Headline.{BeganBy}
 use Rattle.archive_world.proofs.Places.{Has, Has-push, Has-from_contains}
+use Rattle.archive_world.proofs.Unrecorded.{delivers-same, waits-same}
 
 -- it had begun before, or this event begins it
 abbrev OldOrNow : World → Event → Begun → Type 0
@@ -26,31 +27,6 @@ module _ (w : World) (b : Begun) where
         | inr new ↦ inr (new_now e operation new)
       ]
 
-  comes_old : (used : Bool) (live : Option Transfer) (spare : ℕ) (grant : Grant) (d : Datagram) → Has (request_comes used live spare grant d w).begun b → Has w.begun b
-  comes_old true live spare grant d has = has
-  comes_old false (Some t) spare grant d has = has
-  comes_old false None spare grant d has = has
-
-  server_old : (request : Bool) (spare : ℕ) (grant : Grant) (maps : Maps) (d : Datagram) → Has (server_hears request spare grant maps d w).begun b → Has w.begun b
-  server_old true spare grant maps d has = comes_old (spare == w.server.request) (transfer_at spare w.server) spare grant d has
-  server_old false spare grant maps d has = has
-
-  hears_old : (found : Option Client) (grant : Grant) (d : Datagram) → Has (client_hears found grant d w).begun b → Has w.begun b
-  hears_old None grant d has = has
-  hears_old (Some c) grant d has = has
-
-  arrives_old : (ours : Bool) (spare : ℕ) (grant : Grant) (maps : Maps) (d : Datagram) → Has (arrives ours spare grant maps d w).begun b → Has w.begun b
-  arrives_old true spare grant maps d has = server_old (d.target.port == w.server.request) spare grant maps d has
-  arrives_old false spare grant maps d has = hears_old (client_at d.target w) grant d has
-
-  delivers_old : (found : Option Datagram) (spare : ℕ) (grant : Grant) (maps : Maps) → Has (delivers found spare grant maps w).begun b → Has w.begun b
-  delivers_old None spare grant maps has = has
-  delivers_old (Some d) spare grant maps has = arrives_old (d.target.host == server_endpoint.host) spare grant maps d has
-
-  waits_old : (found : Option Client) (e : Endpoint) → Has (client_waits found e w).begun b → Has w.begun b
-  waits_old None e has = has
-  waits_old (Some c) e has = has
-
   strays_old : (ours begun : Bool) (d : Datagram) → Has (strays_unless ours begun d w).begun b → Has w.begun b
   strays_old true begun d has = has
   strays_old false true d has = has
@@ -58,8 +34,8 @@ module _ (w : World) (b : Begun) where
 
   event_now : (event : Event) (grant : Grant) (maps : Maps) → Has (event_happens event grant maps w).begun b → OldOrNow w event b
   event_now (begin e operation) grant maps has = begins_now (e.host == server_endpoint.host) (is_too_long operation) e operation has
-  event_now (deliver index spare) grant maps has = inl (delivers_old (slice_get w.net index) spare grant maps has)
-  event_now (client_times_out e) grant maps has = inl (waits_old (client_at e w) e has)
+  event_now (deliver index spare) grant maps has = inl (subst (λ (l : List Begun). Has l b) (delivers-same w (slice_get w.net index) spare grant maps).begun has)
+  event_now (client_times_out e) grant maps has = inl (subst (λ (l : List Begun). Has l b) (waits-same w (client_at e w) e).begun has)
   event_now (server_times_out port) grant maps has = inl has
   event_now (stray d) grant maps has = inl (strays_old (d.source.host == server_endpoint.host) (has_begun d.source w.begun) d has)
   event_now restart grant maps has = inl has

@@ -1,42 +1,18 @@
 -- The strays are those of the events.
-use Rattle.std.proofs.Common.{◌≡◌, ◌⊎◌, ℕ, Bool, true, false, ◌==◌, List, [], ◌∷◌, slice_get, Contains, Option, None, Some, ap, sym, inl, inr}
-use Rattle.archive_table.specs.Server.{Maps, Grant, Transfer, transfer_at}
-use Rattle.archive_client.specs.Client.{Operation, Client, is_too_long}
+use Rattle.std.proofs.Common.{◌≡◌, ◌⊎◌, ℕ, Bool, true, false, ◌==◌, List, [], ◌∷◌, slice_get, Contains, Option, None, Some, ap, sym, subst, inl, inr}
+use Rattle.archive_table.specs.Server.{Maps, Grant}
+use Rattle.archive_client.specs.Client.{Operation, is_too_long}
 use Rattle.tftp_packet.specs.declared.endpoint.Endpoint.{Endpoint}
-use Rattle.archive_world.specs.World.{Datagram, Event, begin, deliver, client_times_out, server_times_out, stray, restart, World, Step, server_endpoint, client_at, has_begun, begins_unless, request_comes, server_hears, client_hears, arrives, delivers, client_waits, strays_unless, event_happens, happens, run_from, run, start}
+use Rattle.archive_world.specs.World.{Datagram, Event, begin, deliver, client_times_out, server_times_out, stray, restart, World, Step, server_endpoint, client_at, has_begun, begins_unless, strays_unless, event_happens, happens, run_from, run, start}
 use Rattle.archive_world.specs.Headline.{StraysBy}
 use Rattle.archive_world.proofs.Places.{Has, Has-push, Has-from_contains}
+use Rattle.archive_world.proofs.Unrecorded.{delivers-same, waits-same}
 
 module _ (w : World) (x : Datagram) where
   begins_old : (ours long : Bool) (e : Endpoint) (operation : Operation) → Has (begins_unless ours long e operation w).strays x → Has w.strays x
   begins_old true long e operation has = has
   begins_old false true e operation has = has
   begins_old false false e operation has = has
-
-  comes_old : (used : Bool) (live : Option Transfer) (spare : ℕ) (grant : Grant) (d : Datagram) → Has (request_comes used live spare grant d w).strays x → Has w.strays x
-  comes_old true live spare grant d has = has
-  comes_old false (Some t) spare grant d has = has
-  comes_old false None spare grant d has = has
-
-  server_old : (request : Bool) (spare : ℕ) (grant : Grant) (maps : Maps) (d : Datagram) → Has (server_hears request spare grant maps d w).strays x → Has w.strays x
-  server_old true spare grant maps d has = comes_old (spare == w.server.request) (transfer_at spare w.server) spare grant d has
-  server_old false spare grant maps d has = has
-
-  hears_old : (found : Option Client) (grant : Grant) (d : Datagram) → Has (client_hears found grant d w).strays x → Has w.strays x
-  hears_old None grant d has = has
-  hears_old (Some c) grant d has = has
-
-  arrives_old : (ours : Bool) (spare : ℕ) (grant : Grant) (maps : Maps) (d : Datagram) → Has (arrives ours spare grant maps d w).strays x → Has w.strays x
-  arrives_old true spare grant maps d has = server_old (d.target.port == w.server.request) spare grant maps d has
-  arrives_old false spare grant maps d has = hears_old (client_at d.target w) grant d has
-
-  delivers_old : (found : Option Datagram) (spare : ℕ) (grant : Grant) (maps : Maps) → Has (delivers found spare grant maps w).strays x → Has w.strays x
-  delivers_old None spare grant maps has = has
-  delivers_old (Some d) spare grant maps has = arrives_old (d.target.host == server_endpoint.host) spare grant maps d has
-
-  waits_old : (found : Option Client) (e : Endpoint) → Has (client_waits found e w).strays x → Has w.strays x
-  waits_old None e has = has
-  waits_old (Some c) e has = has
 
   strays_now : (ours begun : Bool) (d : Datagram) → Has (strays_unless ours begun d w).strays x → Has w.strays x ⊎ (stray d ≡ stray x)
   strays_now true begun d has = inl has
@@ -50,8 +26,8 @@ module _ (w : World) (x : Datagram) where
   event_now : (event : Event) (grant : Grant) (maps : Maps) → Has (event_happens event grant maps w).strays x → Has w.strays x ⊎ (event ≡ stray x)
   event_now (begin e operation) grant maps has =
       inl (begins_old (e.host == server_endpoint.host) (is_too_long operation) e operation has)
-  event_now (deliver index spare) grant maps has = inl (delivers_old (slice_get w.net index) spare grant maps has)
-  event_now (client_times_out e) grant maps has = inl (waits_old (client_at e w) e has)
+  event_now (deliver index spare) grant maps has = inl (subst (λ (l : List Datagram). Has l x) (delivers-same w (slice_get w.net index) spare grant maps).strays has)
+  event_now (client_times_out e) grant maps has = inl (subst (λ (l : List Datagram). Has l x) (waits-same w (client_at e w) e).strays has)
   event_now (server_times_out port) grant maps has = inl has
   event_now (stray d) grant maps has = strays_now (d.source.host == server_endpoint.host) (has_begun d.source w.begun) d has
   event_now restart grant maps has = inl has

@@ -7,7 +7,8 @@ use Rattle.tftp_packet.specs.Packet.{Packet, read, write, data_block, ack, error
 use Rattle.tftp_packet.specs.Refusal.{refusal_packet}
 use Rattle.tftp_packet.specs.Decode.{decode_bytes}
 use Rattle.tftp_packet.proofs.Sent.{data_size}
-use Rattle.archive_table.specs.Server.{Maps, Grant, End, Transfer, sending, receiving, transfer_at, out_from, is_same, heard_packet, heard_decoded, heard_from_peer, heard_from_other, transfer_heard, data_at, ack_at, datagram_at, server_datagram}
+use Rattle.tftp_ends.specs.Heard.{heard_packet, heard_from_peer, heard_from_other}
+use Rattle.archive_table.specs.Server.{Maps, Grant, End, Transfer, sending, receiving, transfer_at, out_from, is_same, heard_decoded, transfer_heard, data_at, ack_at, datagram_at, server_datagram}
 use Rattle.archive_world.specs.World.{Datagram, World, server_endpoint, after_transfer}
 use Rattle.archive_world.specs.Headline.{HasOwnPorts}
 use Rattle.archive_world.proofs.Places.{Has}

@@ -10,9 +10,10 @@ use Rattle.tftp_ends.specs.declared.recv_state.RecvState.{RecvState}
 use Rattle.tftp_ends.specs.declared.recv_state.RecvState.TheVariants as recv
 use Rattle.tftp_ends.specs.declared.recv_fault.RecvFault.{RecvFault}
 use Rattle.tftp_ends.specs.Ends.{Verdict, granted, refused, answer_of, Receiver, SendAnswer, RecvAnswer, receiver_data, receiver_take, receiver_timeout, sender_ack, sender_timeout}
+use Rattle.tftp_ends.specs.Heard.{Heard, nothing, stray, refusal, acked, block}
 use Rattle.tws_file.specs.declared.«ruleset».Ruleset.{Ruleset}
 use Rattle.tws_best.specs.Best.{Collected}
-use Rattle.archive_table.specs.Server.{Server, Maps, Transfer, Taken, Answer, End, sending, receiving, Grant, all, no_memory, unkept, memory_of, map_of, has_place, opens_if, read_fits, read_placed, read_named, read_asked, write_placed, write_asked, request_packet, request_decoded, Heard, nothing, stray, ended, acked, block, heard, transfer_at, file_come, file_asked, block_answered, data_at, sender_goes_on, ack_at, transfer_heard, datagram_at, server_datagram, receiver_goes_on, waits_at, timeout_at, server_timeout, has_long_text}
+use Rattle.archive_table.specs.Server.{Server, Maps, Transfer, Taken, Answer, End, sending, receiving, Grant, all, no_memory, unkept, memory_of, map_of, has_place, opens_if, read_fits, read_placed, read_named, read_asked, write_placed, write_asked, request_packet, request_decoded, heard, transfer_at, file_come, file_asked, block_answered, data_at, sender_goes_on, ack_at, transfer_heard, datagram_at, server_datagram, receiver_goes_on, waits_at, timeout_at, server_timeout, has_long_text}
 use Rattle.tws_file.specs.Names.{kind_named}
 use Rattle.archive_client.specs.Client.{Operation, is_too_long, Client}
 use Rattle.archive_world.specs.World.{Datagram, Event, begin, deliver, client_times_out, server_times_out, restart, Step, World, server_endpoint, client_at, has_begun, begins_unless, request_comes, server_hears, client_hears, arrives, delivers, client_waits, strays_unless, event_happens, happens}
@@ -117,7 +118,7 @@ ack_leaves (receiving r) port peer n s = (refl, refl)
 heard_takes : (heard : Heard) (grant : Grant) (port : ℕ) (from : Endpoint) (t : Transfer) (s : Server) → TakesOrLeaves grant (λ maps. transfer_heard heard grant maps port from t s) s
 heard_takes nothing grant port from t s = leaves grant _ s (refl, refl)
 heard_takes stray grant port from t s = leaves grant _ s (refl, refl)
-heard_takes ended grant port from t s = leaves grant _ s (refl, refl)
+heard_takes (refusal code) grant port from t s = leaves grant _ s (refl, refl)
 heard_takes (acked n) grant port from t s = leaves grant _ s (ack_leaves t.end port t.peer n s)
 heard_takes (block n body) grant port from t s = data_takes t.end grant port t.peer n body s
 
