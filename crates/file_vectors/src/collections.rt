@@ -192,6 +192,9 @@ fn records_in_order(rt: HostRuntime) -> Result<(), Fail> {
         (is_ordered, before, is_changed, figures(&collection)),
         (true, (2, 48, Ruleset::Lynx), true, (3, 68, Ruleset::Lynx))
     );
+    // Of the two solutions of level 1, BDHP comes before CCCC.
+    let three = join(rt.alloc(), &HUNDRED, &[&ORDERED[8..]])?;
+    assert!(rt; has_text(rt.alloc(), &collection, &three));
     Ok(())
 }
 

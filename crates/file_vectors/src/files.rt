@@ -295,7 +295,10 @@ fn the_texts_of_faults_of_output(rt: HostRuntime) -> Result<(), Fail> {
     Ok(())
 }
 
-fn written<A: Allocator + Copy>(alloc: A, file: &TwsFile<A>) -> Result<Vec<u8, A>, Fail> {
+pub(crate) fn written<A: Allocator + Copy>(
+    alloc: A,
+    file: &TwsFile<A>,
+) -> Result<Vec<u8, A>, Fail> {
     let mut out = Vec::new(alloc);
     write_file(file, &mut out)?;
     Ok(out)

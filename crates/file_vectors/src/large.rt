@@ -57,11 +57,12 @@ fn late_after(alloc: Global, count: u64) -> Result<Vec<Move>, Fail> {
 fn the_last_of_many_moves_comes_too_late(rt: HostRuntime) -> Result<(), Fail> {
     for count in [1, 256, 65_536] {
         let moves = late_after(rt.alloc(), count)?;
-        if is_timed(&moves) {
-            let fault = write_moves(rt.alloc(), &moves).err();
-            let index = count as usize;
-            assert_eq!(rt; fault, Some(SpellFault::TooLate { index }));
+        if !is_timed(&moves) {
+            return Err(Fail::new("the ticks do not rise"));
         }
+        let fault = write_moves(rt.alloc(), &moves).err();
+        let index = count as usize;
+        assert_eq!(rt; fault, Some(SpellFault::TooLate { index }));
     }
     Ok(())
 }

@@ -1,5 +1,5 @@
 // Files that arrive in pieces, most of them byte by byte.
-use crate::files::{CUT, LYNX, join};
+use crate::files::{CUT, LYNX, join, written};
 use std::alloc::Allocator;
 use std::test::Fail;
 use tws_file::{FileFault, Reader};
@@ -30,6 +30,7 @@ fn a_file_that_comes_byte_by_byte(rt: HostRuntime) -> Result<(), Fail> {
         (first, file.word, file.extra.as_slice(), file.records.len()),
         (None, [7, 8], &[0x21][..], 2)
     );
+    assert_eq!(rt; written(rt.alloc(), &file)?.as_slice(), LEVELS.as_slice());
     Ok(())
 }
 

@@ -406,12 +406,14 @@ fn are_numbers(bytes: &[u8], from: usize) -> bool {
     bytes.iter().enumerate().all(|(i, b)| usize::from(*b) == i.wrapping_add(from) / 512 % 256 + 1)
 }
 
-// Whether a file has `count` chunks, the last one of size `last`, and each byte of them is the number of its block.
+// Whether a file has `count` chunks, the last one of size `last` and the others full, and each byte of them is the number
+// of its block.
 fn has_chunks(received: &Received, count: usize, last: usize) -> bool {
     for i in 0..received.chunk_count() {
         let chunk = received.chunk(i);
         let is_last = i.wrapping_add(1) == count;
-        if !are_numbers(chunk, i.wrapping_mul(16_384)) || (is_last && chunk.len() != last) {
+        let size = if is_last { last } else { 16_384 };
+        if !are_numbers(chunk, i.wrapping_mul(16_384)) || chunk.len() != size {
             return false;
         }
     }
