@@ -1,16 +1,13 @@
-// A server and a client, each at a wire in memory, with what one sends carried to the other: files of many sizes, and the
-// same with each datagram carried twice.
+// A server and a client, each at a wire in memory, with what one sends carried to the other: files of many sizes, which
+// are fetched again after a restart, and the same with each datagram carried twice.
 use crate::wires::*;
 use archive_client::State;
-use archive_table::NoKeeper;
+use archive_table::MemoryKeeper;
 use archive_turns::{Entry, GetRun, MemoryWire, PutRun, Server};
 use std::alloc::{AllocError, Global};
 use std::test::Fail;
 use tftp_packet::Endpoint;
 use tws_file::Ruleset;
-
-// The header of a Lynx file without records.
-const HEADER: &[u8; 8] = b"\x35\x33\x9B\x99\x01\0\0\0";
 
 // More turns than any of these runs needs.
 const TURNS: u32 = 4000;
@@ -42,7 +39,7 @@ fn carry(
 
 // A Lynx file with `size` bytes of records: one solution, if that is enough for one.
 fn file_of(alloc: Global, size: usize) -> Result<Vec<u8>, AllocError> {
-    let mut bytes = Vec::from_slice(alloc, HEADER)?;
+    let mut bytes = Vec::from_slice(alloc, EMPTY_LYNX)?;
     if size < 20 {
         for _ in 0..size {
             bytes.push(0)?;
@@ -82,11 +79,12 @@ impl Line {
         &mut self,
         alloc: Global,
         server: &mut Server,
+        keeper: &mut MemoryKeeper,
         wire: &mut MemoryWire,
         times: u8,
     ) -> Result<bool, Fail> {
         self.sent = carry(alloc, &self.wire, 2, self.sent, times, wire)?;
-        let taken = server.turn(wire, &mut NoKeeper);
+        let taken = server.turn(wire, keeper);
         self.answered = carry(alloc, wire, 1, self.answered, times, &mut self.wire)?;
         Ok(taken)
     }
@@ -96,6 +94,7 @@ impl Line {
 fn finish_put(
     alloc: Global,
     server: &mut Server,
+    keeper: &mut MemoryKeeper,
     wire: &mut MemoryWire,
     line: &mut Line,
     run: &mut PutRun,
@@ -103,7 +102,7 @@ fn finish_put(
 ) -> Result<u64, Fail> {
     let mut taken = 0u64;
     for _ in 0..TURNS {
-        if line.exchange(alloc, server, wire, times)? {
+        if line.exchange(alloc, server, keeper, wire, times)? {
             taken = taken.saturating_add(1);
         }
         run.turn(&mut line.wire);
@@ -121,26 +120,28 @@ fn finish_put(
 fn put(
     alloc: Global,
     server: &mut Server,
+    keeper: &mut MemoryKeeper,
     wire: &mut MemoryWire,
     file: Vec<u8>,
     times: u8,
 ) -> Result<u64, Fail> {
     let mut line = Line::new(alloc, 5000, wire)?;
     let mut run = begun_put(&mut line.wire, file)?;
-    finish_put(alloc, server, wire, &mut line, &mut run, times)
+    finish_put(alloc, server, keeper, wire, &mut line, &mut run, times)
 }
 
 // Makes turns of a get until it has its file.
 fn finish_get(
     alloc: Global,
     server: &mut Server,
+    keeper: &mut MemoryKeeper,
     wire: &mut MemoryWire,
     line: &mut Line,
     run: &mut GetRun,
     times: u8,
 ) -> Result<Vec<u8>, Fail> {
     for _ in 0..TURNS {
-        let _taken = line.exchange(alloc, server, wire, times)?;
+        let _taken = line.exchange(alloc, server, keeper, wire, times)?;
         run.turn(&mut line.wire);
         if run.client().state() == State::Got {
             break;
@@ -163,47 +164,65 @@ fn begun_get(alloc: Global, wire: &mut MemoryWire) -> Result<GetRun, Fail> {
 fn get(
     alloc: Global,
     server: &mut Server,
+    keeper: &mut MemoryKeeper,
     wire: &mut MemoryWire,
     times: u8,
 ) -> Result<Vec<u8>, Fail> {
     let mut line = Line::new(alloc, 5001, wire)?;
     let mut run = begun_get(alloc, &mut line.wire)?;
-    finish_get(alloc, server, wire, &mut line, &mut run, times)
+    finish_get(alloc, server, keeper, wire, &mut line, &mut run, times)
 }
 
 // What a get fetches from a server after a put of this file, which the server takes once.
 fn get_after_put(
     alloc: Global,
     server: &mut Server,
+    keeper: &mut MemoryKeeper,
     wire: &mut MemoryWire,
     file: Vec<u8>,
     times: u8,
 ) -> Result<Vec<u8>, Fail> {
-    if put(alloc, server, wire, file, times)? != 1 {
+    if put(alloc, server, keeper, wire, file, times)? != 1 {
         return Err(Fail::new("not taken once"));
     }
-    get(alloc, server, wire, times)
+    get(alloc, server, keeper, wire, times)
 }
 
-// The same for a new server.
-fn fetched_after_put(alloc: Global, file: Vec<u8>, times: u8) -> Result<Vec<u8>, Fail> {
-    let mut wire = wire_of(alloc, &[4000, 4001, 4002, 4003])?;
+// What a get fetches from a server that starts with what the keeper has.
+fn get_after_restart(
+    alloc: Global,
+    keeper: &mut MemoryKeeper,
+    wire: &mut MemoryWire,
+    times: u8,
+) -> Result<Vec<u8>, Fail> {
+    let Ok(mut server) = Server::load(alloc, 6969, keeper) else {
+        return Err(Fail::new("not loaded"));
+    };
+    get(alloc, &mut server, keeper, wire, times)
+}
+
+// What gets fetch after a put of this file: from the server that took it, and from the same one after a restart.
+fn fetched(alloc: Global, file: Vec<u8>, times: u8) -> Result<(Vec<u8>, Vec<u8>), Fail> {
+    let mut wire = wire_of(alloc, &[4000, 4001, 4002, 4003, 4004, 4005])?;
+    let mut keeper = MemoryKeeper::new(alloc);
     let mut server = Server::new(alloc, 6969);
-    get_after_put(alloc, &mut server, &mut wire, file, times)
+    let first = get_after_put(alloc, &mut server, &mut keeper, &mut wire, file, times)?;
+    let second = get_after_restart(alloc, &mut keeper, &mut wire, times)?;
+    Ok((first, second))
 }
 
-// A put and a get of a file with `size` bytes of records. Whether what is fetched is the file, or only its header if
-// its records are too short for a solution.
+// A put of a file with `size` bytes of records, and both gets. Whether what is fetched is the file, or only its header
+// if its records are too short for a solution.
 fn there_and_back(alloc: Global, size: usize, times: u8) -> Result<bool, Fail> {
     let file = file_of(alloc, size)?;
     let copy = Vec::from_slice(alloc, file.as_slice())?;
-    let got = fetched_after_put(alloc, copy, times)?;
+    let (first, second) = fetched(alloc, copy, times)?;
     let want = if size < 20 {
-        HEADER.as_slice()
+        EMPTY_LYNX.as_slice()
     } else {
         file.as_slice()
     };
-    Ok(got.as_slice() == want)
+    Ok(first.as_slice() == want && second.as_slice() == want)
 }
 
 #[test]

@@ -4,6 +4,8 @@
 #[cfg(test)]
 mod joined;
 #[cfg(test)]
+mod keeping;
+#[cfg(test)]
 mod rounds;
 #[cfg(test)]
 mod runs;

@@ -2,7 +2,7 @@
 use crate::wires::*;
 use archive_client::State;
 use archive_table::NoKeeper;
-use archive_turns::{MemoryWire, PutRun, ReadyServer, Server, Wire, run_get, serve_turns};
+use archive_turns::{MemoryWire, PutRun, Server, Wire, run_get, serve_turns};
 use std::alloc::Global;
 use std::test::Fail;
 use tftp_packet::Endpoint;
@@ -49,17 +49,6 @@ fn a_spare_port_of_0(rt: HostRuntime) -> Result<(), Fail> {
     let mut server = Server::new(rt.alloc(), 6969);
     let taken = serve_turns(&mut wire, &mut NoKeeper, &mut server, 2);
     assert_eq!(rt; (taken, has_opened_alone(&wire, Some(0))), (0, true));
-    Ok(())
-}
-
-#[test]
-fn a_ready_server_from_a_keeper(rt: HostRuntime) -> Result<(), Fail> {
-    let Ok(server) = ReadyServer::load(rt.alloc(), 6969, &mut NoKeeper) else {
-        return Err(Fail::new("not loaded"));
-    };
-    let table = server.table();
-    let is_empty = table.collection(Ruleset::Ms).is_empty();
-    assert_eq!(rt; (is_empty, table.live()), (true, 0));
     Ok(())
 }
 

@@ -1,8 +1,10 @@
 // Wires in memory for the tests, the datagrams of a put and a get by hand, RFC 1350, and tests of a log's entries.
+use archive_table::{MemoryKeeper, Table};
 use archive_turns::{Entry, MemoryWire, PutRun};
 use std::alloc::Global;
 use std::test::Fail;
 use tftp_packet::Endpoint;
+use tws_file::Ruleset;
 
 pub(crate) const SERVER: Endpoint = Endpoint {
     host: 1,
@@ -16,6 +18,11 @@ pub(crate) fn at(port: u16) -> Endpoint {
 
 pub(crate) const C1: Endpoint = Endpoint {
     host: 2,
+    port: 5000,
+};
+
+pub(crate) const C2: Endpoint = Endpoint {
+    host: 3,
     port: 5000,
 };
 
@@ -33,9 +40,16 @@ pub(crate) const DATA_F1: &[u8; 32] =
 pub(crate) const DATA_F2: &[u8; 32] =
     b"\0\x03\0\x01\x35\x33\x9B\x99\x01\0\0\0\x10\0\0\0\x01\0BDHP\0\0\0\0\0\0\x5A\0\0\0";
 
+// The headers of files without a solution.
+pub(crate) const EMPTY_LYNX: &[u8; 8] = b"\x35\x33\x9B\x99\x01\0\0\0";
+
+pub(crate) const EMPTY_MS: &[u8; 8] = b"\x35\x33\x9B\x99\x02\0\0\0";
+
 pub(crate) const RRQ: &[u8; 17] = b"\0\x01lynx.tws\0octet\0";
 
 pub(crate) const UNKNOWN: &[u8; 21] = b"\0\x05\0\x05unknown transfer\0";
+
+pub(crate) const NOT_KEPT: &[u8; 13] = b"\0\x05\0\0not kept\0";
 
 pub(crate) const ACK_0: &[u8; 4] = b"\0\x04\0\0";
 
@@ -94,6 +108,13 @@ pub(crate) fn is_opened(entry: &Entry, given: Option<u16>) -> bool {
     }
 }
 
+pub(crate) fn is_closed(entry: &Entry, which: u16) -> bool {
+    match entry {
+        Entry::Closed(port, ok) => *port == which && *ok,
+        _ => false,
+    }
+}
+
 pub(crate) fn is_quiet(entry: &Entry, at: u16) -> bool {
     match entry {
         Entry::Quiet(port) => *port == at,
@@ -140,4 +161,30 @@ pub(crate) fn sent_last(wire: &MemoryWire, from: u16, to: Endpoint, what: &[u8])
         }
     }
     last
+}
+
+// Whether the collections of a server have these texts.
+pub(crate) fn has_texts(
+    alloc: Global,
+    table: &Table,
+    lynx: &[u8],
+    ms: &[u8],
+) -> Result<bool, Fail> {
+    let mut one = Vec::new(alloc);
+    let mut other = Vec::new(alloc);
+    table.collection(Ruleset::Lynx).write_text(&mut one)?;
+    table.collection(Ruleset::Ms).write_text(&mut other)?;
+    Ok(one.as_slice() == lynx && other.as_slice() == ms)
+}
+
+// Whether a keeper was given the text of F1 for Lynx once for each of `wanted`, and kept it each time or not, as that
+// says.
+pub(crate) fn was_given(keeper: &MemoryKeeper, wanted: &[bool]) -> bool {
+    let kept = keeper.kept();
+    for (one, ok) in kept.iter().zip(wanted) {
+        if one.ruleset != Ruleset::Lynx || one.text.as_slice() != F1.as_slice() || one.ok != *ok {
+            return false;
+        }
+    }
+    kept.len() == wanted.len()
 }
