@@ -8,11 +8,14 @@ use archive_turns::{RECEIVE_SIZE, ReadyWire, Server, Wire, WireFault, run_get, r
 use std::net::{Ipv4Addr, SocketAddr, UdpSocket};
 use std::test::Fail;
 use std::time::Instant;
-use tftp_packet::{Endpoint, Out, encode_ack};
+use tftp_packet::{Endpoint, Out, Packet, decode, encode_ack};
 use tws_file::Ruleset;
 
-// The result of a read of a port: the number of a datagram's bytes, and where it came from.
-type Came = Option<(usize, Endpoint)>;
+// The result of a read of a port: the number of an ACK's block, and where the ACK came from.
+type Came = Option<(u16, Endpoint)>;
+
+// The least port for private use, RFC 6335 section 6. The greatest is 65535.
+const FIRST: u16 = 49152;
 
 // A wire that listens, and its port.
 fn listening(rt: HostRuntime) -> Result<(UdpWire<HostRuntime>, u16), Fail> {
@@ -121,12 +124,12 @@ fn past_port(wire: &mut UdpWire<HostRuntime>) -> Result<u16, WireFault> {
     Ok(port)
 }
 
-// Whether each of twenty ports is above the one before it, or near the least that a wire opens.
+// Whether each of twenty ports is for private use, and above the one before it or near the least.
 fn come_in_turn(wire: &mut UdpWire<HostRuntime>) -> Result<bool, WireFault> {
-    let mut last = past_port(wire)?;
+    let mut last = 0;
     for _ in 0..20 {
         let port = past_port(wire)?;
-        if port <= last && port >= 50000 {
+        if port < FIRST || (port <= last && port >= 50000) {
             return Ok(false);
         }
         last = port;
@@ -139,6 +142,22 @@ fn ports_come_in_turn(rt: HostRuntime) -> Result<(), Fail> {
     let mut wire = UdpWire::new(rt);
     let in_turn = come_in_turn(&mut wire)?;
     assert_eq!(rt; (in_turn, wire.failures()), (true, 0));
+    Ok(())
+}
+
+// The port that a wire tries next is another socket's. That is no failure, and the wire opens one after it.
+#[test]
+fn a_port_in_use_is_passed_over(rt: HostRuntime) -> Result<(), Fail> {
+    let mut wire = UdpWire::new(rt);
+    let taken = match past_port(&mut wire)?.checked_add(1) {
+        Some(next) => next,
+        None => FIRST,
+    };
+    // If this fails, a socket of another program has the port.
+    let _other = UdpWire::listen(rt, taken);
+    let port = wire.open()?;
+    assert!(rt; port > taken || (FIRST <= port && port < 50000), "{port}");
+    assert_eq!(rt; (port == taken, wire.failures()), (false, 0));
     Ok(())
 }
 
@@ -164,6 +183,31 @@ fn calls_that_fail_are_counted(rt: HostRuntime) -> Result<(), Fail> {
     let port = past_port(&mut wire)?;
     let sent = wire.send(&ack(port, taken, 1));
     assert_eq!(rt; (sent, wire.failures()), (Err(WireFault::Send), 4));
+    Ok(())
+}
+
+// No datagram goes to port 0, and none to all hosts at once without leave.
+#[test]
+fn addresses_that_the_system_refuses(rt: HostRuntime) -> Result<(), Fail> {
+    let (_other, taken) = listening(rt)?;
+    let mut wire = UdpWire::new(rt);
+    let from_port = wire.open()?;
+    let everyone = Endpoint {
+        host: u32::MAX,
+        port: taken,
+    };
+    for to in [at(0), everyone] {
+        let dgram = encode_ack(1);
+        let out = Out {
+            from_port,
+            to,
+            dgram,
+        };
+        assert_eq!(rt; wire.send(&out), Err(WireFault::Send));
+    }
+    assert_eq!(rt; wire.failures(), 2);
+    let sent = wire.send(&ack(from_port, taken, 1));
+    assert_eq!(rt; (sent, wire.failures()), (Ok(()), 2));
     Ok(())
 }
 
@@ -209,10 +253,10 @@ fn reads_three(
     from: Endpoint,
 ) -> Result<bool, WireFault> {
     let mut buffer = [0; RECEIVE_SIZE];
-    let long = wire.receive(port, &mut buffer)? == Some((517, from)) && buffer[516] == 7;
+    let long = wire.receive(port, &mut buffer)? == Some((517, from)) && buffer == [7; RECEIVE_SIZE];
     let empty = wire.receive(port, &mut buffer)? == Some((0, from));
-    let greatest = wire.receive(port, &mut buffer)? == Some((516, from)) && buffer[515] == 8;
-    Ok(long && empty && greatest)
+    let greatest = wire.receive(port, &mut buffer)? == Some((516, from));
+    Ok(long && empty && greatest && buffer.starts_with(&[8; 516]))
 }
 
 #[test]
@@ -252,29 +296,41 @@ impl Pair {
         self.peer.send(&ack(self.from, to, block))
     }
 
+    // Reads an ACK at a port.
+    fn read(&mut self, port: u16) -> Result<Came, Fail> {
+        let mut buffer = [0; RECEIVE_SIZE];
+        let Some((count, from)) = self.wire.receive(port, &mut buffer)? else {
+            return Ok(None);
+        };
+        match decode(&buffer[..count]) {
+            Ok(Packet::Ack { block }) => Ok(Some((block, from))),
+            _ => Err(Fail::new("another datagram came")),
+        }
+    }
+
     // Waits for the next port after this one, however long, and reads it.
     fn visit(&mut self, after: u16) -> Result<(u16, Came), Fail> {
         let Some(port) = self.wire.wait(after, None).port else {
             return Err(Fail::new("no port is ready"));
         };
-        Ok((port, self.wire.receive(port, &mut [0; RECEIVE_SIZE])?))
+        Ok((port, self.read(port)?))
     }
 }
 
-// Sends three datagrams to each port.
+// Sends three ACKs to each port.
 fn send_to_both(pair: &mut Pair) -> Result<(), WireFault> {
-    for block in 0..3 {
-        pair.send(pair.low, block)?;
-        pair.send(pair.high, block)?;
+    for (low, high) in [(1, 4), (2, 5), (3, 6)] {
+        pair.send(pair.low, low)?;
+        pair.send(pair.high, high)?;
     }
     Ok(())
 }
 
-// Whether the next visits are to these ports, and find an ACK at each.
-fn visits(pair: &mut Pair, ports: [u16; 6]) -> Result<bool, Fail> {
+// Whether the next visits are to these ports, and find the ACKs of these blocks there.
+fn visits(pair: &mut Pair, acks: [(u16, u16); 6]) -> Result<bool, Fail> {
     let mut last = 0;
-    for port in ports {
-        if pair.visit(last)? != (port, Some((4, at(pair.from)))) {
+    for (port, block) in acks {
+        if pair.visit(last)? != (port, Some((block, at(pair.from)))) {
             return Ok(false);
         }
         last = port;
@@ -287,7 +343,15 @@ fn ready_ports_in_turn(rt: HostRuntime) -> Result<(), Fail> {
     let mut pair = Pair::open(rt)?;
     let (low, high) = (pair.low, pair.high);
     send_to_both(&mut pair)?;
-    assert!(rt; visits(&mut pair, [low, high, low, high, low, high])?);
+    let acks = [
+        (low, 1),
+        (high, 4),
+        (low, 2),
+        (high, 5),
+        (low, 3),
+        (high, 6),
+    ];
+    assert!(rt; visits(&mut pair, acks)?);
     Ok(())
 }
 
@@ -300,6 +364,44 @@ fn a_wait_ends_at_its_moment(rt: HostRuntime) -> Result<(), Fail> {
     let second = wire.wait(port, Some(until));
     assert_eq!(rt; second.port, None);
     assert!(rt; second.time >= until);
+    Ok(())
+}
+
+// How many microseconds a read of the lower port takes that finds nothing.
+fn time_to_find_nothing(rt: HostRuntime, pair: &mut Pair) -> Result<u128, Fail> {
+    let start = Instant::now(&rt)?;
+    if pair.read(pair.low)?.is_some() {
+        return Err(Fail::new("an ACK came"));
+    }
+    Ok(start.elapsed(&rt)?.as_micros())
+}
+
+// After the lower port was read, a wait returns it once more, but it has nothing. How long the next read of it takes, and
+// the one after that.
+fn times_of_two_reads(rt: HostRuntime, pair: &mut Pair) -> Result<(u128, u128), Fail> {
+    pair.send(pair.low, 1)?;
+    let visited = pair.visit(0)?;
+    let given = pair.wire.wait(0, Some(0)).port;
+    if visited != (pair.low, Some((1, at(pair.from)))) || given != Some(pair.low) {
+        return Err(Fail::new("another port is ready"));
+    }
+    Ok((
+        time_to_find_nothing(rt, pair)?,
+        time_to_find_nothing(rt, pair)?,
+    ))
+}
+
+// The port that a wait has just returned is read at once, and after that it is waited at again.
+#[test]
+fn a_port_that_is_given_is_not_waited_at(rt: HostRuntime) -> Result<(), Fail> {
+    let mut pair = Pair::open(rt)?;
+    let (mut first, mut second) = (u128::MAX, u128::MAX);
+    for _ in 0..20 {
+        let (given, again) = times_of_two_reads(rt, &mut pair)?;
+        first = first.min(given);
+        second = second.min(again);
+    }
+    assert!(rt; first < 4000 && 4000 <= second, "{first} {second}");
     Ok(())
 }
 
@@ -326,10 +428,10 @@ fn a_busy_port_starves_no_other(rt: HostRuntime) -> Result<(), Fail> {
 
 // Closes the upper port. Returns the ready port of the next wait, the result of a read of the lower port, and the ready
 // port of the wait after it.
-fn after_close(pair: &mut Pair) -> Result<(Option<u16>, Came, Option<u16>), WireFault> {
+fn after_close(pair: &mut Pair) -> Result<(Option<u16>, Came, Option<u16>), Fail> {
     pair.wire.close(pair.high)?;
     let ready = pair.wire.wait(pair.high, Some(0)).port;
-    let got = pair.wire.receive(pair.low, &mut [0; RECEIVE_SIZE])?;
+    let got = pair.read(pair.low)?;
     let last = pair.wire.wait(pair.low, Some(0)).port;
     Ok((ready, got, last))
 }
