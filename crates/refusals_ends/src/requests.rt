@@ -9,6 +9,11 @@ use std::test::Fail;
 // Enough for each part of the table to grow more than once.
 const TRANSFERS: u16 = 17;
 
+const ACK_0: &[u8] = b"\0\x04\0\0";
+
+// DATA 1 of the Lynx collection without solutions.
+const EMPTY_DATA: &[u8] = b"\0\x03\0\x01\x35\x33\x9B\x99\x01\0\0\0";
+
 fn port(i: u16) -> u16 {
     4000_u16.wrapping_add(i)
 }
@@ -34,24 +39,55 @@ fn ask_next<A: Allocator + Copy>(
     ask(table, port(count), SECOND, request)
 }
 
-// Whether a request that was refused has changed nothing, and is served when it is made again.
+// Whether a request to a table with `count` transfers has opened the next one, which sends this first.
+fn is_open<A: Allocator + Copy>(
+    table: &Table<A>,
+    count: u16,
+    first: &[u8],
+    step: &Step<A>,
+) -> bool {
+    step.opened
+        && goes(&step.out, port(count), SECOND, first)
+        && are_live(table, count.wrapping_add(1))
+}
+
+// Whether each of `count` transfers sends this again at a time-out.
+fn go_on<A: Allocator + Copy>(table: &mut Table<A>, count: u16, first: &[u8]) -> bool {
+    for i in 0..count {
+        if !goes(&table.on_timeout(port(i)).out, port(i), SECOND, first) {
+            return false;
+        }
+    }
+    true
+}
+
+// Whether a request that was refused has changed nothing: the others go on, and it is served when it is made again.
 fn is_served_later<A: Allocator + Copy>(
     table: &mut Table<A>,
     count: u16,
     request: &[u8],
+    first: &[u8],
     refused: &Step<A>,
 ) -> bool {
-    if !goes(&refused.out, REQUEST, SECOND, OUT_OF_MEMORY) || !are_live(table, count) {
+    if !goes(&refused.out, REQUEST, SECOND, OUT_OF_MEMORY)
+        || !are_live(table, count)
+        || !go_on(table, count, first)
+    {
         return false;
     }
     match ask_next(table, count, request) {
-        Some(step) => step.opened && are_live(table, count.wrapping_add(1)),
+        Some(step) => is_open(table, count, first, &step),
         None => false,
     }
 }
 
-// Makes the requests up to one that is refused, and notes the number of that one.
-fn open_all(refusing: &Refusing<Global>, request: &[u8], refused: &Cell<u16>) -> Outcome {
+// Makes the requests, each of which is answered with `first`, up to one that is refused; notes the number of that one.
+fn open_all(
+    refusing: &Refusing<Global>,
+    request: &[u8],
+    first: &[u8],
+    refused: &Cell<u16>,
+) -> Outcome {
     let mut table = Table::new(refusing, REQUEST);
     if refusing.requests() != 0 {
         return Outcome::Wrong;
@@ -62,7 +98,11 @@ fn open_all(refusing: &Refusing<Global>, request: &[u8], refused: &Cell<u16>) ->
         };
         if !step.opened {
             refused.set(count);
-            return Outcome::refused(is_served_later(&mut table, count, request, &step));
+            let is_later = is_served_later(&mut table, count, request, first, &step);
+            return Outcome::refused(is_later);
+        }
+        if !is_open(&table, count, first, &step) {
+            return Outcome::Wrong;
         }
     }
     Outcome::of(are_live(&table, TRANSFERS))
@@ -75,7 +115,7 @@ fn requests_to_write(rt: HostRuntime) -> Result<(), Fail> {
     refuse_each(
         rt.alloc(),
         4,
-        &|refusing: &Refusing<Global>| open_all(refusing, TO_WRITE, &refused),
+        &|refusing: &Refusing<Global>| open_all(refusing, TO_WRITE, ACK_0, &refused),
     )?;
     assert!(rt; refused.get() > 1, "{}", refused.get());
     Ok(())
@@ -87,7 +127,7 @@ fn requests_to_read(rt: HostRuntime) -> Result<(), Fail> {
     refuse_each(
         rt.alloc(),
         4,
-        &|refusing: &Refusing<Global>| open_all(refusing, TO_READ, &refused),
+        &|refusing: &Refusing<Global>| open_all(refusing, TO_READ, EMPTY_DATA, &refused),
     )?;
     assert!(rt; refused.get() > 1, "{}", refused.get());
     Ok(())

@@ -38,6 +38,12 @@ const FILE: &[u8] = b"\x35\x33\x9B\x99\x01\0\0\0\x10\0\0\0\x01\0BDHP\0\0\0\0\0\0
 const FILE_DATA: &[u8; 32] =
     b"\0\x03\0\x01\x35\x33\x9B\x99\x01\0\0\0\x10\0\0\0\x01\0BDHP\0\0\0\0\0\0\x64\0\0\0";
 
+// The same in 90 ticks.
+const BETTER: &[u8] = b"\x35\x33\x9B\x99\x01\0\0\0\x10\0\0\0\x01\0BDHP\0\0\0\0\0\0\x5A\0\0\0";
+
+const BETTER_DATA: &[u8; 32] =
+    b"\0\x03\0\x01\x35\x33\x9B\x99\x01\0\0\0\x10\0\0\0\x01\0BDHP\0\0\0\0\0\0\x5A\0\0\0";
+
 // Whether these bytes are sent from this port to this endpoint.
 pub(crate) fn goes(out: &Option<Out>, from: u16, to: Endpoint, bytes: &[u8]) -> bool {
     match out {
@@ -86,28 +92,42 @@ fn is_let_go<A: Allocator + Copy>(table: &Table<A>, step: &Step<A>) -> bool {
         && table.collection(Ruleset::Lynx).is_empty()
 }
 
+// Whether a step takes exactly this file, and acknowledges its block.
+fn has_taken<A: Allocator + Copy>(global: Global, step: &Step<A>, file: &[u8]) -> bool {
+    let Some(taken) = &step.taken else {
+        return false;
+    };
+    let Ok(bytes) = taken.file.to_vec(global) else {
+        return false;
+    };
+    taken.peer == FIRST
+        && bytes.as_slice() == file
+        && !step.closed
+        && goes(&step.out, 4000, FIRST, b"\0\x04\0\x01")
+}
+
 // Passes the block that completes a file to its open transfer. Returns an outcome if it is not taken and acknowledged.
-fn give_file<A: Allocator + Copy>(table: &mut Table<A>) -> Result<(), Outcome> {
+fn give_file<A: Allocator + Copy>(global: Global, table: &mut Table<A>) -> Result<(), Outcome> {
     let step = table.on_datagram(&mut NoKeeper, 4000, FIRST, FILE_DATA);
     if step.taken.is_none() {
         return Err(Outcome::refused(is_let_go(table, &step)));
     }
-    if step.closed || !goes(&step.out, 4000, FIRST, b"\0\x04\0\x01") {
+    if !has_taken(global, &step, FILE) {
         return Err(Outcome::Wrong);
     }
     Ok(())
 }
 
 // Opens a transfer and passes it a file in one block. Returns an outcome if the file is not taken.
-fn take<A: Allocator + Copy>(table: &mut Table<A>) -> Result<(), Outcome> {
+fn take<A: Allocator + Copy>(global: Global, table: &mut Table<A>) -> Result<(), Outcome> {
     open(table, 4000, FIRST, TO_WRITE)?;
-    give_file(table)
+    give_file(global, table)
 }
 
-fn take_one(refusing: &Refusing<Global>) -> Outcome {
+fn take_one(global: Global, refusing: &Refusing<Global>) -> Outcome {
     let mut table = Table::new(refusing, REQUEST);
-    match take(&mut table) {
-        Ok(()) => Outcome::of(table.collection(Ruleset::Lynx).len() == 1),
+    match take(global, &mut table) {
+        Ok(()) => Outcome::of(has_texts(global, &table, FILE)),
         Err(outcome) => outcome,
     }
 }
@@ -116,7 +136,11 @@ fn take_one(refusing: &Refusing<Global>) -> Outcome {
 #[test]
 fn the_last_block(rt: HostRuntime) -> Result<(), Fail> {
     let global = rt.alloc();
-    Ok(refuse_each(global, 2, &|refusing: &Refusing<Global>| take_one(refusing))?)
+    Ok(refuse_each(
+        global,
+        2,
+        &|refusing: &Refusing<Global>| take_one(global, refusing),
+    )?)
 }
 
 // Whether the Lynx collection of a table has this text, and the other collection is empty.
@@ -167,7 +191,7 @@ fn read_file<A: Allocator + Copy>(
 
 fn read_one(global: Global, refusing: &Refusing<Global>, refused: &Cell<u64>) -> Outcome {
     let mut table = Table::new(refusing, REQUEST);
-    match take(&mut table) {
+    match take(global, &mut table) {
         Ok(()) => read_file(global, &mut table, refused),
         Err(outcome) => outcome,
     }
@@ -187,12 +211,15 @@ fn reading_what_was_taken(rt: HostRuntime) -> Result<(), Fail> {
     Ok(())
 }
 
-// Whether a keeper has this text for Lynx, which was kept, and no other.
-fn has_one<A: Allocator + Copy>(keeper: &MemoryKeeper<A>, text: &[u8]) -> bool {
-    match keeper.kept() {
-        [one] => one.ruleset == Ruleset::Lynx && one.ok && one.text.as_slice() == text,
-        _ => false,
+// Whether a keeper has exactly these texts for Lynx, all of which were kept, and no other.
+fn has_kept<A: Allocator + Copy>(keeper: &MemoryKeeper<A>, texts: &[&[u8]]) -> bool {
+    let kept = keeper.kept();
+    for (one, text) in kept.iter().zip(texts) {
+        if one.ruleset != Ruleset::Lynx || !one.ok || one.text.as_slice() != *text {
+            return false;
+        }
     }
+    kept.len() == texts.len()
 }
 
 // Whether a server that starts with what the keeper holds has this text.
@@ -207,24 +234,30 @@ fn starts_with<A: Allocator + Copy>(
     }
 }
 
-// Whether the last block is acknowledged, and its file has joined the collection and was kept once.
-fn is_taken<A: Allocator + Copy>(
-    global: Global,
-    table: &Table<A>,
-    keeper: &MemoryKeeper<A>,
-    step: &Step<A>,
-) -> bool {
-    goes(&step.out, 4000, FIRST, b"\0\x04\0\x01")
-        && !step.closed
-        && has_texts(global, table, FILE)
-        && has_one(keeper, FILE)
+// A put of one block: its file, and the texts for Lynx that the keeper has before and after it.
+#[derive(Clone, Copy)]
+struct Change<'a> {
+    data: &'a [u8],
+    file: &'a [u8],
+    before: &'a [&'a [u8]],
+    after: &'a [&'a [u8]],
 }
 
-// Whether the last block has closed its transfer, with nothing taken, joined or kept. Counts an ERROR `not kept`.
-fn is_given_up<A: Allocator + Copy>(
+// Whether a table and its keeper have the last of these texts, an empty collection if there is none; so does a server
+// that starts with what the keeper holds.
+fn has_last<A: Allocator + Copy>(
     global: Global,
     table: &Table<A>,
-    keeper: &MemoryKeeper<A>,
+    keeper: &mut MemoryKeeper<A>,
+    texts: &[&[u8]],
+) -> bool {
+    let lynx = texts.last().copied().unwrap_or(EMPTY_LYNX);
+    has_texts(global, table, lynx) && has_kept(keeper, texts) && starts_with(global, keeper, lynx)
+}
+
+// Whether the last block has closed its transfer, and nothing was taken. Counts an ERROR `not kept`.
+fn is_given_up<A: Allocator + Copy>(
+    table: &Table<A>,
     step: &Step<A>,
     not_kept: &Cell<u64>,
 ) -> bool {
@@ -233,10 +266,7 @@ fn is_given_up<A: Allocator + Copy>(
     } else if !goes(&step.out, 4000, FIRST, OUT_OF_MEMORY) {
         return false;
     }
-    step.closed
-        && table.live() == 0
-        && has_texts(global, table, EMPTY_LYNX)
-        && keeper.kept().is_empty()
+    step.closed && table.live() == 0
 }
 
 // Passes the block that completes a file to its open transfer. The file is to be kept.
@@ -244,22 +274,29 @@ fn keep_file<A: Allocator + Copy>(
     global: Global,
     table: &mut Table<A>,
     keeper: &mut MemoryKeeper<A>,
+    change: Change<'_>,
     not_kept: &Cell<u64>,
 ) -> Outcome {
-    let step = table.on_datagram(keeper, 4000, FIRST, FILE_DATA);
+    let step = table.on_datagram(keeper, 4000, FIRST, change.data);
     if step.taken.is_some() {
-        let is_right = is_taken(global, table, keeper, &step);
-        return Outcome::of(is_right && starts_with(global, keeper, FILE));
+        let is_right = has_taken(global, &step, change.file);
+        return Outcome::of(is_right && has_last(global, table, keeper, change.after));
     }
-    let is_as_before = is_given_up(global, table, keeper, &step, not_kept);
-    Outcome::refused(is_as_before && starts_with(global, keeper, EMPTY_LYNX))
+    let is_as_before = is_given_up(table, &step, not_kept);
+    Outcome::refused(is_as_before && has_last(global, table, keeper, change.before))
 }
 
 fn keep_one(global: Global, refusing: &Refusing<Global>, not_kept: &Cell<u64>) -> Outcome {
     let mut table = Table::new(refusing, REQUEST);
     let mut keeper = MemoryKeeper::new(refusing);
+    let change = Change {
+        data: FILE_DATA,
+        file: FILE,
+        before: &[],
+        after: &[FILE],
+    };
     match open(&mut table, 4000, FIRST, TO_WRITE) {
-        Ok(()) => keep_file(global, &mut table, &mut keeper, not_kept),
+        Ok(()) => keep_file(global, &mut table, &mut keeper, change, not_kept),
         Err(outcome) => outcome,
     }
 }
@@ -276,6 +313,52 @@ fn the_last_block_kept(rt: HostRuntime) -> Result<(), Fail> {
         &|refusing: &Refusing<Global>| keep_one(global, refusing, &not_kept),
     )?;
     assert!(rt; not_kept.get() >= 2);
+    Ok(())
+}
+
+// Passes a better file to a table that starts with what its keeper has.
+fn keep_better<A: Allocator + Copy>(
+    global: Global,
+    alloc: A,
+    keeper: &mut MemoryKeeper<A>,
+    not_kept: &Cell<u64>,
+) -> Outcome {
+    let Ok(mut table) = Table::load(alloc, REQUEST, keeper) else {
+        return Outcome::OutOfMemory;
+    };
+    let change = Change {
+        data: BETTER_DATA,
+        file: BETTER,
+        before: &[FILE],
+        after: &[FILE, BETTER],
+    };
+    match open(&mut table, 4000, FIRST, TO_WRITE) {
+        Ok(()) => keep_file(global, &mut table, keeper, change, not_kept),
+        Err(outcome) => outcome,
+    }
+}
+
+fn keep_another(global: Global, refusing: &Refusing<Global>, not_kept: &Cell<u64>) -> Outcome {
+    let Ok(text) = Vec::from_slice(refusing, FILE) else {
+        return Outcome::OutOfMemory;
+    };
+    let Ok(mut keeper) = MemoryKeeper::with(refusing, Some(text), None) else {
+        return Outcome::OutOfMemory;
+    };
+    keep_better(global, refusing, &mut keeper, not_kept)
+}
+
+// The same where the file replaces a solution: the collection stays as it was if the block is refused.
+#[test]
+fn a_better_file_kept(rt: HostRuntime) -> Result<(), Fail> {
+    let global = rt.alloc();
+    let not_kept = Cell::new(0);
+    refuse_each(
+        global,
+        8,
+        &|refusing: &Refusing<Global>| keep_another(global, refusing, &not_kept),
+    )?;
+    assert!(rt; not_kept.get() >= 1);
     Ok(())
 }
 
@@ -299,9 +382,9 @@ fn load_one(global: Global, refusing: &Refusing<Global>, in_keeper: &Cell<u64>) 
         return Outcome::Wrong;
     };
     match Table::load(refusing, REQUEST, &mut keeper) {
-        Ok(table) => Outcome::of(has_texts(global, &table, FILE) && has_one(&keeper, FILE)),
+        Ok(table) => Outcome::of(has_texts(global, &table, FILE) && has_kept(&keeper, &[FILE])),
         Err(fault) => {
-            let is_as_before = is_refused(fault, in_keeper) && has_one(&keeper, FILE);
+            let is_as_before = is_refused(fault, in_keeper) && has_kept(&keeper, &[FILE]);
             Outcome::refused(is_as_before && starts_with(global, &mut keeper, FILE))
         }
     }
