@@ -101,3 +101,31 @@ fn reading_in_pieces(rt: HostRuntime) -> Result<(), Fail> {
         &|refusing: &Refusing<Global>| { Outcome::of(read_again(global, refusing) == Ok(true)) },
     )?)
 }
+
+// A Lynx file whose last move is cut at byte 29.
+const CUT: [u8; 30] = [
+    0x35, 0x33, 0x9B, 0x99, 0x01, 0x00, 0x00, 0x00, 0x12, 0x00, 0x00, 0x00, 0x01, 0x00, 0x42, 0x44,
+    0x48, 0x50, 0x00, 0x00, 0x00, 0x00, 0x00, 0x00, 0x64, 0x00, 0x00, 0x00, 0x01, 0xFE,
+];
+
+// Reads the cut file byte by byte. A push that was out of memory is made again, so that the fault is that of the file.
+fn read_cut(refusing: &Refusing<Global>) -> Result<(), FileFault> {
+    let mut reader = Reader::new(refusing);
+    for i in 0..CUT.len() {
+        push_again(&mut reader, &CUT[i..i + 1])?;
+    }
+    let _file = reader.finish()?;
+    Ok(())
+}
+
+// A refused push leaves no mark: the fault of the file is still found where it is.
+#[test]
+fn a_cut_file_in_pieces(rt: HostRuntime) -> Result<(), Fail> {
+    Ok(refuse_each(
+        rt.alloc(),
+        1,
+        &|refusing: &Refusing<Global>| {
+            Outcome::of(read_cut(refusing) == Err(FileFault::MoveCut(29)))
+        },
+    )?)
+}
