@@ -153,6 +153,63 @@ fn a_get(rt: HostRuntime) -> Result<(), Fail> {
     Ok(())
 }
 
+// Whether each of 65,534 whole blocks of sevens is acknowledged.
+fn takes_whole_blocks(get: &mut Get) -> bool {
+    let mut data = [7; 516];
+    for n in 1..65535_u16 {
+        let [high, low] = n.to_be_bytes();
+        data[..4].copy_from_slice(&[0, 3, high, low]);
+        if !goes(&get.on_datagram(at(4001), &data), 4001, &[0, 4, high, low]) {
+            return false;
+        }
+    }
+    true
+}
+
+// The block after those is the last one that has a number. Whether a whole one is refused, and the client fails.
+fn refuses_a_block(get: &mut Get) -> bool {
+    let mut data = [7; 516];
+    data[..4].copy_from_slice(b"\0\x03\xFF\xFF");
+    takes_whole_blocks(get)
+        && goes(
+            &get.on_datagram(at(4001), &data),
+            4001,
+            b"\0\x05\0\x03file too long\0",
+        )
+        && get.on_datagram(at(4001), &data).is_none()
+        && get.on_timeout().is_none()
+}
+
+#[test]
+fn a_get_of_a_block_too_many(rt: HostRuntime) {
+    let (mut get, _) = Get::start(rt.alloc(), 5000, SERVER, Ruleset::Ms);
+    let is_refused = refuses_a_block(&mut get);
+    assert_eq!(rt;
+        (is_refused, get.state(), get.over()),
+        (true, State::Failed(Cause::TooLong), true)
+    );
+}
+
+// Whether one that is not whole ends the file.
+fn takes_the_last(get: &mut Get) -> bool {
+    let mut data = [7; 515];
+    data[..4].copy_from_slice(b"\0\x03\xFF\xFF");
+    takes_whole_blocks(get) && goes(&get.on_datagram(at(4001), &data), 4001, b"\0\x04\xFF\xFF")
+}
+
+// Whether the greatest file is fetched.
+fn fetches_the_greatest(alloc: Global) -> Result<bool, Fail> {
+    let file = filled(alloc, 33553919)?;
+    let (mut get, _) = Get::start(alloc, 5000, SERVER, Ruleset::Ms);
+    Ok(takes_the_last(&mut get) && hands_out(alloc, get, &file)?)
+}
+
+#[test]
+fn a_get_of_the_greatest_file(rt: HostRuntime) -> Result<(), Fail> {
+    assert!(rt; fetches_the_greatest(rt.alloc())?);
+    Ok(())
+}
+
 #[test]
 fn causes_by_name(rt: HostRuntime) -> Result<(), Fail> {
     for (cause, name) in [
