@@ -31,6 +31,8 @@ const FILE_DATA: &[u8; 32] =
 
 const EMPTY: &[u8] = b"\x35\x33\x9B\x99\x01\0\0\0";
 
+const EMPTY_MS: &[u8] = b"\x35\x33\x9B\x99\x02\0\0\0";
+
 fn at(port: u16) -> Endpoint {
     Endpoint { host: 1, port }
 }
@@ -93,16 +95,20 @@ fn has_nothing<A: Allocator>(left: &Left<A>) -> bool {
         && left.sent.is_empty()
         && left.got.is_empty()
         && left.lynx.as_slice() == EMPTY
+        && left.ms.as_slice() == EMPTY_MS
 }
 
-// Whether the file was taken, and the server has it.
-fn has_file<A: Allocator>(left: &Left<A>) -> bool {
+// Whether the file was taken and counts as sent by these clients, and the server has it and nothing else.
+fn has_file<A: Allocator>(left: &Left<A>, sent: &[Endpoint]) -> bool {
     let [one] = left.taken.as_slice() else {
         return false;
     };
     one.peer == CLIENT
         && one.file.as_slice() == FILE.as_slice()
+        && left.sent.as_slice() == sent
+        && left.got.is_empty()
         && left.lynx.as_slice() == FILE.as_slice()
+        && left.ms.as_slice() == EMPTY_MS
 }
 
 // ---- a request that is answered
@@ -182,8 +188,8 @@ fn request_twice(global: Global, refusing: &Refusing<Global>, unopened: &Cell<bo
         let is_sent = were_sent_twice(datagrams, OUT_OF_MEMORY);
         return Outcome::refused(has_nothing(&left) && is_opened && is_sent);
     }
-    let is_sent = were_sent_twice(datagrams, b"\0\x04\0\x01") && left.sent.len() == 1;
-    Outcome::of(has_file(&left) && is_opened && is_sent)
+    let is_sent = were_sent_twice(datagrams, b"\0\x04\0\x01");
+    Outcome::of(has_file(&left, &[CLIENT]) && is_opened && is_sent)
 }
 
 // A request that is refused is answered, and no block is sent to a second transfer: a later event is then about a
@@ -205,8 +211,17 @@ fn a_request_that_comes_twice_in_a_replay(rt: HostRuntime) -> Result<(), Fail> {
 
 const WHOLE: [(usize, u16); 3] = [(0, 4000), (1, 0), (2, 0)];
 
-// What a put and a restart leave: all of it, or nothing if the last block was refused or the collection was not kept.
-fn judge_restart<A: Allocator>(left: &Left<A>) -> Outcome {
+// Whether a keeper has exactly the file.
+fn keeps_file<A: Allocator + Copy>(keeper: &MemoryKeeper<A>) -> bool {
+    let [one] = keeper.kept() else {
+        return false;
+    };
+    one.ruleset == Ruleset::Lynx && one.text.as_slice() == FILE.as_slice() && one.ok
+}
+
+// What a put and a restart leave, also with the keeper: all of it, or nothing if the last block was refused or the
+// collection was not kept. The last ACK is never delivered.
+fn judge_restart<A: Allocator + Copy>(left: &Left<A>, keeper: &MemoryKeeper<A>) -> Outcome {
     if !were_opened(left.opened.as_slice(), &[4000]) {
         return Outcome::Wrong;
     }
@@ -219,18 +234,11 @@ fn judge_restart<A: Allocator>(left: &Left<A>) -> Outcome {
     if left.taken.is_empty() {
         let is_told = is_datagram(last, at(4000), CLIENT, OUT_OF_MEMORY)
             || is_datagram(last, at(4000), CLIENT, NOT_KEPT);
-        return Outcome::refused(is_begun && is_told && has_nothing(left));
+        let is_nothing = has_nothing(left) && keeper.kept().is_empty();
+        return Outcome::refused(is_begun && is_told && is_nothing);
     }
     let is_told = is_datagram(last, at(4000), CLIENT, b"\0\x04\0\x01");
-    Outcome::of(is_begun && is_told && has_file(left))
-}
-
-// Whether a keeper has exactly the file.
-fn keeps_file<A: Allocator + Copy>(keeper: &MemoryKeeper<A>) -> bool {
-    let [one] = keeper.kept() else {
-        return false;
-    };
-    one.ruleset == Ruleset::Lynx && one.text.as_slice() == FILE.as_slice() && one.ok
+    Outcome::of(is_begun && is_told && has_file(left, &[]) && keeps_file(keeper))
 }
 
 // What was refused in any run, besides the allocations of the replay itself.
@@ -263,7 +271,7 @@ fn put_and_restart(refusing: &Refusing<Global>, seen: &Seen) -> Outcome {
             if was_refused_a_keep(&left) {
                 seen.keep.set(true);
             }
-            judge_restart(&left)
+            judge_restart(&left, &keeper)
         }
         Err(WorldFault::BadEvent(3)) => {
             seen.request.set(true);
@@ -273,7 +281,10 @@ fn put_and_restart(refusing: &Refusing<Global>, seen: &Seen) -> Outcome {
             seen.load.set(true);
             Outcome::refused(keeps_file(&keeper))
         }
-        Err(fault) => Outcome::refused(fault == WorldFault::Memory),
+        Err(fault) => {
+            let is_either = keeper.kept().is_empty() || keeps_file(&keeper);
+            Outcome::refused(fault == WorldFault::Memory && is_either)
+        }
     }
 }
 
