@@ -35,7 +35,10 @@ fn show_counts_bytes_of_moves(rt: HostRuntime) -> Result<(), Fail> {
     let outcome = run(&rt, &["tws", "show"], &MOVED)?;
     let listing =
         "ruleset lynx word 0000 extra 0\nlevel 1 BDHP ticks 100 flags 00 start 00 seed 0 bytes 2\nrecords 1\n";
-    assert_eq!(rt; outcome.out.as_slice(), listing.as_bytes());
+    assert_eq!(rt;
+        (outcome.status, outcome.out.as_slice()),
+        (0, listing.as_bytes())
+    );
     Ok(())
 }
 
@@ -51,11 +54,9 @@ fn long_moves(rt: &HostRuntime) -> Result<Vec<u8>, Fail> {
 fn pack_writes_the_fewest_bytes(rt: HostRuntime) -> Result<(), Fail> {
     let bytes = long_moves(&rt)?;
     let outcome = run(&rt, &["tws", "pack"], &bytes)?;
-    let size = outcome.out.get(8).copied();
-    let moves = outcome.out.get(28..);
     assert_eq!(rt;
-        (outcome.status, outcome.out.len(), size, moves),
-        (0, 30, Some(0x12), Some([0x00, 0x61].as_slice()))
+        (outcome.status, outcome.out.as_slice()),
+        (0, MOVED.as_slice())
     );
     Ok(())
 }
