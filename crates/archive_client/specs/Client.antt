@@ -5,7 +5,7 @@ use Rattle.tftp_packet.specs.declared.endpoint.Endpoint.{Endpoint}
 use Rattle.tftp_packet.specs.declared.out.Out.{Out}
 use Rattle.tftp_packet.specs.declared.packet_fault.PacketFault.{PacketFault}
 use Rattle.tftp_packet.specs.declared.refusal.Refusal.TheVariants.{UnknownTransfer}
-use Rattle.tftp_packet.specs.Packet.{Packet, read, write, data_block, ack, error, octet, encode}
+use Rattle.tftp_packet.specs.Packet.{Packet, read, write, ack, octet, encode}
 use Rattle.tftp_packet.specs.Blocks.{block_count}
 use Rattle.tftp_packet.specs.Refusal.{refusal_packet}
 use Rattle.tftp_packet.specs.Decode.{decode_bytes}
