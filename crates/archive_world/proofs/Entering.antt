@@ -1,5 +1,5 @@
 -- The strays are those of the events.
-use Rattle.std.proofs.Common.{◌≡◌, ◌⊎◌, ℕ, Bool, true, false, ◌==◌, List, [], ◌∷◌, slice_get, Contains, Option, None, Some, ap, sym, subst, inl, inr}
+use Rattle.std.proofs.Common.{◌≡◌, ◌⊎◌, Bool, true, false, ◌==◌, List, [], ◌∷◌, slice_get, Contains, None, Some, ap, sym, subst, inl, inr}
 use Rattle.archive_table.specs.Server.{Maps, Grant}
 use Rattle.archive_client.specs.Client.{Operation, is_too_long}
 use Rattle.tftp_packet.specs.declared.endpoint.Endpoint.{Endpoint}
