@@ -223,7 +223,13 @@ fn the_greatest_file(rt: HostRuntime) -> Result<(), Fail> {
 
 // Sends a file of `size` bytes: one solution of this level, whose moves have one byte each. Returns whether it is
 // taken.
-fn long_file(archive: &mut Archive, port: u16, level: u8, size: u32) -> Result<bool, Fail> {
+fn long_file(
+    alloc: Global,
+    archive: &mut Archive,
+    port: u16,
+    level: u8,
+    size: u32,
+) -> Result<bool, Fail> {
     let host = client(u32::from(level));
     archive.ask(port, host, WRQ)?;
     let mut data = [1; 516];
@@ -232,9 +238,11 @@ fn long_file(archive: &mut Archive, port: u16, level: u8, size: u32) -> Result<b
     data[16] = level;
     let whole_blocks = (size / 512 % 65536) as u16;
     for n in 0..whole_blocks {
-        data[2..4].copy_from_slice(&n.wrapping_add(1).to_be_bytes());
+        let [high, low] = n.wrapping_add(1).to_be_bytes();
+        data[2..4].copy_from_slice(&[high, low]);
         let step = archive.hear(&mut NoKeeper, port, host, &data);
-        if step.out.is_none() || step.closed {
+        let told = Told::Sends(port, u32::from(level), &[0, 4, high, low]);
+        if !has_told(alloc, &step, told)? {
             return Ok(false);
         }
         data = [1; 516];
@@ -252,7 +260,9 @@ fn long_file(archive: &mut Archive, port: u16, level: u8, size: u32) -> Result<b
 // An archive that has taken two files of `size` bytes.
 fn with_two_files(alloc: Global, size: u32) -> Result<Archive, Fail> {
     let mut archive = Archive::new(alloc);
-    if long_file(&mut archive, 4000, 1, size)? && long_file(&mut archive, 4002, 2, size)? {
+    if long_file(alloc, &mut archive, 4000, 1, size)?
+        && long_file(alloc, &mut archive, 4002, 2, size)?
+    {
         Ok(archive)
     } else {
         Err(Fail::new("a long file is not taken"))
@@ -270,8 +280,9 @@ fn sends_the_other(alloc: Global) -> Result<bool, Fail> {
         ),
     ];
     let mut archive = with_two_files(alloc, 17_000_028)?;
+    let size = archive.table().collection(Ruleset::Lynx).text_len();
     let other = first_other(alloc, &mut archive, &mut NoKeeper, &rows)?;
-    Ok(other.is_none() && is_live(&archive, 3, Some(4000)))
+    Ok(size == 34_000_048 && other.is_none() && is_live(&archive, 3, Some(4000)))
 }
 
 // Two files whose collection would be too long to be sent: 34,000,048 bytes.
@@ -316,16 +327,30 @@ fn serves_text(archive: &mut Archive, text: &[u8]) -> Result<bool, Fail> {
     Ok(first.opened && is_served(archive, 4003, first, text) && is_live(archive, 2, Some(4000)))
 }
 
-// Whether the collection of two files of `file` bytes has `size` bytes, and a request to read it is served.
-fn serves(alloc: Global, file: u32, size: usize) -> Result<bool, Fail> {
-    let mut archive = with_two_files(alloc, file)?;
-    let text = archive.text(alloc, Ruleset::Lynx)?;
+// The text of the Lynx collection of two such files with this many moves each.
+fn text_of_two(alloc: Global, moves: u32) -> Result<Vec<u8>, Fail> {
+    let mut text = Vec::from_slice(alloc, b"\x35\x33\x9B\x99\x01\0\0\0")?;
+    for level in [1, 2] {
+        text.extend_from_slice(&moves.wrapping_add(16).to_le_bytes())?;
+        text.extend_from_slice(&[level, 0])?;
+        text.extend_from_slice(b"AAAA\0\0\0\0\0\0\0\0\0\0")?;
+        for _ in 0..moves {
+            text.push(1)?;
+        }
+    }
+    Ok(text)
+}
+
+// Whether the collection of two files with this many moves each is served, and has `size` bytes.
+fn serves(alloc: Global, moves: u32, size: usize) -> Result<bool, Fail> {
+    let text = text_of_two(alloc, moves)?;
+    let mut archive = with_two_files(alloc, moves.wrapping_add(28))?;
     Ok(text.len() == size && serves_text(&mut archive, &text)?)
 }
 
 // Two files whose collection is long, and is sent: 4,200,048 bytes, in 8,204 blocks.
 #[test]
 fn a_long_collection(rt: HostRuntime) -> Result<(), Fail> {
-    assert!(rt; serves(rt.alloc(), 2_100_028, 4_200_048)?);
+    assert!(rt; serves(rt.alloc(), 2_100_000, 4_200_048)?);
     Ok(())
 }

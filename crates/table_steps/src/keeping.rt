@@ -19,6 +19,17 @@ const FIRST: &[u8; 32] =
 
 const NOT_KEPT: &[u8; 13] = b"\0\x05\0\0not kept\0";
 
+// The same in 90 ticks.
+const NINETY: &[u8; 28] = b"\x35\x33\x9B\x99\x01\0\0\0\x10\0\0\0\x01\0BDHP\0\0\0\0\0\0\x5A\0\0\0";
+
+const BETTER: &[u8; 32] =
+    b"\0\x03\0\x01\x35\x33\x9B\x99\x01\0\0\0\x10\0\0\0\x01\0BDHP\0\0\0\0\0\0\x5A\0\0\0";
+
+const RRQ: &[u8; 17] = b"\0\x01lynx.tws\0octet\0";
+
+// DATA 1 of the Lynx collection without solutions.
+const EMPTY_DATA: &[u8; 12] = b"\0\x03\0\x01\x35\x33\x9B\x99\x01\0\0\0";
+
 // DATA 1 with seven bytes that are not a file.
 const CUT: &[u8; 11] = b"\0\x03\0\x01\x35\x33\x9B\x98\x02\0\0";
 
@@ -26,14 +37,11 @@ const ACK_0: &[u8; 4] = b"\0\x04\0\0";
 
 const ACK_1: &[u8; 4] = b"\0\x04\0\x01";
 
-// Whether the keeper was given the Lynx file once for each of `wanted`, and kept it each time or not, as that says.
-fn was_given(keeper: &MemoryKeeper, wanted: &[bool]) -> bool {
+// Whether the keeper was given exactly these Lynx texts, and kept each or not.
+fn was_given(keeper: &MemoryKeeper, wanted: &[(&[u8; 28], bool)]) -> bool {
     let kept = keeper.kept();
-    for (one, ok) in kept.iter().zip(wanted) {
-        if one.ruleset != Ruleset::Lynx
-            || one.text.as_slice() != HUNDRED.as_slice()
-            || one.ok != *ok
-        {
+    for (one, (text, ok)) in kept.iter().zip(wanted) {
+        if one.ruleset != Ruleset::Lynx || one.text.as_slice() != text.as_slice() || one.ok != *ok {
             return false;
         }
     }
@@ -41,31 +49,35 @@ fn was_given(keeper: &MemoryKeeper, wanted: &[bool]) -> bool {
 }
 
 // The index of the first of these inputs to a new archive whose step is not the expected one, if only this call of its
-// keeper fails; the number of inputs if they leave something else, or the keeper was given something else.
+// keeper fails; the number of inputs if they leave something else, the keeper was given something else, or a server that
+// starts again has other texts.
 fn other_kept(
     alloc: Global,
     failing: u64,
     rows: &[(Input<'_>, Told<'_>)],
     left: Left<'_>,
-    given: &[bool],
+    given: &[(&[u8; 28], bool)],
 ) -> Result<Option<usize>, Fail> {
     let mut keeper = MemoryKeeper::new(alloc);
     keeper.fail_at(failing);
     let other = other_of(alloc, Archive::new(alloc), &mut keeper, rows, left)?;
-    if other.is_none() && !was_given(&keeper, given) {
-        return Ok(Some(rows.len()));
+    if other.is_some() {
+        return Ok(other);
     }
-    Ok(other)
+    let is_kept = was_given(&keeper, given) && loads(alloc, &mut keeper, left.lynx, left.ms)?;
+    Ok(if is_kept { None } else { Some(rows.len()) })
 }
 
-// A file that is not kept is refused, and joins no collection: the same file from another client is given to the keeper
-// again.
+// A file that is not kept is refused, and joins no collection: a reader is sent the empty one, and the same file from
+// another client is given to the keeper again.
 #[test]
 fn a_keep_that_fails(rt: HostRuntime) -> Result<(), Fail> {
     let rows = [
         (Input::Ask(4000, 2, WRQ), Told::Opens(4000, 2, ACK_0)),
         (Input::Hear(4000, 2, FIRST), Told::Closes(4000, 2, NOT_KEPT)),
         (Input::Wait(4000), Told::Nothing),
+        (Input::Ask(4002, 4, RRQ), Told::Opens(4002, 4, EMPTY_DATA)),
+        (Input::Hear(4002, 4, ACK_1), Told::Ends),
         (Input::Ask(4001, 3, WRQ), Told::Opens(4001, 3, ACK_0)),
         (
             Input::Hear(4001, 3, FIRST),
@@ -78,8 +90,35 @@ fn a_keep_that_fails(rt: HostRuntime) -> Result<(), Fail> {
         least: Some(4001),
         ..NOTHING
     };
-    let other = other_kept(rt.alloc(), 1, &rows, left, &[false, true])?;
-    assert_eq!(rt; other, None);
+    let given = [(HUNDRED, false), (HUNDRED, true)];
+    assert_eq!(rt; other_kept(rt.alloc(), 1, &rows, left, &given)?, None);
+    Ok(())
+}
+
+// The collection stays as it was before a better file that is not kept, also for a server that starts again.
+#[test]
+fn a_better_file_that_is_not_kept(rt: HostRuntime) -> Result<(), Fail> {
+    let rows = [
+        (Input::Ask(4000, 2, WRQ), Told::Opens(4000, 2, ACK_0)),
+        (
+            Input::Hear(4000, 2, FIRST),
+            Told::Takes(4000, 2, ACK_1, HUNDRED),
+        ),
+        (Input::Ask(4001, 3, WRQ), Told::Opens(4001, 3, ACK_0)),
+        (
+            Input::Hear(4001, 3, BETTER),
+            Told::Closes(4001, 3, NOT_KEPT),
+        ),
+        (Input::Ask(4001, 4, RRQ), Told::Opens(4001, 4, FIRST)),
+    ];
+    let left = Left {
+        lynx: HUNDRED,
+        live: 2,
+        least: Some(4000),
+        ..NOTHING
+    };
+    let given = [(HUNDRED, true), (NINETY, false)];
+    assert_eq!(rt; other_kept(rt.alloc(), 2, &rows, left, &given)?, None);
     Ok(())
 }
 
@@ -107,7 +146,8 @@ fn nothing_to_keep(rt: HostRuntime) -> Result<(), Fail> {
         least: Some(4000),
         ..NOTHING
     };
-    assert_eq!(rt; other_kept(rt.alloc(), 0, &rows, left, &[true])?, None);
+    let given = [(HUNDRED, true)];
+    assert_eq!(rt; other_kept(rt.alloc(), 0, &rows, left, &given)?, None);
     Ok(())
 }
 

@@ -1,6 +1,7 @@
 // A thousand runs of the server, each of eighty inputs that may fit or not, compared step by step with the plain
 // server: what is sent, opened, taken and closed, what the keeper is given, which ports are live, and the text of both
-// collections.
+// collections. Now and then the server starts again with what its keeper has: no port is live then, and the collections
+// are the same.
 use crate::archive::{Archive, REQUEST, Wanted, is_step};
 use crate::drawing::{Draws, Input, draw};
 use crate::plain::{Plain, Said};
@@ -16,8 +17,18 @@ struct Counts {
     taken: u32,
     closed: u32,
     strays: u32,
+    kept: u32,
     unkept: u32,
     busy: u32,
+    restarts: u32,
+}
+
+// A server with its keeper, and the plain server.
+#[derive(Drop)]
+struct Both {
+    archive: Archive,
+    keeper: MemoryKeeper,
+    plain: Plain,
 }
 
 fn is_said(alloc: Global, step: &Step, said: &Said) -> Result<bool, Fail> {
@@ -88,6 +99,8 @@ impl Counts {
         self.closed = self.closed.wrapping_add(u32::from(said.closed));
         let strays = u32::from(is_error(said, b"\0\x05\0\x05unknown transfer\0"));
         self.strays = self.strays.wrapping_add(strays);
+        let kept = u32::from(said.kept.is_some() && said.taken.is_some());
+        self.kept = self.kept.wrapping_add(kept);
         let unkept = u32::from(is_error(said, b"\0\x05\0\0not kept\0"));
         self.unkept = self.unkept.wrapping_add(unkept);
         let busy = u32::from(is_error(said, b"\0\x05\0\0server busy\0"));
@@ -101,8 +114,10 @@ impl Counts {
             ("taken", self.taken, 1000),
             ("closed", self.closed, 3000),
             ("strays", self.strays, 500),
+            ("kept", self.kept, 500),
             ("unkept", self.unkept, 100),
             ("busy", self.busy, 100),
+            ("restarts", self.restarts, 1000),
         ];
         for (name, count, least) in rows {
             if count <= least {
@@ -114,13 +129,12 @@ impl Counts {
 }
 
 // Gives one input to both.
-fn step(
-    archive: &mut Archive,
-    plain: &mut Plain,
-    keeper: &mut MemoryKeeper,
-    input: Input,
-    keeps: bool,
-) -> Result<(Step, Said), Fail> {
+fn step(both: &mut Both, input: Input, keeps: bool) -> Result<(Step, Said), Fail> {
+    let Both {
+        archive,
+        keeper,
+        plain,
+    } = both;
     match input {
         Input::Ask { spare, from, bytes } => {
             let said = plain.on_request(spare, from, &bytes)?;
@@ -137,11 +151,11 @@ fn step(
     }
 }
 
-// Whether the keeper was given what the plain server keeps, and nothing else.
-fn is_given(keeper: &MemoryKeeper, said: &Said) -> bool {
-    match (keeper.kept(), &said.kept) {
-        ([], None) => true,
-        ([one], Some(kept)) => {
+// Whether after its first `before` texts the keeper was given what the plain server keeps, and nothing else.
+fn is_given(keeper: &MemoryKeeper, before: usize, said: &Said) -> bool {
+    match (keeper.kept().get(before..), &said.kept) {
+        (Some([]), None) => true,
+        (Some([one]), Some(kept)) => {
             one.ruleset == kept.kind
                 && one.ok == kept.keeps
                 && one.text.as_slice() == kept.text.as_slice()
@@ -150,57 +164,88 @@ fn is_given(keeper: &MemoryKeeper, said: &Said) -> bool {
     }
 }
 
-// What two servers differ in after an input, if they do: the step, the ports or the collections.
-fn difference(
+// What two servers differ in, if they do: the ports or the collections.
+fn difference(alloc: Global, both: &Both) -> Result<Option<&'static str>, Fail> {
+    if !has_ports(&both.archive, &both.plain) {
+        return Ok(Some("other ports are live"));
+    }
+    if !has_texts(alloc, &both.archive, &both.plain)? {
+        return Ok(Some("another collection"));
+    }
+    Ok(None)
+}
+
+// The same after an input: also the step, or what the keeper is given besides its first `before` texts.
+fn difference_after(
     alloc: Global,
-    archive: &Archive,
-    plain: &Plain,
+    both: &Both,
+    before: usize,
     step: &Step,
     said: &Said,
 ) -> Result<Option<&'static str>, Fail> {
     if !is_said(alloc, step, said)? {
         return Ok(Some("the server tells something else"));
     }
-    if !has_ports(archive, plain) {
-        return Ok(Some("other ports are live"));
+    if !is_given(&both.keeper, before, said) {
+        return Ok(Some("the keeper is given something else"));
     }
-    if !has_texts(alloc, archive, plain)? {
-        return Ok(Some("another collection"));
-    }
-    Ok(None)
+    difference(alloc, both)
 }
 
 // Gives an input to both servers, which must agree on the step, what is kept, the ports and the collections.
-fn agree(
-    alloc: Global,
-    archive: &mut Archive,
-    plain: &mut Plain,
-    input: Input,
-    keeps: bool,
-) -> Result<Said, Fail> {
-    let mut keeper = MemoryKeeper::new(alloc);
-    if !keeps {
-        keeper.fail_at(1);
-    }
-    let (step, said) = step(archive, plain, &mut keeper, input, keeps)?;
-    if !is_given(&keeper, &said) {
-        return Err(Fail::new("the keeper is given something else"));
-    }
-    match difference(alloc, archive, plain, &step, &said)? {
+fn agree(alloc: Global, both: &mut Both, input: Input, keeps: bool) -> Result<Said, Fail> {
+    let before = both.keeper.kept().len();
+    both.keeper.fail_at(if keeps { 0 } else { 1 });
+    let (step, said) = step(both, input, keeps)?;
+    match difference_after(alloc, both, before, &step, &said)? {
         Some(what) => Err(Fail::new(what)),
         None => Ok(said),
     }
 }
 
+// Starts the server again with what its keeper has. It must agree with the plain server without transfers.
+fn restart(alloc: Global, both: &mut Both) -> Result<(), Fail> {
+    both.keeper.fail_at(0);
+    both.plain.live = Vec::new(alloc);
+    match Archive::load(alloc, &mut both.keeper) {
+        Ok(archive) => both.archive = archive,
+        Err(_fault) => return Err(Fail::new("not loaded")),
+    }
+    match difference(alloc, both)? {
+        Some(what) => Err(Fail::new(what)),
+        None => Ok(()),
+    }
+}
+
+// Draws an input for both, and now and then a restart before it, but none in a crowded run.
+fn turn(
+    alloc: Global,
+    draws: &mut Draws,
+    both: &mut Both,
+    counts: &mut Counts,
+    number: u16,
+    crowded: bool,
+) -> Result<(), Fail> {
+    if !crowded && draws.once_in(40) {
+        restart(alloc, both)?;
+        counts.restarts = counts.restarts.wrapping_add(1);
+    }
+    let input = draw(alloc, draws, &both.plain, number, crowded)?;
+    let keeps = !draws.once_in(4);
+    counts.count(&agree(alloc, both, input, keeps)?);
+    Ok(())
+}
+
 fn run(alloc: Global, draws: &mut Draws, counts: &mut Counts, number: u16) -> Result<(), Fail> {
     let crowded = number % 50 == 0;
-    let mut archive = Archive::new(alloc);
-    let mut plain = Plain::new(alloc);
+    let mut both = Both {
+        archive: Archive::new(alloc),
+        keeper: MemoryKeeper::new(alloc),
+        plain: Plain::new(alloc),
+    };
     let inputs = if crowded { 200 } else { 80 };
     for _ in 0..inputs {
-        let input = draw(alloc, draws, &plain, number, crowded)?;
-        let keeps = !draws.once_in(4);
-        counts.count(&agree(alloc, &mut archive, &mut plain, input, keeps)?);
+        turn(alloc, draws, &mut both, counts, number, crowded)?;
     }
     Ok(())
 }
@@ -213,8 +258,10 @@ fn count_runs(alloc: Global) -> Result<Counts, Fail> {
         taken: 0,
         closed: 0,
         strays: 0,
+        kept: 0,
         unkept: 0,
         busy: 0,
+        restarts: 0,
     };
     for number in 0..1000 {
         run(alloc, &mut draws, &mut counts, number)?;
