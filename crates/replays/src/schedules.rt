@@ -1,7 +1,7 @@
 // A thousand lists of up to sixty events, each outcome tested against every promise. The first two lists are fixed,
 // each with its own test.
-use crate::cast::{C1, C2, C3, C4, EMPTY_MS, NOT_KEPT, RRQ_LYNX, WRQ, at};
-use crate::drawn::{Draws, draw};
+use crate::cast::{C1, C2, C3, C4, EMPTY_LYNX, EMPTY_MS, NOT_KEPT, RRQ_LYNX, WRQ, at};
+use crate::drawn::{Drawn, Draws, draw};
 use crate::promises::{begin_counts, broken_promise};
 use crate::scene::{Act, are_got, are_opened, are_taken, events_of};
 use archive_table::MemoryKeeper;
@@ -387,10 +387,37 @@ impl Tally {
     }
 }
 
+// The text that a keeper has for this ruleset, that of an empty collection if it has none.
+fn last_kept(keeper: &MemoryKeeper, kind: Ruleset) -> &[u8] {
+    for one in keeper.kept().iter().rev() {
+        if one.ruleset == kind && one.ok {
+            return one.text.as_slice();
+        }
+    }
+    match kind {
+        Ruleset::Lynx => EMPTY_LYNX,
+        Ruleset::Ms => EMPTY_MS,
+    }
+}
+
+// Whether the keeper of a list has the collections that are in its outcome.
+fn has_kept(alloc: Global, drawn: &Drawn, outcome: &Outcome) -> Result<bool, Fail> {
+    let mut keeper = MemoryKeeper::new(alloc);
+    keeper.fail_at(drawn.fails);
+    let _same = replay(alloc, &mut keeper, &drawn.events)?;
+    Ok(
+        last_kept(&keeper, Ruleset::Lynx) == outcome.lynx.as_slice()
+            && last_kept(&keeper, Ruleset::Ms) == outcome.ms.as_slice(),
+    )
+}
+
 // Draws a list, which must break no promise, and counts what happened in it.
 fn count_draw(alloc: Global, draws: &mut Draws, tally: &mut Tally) -> Result<(), Fail> {
     let (drawn, outcome) = draw(alloc, draws)?;
     tally.count(&drawn.events, &outcome);
+    if !has_kept(alloc, &drawn, &outcome)? {
+        return Err(Fail::new("what is taken is kept"));
+    }
     match broken_promise(alloc, &drawn.events, &outcome, drawn.fails)? {
         Some(promise) => Err(Fail::new(promise)),
         None => Ok(()),
