@@ -1,6 +1,7 @@
 pub mod Live
 pub mod Replies
 pub mod Found
+pub mod Cached
 pub mod Held
 pub mod Serving
 pub mod Blocks

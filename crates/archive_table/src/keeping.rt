@@ -6,14 +6,14 @@ ghost use Rattle.archive_table.specs.Server.{IsJoined, IsMerged};
 ghost use Rattle.archive_table.specs.Keeper.{Grows, KeepsOne, KeepsMaps, RefusesJoin, RefusesFile};
 
 use crate::keeper::Keeper;
+use crate::served::Served;
 use std::alloc::Allocator;
 use tftp_packet::Refusal;
-use tws_best::Collection;
 use tws_file::{FileFault, Ruleset, TwsFile};
 
 // Merges a file into the collection of its ruleset, which is kept if that changed it. On error it does not change.
 fn join<A: Allocator + Copy, K: Keeper>(
-    collection: &mut Collection<A>,
+    collection: &mut Served<A>,
     keeper: &mut K,
     file: &TwsFile<A>,
 ) -> Result<(), Refusal>
@@ -25,7 +25,7 @@ fn join<A: Allocator + Copy, K: Keeper>(
     ensures unkept { IfErr result (λ e. RefusesJoin e file.now collection.old (K.log keeper.old) (K.log keeper.new)) }
     ensures untouched { result ≢ Err Refusal.NotKept → collection.new ≡ collection.old → keeper.new ≡ keeper.old }
 {
-    let Ok(mut copy) = collection.copy() else {
+    let Ok(mut copy) = collection.collection().copy() else {
         return Err(Refusal::OutOfMemory);
     };
     let Ok(changed) = copy.merge(file) else {
@@ -35,7 +35,7 @@ fn join<A: Allocator + Copy, K: Keeper>(
         if keeper.keep(copy.ruleset(), &copy).is_err() {
             return Err(Refusal::NotKept);
         }
-        *collection = copy;
+        *collection = Served::of(copy);
     }
     Ok(())
 }
@@ -43,8 +43,8 @@ fn join<A: Allocator + Copy, K: Keeper>(
 // Merges a whole file that was read into the collection of its ruleset; bytes that are not a file change nothing. On
 // error no collection changes.
 pub(crate) fn merge_file<A: Allocator + Copy, K: Keeper>(
-    lynx: &mut Collection<A>,
-    ms: &mut Collection<A>,
+    lynx: &mut Served<A>,
+    ms: &mut Served<A>,
     keeper: &mut K,
     read: &Result<TwsFile<A>, FileFault>,
 ) -> Result<(), Refusal>

@@ -9,16 +9,15 @@ ghost use Rattle.std.specs.BTreeMap.Range.{entries_between};
 ghost use Rattle.std.specs.declared.ops.Bound.TheVariants.{Excluded, Unbounded};
 ghost use Rattle.archive_table.specs.Server.{at_port, first_port};
 
+use crate::keys::Keys;
 use slab::Slab;
 use std::alloc::{AllocError, Allocator};
-use std::collections::BTreeMap;
 use std::marker::Model;
-use std::ops::Bound;
 
 /// The value at each live port: the port leads to a key, and the key to a place in a slab.
 #[derive(Drop)]
 pub(crate) struct Ports<T, A: Allocator + Copy> {
-    keys: BTreeMap<u16, usize, A>,
+    keys: Keys<A>,
     places: Slab<T, A>,
 }
 
@@ -29,9 +28,9 @@ impl<T, A: Allocator + Copy> Model for Ports<T, A> {
 
     ghost Value = { List (ℕ × T) };
 
-    ghost view = { λ p. found_at (get p.places) p.keys.entries };
+    ghost view = { λ p. found_at (get p.places) p.keys };
 
-    ghost invariant = { λ p. AreHeld p.keys.entries p.places };
+    ghost invariant = { λ p. AreHeld p.keys p.places };
 }
 
 impl<T: Drop, A: Allocator + Copy> Ports<T, A> {
@@ -43,7 +42,7 @@ impl<T: Drop, A: Allocator + Copy> Ports<T, A> {
         ensures { result ≡ [] }
     {
         Ports {
-            keys: BTreeMap::new(alloc),
+            keys: Keys::new(alloc),
             places: Slab::new(alloc),
         }
     }
@@ -68,8 +67,8 @@ impl<T: Drop, A: Allocator + Copy> Ports<T, A> {
     pub(crate) fn get(&self, port: u16) -> Option<&T>
         ensures { option_copied result ≡ lookup (at_port port) self.now }
     {
-        let key = self.keys.get(&port)?;
-        self.places.get(*key)
+        let key = self.keys.get(port)?;
+        self.places.get(key)
     }
 
     /// Puts `value` at a port that is not live. On error nothing changes.
@@ -81,13 +80,9 @@ impl<T: Drop, A: Allocator + Copy> Ports<T, A> {
     {
         self.places.reserve(1)?;
         let key = self.places.vacant_key();
-        match self.keys.insert(port, key) {
-            Ok(_) => {
-                self.places.insert_reserved(value);
-                Ok(())
-            }
-            Err(_) => Err(AllocError),
-        }
+        self.keys.insert(port, key)?;
+        self.places.insert_reserved(value);
+        Ok(())
     }
 
     /// The value at a port, to be written.
@@ -96,7 +91,7 @@ impl<T: Drop, A: Allocator + Copy> Ports<T, A> {
         ensures* writes_back { sem 𝓛 (lends_get T.row A.row A.Allocator self.entry port result) }
         ensures value { option_copied_mut result ≡ lookup (at_port port) self.old }
     {
-        let key = *self.keys.get(&port)?;
+        let key = self.keys.get(port)?;
         Some(&mut self.places[key])
     }
 
@@ -105,18 +100,14 @@ impl<T: Drop, A: Allocator + Copy> Ports<T, A> {
     pub(crate) fn above(&self, after: u16) -> Option<u16>
         ensures { result ≡ first_port (entries_between nat_cmp (Excluded after) Unbounded self.now) }
     {
-        let mut above = self.keys.range((Bound::Excluded(after), Bound::Unbounded));
-        match above.next() {
-            Some((port, _)) => Some(*port),
-            None => None,
-        }
+        self.keys.above(after)
     }
 
     /// Removes the value at a port, which is then not live.
     pub(crate) fn remove(&mut self, port: u16)
         ensures { self.new ≡ remove_entry (at_port port) self.old }
     {
-        if let Some(key) = self.keys.remove(&port) {
+        if let Some(key) = self.keys.remove(port) {
             self.places.remove(key);
         }
     }

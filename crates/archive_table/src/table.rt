@@ -1,8 +1,10 @@
 //! The table of a server.
 
-ghost use Rattle.std.specs.Prelude.{◌≡◌, ◌≢◌, ◌≤◌, [], None, Some, Err, IfOk, IfErr, true, length, is_some};
+ghost use Rattle.std.specs.Prelude.{◌≡◌, ◌≢◌, ◌<◌, ◌≤◌, ◌^◌, [], None, Some, Err, IfOk, IfErr, true, length, is_some};
 ghost use Rattle.archive_table.specs.Server.{empty_server, nothing_told, refuses, opens_if, request_verdict, server_request, server_timeout, transfer_at, has_place, read_asked, read_placed, write_asked, map_of, port_above, IsEnd, IsServer, server_datagram, grant_of, all, unkept, Merges};
 ghost use Rattle.tftp_packet.specs.Packet.{is_octet as octet_mode};
+ghost use Rattle.tws_best.specs.Best.{collection_text};
+ghost use Rattle.tws_best.specs.Frozen.{frozen_text};
 ghost use Rattle.archive_table.specs.Keeper.{StepKeeps, HasLoaded, TableFails, FailsAt};
 ghost use Rattle.archive_table.specs.View.{end_of};
 
@@ -16,10 +18,12 @@ use crate::limits::LIVE;
 use crate::load::load_collection;
 use crate::load_fault::LoadFault;
 use crate::ports::Ports;
+use crate::served::Served;
 use crate::step::Step;
 use crate::transfer::Transfer;
-use std::alloc::{Allocator, Global};
+use std::alloc::{AllocError, Allocator, Global};
 use std::marker::Model;
+use std::rc::Rc;
 use tftp_ends::{MAX_FILE, RecvState, SendState, Sender};
 use tftp_packet::{Dgram, Endpoint, Out, Packet, Refusal, decode, encode_ack, is_octet};
 use tws_best::{Collection, Snapshot};
@@ -30,8 +34,8 @@ use tws_file::Ruleset;
 pub struct Table<A: Allocator + Copy = Global> {
     alloc: A,
     request: u16,
-    lynx: Collection<A>,
-    ms: Collection<A>,
+    lynx: Served<A>,
+    ms: Served<A>,
     live: Ports<Transfer<A>, A>,
 }
 
@@ -56,8 +60,8 @@ impl<A: Allocator + Copy> Table<A> {
         Table {
             alloc,
             request,
-            lynx: Collection::new(alloc, Ruleset::Lynx),
-            ms: Collection::new(alloc, Ruleset::Ms),
+            lynx: Served::of(Collection::new(alloc, Ruleset::Lynx)),
+            ms: Served::of(Collection::new(alloc, Ruleset::Ms)),
             live: Ports::new(alloc),
         }
     }
@@ -81,8 +85,8 @@ impl<A: Allocator + Copy> Table<A> {
         Ok(Table {
             alloc,
             request,
-            lynx,
-            ms,
+            lynx: Served::of(lynx),
+            ms: Served::of(ms),
             live: Ports::new(alloc),
         })
     }
@@ -103,7 +107,7 @@ impl<A: Allocator + Copy> Table<A> {
         &mut self,
         spare: u16,
         from: Endpoint,
-        end: End<Sender<Snapshot<A>>, Incoming<A>>,
+        end: End<Sender<Rc<Snapshot<A>, A>>, Incoming<A>>,
         first: Dgram,
     ) -> Step<A>
         requires place { has_place self.old ≡ true }
@@ -175,15 +179,36 @@ impl<A: Allocator + Copy> Table<A> {
         if !self.has_place() {
             return self.refuse(from, Refusal::ServerBusy);
         }
-        let collection = self.collection(kind);
-        if collection.text_len() > u128::from(MAX_FILE) {
+        if self.text_len(kind) > u128::from(MAX_FILE) {
             return self.refuse(from, Refusal::CollectionTooLong);
         }
-        let Ok(snapshot) = collection.snapshot() else {
+        let Ok(snapshot) = self.snapshot(kind) else {
             return self.refuse(from, Refusal::OutOfMemory);
         };
         let (sender, first) = Sender::start(snapshot);
         self.open(spare, from, End::Sending(sender), first)
+    }
+
+    // The length of a collection's text in bytes.
+    fn text_len(&self, kind: Ruleset) -> u128
+        ensures { result ≡ length (collection_text (map_of kind self.now.maps)) }
+    {
+        match kind {
+            Ruleset::Lynx => self.lynx.text_len(),
+            Ruleset::Ms => self.ms.text_len(),
+        }
+    }
+
+    // The snapshot of a collection's text.
+    fn snapshot(&mut self, kind: Ruleset) -> Result<Rc<Snapshot<A>, A>, AllocError>
+        requires { length (collection_text (map_of kind self.old.maps)) < 2 ^ 64 }
+        ensures same { self.new ≡ self.old }
+        ensures text { IfOk result (λ s. frozen_text s.value ≡ collection_text (map_of kind self.old.maps)) }
+    {
+        match kind {
+            Ruleset::Lynx => self.lynx.snapshot(self.alloc),
+            Ruleset::Ms => self.ms.snapshot(self.alloc),
+        }
     }
 
     /// Handles a datagram of these bytes, received from `from` at the request port. `spare` is the port for a transfer
@@ -309,8 +334,8 @@ impl<A: Allocator + Copy> Table<A> {
         ensures { result.now ≡ map_of kind self.now.maps }
     {
         match kind {
-            Ruleset::Lynx => &self.lynx,
-            Ruleset::Ms => &self.ms,
+            Ruleset::Lynx => self.lynx.collection(),
+            Ruleset::Ms => self.ms.collection(),
         }
     }
 

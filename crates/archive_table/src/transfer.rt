@@ -7,6 +7,7 @@ use crate::end::End;
 use crate::incoming::Incoming;
 use std::alloc::Allocator;
 use std::marker::Model;
+use std::rc::Rc;
 use tftp_ends::Sender;
 use tftp_packet::Endpoint;
 use tws_best::Snapshot;
@@ -15,7 +16,7 @@ use tws_best::Snapshot;
 #[derive(Drop)]
 pub(crate) struct Transfer<A: Allocator + Copy> {
     pub(crate) peer: Endpoint,
-    pub(crate) end: End<Sender<Snapshot<A>>, Incoming<A>>,
+    pub(crate) end: End<Sender<Rc<Snapshot<A>, A>>, Incoming<A>>,
 }
 
 impl<A: Allocator + Copy> Model for Transfer<A> {

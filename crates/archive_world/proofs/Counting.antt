@@ -6,7 +6,7 @@ use Rattle.tftp_packet.specs.declared.endpoint.Endpoint.{Endpoint}
 use Rattle.archive_world.specs.World.{Datagram, Begun, Event, begin, deliver, client_times_out, server_times_out, stray, restart, World, Step, server_endpoint, client_at, has_begun, begins_unless, strays_unless, event_happens, happens, run_from, run, start}
 use Rattle.archive_world.specs.Headline.{BeganBy}
 use Rattle.archive_world.proofs.Places.{Has, Has-push, Has-from_contains}
-use Rattle.archive_world.proofs.Unrecorded.{delivers-same, waits-same}
+use Rattle.archive_world.proofs.Unlisted.{delivers-same, waits-same}
 
 -- it had begun before, or this event begins it
 abbrev OldOrNow : World → Event → Begun → Type 0

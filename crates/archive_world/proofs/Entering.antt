@@ -6,7 +6,7 @@ use Rattle.tftp_packet.specs.declared.endpoint.Endpoint.{Endpoint}
 use Rattle.archive_world.specs.World.{Datagram, Event, begin, deliver, client_times_out, server_times_out, stray, restart, World, Step, server_endpoint, client_at, has_begun, begins_unless, strays_unless, event_happens, happens, run_from, run, start}
 use Rattle.archive_world.specs.Headline.{StraysBy}
 use Rattle.archive_world.proofs.Places.{Has, Has-push, Has-from_contains}
-use Rattle.archive_world.proofs.Unrecorded.{delivers-same, waits-same}
+use Rattle.archive_world.proofs.Unlisted.{delivers-same, waits-same}
 
 module _ (w : World) (x : Datagram) where
   begins_old : (ours long : Bool) (e : Endpoint) (operation : Operation) → Has (begins_unless ours long e operation w).strays x → Has w.strays x

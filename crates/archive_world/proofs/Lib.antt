@@ -30,7 +30,7 @@ pub mod Tracing
 pub mod Sampling
 pub mod Fetching
 pub mod Reusing
-pub mod Unrecorded
+pub mod Unlisted
 pub mod Counting
 pub mod Loading
 pub mod Premises

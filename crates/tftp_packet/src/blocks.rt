@@ -2,6 +2,8 @@ ghost use Rattle.std.specs.Prelude.{◌≡◌, ℕ, ◌≤◌, List, length, tak
 ghost use Rattle.tftp_packet.specs.Blocks.{block_of, block_count};
 
 use crate::sizes::BLOCK_SIZE;
+use std::alloc::Allocator;
+use std::rc::Rc;
 
 /// A file that can be sent in blocks (RFC 1350 sections 2 and 6): every block but the last has `BLOCK_SIZE` bytes, and
 /// the last has fewer. So a file whose length is a multiple of `BLOCK_SIZE` ends with an empty block. No call of this
@@ -23,4 +25,17 @@ pub trait Blocks {
         ensures count { result ≡ length (block_of (file self.now) k) }
         ensures most { result ≤ BLOCK_SIZE }
         ensures bytes { take result out.new ≡ block_of (file self.now) k };
+}
+
+/// A file that several senders share.
+impl<B: Blocks, A: Allocator> Blocks for Rc<B, A> {
+    ghost file = { λ shared. B.file shared.value };
+
+    fn file_len(&self) -> u64 {
+        self.as_ref().file_len()
+    }
+
+    fn block(&self, k: u16, out: &mut [u8; BLOCK_SIZE]) -> usize {
+        self.as_ref().block(k, out)
+    }
 }

@@ -9,30 +9,32 @@ use Rattle.archive_table.proofs.Held.{placed, found_removed, held_removed}
 use Rattle.archive_table.proofs.Live.{remove_none}
 use Rattle.archive_table.proofs.ports.Ports.remove.Goals as goal
 
--- src/ports.rt:121:13
 pub remove-requires-in-Some : goal.remove-requires-in-Some
-remove-requires-in-Some g c = placed c.self.inside.keys.entries c.self.inside.places c.self.invariant (at_port c.args.port) c.in-Some.key (sym c.remove.ensures.value ∙ c.in-Some.is)
+remove-requires-in-Some g c = placed c.self.inside.keys c.self.inside.places c.self.invariant (at_port c.args.port) c.in-Some.key (sym c.remove.ensures.key ∙ c.in-Some.is)
 
--- src/ports.rt:121:13
 pub invariant_of-self : goal.invariant_of-self
 invariant_of-self g c =
-    subst (λ (es : List (ℕ × ℕ)). AreHeld es c.remove-in-Some.new.self) (sym c.remove.ensures.entries)
-    (held_removed c.self.inside.keys.entries c.self.inside.places c.self.invariant c.remove-in-Some.new.self c.in-Some.key (at_port c.args.port) (sym c.remove.ensures.value ∙ c.in-Some.is) c.remove-in-Some.ensures.updates c.remove-in-Some.ensures.len)
+    subst (λ (es : List (ℕ × ℕ)). AreHeld es c.remove-in-Some.new.self) (sym c.remove.ensures.left)
+    (held_removed c.self.inside.keys c.self.inside.places c.self.invariant c.remove-in-Some.new.self c.in-Some.key (at_port c.args.port) (sym c.remove.ensures.key ∙ c.in-Some.is) c.remove-in-Some.ensures.updates c.remove-in-Some.ensures.len)
 
--- src/ports.rt:117:5
+pub invariant_of-self-in_default : goal.invariant_of-self-in_default
+invariant_of-self-in_default g c =
+    let keys = c.self.inside.keys in
+    let test = at_port c.args.port in
+    subst (λ (es : List (ℕ × ℕ)). AreHeld es c.self.inside.places) (sym (c.remove.ensures.left ∙ remove_none test keys (sym c.remove.ensures.key ∙ c.in_default.is))) c.self.invariant
+
 pub returns-in-Some : goal.returns-in-Some
 returns-in-Some g c =
-    ap (found_at (get c.remove-in-Some.new.self)) c.remove.ensures.entries
-    ∙ found_removed c.self.inside.keys.entries c.self.inside.places c.self.invariant c.remove-in-Some.new.self c.in-Some.key (at_port c.args.port) (sym c.remove.ensures.value ∙ c.in-Some.is) c.remove-in-Some.ensures.updates
+    ap (found_at (get c.remove-in-Some.new.self)) c.remove.ensures.left
+    ∙ found_removed c.self.inside.keys c.self.inside.places c.self.invariant c.remove-in-Some.new.self c.in-Some.key (at_port c.args.port) (sym c.remove.ensures.key ∙ c.in-Some.is) c.remove-in-Some.ensures.updates
     ∙ ap (remove_entry (at_port c.args.port)) c.self.view_is
 
--- src/ports.rt:117:5
 pub returns-in_default : goal.returns-in_default
 returns-in_default g c =
-    let keys = c.self.inside.keys.entries in
+    let keys = c.self.inside.keys in
     let test = at_port c.args.port in
     let place = get c.self.inside.places in
-    let none : lookup test keys ≡ None = sym c.remove.ensures.value ∙ c.in_default.is in
-    ap (found_at place) (c.remove.ensures.entries ∙ remove_none test keys none)
+    let none : lookup test keys ≡ None = sym c.remove.ensures.key ∙ c.in_default.is in
+    ap (found_at place) (c.remove.ensures.left ∙ remove_none test keys none)
     ∙ sym (remove_none test (found_at place keys) (lookup_found place test keys c.self.invariant.held ∙ ap (then_at place) none))
     ∙ ap (remove_entry test) c.self.view_is

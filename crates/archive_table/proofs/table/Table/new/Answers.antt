@@ -1,10 +1,10 @@
+use Rattle.std.proofs.Common.{ap, ◌∙◌}
+use Rattle.tws_best.specs.Best.{Collected}
 use Rattle.archive_table.proofs.Serving.{none_fits}
 use Rattle.archive_table.proofs.table.Table.new.Goals as goal
 
--- src/table.rt:107:5
 pub invariant_of-result : goal.invariant_of-result
-invariant_of-result g c = none_fits _ c.new.ensures.rules c.new-2.ensures.rules c.new-3.ensures
+invariant_of-result g c = none_fits _ (ap (λ (d : Collected). d.«ruleset») c.of.ensures ∙ c.new.ensures.rules) (ap (λ (d : Collected). d.«ruleset») c.of-2.ensures ∙ c.new-2.ensures.rules) c.new-3.ensures
 
--- src/table.rt:107:5
 pub returns-clause-fits : goal.returns-clause-fits
-returns-clause-fits g c = none_fits _ c.new.ensures.rules c.new-2.ensures.rules c.new-3.ensures
+returns-clause-fits g c = none_fits _ (ap (λ (d : Collected). d.«ruleset») c.of.ensures ∙ c.new.ensures.rules) (ap (λ (d : Collected). d.«ruleset») c.of-2.ensures ∙ c.new-2.ensures.rules) c.new-3.ensures

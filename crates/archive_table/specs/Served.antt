@@ -1,0 +1,12 @@
+-- A collection from which downloads are served, without its layout in memory.
+use Rattle.std.specs.Prelude.{◌≡◌, IfSome}
+use Rattle.archive_table.specs.declared.served.Served.TheInside.{Inside}
+use Rattle.tws_best.specs.Best.{Collected, collection_text}
+use Rattle.tws_best.specs.Frozen.{frozen_text}
+
+abbrev pub served_in : {A : Type 0} → Inside A → Collected
+served_in s = s.collection
+
+-- the snapshot is that of the collection
+abbrev pub IsServed : {A : Type 0} → Inside A → Type 0
+IsServed s = IfSome s.snapshot (λ shared. frozen_text shared.value ≡ collection_text s.collection)
