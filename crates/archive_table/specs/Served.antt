@@ -1,5 +1,6 @@
 -- A collection from which downloads are served, without its layout in memory.
 use Rattle.std.specs.Prelude.{◌≡◌, IfSome}
+use Rattle.std.specs.Rc.{weak_target}
 use Rattle.archive_table.specs.declared.served.Served.TheInside.{Inside}
 use Rattle.tws_best.specs.Best.{Collected, collection_text}
 use Rattle.tws_best.specs.Frozen.{frozen_text}
@@ -9,4 +10,4 @@ served_in s = s.collection
 
 -- the snapshot is that of the collection
 abbrev pub IsServed : {A : Type 0} → Inside A → Type 0
-IsServed s = IfSome s.snapshot (λ shared. frozen_text shared.value ≡ collection_text s.collection)
+IsServed s = IfSome (weak_target s.snapshot) (λ shared. frozen_text shared ≡ collection_text s.collection)
