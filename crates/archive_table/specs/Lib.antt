@@ -1,4 +1,4 @@
-pub mod Served
+pub mod Published
 pub mod Server
 pub mod Keeper
 pub mod Incoming

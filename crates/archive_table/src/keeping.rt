@@ -3,29 +3,29 @@
 ghost use Rattle.std.specs.Prelude.{◌≡◌, ◌≢◌, ◌⊎◌, ℕ, List, Err, OnOk, OnErr, IfErr};
 ghost use Rattle.tws_file.specs.Reader.{IsAnswer};
 ghost use Rattle.archive_table.specs.Server.{IsJoined, IsMerged};
-ghost use Rattle.archive_table.specs.Keeper.{Grows, KeepsOne, KeepsMaps, RefusesJoin, RefusesFile};
+ghost use Rattle.archive_table.specs.Keeper.{KeepsOne, KeepsMaps, RefusesJoin, RefusesFile};
 
 use crate::keeper::Keeper;
-use crate::served::Served;
+use crate::published::Published;
 use std::alloc::Allocator;
 use tftp_packet::Refusal;
 use tws_file::{FileFault, Ruleset, TwsFile};
 
 // Merges a file into the collection of its ruleset, which is kept if that changed it. On error it does not change.
 fn join<A: Allocator + Copy, K: Keeper>(
-    collection: &mut Served<A>,
+    published: &mut Published<A>,
     keeper: &mut K,
     file: &TwsFile<A>,
 ) -> Result<(), Refusal>
-    ensures joined { OnOk result (IsJoined file.now collection.old collection.new) }
-    ensures unchanged { OnErr result (collection.new ≡ collection.old) }
-    ensures rules { collection.new.ruleset ≡ collection.old.ruleset }
+    ensures joined { OnOk result (IsJoined file.now published.old published.new) }
+    ensures unchanged { OnErr result (published.new ≡ published.old) }
+    ensures rules { published.new.ruleset ≡ published.old.ruleset }
     ensures refusal { IfErr result (λ e. (e ≡ Refusal.OutOfMemory) ⊎ (e ≡ Refusal.NotKept)) }
-    ensures kept { OnOk result (KeepsOne collection.old collection.new (K.log keeper.old) (K.log keeper.new)) }
-    ensures unkept { IfErr result (λ e. RefusesJoin e file.now collection.old (K.log keeper.old) (K.log keeper.new)) }
-    ensures untouched { result ≢ Err Refusal.NotKept → collection.new ≡ collection.old → keeper.new ≡ keeper.old }
+    ensures kept { OnOk result (KeepsOne published.old published.new (K.log keeper.old) (K.log keeper.new)) }
+    ensures unkept { IfErr result (λ e. RefusesJoin e file.now published.old (K.log keeper.old) (K.log keeper.new)) }
+    ensures untouched { result ≢ Err Refusal.NotKept → published.new ≡ published.old → keeper.new ≡ keeper.old }
 {
-    let Ok(mut copy) = collection.collection().copy() else {
+    let Ok(mut copy) = published.collection().copy() else {
         return Err(Refusal::OutOfMemory);
     };
     let Ok(changed) = copy.merge(file) else {
@@ -35,7 +35,7 @@ fn join<A: Allocator + Copy, K: Keeper>(
         if keeper.keep(copy.ruleset(), &copy).is_err() {
             return Err(Refusal::NotKept);
         }
-        *collection = Served::of(copy);
+        *published = Published::of(copy);
     }
     Ok(())
 }
@@ -43,8 +43,8 @@ fn join<A: Allocator + Copy, K: Keeper>(
 // Merges a whole file that was read into the collection of its ruleset; bytes that are not a file change nothing. On
 // error no collection changes.
 pub(crate) fn merge_file<A: Allocator + Copy, K: Keeper>(
-    lynx: &mut Served<A>,
-    ms: &mut Served<A>,
+    lynx: &mut Published<A>,
+    ms: &mut Published<A>,
     keeper: &mut K,
     read: &Result<TwsFile<A>, FileFault>,
 ) -> Result<(), Refusal>

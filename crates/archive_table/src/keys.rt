@@ -1,4 +1,4 @@
-//! The keys of the live ports.
+//! The slab keys of the live ports.
 
 ghost use Rattle.std.specs.Prelude.{◌≡◌, ◌%◌, None, [], OnOk, OnErr, length};
 ghost use Rattle.std.specs.Map.{lookup, remove_entry};
@@ -13,25 +13,27 @@ use std::collections::BTreeMap;
 use std::marker::Model;
 use std::ops::Bound;
 
-// The number of slots of the cache: ports that follow one another, as those of transfers do, have slots of their own.
+// The number of slots of the cache. Ports for transfers are opened in turn, and any 64 ports in a row have different
+// slots, so live ports seldom share one.
 const CACHE_SIZE: u16 = 64;
 
-const EMPTY_CACHE: [Option<Entry>; CACHE_SIZE as usize] = [None; CACHE_SIZE as usize];
+// A constant, since the proof of `Keys::new` refers to it by name.
+const EMPTY_CACHE: [Option<CachedPort>; CACHE_SIZE as usize] = [None; CACHE_SIZE as usize];
 
 // A port and its key.
 #[derive(Clone, Copy)]
-struct Entry {
+struct CachedPort {
     port: u16,
     key: usize,
 }
 
-/// The key of each live port: an ordered map, with a direct-mapped cache. With 64 live ports a search in the map takes
-/// a tenth of a datagram's whole time.
+/// The slab key of each live port: an ordered map, and a direct-mapped cache that is searched first, since each datagram
+/// needs a key.
 #[derive(Drop)]
 pub(crate) struct Keys<A: Allocator + Copy> {
     map: BTreeMap<u16, usize, A>,
-    // In each slot the port that was added last of those with this slot, unless it was removed.
-    cache: [Option<Entry>; CACHE_SIZE as usize],
+    // In each slot the port that was added last of those with this slot; nothing if one was removed since.
+    cache: [Option<CachedPort>; CACHE_SIZE as usize],
 }
 
 impl<A: Allocator + Copy> Model for Keys<A> {
@@ -54,7 +56,7 @@ fn slot_of(port: u16) -> usize
 }
 
 impl<A: Allocator + Copy> Keys<A> {
-    /// No keys. Does not allocate.
+    /// Returns a map without ports. Does not allocate.
     pub(crate) fn new(alloc: A) -> Self
         ensures { result ≡ [] }
     {
@@ -71,19 +73,19 @@ impl<A: Allocator + Copy> Keys<A> {
         self.map.len()
     }
 
-    /// The key of a port.
+    /// The key of a port; `None` if it is not live.
     pub(crate) fn get(&self, port: u16) -> Option<usize>
         ensures { result ≡ lookup (at_port port) self.now }
     {
-        if let Some(entry) = self.cache[slot_of(port)]
-            && entry.port == port
+        if let Some(cached) = self.cache[slot_of(port)]
+            && cached.port == port
         {
-            return Some(entry.key);
+            return Some(cached.key);
         }
         self.map.get(&port).copied()
     }
 
-    /// Adds a port that is not live. On error nothing changes.
+    /// Adds a port that is not live, with its key. Out of memory, nothing changes.
     pub(crate) fn insert(&mut self, port: u16, key: usize) -> Result<(), AllocError>
         requires free { lookup (at_port port) self.old ≡ None }
         ensures inserted { OnOk result (self.new ≡ insert_entry nat_cmp self.old port key) }
@@ -92,7 +94,7 @@ impl<A: Allocator + Copy> Keys<A> {
         if self.map.insert(port, key).is_err() {
             return Err(AllocError);
         }
-        self.cache[slot_of(port)] = Some(Entry { port, key });
+        self.cache[slot_of(port)] = Some(CachedPort { port, key });
         Ok(())
     }
 
@@ -101,6 +103,7 @@ impl<A: Allocator + Copy> Keys<A> {
         ensures key { result ≡ lookup (at_port port) self.old }
         ensures left { self.new ≡ remove_entry (at_port port) self.old }
     {
+        // The slot may have another port, whose key is then found in the map.
         self.cache[slot_of(port)] = None;
         self.map.remove(&port)
     }

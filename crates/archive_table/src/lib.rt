@@ -19,7 +19,7 @@ mod load_fault;
 mod memory_keeper;
 mod no_keeper;
 mod ports;
-mod served;
+mod published;
 mod step;
 mod table;
 mod taken;

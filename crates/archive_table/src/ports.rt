@@ -1,8 +1,8 @@
 //! The live ports of a server, and what is at each.
 
-ghost use Rattle.std.specs.Prelude.{◌≡◌, None, Some, IsSome, [], OnOk, OnErr, length, is_some, option_copied};
+ghost use Rattle.std.specs.Prelude.{◌≡◌, None, Some, [], OnOk, OnErr, length, is_some, option_copied};
 ghost use Rattle.std.specs.Option.{option_copied_mut};
-ghost use Rattle.std.specs.Map.{lookup, remove_entry, set_value};
+ghost use Rattle.std.specs.Map.{lookup, remove_entry};
 ghost use Rattle.std.specs.BTreeMap.{insert_entry};
 ghost use Rattle.std.specs.Ordering.{nat_cmp};
 ghost use Rattle.std.specs.BTreeMap.Range.{entries_between};

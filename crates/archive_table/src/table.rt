@@ -1,6 +1,6 @@
 //! The table of a server.
 
-ghost use Rattle.std.specs.Prelude.{◌≡◌, ◌≢◌, ◌<◌, ◌≤◌, ◌^◌, [], None, Some, Err, IfOk, IfErr, true, length, is_some};
+ghost use Rattle.std.specs.Prelude.{◌≡◌, ◌≢◌, ◌<◌, ◌≤◌, ◌^◌, None, Some, Err, IfOk, IfErr, true, length, is_some};
 ghost use Rattle.archive_table.specs.Server.{empty_server, nothing_told, refuses, opens_if, request_verdict, server_request, server_timeout, transfer_at, has_place, read_asked, read_placed, write_asked, map_of, port_above, IsEnd, IsServer, server_datagram, grant_of, all, unkept, Merges};
 ghost use Rattle.tftp_packet.specs.Packet.{is_octet as octet_mode};
 ghost use Rattle.tws_best.specs.Best.{collection_text};
@@ -18,7 +18,7 @@ use crate::limits::LIVE;
 use crate::load::load_collection;
 use crate::load_fault::LoadFault;
 use crate::ports::Ports;
-use crate::served::Served;
+use crate::published::Published;
 use crate::step::Step;
 use crate::transfer::Transfer;
 use std::alloc::{AllocError, Allocator, Global};
@@ -34,8 +34,8 @@ use tws_file::Ruleset;
 pub struct Table<A: Allocator + Copy = Global> {
     alloc: A,
     request: u16,
-    lynx: Served<A>,
-    ms: Served<A>,
+    lynx: Published<A>,
+    ms: Published<A>,
     live: Ports<Transfer<A>, A>,
 }
 
@@ -60,8 +60,8 @@ impl<A: Allocator + Copy> Table<A> {
         Table {
             alloc,
             request,
-            lynx: Served::of(Collection::new(alloc, Ruleset::Lynx)),
-            ms: Served::of(Collection::new(alloc, Ruleset::Ms)),
+            lynx: Published::of(Collection::new(alloc, Ruleset::Lynx)),
+            ms: Published::of(Collection::new(alloc, Ruleset::Ms)),
             live: Ports::new(alloc),
         }
     }
@@ -85,8 +85,8 @@ impl<A: Allocator + Copy> Table<A> {
         Ok(Table {
             alloc,
             request,
-            lynx: Served::of(lynx),
-            ms: Served::of(ms),
+            lynx: Published::of(lynx),
+            ms: Published::of(ms),
             live: Ports::new(alloc),
         })
     }

@@ -1,39 +1,10 @@
 // A download from the server's table does not allocate after its first block.
-use crate::table::{FIRST, REQUEST, SECOND, TO_READ, TO_WRITE, ask, goes};
-use archive_table::{NoKeeper, Step, Table};
+use crate::blocks::Blocks;
+use crate::table::{FIRST, REQUEST, SECOND, TO_READ, TO_WRITE, ask, goes, hear};
+use archive_table::Table;
 use refusing::Refusing;
 use std::alloc::{Allocator, Global};
 use std::test::Fail;
-use tftp_packet::Endpoint;
-
-// The blocks of a Lynx file as DATA: level 1, BDHP, 100 ticks, 700 moves of one byte each.
-#[derive(Drop)]
-struct Blocks {
-    first: [u8; 516],
-    second: [u8; 220],
-}
-
-impl Blocks {
-    fn new() -> Self {
-        let mut first = [1; 516];
-        first[..4].copy_from_slice(b"\0\x03\0\x01");
-        first[4..32].copy_from_slice(
-            b"\x35\x33\x9B\x99\x01\0\0\0\xCC\x02\0\0\x01\0BDHP\0\0\0\0\0\0\x64\0\0\0",
-        );
-        let mut second = [1; 220];
-        second[..4].copy_from_slice(b"\0\x03\0\x02");
-        Blocks { first, second }
-    }
-}
-
-fn hear<A: Allocator + Copy>(
-    table: &mut Table<A>,
-    port: u16,
-    from: Endpoint,
-    bytes: &[u8],
-) -> Step<A> {
-    table.on_datagram(&mut NoKeeper, port, from, bytes)
-}
 
 // Whether a file is taken.
 fn takes<A: Allocator + Copy>(table: &mut Table<A>, file: &Blocks) -> bool {

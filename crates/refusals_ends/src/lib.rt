@@ -5,6 +5,8 @@
 #![tactic(auto)]
 
 #[cfg(test)]
+mod blocks;
+#[cfg(test)]
 mod client;
 #[cfg(test)]
 mod downloads;
@@ -14,3 +16,5 @@ mod ends;
 mod requests;
 #[cfg(test)]
 mod table;
+#[cfg(test)]
+mod uploads;

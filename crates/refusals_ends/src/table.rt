@@ -65,8 +65,18 @@ pub(crate) fn ask<A: Allocator + Copy>(
     Some(table.on_request(spare, from, bytes))
 }
 
+// Passes a datagram to a table whose keeper keeps nothing.
+pub(crate) fn hear<A: Allocator + Copy>(
+    table: &mut Table<A>,
+    port: u16,
+    from: Endpoint,
+    bytes: &[u8],
+) -> Step<A> {
+    table.on_datagram(&mut NoKeeper, port, from, bytes)
+}
+
 // Opens a transfer at this port. Returns an outcome if it is not opened.
-fn open<A: Allocator + Copy>(
+pub(crate) fn open<A: Allocator + Copy>(
     table: &mut Table<A>,
     spare: u16,
     from: Endpoint,
@@ -84,7 +94,7 @@ fn open<A: Allocator + Copy>(
 }
 
 // Whether a refused block has closed its transfer and changed no collection.
-fn is_let_go<A: Allocator + Copy>(table: &Table<A>, step: &Step<A>) -> bool {
+pub(crate) fn is_let_go<A: Allocator + Copy>(table: &Table<A>, step: &Step<A>) -> bool {
     step.closed
         && step.taken.is_none()
         && goes(&step.out, 4000, FIRST, OUT_OF_MEMORY)
@@ -108,7 +118,7 @@ fn has_taken<A: Allocator + Copy>(global: Global, step: &Step<A>, file: &[u8]) -
 
 // Passes the block that completes a file to its open transfer. Returns an outcome if it is not taken and acknowledged.
 fn give_file<A: Allocator + Copy>(global: Global, table: &mut Table<A>) -> Result<(), Outcome> {
-    let step = table.on_datagram(&mut NoKeeper, 4000, FIRST, FILE_DATA);
+    let step = hear(table, 4000, FIRST, FILE_DATA);
     if step.taken.is_none() {
         return Err(Outcome::refused(is_let_go(table, &step)));
     }
@@ -169,7 +179,14 @@ fn is_turned_down<A: Allocator + Copy>(table: &Table<A>, step: &Step<A>) -> bool
         && !table.is_live(4001)
 }
 
-// Requests the collection, which is the file. A request that was refused is served when it is made again.
+// Whether the transfer whose file was taken goes on: it acknowledges its block again.
+fn acks_again<A: Allocator + Copy>(table: &mut Table<A>) -> bool {
+    let step = hear(table, 4000, FIRST, FILE_DATA);
+    step.taken.is_none() && goes(&step.out, 4000, FIRST, b"\0\x04\0\x01")
+}
+
+// Requests the collection, which is the file. After a request that was refused the other transfer goes on, and the
+// request is served when it is made again.
 fn read_file<A: Allocator + Copy>(
     global: Global,
     table: &mut Table<A>,
@@ -182,7 +199,9 @@ fn read_file<A: Allocator + Copy>(
         return Outcome::of(is_served(table, &step) && has_texts(global, table, FILE));
     }
     refused.set(refused.get().saturating_add(1));
-    let is_as_before = is_turned_down(table, &step) && has_texts(global, table, FILE);
+    let is_as_before = is_turned_down(table, &step)
+        && has_texts(global, table, FILE)
+        && acks_again(table);
     let Some(again) = ask(table, 4001, SECOND, TO_READ) else {
         return Outcome::Wrong;
     };

@@ -5,7 +5,6 @@ use Rattle.archive_table.proofs.Blocks.{is_answered, has_come, silent_stays, oth
 use Rattle.archive_table.proofs.incoming.take_block.Goals as goal
 use Rattle.archive_table.proofs.incoming.take_block.Goals.{then-is_some+then-is_next+in_ok-read_block, else-is_some, else-is_some-via-then-is_some+else-is_next, else-is_some-via-else-is_some}
 
--- src/incoming.rt:66:1
 pub returns-clause-read : goal.returns-clause-read
 returns-clause-read g c =
     let n = c.args.n in

@@ -4,7 +4,6 @@ use Rattle.tws_file.specs.Reader.{Reading, HasTaken}
 use Rattle.archive_table.proofs.Blocks.{took}
 use Rattle.archive_table.proofs.incoming.take_whole.Goals as goal
 
--- src/incoming.rt:89:1
 pub returns-clause-answer : goal.returns-clause-answer
 returns-clause-answer g c =
     let file = c.in_ok-file.file in

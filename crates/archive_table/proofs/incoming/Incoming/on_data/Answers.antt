@@ -1,7 +1,6 @@
 use Rattle.archive_table.proofs.Blocks.{take_read, take_gone}
 use Rattle.archive_table.proofs.incoming.Incoming.on_data.Goals as goal
 
--- src/incoming.rt:141:17
 pub invariant_of-self : goal.invariant_of-self
 invariant_of-self g c =
     record {
@@ -12,6 +11,5 @@ invariant_of-self g c =
       };
     }
 
--- src/incoming.rt:126:5
 pub returns-in-Ok-clause-fits : goal.returns-in-Ok-clause-fits
 returns-in-Ok-clause-fits g c = take_gone c.take_block.new.receiver c.take_whole-whole.new.receiver c.take_whole-whole.ensures.receiver c.take_whole-whole.ensures.fits

@@ -5,7 +5,6 @@ use Rattle.archive_table.specs.View.{server_of, end_of}
 use Rattle.archive_table.proofs.Serving.{inserted_fits}
 use Rattle.archive_table.proofs.table.Table.open.Goals as goal
 
--- src/table.rt:149:22
 pub invariant_of-self : goal.invariant_of-self
 invariant_of-self g c =
     let s = server_of c.self.inside in
@@ -14,7 +13,6 @@ invariant_of-self g c =
     (ap (transfer_at c.args.spare) c.self.view_is ∙ c.requires.free)
     (ap has_place c.self.view_is ∙ c.requires.place)
 
--- src/table.rt:132:5
 pub returns-in-Ok-clause-fits : goal.returns-in-Ok-clause-fits
 returns-in-Ok-clause-fits g c =
     let s = server_of c.self.inside in

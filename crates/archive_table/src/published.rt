@@ -1,4 +1,4 @@
-//! A collection from which downloads are served.
+//! A collection that players can fetch.
 
 ghost use Rattle.std.specs.Prelude.{◌≡◌, ◌<◌, ◌^◌, length, IfOk};
 ghost use Rattle.tws_best.specs.Best.{collection_text};
@@ -10,31 +10,31 @@ use std::rc::{Rc, Weak};
 use tftp_packet::Blocks;
 use tws_best::{Collection, Snapshot};
 
-/// A collection, and the snapshot of its text, as long as a download has it: they share it.
+/// A collection, and a weak reference to the snapshot of its text that downloads share.
 #[derive(Drop)]
-pub(crate) struct Served<A: Allocator + Copy> {
+pub(crate) struct Published<A: Allocator + Copy> {
     collection: Collection<A>,
     snapshot: Weak<Snapshot<A>, A>,
 }
 
-impl<A: Allocator + Copy> Model for Served<A> {
+impl<A: Allocator + Copy> Model for Published<A> {
     ghost use Rattle.tws_best.specs.Best.{Collected};
 
     ghost Value = { Collected };
 
-    ghost use Rattle.archive_table.specs.Served.{served_in, IsServed};
+    ghost use Rattle.archive_table.specs.Published.{published_in, HasOwnSnapshot};
 
-    ghost view = { served_in };
+    ghost view = { published_in };
 
-    ghost invariant = { IsServed };
+    ghost invariant = { HasOwnSnapshot };
 }
 
-impl<A: Allocator + Copy> Served<A> {
-    /// A collection that no download has yet. Does not allocate.
+impl<A: Allocator + Copy> Published<A> {
+    /// Returns this collection, without a snapshot yet. Does not allocate.
     pub(crate) fn of(collection: Collection<A>) -> Self
         ensures { result ≡ collection }
     {
-        Served {
+        Published {
             collection,
             snapshot: Weak::new(),
         }
@@ -51,13 +51,18 @@ impl<A: Allocator + Copy> Served<A> {
     pub(crate) fn text_len(&self) -> u128
         ensures { result ≡ length (collection_text self.now) }
     {
+        // A snapshot has its length; a collection adds up those of all its records.
         match self.snapshot.upgrade() {
             Some(snapshot) => u128::from(snapshot.file_len()),
             None => self.collection.text_len(),
         }
     }
 
-    /// The snapshot of its text, which has fewer than 2^64 bytes. Does not allocate if a download has it.
+    /// Returns the snapshot of its text, which must have fewer than 2^64 bytes. Does not allocate if a download has it.
+    ///
+    /// # Errors
+    ///
+    /// Out of memory. The collection never changes.
     pub(crate) fn snapshot(&mut self, alloc: A) -> Result<Rc<Snapshot<A>, A>, AllocError>
         requires { length (collection_text self.old) < 2 ^ 64 }
         ensures same { self.new ≡ self.old }
