@@ -1,4 +1,4 @@
-// A download from the server's table does not allocate after its first block.
+// A download from the server's table does not allocate after its first block, nor to open if another one has its text.
 use crate::blocks::Blocks;
 use crate::table::{FIRST, REQUEST, SECOND, TO_READ, TO_WRITE, ask, goes, hear};
 use archive_table::Table;
@@ -60,5 +60,36 @@ fn a_download_after_its_first_block(rt: HostRuntime) -> Result<(), Fail> {
     let requests = refusing.requests();
     assert!(rt; goes_on(&mut table, &file));
     assert_eq!(rt; refusing.requests(), requests);
+    Ok(())
+}
+
+// Whether a download is opened at this port.
+fn opens_at<A: Allocator + Copy>(table: &mut Table<A>, port: u16) -> bool {
+    match ask(table, port, SECOND, TO_READ) {
+        Some(step) => step.opened,
+        None => false,
+    }
+}
+
+// Whether an ERROR of its peer closes it.
+fn closes_at<A: Allocator + Copy>(table: &mut Table<A>, port: u16) -> bool {
+    hear(table, port, SECOND, b"\0\x05\0\0\0").closed
+}
+
+// The second download has the snapshot of the first. It is dropped with the last of them, so the next one allocates.
+#[test]
+fn downloads_of_one_text(rt: HostRuntime) -> Result<(), Fail> {
+    let refusing: Refusing<Global> = Refusing::new(rt.alloc(), 0);
+    let mut table = Table::new(&refusing, REQUEST);
+    assert!(rt; takes(&mut table, &Blocks::new()));
+    assert!(rt; opens_at(&mut table, 4001));
+    let first = refusing.requests();
+    assert!(rt; opens_at(&mut table, 4002));
+    assert_eq!(rt; refusing.requests(), first);
+    assert!(rt; closes_at(&mut table, 4001) && opens_at(&mut table, 4001));
+    assert_eq!(rt; refusing.requests(), first);
+    assert!(rt; closes_at(&mut table, 4001) && closes_at(&mut table, 4002));
+    assert!(rt; opens_at(&mut table, 4001));
+    assert!(rt; refusing.requests() > first);
     Ok(())
 }

@@ -1,5 +1,5 @@
-// Uploads of two blocks to the server's table: each allocation is refused in turn, and what repeats a block or an ACK
-// does not allocate.
+// Uploads of two blocks to the server's table: each allocation is refused in turn, and repeated blocks and time-outs do
+// not allocate.
 use crate::blocks::Blocks;
 use crate::table::{FIRST, REQUEST, TO_WRITE, goes, hear, is_let_go, open};
 use archive_table::{Step, Table};
@@ -72,7 +72,7 @@ fn a_file_of_two_blocks(rt: HostRuntime) -> Result<(), Fail> {
     Ok(())
 }
 
-// Whether the last block is acknowledged again, and so it is at a time-out.
+// Whether the last block is acknowledged again if it is repeated, and at a time-out.
 fn repeats<A: Allocator + Copy>(table: &mut Table<A>, block: &[u8], ack: &[u8]) -> bool {
     goes(&hear(table, 4000, FIRST, block).out, 4000, FIRST, ack)
         && goes(&table.on_timeout(4000).out, 4000, FIRST, ack)
@@ -86,7 +86,7 @@ fn dallies<A: Allocator + Copy>(table: &mut Table<A>, block: &[u8]) -> bool {
 }
 
 #[test]
-fn an_upload_besides_its_new_blocks(rt: HostRuntime) -> Result<(), Fail> {
+fn repeated_blocks_and_timeouts(rt: HostRuntime) -> Result<(), Fail> {
     let refusing: Refusing<Global> = Refusing::new(rt.alloc(), 0);
     let mut table = Table::new(&refusing, REQUEST);
     let file = Blocks::new();
