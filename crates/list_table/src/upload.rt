@@ -1,0 +1,77 @@
+//! A file that a client sends.
+
+ghost use Rattle.std.specs.Prelude.{◌≡◌, ◌≤◌, length, OnOk, IfOk};
+ghost use Rattle.tftp_ends.specs.Ends.{granted, verdict_of, answer_of, dgram_of, receiver_start, receiver_data, receiver_timeout};
+ghost use Rattle.archive_table.specs.Server.{IsReceiving};
+ghost use Rattle.archive_table.specs.Incoming.{receiver_after, file_after, sent_by};
+
+use std::alloc::Allocator;
+use std::marker::Model;
+use tftp_ends::{Received, Receiver, RecvFault, RecvState};
+use tftp_packet::Dgram;
+
+/// The receiver of a file, which hands the file out as soon as that is whole.
+#[derive(Drop)]
+pub(crate) struct Upload<A: Allocator + Copy> {
+    receiver: Receiver<A>,
+}
+
+impl<A: Allocator + Copy> Model for Upload<A> {
+    ghost use Rattle.tftp_ends.specs.Ends.{Receiver as Receiving};
+    ghost use Rattle.archive_table.specs.Server.{IsReceiving};
+
+    ghost Value = { Receiving };
+
+    ghost view = { λ u. u.receiver };
+
+    ghost invariant = { λ u. IsReceiving u.receiver };
+}
+
+impl<A: Allocator + Copy> Upload<A> {
+    /// Returns one that has received nothing yet. Does not allocate.
+    pub(crate) fn new(alloc: A) -> Self
+        ensures receiver { result ≡ receiver_start }
+        ensures fits { IsReceiving result }
+    {
+        Upload {
+            receiver: Receiver::new(alloc),
+        }
+    }
+
+    /// Handles DATA `n`. Returns the datagram to send, and the file if this block completes it.
+    ///
+    /// # Errors
+    ///
+    /// `TooLong` if the block makes the file too long; `Memory` if it could not be kept.
+    pub(crate) fn on_data(
+        &mut self,
+        n: u16,
+        body: &[u8],
+    ) -> Result<(Option<Dgram>, Option<Received<A>>), RecvFault>
+        requires short { length body.now ≤ 512 }
+        ensures receiver { OnOk result (self.new ≡ receiver_after (receiver_data granted n body.now self.old)) }
+        ensures sent { sent_by result ≡ answer_of (receiver_data (verdict_of result) n body.now self.old).result }
+        ensures file { IfOk result (λ r. r.1 ≡ file_after (receiver_data granted n body.now self.old)) }
+        ensures fits { IsReceiving self.new }
+    {
+        let sent = self.receiver.on_data(n, body)?;
+        let file = self.receiver.take_file();
+        Ok((sent, file))
+    }
+
+    /// Handles a time-out. Returns the datagram to send, if any.
+    pub(crate) fn on_timeout(&mut self) -> Option<Dgram>
+        ensures receiver { self.new ≡ (receiver_timeout self.old).receiver }
+        ensures sent { result ≡ dgram_of (receiver_timeout self.old).out }
+        ensures fits { IsReceiving self.new }
+    {
+        self.receiver.on_timeout()
+    }
+
+    /// The receiver's state.
+    pub(crate) fn state(&self) -> RecvState
+        ensures { result ≡ self.now.state }
+    {
+        self.receiver.state()
+    }
+}
