@@ -1,4 +1,5 @@
-// A table with request port 6969, and what its calls must return.
+// A table with request port 6969 beside the table over lists, and what the calls of both must return.
+use crate::listed::Listed;
 use archive_table::{Keeper, LoadFault, MemoryKeeper, Step, Table};
 use std::alloc::Global;
 use std::marker::Model;
@@ -11,6 +12,8 @@ pub(crate) const REQUEST: u16 = 6969;
 #[derive(Drop)]
 pub(crate) struct Archive {
     table: Table,
+    // `None` where both together would take too much memory.
+    listed: Option<Listed>,
 }
 
 impl Model for Archive {
@@ -24,18 +27,39 @@ impl Model for Archive {
     ghost invariant = { λ a. a.table.request ≡ 6969 };
 }
 
+// A step in which both tables agree.
+fn agreed(step: Step, differs: Option<&'static str>) -> Result<Step, Fail> {
+    match differs {
+        Some(what) => Err(Fail::new(what)),
+        None => Ok(step),
+    }
+}
+
 impl Archive {
     pub(crate) fn new(alloc: Global) -> Self {
         Archive {
             table: Table::new(alloc, REQUEST),
+            listed: Some(Listed::new(alloc)),
+        }
+    }
+
+    // One without the table over lists.
+    pub(crate) fn alone(alloc: Global) -> Self {
+        Archive {
+            table: Table::new(alloc, REQUEST),
+            listed: None,
         }
     }
 
     // An archive with what the keeper has.
     pub(crate) fn load<K: Keeper>(alloc: Global, keeper: &mut K) -> Result<Self, LoadFault> {
-        match Table::load(alloc, REQUEST, keeper) {
-            Ok(table) => Ok(Archive { table }),
-            Err(fault) => Err(fault),
+        let table = Table::load(alloc, REQUEST, keeper)?;
+        match Listed::with_collections(alloc, &table) {
+            Ok(listed) => Ok(Archive {
+                table,
+                listed: Some(listed),
+            }),
+            Err(_) => Err(LoadFault::Memory),
         }
     }
 
@@ -45,7 +69,12 @@ impl Archive {
         if spare == REQUEST || self.table.is_live(spare) {
             return Err(Fail::new("a spare port that is not free"));
         }
-        Ok(self.table.on_request(spare, from, bytes))
+        let step = self.table.on_request(spare, from, bytes);
+        let differs = match &mut self.listed {
+            Some(listed) => listed.ask(spare, from, bytes, &self.table, &step)?,
+            None => None,
+        };
+        agreed(step, differs)
     }
 
     // Handles a datagram at a transfer's port.
@@ -56,14 +85,24 @@ impl Archive {
         port: u16,
         from: Endpoint,
         bytes: &[u8],
-    ) -> Step {
-        self.table.on_datagram(keeper, port, from, bytes)
+    ) -> Result<Step, Fail> {
+        let step = self.table.on_datagram(keeper, port, from, bytes);
+        let differs = match &mut self.listed {
+            Some(listed) => listed.hear(port, from, bytes, &self.table, &step)?,
+            None => None,
+        };
+        agreed(step, differs)
     }
 
     // Handles a time-out at a port.
     #[tactic(auto, using(archive_table::proofs::SamePort::timeout_same))]
-    pub(crate) fn wait(&mut self, port: u16) -> Step {
-        self.table.on_timeout(port)
+    pub(crate) fn wait(&mut self, port: u16) -> Result<Step, Fail> {
+        let step = self.table.on_timeout(port);
+        let differs = match &mut self.listed {
+            Some(listed) => listed.wait(port, &self.table, &step)?,
+            None => None,
+        };
+        agreed(step, differs)
     }
 
     pub(crate) fn table(&self) -> &Table {
@@ -168,8 +207,8 @@ pub(crate) enum Input<'a> {
 fn step<K: Keeper>(archive: &mut Archive, keeper: &mut K, input: Input<'_>) -> Result<Step, Fail> {
     match input {
         Input::Ask(spare, host, bytes) => archive.ask(spare, client(host), bytes),
-        Input::Hear(port, host, bytes) => Ok(archive.hear(keeper, port, client(host), bytes)),
-        Input::Wait(port) => Ok(archive.wait(port)),
+        Input::Hear(port, host, bytes) => archive.hear(keeper, port, client(host), bytes),
+        Input::Wait(port) => archive.wait(port),
     }
 }
 

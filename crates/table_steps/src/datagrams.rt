@@ -150,7 +150,7 @@ fn takes_sevens(alloc: Global, archive: &mut Archive, number: u16) -> Result<boo
     let [high, low] = number.to_be_bytes();
     let mut data = [7; 516];
     data[..4].copy_from_slice(&[0, 3, high, low]);
-    let step = archive.hear(&mut NoKeeper, 4000, client(2), &data);
+    let step = archive.hear(&mut NoKeeper, 4000, client(2), &data)?;
     has_told(alloc, &step, Told::Sends(4000, 2, &[0, 4, high, low]))
 }
 
@@ -240,7 +240,7 @@ fn long_file(
     for n in 0..whole_blocks {
         let [high, low] = n.wrapping_add(1).to_be_bytes();
         data[2..4].copy_from_slice(&[high, low]);
-        let step = archive.hear(&mut NoKeeper, port, host, &data);
+        let step = archive.hear(&mut NoKeeper, port, host, &data)?;
         let told = Told::Sends(port, u32::from(level), &[0, 4, high, low]);
         if !has_told(alloc, &step, told)? {
             return Ok(false);
@@ -250,23 +250,16 @@ fn long_file(
     }
     data[2..4].copy_from_slice(&whole_blocks.wrapping_add(1).to_be_bytes());
     let rest = (size % 512) as usize;
-    let step = archive.hear(&mut NoKeeper, port, host, &data[..4 + rest]);
+    let step = archive.hear(&mut NoKeeper, port, host, &data[..4 + rest])?;
     match step.taken {
         Some(taken) => Ok(taken.file.len() == u64::from(size)),
         None => Ok(false),
     }
 }
 
-// An archive that has taken two files of `size` bytes.
-fn with_two_files(alloc: Global, size: u32) -> Result<Archive, Fail> {
-    let mut archive = Archive::new(alloc);
-    if long_file(alloc, &mut archive, 4000, 1, size)?
-        && long_file(alloc, &mut archive, 4002, 2, size)?
-    {
-        Ok(archive)
-    } else {
-        Err(Fail::new("a long file is not taken"))
-    }
+// Whether an archive takes two files of `size` bytes.
+fn takes_two_files(alloc: Global, archive: &mut Archive, size: u32) -> Result<bool, Fail> {
+    Ok(long_file(alloc, archive, 4000, 1, size)? && long_file(alloc, archive, 4002, 2, size)?)
 }
 
 // Whether a collection that is too long is not sent, and the other one is.
@@ -279,10 +272,11 @@ fn sends_the_other(alloc: Global) -> Result<bool, Fail> {
             Told::Opens(4003, 9, empty),
         ),
     ];
-    let mut archive = with_two_files(alloc, 17_000_028)?;
+    let mut archive = Archive::alone(alloc);
+    let is_taken = takes_two_files(alloc, &mut archive, 17_000_028)?;
     let size = archive.table().collection(Ruleset::Lynx).text_len();
     let other = first_other(alloc, &mut archive, &mut NoKeeper, &rows)?;
-    Ok(size == 34_000_048 && other.is_none() && is_live(&archive, 3, Some(4000)))
+    Ok(is_taken && size == 34_000_048 && other.is_none() && is_live(&archive, 3, Some(4000)))
 }
 
 // Two files whose collection would be too long to be sent: 34,000,048 bytes.
@@ -308,23 +302,23 @@ fn is_block(step: &Step, number: [u8; 2], body: &[u8]) -> bool {
 
 // Whether a transfer that began with this step sends this text block by block, each by the ACK of the one before it, and
 // ends with the last ACK.
-fn is_served(archive: &mut Archive, port: u16, first: Step, text: &[u8]) -> bool {
+fn is_served(archive: &mut Archive, port: u16, first: Step, text: &[u8]) -> Result<bool, Fail> {
     let mut step = first;
     for (i, body) in text.chunks(512).enumerate() {
         let number = ((i % 65536) as u16).wrapping_add(1).to_be_bytes();
         if !is_block(&step, number, body) {
-            return false;
+            return Ok(false);
         }
         let ack = [0, 4, number[0], number[1]];
-        step = archive.hear(&mut NoKeeper, port, client(9), &ack);
+        step = archive.hear(&mut NoKeeper, port, client(9), &ack)?;
     }
-    step.closed && step.out.is_none()
+    Ok(step.closed && step.out.is_none())
 }
 
 // Whether a request to read is served with this text.
 fn serves_text(archive: &mut Archive, text: &[u8]) -> Result<bool, Fail> {
     let first = archive.ask(4003, client(9), RRQ)?;
-    Ok(first.opened && is_served(archive, 4003, first, text) && is_live(archive, 2, Some(4000)))
+    Ok(first.opened && is_served(archive, 4003, first, text)? && is_live(archive, 2, Some(4000)))
 }
 
 // The text of the Lynx collection of two such files with this many moves each.
@@ -344,8 +338,9 @@ fn text_of_two(alloc: Global, moves: u32) -> Result<Vec<u8>, Fail> {
 // Whether the collection of two files with this many moves each is served, and has `size` bytes.
 fn serves(alloc: Global, moves: u32, size: usize) -> Result<bool, Fail> {
     let text = text_of_two(alloc, moves)?;
-    let mut archive = with_two_files(alloc, moves.wrapping_add(28))?;
-    Ok(text.len() == size && serves_text(&mut archive, &text)?)
+    let mut archive = Archive::new(alloc);
+    let is_taken = takes_two_files(alloc, &mut archive, moves.wrapping_add(28))?;
+    Ok(is_taken && text.len() == size && serves_text(&mut archive, &text)?)
 }
 
 // Two files whose collection is long, and is sent: 4,200,048 bytes, in 8,204 blocks.

@@ -13,6 +13,8 @@ mod drawing;
 #[cfg(test)]
 mod keeping;
 #[cfg(test)]
+mod listed;
+#[cfg(test)]
 mod plain;
 #[cfg(test)]
 mod plain_file;
