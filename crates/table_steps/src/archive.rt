@@ -12,8 +12,7 @@ pub(crate) const REQUEST: u16 = 6969;
 #[derive(Drop)]
 pub(crate) struct Archive {
     table: Table,
-    // `None` where both together would take too much memory.
-    listed: Option<Listed>,
+    listed: Listed,
 }
 
 impl Model for Archive {
@@ -39,15 +38,7 @@ impl Archive {
     pub(crate) fn new(alloc: Global) -> Self {
         Archive {
             table: Table::new(alloc, REQUEST),
-            listed: Some(Listed::new(alloc)),
-        }
-    }
-
-    // One without the table over lists.
-    pub(crate) fn alone(alloc: Global) -> Self {
-        Archive {
-            table: Table::new(alloc, REQUEST),
-            listed: None,
+            listed: Listed::new(alloc),
         }
     }
 
@@ -55,10 +46,7 @@ impl Archive {
     pub(crate) fn load<K: Keeper>(alloc: Global, keeper: &mut K) -> Result<Self, LoadFault> {
         let table = Table::load(alloc, REQUEST, keeper)?;
         match Listed::with_collections(alloc, &table) {
-            Ok(listed) => Ok(Archive {
-                table,
-                listed: Some(listed),
-            }),
+            Ok(listed) => Ok(Archive { table, listed }),
             Err(_) => Err(LoadFault::Memory),
         }
     }
@@ -70,10 +58,7 @@ impl Archive {
             return Err(Fail::new("a spare port that is not free"));
         }
         let step = self.table.on_request(spare, from, bytes);
-        let differs = match &mut self.listed {
-            Some(listed) => listed.ask(spare, from, bytes, &self.table, &step)?,
-            None => None,
-        };
+        let differs = self.listed.ask(spare, from, bytes, &self.table, &step)?;
         agreed(step, differs)
     }
 
@@ -87,10 +72,7 @@ impl Archive {
         bytes: &[u8],
     ) -> Result<Step, Fail> {
         let step = self.table.on_datagram(keeper, port, from, bytes);
-        let differs = match &mut self.listed {
-            Some(listed) => listed.hear(port, from, bytes, &self.table, &step)?,
-            None => None,
-        };
+        let differs = self.listed.hear(port, from, bytes, &self.table, &step)?;
         agreed(step, differs)
     }
 
@@ -98,10 +80,7 @@ impl Archive {
     #[tactic(auto, using(archive_table::proofs::SamePort::timeout_same))]
     pub(crate) fn wait(&mut self, port: u16) -> Result<Step, Fail> {
         let step = self.table.on_timeout(port);
-        let differs = match &mut self.listed {
-            Some(listed) => listed.wait(port, &self.table, &step)?,
-            None => None,
-        };
+        let differs = self.listed.wait(port, &self.table, &step)?;
         agreed(step, differs)
     }
 

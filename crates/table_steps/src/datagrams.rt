@@ -272,7 +272,7 @@ fn sends_the_other(alloc: Global) -> Result<bool, Fail> {
             Told::Opens(4003, 9, empty),
         ),
     ];
-    let mut archive = Archive::alone(alloc);
+    let mut archive = Archive::new(alloc);
     let is_taken = takes_two_files(alloc, &mut archive, 17_000_028)?;
     let size = archive.table().collection(Ruleset::Lynx).text_len();
     let other = first_other(alloc, &mut archive, &mut NoKeeper, &rows)?;
