@@ -1,7 +1,7 @@
 //! The table of a server, over lists.
 
 ghost use Rattle.std.specs.Prelude.{◌≡◌, ◌≢◌, [], None, true, false, IfOk, is_some};
-ghost use Rattle.archive_table.specs.Server.{refuses, opens_if, closes, sends_from, request_verdict, server_request, server_timeout, transfer_at, has_place, read_asked, read_placed, write_asked, map_of, port_above, nothing_told, IsEnd, IsServer};
+ghost use Rattle.archive_table.specs.Server.{refuses, opens_if, closes, sends_from, request_verdict, server_request, server_timeout, transfer_at, has_place, read_asked, write_asked, map_of, port_above, nothing_told, IsEnd, IsServer};
 ghost use Rattle.tftp_packet.specs.Packet.{is_octet as octet_mode};
 ghost use Rattle.tws_best.specs.Best.{collection_text};
 ghost use Rattle.list_table.specs.View.{end_of};
@@ -20,7 +20,7 @@ use tftp_packet::{Dgram, Endpoint, Out, Owned, Packet, Refusal, decode, encode_a
 use tws_best::Collection;
 use tws_file::Ruleset;
 
-/// The state of a server: the collection of each ruleset, and the transfers in a list.
+/// The state of a server, as `archive_table::Table` has it, with its transfers in a list.
 #[derive(Drop)]
 pub struct ListTable<A: Allocator + Copy = Global> {
     alloc: A,
@@ -143,20 +143,9 @@ impl<A: Allocator + Copy> ListTable<A> {
         if !is_octet(mode) {
             return self.refuse(from, Refusal::OctetOnly);
         }
-        match Ruleset::from_file_name(name) {
-            Some(kind) => self.on_named(spare, from, kind),
-            None => self.refuse(from, Refusal::NoSuchFile),
-        }
-    }
-
-    // Handles a request to read the collection of a ruleset.
-    fn on_named(&mut self, spare: u16, from: Endpoint, kind: Ruleset) -> Step<A>
-        requires other { spare ≢ self.old.request }
-        requires free { transfer_at spare self.old ≡ None }
-        ensures server { self.new ≡ (read_placed (has_place self.old) (request_verdict result.opened) spare from (map_of kind self.old.maps) self.old).server }
-        ensures told { result ≡ (read_placed (has_place self.old) (request_verdict result.opened) spare from (map_of kind self.old.maps) self.old).told }
-        ensures fits { IsServer self.new }
-    {
+        let Some(kind) = Ruleset::from_file_name(name) else {
+            return self.refuse(from, Refusal::NoSuchFile);
+        };
         if !self.has_place() {
             return self.refuse(from, Refusal::ServerBusy);
         }
@@ -182,6 +171,8 @@ impl<A: Allocator + Copy> ListTable<A> {
     }
 
     /// Handles a datagram of these bytes, received from `from` at the request port, as `archive_table::Table` does.
+    /// `spare` is the port for a transfer that is opened: neither the request port nor a live one. A request that is
+    /// refused changes nothing. RFC 1350 sections 2 and 5.
     #[tactic(auto, using(archive_table::proofs::SamePort::request_same))]
     pub fn on_request(&mut self, spare: u16, from: Endpoint, bytes: &[u8]) -> Step<A>
         requires other { spare ≢ self.old.request }
@@ -205,7 +196,7 @@ impl<A: Allocator + Copy> ListTable<A> {
         self.live.len() < LIVE
     }
 
-    // Handles a datagram that has no effect.
+    // Makes an empty step. The field is read because only then is the invariant known here.
     fn ignore(&self) -> Step<A>
         ensures told { result ≡ nothing_told }
         ensures fits { IsServer self.now }
@@ -231,7 +222,8 @@ impl<A: Allocator + Copy> ListTable<A> {
         step
     }
 
-    /// Handles a time-out at a port, as `archive_table::Table` does.
+    /// Handles a time-out at a port, as `archive_table::Table` does: what its transfer sent last is sent again, or the
+    /// transfer is closed. At a port that is not live the step is empty. RFC 1350 sections 2 and 6.
     #[tactic(auto, using(archive_table::proofs::Live::remove_set, archive_table::proofs::Live::set_same, archive_table::proofs::SamePort::timeout_same))]
     pub fn on_timeout(&mut self, port: u16) -> Step<A>
         ensures server { self.new ≡ (server_timeout port self.old).server }

@@ -140,7 +140,9 @@ impl<A: Allocator + Copy> ListTable<A> {
         }
     }
 
-    /// Handles a datagram of these bytes, received from `from` at a transfer's port, as `archive_table::Table` does.
+    /// Handles a datagram of these bytes, received from `from` at a transfer's port, as `archive_table::Table` does: a
+    /// file that is taken joins the collection of its ruleset, which is kept first if that changed it. If memory or the
+    /// keep is refused the transfer is closed with an ERROR, and no collection changes. RFC 1350 sections 4 to 6.
     #[tactic(auto, using(archive_table::proofs::SamePort::datagram_same, archive_table::proofs::Decoded::packet_come, archive_table::proofs::Decoded::nothing_come))]
     pub fn on_datagram<K: Keeper>(
         &mut self,
