@@ -5,7 +5,8 @@ use Rattle.tftp_packet.specs.declared.endpoint.Endpoint.{Endpoint}
 use Rattle.tftp_packet.specs.declared.packet_fault.PacketFault.{PacketFault}
 use Rattle.tftp_packet.specs.Packet.{Packet}
 use Rattle.tftp_packet.specs.Decode.{decode_bytes}
-use Rattle.archive_table.specs.Server.{Grant, Maps, Server, Transfer, stays, transfer_at, transfer_heard, heard_decoded, packet_live, datagram_at, server_datagram}
+use Rattle.archive_table.specs.Server.{Grant, Maps, Server, Transfer, stays, transfer_at, transfer_heard, heard_decoded, datagram_at, server_datagram}
+use Rattle.archive_table.specs.Steps.{packet_live}
 
 module _ (grant : Grant) (maps : Maps) (port : ℕ) (from : Endpoint) (bytes : List ℕ) (s : Server) where
   come_at : (t : Option Transfer) (packet : Packet) → Ok packet ≡ decode_bytes bytes → packet_live t grant maps port from packet s ≡ datagram_at t grant maps port from bytes s

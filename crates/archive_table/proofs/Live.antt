@@ -5,7 +5,8 @@ use Rattle.std.specs.Map.{lookup, remove_entry, set_value}
 use Rattle.tftp_packet.specs.declared.endpoint.Endpoint.{Endpoint}
 use Rattle.tftp_packet.specs.declared.refusal.Refusal.TheVariants.{OutOfMemory, NotKept}
 use Rattle.tftp_ends.specs.Ends.{Receiver}
-use Rattle.archive_table.specs.Server.{Grant, all, no_memory, unkept, Maps, Server, Transfer, Answer, receiving, at_port, with_live, file_done, file_come, sends_from, refusal_dgram}
+use Rattle.archive_table.specs.Server.{Grant, all, no_memory, unkept, Maps, Server, Transfer, Answer, receiving, at_port, with_live, file_come, sends_from, refusal_dgram}
+use Rattle.archive_table.specs.Steps.{file_done}
 use Rattle.std.proofs.lemmas.Bool.{cases_Bool, true≢false}
 
 pub if_true : {A : Type 0} {b : Bool} (x y : A) → b ≡ true → cond b x y ≡ x

@@ -1,5 +1,6 @@
 pub mod Published
 pub mod Server
+pub mod Steps
 pub mod Keeper
 pub mod Incoming
 pub mod Keys

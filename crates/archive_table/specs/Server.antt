@@ -314,11 +314,6 @@ transfer_heard (refusal code) grant maps port from t s = closes port t.peer None
 transfer_heard (acked n) grant maps port from t s = ack_at t.end port t.peer n s
 transfer_heard (block n body) grant maps port from t s = data_at t.end grant maps port t.peer n body s
 
--- the same for a packet at a port, if that is live
-abbrev pub packet_live : Option Transfer → Grant → (maps : Maps) → (port : ℕ) → (from : Endpoint) → Packet → Server → Answer
-packet_live (Some t) grant maps port from packet s = transfer_heard (heard_packet (is_same from t.peer) packet) grant maps port from t s
-packet_live None grant maps port from packet s = stays s
-
 -- a port that is not live: nothing happens
 abbrev pub datagram_at : Option Transfer → Grant → (maps : Maps) → (port : ℕ) → (from : Endpoint) → (bytes : List ℕ) → Server → Answer
 datagram_at (Some t) grant maps port from bytes s = transfer_heard (heard t.peer from bytes) grant maps port from t s
@@ -362,23 +357,9 @@ grant_by false false = all
 abbrev pub dgram_grant : List ℕ → Grant
 dgram_grant dgram = grant_by (bytes_eq dgram (refusal_dgram OutOfMemory)) (bytes_eq dgram (refusal_dgram NotKept))
 
-abbrev pub reply_grant : Option (List ℕ) → Grant
-reply_grant None = all
-reply_grant (Some dgram) = dgram_grant dgram
-
 abbrev pub grant_of : Option Out → Grant
 grant_of None = all
 grant_of (Some out) = dgram_grant out.dgram
-
--- the whole file was received, and its receiver is already at the port, where it waits
-abbrev pub file_done : Grant → (maps : Maps) → (port : ℕ) → (peer : Endpoint) → (file : List ℕ) → Option (List ℕ) → Server → Answer
-file_done all maps port peer file out s =
-    record {
-      server = record { request = s.request; maps = maps; live = s.live };
-      told = record { out = sends_from port peer out; opened = false; taken = Some (record { peer = peer; file = file }); closed = false };
-    }
-file_done no_memory maps port peer file out s = closes port peer (Some (refusal_dgram OutOfMemory)) s
-file_done unkept maps port peer file out s = closes port peer (Some (refusal_dgram NotKept)) s
 
 -- ---- what a file does to the collections
 

@@ -85,7 +85,7 @@ impl<A: Allocator + Copy> Keys<A> {
         self.map.get(&port).copied()
     }
 
-    /// Adds a port that is not live, with its key. Out of memory, nothing changes.
+    /// Adds a port that is not live, with its key. On error nothing changes.
     pub(crate) fn insert(&mut self, port: u16, key: usize) -> Result<(), AllocError>
         requires free { lookup (at_port port) self.old ≡ None }
         ensures inserted { OnOk result (self.new ≡ insert_entry nat_cmp self.old port key) }

@@ -4,7 +4,8 @@ ghost use Rattle.std.specs.Prelude.{◌≡◌, ◌≢◌, ◌≤◌, ℕ, List, 
 ghost use Rattle.std.specs.Map.{remove_entry};
 ghost use Rattle.tftp_packet.specs.Packet.{ack, data_block, error, read, write};
 ghost use Rattle.tws_file.specs.Reader.{IsAnswer};
-ghost use Rattle.archive_table.specs.Server.{nothing_told, transfer_at, IsServer, closes, packet_live, file_done, server_datagram, grant_of, reply_grant, all, unkept, at_port, with_live, Merges, refusal_dgram};
+ghost use Rattle.archive_table.specs.Server.{nothing_told, transfer_at, IsServer, closes, server_datagram, grant_of, all, unkept, at_port, with_live, Merges, refusal_dgram};
+ghost use Rattle.archive_table.specs.Steps.{packet_live, file_done, reply_grant};
 ghost use Rattle.archive_table.specs.Keeper.{StepKeeps};
 
 use crate::end::End;

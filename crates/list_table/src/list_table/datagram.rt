@@ -5,7 +5,8 @@ ghost use Rattle.tftp_packet.specs.Packet.{HasFields};
 ghost use Rattle.tftp_packet.specs.View.{packet_of};
 ghost use Rattle.tftp_packet.specs.Refusal.{refusal_packet};
 ghost use Rattle.tftp_packet.specs.declared.refusal.Refusal.TheVariants.{UnknownTransfer};
-ghost use Rattle.archive_table.specs.Server.{transfer_at, IsServer, packet_live, file_done, server_datagram, grant_of, out_from, reply_grant, all, unkept, Merges};
+ghost use Rattle.archive_table.specs.Server.{transfer_at, IsServer, server_datagram, grant_of, out_from, all, unkept, Merges};
+ghost use Rattle.archive_table.specs.Steps.{packet_live, file_done, reply_grant};
 ghost use Rattle.archive_table.specs.Keeper.{StepKeeps};
 ghost use Rattle.list_table.specs.View.{ack_live, data_live};
 
