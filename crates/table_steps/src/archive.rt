@@ -45,10 +45,8 @@ impl Archive {
     // An archive with what the keeper has.
     pub(crate) fn load<K: Keeper>(alloc: Global, keeper: &mut K) -> Result<Self, LoadFault> {
         let table = Table::load(alloc, REQUEST, keeper)?;
-        match Listed::with_collections(alloc, &table) {
-            Ok(listed) => Ok(Archive { table, listed }),
-            Err(_) => Err(LoadFault::Memory),
-        }
+        let listed = Listed::with_collections(alloc, &table)?;
+        Ok(Archive { table, listed })
     }
 
     // Handles a datagram at the request port. The spare port must be free.

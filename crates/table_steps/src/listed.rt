@@ -1,14 +1,17 @@
 // The table over lists, which gets each input of the table: both must make the same step, and be left with the same
 // ports and collections.
 use crate::archive::{REQUEST, Wanted, is_step};
-use archive_table::{LIVE, MemoryKeeper, Step, Table};
+use archive_table::{LIVE, LoadFault, MemoryKeeper, Step, Table};
 use list_table::ListTable;
-use std::alloc::{AllocError, Global};
+use std::alloc::Global;
 use std::marker::Model;
 use std::test::Fail;
 use tftp_packet::Endpoint;
 use tws_best::Collection;
 use tws_file::Ruleset;
+
+// Of texts that are longer than this only the lengths are compared, since two of them would take much memory.
+const LONGEST: u128 = 20_000_000;
 
 #[derive(Drop)]
 pub(crate) struct Listed {
@@ -69,9 +72,6 @@ fn has_same_ports(table: &Table, listed: &ListTable) -> bool {
     table.is_live(0) == listed.is_live(0)
 }
 
-// Of texts that are longer than this only the lengths are compared, since two of them would take much memory.
-const LONGEST: u128 = 20_000_000;
-
 fn is_same_text(alloc: Global, one: &Collection, other: &Collection) -> Result<bool, Fail> {
     if one.text_len() != other.text_len() || one.text_len() > LONGEST {
         return Ok(one.text_len() == other.text_len());
@@ -124,15 +124,19 @@ impl Listed {
     }
 
     // One with the collections of a table that has no transfer.
-    pub(crate) fn with_collections(alloc: Global, table: &Table) -> Result<Self, AllocError> {
-        let lynx = table.collection(Ruleset::Lynx).copy()?;
-        let ms = table.collection(Ruleset::Ms).copy()?;
+    pub(crate) fn with_collections(alloc: Global, table: &Table) -> Result<Self, LoadFault> {
+        let Ok(lynx) = table.collection(Ruleset::Lynx).copy() else {
+            return Err(LoadFault::Memory);
+        };
+        let Ok(ms) = table.collection(Ruleset::Ms).copy() else {
+            return Err(LoadFault::Memory);
+        };
         match (lynx.ruleset(), ms.ruleset()) {
             (Ruleset::Lynx, Ruleset::Ms) => Ok(Listed {
                 alloc,
                 table: ListTable::of(alloc, REQUEST, lynx, ms),
             }),
-            _ => Err(AllocError),
+            _ => Err(LoadFault::WrongRuleset),
         }
     }
 

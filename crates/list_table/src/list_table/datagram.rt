@@ -18,8 +18,8 @@ use std::alloc::Allocator;
 use tftp_ends::{Received, SendState};
 use tftp_packet::{Dgram, Endpoint, Packet, Refusal, decode};
 
-// What a packet other than an ERROR gets that arrived at a port from an endpoint other than the peer of its transfer, RFC
-// 1350 section 4.
+// The reply to a packet, other than an ERROR, that arrived at a port from an endpoint other than the peer of its transfer,
+// RFC 1350 section 4.
 #[tactic(auto, using(archive_table::proofs::Merged::stray_grant))]
 fn stranger<A: Allocator>(port: u16, from: Endpoint) -> Step<A>
     ensures told { result ≡ record { out = Some (out_from port from (refusal_packet UnknownTransfer)); opened = false; taken = None; closed = false } }
