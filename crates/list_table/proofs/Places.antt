@@ -4,32 +4,24 @@ use Rattle.std.proofs.Common.{refl, sym, ap, ◌∙◌, inl, inr}
 use native.Mathlib.Omega.{arith}
 use Rattle.std.specs.List.{position, position_or_len, insert, remove, slice_get}
 use Rattle.std.specs.Option.{option_map, unwrap_or}
-use Rattle.std.specs.Ordering.{is_eq, is_lt, nat_cmp, match_ordering}
+use Rattle.std.specs.Ordering.{is_eq, is_lt, nat_cmp, match_ordering, MatchOrdering}
+use Rattle.std.specs.declared.cmp.Ordering.{Ordering}
 use Rattle.std.specs.declared.cmp.Ordering.TheVariants.{Less, Equal, Greater}
-use Rattle.std.specs.Cmp.{nat_cmp_is}
+use Rattle.std.specs.Cmp.{ranks, unsigned_tied}
 use Rattle.std.specs.Map.{lookup, remove_entry, set_value}
 use Rattle.std.specs.BTreeMap.{insert_entry}
 use Rattle.std.specs.BTreeMap.Range.{entries_between}
 use Rattle.std.specs.declared.ops.Bound.TheVariants.{Excluded, Unbounded}
-use Rattle.std.proofs.lemmas.Bool.{cases_Bool, lt-ltb, ltb-false, ltb-true, eq-eqb, ne_eqb}
+use Rattle.std.proofs.lemmas.Bool.{cases_Bool, lt-ltb, ltb-false, ltb-true}
+use Rattle.std.proofs.lemmas.Option.{slice_get-get_or, slice_get_past}
 use Rattle.std.proofs.lemmas.List.Quantifiers.{position-Some}
-use Rattle.std.proofs.lemmas.List.Sums.{fails_before_first}
+use Rattle.std.proofs.lemmas.List.Sums.{fails_before_first, prefix_len-le-length}
 use Rattle.archive_table.specs.Server.{at_port, first_port}
 use Rattle.archive_table.proofs.Live.{if_true, if_false, some_none, remove_none}
 
 -- what is written through a reference, if that is the same for each value
 pub lends_same : {N X Y Z : Type 0} {n : N} {f g : X → Y} → ((w : X) → f w ≡ g w) → ◌≡◌ {A = (N × (X → Y)) ⊎ Z} (inl (n, f)) (inl (n, g))
 lends_same {n = n} h = λ i. inl (n, λ w. h w i)
-
--- less, equal or greater
-by_order : {P : Type 0} (a b : ℕ) → (a < b → P) → (a ≡ b → P) → (b < a → P) → P
-by_order a b less same more = elim (cases_Bool (nat_lt a b)) [
-  | inl y ↦ less (ltb-true a b y)
-  | inr n ↦ elim (cases_Bool (nat_lt b a)) [
-    | inl y ↦ more (ltb-true b a y)
-    | inr m ↦ same (omega (arith, ltb-false a b n, ltb-false b a m))
-  ]
-]
 
 -- ---- what a search finds
 
@@ -40,14 +32,6 @@ small_place test (x ∷ xs) i e = (position-Some test (x ∷ xs) i x e).0
 abbrev number_of : Option ℕ → ℕ
 number_of None = 0
 number_of (Some n) = n
-
-pub place_or_len : {X : Type 0} (test : X → Bool) (xs : List X) → position_or_len test xs ≤ length xs
-place_or_len test [] = omega arith
-place_or_len test (x ∷ xs) = by (not (test x)) (place_or_len test xs)
-  where
-    by : (b : Bool) → position_or_len test xs ≤ length xs → cond b (1 + position_or_len test xs) 0 ≤ length (x ∷ xs)
-    by true h = omega (arith, h)
-    by false h = omega arith
 
 some_place : {X : Type 0} (test : X → Bool) (xs : List X) (i : ℕ) → position test xs ≡ Some i → position_or_len test xs ≡ i
 some_place test xs i e = by (nat_lt (position_or_len test xs) (length xs)) refl
@@ -67,13 +51,10 @@ none_place test xs e = by (nat_lt (position_or_len test xs) (length xs)) refl
 
 -- whether an entry is at a port, by its number
 abbrev pub has_port : {T : Type 0} → (port : ℕ) → ℕ × T → Bool
-has_port port e = e.0 == port
+has_port port e = port == e.0
 
-same_test : (port k : ℕ) → (k == port) ≡ at_port port k
-same_test port k = by_order port k
-    (λ less. ne_eqb k port (λ e. omega (arith, less, e)) ∙ ap is_eq (nat_cmp_is port k Less less))
-    (λ same. eq-eqb k port (sym same) ∙ ap is_eq (nat_cmp_is port k Equal same))
-    (λ more. ne_eqb k port (λ e. omega (arith, more, e)) ∙ ap is_eq (nat_cmp_is port k Greater more))
+same_test : (port k : ℕ) → (port == k) ≡ at_port port k
+same_test port k = sym (unsigned_tied port k)
 
 module _ {T : Type 0} (port : ℕ) where
   -- what is at the place of a port, and what becomes of the map there
@@ -138,24 +119,16 @@ not_lt a b never = elim (cases_Bool (nat_lt a b)) [
 ]
 
 above_test : (port k : ℕ) → (is_lt (nat_cmp port k) && true) ≡ nat_lt port k
-above_test port k = by_order port k
-    (λ less. ap (λ r. is_lt r && true) (sym (nat_cmp_is port k Less less)) ∙ sym (lt-ltb port k less))
-    (λ same. ap (λ r. is_lt r && true) (sym (nat_cmp_is port k Equal same)) ∙ sym (not_lt port k (λ less. omega (arith, same, less))))
-    (λ more. ap (λ r. is_lt r && true) (sym (nat_cmp_is port k Greater more)) ∙ sym (not_lt port k (λ less. omega (arith, more, less))))
+above_test port k = by (nat_cmp port k) (ranks port k)
+  where
+    by : (r : Ordering) → MatchOrdering r (port < k) (port ≡ k) (k < port) → (is_lt r && true) ≡ nat_lt port k
+    by Less less = sym (lt-ltb port k less)
+    by Equal same = sym (not_lt port k (λ less. omega (arith, same, less)))
+    by Greater more = sym (not_lt port k (λ less. omega (arith, more, less)))
 
 -- whether an entry is above a port
 abbrev pub is_above : {T : Type 0} → (port : ℕ) → ℕ × T → Bool
 is_above port e = nat_lt port e.0
-
-got : {X : Type 0} (xs : List X) (i : ℕ) (d : X) → i < length xs → slice_get xs i ≡ Some (slice_index_or xs i d)
-got [] i d lt = absurd (omega (arith, lt))
-got (x ∷ xs) zero d lt = refl
-got (x ∷ xs) (suc i) d lt = got xs i d (omega (arith, lt))
-
-past : {X : Type 0} (xs : List X) (i : ℕ) → length xs ≤ i → slice_get xs i ≡ None
-past [] i le = refl
-past (x ∷ xs) zero le = absurd (omega (arith, le))
-past (x ∷ xs) (suc i) le = past xs i (omega (arith, le))
 
 module _ {T : Type 0} (port : ℕ) where
   above_here : (e : ℕ × T) (es : List (ℕ × T)) → nat_lt port e.0 ≡ true → position_or_len (is_above port) (e ∷ es) ≡ 0
@@ -167,12 +140,18 @@ module _ {T : Type 0} (port : ℕ) where
   -- a new port belongs before the first that is above it
   pub inserted : (x : T) (es : List (ℕ × T)) → lookup (at_port port) es ≡ None → insert es (position_or_len (is_above port) es) (port, x) ≡ insert_entry nat_cmp es port x
   inserted x [] free = refl
-  inserted x (e ∷ es) free = by_order port e.0
-      (λ less. ap (λ n. insert (e ∷ es) n (port, x)) (above_here e es (lt-ltb port e.0 less)) ∙ ap (λ r. match_ordering r ((port, x) ∷ e ∷ es) ((e.0, x) ∷ es) (e ∷ insert_entry nat_cmp es port x)) (nat_cmp_is port e.0 Less less))
-      (λ same. some_none (ap (λ r. cond (is_eq r) (Some e.1) (lookup (at_port port) es)) (nat_cmp_is port e.0 Equal same) ∙ free))
-      (λ more. ap (λ n. insert (e ∷ es) n (port, x)) (above_later e es (not_lt port e.0 (λ less. omega (arith, more, less))))
-      ∙ ap (λ (l : List (ℕ × T)). e ∷ l) (inserted x es (ap (λ r. cond (is_eq r) (Some e.1) (lookup (at_port port) es)) (nat_cmp_is port e.0 Greater more) ∙ free))
-      ∙ ap (λ r. match_ordering r ((port, x) ∷ e ∷ es) ((e.0, x) ∷ es) (e ∷ insert_entry nat_cmp es port x)) (nat_cmp_is port e.0 Greater more))
+  inserted x (e ∷ es) free = by (nat_cmp port e.0) (ranks port e.0) free (inserted x es)
+    where
+      by :
+          (r : Ordering) → MatchOrdering r (port < e.0) (port ≡ e.0) (e.0 < port)
+          → cond (is_eq r) (Some e.1) (lookup (at_port port) es) ≡ None
+          → (lookup (at_port port) es ≡ None → insert es (position_or_len (is_above port) es) (port, x) ≡ insert_entry nat_cmp es port x)
+          → insert (e ∷ es) (position_or_len (is_above port) (e ∷ es)) (port, x) ≡ match_ordering r ((port, x) ∷ e ∷ es) ((e.0, x) ∷ es) (e ∷ insert_entry nat_cmp es port x)
+      by Less less none rest = ap (λ n. insert (e ∷ es) n (port, x)) (above_here e es (lt-ltb port e.0 less))
+      by Equal same none rest = some_none none
+      by Greater more none rest =
+          ap (λ n. insert (e ∷ es) n (port, x)) (above_later e es (not_lt port e.0 (λ less. omega (arith, more, less))))
+          ∙ ap (λ (l : List (ℕ × T)). e ∷ l) (rest none)
 
   -- the least port above this one
   first_above : (es : List (ℕ × T)) → option_map (λ e. e.0) (slice_get es (position_or_len (is_above port) es)) ≡ first_port (entries_between nat_cmp (Excluded port) Unbounded es)
@@ -188,12 +167,12 @@ module _ {T : Type 0} (port : ℕ) where
     next_at i x is e =
         let at = sym searched ∙ is in
         ap (λ (y : ℕ × T). Some y.0) e
-        ∙ sym (ap (option_map (λ (y : ℕ × T). y.0)) (got es i x (small_place (is_above port) es i at)))
+        ∙ sym (ap (option_map (λ (y : ℕ × T). y.0)) (slice_get-get_or es i x (small_place (is_above port) es i at)))
         ∙ ap (λ n. option_map (λ (y : ℕ × T). y.0) (slice_get es n)) (sym (some_place (is_above port) es i at))
         ∙ first_above es
 
     pub none_above : place ≡ None → None ≡ first_port (entries_between nat_cmp (Excluded port) Unbounded es)
-    none_above is = sym (ap (option_map (λ (y : ℕ × T). y.0)) (past es (position_or_len (is_above port) es) (none_place (is_above port) es (sym searched ∙ is)))) ∙ first_above es
+    none_above is = sym (ap (option_map (λ (y : ℕ × T). y.0)) (slice_get_past es (position_or_len (is_above port) es) (none_place (is_above port) es (sym searched ∙ is)))) ∙ first_above es
 
     -- where a new port belongs
     pub new_place : unwrap_or place (length es) ≡ position_or_len (is_above port) es
@@ -201,4 +180,4 @@ module _ {T : Type 0} (port : ℕ) where
       where
         by : (p : Option ℕ) → place ≡ p → unwrap_or p (length es) ≡ position_or_len (is_above port) es
         by (Some i) e = sym (some_place (is_above port) es i (sym searched ∙ e))
-        by None e = omega (arith, none_place (is_above port) es (sym searched ∙ e), place_or_len (is_above port) es)
+        by None e = omega (arith, none_place (is_above port) es (sym searched ∙ e), prefix_len-le-length (λ y. not (is_above port y)) es)

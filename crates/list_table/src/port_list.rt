@@ -49,9 +49,9 @@ impl<T: Drop, A: Allocator + Copy> PortList<T, A> {
 
     // Where a port is in the list, if it is live.
     fn place(&self, port: u16) -> Option<usize>
-        ensures { result ≡ position (λ e. e.0 == port) self.now }
+        ensures { result ≡ position (λ e. port == e.0) self.now }
     {
-        self.entries.iter().position(|entry| entry.0 == port)
+        self.entries.iter().position(|entry| port == entry.0)
     }
 
     // Where the first port above `port` is, if there is one.
