@@ -1,8 +1,6 @@
-// A table with request port 6969 beside the table over lists, and what the calls of both must return.
-use crate::listed::Listed;
+// A table with request port 6969, and what its calls must return.
 use archive_table::{Keeper, LoadFault, MemoryKeeper, Step, Table};
 use std::alloc::Global;
-use std::marker::Model;
 use std::test::Fail;
 use tftp_packet::{Endpoint, Out};
 use tws_file::Ruleset;
@@ -12,74 +10,43 @@ pub(crate) const REQUEST: u16 = 6969;
 #[derive(Drop)]
 pub(crate) struct Archive {
     table: Table,
-    listed: Listed,
-}
-
-impl Model for Archive {
-    ghost use Rattle.std.specs.Prelude.{◌≡◌};
-    ghost use Rattle.archive_table.specs.Server.{Server};
-
-    ghost Value = { Server };
-
-    ghost view = { λ a. a.table };
-
-    ghost invariant = { λ a. a.table.request ≡ 6969 };
-}
-
-// A step in which both tables agree.
-fn agreed(step: Step, differs: Option<&'static str>) -> Result<Step, Fail> {
-    match differs {
-        Some(what) => Err(Fail::new(what)),
-        None => Ok(step),
-    }
 }
 
 impl Archive {
     pub(crate) fn new(alloc: Global) -> Self {
         Archive {
             table: Table::new(alloc, REQUEST),
-            listed: Listed::new(alloc),
         }
     }
 
     // An archive with what the keeper has.
     pub(crate) fn load<K: Keeper>(alloc: Global, keeper: &mut K) -> Result<Self, LoadFault> {
         let table = Table::load(alloc, REQUEST, keeper)?;
-        let listed = Listed::with_collections(alloc, &table)?;
-        Ok(Archive { table, listed })
+        Ok(Archive { table })
     }
 
     // Handles a datagram at the request port. The spare port must be free.
-    #[tactic(auto, using(archive_table::proofs::SamePort::request_same))]
     pub(crate) fn ask(&mut self, spare: u16, from: Endpoint, bytes: &[u8]) -> Result<Step, Fail> {
-        if spare == REQUEST || self.table.is_live(spare) {
+        if spare == self.table.request() || self.table.is_live(spare) {
             return Err(Fail::new("a spare port that is not free"));
         }
-        let step = self.table.on_request(spare, from, bytes);
-        let differs = self.listed.ask(spare, from, bytes, &self.table, &step)?;
-        agreed(step, differs)
+        Ok(self.table.on_request(spare, from, bytes))
     }
 
     // Handles a datagram at a transfer's port.
-    #[tactic(auto, using(archive_table::proofs::SamePort::datagram_same))]
     pub(crate) fn hear<K: Keeper>(
         &mut self,
         keeper: &mut K,
         port: u16,
         from: Endpoint,
         bytes: &[u8],
-    ) -> Result<Step, Fail> {
-        let step = self.table.on_datagram(keeper, port, from, bytes);
-        let differs = self.listed.hear(port, from, bytes, &self.table, &step)?;
-        agreed(step, differs)
+    ) -> Step {
+        self.table.on_datagram(keeper, port, from, bytes)
     }
 
     // Handles a time-out at a port.
-    #[tactic(auto, using(archive_table::proofs::SamePort::timeout_same))]
-    pub(crate) fn wait(&mut self, port: u16) -> Result<Step, Fail> {
-        let step = self.table.on_timeout(port);
-        let differs = self.listed.wait(port, &self.table, &step)?;
-        agreed(step, differs)
+    pub(crate) fn wait(&mut self, port: u16) -> Step {
+        self.table.on_timeout(port)
     }
 
     pub(crate) fn table(&self) -> &Table {
@@ -184,8 +151,8 @@ pub(crate) enum Input<'a> {
 fn step<K: Keeper>(archive: &mut Archive, keeper: &mut K, input: Input<'_>) -> Result<Step, Fail> {
     match input {
         Input::Ask(spare, host, bytes) => archive.ask(spare, client(host), bytes),
-        Input::Hear(port, host, bytes) => archive.hear(keeper, port, client(host), bytes),
-        Input::Wait(port) => archive.wait(port),
+        Input::Hear(port, host, bytes) => Ok(archive.hear(keeper, port, client(host), bytes)),
+        Input::Wait(port) => Ok(archive.wait(port)),
     }
 }
 

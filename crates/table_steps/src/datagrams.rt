@@ -150,7 +150,7 @@ fn takes_sevens(alloc: Global, archive: &mut Archive, number: u16) -> Result<boo
     let [high, low] = number.to_be_bytes();
     let mut data = [7; 516];
     data[..4].copy_from_slice(&[0, 3, high, low]);
-    let step = archive.hear(&mut NoKeeper, 4000, client(2), &data)?;
+    let step = archive.hear(&mut NoKeeper, 4000, client(2), &data);
     has_told(alloc, &step, Told::Sends(4000, 2, &[0, 4, high, low]))
 }
 
@@ -240,7 +240,7 @@ fn long_file(
     for n in 0..whole_blocks {
         let [high, low] = n.wrapping_add(1).to_be_bytes();
         data[2..4].copy_from_slice(&[high, low]);
-        let step = archive.hear(&mut NoKeeper, port, host, &data)?;
+        let step = archive.hear(&mut NoKeeper, port, host, &data);
         let told = Told::Sends(port, u32::from(level), &[0, 4, high, low]);
         if !has_told(alloc, &step, told)? {
             return Ok(false);
@@ -250,7 +250,7 @@ fn long_file(
     }
     data[2..4].copy_from_slice(&whole_blocks.wrapping_add(1).to_be_bytes());
     let rest = (size % 512) as usize;
-    let step = archive.hear(&mut NoKeeper, port, host, &data[..4 + rest])?;
+    let step = archive.hear(&mut NoKeeper, port, host, &data[..4 + rest]);
     match step.taken {
         Some(taken) => Ok(taken.file.len() == u64::from(size)),
         None => Ok(false),
@@ -310,7 +310,7 @@ fn is_served(archive: &mut Archive, port: u16, first: Step, text: &[u8]) -> Resu
             return Ok(false);
         }
         let ack = [0, 4, number[0], number[1]];
-        step = archive.hear(&mut NoKeeper, port, client(9), &ack)?;
+        step = archive.hear(&mut NoKeeper, port, client(9), &ack);
     }
     Ok(step.closed && step.out.is_none())
 }

@@ -1,7 +1,7 @@
 //! Tests only: the steps of the server's table, by hand and drawn. RFC 1350 sections 2, 4 and 5.
 //!
-//! The expected result of a step by hand is written out as bytes. Each step is compared with that of the table over lists,
-//! and drawn steps also with a plain server that has no contract.
+//! The expected result of a step by hand is written out as bytes. Drawn steps are compared with those of a plain server
+//! that has no contract.
 #![tactic(auto)]
 
 #[cfg(test)]
@@ -12,8 +12,6 @@ mod datagrams;
 mod drawing;
 #[cfg(test)]
 mod keeping;
-#[cfg(test)]
-mod listed;
 #[cfg(test)]
 mod plain;
 #[cfg(test)]
