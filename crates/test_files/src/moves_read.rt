@@ -275,7 +275,7 @@ impl Figures {
     }
 }
 
-// The expected figures are those of tests/moves.py, which reads moves from a table of field widths.
+// The expected figures are those of system_tests/moves.py, which reads moves from a table of field widths.
 #[test]
 fn all_of_two_bytes(rt: HostRuntime) -> Result<(), Fail> {
     let mut figures = Figures {

@@ -97,10 +97,10 @@ gets() {
     check "get $1, the file" cmp "$work/got" "$2"
 }
 
-# answers NAME LINES DATAGRAM..: what the server answers to these datagrams, as `tests/datagrams.py` prints it.
+# answers NAME LINES DATAGRAM..: what the server answers to these datagrams, as `system_tests/datagrams.py` prints it.
 answers() {
     local name=$1 want=$2
     shift 2
-    python3 tests/datagrams.py "$port" "$@" >"$work/answers" 2>&1
+    python3 system_tests/datagrams.py "$port" "$@" >"$work/answers" 2>&1
     check "$name: $(cat "$work/answers")" cmp "$work/answers" <(printf '%s\n' "$want")
 }
