@@ -2,22 +2,12 @@
 use archive_client::{Cause, Get, Put, State, TooLong};
 use std::alloc::Global;
 use std::test::Fail;
+use test_samples::{
+    ACK_0, ACK_1, ACK_2, DATA_HUNDRED, FILE_TOO_LONG, HUNDRED, RRQ_LYNX, SERVER, UNKNOWN_TRANSFER,
+    WRQ, at, whole_block,
+};
 use tftp_packet::{Endpoint, Out};
 use tws_file::Ruleset;
-
-const SERVER: Endpoint = Endpoint {
-    host: 1,
-    port: 6969,
-};
-
-const WRQ: &[u8; 19] = b"\0\x02upload.tws\0octet\0";
-
-// A Lynx file: level 1, BDHP, 100 ticks, no moves.
-const FILE: &[u8; 28] = b"\x35\x33\x9B\x99\x01\0\0\0\x10\0\0\0\x01\0BDHP\0\0\0\0\0\0\x64\0\0\0";
-
-fn at(port: u16) -> Endpoint {
-    Endpoint { host: 1, port }
-}
 
 fn goes(out: &Option<Out>, port: u16, bytes: &[u8]) -> bool {
     match out {
@@ -37,14 +27,12 @@ fn a_put_of_one_whole_block(rt: HostRuntime) -> Result<(), Fail> {
         return Err(Fail::new("too long"));
     };
     assert!(rt; goes(&Some(request), 6969, WRQ));
-    let mut first = [7; 516];
-    first[..4].copy_from_slice(b"\0\x03\0\x01");
-    let out = put.on_datagram(at(4000), b"\0\x04\0\0");
-    assert!(rt; goes(&out, 4000, &first));
-    let out = put.on_datagram(at(4000), b"\0\x04\0\x01");
+    let out = put.on_datagram(at(4000), ACK_0);
+    assert!(rt; goes(&out, 4000, &whole_block(1, 7)));
+    let out = put.on_datagram(at(4000), ACK_1);
     assert!(rt; goes(&out, 4000, b"\0\x03\0\x02"));
     assert_eq!(rt; put.state(), State::Running);
-    assert!(rt; put.on_datagram(at(4000), b"\0\x04\0\x02").is_none());
+    assert!(rt; put.on_datagram(at(4000), ACK_2).is_none());
     assert_eq!(rt; (put.state(), put.over()), (State::Sent, true));
     Ok(())
 }
@@ -52,18 +40,15 @@ fn a_put_of_one_whole_block(rt: HostRuntime) -> Result<(), Fail> {
 // Two copies of the request opened two transfers: the client stays with the port that it bound to.
 #[test]
 fn a_put_that_two_ports_answer(rt: HostRuntime) -> Result<(), Fail> {
-    let file = Vec::from_slice(rt.alloc(), FILE)?;
+    let file = Vec::from_slice(rt.alloc(), HUNDRED)?;
     let Ok((mut put, _)) = Put::start(5000, SERVER, file) else {
         return Err(Fail::new("too long"));
     };
-    let mut first = [0; 32];
-    first[..4].copy_from_slice(b"\0\x03\0\x01");
-    first[4..].copy_from_slice(FILE);
-    let out = put.on_datagram(at(4000), b"\0\x04\0\0");
-    assert!(rt; goes(&out, 4000, &first));
-    let out = put.on_datagram(at(4001), b"\0\x04\0\0");
-    assert!(rt; goes(&out, 4001, b"\0\x05\0\x05unknown transfer\0"));
-    assert!(rt; put.on_datagram(at(4000), b"\0\x04\0\x01").is_none());
+    let out = put.on_datagram(at(4000), ACK_0);
+    assert!(rt; goes(&out, 4000, DATA_HUNDRED));
+    let out = put.on_datagram(at(4001), ACK_0);
+    assert!(rt; goes(&out, 4001, UNKNOWN_TRANSFER));
+    assert!(rt; put.on_datagram(at(4000), ACK_1).is_none());
     assert_eq!(rt; put.state(), State::Sent);
     Ok(())
 }
@@ -140,26 +125,25 @@ fn hands_out(alloc: Global, get: Get, bytes: &[u8]) -> Result<bool, Fail> {
 #[test]
 fn a_get(rt: HostRuntime) -> Result<(), Fail> {
     let (get, request) = Get::start(rt.alloc(), 5000, SERVER, Ruleset::Lynx);
-    assert!(rt; goes(&Some(request), 6969, b"\0\x01lynx.tws\0octet\0"));
+    assert!(rt; goes(&Some(request), 6969, RRQ_LYNX));
     let mut get = asked_too_early(get)?;
     assert_eq!(rt; get.state(), State::Running);
-    let mut first = [0; 32];
-    first[..4].copy_from_slice(b"\0\x03\0\x01");
-    first[4..].copy_from_slice(FILE);
-    assert!(rt; goes(&get.on_datagram(at(4001), &first), 4001, b"\0\x04\0\x01"));
+    assert!(rt; goes(&get.on_datagram(at(4001), DATA_HUNDRED), 4001, ACK_1));
     assert_eq!(rt; (get.state(), get.over()), (State::Got, false));
     assert!(rt; get.on_datagram(at(4001), b"\0\x05\0\0\0").is_none());
-    assert!(rt; hands_out(rt.alloc(), get, FILE)?);
+    assert!(rt; hands_out(rt.alloc(), get, HUNDRED)?);
     Ok(())
 }
 
 // Whether each of 65,534 whole blocks of sevens is acknowledged.
 fn takes_whole_blocks(get: &mut Get) -> bool {
-    let mut data = [7; 516];
     for n in 1..65535_u16 {
         let [high, low] = n.to_be_bytes();
-        data[..4].copy_from_slice(&[0, 3, high, low]);
-        if !goes(&get.on_datagram(at(4001), &data), 4001, &[0, 4, high, low]) {
+        if !goes(
+            &get.on_datagram(at(4001), &whole_block(n, 7)),
+            4001,
+            &[0, 4, high, low],
+        ) {
             return false;
         }
     }
@@ -168,14 +152,9 @@ fn takes_whole_blocks(get: &mut Get) -> bool {
 
 // The block after those is the last one that has a number. Whether a whole one is refused, and the client fails.
 fn refuses_a_block(get: &mut Get) -> bool {
-    let mut data = [7; 516];
-    data[..4].copy_from_slice(b"\0\x03\xFF\xFF");
+    let data = whole_block(65535, 7);
     takes_whole_blocks(get)
-        && goes(
-            &get.on_datagram(at(4001), &data),
-            4001,
-            b"\0\x05\0\x03file too long\0",
-        )
+        && goes(&get.on_datagram(at(4001), &data), 4001, FILE_TOO_LONG)
         && get.on_datagram(at(4001), &data).is_none()
         && get.on_timeout().is_none()
 }

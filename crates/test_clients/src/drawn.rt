@@ -3,32 +3,11 @@
 use archive_client::{Cause, Get, Put, State};
 use std::alloc::Global;
 use std::test::Fail;
+use test_samples::{Draws, RRQ_MS, SERVER, UNKNOWN_TRANSFER, WRQ, at};
 use tftp_packet::{Endpoint, Out};
 use tws_file::Ruleset;
 
-const SERVER: Endpoint = Endpoint {
-    host: 1,
-    port: 6969,
-};
-
 const SIZES: [usize; 5] = [0, 1, 512, 700, 1024];
-
-// Pseudo-random numbers from a linear congruential generator with a fixed seed.
-#[derive(Drop)]
-struct Draws(u64);
-
-impl Draws {
-    fn below(&mut self, n: u16) -> u16 {
-        self.0 = self
-            .0
-            .wrapping_mul(6364136223846793005)
-            .wrapping_add(1442695040888963407);
-        match (self.0 >> 33).checked_rem(u64::from(n)) {
-            Some(drawn) => (drawn % 65536) as u16,
-            None => 0,
-        }
-    }
-}
 
 #[derive(Clone, Copy)]
 enum Input {
@@ -71,7 +50,7 @@ fn push_packet(out: &mut Vec<u8>, opcode: u8, n: u16) -> Result<(), Fail> {
 fn input_bytes(alloc: Global, input: Input) -> Result<Vec<u8>, Fail> {
     let mut bytes = Vec::new(alloc);
     match input {
-        Input::Request => bytes.extend_from_slice(b"\0\x01ms.tws\0octet\0")?,
+        Input::Request => bytes.extend_from_slice(RRQ_MS)?,
         Input::Data(n, len) => {
             push_packet(&mut bytes, 3, n)?;
             let start = usize::from(n.saturating_sub(1)).wrapping_mul(512);
@@ -213,22 +192,16 @@ fn source(plain: &Plain, draws: &mut Draws) -> Endpoint {
             host: 2,
             port: peer,
         },
-        1 => Endpoint {
-            host: 1,
-            port: peer.wrapping_add(1),
-        },
-        _ => Endpoint {
-            host: 1,
-            port: peer,
-        },
+        1 => at(peer.wrapping_add(1)),
+        _ => at(peer),
     }
 }
 
 fn reply_bytes(alloc: Global, plain: &Plain, reply: Reply) -> Result<Vec<u8>, Fail> {
     let mut bytes = Vec::new(alloc);
     match (reply, plain.put) {
-        (Reply::Request, Some(_)) => bytes.extend_from_slice(b"\0\x02upload.tws\0octet\0")?,
-        (Reply::Request, None) => bytes.extend_from_slice(b"\0\x01ms.tws\0octet\0")?,
+        (Reply::Request, Some(_)) => bytes.extend_from_slice(WRQ)?,
+        (Reply::Request, None) => bytes.extend_from_slice(RRQ_MS)?,
         (Reply::Data(n), len) => {
             push_packet(&mut bytes, 3, n)?;
             let (start, end) = block(len.unwrap_or(0), n);
@@ -237,7 +210,7 @@ fn reply_bytes(alloc: Global, plain: &Plain, reply: Reply) -> Result<Vec<u8>, Fa
             }
         }
         (Reply::Ack(n), _) => push_packet(&mut bytes, 4, n)?,
-        (Reply::Stray, _) => bytes.extend_from_slice(b"\0\x05\0\x05unknown transfer\0")?,
+        (Reply::Stray, _) => bytes.extend_from_slice(UNKNOWN_TRANSFER)?,
     }
     Ok(bytes)
 }
@@ -260,11 +233,7 @@ fn fits(
                 Reply::Data(_) | Reply::Ack(_) => plain.peer.unwrap_or(0),
             };
             let bytes = reply_bytes(alloc, plain, reply)?;
-            Ok(
-                out.from_port == 5000
-                    && out.to == Endpoint { host: 1, port }
-                    && out.dgram.bytes() == bytes.as_slice(),
-            )
+            Ok(out.from_port == 5000 && out.to == at(port) && out.dgram.bytes() == bytes.as_slice())
         }
         _ => Ok(false),
     }
@@ -281,6 +250,47 @@ fn start(put: Option<usize>) -> Plain {
     }
 }
 
+// An input for both, and the reply that the plain program predicts.
+#[derive(Drop)]
+struct Drawn {
+    from: Endpoint,
+    // `None` for a time-out.
+    bytes: Option<Vec<u8>>,
+    reply: Option<Reply>,
+}
+
+// Draws the next input, and gives it to the plain program.
+fn draw(alloc: Global, draws: &mut Draws, plain: &mut Plain) -> Result<Drawn, Fail> {
+    let input = plain.draw(draws);
+    let from = source(plain, draws);
+    let (bytes, reply) = match input {
+        Input::TimeOut => (None, plain.on_timeout()),
+        _ => (
+            Some(input_bytes(alloc, input)?),
+            plain.on_datagram(from, input),
+        ),
+    };
+    Ok(Drawn { from, bytes, reply })
+}
+
+// Fails unless a client has sent what was predicted, and is in the predicted state.
+fn agree(
+    alloc: Global,
+    plain: &Plain,
+    drawn: &Drawn,
+    out: &Option<Out>,
+    state: State,
+    over: bool,
+) -> Result<(), Fail> {
+    if !fits(alloc, plain, drawn.from.port, drawn.reply, out)? {
+        return Err(Fail::new("the client sends something else"));
+    }
+    if state != plain.state || over != plain.over() {
+        return Err(Fail::new("the client is elsewhere"));
+    }
+    Ok(())
+}
+
 fn run_put(alloc: Global, draws: &mut Draws, len: usize) -> Result<State, Fail> {
     let mut file = Vec::new(alloc);
     for i in 0..len {
@@ -291,22 +301,12 @@ fn run_put(alloc: Global, draws: &mut Draws, len: usize) -> Result<State, Fail> 
     };
     let mut plain = start(Some(len));
     for _ in 0..60 {
-        let input = plain.draw(draws);
-        let from = source(&plain, draws);
-        let (reply, out) = match input {
-            Input::TimeOut => (plain.on_timeout(), client.on_timeout()),
-            _ => {
-                let bytes = input_bytes(alloc, input)?;
-                let reply = plain.on_datagram(from, input);
-                (reply, client.on_datagram(from, bytes.as_slice()))
-            }
+        let drawn = draw(alloc, draws, &mut plain)?;
+        let out = match &drawn.bytes {
+            Some(bytes) => client.on_datagram(drawn.from, bytes),
+            None => client.on_timeout(),
         };
-        if !fits(alloc, &plain, from.port, reply, &out)? {
-            return Err(Fail::new("a put sends something else"));
-        }
-        if client.state() != plain.state || client.over() != plain.over() {
-            return Err(Fail::new("a put is elsewhere"));
-        }
+        agree(alloc, &plain, &drawn, &out, client.state(), client.over())?;
     }
     Ok(plain.state)
 }
@@ -331,29 +331,19 @@ fn run_get(alloc: Global, draws: &mut Draws) -> Result<State, Fail> {
     let (mut client, _) = Get::start(alloc, 5000, SERVER, Ruleset::Ms);
     let mut plain = start(None);
     for _ in 0..60 {
-        let input = plain.draw(draws);
-        let from = source(&plain, draws);
-        let (reply, out) = match input {
-            Input::TimeOut => (plain.on_timeout(), client.on_timeout()),
-            _ => {
-                let bytes = input_bytes(alloc, input)?;
-                let reply = plain.on_datagram(from, input);
-                (reply, client.on_datagram(from, bytes.as_slice()))
-            }
+        let drawn = draw(alloc, draws, &mut plain)?;
+        let out = match &drawn.bytes {
+            Some(bytes) => client.on_datagram(drawn.from, bytes),
+            None => client.on_timeout(),
         };
-        if !fits(alloc, &plain, from.port, reply, &out)? {
-            return Err(Fail::new("a get sends something else"));
-        }
-        if client.state() != plain.state || client.over() != plain.over() {
-            return Err(Fail::new("a get is elsewhere"));
-        }
+        agree(alloc, &plain, &drawn, &out, client.state(), client.over())?;
     }
     how_it_ended(alloc, client, &plain)
 }
 
 #[test]
 fn drawn_clients(rt: HostRuntime) -> Result<(), Fail> {
-    let mut draws = Draws(11);
+    let mut draws = Draws::new(11);
     let mut sent: u32 = 0;
     let mut got: u32 = 0;
     let mut refused: u32 = 0;

@@ -1,16 +1,11 @@
 // Given datagrams and files: what each is by RFC 1350, and what real clients send.
 use std::alloc::Global;
 use std::test::Fail;
+use test_samples::{DATA_HUNDRED, HUNDRED};
 use tftp_packet::{
     Blocks, Dgram, Owned, Packet, PacketFault, Refusal, decode, encode_ack, encode_data,
     encode_error, encode_read, encode_write, is_octet,
 };
-
-// A Lynx file: level 1, BDHP, 100 ticks, no moves.
-const FILE: &[u8; 28] = b"\x35\x33\x9B\x99\x01\0\0\0\x10\0\0\0\x01\0BDHP\0\0\0\0\0\0\x64\0\0\0";
-
-const DATA_OF_FILE: &[u8; 32] =
-    b"\0\x03\0\x01\x35\x33\x9B\x99\x01\0\0\0\x10\0\0\0\x01\0BDHP\0\0\0\0\0\0\x64\0\0\0";
 
 // The forms of RFC 1350 section 5, each cut or wrong in one place: the opcode and requests.
 #[test]
@@ -183,8 +178,8 @@ fn puts_of_real_clients(rt: HostRuntime) {
 // All four sent the same DATA in this put, and the same ACK in a get.
 #[test]
 fn data_and_acks_of_real_clients(rt: HostRuntime) {
-    let body = FILE;
-    assert_eq!(rt; decode(DATA_OF_FILE), Ok(Packet::Data { block: 1, body }));
+    let body = HUNDRED;
+    assert_eq!(rt; decode(DATA_HUNDRED), Ok(Packet::Data { block: 1, body }));
     assert_eq!(rt; decode(b"\0\x04\0\x01"), Ok(Packet::Ack { block: 1 }));
 }
 
@@ -220,7 +215,7 @@ fn requests_and_data_that_are_sent(rt: HostRuntime) {
     let rows: [(Dgram, &[u8]); 5] = [
         (encode_read(b"lynx.tws"), b"\0\x01lynx.tws\0octet\0"),
         (encode_write(b"upload.tws"), b"\0\x02upload.tws\0octet\0"),
-        (encode_data(1, FILE), DATA_OF_FILE),
+        (encode_data(1, HUNDRED), DATA_HUNDRED),
         (
             encode_data(1, b"\x35\x33\x9B\x99\x02\0\0\0"),
             b"\0\x03\0\x01\x35\x33\x9B\x99\x02\0\0\0",

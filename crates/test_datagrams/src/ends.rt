@@ -4,11 +4,9 @@ ghost use Rattle.std.specs.Prelude.{◌≤◌, length};
 
 use std::alloc::Global;
 use std::test::Fail;
+use test_samples::HUNDRED;
 use tftp_ends::{Received, Receiver, RecvFault, RecvState, SendState, Sender};
 use tftp_packet::{Dgram, Owned};
-
-// A Lynx file: level 1, BDHP, 100 ticks, no moves.
-const FILE: &[u8; 28] = b"\x35\x33\x9B\x99\x01\0\0\0\x10\0\0\0\x01\0BDHP\0\0\0\0\0\0\x64\0\0\0";
 
 // The blocks of a file. Each byte of block n is n, and the last block has fewer than 512 bytes.
 #[derive(Clone, Copy)]
@@ -259,7 +257,7 @@ fn bytes_of(alloc: Global, received: &Received) -> Result<Vec<u8>, Fail> {
 // Whether the received file is this one, in one chunk.
 fn is_file(alloc: Global, received: &Received) -> Result<bool, Fail> {
     let is_counted = received.len() == 28 && received.chunk_count() == 1;
-    Ok(is_counted && bytes_of(alloc, received)?.as_slice() == FILE.as_slice())
+    Ok(is_counted && bytes_of(alloc, received)?.as_slice() == HUNDRED.as_slice())
 }
 
 // Whether a receiver hands out the file, and only once.
@@ -271,7 +269,7 @@ fn gives_file(alloc: Global, receiver: &mut Receiver) -> Result<bool, Fail> {
 // Whether a new receiver that is given the file follows these rows, and then hands out the file once.
 fn receives_file(alloc: Global, rows: &[(Given, Option<u16>, RecvState)]) -> Result<bool, Fail> {
     let mut receiver = Receiver::new(alloc);
-    Ok(plays_receiver(&mut receiver, FILE, rows) && gives_file(alloc, &mut receiver)?)
+    Ok(plays_receiver(&mut receiver, HUNDRED, rows) && gives_file(alloc, &mut receiver)?)
 }
 
 #[test]

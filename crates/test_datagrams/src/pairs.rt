@@ -1,27 +1,11 @@
 // A thousand runs of one sender and one receiver. Their packets arrive late, repeatedly and out of order, or never.
 use std::alloc::Global;
 use std::test::Fail;
+use test_samples::Draws;
 use tftp_ends::{Received, Receiver, RecvState, SendState, Sender};
 use tftp_packet::{Dgram, Owned, Packet, decode};
 
 const SIZES: [usize; 7] = [0, 1, 511, 512, 513, 1024, 1200];
-
-// Numbers from a linear congruential generator, with a fixed seed.
-#[derive(Drop)]
-struct Draws(u64);
-
-impl Draws {
-    fn below(&mut self, n: u64) -> usize {
-        self.0 = self
-            .0
-            .wrapping_mul(6364136223846793005)
-            .wrapping_add(1442695040888963407);
-        match (self.0 >> 33).checked_rem(n) {
-            Some(drawn) => drawn as usize,
-            None => 0,
-        }
-    }
-}
 
 #[derive(Drop)]
 struct Pair {
@@ -57,12 +41,12 @@ fn step(pair: &mut Pair, draws: &mut Draws) -> Result<(), Fail> {
         }
         1 => pair.receiver.on_timeout(),
         2 | 3 => {
-            let index = draws.below(len as u64);
+            let index = draws.place(len);
             deliver(pair, index)?
         }
         // One of the newest, so that the transfer goes on.
         _ => {
-            let index = len.saturating_sub(1).saturating_sub(draws.below(2));
+            let index = len.saturating_sub(1).saturating_sub(draws.place(2));
             deliver(pair, index)?
         }
     };
@@ -175,7 +159,7 @@ struct Ended {
 
 // Makes one run, of a file that is a prefix of these bytes. Returns how it ended.
 fn run_one(alloc: Global, draws: &mut Draws, bytes: &[u8; 1200]) -> Result<Ended, Fail> {
-    let size = SIZES.get(draws.below(7)).copied().unwrap_or(0).min(1200);
+    let size = SIZES.get(draws.place(7)).copied().unwrap_or(0).min(1200);
     let file = &bytes[..size];
     let mut pair = run(alloc, draws, file)?;
     let ended = Ended {
@@ -190,7 +174,7 @@ fn run_one(alloc: Global, draws: &mut Draws, bytes: &[u8; 1200]) -> Result<Ended
 
 #[test]
 fn pairs(rt: HostRuntime) -> Result<(), Fail> {
-    let mut draws = Draws(7);
+    let mut draws = Draws::new(7);
     let mut finished: u64 = 0;
     let mut given_up: u64 = 0;
     let mut bytes = [0; 1200];

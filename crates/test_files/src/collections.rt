@@ -1,24 +1,9 @@
 // Given files, and what is kept of them. The expected texts are written out by hand.
 use std::alloc::Global;
 use std::test::Fail;
+use test_samples::{EMPTY_LYNX, EMPTY_MS, HUNDRED, NINETY, join, record, steps};
 use tws_best::Collection;
 use tws_file::{Key, Ruleset, read_file};
-
-pub(crate) const LYNX: [u8; 8] = [0x35, 0x33, 0x9B, 0x99, 1, 0, 0, 0];
-
-pub(crate) const MS: [u8; 8] = [0x35, 0x33, 0x9B, 0x99, 2, 0, 0, 0];
-
-// Level 1, BDHP, 100 ticks, no moves.
-const HUNDRED: [u8; 28] = [
-    0x35, 0x33, 0x9B, 0x99, 1, 0, 0, 0, 0x10, 0, 0, 0, 1, 0, 0x42, 0x44, 0x48, 0x50, 0, 0, 0, 0, 0,
-    0, 100, 0, 0, 0,
-];
-
-// The same with 90 ticks.
-const NINETY: [u8; 28] = [
-    0x35, 0x33, 0x9B, 0x99, 1, 0, 0, 0, 0x10, 0, 0, 0, 1, 0, 0x42, 0x44, 0x48, 0x50, 0, 0, 0, 0, 0,
-    0, 90, 0, 0, 0,
-];
 
 // Level 2 in 20 ticks, a pad, and level 1 in 10 ticks; then the text that is kept of it.
 const UNORDERED: [u8; 52] = [
@@ -32,59 +17,20 @@ const ORDERED: [u8; 48] = [
     0, 0x0A, 0, 0, 0, 0x10, 0, 0, 0, 2, 0, 0x42, 0x42, 0x42, 0x42, 0, 0, 0, 0, 0, 0, 0x14, 0, 0, 0,
 ];
 
-// Joins the parts, in order.
-pub(crate) fn join(alloc: Global, first: &[u8], others: &[&[u8]]) -> Result<Vec<u8>, Fail> {
-    let mut bytes = Vec::from_slice(alloc, first)?;
-    for one in others {
-        bytes.extend_from_slice(one)?;
-    }
-    Ok(bytes)
-}
-
-// A solution's record as in a file: its size, and then its body.
-pub(crate) fn record(
-    alloc: Global,
-    number: u16,
-    password: &[u8; 4],
-    seed: u32,
-    ticks: u32,
-    moves: &[u8],
-) -> Result<Vec<u8>, Fail> {
-    let size = 16 + u32::try_from(moves.len())?.min(10_000);
-    let parts: [&[u8]; 6] = [
-        &number.to_le_bytes(),
-        password,
-        &[0, 0],
-        &seed.to_le_bytes(),
-        &ticks.to_le_bytes(),
-        moves,
-    ];
-    join(alloc, &size.to_le_bytes(), &parts)
-}
-
-// `count` moves of one byte each.
-pub(crate) fn moves(alloc: Global, count: usize) -> Result<Vec<u8>, Fail> {
-    let mut bytes = Vec::new(alloc);
-    for _ in 0..count {
-        bytes.push(1)?;
-    }
-    Ok(bytes)
-}
-
 // The record of level 1, BDHP, with `count` moves of one byte each.
 fn level_1(alloc: Global, ticks: u32, count: usize) -> Result<Vec<u8>, Fail> {
-    record(alloc, 1, b"BDHP", 0, ticks, &moves(alloc, count)?)
+    Ok(record(alloc, 1, b"BDHP", 0, ticks, &steps(alloc, count)?)?)
 }
 
 // A file with one record: level 1, BDHP, with 100 ticks.
 fn file_of_level_1(alloc: Global, seed: u32, moves: &[u8]) -> Result<Vec<u8>, Fail> {
     let record = record(alloc, 1, b"BDHP", seed, 100, moves)?;
-    join(alloc, &LYNX, &[record.as_slice()])
+    Ok(join(alloc, EMPTY_LYNX, &[&record])?)
 }
 
 // A file of solutions without moves, each with this number, password and ticks.
 fn solutions(alloc: Global, rows: &[(u16, [u8; 4], u32)]) -> Result<Vec<u8>, Fail> {
-    let mut text = Vec::from_slice(alloc, &LYNX)?;
+    let mut text = Vec::from_slice(alloc, EMPTY_LYNX)?;
     for (number, password, ticks) in rows {
         let record = record(alloc, *number, password, 0, *ticks, &[])?;
         text.extend_from_slice(&record)?;
@@ -124,23 +70,23 @@ fn are_merged_to(
 fn a_collection_of_no_file(rt: HostRuntime) {
     let collection = Collection::new(rt.alloc(), Ruleset::Lynx);
     assert!(rt; collection.is_empty());
-    assert!(rt; has_text(rt.alloc(), &collection, &LYNX));
+    assert!(rt; has_text(rt.alloc(), &collection, EMPTY_LYNX));
 }
 
 #[test]
 fn a_collection_that_is_loaded(rt: HostRuntime) -> Result<(), Fail> {
-    let loaded = load(rt.alloc(), &HUNDRED)?;
-    assert!(rt; has_text(rt.alloc(), &loaded, &HUNDRED));
+    let loaded = load(rt.alloc(), HUNDRED)?;
+    assert!(rt; has_text(rt.alloc(), &loaded, HUNDRED));
     Ok(())
 }
 
 // Merges four files after the one with 100 ticks, and returns whether only the second changed the collection.
 fn second_alone_changes(alloc: Global, collection: &mut Collection) -> Result<bool, Fail> {
     let files: [(&[u8], bool); 4] = [
-        (&HUNDRED, false),
-        (&NINETY, true),
-        (&HUNDRED, false),
-        (&MS, false),
+        (HUNDRED, false),
+        (NINETY, true),
+        (HUNDRED, false),
+        (EMPTY_MS, false),
     ];
     for (file, is_changed) in files {
         if merge(alloc, collection, file)? != is_changed {
@@ -162,9 +108,9 @@ fn figures(collection: &Collection) -> (usize, u128, Ruleset) {
 #[test]
 fn answers_of_merges(rt: HostRuntime) -> Result<(), Fail> {
     let mut collection = Collection::new(rt.alloc(), Ruleset::Lynx);
-    let is_first = merge(rt.alloc(), &mut collection, &HUNDRED)?;
+    let is_first = merge(rt.alloc(), &mut collection, HUNDRED)?;
     let are_right = is_first && second_alone_changes(rt.alloc(), &mut collection)?;
-    let is_best = has_text(rt.alloc(), &collection, &NINETY);
+    let is_best = has_text(rt.alloc(), &collection, NINETY);
     assert_eq!(rt;
         (are_right, is_best, figures(&collection)),
         (true, true, (1, 28, Ruleset::Lynx))
@@ -174,10 +120,10 @@ fn answers_of_merges(rt: HostRuntime) -> Result<(), Fail> {
 
 #[test]
 fn copies_stay(rt: HostRuntime) -> Result<(), Fail> {
-    let mut collection = load(rt.alloc(), &HUNDRED)?;
+    let mut collection = load(rt.alloc(), HUNDRED)?;
     let early = collection.copy()?;
     let is_changed = second_alone_changes(rt.alloc(), &mut collection)?;
-    let stays = has_text(rt.alloc(), &early, &HUNDRED);
+    let stays = has_text(rt.alloc(), &early, HUNDRED);
     assert_eq!(rt; (is_changed, stays), (true, true));
     Ok(())
 }
@@ -187,13 +133,13 @@ fn records_in_order(rt: HostRuntime) -> Result<(), Fail> {
     let mut collection = load(rt.alloc(), &UNORDERED)?;
     let is_ordered = has_text(rt.alloc(), &collection, &ORDERED);
     let before = figures(&collection);
-    let is_changed = merge(rt.alloc(), &mut collection, &HUNDRED)?;
+    let is_changed = merge(rt.alloc(), &mut collection, HUNDRED)?;
     assert_eq!(rt;
         (is_ordered, before, is_changed, figures(&collection)),
         (true, (2, 48, Ruleset::Lynx), true, (3, 68, Ruleset::Lynx))
     );
     // Of the two solutions of level 1, BDHP comes before CCCC.
-    let three = join(rt.alloc(), &HUNDRED, &[&ORDERED[8..]])?;
+    let three = join(rt.alloc(), HUNDRED, &[&ORDERED[8..]])?;
     assert!(rt; has_text(rt.alloc(), &collection, &three));
     Ok(())
 }
@@ -201,7 +147,7 @@ fn records_in_order(rt: HostRuntime) -> Result<(), Fail> {
 #[test]
 fn records_by_key(rt: HostRuntime) -> Result<(), Fail> {
     let mut collection = load(rt.alloc(), &UNORDERED)?;
-    let is_changed = merge(rt.alloc(), &mut collection, &HUNDRED)?;
+    let is_changed = merge(rt.alloc(), &mut collection, HUNDRED)?;
     let key = Key {
         number: 2,
         password: *b"BBBB",
@@ -220,8 +166,8 @@ fn records_by_key(rt: HostRuntime) -> Result<(), Fail> {
 #[test]
 fn long_texts(rt: HostRuntime) -> Result<(), Fail> {
     // More bytes than are gathered before any are written.
-    let mut text = Vec::from_slice(rt.alloc(), &LYNX)?;
-    let moves = moves(rt.alloc(), 9000)?;
+    let mut text = Vec::from_slice(rt.alloc(), EMPTY_LYNX)?;
+    let moves = steps(rt.alloc(), 9000)?;
     for number in 1..10u16 {
         let record = record(rt.alloc(), number, b"AAAA", 0, 0, &moves)?;
         text.extend_from_slice(&record)?;
@@ -259,7 +205,7 @@ fn short_file(alloc: Global) -> Result<Vec<u8>, Fail> {
 
 fn fast_file(alloc: Global) -> Result<Vec<u8>, Fail> {
     let record = level_1(alloc, 99, 384)?;
-    join(alloc, &LYNX, &[record.as_slice()])
+    Ok(join(alloc, EMPTY_LYNX, &[&record])?)
 }
 
 #[test]
@@ -342,15 +288,15 @@ const BARE: [u8; 10] = [6, 0, 0, 0, 1, 0, 0x42, 0x44, 0x48, 0x50];
 
 // Whether a file of these records results in a collection with this text.
 fn is_kept_as(alloc: Global, records: &[&[u8]], wanted: &[u8]) -> Result<bool, Fail> {
-    let text = join(alloc, &LYNX, records)?;
+    let text = join(alloc, EMPTY_LYNX, records)?;
     are_merged_to(alloc, Ruleset::Lynx, &[&text], wanted)
 }
 
 #[test]
 fn no_other_record_is_kept(rt: HostRuntime) -> Result<(), Fail> {
     let among: [&[u8]; 5] = [&SET, &PAD, &BARE, &HUNDRED[8..], &PAD];
-    let is_alone = is_kept_as(rt.alloc(), &among, &HUNDRED)?;
-    let is_none = is_kept_as(rt.alloc(), &[&SET, &PAD, &BARE], &LYNX)?;
+    let is_alone = is_kept_as(rt.alloc(), &among, HUNDRED)?;
+    let is_none = is_kept_as(rt.alloc(), &[&SET, &PAD, &BARE], EMPTY_LYNX)?;
     assert_eq!(rt; (is_alone, is_none), (true, true));
     Ok(())
 }

@@ -3,22 +3,8 @@ ghost use Rattle.std.specs.Prelude.{◌<◌, length};
 
 use std::alloc::Allocator;
 use std::test::Fail;
+use test_samples::{CUT_MOVE, EMPTY_LYNX, EMPTY_MS, HUNDRED, UNREADABLE, join};
 use tws_file::{FileFault, Key, OutFault, Record, TwsFile, pack, read_file, show, write_file};
-
-pub(crate) const LYNX: [u8; 8] = [0x35, 0x33, 0x9B, 0x99, 0x01, 0x00, 0x00, 0x00];
-
-// Level 1, BDHP, 100 ticks, no moves.
-const SOLUTION: [u8; 20] = [
-    0x10, 0x00, 0x00, 0x00, 0x01, 0x00, 0x42, 0x44, 0x48, 0x50, 0x00, 0x00, 0x00, 0x00, 0x00, 0x00,
-    0x64, 0x00, 0x00, 0x00,
-];
-
-// The header, followed by the rest.
-pub(crate) fn join<A: Allocator>(alloc: A, header: &[u8], rest: &[u8]) -> Result<Vec<u8, A>, Fail> {
-    let mut bytes = Vec::from_slice(alloc, header)?;
-    bytes.extend_from_slice(rest)?;
-    Ok(bytes)
-}
 
 fn shown<A: Allocator + Copy>(alloc: A, bytes: &[u8], moves: bool) -> Result<Vec<u8, A>, Fail> {
     let file = read_file(alloc, bytes)?;
@@ -54,11 +40,7 @@ fn has_fault<A: Allocator + Copy>(
 fn faults_of_headers(rt: HostRuntime) -> Result<(), Fail> {
     let faults: [(&[u8], FileFault, &str); 5] = [
         (&[], FileFault::ShortHeader(0), "ShortHeader(0)"),
-        (
-            &[0x35, 0x33, 0x9B, 0x98, 2, 0, 0],
-            FileFault::ShortHeader(7),
-            "ShortHeader(7)",
-        ),
+        (UNREADABLE, FileFault::ShortHeader(7), "ShortHeader(7)"),
         (
             &[0x35, 0x33, 0x9B, 0x98, 2, 0, 0, 0],
             FileFault::BadSignature,
@@ -86,7 +68,7 @@ fn faults_of_records(rt: HostRuntime) -> Result<(), Fail> {
     let faults: [(&[u8], FileFault, &str); 5] = [
         (&[0x0F, 0, 0, 0], FileFault::BadSize(8), "BadSize(8)"),
         (&[6, 0], FileFault::ShortRecord(8), "ShortRecord(8)"),
-        (&SOLUTION[..19], FileFault::ShortRecord(8), "ShortRecord(8)"),
+        (&HUNDRED[8..27], FileFault::ShortRecord(8), "ShortRecord(8)"),
         (
             &[0, 0, 0, 0, 0, 0, 0, 0, 0xFF, 0xFF, 0xFF, 0xFF, 7],
             FileFault::ShortRecord(16),
@@ -99,7 +81,7 @@ fn faults_of_records(rt: HostRuntime) -> Result<(), Fail> {
         ),
     ];
     for (rest, fault, text) in faults {
-        let bytes = join(rt.alloc(), &LYNX, rest)?;
+        let bytes = join(rt.alloc(), EMPTY_LYNX, &[rest])?;
         assert!(rt; has_fault(rt.alloc(), &bytes, fault, text)?);
     }
     Ok(())
@@ -112,13 +94,13 @@ fn has_listing<A: Allocator + Copy>(
     rest: &[u8],
     wanted: &str,
 ) -> Result<bool, Fail> {
-    let bytes = join(alloc, header, rest)?;
+    let bytes = join(alloc, header, &[rest])?;
     Ok(listing(alloc, &bytes)?.as_str() == wanted)
 }
 
 // The same for a Lynx file without further header bytes, with the first line left out of the text.
 fn has_lynx_listing<A: Allocator + Copy>(alloc: A, rest: &[u8], text: &str) -> Result<bool, Fail> {
-    let bytes = join(alloc, &LYNX, rest)?;
+    let bytes = join(alloc, EMPTY_LYNX, &[rest])?;
     let listing = listing(alloc, &bytes)?;
     Ok(listing.strip_prefix("ruleset lynx word 0000 extra 0\n") == Some(text))
 }
@@ -143,7 +125,7 @@ fn listings_of_records(rt: HostRuntime) -> Result<(), Fail> {
             "set 11\nrecords 1\n",
         ),
         (
-            &SOLUTION,
+            &HUNDRED[8..],
             "level 1 BDHP ticks 100 flags 00 start 00 seed 0 bytes 0\nrecords 1\n",
         ),
         (
@@ -166,13 +148,9 @@ fn listings_of_headers(rt: HostRuntime) -> Result<(), Fail> {
         0x12, 0, 0, 0, 1, 0, 0x42, 0x44, 0x48, 0x50, 0, 0, 0, 0, 0, 0, 0x64, 0, 0, 0, 0x00, 0x61,
     ];
     let listings: [(&[u8], &[u8], &str); 4] = [
+        (EMPTY_MS, &[], "ruleset ms word 0000 extra 0\nrecords 0\n"),
         (
-            &[0x35, 0x33, 0x9B, 0x99, 2, 0, 0, 0],
-            &[],
-            "ruleset ms word 0000 extra 0\nrecords 0\n",
-        ),
-        (
-            &[0x35, 0x33, 0x9B, 0x99, 2, 0, 0, 0],
+            EMPTY_MS,
             &moved,
             "ruleset ms word 0000 extra 0\nlevel 1 BDHP ticks 100 flags 00 start 00 seed 0 bytes 2\nrecords 1\n",
         ),
@@ -214,15 +192,9 @@ fn listings_of_moves(rt: HostRuntime) -> Result<(), Fail> {
     Ok(())
 }
 
-// The same solution, with a move that is cut.
-pub(crate) const CUT: [u8; 30] = [
-    0x35, 0x33, 0x9B, 0x99, 2, 0, 0, 0, 0x12, 0, 0, 0, 1, 0, 0x42, 0x44, 0x48, 0x50, 0, 0, 0, 0, 0,
-    0, 0x64, 0, 0, 0, 0x01, 0xFE,
-];
-
 #[test]
 fn moves_that_are_cut(rt: HostRuntime) -> Result<(), Fail> {
-    assert!(rt; has_fault(rt.alloc(), &CUT, FileFault::MoveCut(29), "MoveCut(29)")?);
+    assert!(rt; has_fault(rt.alloc(), CUT_MOVE, FileFault::MoveCut(29), "MoveCut(29)")?);
     Ok(())
 }
 
@@ -281,8 +253,7 @@ fn lists_are_handed_out(rt: HostRuntime) -> Result<(), Fail> {
 }
 
 fn lynx_solution<A: Allocator + Copy>(alloc: A) -> Result<TwsFile<A>, Fail> {
-    let bytes = join(alloc, &LYNX, &SOLUTION)?;
-    Ok(read_file(alloc, &bytes)?)
+    Ok(read_file(alloc, HUNDRED)?)
 }
 
 #[test]
@@ -336,7 +307,7 @@ fn what_is_read_is_written(rt: HostRuntime) -> Result<(), Fail> {
 
 // The solution, repeated so often that the text is longer than what is written at once.
 fn large_file<A: Allocator>(alloc: A) -> Result<Vec<u8, A>, Fail> {
-    let mut large = Vec::from_slice(alloc, &LYNX)?;
+    let mut large = Vec::from_slice(alloc, EMPTY_LYNX)?;
     for _ in 0..10_000 {
         large.extend_from_slice(&EVERY_KIND[54..])?;
     }
@@ -359,7 +330,7 @@ fn the_body_of_a_solution(rt: HostRuntime) -> Result<(), Fail> {
     let body = solution.body(rt.alloc())?;
     assert_eq!(rt;
         (solution.body_len(), body.as_slice()),
-        (16, &SOLUTION[4..])
+        (16, &HUNDRED[12..])
     );
     Ok(())
 }

@@ -1,9 +1,10 @@
 // Large inputs, which would show a limit that no contract names.
-use crate::collections::{LYNX, load, merge};
+use crate::collections::{load, merge};
 use byte_output::put;
 use std::alloc::Global;
 use std::io::{self, Write};
 use std::test::Fail;
+use test_samples::{EMPTY_LYNX, record};
 use tws_best::Collection;
 use tws_file::{Ruleset, pack, read_file, write_file};
 use tws_moves::{
@@ -69,7 +70,7 @@ fn the_last_of_many_moves_comes_too_late(rt: HostRuntime) -> Result<(), Fail> {
 
 // A file with a record of the set that has `count` zero bytes after the key.
 fn file_with_set(alloc: Global, count: u32) -> Result<Vec<u8>, Fail> {
-    let mut bytes = Vec::from_slice(alloc, &LYNX)?;
+    let mut bytes = Vec::from_slice(alloc, EMPTY_LYNX)?;
     bytes.extend_from_slice(&count.wrapping_add(6).to_le_bytes())?;
     for _ in 0..count.wrapping_add(6) {
         bytes.push(0)?;
@@ -89,22 +90,12 @@ fn a_long_record_of_the_set_is_packed_as_it_is(rt: HostRuntime) -> Result<(), Fa
 
 // Solutions without moves of `count` levels, from level 1 on and then with the next password.
 fn many_solutions(alloc: Global, count: u32) -> Result<Vec<u8>, Fail> {
-    let mut bytes = Vec::from_slice(alloc, &LYNX)?;
+    let mut bytes = Vec::from_slice(alloc, EMPTY_LYNX)?;
     for number in 1..=count {
         let [low, high, next, _] = number.to_le_bytes();
-        bytes.extend_from_slice(&[
-            16,
-            0,
-            0,
-            0,
-            low,
-            high,
-            b'A'.wrapping_add(next),
-            b'B',
-            b'C',
-            b'D',
-        ])?;
-        bytes.extend_from_slice(&[0; 10])?;
+        let password = [b'A'.wrapping_add(next), b'B', b'C', b'D'];
+        let level = u16::from_le_bytes([low, high]);
+        bytes.extend_from_slice(&record(alloc, level, &password, 0, 0, &[])?)?;
     }
     Ok(bytes)
 }

@@ -1,7 +1,8 @@
 // Files that arrive in pieces, most of them byte by byte.
-use crate::files::{CUT, LYNX, join, written};
+use crate::files::written;
 use std::alloc::Allocator;
 use std::test::Fail;
+use test_samples::{CUT_MOVE, EMPTY_LYNX, join};
 use tws_file::{FileFault, Reader};
 
 // Pushes a byte at a time. Returns the number of the first push that failed, and the reader.
@@ -36,7 +37,7 @@ fn a_file_that_comes_byte_by_byte(rt: HostRuntime) -> Result<(), Fail> {
 
 #[test]
 fn moves_that_are_cut_byte_by_byte(rt: HostRuntime) {
-    let (first, reader) = push_bytes(rt.alloc(), &CUT);
+    let (first, reader) = push_bytes(rt.alloc(), CUT_MOVE);
     assert_eq!(rt;
         (first, reader.finish().err()),
         (Some(30), Some(FileFault::MoveCut(29)))
@@ -46,7 +47,7 @@ fn moves_that_are_cut_byte_by_byte(rt: HostRuntime) {
 #[test]
 fn moves_that_are_cut_between_pieces(rt: HostRuntime) {
     let mut reader = Reader::new(rt.alloc());
-    let (first, rest) = CUT.split_at(29);
+    let (first, rest) = CUT_MOVE.split_at(29);
     let pushed = (reader.push(first), reader.push(rest), reader.push(&[0xFF]));
     let cut = FileFault::MoveCut(29);
     assert_eq!(rt;
@@ -57,7 +58,11 @@ fn moves_that_are_cut_between_pieces(rt: HostRuntime) {
 
 #[test]
 fn a_fault_of_a_record_is_kept(rt: HostRuntime) -> Result<(), Fail> {
-    let bytes = join(rt.alloc(), &LYNX, &[0, 0, 0, 0, 7, 0, 0, 0, 1, 2, 3])?;
+    let bytes = join(
+        rt.alloc(),
+        EMPTY_LYNX,
+        &[&[0, 0, 0, 0, 7, 0, 0, 0, 1, 2, 3]],
+    )?;
     let (first, reader) = push_bytes(rt.alloc(), &bytes);
     assert_eq!(rt;
         (first, reader.finish().err()),
@@ -69,9 +74,9 @@ fn a_fault_of_a_record_is_kept(rt: HostRuntime) -> Result<(), Fail> {
 #[test]
 fn a_fault_of_the_header_is_kept(rt: HostRuntime) {
     let mut reader = Reader::new(rt.alloc());
-    let mut wrong = LYNX;
+    let mut wrong = *EMPTY_LYNX;
     wrong[3] = 0x98;
-    let pushed = (reader.push(&wrong), reader.push(&LYNX));
+    let pushed = (reader.push(&wrong), reader.push(EMPTY_LYNX));
     let bad = FileFault::BadSignature;
     assert_eq!(rt;
         (pushed, reader.finish().err()),

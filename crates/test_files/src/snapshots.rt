@@ -1,8 +1,9 @@
 // Snapshots of collections, and the blocks in which they are sent. The expected texts are written out by hand.
-use crate::collections::{LYNX, MS, has_text, join, load, merge, moves, record};
+use crate::collections::{has_text, load, merge};
 use std::alloc::Global;
 use std::process::Abort;
 use std::test::Fail;
+use test_samples::{EMPTY_LYNX, EMPTY_MS, join, record, steps};
 use tftp_packet::Blocks;
 use tws_best::{Collection, Snapshot};
 use tws_file::Ruleset;
@@ -34,18 +35,18 @@ fn has_blocks(alloc: Global, snapshot: &Snapshot, wanted: &[u8]) -> bool {
 
 // The record of level 1 ends two bytes before the end of the first block.
 fn long_record(alloc: Global) -> Result<Vec<u8>, Fail> {
-    record(alloc, 1, b"AAAA", 0, 0, &moves(alloc, 482)?)
+    Ok(record(alloc, 1, b"AAAA", 0, 0, &steps(alloc, 482)?)?)
 }
 
 fn short_record(alloc: Global) -> Result<Vec<u8>, Fail> {
-    record(alloc, 2, b"BBBB", 0, 0, &[])
+    Ok(record(alloc, 2, b"BBBB", 0, 0, &[])?)
 }
 
 // A collection of both records, loaded from a file with the second one first.
 fn two_records(alloc: Global) -> Result<Collection, Fail> {
     let first = long_record(alloc)?;
     let second = short_record(alloc)?;
-    let text = join(alloc, &LYNX, &[second.as_slice(), first.as_slice()])?;
+    let text = join(alloc, EMPTY_LYNX, &[&second, &first])?;
     load(alloc, &text)
 }
 
@@ -53,7 +54,7 @@ fn two_records(alloc: Global) -> Result<Collection, Fail> {
 fn text_in_order(alloc: Global) -> Result<Vec<u8>, Fail> {
     let first = long_record(alloc)?;
     let second = short_record(alloc)?;
-    join(alloc, &LYNX, &[first.as_slice(), second.as_slice()])
+    Ok(join(alloc, EMPTY_LYNX, &[&first, &second])?)
 }
 
 #[test]
@@ -126,13 +127,13 @@ fn blocks_of_two_records(rt: HostRuntime) -> Result<(), Fail> {
 #[test]
 fn the_snapshot_of_no_file(rt: HostRuntime) -> Result<(), Fail> {
     let empty = snapshot_of(&rt, &Collection::new(rt.alloc(), Ruleset::Ms))?;
-    assert!(rt; has_blocks(rt.alloc(), &empty, &MS));
+    assert!(rt; has_blocks(rt.alloc(), &empty, EMPTY_MS));
     Ok(())
 }
 
 // Levels 1 to 2000, with two moves each.
 fn two_thousand(alloc: Global) -> Result<Vec<u8>, Fail> {
-    let mut text = Vec::from_slice(alloc, &LYNX)?;
+    let mut text = Vec::from_slice(alloc, EMPTY_LYNX)?;
     for number in 1..2001u16 {
         text.extend_from_slice(&record(alloc, number, b"BDHP", 0, 500, &[1, 1])?)?;
     }

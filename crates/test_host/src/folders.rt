@@ -1,10 +1,10 @@
 // The keeper over folders of the system.
-use crate::samples::*;
 use archive_host::DirKeeper;
 use archive_table::{KeepFault, Keeper};
 use archive_turns::{MemoryWire, Server, serve_turns};
 use std::test::Fail;
 use std::{env, fs, process};
+use test_samples::{ALICE, DATA_HUNDRED, EMPTY_MS, HUNDRED, NINETY, WRQ};
 use tws_best::Collection;
 use tws_file::{Ruleset, read_file};
 
@@ -60,16 +60,16 @@ fn loads_none(
 fn keeps_both(rt: HostRuntime, dir: &str) -> Result<bool, Fail> {
     let mut keeper = keeper_of(rt, dir)?;
     let empty = loads_none(rt, &mut keeper, Ruleset::Lynx)?;
-    let first = keep(rt, &mut keeper, F1)?;
-    let loaded = loads(rt, &mut keeper, Ruleset::Lynx, F1)?;
-    let second = keep(rt, &mut keeper, F2)?;
+    let first = keep(rt, &mut keeper, HUNDRED)?;
+    let loaded = loads(rt, &mut keeper, Ruleset::Lynx, HUNDRED)?;
+    let second = keep(rt, &mut keeper, NINETY)?;
     Ok(empty && first.is_ok() && loaded && second.is_ok() && keeper.failures() == 0)
 }
 
 // Whether another keeper over that folder loads the second file, and nothing of the other ruleset.
 fn loads_the_second(rt: HostRuntime, dir: &str) -> Result<bool, Fail> {
     let mut keeper = keeper_of(rt, dir)?;
-    let second = loads(rt, &mut keeper, Ruleset::Lynx, F2)?;
+    let second = loads(rt, &mut keeper, Ruleset::Lynx, NINETY)?;
     let none = loads_none(rt, &mut keeper, Ruleset::Ms)?;
     Ok(second && none && keeper.failures() == 0)
 }
@@ -79,7 +79,7 @@ fn has_the_second(rt: HostRuntime, dir: &str) -> Result<bool, Fail> {
     let kept = file_in(&rt, dir, "lynx.tws")?;
     let new = file_in(&rt, dir, "lynx.new")?;
     let text = fs::read(&rt, kept.as_str())?;
-    Ok(text.as_slice() == F2.as_slice() && fs::metadata(&rt, new.as_str()).is_err())
+    Ok(text.as_slice() == NINETY.as_slice() && fs::metadata(&rt, new.as_str()).is_err())
 }
 
 #[test]
@@ -100,7 +100,7 @@ fn keeps_an_empty_one(rt: HostRuntime, dir: &str) -> Result<bool, Fail> {
     let mut keeper = keeper_of(rt, dir)?;
     let none = loads_none(rt, &mut keeper, Ruleset::Ms)?;
     keeper.keep(Ruleset::Ms, &Collection::new(rt.alloc(), Ruleset::Ms))?;
-    Ok(none && loads(rt, &mut keeper, Ruleset::Ms, b"\x35\x33\x9B\x99\x02\0\0\0")?)
+    Ok(none && loads(rt, &mut keeper, Ruleset::Ms, EMPTY_MS)?)
 }
 
 #[test]
@@ -117,7 +117,7 @@ fn a_new_file_that_is_left_is_harmless(rt: HostRuntime) -> Result<(), Fail> {
 
 // Whether without a folder a keep fails, and a load finds nothing.
 fn fails_to_keep(rt: HostRuntime, keeper: &mut DirKeeper<HostRuntime>) -> Result<bool, Fail> {
-    let kept = keep(rt, keeper, F1)?;
+    let kept = keep(rt, keeper, HUNDRED)?;
     let counted = keeper.failures() == 1;
     let none = loads_none(rt, keeper, Ruleset::Lynx)?;
     Ok(kept == Err(KeepFault::Device) && counted && none)
@@ -129,7 +129,7 @@ fn fails_at_both(rt: HostRuntime, keeper: &mut DirKeeper<HostRuntime>) -> Result
         keeper.load(rt.alloc(), Ruleset::Lynx),
         Err(KeepFault::Device)
     );
-    let kept = keep(rt, keeper, F1)?;
+    let kept = keep(rt, keeper, HUNDRED)?;
     Ok(loaded && kept == Err(KeepFault::Device) && keeper.failures() == 3)
 }
 
@@ -161,8 +161,8 @@ fn a_folder_that_fails(rt: HostRuntime) -> Result<(), Fail> {
 // A server's wire, at which a put of the file has arrived in two datagrams.
 fn put_wire(rt: HostRuntime) -> Result<MemoryWire, Fail> {
     let mut wire = MemoryWire::new(rt.alloc(), vec![in rt.alloc(); 4000u16]?);
-    wire.arrive(rt.alloc(), 6969, at(5000), b"\0\x02upload.tws\0octet\0")?;
-    wire.arrive(rt.alloc(), 4000, at(5000), DATA_F1)?;
+    wire.arrive(rt.alloc(), 6969, ALICE, WRQ)?;
+    wire.arrive(rt.alloc(), 4000, ALICE, DATA_HUNDRED)?;
     Ok(wire)
 }
 
@@ -191,6 +191,6 @@ fn a_restart_finds_what_was_taken(rt: HostRuntime) -> Result<(), Fail> {
     let taken = taken(rt, &dir)?;
     let loaded = loaded(rt, &dir)?;
     fs::remove_dir_all(&rt, dir.as_str())?;
-    assert_eq!(rt; (taken, loaded.as_slice()), (1, F1.as_slice()));
+    assert_eq!(rt; (taken, loaded.as_slice()), (1, HUNDRED.as_slice()));
     Ok(())
 }

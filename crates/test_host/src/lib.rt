@@ -4,6 +4,4 @@
 #[cfg(test)]
 mod folders;
 #[cfg(test)]
-mod samples;
-#[cfg(test)]
 mod wires;

@@ -1,13 +1,13 @@
 // The wire over sockets of the system.
 ghost use Rattle.std.specs.Prelude.{None};
 
-use crate::samples::*;
 use archive_host::UdpWire;
 use archive_table::NoKeeper;
 use archive_turns::{RECEIVE_SIZE, ReadyWire, Server, Wire, WireFault, run_get, run_put};
 use std::net::{Ipv4Addr, SocketAddr, UdpSocket};
 use std::test::Fail;
 use std::time::Instant;
+use test_samples::HUNDRED;
 use tftp_packet::{Endpoint, Out, Packet, decode, encode_ack};
 use tws_file::Ruleset;
 
@@ -16,6 +16,17 @@ type Came = Option<(u16, Endpoint)>;
 
 // The least port for private use, RFC 6335 section 6. The greatest is 65535.
 const FIRST: u16 = 49152;
+
+// The loopback address of this host, 127.0.0.1.
+const LOOPBACK: u32 = 0x7F00_0001;
+
+// A port of this host.
+fn loopback(port: u16) -> Endpoint {
+    Endpoint {
+        host: LOOPBACK,
+        port,
+    }
+}
 
 // A wire that listens, and its port.
 fn listening(rt: HostRuntime) -> Result<(UdpWire<HostRuntime>, u16), Fail> {
@@ -30,12 +41,12 @@ fn listening(rt: HostRuntime) -> Result<(UdpWire<HostRuntime>, u16), Fail> {
 fn ack(from_port: u16, to: u16, block: u16) -> Out {
     Out {
         from_port,
-        to: at(to),
+        to: loopback(to),
         dgram: encode_ack(block),
     }
 }
 
-// A client's wire with a server at its other end: before each receive the server makes a turn.
+// A client's wire with a server loopback its other end: before each receive the server makes a turn.
 #[derive(Drop)]
 struct Ends {
     client: UdpWire<HostRuntime>,
@@ -77,7 +88,7 @@ impl Wire for Ends {
     }
 }
 
-// A client's wire with a server at a free port, and the server's address.
+// A client's wire with a server loopback a free port, and the server's address.
 fn connected(rt: HostRuntime) -> Result<(Ends, Endpoint), Fail> {
     let (wire, port) = listening(rt)?;
     let ends = Ends {
@@ -86,12 +97,12 @@ fn connected(rt: HostRuntime) -> Result<(Ends, Endpoint), Fail> {
         server: Server::new(rt.alloc(), port),
         taken: false,
     };
-    Ok((ends, at(port)))
+    Ok((ends, loopback(port)))
 }
 
 // Whether the server takes a put of the file.
 fn puts_the_file(rt: HostRuntime, ends: &mut Ends, server: Endpoint) -> Result<bool, Fail> {
-    let file = Vec::from_slice(rt.alloc(), F1)?;
+    let file = Vec::from_slice(rt.alloc(), HUNDRED)?;
     let sent = run_put(ends, server, file, 100);
     Ok(sent == Ok(28) && ends.taken)
 }
@@ -100,7 +111,7 @@ fn puts_the_file(rt: HostRuntime, ends: &mut Ends, server: Endpoint) -> Result<b
 fn gets_the_file(rt: HostRuntime, ends: &mut Ends, server: Endpoint) -> bool {
     let mut got = Vec::new(rt.alloc());
     let answer = run_get(rt.alloc(), ends, server, Ruleset::Lynx, 100, &mut got);
-    answer == Ok(28) && got.as_slice() == F1.as_slice()
+    answer == Ok(28) && got.as_slice() == HUNDRED.as_slice()
 }
 
 // Whether a put and a get succeed, and how many calls of either wire failed.
@@ -186,7 +197,7 @@ fn calls_that_fail_are_counted(rt: HostRuntime) -> Result<(), Fail> {
     Ok(())
 }
 
-// No datagram goes to port 0, and none to all hosts at once without leave.
+// No datagram goes to port 0, and none to all hosts loopback once without leave.
 #[test]
 fn addresses_that_the_system_refuses(rt: HostRuntime) -> Result<(), Fail> {
     let (_other, taken) = listening(rt)?;
@@ -196,7 +207,7 @@ fn addresses_that_the_system_refuses(rt: HostRuntime) -> Result<(), Fail> {
         host: u32::MAX,
         port: taken,
     };
-    for to in [at(0), everyone] {
+    for to in [loopback(0), everyone] {
         let dgram = encode_ack(1);
         let out = Out {
             from_port,
@@ -211,7 +222,7 @@ fn addresses_that_the_system_refuses(rt: HostRuntime) -> Result<(), Fail> {
     Ok(())
 }
 
-// Whether nothing arrives at a port in twenty reads.
+// Whether nothing arrives loopback a port in twenty reads.
 fn is_quiet(wire: &mut UdpWire<HostRuntime>, port: u16) -> bool {
     let mut buffer = [0; RECEIVE_SIZE];
     for _ in 0..20 {
@@ -243,7 +254,7 @@ fn send_three(rt: HostRuntime, port: u16) -> Result<Endpoint, Fail> {
     peer.send_to(&[7; 600], target)?;
     peer.send_to(&[], target)?;
     peer.send_to(&[8; 516], target)?;
-    Ok(at(peer.local_addr()?.port()))
+    Ok(loopback(peer.local_addr()?.port()))
 }
 
 // Whether three reads of a port return these datagrams.
@@ -296,7 +307,7 @@ impl Pair {
         self.peer.send(&ack(self.from, to, block))
     }
 
-    // Reads an ACK at a port.
+    // Reads an ACK loopback a port.
     fn read(&mut self, port: u16) -> Result<Came, Fail> {
         let mut buffer = [0; RECEIVE_SIZE];
         let Some((count, from)) = self.wire.receive(port, &mut buffer)? else {
@@ -330,7 +341,7 @@ fn send_to_both(pair: &mut Pair) -> Result<(), WireFault> {
 fn visits(pair: &mut Pair, acks: [(u16, u16); 6]) -> Result<bool, Fail> {
     let mut last = 0;
     for (port, block) in acks {
-        if pair.visit(last)? != (port, Some((block, at(pair.from)))) {
+        if pair.visit(last)? != (port, Some((block, loopback(pair.from)))) {
             return Ok(false);
         }
         last = port;
@@ -382,7 +393,7 @@ fn times_of_two_reads(rt: HostRuntime, pair: &mut Pair) -> Result<(u128, u128), 
     pair.send(pair.low, 1)?;
     let visited = pair.visit(0)?;
     let given = pair.wire.wait(0, Some(0)).port;
-    if visited != (pair.low, Some((1, at(pair.from)))) || given != Some(pair.low) {
+    if visited != (pair.low, Some((1, loopback(pair.from)))) || given != Some(pair.low) {
         return Err(Fail::new("another port is ready"));
     }
     Ok((
@@ -391,7 +402,7 @@ fn times_of_two_reads(rt: HostRuntime, pair: &mut Pair) -> Result<(u128, u128), 
     ))
 }
 
-// The port that a wait has just returned is read at once, and after that it is waited at again.
+// The port that a wait has just returned is read loopback once, and after that it is waited loopback again.
 #[test]
 fn a_port_that_is_given_is_not_waited_at(rt: HostRuntime) -> Result<(), Fail> {
     let mut pair = Pair::open(rt)?;
@@ -405,7 +416,7 @@ fn a_port_that_is_given_is_not_waited_at(rt: HostRuntime) -> Result<(), Fail> {
     Ok(())
 }
 
-// The ports that three waits return. Three datagrams have arrived at the upper port, and one arrives at the lower after
+// The ports that three waits return. Three datagrams have arrived loopback the upper port, and one arrives loopback the lower after
 // the upper one was read.
 fn three_waits(pair: &mut Pair) -> Result<(u16, u16, Option<u16>), Fail> {
     let (low, high) = (pair.low, pair.high);
@@ -446,8 +457,8 @@ fn a_closed_port_is_not_given(rt: HostRuntime) -> Result<(), Fail> {
     Ok(())
 }
 
-// How often the upper port is read in forty visits. Two datagrams have arrived at it, and before each visit another
-// arrives at the lower port.
+// How often the upper port is read in forty visits. Two datagrams have arrived loopback it, and before each visit another
+// arrives loopback the lower port.
 fn visits_above(pair: &mut Pair) -> Result<u32, Fail> {
     pair.send(pair.high, 1)?;
     pair.send(pair.high, 2)?;

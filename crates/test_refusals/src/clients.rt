@@ -3,25 +3,11 @@ use archive_client::{Cause, Get, Put, State};
 use refusing::{Outcome, Refusing, refuse_each};
 use std::alloc::{Allocator, Global};
 use std::test::Fail;
+use test_samples::{
+    ACK_0, ACK_1, DATA_HUNDRED, HUNDRED, OUT_OF_MEMORY, PEER, SERVER, WRQ, whole_block,
+};
 use tftp_packet::{Endpoint, Out};
 use tws_file::Ruleset;
-
-const SERVER: Endpoint = Endpoint {
-    host: 1,
-    port: 6969,
-};
-
-const PEER: Endpoint = Endpoint {
-    host: 1,
-    port: 4000,
-};
-
-// A Lynx file: level 1, BDHP, 100 ticks, no moves.
-const FILE: &[u8; 28] = b"\x35\x33\x9B\x99\x01\0\0\0\x10\0\0\0\x01\0BDHP\0\0\0\0\0\0\x64\0\0\0";
-
-// Its first and only block.
-const FILE_DATA: &[u8; 32] =
-    b"\0\x03\0\x01\x35\x33\x9B\x99\x01\0\0\0\x10\0\0\0\x01\0BDHP\0\0\0\0\0\0\x64\0\0\0";
 
 fn is_out(out: &Out, to: Endpoint, bytes: &[u8]) -> bool {
     out.from_port == 5000 && out.to == to && out.dgram.bytes() == bytes
@@ -36,7 +22,7 @@ fn goes(out: &Option<Out>, to: Endpoint, bytes: &[u8]) -> bool {
 
 // Whether the client failed because it was out of memory, sent the ERROR for that, and is silent from now on.
 fn gives_up<A: Allocator + Copy>(client: &mut Get<A>, out: &Option<Out>, data: &[u8]) -> bool {
-    goes(out, PEER, b"\0\x05\0\x03out of memory\0")
+    goes(out, PEER, OUT_OF_MEMORY)
         && client.state() == State::Failed(Cause::Memory)
         && client.over()
         && client.on_datagram(PEER, data).is_none()
@@ -72,8 +58,8 @@ fn fetch_one(global: Global, refusing: &Refusing<Global>) -> Outcome {
     if refusing.requests() != 0 {
         return Outcome::Wrong;
     }
-    match give(&mut client, 1, FILE_DATA) {
-        Ok(()) => Outcome::of(has_got(global, client, FILE)),
+    match give(&mut client, 1, DATA_HUNDRED) {
+        Ok(()) => Outcome::of(has_got(global, client, HUNDRED)),
         Err(Outcome::OutOfMemory) => Outcome::refused(client.into_file().is_err()),
         Err(outcome) => outcome,
     }
@@ -92,12 +78,8 @@ fn fetching_one_block(rt: HostRuntime) -> Result<(), Fail> {
 
 // Passes three blocks to the client, of which the last is empty; each byte of a block is its number.
 fn give_three<A: Allocator + Copy>(client: &mut Get<A>) -> Result<(), Outcome> {
-    let mut first = [1; 516];
-    first[..4].copy_from_slice(b"\0\x03\0\x01");
-    give(client, 1, &first)?;
-    let mut second = [2; 516];
-    second[..4].copy_from_slice(b"\0\x03\0\x02");
-    give(client, 2, &second)?;
+    give(client, 1, &whole_block(1, 1))?;
+    give(client, 2, &whole_block(2, 2))?;
     give(client, 3, b"\0\x03\0\x03")
 }
 
@@ -124,12 +106,11 @@ fn fetching_some_blocks(rt: HostRuntime) -> Result<(), Fail> {
 
 // Whether the request, the data and the end of a put are right, and request and data are sent again at a time-out.
 fn sends_file<A: Allocator + Copy>(client: &mut Put<A>, first: Out) -> bool {
-    let request = b"\0\x02upload.tws\0octet\0";
-    goes(&Some(first), SERVER, request)
-        && goes(&client.on_timeout(), SERVER, request)
-        && goes(&client.on_datagram(PEER, b"\0\x04\0\0"), PEER, FILE_DATA)
-        && goes(&client.on_timeout(), PEER, FILE_DATA)
-        && client.on_datagram(PEER, b"\0\x04\0\x01").is_none()
+    goes(&Some(first), SERVER, WRQ)
+        && goes(&client.on_timeout(), SERVER, WRQ)
+        && goes(&client.on_datagram(PEER, ACK_0), PEER, DATA_HUNDRED)
+        && goes(&client.on_timeout(), PEER, DATA_HUNDRED)
+        && client.on_datagram(PEER, ACK_1).is_none()
         && client.state() == State::Sent
 }
 
@@ -137,7 +118,7 @@ fn sends_file<A: Allocator + Copy>(client: &mut Put<A>, first: Out) -> bool {
 #[test]
 fn sending(rt: HostRuntime) -> Result<(), Fail> {
     let refusing = Refusing::new(rt.alloc(), 0);
-    let file = Vec::from_slice(&refusing, FILE)?;
+    let file = Vec::from_slice(&refusing, HUNDRED)?;
     let requests = refusing.requests();
     let Ok((mut client, first)) = Put::start(5000, SERVER, file) else {
         return Err(Fail::new("too long"));

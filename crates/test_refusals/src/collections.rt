@@ -2,18 +2,18 @@
 use refusing::{Outcome, Refusing, refuse_each};
 use std::alloc::{Allocator, Global};
 use std::test::Fail;
+use test_samples::{EMPTY_LYNX, record};
 use tftp_packet::Blocks;
 use tws_best::Collection;
 use tws_file::{Ruleset, TwsFile, read_file};
 
 // A Lynx file of solutions without moves, each with this number, a letter that is its password four times, and its
 // ticks.
-fn text_of(alloc: Global, solutions: &[(u8, u8, u8)]) -> Result<Vec<u8>, Fail> {
-    let mut text = Vec::from_slice(alloc, &[0x35, 0x33, 0x9B, 0x99, 1, 0, 0, 0])?;
+fn text_of(alloc: Global, solutions: &[(u16, u8, u32)]) -> Result<Vec<u8>, Fail> {
+    let mut text = Vec::from_slice(alloc, EMPTY_LYNX)?;
     for (number, letter, ticks) in solutions {
-        text.extend_from_slice(&[16, 0, 0, 0, *number, 0])?;
-        text.extend_from_slice(&[*letter, *letter, *letter, *letter])?;
-        text.extend_from_slice(&[0, 0, 0, 0, 0, 0, *ticks, 0, 0, 0])?;
+        let solution = record(alloc, *number, &[*letter; 4], 0, *ticks, &[])?;
+        text.extend_from_slice(&solution)?;
     }
     Ok(text)
 }
@@ -25,7 +25,7 @@ struct Sample {
     text: Vec<u8>,
 }
 
-fn read_sample(global: Global, solutions: &[(u8, u8, u8)]) -> Result<Sample, Fail> {
+fn read_sample(global: Global, solutions: &[(u16, u8, u32)]) -> Result<Sample, Fail> {
     let text = text_of(global, solutions)?;
     let file = read_file(global, &text)?;
     Ok(Sample { file, text })
@@ -36,15 +36,12 @@ fn is_text<A: Allocator + Copy>(global: Global, collection: &Collection<A>, text
     collection.write_text(&mut out).is_ok() && out.as_slice() == text
 }
 
-const THREE: [(u8, u8, u8); 3] = [(1, 0x41, 50), (2, 0x42, 60), (4, 0x44, 70)];
+const THREE: [(u16, u8, u32); 3] = [(1, 0x41, 50), (2, 0x42, 60), (4, 0x44, 70)];
 
 // A solution of another level, and a better one of a level that is kept.
-const TWO: [(u8, u8, u8); 2] = [(3, 0x43, 10), (2, 0x42, 20)];
+const TWO: [(u16, u8, u32); 2] = [(3, 0x43, 10), (2, 0x42, 20)];
 
-const ALL: [(u8, u8, u8); 4] = [(1, 0x41, 50), (2, 0x42, 20), (3, 0x43, 10), (4, 0x44, 70)];
-
-// The text of an empty collection.
-const EMPTY: [u8; 8] = [0x35, 0x33, 0x9B, 0x99, 1, 0, 0, 0];
+const ALL: [(u16, u8, u32); 4] = [(1, 0x41, 50), (2, 0x42, 20), (3, 0x43, 10), (4, 0x44, 70)];
 
 // Merges a file into a collection, which then has the new text, or still the old one.
 fn merge<A: Allocator + Copy>(
@@ -71,7 +68,13 @@ fn merging(rt: HostRuntime) -> Result<(), Fail> {
         5,
         &|refusing: &Refusing<Global>| {
             let mut collection = Collection::new(refusing, Ruleset::Lynx);
-            match merge(global, &mut collection, &three.file, &EMPTY, &three.text) {
+            match merge(
+                global,
+                &mut collection,
+                &three.file,
+                EMPTY_LYNX,
+                &three.text,
+            ) {
                 Outcome::Right => merge(global, &mut collection, &two.file, &three.text, &all),
                 outcome => outcome,
             }
@@ -103,7 +106,7 @@ fn empty_collections(rt: HostRuntime) -> Result<(), Fail> {
     let refusing = Refusing::new(rt.alloc(), 1);
     let collection = Collection::new(&refusing, Ruleset::Lynx);
     let copy = collection.copy()?;
-    assert!(rt; is_text(rt.alloc(), &copy, &EMPTY));
+    assert!(rt; is_text(rt.alloc(), &copy, EMPTY_LYNX));
     assert_eq!(rt; refusing.requests(), 0);
     Ok(())
 }

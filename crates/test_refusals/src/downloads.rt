@@ -1,39 +1,39 @@
 // A download from the server's table does not allocate after its first block, nor to open if another one has its text.
 use crate::blocks::Blocks;
-use crate::table::{FIRST, REQUEST, SECOND, TO_READ, TO_WRITE, ask, goes, hear};
+use crate::table::{REQUEST, ask, goes, hear};
 use archive_table::Table;
 use refusing::Refusing;
 use std::alloc::{Allocator, Global};
 use std::test::Fail;
+use test_samples::{ACK_0, ACK_1, ACK_2, ALICE, BOB, RRQ_LYNX, UNKNOWN_TRANSFER, WRQ};
 
 // Whether a file is taken.
 fn takes<A: Allocator + Copy>(table: &mut Table<A>, file: &Blocks) -> bool {
-    let Some(step) = ask(table, 4000, FIRST, TO_WRITE) else {
+    let Some(step) = ask(table, 4000, ALICE, WRQ) else {
         return false;
     };
     step.opened
-        && hear(table, 4000, FIRST, &file.first).taken.is_none()
-        && hear(table, 4000, FIRST, &file.second).taken.is_some()
+        && hear(table, 4000, ALICE, &file.first).taken.is_none()
+        && hear(table, 4000, ALICE, &file.second).taken.is_some()
 }
 
 // Whether a download is opened, and its first block is the file's.
 fn opens<A: Allocator + Copy>(table: &mut Table<A>, file: &Blocks) -> bool {
-    match ask(table, 4001, SECOND, TO_READ) {
-        Some(step) => step.opened && goes(&step.out, 4001, SECOND, &file.first),
+    match ask(table, 4001, BOB, RRQ_LYNX) {
+        Some(step) => step.opened && goes(&step.out, 4001, BOB, &file.first),
         None => false,
     }
 }
 
 // Whether a block is sent again at a time-out, ACK 0 has no effect, and a stranger is sent its ERROR.
 fn repeats<A: Allocator + Copy>(table: &mut Table<A>, block: &[u8]) -> bool {
-    let stranger = b"\0\x05\0\x05unknown transfer\0";
-    goes(&table.on_timeout(4001).out, 4001, SECOND, block)
-        && hear(table, 4001, SECOND, b"\0\x04\0\0").out.is_none()
+    goes(&table.on_timeout(4001).out, 4001, BOB, block)
+        && hear(table, 4001, BOB, ACK_0).out.is_none()
         && goes(
-            &hear(table, 4001, FIRST, b"\0\x04\0\x01").out,
+            &hear(table, 4001, ALICE, ACK_1).out,
             4001,
-            FIRST,
-            stranger,
+            ALICE,
+            UNKNOWN_TRANSFER,
         )
 }
 
@@ -43,10 +43,10 @@ fn goes_on<A: Allocator + Copy>(table: &mut Table<A>, file: &Blocks) -> bool {
     if !repeats(table, &file.first) {
         return false;
     }
-    let second = hear(table, 4001, SECOND, b"\0\x04\0\x01");
-    goes(&second.out, 4001, SECOND, &file.second)
+    let second = hear(table, 4001, BOB, ACK_1);
+    goes(&second.out, 4001, BOB, &file.second)
         && repeats(table, &file.second)
-        && hear(table, 4001, SECOND, b"\0\x04\0\x02").closed
+        && hear(table, 4001, BOB, ACK_2).closed
         && table.live() == 1
 }
 
@@ -65,7 +65,7 @@ fn a_download_after_its_first_block(rt: HostRuntime) -> Result<(), Fail> {
 
 // Whether a download is opened at this port.
 fn opens_at<A: Allocator + Copy>(table: &mut Table<A>, port: u16) -> bool {
-    match ask(table, port, SECOND, TO_READ) {
+    match ask(table, port, BOB, RRQ_LYNX) {
         Some(step) => step.opened,
         None => false,
     }
@@ -73,7 +73,7 @@ fn opens_at<A: Allocator + Copy>(table: &mut Table<A>, port: u16) -> bool {
 
 // Whether an ERROR of its peer closes it.
 fn closes_at<A: Allocator + Copy>(table: &mut Table<A>, port: u16) -> bool {
-    hear(table, port, SECOND, b"\0\x05\0\0\0").closed
+    hear(table, port, BOB, b"\0\x05\0\0\0").closed
 }
 
 // The second download has the snapshot of the first. It is dropped with the last of them, so the next one allocates.

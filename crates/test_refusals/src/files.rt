@@ -5,6 +5,7 @@ ghost use Rattle.tws_file.specs.Reader.{HasRoom, HasAtMost};
 use refusing::{Outcome, Refusing, refuse_each};
 use std::alloc::{Allocator, Global};
 use std::test::Fail;
+use test_samples::CUT_MOVE;
 use tws_file::{FileFault, OutFault, Reader, TwsFile, read_file, show};
 
 // Two further header bytes, then a set record, a bare one, a pad, and a solution with two bytes of moves.
@@ -102,17 +103,11 @@ fn reading_in_pieces(rt: HostRuntime) -> Result<(), Fail> {
     )?)
 }
 
-// A Lynx file whose last move is cut at byte 29.
-const CUT: [u8; 30] = [
-    0x35, 0x33, 0x9B, 0x99, 0x01, 0x00, 0x00, 0x00, 0x12, 0x00, 0x00, 0x00, 0x01, 0x00, 0x42, 0x44,
-    0x48, 0x50, 0x00, 0x00, 0x00, 0x00, 0x00, 0x00, 0x64, 0x00, 0x00, 0x00, 0x01, 0xFE,
-];
-
 // Reads the cut file byte by byte. A push that was out of memory is made again, so that the fault is that of the file.
 fn read_cut(refusing: &Refusing<Global>) -> Result<(), FileFault> {
     let mut reader = Reader::new(refusing);
-    for i in 0..CUT.len() {
-        push_again(&mut reader, &CUT[i..i + 1])?;
+    for i in 0..CUT_MOVE.len() {
+        push_again(&mut reader, &CUT_MOVE[i..i + 1])?;
     }
     let _file = reader.finish()?;
     Ok(())

@@ -7,45 +7,24 @@ use refusing::{Outcome, Refusing, refuse_each};
 use std::alloc::{AllocError, Allocator, Global};
 use std::cell::Cell;
 use std::test::Fail;
+use test_samples::{
+    ACK_0, ACK_1, ALICE, DATA_HUNDRED, EMPTY_LYNX, EMPTY_MS, HUNDRED, NOT_KEPT, OUT_OF_MEMORY,
+    UNKNOWN_TRANSFER, WRQ, at,
+};
 use tftp_packet::Endpoint;
 use tws_file::{Bytes, Ruleset};
-
-const CLIENT: Endpoint = Endpoint {
-    host: 2,
-    port: 5000,
-};
-
-const TO_WRITE: &[u8] = b"\0\x02upload.tws\0octet\0";
-
-const OUT_OF_MEMORY: &[u8] = b"\0\x05\0\x03out of memory\0";
-
-const NOT_KEPT: &[u8] = b"\0\x05\0\0not kept\0";
-
-const UNKNOWN: &[u8] = b"\0\x05\0\x05unknown transfer\0";
-
-// A Lynx file: level 1, BDHP, 100 ticks, no moves; and DATA 1 with it.
-const FILE: &[u8; 28] = b"\x35\x33\x9B\x99\x01\0\0\0\x10\0\0\0\x01\0BDHP\0\0\0\0\0\0\x64\0\0\0";
-
-const FILE_DATA: &[u8; 32] =
-    b"\0\x03\0\x01\x35\x33\x9B\x99\x01\0\0\0\x10\0\0\0\x01\0BDHP\0\0\0\0\0\0\x64\0\0\0";
-
-const EMPTY: &[u8] = b"\x35\x33\x9B\x99\x01\0\0\0";
-
-const EMPTY_MS: &[u8] = b"\x35\x33\x9B\x99\x02\0\0\0";
-
-fn at(port: u16) -> Endpoint {
-    Endpoint { host: 1, port }
-}
 
 // A put begins, and these datagrams are delivered, each with its spare port.
 fn put_events<A: Allocator + Copy>(
     alloc: A,
     deliveries: &[(usize, u16)],
 ) -> Result<Vec<Event<A>, A>, AllocError> {
-    let client = CLIENT;
-    let kind = OpKind::Put(Bytes::of(Vec::from_slice(alloc, FILE)?));
+    let kind = OpKind::Put(Bytes::of(Vec::from_slice(alloc, HUNDRED)?));
     let mut events = Vec::new(alloc);
-    events.push(Event::Begin(Op { client, kind }))?;
+    events.push(Event::Begin(Op {
+        client: ALICE,
+        kind,
+    }))?;
     for (index, spare) in deliveries {
         events.push(Event::Deliver {
             index: *index,
@@ -82,7 +61,7 @@ fn were_sent<A: Allocator>(
 // Whether transfers were opened for the client at exactly these ports.
 fn were_opened(opened: &[Opening], ports: &[u16]) -> bool {
     for (one, port) in opened.iter().zip(ports) {
-        if one.peer != CLIENT || one.port != *port || one.taken != 0 {
+        if one.peer != ALICE || one.port != *port || one.taken != 0 {
             return false;
         }
     }
@@ -94,8 +73,8 @@ fn has_nothing<A: Allocator>(left: &Left<A>) -> bool {
     left.taken.is_empty()
         && left.sent.is_empty()
         && left.got.is_empty()
-        && left.lynx.as_slice() == EMPTY
-        && left.ms.as_slice() == EMPTY_MS
+        && left.lynx.as_slice() == EMPTY_LYNX.as_slice()
+        && left.ms.as_slice() == EMPTY_MS.as_slice()
 }
 
 // Whether the file was taken and counts as sent by these clients, and the server has it and nothing else.
@@ -103,12 +82,12 @@ fn has_file<A: Allocator>(left: &Left<A>, sent: &[Endpoint]) -> bool {
     let [one] = left.taken.as_slice() else {
         return false;
     };
-    one.peer == CLIENT
-        && one.file.as_slice() == FILE.as_slice()
+    one.peer == ALICE
+        && one.file.as_slice() == HUNDRED.as_slice()
         && left.sent.as_slice() == sent
         && left.got.is_empty()
-        && left.lynx.as_slice() == FILE.as_slice()
-        && left.ms.as_slice() == EMPTY_MS
+        && left.lynx.as_slice() == HUNDRED.as_slice()
+        && left.ms.as_slice() == EMPTY_MS.as_slice()
 }
 
 // ---- a request that is answered
@@ -125,13 +104,13 @@ fn request(global: Global, refusing: &Refusing<Global>, unopened: &Cell<bool>) -
     };
     if left.opened.is_empty() {
         unopened.set(true);
-        let sent = [(CLIENT, SERVER, TO_WRITE), (SERVER, CLIENT, OUT_OF_MEMORY)];
+        let sent = [(ALICE, SERVER, WRQ.as_slice()), (SERVER, ALICE, OUT_OF_MEMORY)];
         return Outcome::refused(has_nothing(&left) && were_sent(left.datagrams.as_slice(), &sent));
     }
-    let sent = [
-        (CLIENT, SERVER, TO_WRITE),
-        (at(4000), CLIENT, b"\0\x04\0\0".as_slice()),
-        (CLIENT, at(4000), FILE_DATA.as_slice()),
+    let sent: [(Endpoint, Endpoint, &[u8]); 3] = [
+        (ALICE, SERVER, WRQ),
+        (at(4000), ALICE, ACK_0),
+        (ALICE, at(4000), DATA_HUNDRED),
     ];
     let is_sent = were_sent(left.datagrams.as_slice(), &sent);
     Outcome::of(has_nothing(&left) && is_sent && were_opened(left.opened.as_slice(), &[4000]))
@@ -158,13 +137,13 @@ const TWICE: [(usize, u16); 7] = [(0, 4000), (0, 4001), (1, 0), (2, 0), (4, 0), 
 
 // Whether these are the datagrams of the run with ample memory; the last one differs if the block is refused.
 fn were_sent_twice<A: Allocator>(datagrams: &[Datagram<A>], last: &[u8]) -> bool {
-    let sent = [
-        (CLIENT, SERVER, TO_WRITE),
-        (at(4000), CLIENT, b"\0\x04\0\0".as_slice()),
-        (at(4001), CLIENT, b"\0\x04\0\0".as_slice()),
-        (CLIENT, at(4000), FILE_DATA.as_slice()),
-        (CLIENT, at(4001), UNKNOWN),
-        (at(4000), CLIENT, last),
+    let sent: [(Endpoint, Endpoint, &[u8]); 6] = [
+        (ALICE, SERVER, WRQ),
+        (at(4000), ALICE, ACK_0),
+        (at(4001), ALICE, ACK_0),
+        (ALICE, at(4000), DATA_HUNDRED),
+        (ALICE, at(4001), UNKNOWN_TRANSFER),
+        (at(4000), ALICE, last),
     ];
     were_sent(datagrams, &sent)
 }
@@ -188,8 +167,8 @@ fn request_twice(global: Global, refusing: &Refusing<Global>, unopened: &Cell<bo
         let is_sent = were_sent_twice(datagrams, OUT_OF_MEMORY);
         return Outcome::refused(has_nothing(&left) && is_opened && is_sent);
     }
-    let is_sent = were_sent_twice(datagrams, b"\0\x04\0\x01");
-    Outcome::of(has_file(&left, &[CLIENT]) && is_opened && is_sent)
+    let is_sent = were_sent_twice(datagrams, ACK_1);
+    Outcome::of(has_file(&left, &[ALICE]) && is_opened && is_sent)
 }
 
 // A request that is refused is answered, and no block is sent to a second transfer: a later event is then about a
@@ -216,7 +195,7 @@ fn keeps_file<A: Allocator + Copy>(keeper: &MemoryKeeper<A>) -> bool {
     let [one] = keeper.kept() else {
         return false;
     };
-    one.ruleset == Ruleset::Lynx && one.text.as_slice() == FILE.as_slice() && one.ok
+    one.ruleset == Ruleset::Lynx && one.text.as_slice() == HUNDRED.as_slice() && one.ok
 }
 
 // What a put and a restart leave, also with the keeper: all of it, or nothing if the last block was refused or the
@@ -228,16 +207,16 @@ fn judge_restart<A: Allocator + Copy>(left: &Left<A>, keeper: &MemoryKeeper<A>) 
     let [request, first, block, last] = left.datagrams.as_slice() else {
         return Outcome::Wrong;
     };
-    let is_begun = is_datagram(request, CLIENT, SERVER, TO_WRITE)
-        && is_datagram(first, at(4000), CLIENT, b"\0\x04\0\0")
-        && is_datagram(block, CLIENT, at(4000), FILE_DATA);
+    let is_begun = is_datagram(request, ALICE, SERVER, WRQ)
+        && is_datagram(first, at(4000), ALICE, ACK_0)
+        && is_datagram(block, ALICE, at(4000), DATA_HUNDRED);
     if left.taken.is_empty() {
-        let is_told = is_datagram(last, at(4000), CLIENT, OUT_OF_MEMORY)
-            || is_datagram(last, at(4000), CLIENT, NOT_KEPT);
+        let is_told = is_datagram(last, at(4000), ALICE, OUT_OF_MEMORY)
+            || is_datagram(last, at(4000), ALICE, NOT_KEPT);
         let is_nothing = has_nothing(left) && keeper.kept().is_empty();
         return Outcome::refused(is_begun && is_told && is_nothing);
     }
-    let is_told = is_datagram(last, at(4000), CLIENT, b"\0\x04\0\x01");
+    let is_told = is_datagram(last, at(4000), ALICE, ACK_1);
     Outcome::of(is_begun && is_told && has_file(left, &[]) && keeps_file(keeper))
 }
 
@@ -252,7 +231,7 @@ struct Seen {
 // Whether the last datagram says that the collection was not kept.
 fn was_refused_a_keep<A: Allocator>(left: &Left<A>) -> bool {
     match left.datagrams.last() {
-        Some(d) => d.bytes.as_slice() == NOT_KEPT,
+        Some(d) => d.bytes.as_slice() == NOT_KEPT.as_slice(),
         None => false,
     }
 }

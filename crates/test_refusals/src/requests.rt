@@ -1,18 +1,14 @@
 // Requests to the server's table while other transfers are live, with each allocation refused in turn.
-use crate::table::{OUT_OF_MEMORY, REQUEST, SECOND, TO_READ, TO_WRITE, ask, goes};
+use crate::table::{REQUEST, ask, goes};
 use archive_table::{Step, Table};
 use refusing::{Outcome, Refusing, refuse_each};
 use std::alloc::{Allocator, Global};
 use std::cell::Cell;
 use std::test::Fail;
+use test_samples::{ACK_0, BOB, DATA_EMPTY_LYNX, OUT_OF_MEMORY, RRQ_LYNX, WRQ};
 
 // Enough for each part of the table to grow more than once.
 const TRANSFERS: u16 = 17;
-
-const ACK_0: &[u8] = b"\0\x04\0\0";
-
-// DATA 1 of the Lynx collection without solutions.
-const EMPTY_DATA: &[u8] = b"\0\x03\0\x01\x35\x33\x9B\x99\x01\0\0\0";
 
 fn port(i: u16) -> u16 {
     4000_u16.wrapping_add(i)
@@ -36,7 +32,7 @@ fn ask_next<A: Allocator + Copy>(
     count: u16,
     request: &[u8],
 ) -> Option<Step<A>> {
-    ask(table, port(count), SECOND, request)
+    ask(table, port(count), BOB, request)
 }
 
 // Whether a request to a table with `count` transfers has opened the next one, which sends this first.
@@ -47,14 +43,14 @@ fn is_open<A: Allocator + Copy>(
     step: &Step<A>,
 ) -> bool {
     step.opened
-        && goes(&step.out, port(count), SECOND, first)
+        && goes(&step.out, port(count), BOB, first)
         && are_live(table, count.wrapping_add(1))
 }
 
 // Whether each of `count` transfers sends this again at a time-out.
 fn go_on<A: Allocator + Copy>(table: &mut Table<A>, count: u16, first: &[u8]) -> bool {
     for i in 0..count {
-        if !goes(&table.on_timeout(port(i)).out, port(i), SECOND, first) {
+        if !goes(&table.on_timeout(port(i)).out, port(i), BOB, first) {
             return false;
         }
     }
@@ -69,7 +65,7 @@ fn is_served_later<A: Allocator + Copy>(
     first: &[u8],
     refused: &Step<A>,
 ) -> bool {
-    if !goes(&refused.out, REQUEST, SECOND, OUT_OF_MEMORY)
+    if !goes(&refused.out, REQUEST, BOB, OUT_OF_MEMORY)
         || !are_live(table, count)
         || !go_on(table, count, first)
     {
@@ -115,7 +111,7 @@ fn requests_to_write(rt: HostRuntime) -> Result<(), Fail> {
     refuse_each(
         rt.alloc(),
         4,
-        &|refusing: &Refusing<Global>| open_all(refusing, TO_WRITE, ACK_0, &refused),
+        &|refusing: &Refusing<Global>| open_all(refusing, WRQ, ACK_0, &refused),
     )?;
     assert!(rt; refused.get() > 1, "{}", refused.get());
     Ok(())
@@ -127,7 +123,7 @@ fn requests_to_read(rt: HostRuntime) -> Result<(), Fail> {
     refuse_each(
         rt.alloc(),
         4,
-        &|refusing: &Refusing<Global>| open_all(refusing, TO_READ, EMPTY_DATA, &refused),
+        &|refusing: &Refusing<Global>| open_all(refusing, RRQ_LYNX, DATA_EMPTY_LYNX, &refused),
     )?;
     assert!(rt; refused.get() > 1, "{}", refused.get());
     Ok(())

@@ -4,29 +4,9 @@ use archive_turns::{Entry, MemoryWire, RunFault, Server, run_get, serve_turns};
 use refusing::{Outcome, Refusing, refuse_each};
 use std::alloc::{AllocError, Global};
 use std::test::Fail;
+use test_samples::{ACK_0, ACK_1, ALICE, DATA_HUNDRED, HUNDRED, OUT_OF_MEMORY, WRQ, at};
 use tftp_packet::Endpoint;
 use tws_file::Ruleset;
-
-const CLIENT: Endpoint = Endpoint {
-    host: 2,
-    port: 5000,
-};
-
-const TO_WRITE: &[u8] = b"\0\x02upload.tws\0octet\0";
-
-const OUT_OF_MEMORY: &[u8] = b"\0\x05\0\x03out of memory\0";
-
-const ACK_1: &[u8] = b"\0\x04\0\x01";
-
-// A Lynx file: level 1, BDHP, 100 ticks, no moves; and DATA 1 with it.
-const FILE: &[u8] = b"\x35\x33\x9B\x99\x01\0\0\0\x10\0\0\0\x01\0BDHP\0\0\0\0\0\0\x64\0\0\0";
-
-const FILE_DATA: &[u8] =
-    b"\0\x03\0\x01\x35\x33\x9B\x99\x01\0\0\0\x10\0\0\0\x01\0BDHP\0\0\0\0\0\0\x64\0\0\0";
-
-fn at(port: u16) -> Endpoint {
-    Endpoint { host: 1, port }
-}
 
 fn is_sent(entry: &Entry, from: u16, to: Endpoint, bytes: &[u8]) -> bool {
     match entry {
@@ -42,7 +22,7 @@ fn is_sent(entry: &Entry, from: u16, to: Endpoint, bytes: &[u8]) -> bool {
 // A wire at which the only block has arrived.
 fn answered_wire(global: Global) -> Result<MemoryWire, AllocError> {
     let mut wire = MemoryWire::new(global, Vec::from_slice(global, &[5000])?);
-    wire.arrive(global, 5000, at(4000), FILE_DATA)?;
+    wire.arrive(global, 5000, at(4000), DATA_HUNDRED)?;
     Ok(wire)
 }
 
@@ -61,7 +41,7 @@ fn fetch(global: Global, refusing: &Refusing<Global>) -> Outcome {
     let mut out = Vec::new(global);
     match run_get(refusing, &mut wire, at(6969), Ruleset::Lynx, 1, &mut out) {
         Ok(len) => {
-            let is_whole = len == 28 && out.as_slice() == FILE;
+            let is_whole = len == 28 && out.as_slice() == HUNDRED.as_slice();
             Outcome::of(is_whole && has_answered(&wire, ACK_1))
         }
         Err(fault) => {
@@ -87,8 +67,8 @@ fn fetching(rt: HostRuntime) -> Result<(), Fail> {
 // A wire with a whole put.
 fn put_wire(global: Global) -> Result<MemoryWire, AllocError> {
     let mut wire = MemoryWire::new(global, Vec::from_slice(global, &[4000])?);
-    wire.arrive(global, 6969, CLIENT, TO_WRITE)?;
-    wire.arrive(global, 4000, CLIENT, FILE_DATA)?;
+    wire.arrive(global, 6969, ALICE, WRQ)?;
+    wire.arrive(global, 4000, ALICE, DATA_HUNDRED)?;
     Ok(wire)
 }
 
@@ -97,11 +77,10 @@ fn put_wire(global: Global) -> Result<MemoryWire, AllocError> {
 fn has_refused(wire: &MemoryWire) -> bool {
     match wire.log() {
         [_, _, sent, Entry::Closed(4000, true), Entry::Quiet(6969)] => {
-            is_sent(sent, 6969, CLIENT, OUT_OF_MEMORY)
+            is_sent(sent, 6969, ALICE, OUT_OF_MEMORY)
         }
         [_, _, first, _, sent, Entry::Closed(4000, true)] => {
-            is_sent(first, 4000, CLIENT, b"\0\x04\0\0")
-                && is_sent(sent, 4000, CLIENT, OUT_OF_MEMORY)
+            is_sent(first, 4000, ALICE, ACK_0) && is_sent(sent, 4000, ALICE, OUT_OF_MEMORY)
         }
         _ => false,
     }
@@ -111,14 +90,14 @@ fn has_refused(wire: &MemoryWire) -> bool {
 fn has_acked(wire: &MemoryWire) -> bool {
     match wire.log() {
         [_, _, first, _, last] => {
-            is_sent(first, 4000, CLIENT, b"\0\x04\0\0") && is_sent(last, 4000, CLIENT, ACK_1)
+            is_sent(first, 4000, ALICE, ACK_0) && is_sent(last, 4000, ALICE, ACK_1)
         }
         _ => false,
     }
 }
 
 fn is_file(one: &Kept) -> bool {
-    one.ruleset == Ruleset::Lynx && one.ok && one.text.as_slice() == FILE
+    one.ruleset == Ruleset::Lynx && one.ok && one.text.as_slice() == HUNDRED.as_slice()
 }
 
 // Makes the two turns of a put.

@@ -4,45 +4,14 @@ use refusing::{Outcome, Refusing, refuse_each};
 use std::alloc::{Allocator, Global};
 use std::cell::Cell;
 use std::test::Fail;
+use test_samples::{
+    ACK_1, ALICE, BOB, DATA_HUNDRED, DATA_NINETY, EMPTY_LYNX, EMPTY_MS, HUNDRED, NINETY, NOT_KEPT,
+    OUT_OF_MEMORY, RRQ_LYNX, WRQ,
+};
 use tftp_packet::{Endpoint, Out};
 use tws_file::Ruleset;
 
 pub(crate) const REQUEST: u16 = 6969;
-
-pub(crate) const FIRST: Endpoint = Endpoint {
-    host: 2,
-    port: 5000,
-};
-
-pub(crate) const SECOND: Endpoint = Endpoint {
-    host: 3,
-    port: 5000,
-};
-
-pub(crate) const TO_WRITE: &[u8] = b"\0\x02upload.tws\0octet\0";
-
-pub(crate) const TO_READ: &[u8] = b"\0\x01lynx.tws\0octet\0";
-
-pub(crate) const OUT_OF_MEMORY: &[u8] = b"\0\x05\0\x03out of memory\0";
-
-const NOT_KEPT: &[u8] = b"\0\x05\0\0not kept\0";
-
-const EMPTY_LYNX: &[u8] = b"\x35\x33\x9B\x99\x01\0\0\0";
-
-const EMPTY_MS: &[u8] = b"\x35\x33\x9B\x99\x02\0\0\0";
-
-// A Lynx file: level 1, BDHP, 100 ticks, no moves. As a collection it has the same text.
-const FILE: &[u8] = b"\x35\x33\x9B\x99\x01\0\0\0\x10\0\0\0\x01\0BDHP\0\0\0\0\0\0\x64\0\0\0";
-
-// Its first and only block.
-const FILE_DATA: &[u8; 32] =
-    b"\0\x03\0\x01\x35\x33\x9B\x99\x01\0\0\0\x10\0\0\0\x01\0BDHP\0\0\0\0\0\0\x64\0\0\0";
-
-// The same in 90 ticks.
-const BETTER: &[u8] = b"\x35\x33\x9B\x99\x01\0\0\0\x10\0\0\0\x01\0BDHP\0\0\0\0\0\0\x5A\0\0\0";
-
-const BETTER_DATA: &[u8; 32] =
-    b"\0\x03\0\x01\x35\x33\x9B\x99\x01\0\0\0\x10\0\0\0\x01\0BDHP\0\0\0\0\0\0\x5A\0\0\0";
 
 // Whether these bytes are sent from this port to this endpoint.
 pub(crate) fn goes(out: &Option<Out>, from: u16, to: Endpoint, bytes: &[u8]) -> bool {
@@ -97,7 +66,7 @@ pub(crate) fn open<A: Allocator + Copy>(
 pub(crate) fn is_let_go<A: Allocator + Copy>(table: &Table<A>, step: &Step<A>) -> bool {
     step.closed
         && step.taken.is_none()
-        && goes(&step.out, 4000, FIRST, OUT_OF_MEMORY)
+        && goes(&step.out, 4000, ALICE, OUT_OF_MEMORY)
         && table.live() == 0
         && table.collection(Ruleset::Lynx).is_empty()
 }
@@ -110,19 +79,19 @@ fn has_taken<A: Allocator + Copy>(global: Global, step: &Step<A>, file: &[u8]) -
     let Ok(bytes) = taken.file.to_vec(global) else {
         return false;
     };
-    taken.peer == FIRST
+    taken.peer == ALICE
         && bytes.as_slice() == file
         && !step.closed
-        && goes(&step.out, 4000, FIRST, b"\0\x04\0\x01")
+        && goes(&step.out, 4000, ALICE, ACK_1)
 }
 
 // Passes the block that completes a file to its open transfer. Returns an outcome if it is not taken and acknowledged.
 fn give_file<A: Allocator + Copy>(global: Global, table: &mut Table<A>) -> Result<(), Outcome> {
-    let step = hear(table, 4000, FIRST, FILE_DATA);
+    let step = hear(table, 4000, ALICE, DATA_HUNDRED);
     if step.taken.is_none() {
         return Err(Outcome::refused(is_let_go(table, &step)));
     }
-    if !has_taken(global, &step, FILE) {
+    if !has_taken(global, &step, HUNDRED) {
         return Err(Outcome::Wrong);
     }
     Ok(())
@@ -130,14 +99,14 @@ fn give_file<A: Allocator + Copy>(global: Global, table: &mut Table<A>) -> Resul
 
 // Opens a transfer and passes it a file in one block. Returns an outcome if the file is not taken.
 fn take<A: Allocator + Copy>(global: Global, table: &mut Table<A>) -> Result<(), Outcome> {
-    open(table, 4000, FIRST, TO_WRITE)?;
+    open(table, 4000, ALICE, WRQ)?;
     give_file(global, table)
 }
 
 fn take_one(global: Global, refusing: &Refusing<Global>) -> Outcome {
     let mut table = Table::new(refusing, REQUEST);
     match take(global, &mut table) {
-        Ok(()) => Outcome::of(has_texts(global, &table, FILE)),
+        Ok(()) => Outcome::of(has_texts(global, &table, HUNDRED)),
         Err(outcome) => outcome,
     }
 }
@@ -163,26 +132,26 @@ fn has_texts<A: Allocator + Copy>(global: Global, table: &Table<A>, lynx: &[u8])
         .is_ok()
         && table.collection(Ruleset::Ms).write_text(&mut other).is_ok()
         && text.as_slice() == lynx
-        && other.as_slice() == EMPTY_MS
+        && other.as_slice() == EMPTY_MS.as_slice()
 }
 
 // Whether a request to read is answered with the file in one block, from a new transfer at port 4001.
 fn is_served<A: Allocator + Copy>(table: &Table<A>, step: &Step<A>) -> bool {
-    step.opened && goes(&step.out, 4001, SECOND, FILE_DATA) && table.live() == 2
+    step.opened && goes(&step.out, 4001, BOB, DATA_HUNDRED) && table.live() == 2
 }
 
 // Whether a request to read is refused as out of memory, with no transfer opened.
 fn is_turned_down<A: Allocator + Copy>(table: &Table<A>, step: &Step<A>) -> bool {
     !step.opened
-        && goes(&step.out, REQUEST, SECOND, OUT_OF_MEMORY)
+        && goes(&step.out, REQUEST, BOB, OUT_OF_MEMORY)
         && table.live() == 1
         && !table.is_live(4001)
 }
 
 // Whether the transfer whose file was taken goes on: it acknowledges its block again.
 fn acks_again<A: Allocator + Copy>(table: &mut Table<A>) -> bool {
-    let step = hear(table, 4000, FIRST, FILE_DATA);
-    step.taken.is_none() && goes(&step.out, 4000, FIRST, b"\0\x04\0\x01")
+    let step = hear(table, 4000, ALICE, DATA_HUNDRED);
+    step.taken.is_none() && goes(&step.out, 4000, ALICE, ACK_1)
 }
 
 // Requests the collection, which is the file. After a request that was refused the other transfer goes on, and the
@@ -192,17 +161,17 @@ fn read_file<A: Allocator + Copy>(
     table: &mut Table<A>,
     refused: &Cell<u64>,
 ) -> Outcome {
-    let Some(step) = ask(table, 4001, SECOND, TO_READ) else {
+    let Some(step) = ask(table, 4001, BOB, RRQ_LYNX) else {
         return Outcome::Wrong;
     };
     if step.opened {
-        return Outcome::of(is_served(table, &step) && has_texts(global, table, FILE));
+        return Outcome::of(is_served(table, &step) && has_texts(global, table, HUNDRED));
     }
     refused.set(refused.get().saturating_add(1));
     let is_as_before = is_turned_down(table, &step)
-        && has_texts(global, table, FILE)
+        && has_texts(global, table, HUNDRED)
         && acks_again(table);
-    let Some(again) = ask(table, 4001, SECOND, TO_READ) else {
+    let Some(again) = ask(table, 4001, BOB, RRQ_LYNX) else {
         return Outcome::Wrong;
     };
     Outcome::refused(is_as_before && is_served(table, &again))
@@ -270,7 +239,7 @@ fn has_last<A: Allocator + Copy>(
     keeper: &mut MemoryKeeper<A>,
     texts: &[&[u8]],
 ) -> bool {
-    let lynx = texts.last().copied().unwrap_or(EMPTY_LYNX);
+    let lynx = texts.last().copied().unwrap_or(EMPTY_LYNX.as_slice());
     has_texts(global, table, lynx) && has_kept(keeper, texts) && starts_with(global, keeper, lynx)
 }
 
@@ -280,9 +249,9 @@ fn is_given_up<A: Allocator + Copy>(
     step: &Step<A>,
     not_kept: &Cell<u64>,
 ) -> bool {
-    if goes(&step.out, 4000, FIRST, NOT_KEPT) {
+    if goes(&step.out, 4000, ALICE, NOT_KEPT) {
         not_kept.set(not_kept.get().saturating_add(1));
-    } else if !goes(&step.out, 4000, FIRST, OUT_OF_MEMORY) {
+    } else if !goes(&step.out, 4000, ALICE, OUT_OF_MEMORY) {
         return false;
     }
     step.closed && table.live() == 0
@@ -296,7 +265,7 @@ fn keep_file<A: Allocator + Copy>(
     change: Change<'_>,
     not_kept: &Cell<u64>,
 ) -> Outcome {
-    let step = table.on_datagram(keeper, 4000, FIRST, change.data);
+    let step = table.on_datagram(keeper, 4000, ALICE, change.data);
     if step.taken.is_some() {
         let is_right = has_taken(global, &step, change.file);
         return Outcome::of(is_right && has_last(global, table, keeper, change.after));
@@ -309,12 +278,12 @@ fn keep_one(global: Global, refusing: &Refusing<Global>, not_kept: &Cell<u64>) -
     let mut table = Table::new(refusing, REQUEST);
     let mut keeper = MemoryKeeper::new(refusing);
     let change = Change {
-        data: FILE_DATA,
-        file: FILE,
+        data: DATA_HUNDRED,
+        file: HUNDRED,
         before: &[],
-        after: &[FILE],
+        after: &[HUNDRED],
     };
-    match open(&mut table, 4000, FIRST, TO_WRITE) {
+    match open(&mut table, 4000, ALICE, WRQ) {
         Ok(()) => keep_file(global, &mut table, &mut keeper, change, not_kept),
         Err(outcome) => outcome,
     }
@@ -346,19 +315,19 @@ fn keep_better<A: Allocator + Copy>(
         return Outcome::OutOfMemory;
     };
     let change = Change {
-        data: BETTER_DATA,
-        file: BETTER,
-        before: &[FILE],
-        after: &[FILE, BETTER],
+        data: DATA_NINETY,
+        file: NINETY,
+        before: &[HUNDRED],
+        after: &[HUNDRED, NINETY],
     };
-    match open(&mut table, 4000, FIRST, TO_WRITE) {
+    match open(&mut table, 4000, ALICE, WRQ) {
         Ok(()) => keep_file(global, &mut table, keeper, change, not_kept),
         Err(outcome) => outcome,
     }
 }
 
 fn keep_another(global: Global, refusing: &Refusing<Global>, not_kept: &Cell<u64>) -> Outcome {
-    let Ok(text) = Vec::from_slice(refusing, FILE) else {
+    let Ok(text) = Vec::from_slice(refusing, HUNDRED) else {
         return Outcome::OutOfMemory;
     };
     let Ok(mut keeper) = MemoryKeeper::with(refusing, Some(text), None) else {
@@ -394,17 +363,19 @@ fn is_refused(fault: LoadFault, in_keeper: &Cell<u64>) -> bool {
 }
 
 fn load_one(global: Global, refusing: &Refusing<Global>, in_keeper: &Cell<u64>) -> Outcome {
-    let Ok(text) = Vec::from_slice(global, FILE) else {
+    let Ok(text) = Vec::from_slice(global, HUNDRED) else {
         return Outcome::Wrong;
     };
     let Ok(mut keeper) = MemoryKeeper::with(global, Some(text), None) else {
         return Outcome::Wrong;
     };
     match Table::load(refusing, REQUEST, &mut keeper) {
-        Ok(table) => Outcome::of(has_texts(global, &table, FILE) && has_kept(&keeper, &[FILE])),
+        Ok(table) => Outcome::of(
+            has_texts(global, &table, HUNDRED) && has_kept(&keeper, &[HUNDRED]),
+        ),
         Err(fault) => {
-            let is_as_before = is_refused(fault, in_keeper) && has_kept(&keeper, &[FILE]);
-            Outcome::refused(is_as_before && starts_with(global, &mut keeper, FILE))
+            let is_as_before = is_refused(fault, in_keeper) && has_kept(&keeper, &[HUNDRED]);
+            Outcome::refused(is_as_before && starts_with(global, &mut keeper, HUNDRED))
         }
     }
 }
@@ -429,17 +400,17 @@ fn has_both<A: Allocator + Copy>(keeper: &MemoryKeeper<A>) -> bool {
         [lynx, ms] => {
             lynx.ruleset == Ruleset::Lynx
                 && lynx.ok
-                && lynx.text.as_slice() == FILE
+                && lynx.text.as_slice() == HUNDRED.as_slice()
                 && ms.ruleset == Ruleset::Ms
                 && ms.ok
-                && ms.text.as_slice() == EMPTY_MS
+                && ms.text.as_slice() == EMPTY_MS.as_slice()
         }
         _ => false,
     }
 }
 
 fn make_keeper(refusing: &Refusing<Global>) -> Outcome {
-    let Ok(lynx) = Vec::from_slice(refusing, FILE) else {
+    let Ok(lynx) = Vec::from_slice(refusing, HUNDRED) else {
         return Outcome::OutOfMemory;
     };
     let Ok(ms) = Vec::from_slice(refusing, EMPTY_MS) else {

@@ -1,18 +1,13 @@
 // Uploads of two blocks to the server's table: each allocation is refused in turn, and repeated blocks and time-outs do
 // not allocate.
 use crate::blocks::Blocks;
-use crate::table::{FIRST, REQUEST, TO_WRITE, goes, hear, is_let_go, open};
+use crate::table::{REQUEST, goes, hear, is_let_go, open};
 use archive_table::{Step, Table};
 use refusing::{Outcome, Refusing, refuse_each};
 use std::alloc::{Allocator, Global};
 use std::cell::Cell;
 use std::test::Fail;
-
-const ACK_0: &[u8] = b"\0\x04\0\0";
-
-const ACK_1: &[u8] = b"\0\x04\0\x01";
-
-const ACK_2: &[u8] = b"\0\x04\0\x02";
+use test_samples::{ACK_0, ACK_1, ACK_2, ALICE, WRQ};
 
 // Whether a step takes the file, and acknowledges its second block.
 fn has_taken<A: Allocator + Copy>(global: Global, step: &Step<A>, file: &Blocks) -> bool {
@@ -25,7 +20,7 @@ fn has_taken<A: Allocator + Copy>(global: Global, step: &Step<A>, file: &Blocks)
     bytes.len() == 728
         && bytes.as_slice().starts_with(&file.first[4..])
         && bytes.as_slice().ends_with(&file.second[4..])
-        && goes(&step.out, 4000, FIRST, ACK_2)
+        && goes(&step.out, 4000, ALICE, ACK_2)
 }
 
 // Passes the blocks of a file to its open transfer. Counts a refusal at the first of them.
@@ -35,15 +30,15 @@ fn give_blocks<A: Allocator + Copy>(
     at_the_first: &Cell<u64>,
 ) -> Outcome {
     let file = Blocks::new();
-    let first = hear(table, 4000, FIRST, &file.first);
+    let first = hear(table, 4000, ALICE, &file.first);
     if first.closed {
         at_the_first.set(at_the_first.get().saturating_add(1));
         return Outcome::refused(is_let_go(table, &first));
     }
-    if !goes(&first.out, 4000, FIRST, ACK_1) {
+    if !goes(&first.out, 4000, ALICE, ACK_1) {
         return Outcome::Wrong;
     }
-    let second = hear(table, 4000, FIRST, &file.second);
+    let second = hear(table, 4000, ALICE, &file.second);
     if second.closed {
         return Outcome::refused(is_let_go(table, &second));
     }
@@ -52,7 +47,7 @@ fn give_blocks<A: Allocator + Copy>(
 
 fn upload(global: Global, refusing: &Refusing<Global>, at_the_first: &Cell<u64>) -> Outcome {
     let mut table = Table::new(refusing, REQUEST);
-    match open(&mut table, 4000, FIRST, TO_WRITE) {
+    match open(&mut table, 4000, ALICE, WRQ) {
         Ok(()) => give_blocks(global, &mut table, at_the_first),
         Err(outcome) => outcome,
     }
@@ -74,13 +69,13 @@ fn a_file_of_two_blocks(rt: HostRuntime) -> Result<(), Fail> {
 
 // Whether the last block is acknowledged again if it is repeated, and at a time-out.
 fn repeats<A: Allocator + Copy>(table: &mut Table<A>, block: &[u8], ack: &[u8]) -> bool {
-    goes(&hear(table, 4000, FIRST, block).out, 4000, FIRST, ack)
-        && goes(&table.on_timeout(4000).out, 4000, FIRST, ack)
+    goes(&hear(table, 4000, ALICE, block).out, 4000, ALICE, ack)
+        && goes(&table.on_timeout(4000).out, 4000, ALICE, ack)
 }
 
 // Whether a taken file's last block is acknowledged again, and the second time-out then ends the transfer.
 fn dallies<A: Allocator + Copy>(table: &mut Table<A>, block: &[u8]) -> bool {
-    goes(&hear(table, 4000, FIRST, block).out, 4000, FIRST, ACK_2)
+    goes(&hear(table, 4000, ALICE, block).out, 4000, ALICE, ACK_2)
         && table.on_timeout(4000).out.is_none()
         && table.on_timeout(4000).closed
 }
@@ -90,22 +85,22 @@ fn repeated_blocks_and_timeouts(rt: HostRuntime) -> Result<(), Fail> {
     let refusing: Refusing<Global> = Refusing::new(rt.alloc(), 0);
     let mut table = Table::new(&refusing, REQUEST);
     let file = Blocks::new();
-    assert!(rt; open(&mut table, 4000, FIRST, TO_WRITE).is_ok());
+    assert!(rt; open(&mut table, 4000, ALICE, WRQ).is_ok());
     let opened = refusing.requests();
-    assert!(rt; goes(&table.on_timeout(4000).out, 4000, FIRST, ACK_0));
+    assert!(rt; goes(&table.on_timeout(4000).out, 4000, ALICE, ACK_0));
     assert_eq!(rt; refusing.requests(), opened);
     assert!(rt;
         goes(
-            &hear(&mut table, 4000, FIRST, &file.first).out,
+            &hear(&mut table, 4000, ALICE, &file.first).out,
             4000,
-            FIRST,
+            ALICE,
             ACK_1
         )
     );
     let received = refusing.requests();
     assert!(rt; repeats(&mut table, &file.first, ACK_1));
     assert_eq!(rt; refusing.requests(), received);
-    assert!(rt; hear(&mut table, 4000, FIRST, &file.second).taken.is_some());
+    assert!(rt; hear(&mut table, 4000, ALICE, &file.second).taken.is_some());
     let taken = refusing.requests();
     assert!(rt; dallies(&mut table, &file.second));
     assert_eq!(rt; refusing.requests(), taken);

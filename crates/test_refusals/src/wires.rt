@@ -3,12 +3,8 @@ use archive_turns::{MemoryWire, RECEIVE_SIZE, Wire, WireFault};
 use refusing::{Outcome, Refusing, refuse_each};
 use std::alloc::{Allocator, Global};
 use std::test::Fail;
+use test_samples::ALICE;
 use tftp_packet::{Endpoint, Out, encode_ack};
-
-const PEER: Endpoint = Endpoint {
-    host: 2,
-    port: 5000,
-};
 
 fn is_telling<A: Allocator + Copy>(wire: &MemoryWire<A>, calls: usize) -> bool {
     wire.telling() && wire.failures() == 0 && wire.log().len() == calls
@@ -63,7 +59,7 @@ fn send_one(refusing: &Refusing<Global>) -> Outcome {
     let mut wire = MemoryWire::new(refusing, Vec::new(refusing));
     let out = Out {
         from_port: 4000,
-        to: PEER,
+        to: ALICE,
         dgram: encode_ack(1),
     };
     match wire.send(&out) {
@@ -105,7 +101,7 @@ fn gives<A: Allocator + Copy>(
 ) -> Result<Option<bool>, WireFault> {
     let mut buffer = [0; RECEIVE_SIZE];
     match wire.receive(4000, &mut buffer)? {
-        Some((count, from)) => Ok(Some(from == PEER && &buffer[..count] == bytes)),
+        Some((count, from)) => Ok(Some(from == ALICE && &buffer[..count] == bytes)),
         None => Ok(None),
     }
 }
@@ -113,7 +109,7 @@ fn gives<A: Allocator + Copy>(
 // A datagram that was refused has not arrived.
 fn arrive_and_receive(refusing: &Refusing<Global>) -> Outcome {
     let mut wire = MemoryWire::new(refusing, Vec::new(refusing));
-    if wire.arrive(refusing, 4000, PEER, b"news").is_err() {
+    if wire.arrive(refusing, 4000, ALICE, b"news").is_err() {
         let quiet = gives(&mut wire, b"news") == Ok(None);
         return Outcome::refused(quiet && is_telling(&wire, 1));
     }

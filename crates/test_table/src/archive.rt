@@ -2,6 +2,7 @@
 use archive_table::{Keeper, LoadFault, MemoryKeeper, Step, Table};
 use std::alloc::Global;
 use std::test::Fail;
+use test_samples::{EMPTY_LYNX, EMPTY_MS};
 use tftp_packet::{Endpoint, Out};
 use tws_file::Ruleset;
 
@@ -201,8 +202,8 @@ pub(crate) struct Left<'a> {
 
 // What is left of a new archive after inputs without effect.
 pub(crate) const NOTHING: Left<'static> = Left {
-    lynx: b"\x35\x33\x9B\x99\x01\0\0\0",
-    ms: b"\x35\x33\x9B\x99\x02\0\0\0",
+    lynx: EMPTY_LYNX,
+    ms: EMPTY_MS,
     live: 0,
     least: None,
 };

@@ -6,33 +6,14 @@ use crate::archive::{
 use archive_table::{NoKeeper, Step};
 use std::alloc::Global;
 use std::test::Fail;
+use test_samples::{
+    ACK_0, ACK_1, DATA_EMPTY_LYNX, DATA_EMPTY_MS, DATA_HUNDRED, DATA_NINETY, EMPTY_LYNX,
+    FILE_TOO_LONG, HUNDRED, NINETY, RRQ_LYNX, RRQ_MS, UNKNOWN_TRANSFER, WRQ, join, record, steps,
+    whole_block,
+};
 use tws_file::Ruleset;
 
-const WRQ: &[u8; 19] = b"\0\x02upload.tws\0octet\0";
-
-const RRQ: &[u8; 17] = b"\0\x01lynx.tws\0octet\0";
-
-// A Lynx file: level 1, BDHP, 100 ticks, no moves; and the same in 90 ticks.
-const HUNDRED: &[u8; 28] = b"\x35\x33\x9B\x99\x01\0\0\0\x10\0\0\0\x01\0BDHP\0\0\0\0\0\0\x64\0\0\0";
-
-const NINETY: &[u8; 28] = b"\x35\x33\x9B\x99\x01\0\0\0\x10\0\0\0\x01\0BDHP\0\0\0\0\0\0\x5A\0\0\0";
-
-// DATA 1 with each of them.
-const FIRST: &[u8; 32] =
-    b"\0\x03\0\x01\x35\x33\x9B\x99\x01\0\0\0\x10\0\0\0\x01\0BDHP\0\0\0\0\0\0\x64\0\0\0";
-
-const BETTER: &[u8; 32] =
-    b"\0\x03\0\x01\x35\x33\x9B\x99\x01\0\0\0\x10\0\0\0\x01\0BDHP\0\0\0\0\0\0\x5A\0\0\0";
-
-const ACK_0: &[u8; 4] = b"\0\x04\0\0";
-
-const ACK_1: &[u8; 4] = b"\0\x04\0\x01";
-
-const STRAY: &[u8; 21] = b"\0\x05\0\x05unknown transfer\0";
-
 const TOO_LONG: &[u8; 24] = b"\0\x05\0\0collection too long\0";
-
-const FILE_TOO_LONG: &[u8; 18] = b"\0\x05\0\x03file too long\0";
 
 // The beginning of DATA 1 of a Lynx file whose solution has password AAAA. The record's size and its level are not yet
 // in it.
@@ -46,12 +27,15 @@ fn a_request_that_came_twice(rt: HostRuntime) -> Result<(), Fail> {
     let rows = [
         (Input::Ask(4000, 2, WRQ), Told::Opens(4000, 2, ACK_0)),
         (Input::Ask(4001, 2, WRQ), Told::Opens(4001, 2, ACK_0)),
-        (Input::Hear(4001, 2, STRAY), Told::Ends),
+        (Input::Hear(4001, 2, UNKNOWN_TRANSFER), Told::Ends),
         (
-            Input::Hear(4000, 2, FIRST),
+            Input::Hear(4000, 2, DATA_HUNDRED),
             Told::Takes(4000, 2, ACK_1, HUNDRED),
         ),
-        (Input::Hear(4000, 2, FIRST), Told::Sends(4000, 2, ACK_1)),
+        (
+            Input::Hear(4000, 2, DATA_HUNDRED),
+            Told::Sends(4000, 2, ACK_1),
+        ),
         (Input::Wait(4000), Told::Nothing),
         (Input::Wait(4000), Told::Ends),
     ];
@@ -66,13 +50,18 @@ fn a_request_that_came_twice(rt: HostRuntime) -> Result<(), Fail> {
 // A datagram from another source changes nothing: the transfer goes on as if it had not arrived.
 #[test]
 fn another_source(rt: HostRuntime) -> Result<(), Fail> {
-    let empty = b"\0\x03\0\x01\x35\x33\x9B\x99\x01\0\0\0";
     let rows = [
-        (Input::Ask(4000, 2, RRQ), Told::Opens(4000, 2, empty)),
-        (Input::Hear(4000, 3, ACK_1), Told::Sends(4000, 3, STRAY)),
+        (
+            Input::Ask(4000, 2, RRQ_LYNX),
+            Told::Opens(4000, 2, DATA_EMPTY_LYNX),
+        ),
+        (
+            Input::Hear(4000, 3, ACK_1),
+            Told::Sends(4000, 3, UNKNOWN_TRANSFER),
+        ),
         (Input::Hear(4000, 3, b"\0\x05\0\0\0"), Told::Nothing),
         (Input::Hear(4000, 3, b"\0\x04\0"), Told::Nothing),
-        (Input::Wait(4000), Told::Sends(4000, 2, empty)),
+        (Input::Wait(4000), Told::Sends(4000, 2, DATA_EMPTY_LYNX)),
         (Input::Hear(4000, 2, ACK_1), Told::Ends),
     ];
     assert_eq!(rt; other_of_new(rt.alloc(), &rows, NOTHING)?, None);
@@ -89,7 +78,7 @@ fn malformed_datagrams_of_the_peer(rt: HostRuntime) -> Result<(), Fail> {
         (Input::Hear(4000, 2, WRQ), Told::Nothing),
         (Input::Wait(4000), Told::Sends(4000, 2, ACK_0)),
         (Input::Hear(4000, 2, b"\0\x05\0\0\0"), Told::Ends),
-        (Input::Hear(4000, 2, FIRST), Told::Nothing),
+        (Input::Hear(4000, 2, DATA_HUNDRED), Told::Nothing),
         (Input::Wait(4000), Told::Nothing),
     ];
     assert_eq!(rt; other_of_new(rt.alloc(), &rows, NOTHING)?, None);
@@ -102,7 +91,7 @@ type Row = (Input<'static>, Told<'static>);
 const TAKES_FIRST: [Row; 4] = [
     (Input::Ask(4000, 2, WRQ), Told::Opens(4000, 2, ACK_0)),
     (
-        Input::Hear(4000, 2, FIRST),
+        Input::Hear(4000, 2, DATA_HUNDRED),
         Told::Takes(4000, 2, ACK_1, HUNDRED),
     ),
     (Input::Wait(4000), Told::Nothing),
@@ -113,7 +102,7 @@ const TAKES_FIRST: [Row; 4] = [
 const TAKES_BETTER: [Row; 2] = [
     (Input::Ask(4200, 3, WRQ), Told::Opens(4200, 3, ACK_0)),
     (
-        Input::Hear(4200, 3, BETTER),
+        Input::Hear(4200, 3, DATA_NINETY),
         Told::Takes(4200, 3, ACK_1, NINETY),
     ),
 ];
@@ -122,11 +111,14 @@ const TAKES_BETTER: [Row; 2] = [
 fn downloads(alloc: Global) -> Result<Vec<Row>, Fail> {
     let mut rows = Vec::from_slice(alloc, &TAKES_FIRST)?;
     for port in 4101..4164 {
-        rows.push((Input::Ask(port, 2, RRQ), Told::Opens(port, 2, FIRST)))?;
+        rows.push((
+            Input::Ask(port, 2, RRQ_LYNX),
+            Told::Opens(port, 2, DATA_HUNDRED),
+        ))?;
     }
     rows.extend_from_slice(&TAKES_BETTER)?;
     for port in 4101..4164 {
-        rows.push((Input::Wait(port), Told::Sends(port, 2, FIRST)))?;
+        rows.push((Input::Wait(port), Told::Sends(port, 2, DATA_HUNDRED)))?;
     }
     Ok(rows)
 }
@@ -148,8 +140,7 @@ fn downloads_beside_an_upload(rt: HostRuntime) -> Result<(), Fail> {
 // Whether a whole block of sevens with this number is acknowledged.
 fn takes_sevens(alloc: Global, archive: &mut Archive, number: u16) -> Result<bool, Fail> {
     let [high, low] = number.to_be_bytes();
-    let mut data = [7; 516];
-    data[..4].copy_from_slice(&[0, 3, high, low]);
+    let data = whole_block(number, 7);
     let step = archive.hear(&mut NoKeeper, 4000, client(2), &data);
     has_told(alloc, &step, Told::Sends(4000, 2, &[0, 4, high, low]))
 }
@@ -174,8 +165,7 @@ fn nearly_full(alloc: Global) -> Result<Archive, Fail> {
 
 // Whether the block after those is refused, and closes the transfer.
 fn refuses_a_block(alloc: Global) -> Result<bool, Fail> {
-    let mut data = [7; 516];
-    data[..4].copy_from_slice(b"\0\x03\xFF\xFF");
+    let data = whole_block(65535, 7);
     let rows = [(
         Input::Hear(4000, 2, &data),
         Told::Closes(4000, 2, FILE_TOO_LONG),
@@ -264,12 +254,14 @@ fn takes_two_files(alloc: Global, archive: &mut Archive, size: u32) -> Result<bo
 
 // Whether a collection that is too long is not sent, and the other one is.
 fn sends_the_other(alloc: Global) -> Result<bool, Fail> {
-    let empty = b"\0\x03\0\x01\x35\x33\x9B\x99\x02\0\0\0";
     let rows = [
-        (Input::Ask(4003, 9, RRQ), Told::Sends(6969, 9, TOO_LONG)),
         (
-            Input::Ask(4003, 9, b"\0\x01ms.tws\0octet\0"),
-            Told::Opens(4003, 9, empty),
+            Input::Ask(4003, 9, RRQ_LYNX),
+            Told::Sends(6969, 9, TOO_LONG),
+        ),
+        (
+            Input::Ask(4003, 9, RRQ_MS),
+            Told::Opens(4003, 9, DATA_EMPTY_MS),
         ),
     ];
     let mut archive = Archive::new(alloc);
@@ -317,22 +309,16 @@ fn is_served(archive: &mut Archive, port: u16, first: Step, text: &[u8]) -> Resu
 
 // Whether a request to read is served with this text.
 fn serves_text(archive: &mut Archive, text: &[u8]) -> Result<bool, Fail> {
-    let first = archive.ask(4003, client(9), RRQ)?;
+    let first = archive.ask(4003, client(9), RRQ_LYNX)?;
     Ok(first.opened && is_served(archive, 4003, first, text)? && is_live(archive, 2, Some(4000)))
 }
 
 // The text of the Lynx collection of two such files with this many moves each.
 fn text_of_two(alloc: Global, moves: u32) -> Result<Vec<u8>, Fail> {
-    let mut text = Vec::from_slice(alloc, b"\x35\x33\x9B\x99\x01\0\0\0")?;
-    for level in [1, 2] {
-        text.extend_from_slice(&moves.wrapping_add(16).to_le_bytes())?;
-        text.extend_from_slice(&[level, 0])?;
-        text.extend_from_slice(b"AAAA\0\0\0\0\0\0\0\0\0\0")?;
-        for _ in 0..moves {
-            text.push(1)?;
-        }
-    }
-    Ok(text)
+    let moves = steps(alloc, moves as usize)?;
+    let first = record(alloc, 1, b"AAAA", 0, 0, &moves)?;
+    let second = record(alloc, 2, b"AAAA", 0, 0, &moves)?;
+    Ok(join(alloc, EMPTY_LYNX, &[&first, &second])?)
 }
 
 // Whether the collection of two files with this many moves each is served, and has `size` bytes.

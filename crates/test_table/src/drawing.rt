@@ -3,32 +3,11 @@ use crate::archive::REQUEST;
 use crate::plain::{End, Plain};
 use std::alloc::Global;
 use std::test::Fail;
+use test_samples::{ACK_0, Draws, EMPTY_LYNX, EMPTY_MS, RRQ_LYNX, join, record, steps};
 use tftp_packet::Endpoint;
 
 // The sizes of the drawn files' moves: a block and less, a whole block, more than one, and two blocks.
 const MOVES: [usize; 5] = [0, 2, 484, 700, 996];
-
-// Pseudo-random numbers from a linear congruential generator with a fixed seed.
-#[derive(Drop)]
-pub(crate) struct Draws(pub(crate) u64);
-
-impl Draws {
-    pub(crate) fn below(&mut self, n: u16) -> u16 {
-        self.0 = self
-            .0
-            .wrapping_mul(6364136223846793005)
-            .wrapping_add(1442695040888963407);
-        match (self.0 >> 33).checked_rem(u64::from(n)) {
-            Some(drawn) => (drawn % 65536) as u16,
-            None => 0,
-        }
-    }
-
-    // Returns true about once in `n` draws.
-    pub(crate) fn once_in(&mut self, n: u16) -> bool {
-        self.below(n) == 0
-    }
-}
 
 // An input of a server: a datagram at the request port with a spare port, one at another port, or a time-out.
 #[derive(Drop)]
@@ -55,32 +34,30 @@ fn peer(draws: &mut Draws) -> Endpoint {
     }
 }
 
-// The file with this number up to the moves of its record, which has `size` bytes.
-fn without_moves(i: u16, size: usize) -> [u8; 28] {
+// The record of the file with this number, with `count` moves.
+fn solution(alloc: Global, i: u16, count: usize) -> Result<Vec<u8>, Fail> {
     let level = (i % 11) as u8;
-    let mut bytes = [0; 28];
-    bytes[..4].copy_from_slice(&[0x35, 0x33, 0x9B, 0x99]);
-    // The ruleset, and the record's size.
-    bytes[4] = (1 + i % 2) as u8;
-    bytes[8..10].copy_from_slice(&((size % 65536) as u16).to_le_bytes());
-    // The number, a letter of the password, the seed and the ticks.
-    bytes[12] = level % 4;
-    bytes[16] = level / 8;
-    bytes[20] = (i % 5) as u8;
-    bytes[24] = (1 + i / 6 % 4) as u8;
-    bytes
+    let password = [0, 0, level / 8, 0];
+    let ticks = u32::from(1 + i / 6 % 4);
+    let moves = steps(alloc, count)?;
+    Ok(record(
+        alloc,
+        u16::from(level % 4),
+        &password,
+        u32::from(i % 5),
+        ticks,
+        &moves,
+    )?)
 }
 
 // A file of one record, for one of a few levels of either ruleset, with different ticks and moves. In one of nine files
 // with moves the last move is cut short, one of seven has a byte after its record, and the record of two of eleven is
 // not a solution.
 fn file(alloc: Global, i: u16) -> Result<Vec<u8>, Fail> {
-    let moves = MOVES.get(usize::from(i / 3 % 5)).copied().unwrap_or(0);
-    let mut bytes = Vec::from_slice(alloc, &without_moves(i, 16 + moves % 1000))?;
-    for _ in 0..moves {
-        bytes.push(1)?;
-    }
-    if moves > 0 && i % 9 == 8 {
+    let count = MOVES.get(usize::from(i / 3 % 5)).copied().unwrap_or(0);
+    let header = if i % 2 == 0 { EMPTY_LYNX } else { EMPTY_MS };
+    let mut bytes = join(alloc, header, &[&solution(alloc, i, count)?])?;
+    if count > 0 && i % 9 == 8 {
         bytes.pop();
         bytes.push(3)?;
     }
@@ -103,12 +80,12 @@ fn request(alloc: Global, draws: &mut Draws) -> Result<Vec<u8>, Fail> {
         1 => b"\0\x02upload.tws\0netascii\0".as_slice(),
         2 => b"\0\x01LYNX.TWS\0octet\0".as_slice(),
         3 => b"\0\x01ms.tws\0octet".as_slice(),
-        4 => b"\0\x04\0\0".as_slice(),
+        4 => ACK_0.as_slice(),
         12 => b"\0\x03\0\x01no request".as_slice(),
         13 => b"\0\x05\0\0no request\0".as_slice(),
         14 => b"\0\x02upload.tws\0octet".as_slice(),
         5 | 6 => b"\0\x01ms.tws\0Octet\0tsize\x000\0".as_slice(),
-        7 | 8 => b"\0\x01lynx.tws\0octet\0".as_slice(),
+        7 | 8 => RRQ_LYNX.as_slice(),
         _ => b"\0\x02\0OCTET\0".as_slice(),
     };
     Ok(Vec::from_slice(alloc, bytes)?)

@@ -3,39 +3,11 @@ use crate::archive::{Archive, Input, Left, NOTHING, Told, client, has_texts, is_
 use archive_table::{KeepFault, LoadFault, MemoryKeeper};
 use std::alloc::Global;
 use std::test::Fail;
+use test_samples::{
+    ACK_0, ACK_1, DATA_EMPTY_LYNX, DATA_HUNDRED, DATA_NINETY, DATA_UNREADABLE, EMPTY_LYNX,
+    EMPTY_MS, HUNDRED, NINETY, NOT_KEPT, RRQ_LYNX, UNREADABLE, WRQ,
+};
 use tws_file::{FileFault, Ruleset};
-
-const WRQ: &[u8; 19] = b"\0\x02upload.tws\0octet\0";
-
-const EMPTY_LYNX: &[u8; 8] = b"\x35\x33\x9B\x99\x01\0\0\0";
-
-const EMPTY_MS: &[u8; 8] = b"\x35\x33\x9B\x99\x02\0\0\0";
-
-// A Lynx file: level 1, BDHP, 100 ticks, no moves; and DATA 1 with it.
-const HUNDRED: &[u8; 28] = b"\x35\x33\x9B\x99\x01\0\0\0\x10\0\0\0\x01\0BDHP\0\0\0\0\0\0\x64\0\0\0";
-
-const FIRST: &[u8; 32] =
-    b"\0\x03\0\x01\x35\x33\x9B\x99\x01\0\0\0\x10\0\0\0\x01\0BDHP\0\0\0\0\0\0\x64\0\0\0";
-
-const NOT_KEPT: &[u8; 13] = b"\0\x05\0\0not kept\0";
-
-// The same in 90 ticks.
-const NINETY: &[u8; 28] = b"\x35\x33\x9B\x99\x01\0\0\0\x10\0\0\0\x01\0BDHP\0\0\0\0\0\0\x5A\0\0\0";
-
-const BETTER: &[u8; 32] =
-    b"\0\x03\0\x01\x35\x33\x9B\x99\x01\0\0\0\x10\0\0\0\x01\0BDHP\0\0\0\0\0\0\x5A\0\0\0";
-
-const RRQ: &[u8; 17] = b"\0\x01lynx.tws\0octet\0";
-
-// DATA 1 of the Lynx collection without solutions.
-const EMPTY_DATA: &[u8; 12] = b"\0\x03\0\x01\x35\x33\x9B\x99\x01\0\0\0";
-
-// DATA 1 with seven bytes that are not a file.
-const CUT: &[u8; 11] = b"\0\x03\0\x01\x35\x33\x9B\x98\x02\0\0";
-
-const ACK_0: &[u8; 4] = b"\0\x04\0\0";
-
-const ACK_1: &[u8; 4] = b"\0\x04\0\x01";
 
 // Whether the keeper was given exactly these Lynx texts, and kept each or not.
 fn was_given(keeper: &MemoryKeeper, wanted: &[(&[u8; 28], bool)]) -> bool {
@@ -74,13 +46,19 @@ fn other_kept(
 fn a_keep_that_fails(rt: HostRuntime) -> Result<(), Fail> {
     let rows = [
         (Input::Ask(4000, 2, WRQ), Told::Opens(4000, 2, ACK_0)),
-        (Input::Hear(4000, 2, FIRST), Told::Closes(4000, 2, NOT_KEPT)),
+        (
+            Input::Hear(4000, 2, DATA_HUNDRED),
+            Told::Closes(4000, 2, NOT_KEPT),
+        ),
         (Input::Wait(4000), Told::Nothing),
-        (Input::Ask(4002, 4, RRQ), Told::Opens(4002, 4, EMPTY_DATA)),
+        (
+            Input::Ask(4002, 4, RRQ_LYNX),
+            Told::Opens(4002, 4, DATA_EMPTY_LYNX),
+        ),
         (Input::Hear(4002, 4, ACK_1), Told::Ends),
         (Input::Ask(4001, 3, WRQ), Told::Opens(4001, 3, ACK_0)),
         (
-            Input::Hear(4001, 3, FIRST),
+            Input::Hear(4001, 3, DATA_HUNDRED),
             Told::Takes(4001, 3, ACK_1, HUNDRED),
         ),
     ];
@@ -101,15 +79,18 @@ fn a_better_file_that_is_not_kept(rt: HostRuntime) -> Result<(), Fail> {
     let rows = [
         (Input::Ask(4000, 2, WRQ), Told::Opens(4000, 2, ACK_0)),
         (
-            Input::Hear(4000, 2, FIRST),
+            Input::Hear(4000, 2, DATA_HUNDRED),
             Told::Takes(4000, 2, ACK_1, HUNDRED),
         ),
         (Input::Ask(4001, 3, WRQ), Told::Opens(4001, 3, ACK_0)),
         (
-            Input::Hear(4001, 3, BETTER),
+            Input::Hear(4001, 3, DATA_NINETY),
             Told::Closes(4001, 3, NOT_KEPT),
         ),
-        (Input::Ask(4001, 4, RRQ), Told::Opens(4001, 4, FIRST)),
+        (
+            Input::Ask(4001, 4, RRQ_LYNX),
+            Told::Opens(4001, 4, DATA_HUNDRED),
+        ),
     ];
     let left = Left {
         lynx: HUNDRED,
@@ -125,20 +106,22 @@ fn a_better_file_that_is_not_kept(rt: HostRuntime) -> Result<(), Fail> {
 // The second file changes nothing, and nothing is kept for it; nor for bytes that are not a file.
 #[test]
 fn nothing_to_keep(rt: HostRuntime) -> Result<(), Fail> {
-    let cut = b"\x35\x33\x9B\x98\x02\0\0";
     let rows = [
         (Input::Ask(4000, 2, WRQ), Told::Opens(4000, 2, ACK_0)),
         (
-            Input::Hear(4000, 2, FIRST),
+            Input::Hear(4000, 2, DATA_HUNDRED),
             Told::Takes(4000, 2, ACK_1, HUNDRED),
         ),
         (Input::Ask(4001, 3, WRQ), Told::Opens(4001, 3, ACK_0)),
         (
-            Input::Hear(4001, 3, FIRST),
+            Input::Hear(4001, 3, DATA_HUNDRED),
             Told::Takes(4001, 3, ACK_1, HUNDRED),
         ),
         (Input::Ask(4002, 4, WRQ), Told::Opens(4002, 4, ACK_0)),
-        (Input::Hear(4002, 4, CUT), Told::Takes(4002, 4, ACK_1, cut)),
+        (
+            Input::Hear(4002, 4, DATA_UNREADABLE),
+            Told::Takes(4002, 4, ACK_1, UNREADABLE),
+        ),
     ];
     let left = Left {
         lynx: HUNDRED,
@@ -177,9 +160,6 @@ fn fault_of(
     Ok(fault(alloc, &mut keeper))
 }
 
-// Seven bytes that are not a file.
-const SHORT: &[u8; 7] = b"\x35\x33\x9B\x98\x02\0\0";
-
 // After a Lynx text that cannot be loaded the second call is never made, so it cannot fail.
 #[test]
 fn loading_lynx_refused(rt: HostRuntime) -> Result<(), Fail> {
@@ -187,15 +167,15 @@ fn loading_lynx_refused(rt: HostRuntime) -> Result<(), Fail> {
     let short = LoadFault::Unreadable(FileFault::ShortHeader(7));
     let rows: [(Option<&[u8]>, u64, LoadFault); 6] = [
         (None, 1, device),
-        (Some(SHORT), 0, short),
-        (Some(SHORT), 1, device),
-        (Some(SHORT), 2, short),
+        (Some(UNREADABLE), 0, short),
+        (Some(UNREADABLE), 1, device),
+        (Some(UNREADABLE), 2, short),
         (Some(EMPTY_MS), 0, LoadFault::WrongRuleset),
         (Some(EMPTY_MS), 2, LoadFault::WrongRuleset),
     ];
     for (lynx, failing, wanted) in rows {
         assert_eq!(rt;
-            fault_of(rt.alloc(), lynx, Some(SHORT), failing)?,
+            fault_of(rt.alloc(), lynx, Some(UNREADABLE), failing)?,
             Some(wanted)
         );
     }
@@ -208,8 +188,8 @@ fn loading_ms_refused(rt: HostRuntime) -> Result<(), Fail> {
     let short = LoadFault::Unreadable(FileFault::ShortHeader(7));
     let rows: [(Option<&[u8]>, u64, LoadFault); 4] = [
         (None, 2, device),
-        (Some(SHORT), 0, short),
-        (Some(SHORT), 2, device),
+        (Some(UNREADABLE), 0, short),
+        (Some(UNREADABLE), 2, device),
         (Some(EMPTY_LYNX), 0, LoadFault::WrongRuleset),
     ];
     for (ms, failing, wanted) in rows {
@@ -245,7 +225,7 @@ fn loading(rt: HostRuntime) -> Result<(), Fail> {
 // Whether a server takes the file.
 fn takes(archive: &mut Archive, keeper: &mut MemoryKeeper) -> Result<bool, Fail> {
     archive.ask(4000, client(2), WRQ)?;
-    let step = archive.hear(keeper, 4000, client(2), FIRST);
+    let step = archive.hear(keeper, 4000, client(2), DATA_HUNDRED);
     Ok(step.taken.is_some())
 }
 

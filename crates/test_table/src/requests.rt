@@ -5,26 +5,23 @@ use crate::archive::{
 use archive_table::NoKeeper;
 use std::alloc::Global;
 use std::test::Fail;
+use test_samples::{ACK_0, ACK_1, BUSY, DATA_EMPTY_MS, WRQ};
 
 // A request to read `ms.tws` in mode `OCTET`, with an option after it.
-const RRQ: &[u8; 28] = b"\0\x01ms.tws\0OCTET\0blksize\x001428\0";
-
-const WRQ: &[u8; 19] = b"\0\x02upload.tws\0octet\0";
-
-// DATA 1 of the MS collection without solutions.
-const EMPTY_MS: &[u8; 12] = b"\0\x03\0\x01\x35\x33\x9B\x99\x02\0\0\0";
+const RRQ_WITH_OPTION: &[u8; 28] = b"\0\x01ms.tws\0OCTET\0blksize\x001428\0";
 
 const OCTET_ONLY: &[u8; 15] = b"\0\x05\0\0octet only\0";
 
 const NO_SUCH_FILE: &[u8; 17] = b"\0\x05\0\x01no such file\0";
 
-const BUSY: &[u8; 16] = b"\0\x05\0\0server busy\0";
-
 #[test]
 fn a_request_to_read(rt: HostRuntime) -> Result<(), Fail> {
     let rows = [
-        (Input::Ask(4000, 2, RRQ), Told::Opens(4000, 2, EMPTY_MS)),
-        (Input::Hear(4000, 2, b"\0\x04\0\x01"), Told::Ends),
+        (
+            Input::Ask(4000, 2, RRQ_WITH_OPTION),
+            Told::Opens(4000, 2, DATA_EMPTY_MS),
+        ),
+        (Input::Hear(4000, 2, ACK_1), Told::Ends),
     ];
     assert_eq!(rt; other_of_new(rt.alloc(), &rows, NOTHING)?, None);
     Ok(())
@@ -52,7 +49,7 @@ fn no_requests(rt: HostRuntime) -> Result<(), Fail> {
     let rows = [
         (Input::Ask(4000, 2, b""), Told::Nothing),
         (Input::Ask(4000, 2, b"\0\x03\0\x01"), Told::Nothing),
-        (Input::Ask(4000, 2, b"\0\x04\0\0"), Told::Nothing),
+        (Input::Ask(4000, 2, ACK_0), Told::Nothing),
         (Input::Ask(4000, 2, b"\0\x05\0\0\0"), Told::Nothing),
         (Input::Ask(4000, 2, b"\0\x06\0\0"), Told::Nothing),
         (
@@ -83,13 +80,13 @@ fn is_answered(alloc: Global, count: usize) -> Result<bool, Fail> {
     let told = if count < 15 {
         Told::Nothing
     } else {
-        Told::Opens(4000, 2, EMPTY_MS)
+        Told::Opens(4000, 2, DATA_EMPTY_MS)
     };
     tells(
         alloc,
         &mut Archive::new(alloc),
         4000,
-        &RRQ[..count.min(28)],
+        &RRQ_WITH_OPTION[..count.min(28)],
         told,
     )
 }
@@ -106,7 +103,7 @@ fn a_request_cut_short(rt: HostRuntime) -> Result<(), Fail> {
 // Opens 64 transfers, at the ports from 4001 on.
 fn fill(alloc: Global, archive: &mut Archive) -> Result<(), Fail> {
     for port in 4001..4065 {
-        let told = Told::Opens(port, 2, b"\0\x04\0\0");
+        let told = Told::Opens(port, 2, ACK_0);
         if !tells(alloc, archive, port, WRQ, told)? {
             return Err(Fail::new("not opened"));
         }
@@ -127,7 +124,7 @@ fn a_busy_server(rt: HostRuntime) -> Result<(), Fail> {
     let busy = Told::Sends(6969, 3, BUSY);
     let rows = [
         (Input::Ask(4065, 3, WRQ), busy),
-        (Input::Ask(4065, 3, RRQ), busy),
+        (Input::Ask(4065, 3, RRQ_WITH_OPTION), busy),
         (
             Input::Ask(4065, 3, b"\0\x01MS.TWS\0octet\0"),
             Told::Sends(6969, 3, NO_SUCH_FILE),
@@ -137,8 +134,11 @@ fn a_busy_server(rt: HostRuntime) -> Result<(), Fail> {
             Told::Sends(6969, 3, OCTET_ONLY),
         ),
         (Input::Hear(4001, 2, b"\0\x05\0\0\0"), Told::Ends),
-        (Input::Ask(4065, 3, RRQ), Told::Opens(4065, 3, EMPTY_MS)),
-        (Input::Ask(4066, 3, RRQ), busy),
+        (
+            Input::Ask(4065, 3, RRQ_WITH_OPTION),
+            Told::Opens(4065, 3, DATA_EMPTY_MS),
+        ),
+        (Input::Ask(4066, 3, RRQ_WITH_OPTION), busy),
     ];
     let left = Left {
         live: 64,

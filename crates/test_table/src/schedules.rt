@@ -3,11 +3,12 @@
 // live, and the text of both collections. Now and then the server starts again with what its keeper has: no port is
 // live then, and the collections are the same.
 use crate::archive::{Archive, REQUEST, Wanted, is_step};
-use crate::drawing::{Draws, Input, draw};
+use crate::drawing::{Input, draw};
 use crate::plain::{Plain, Said};
 use archive_table::{MemoryKeeper, Step};
 use std::alloc::Global;
 use std::test::Fail;
+use test_samples::Draws;
 use tws_file::Ruleset;
 
 // How often each thing happened in all runs.
@@ -252,7 +253,7 @@ fn run(alloc: Global, draws: &mut Draws, counts: &mut Counts, number: u16) -> Re
 
 // What happened in a thousand runs, in which both servers agreed.
 fn count_runs(alloc: Global) -> Result<Counts, Fail> {
-    let mut draws = Draws(14);
+    let mut draws = Draws::new(14);
     let mut counts = Counts {
         opened: 0,
         taken: 0,

@@ -4,37 +4,10 @@ use archive_table::NoKeeper;
 use archive_turns::{Entry, MemoryWire, ReadyServer, Server};
 use std::io;
 use std::test::Fail;
+use test_samples::{ACK_0, ACK_1, ALICE, DATA_HUNDRED, HUNDRED, PEER, RRQ_LYNX, SERVER, WRQ};
 use tftp_packet::Endpoint;
 use tws_file::{FileFault, Ruleset};
 use tws_tool::{INPUT_READS, ToolFault, get_file, put_file, serve_counted, serve_waiting};
-
-const SERVER: Endpoint = Endpoint {
-    host: 1,
-    port: 6969,
-};
-
-// The endpoint of the server's transfer.
-const PEER: Endpoint = Endpoint {
-    host: 1,
-    port: 4000,
-};
-
-const CLIENT: Endpoint = Endpoint {
-    host: 2,
-    port: 5000,
-};
-
-const WRQ: &[u8; 19] = b"\0\x02upload.tws\0octet\0";
-
-const RRQ: &[u8; 17] = b"\0\x01lynx.tws\0octet\0";
-
-const ACK_0: &[u8; 4] = b"\0\x04\0\0";
-
-const ACK_1: &[u8; 4] = b"\0\x04\0\x01";
-
-// DATA 1 with the file of one solution.
-const DATA: &[u8; 32] =
-    b"\0\x03\0\x01\x35\x33\x9B\x99\x01\0\0\0\x10\0\0\0\x01\0BDHP\0\0\0\0\0\0\x64\0\0\0";
 
 fn wire_of(rt: &HostRuntime, opens: &[u16]) -> Result<MemoryWire, Fail> {
     Ok(MemoryWire::new(rt.alloc(), Vec::from_slice(rt.alloc(), opens)?))
@@ -42,10 +15,10 @@ fn wire_of(rt: &HostRuntime, opens: &[u16]) -> Result<MemoryWire, Fail> {
 
 // A client's wire, at which these datagrams arrive from the server's transfer.
 fn answered(rt: &HostRuntime, answers: &[&[u8]]) -> Result<MemoryWire, Fail> {
-    let mut wire = wire_of(rt, &[CLIENT.port])?;
+    let mut wire = wire_of(rt, &[ALICE.port])?;
     for bytes in answers {
         if bytes.len() <= 517 {
-            wire.arrive(rt.alloc(), CLIENT.port, PEER, bytes)?;
+            wire.arrive(rt.alloc(), ALICE.port, PEER, bytes)?;
         }
     }
     Ok(wire)
@@ -72,9 +45,9 @@ fn sent(wire: &MemoryWire, to: Endpoint, bytes: &[u8]) -> usize {
 fn a_put(rt: HostRuntime) -> Result<(), Fail> {
     let mut wire = answered(&rt, &[ACK_0, ACK_1])?;
     let mut out = Vec::new(rt.alloc());
-    let mut input = SOLUTION.as_slice();
+    let mut input = HUNDRED.as_slice();
     put_file(rt.alloc(), &mut input, &mut wire, SERVER, &mut out)?;
-    let (requests, blocks) = (sent(&wire, SERVER, WRQ), sent(&wire, PEER, DATA));
+    let (requests, blocks) = (sent(&wire, SERVER, WRQ), sent(&wire, PEER, DATA_HUNDRED));
     assert_eq!(rt;
         (out.as_slice(), requests, blocks, input.len()),
         (b"sent 28 bytes\n".as_slice(), 1, 1, 0)
@@ -122,8 +95,8 @@ fn a_put_of_an_input_that_ends_at_the_last_read(rt: HostRuntime) -> Result<(), F
 fn a_put_of_an_input_that_breaks(rt: HostRuntime) -> Result<(), Fail> {
     for (bytes, kind) in [
         (None, io::ErrorKind::Other),
-        (Some(&SOLUTION[..10]), io::ErrorKind::Other),
-        (Some(&SOLUTION[..]), io::ErrorKind::OutOfMemory),
+        (Some(&HUNDRED[..10]), io::ErrorKind::Other),
+        (Some(&HUNDRED[..]), io::ErrorKind::OutOfMemory),
     ] {
         let mut input = Breaks { bytes, kind };
         assert_eq!(rt; put_of(&rt, &mut input)?, (Err(ToolFault::Read), 0, 0));
@@ -134,7 +107,7 @@ fn a_put_of_an_input_that_breaks(rt: HostRuntime) -> Result<(), Fail> {
 #[test]
 fn a_put_of_an_input_that_stumbles(rt: HostRuntime) -> Result<(), Fail> {
     let mut input = Stumbles {
-        bytes: &SOLUTION,
+        bytes: HUNDRED,
         has_failed: false,
     };
     assert_eq!(rt; put_of(&rt, &mut input)?, (Err(ToolFault::Read), 0, 0));
@@ -145,7 +118,7 @@ fn a_put_of_an_input_that_stumbles(rt: HostRuntime) -> Result<(), Fail> {
 
 #[test]
 fn a_get(rt: HostRuntime) -> Result<(), Fail> {
-    let mut wire = answered(&rt, &[DATA])?;
+    let mut wire = answered(&rt, &[DATA_HUNDRED])?;
     let mut file = Vec::new(rt.alloc());
     let mut out = Vec::new(rt.alloc());
     get_file(
@@ -156,10 +129,10 @@ fn a_get(rt: HostRuntime) -> Result<(), Fail> {
         &mut file,
         &mut out,
     )?;
-    let (requests, acks) = (sent(&wire, SERVER, RRQ), sent(&wire, PEER, ACK_1));
+    let (requests, acks) = (sent(&wire, SERVER, RRQ_LYNX), sent(&wire, PEER, ACK_1));
     assert_eq!(rt;
         (file.as_slice(), out.as_slice(), requests, acks),
-        (SOLUTION.as_slice(), b"got 28 bytes\n".as_slice(), 1, 1)
+        (HUNDRED.as_slice(), b"got 28 bytes\n".as_slice(), 1, 1)
     );
     Ok(())
 }
@@ -171,8 +144,8 @@ const LINES: &[u8; 29] = b"serving on port 6969\ntaken 1\n";
 // A server's wire with a put of the solution by the client in two datagrams.
 fn put_wire(rt: &HostRuntime) -> Result<MemoryWire, Fail> {
     let mut wire = wire_of(rt, &[7000])?;
-    wire.arrive(rt.alloc(), 6969, CLIENT, WRQ)?;
-    wire.arrive(rt.alloc(), 7000, CLIENT, DATA)?;
+    wire.arrive(rt.alloc(), 6969, ALICE, WRQ)?;
+    wire.arrive(rt.alloc(), 7000, ALICE, DATA_HUNDRED)?;
     Ok(wire)
 }
 
@@ -199,7 +172,7 @@ fn serving(rt: HostRuntime) -> Result<(), Fail> {
         let mut wire = put_wire(&rt)?;
         let mut out = Vec::new(rt.alloc());
         serve_two(&rt, waits, &mut wire, &mut out)?;
-        let taken = sent(&wire, CLIENT, ACK_1);
+        let taken = sent(&wire, ALICE, ACK_1);
         assert_eq!(rt; (out.as_slice(), taken), (LINES.as_slice(), 1));
     }
     Ok(())

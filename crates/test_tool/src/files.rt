@@ -3,14 +3,9 @@ use crate::outcome::*;
 use crate::streams::*;
 use std::io;
 use std::test::Fail;
+use test_samples::{CUT_MOVE, HUNDRED};
 use tws_file::{FileFault, Ruleset};
 use tws_tool::{INPUT_READS, ToolFault, run_best, run_show, run_words};
-
-// The solution with two bytes of moves, the second of which begins a move that is cut.
-const CUT: [u8; 30] = [
-    0x35, 0x33, 0x9B, 0x99, 0x01, 0x00, 0x00, 0x00, 0x12, 0x00, 0x00, 0x00, 0x01, 0x00, 0x42, 0x44,
-    0x48, 0x50, 0x00, 0x00, 0x00, 0x00, 0x00, 0x00, 0x64, 0x00, 0x00, 0x00, 0x01, 0xFE,
-];
 
 // The solution with four moves in two bytes.
 const MOVED: [u8; 30] = [
@@ -44,7 +39,7 @@ fn show_counts_bytes_of_moves(rt: HostRuntime) -> Result<(), Fail> {
 
 // The solution with four moves in four bytes.
 fn long_moves(rt: &HostRuntime) -> Result<Vec<u8>, Fail> {
-    let mut bytes = Vec::from_slice(rt.alloc(), &SOLUTION)?;
+    let mut bytes = Vec::from_slice(rt.alloc(), HUNDRED)?;
     bytes.extend_from_slice(&[0x61, 0x61, 0x61, 0x61])?;
     bytes[8] = 0x14;
     Ok(bytes)
@@ -63,7 +58,7 @@ fn pack_writes_the_fewest_bytes(rt: HostRuntime) -> Result<(), Fail> {
 
 #[test]
 fn pack_leaves_what_is_packed(rt: HostRuntime) -> Result<(), Fail> {
-    for packed in [SOLUTION.as_slice(), &MOVED, &UNSOLVED] {
+    for packed in [HUNDRED.as_slice(), &MOVED, &UNSOLVED] {
         let outcome = run(&rt, &["tws", "pack"], packed)?;
         assert_eq!(rt; (outcome.status, outcome.out.as_slice()), (0, packed));
     }
@@ -97,14 +92,14 @@ fn show_refuses_what_is_no_file(rt: HostRuntime) -> Result<(), Fail> {
     let faults: [(&[u8], &str); 4] = [
         (&[], "tws: standard input: unreadable: ShortHeader(0)\n"),
         (
-            &SOLUTION[..27],
+            &HUNDRED[..27],
             "tws: standard input: unreadable: ShortRecord(8)\n",
         ),
         (
             &[0x35, 0x33, 0x9B, 0x98, 2, 0, 0, 0],
             "tws: standard input: unreadable: BadSignature\n",
         ),
-        (&CUT, "tws: standard input: unreadable: MoveCut(29)\n"),
+        (CUT_MOVE, "tws: standard input: unreadable: MoveCut(29)\n"),
     ];
     for (bytes, line) in faults {
         let outcome = run(&rt, &["tws", "show"], bytes)?;
@@ -142,7 +137,7 @@ const UNSIGNED: [u8; 8] = [0x35, 0x33, 0x9B, 0x98, 2, 0, 0, 0];
 // which is then not the one that is reported.
 #[test]
 fn an_input_that_breaks(rt: HostRuntime) {
-    for bytes in [&SOLUTION[..10], &SOLUTION[..8], &UNSIGNED[..8]] {
+    for bytes in [&HUNDRED[..10], &HUNDRED[..8], &UNSIGNED[..8]] {
         let mut input = Breaks {
             bytes: Some(bytes),
             kind: io::ErrorKind::Other,
@@ -155,7 +150,7 @@ fn an_input_that_breaks(rt: HostRuntime) {
 #[test]
 fn an_input_that_stumbles(rt: HostRuntime) {
     let mut input = Stumbles {
-        bytes: &SOLUTION,
+        bytes: HUNDRED,
         has_failed: false,
     };
     assert_eq!(rt; show_of(&rt, &mut input), (Err(ToolFault::Read), 0));
@@ -212,7 +207,7 @@ fn best_answers_the_first_input_that_fails(rt: HostRuntime) {
 
 // A Lynx file of `count` records that have only a level's password, and its listing.
 fn passwords(rt: &HostRuntime, count: u32) -> Result<(Vec<u8>, Vec<u8>), Fail> {
-    let mut bytes = Vec::from_slice(rt.alloc(), &SOLUTION[..8])?;
+    let mut bytes = Vec::from_slice(rt.alloc(), &HUNDRED[..8])?;
     let mut listing = Vec::from_slice(rt.alloc(), b"ruleset lynx word 0000 extra 0\n")?;
     for _ in 0..count {
         bytes.extend_from_slice(&[6, 0, 0, 0, 1, 0, 0x42, 0x44, 0x48, 0x50])?;
@@ -240,7 +235,7 @@ fn help_to_a_full_writer(rt: HostRuntime) -> Result<(), Fail> {
     let words = owned(&rt, &["tws", "--help"])?;
     let mut room = [0u8; 10];
     let mut out = room.as_mut_slice();
-    let mut input = SOLUTION.as_slice();
+    let mut input = HUNDRED.as_slice();
     let mut errors = Vec::new(rt.alloc());
     let status = run_words(&rt, rt.alloc(), &words, &mut input, &mut out, &mut errors);
     assert_eq!(rt;

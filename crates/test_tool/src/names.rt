@@ -6,6 +6,7 @@ use crate::streams::*;
 use archive_turns::MemoryWire;
 use std::test::Fail;
 use std::{env, fs, io, process};
+use test_samples::{EMPTY_MS, HUNDRED, NINETY, UNREADABLE};
 use tws_tool::{FileSystem, run_words_with};
 
 // Writes a file of these bytes in the system's temporary folder. Returns its name.
@@ -20,8 +21,8 @@ fn file(rt: &HostRuntime, name: &str, bytes: &[u8]) -> Result<String, Fail> {
 
 // The solution in 100 ticks and in 90, each in a file.
 fn two_files(rt: &HostRuntime) -> Result<(String, String), Fail> {
-    let slow = file(rt, "slow", &SOLUTION)?;
-    let fast = file(rt, "fast", &FASTER)?;
+    let slow = file(rt, "slow", HUNDRED)?;
+    let fast = file(rt, "fast", NINETY)?;
     Ok((slow, fast))
 }
 
@@ -37,7 +38,6 @@ fn best_of_files(rt: HostRuntime) -> Result<(), Fail> {
     let lynx = run(&rt, &["tws", "best", "lynx", &slow, &fast], &[])?;
     let ms = run(&rt, &["tws", "best", "ms", &slow, &fast], &[])?;
     remove(&rt, &slow, &fast)?;
-    let empty = [0x35, 0x33, 0x9B, 0x99, 2, 0, 0, 0];
     assert_eq!(rt;
         (
             lynx.status,
@@ -45,7 +45,7 @@ fn best_of_files(rt: HostRuntime) -> Result<(), Fail> {
             ms.status,
             ms.out.as_slice()
         ),
-        (0, FASTER.as_slice(), 0, empty.as_slice())
+        (0, NINETY.as_slice(), 0, EMPTY_MS.as_slice())
     );
     Ok(())
 }
@@ -122,12 +122,12 @@ fn best_of_one(rt: &HostRuntime, system: &One, names: &[&str]) -> Result<Outcome
 fn best_of_a_hundred_names(rt: HostRuntime) -> Result<(), Fail> {
     let system = One {
         name: "slow",
-        bytes: &SOLUTION,
+        bytes: HUNDRED,
     };
     let outcome = best_of_one(&rt, &system, &["slow"; 100])?;
     assert_eq!(rt;
         (outcome.status, outcome.out.as_slice()),
-        (0, SOLUTION.as_slice())
+        (0, HUNDRED.as_slice())
     );
     Ok(())
 }
@@ -136,7 +136,7 @@ fn best_of_a_hundred_names(rt: HostRuntime) -> Result<(), Fail> {
 fn best_of_a_file_that_is_unreadable(rt: HostRuntime) -> Result<(), Fail> {
     let system = One {
         name: "short",
-        bytes: &[0x35, 0x33, 0x9B, 0x98, 2, 0, 0],
+        bytes: UNREADABLE,
     };
     let outcome = best_of_one(&rt, &system, &["short"])?;
     let line = "tws: short: unreadable: ShortHeader(7)\n";
@@ -148,7 +148,7 @@ fn best_of_a_file_that_is_unreadable(rt: HostRuntime) -> Result<(), Fail> {
 fn best_of_a_file_that_is_missing(rt: HostRuntime) -> Result<(), Fail> {
     let system = One {
         name: "short",
-        bytes: &[0x35, 0x33, 0x9B, 0x98, 2, 0, 0],
+        bytes: UNREADABLE,
     };
     let outcome = best_of_one(&rt, &system, &["short", "missing"])?;
     assert!(rt; fails_with(&outcome, 2, "tws: read fault\n"));

@@ -6,6 +6,7 @@ use archive_table::MemoryKeeper;
 use archive_turns::{Entry, GetRun, MemoryWire, PutRun, Server};
 use std::alloc::{AllocError, Global};
 use std::test::Fail;
+use test_samples::{EMPTY_LYNX, SERVER, join, record};
 use tftp_packet::Endpoint;
 use tws_file::Ruleset;
 
@@ -39,20 +40,12 @@ fn carry(
 
 // A Lynx file with `size` bytes of records: one solution, if that is enough for one.
 fn file_of(alloc: Global, size: usize) -> Result<Vec<u8>, AllocError> {
-    let mut bytes = Vec::from_slice(alloc, EMPTY_LYNX)?;
     if size < 20 {
-        for _ in 0..size {
-            bytes.push(0)?;
-        }
-        return Ok(bytes);
+        return join(alloc, EMPTY_LYNX, &[&[0; 20][..size]]);
     }
-    let record = ((size - 4) % 0x1_0000_0000) as u32;
-    bytes.extend_from_slice(&record.to_le_bytes())?;
-    bytes.extend_from_slice(b"\x01\0BDHP\0\0\0\0\0\0\x64\0\0\0")?;
-    for _ in 20..size {
-        bytes.push(0x61)?;
-    }
-    Ok(bytes)
+    let moves = vec![in alloc; 0x61; size - 20]?;
+    let solution = record(alloc, 1, b"BDHP", 0, 100, &moves)?;
+    join(alloc, EMPTY_LYNX, &[&solution])
 }
 
 // A client's wire, and how much of its log and of the server's was carried.

@@ -4,6 +4,9 @@ use archive_table::{KeepFault, LoadFault, MemoryKeeper, Table};
 use archive_turns::{MemoryWire, ReadyServer, Server, serve_ready, serve_turns};
 use std::alloc::Global;
 use std::test::Fail;
+use test_samples::{
+    ACK_0, ACK_1, ALICE, BOB, DATA_HUNDRED, EMPTY_LYNX, EMPTY_MS, HUNDRED, NOT_KEPT, WRQ,
+};
 use tftp_packet::Endpoint;
 
 // What is left of a put: how many files were taken, how many transfers are live, whether this was sent to the client
@@ -41,7 +44,7 @@ fn put_in_turns(
 ) -> Result<u64, Fail> {
     wire.arrive(alloc, 6969, client, WRQ)?;
     let first = serve_turns(wire, keeper, server, 1);
-    wire.arrive(alloc, port, client, DATA_F1)?;
+    wire.arrive(alloc, port, client, DATA_HUNDRED)?;
     Ok(first.saturating_add(serve_turns(wire, keeper, server, 1)))
 }
 
@@ -50,11 +53,11 @@ fn has_refused(wire: &MemoryWire) -> bool {
     let [came, opened, first, next, last, closed] = wire.log() else {
         return false;
     };
-    is_came(came, 6969, C1, WRQ)
+    is_came(came, 6969, ALICE, WRQ)
         && is_opened(opened, Some(4000))
-        && is_sent(first, 4000, C1, ACK_0, true)
-        && is_came(next, 4000, C1, DATA_F1)
-        && is_sent(last, 4000, C1, NOT_KEPT, true)
+        && is_sent(first, 4000, ALICE, ACK_0, true)
+        && is_came(next, 4000, ALICE, DATA_HUNDRED)
+        && is_sent(last, 4000, ALICE, NOT_KEPT, true)
         && is_closed(closed, 4000)
 }
 
@@ -66,13 +69,13 @@ fn puts_in_turns(
     keeper: &mut MemoryKeeper,
     server: &mut Server,
 ) -> Result<(bool, Left, Left), Fail> {
-    let taken = put_in_turns(alloc, wire, keeper, server, 4000, C1)?;
+    let taken = put_in_turns(alloc, wire, keeper, server, 4000, ALICE)?;
     let has_refused = has_refused(wire);
-    let refused = (4000, C1, NOT_KEPT.as_slice());
+    let refused = (4000, ALICE, NOT_KEPT.as_slice());
     let first = left(alloc, wire, server.table(), taken, refused, EMPTY_LYNX)?;
-    let taken = put_in_turns(alloc, wire, keeper, server, 4001, C2)?;
-    let acked = (4001, C2, ACK_1.as_slice());
-    let second = left(alloc, wire, server.table(), taken, acked, F1)?;
+    let taken = put_in_turns(alloc, wire, keeper, server, 4001, BOB)?;
+    let acked = (4001, BOB, ACK_1.as_slice());
+    let second = left(alloc, wire, server.table(), taken, acked, HUNDRED)?;
     Ok((has_refused, first, second))
 }
 
@@ -104,7 +107,7 @@ fn put_in_rounds(
 ) -> Result<u64, Fail> {
     wire.arrive(alloc, 6969, client, WRQ)?;
     let first = serve_ready(wire, keeper, server, 1);
-    wire.arrive(alloc, port, client, DATA_F1)?;
+    wire.arrive(alloc, port, client, DATA_HUNDRED)?;
     Ok(first.saturating_add(serve_ready(wire, keeper, server, 1)))
 }
 
@@ -114,12 +117,12 @@ fn puts_in_rounds(
     keeper: &mut MemoryKeeper,
     server: &mut ReadyServer,
 ) -> Result<(Left, Left), Fail> {
-    let taken = put_in_rounds(alloc, wire, keeper, server, 4000, C1)?;
-    let refused = (4000, C1, NOT_KEPT.as_slice());
+    let taken = put_in_rounds(alloc, wire, keeper, server, 4000, ALICE)?;
+    let refused = (4000, ALICE, NOT_KEPT.as_slice());
     let first = left(alloc, wire, server.table(), taken, refused, EMPTY_LYNX)?;
-    let taken = put_in_rounds(alloc, wire, keeper, server, 4001, C2)?;
-    let acked = (4001, C2, ACK_1.as_slice());
-    let second = left(alloc, wire, server.table(), taken, acked, F1)?;
+    let taken = put_in_rounds(alloc, wire, keeper, server, 4001, BOB)?;
+    let acked = (4001, BOB, ACK_1.as_slice());
+    let second = left(alloc, wire, server.table(), taken, acked, HUNDRED)?;
     Ok((first, second))
 }
 
@@ -139,9 +142,9 @@ fn a_keep_that_fails_in_a_round(rt: HostRuntime) -> Result<(), Fail> {
 
 // ---- a start with what was kept
 
-// A keeper that has F1 for Lynx, and for MS the text of an empty collection. This call of it fails.
+// A keeper that has HUNDRED for Lynx, and for MS the text of an empty collection. This call of it fails.
 fn keeper_of(alloc: Global, failing: u64) -> Result<MemoryKeeper, Fail> {
-    let lynx = Vec::from_slice(alloc, F1)?;
+    let lynx = Vec::from_slice(alloc, HUNDRED)?;
     let ms = Vec::from_slice(alloc, EMPTY_MS)?;
     let mut keeper = MemoryKeeper::with(alloc, Some(lynx), Some(ms))?;
     keeper.fail_at(failing);
@@ -151,7 +154,7 @@ fn keeper_of(alloc: Global, failing: u64) -> Result<MemoryKeeper, Fail> {
 // Why the server that counts turns does not start; if it does, whether it has both texts.
 fn starts(alloc: Global, failing: u64) -> Result<Result<bool, LoadFault>, Fail> {
     match Server::load(alloc, 6969, &mut keeper_of(alloc, failing)?) {
-        Ok(server) => Ok(Ok(has_texts(alloc, server.table(), F1, EMPTY_MS)?)),
+        Ok(server) => Ok(Ok(has_texts(alloc, server.table(), HUNDRED, EMPTY_MS)?)),
         Err(fault) => Ok(Err(fault)),
     }
 }
@@ -159,7 +162,7 @@ fn starts(alloc: Global, failing: u64) -> Result<Result<bool, LoadFault>, Fail> 
 // The same for the server that waits for ready ports.
 fn starts_ready(alloc: Global, failing: u64) -> Result<Result<bool, LoadFault>, Fail> {
     match ReadyServer::load(alloc, 6969, &mut keeper_of(alloc, failing)?) {
-        Ok(server) => Ok(Ok(has_texts(alloc, server.table(), F1, EMPTY_MS)?)),
+        Ok(server) => Ok(Ok(has_texts(alloc, server.table(), HUNDRED, EMPTY_MS)?)),
         Err(fault) => Ok(Err(fault)),
     }
 }

@@ -4,12 +4,13 @@ use archive_table::NoKeeper;
 use archive_turns::{MemoryWire, RECEIVE_SIZE, Ready, ReadyServer, ReadyWire, Wire, serve_ready};
 use std::alloc::Global;
 use std::test::Fail;
+use test_samples::{ACK_0, ACK_1, ALICE, DATA_HUNDRED};
 use tws_file::Ruleset;
 
 // Makes one round of the server. Returns how many files it takes, and whether it has sent this to the client last.
 fn acks(wire: &mut MemoryWire, server: &mut ReadyServer, ack: &[u8; 4]) -> (u64, bool) {
     let taken = serve_ready(wire, &mut NoKeeper, server, 1);
-    (taken, sent_last(wire, 4000, C1, ack))
+    (taken, sent_last(wire, 4000, ALICE, ack))
 }
 
 // Makes one round of the server. Returns how many transfers are live after it.
@@ -26,7 +27,7 @@ fn put_in_rounds(
 ) -> Result<[(u64, bool); 2], Fail> {
     let first = acks(wire, server, ACK_0);
     wire.set_time(999);
-    wire.arrive(alloc, 4000, C1, DATA_F1)?;
+    wire.arrive(alloc, 4000, ALICE, DATA_HUNDRED)?;
     Ok([first, acks(wire, server, ACK_1)])
 }
 
@@ -55,7 +56,7 @@ fn are_sent_in_time(
 ) -> Result<bool, Fail> {
     for (time, sent) in [(1, 1), (999, 1), (1000, 2), (1999, 2), (2000, 3), (2001, 3)] {
         wire.set_time(time);
-        wire.arrive(alloc, 6969, C1, b"no packet")?;
+        wire.arrive(alloc, 6969, ALICE, b"no packet")?;
         serve_ready(wire, &mut NoKeeper, server, 1);
         if send_count(wire) != sent {
             return Ok(false);
@@ -78,14 +79,14 @@ fn a_busy_request_port(rt: HostRuntime) -> Result<(), Fail> {
 fn wire_with_acks(alloc: Global, ports: &[u16]) -> Result<MemoryWire, Fail> {
     let mut wire = wire_of(alloc, &[])?;
     for port in ports {
-        wire.arrive(alloc, *port, C1, ACK_0)?;
+        wire.arrive(alloc, *port, ALICE, ACK_0)?;
     }
     Ok(wire)
 }
 
 // Whether the datagram that waits at this port is such an ACK.
 fn has_ack(wire: &mut MemoryWire, port: u16) -> bool {
-    wire.receive(port, &mut [0; RECEIVE_SIZE]) == Ok(Some((4, C1)))
+    wire.receive(port, &mut [0; RECEIVE_SIZE]) == Ok(Some((4, ALICE)))
 }
 
 // Whether these ports are ready in this order, each after the one before it, and the datagram there is received.

@@ -5,6 +5,10 @@ use archive_table::NoKeeper;
 use archive_turns::{MemoryWire, PutRun, Server, Wire, run_get, serve_turns};
 use std::alloc::Global;
 use std::test::Fail;
+use test_samples::{
+    ACK_0, ACK_1, ALICE, DATA_HUNDRED, DATA_NINETY, HUNDRED, RRQ_LYNX, SERVER, UNKNOWN_TRANSFER,
+    WRQ, at,
+};
 use tftp_packet::Endpoint;
 use tws_file::Ruleset;
 
@@ -13,11 +17,11 @@ fn has_put(wire: &MemoryWire) -> bool {
     let [came, opened, first, next, last] = wire.log() else {
         return false;
     };
-    is_came(came, 6969, C1, WRQ)
+    is_came(came, 6969, ALICE, WRQ)
         && is_opened(opened, Some(4000))
-        && is_sent(first, 4000, C1, ACK_0, true)
-        && is_came(next, 4000, C1, DATA_F1)
-        && is_sent(last, 4000, C1, ACK_1, true)
+        && is_sent(first, 4000, ALICE, ACK_0, true)
+        && is_came(next, 4000, ALICE, DATA_HUNDRED)
+        && is_sent(last, 4000, ALICE, ACK_1, true)
 }
 
 #[test]
@@ -40,7 +44,7 @@ fn has_opened_alone(wire: &MemoryWire, port: Option<u16>) -> bool {
     let [came, opened, quiet] = wire.log() else {
         return false;
     };
-    is_came(came, 6969, C1, WRQ) && is_opened(opened, port) && is_quiet(quiet, 6969)
+    is_came(came, 6969, ALICE, WRQ) && is_opened(opened, port) && is_quiet(quiet, 6969)
 }
 
 #[test]
@@ -85,9 +89,9 @@ fn has_come_later(wire: &MemoryWire) -> bool {
         return false;
     };
     is_failed(failed, 6969)
-        && is_came(came, 6969, C1, WRQ)
+        && is_came(came, 6969, ALICE, WRQ)
         && is_opened(opened, Some(4000))
-        && is_sent(sent, 4000, C1, ACK_0, true)
+        && is_sent(sent, 4000, ALICE, ACK_0, true)
 }
 
 #[test]
@@ -109,9 +113,9 @@ fn has_block_waiting(wire: &MemoryWire) -> bool {
     let [came, opened, sent, failed] = wire.log() else {
         return false;
     };
-    is_came(came, 6969, C1, WRQ)
+    is_came(came, 6969, ALICE, WRQ)
         && is_opened(opened, Some(4000))
-        && is_sent(sent, 4000, C1, ACK_0, true)
+        && is_sent(sent, 4000, ALICE, ACK_0, true)
         && is_failed(failed, 4000)
 }
 
@@ -127,9 +131,9 @@ fn has_acked(wire: &MemoryWire, first_ok: bool, last_ok: bool) -> bool {
         return false;
     };
     is_opened(opened, Some(4000))
-        && is_sent(first, 4000, C1, ACK_0, first_ok)
-        && is_came(came, 4000, C1, DATA_F1)
-        && is_sent(last, 4000, C1, ACK_1, last_ok)
+        && is_sent(first, 4000, ALICE, ACK_0, first_ok)
+        && is_came(came, 4000, ALICE, DATA_HUNDRED)
+        && is_sent(last, 4000, ALICE, ACK_1, last_ok)
 }
 
 #[test]
@@ -176,12 +180,12 @@ fn serves_twice(alloc: Global, wire: &mut MemoryWire, server: &mut Server) -> Re
     for (port, bytes, taken, live, from, ack) in [
         (6969, WRQ.as_slice(), 0, 1, 4000, ACK_0),
         (6969, WRQ.as_slice(), 0, 2, 4001, ACK_0),
-        (4001, UNKNOWN.as_slice(), 0, 1, 4001, ACK_0),
-        (4000, DATA_F1.as_slice(), 1, 1, 4000, ACK_1),
+        (4001, UNKNOWN_TRANSFER.as_slice(), 0, 1, 4001, ACK_0),
+        (4000, DATA_HUNDRED.as_slice(), 1, 1, 4000, ACK_1),
     ] {
-        wire.arrive(alloc, port, C1, bytes)?;
+        wire.arrive(alloc, port, ALICE, bytes)?;
         let is_taken = serve_turns(wire, &mut NoKeeper, server, 4) == taken;
-        if !is_taken || server.table().live() != live || !sent_last(wire, from, C1, ack) {
+        if !is_taken || server.table().live() != live || !sent_last(wire, from, ALICE, ack) {
             return Ok(false);
         }
     }
@@ -203,9 +207,15 @@ fn a_request_that_comes_twice(rt: HostRuntime) -> Result<(), Fail> {
 // after one turn, and the client's state.
 fn stays_with_first(alloc: Global, wire: &mut MemoryWire, run: &mut PutRun) -> Result<bool, Fail> {
     for (from, ack, to, bytes, state) in [
-        (4000, ACK_0, 4000, DATA_F1.as_slice(), State::Running),
-        (4001, ACK_0, 4001, UNKNOWN.as_slice(), State::Running),
-        (4000, ACK_1, 4001, UNKNOWN.as_slice(), State::Sent),
+        (4000, ACK_0, 4000, DATA_HUNDRED.as_slice(), State::Running),
+        (
+            4001,
+            ACK_0,
+            4001,
+            UNKNOWN_TRANSFER.as_slice(),
+            State::Running,
+        ),
+        (4000, ACK_1, 4001, UNKNOWN_TRANSFER.as_slice(), State::Sent),
     ] {
         wire.arrive(alloc, 5000, at(from), ack)?;
         run.turn(wire);
@@ -220,7 +230,7 @@ fn stays_with_first(alloc: Global, wire: &mut MemoryWire, run: &mut PutRun) -> R
 #[test]
 fn two_answers_to_one_request(rt: HostRuntime) -> Result<(), Fail> {
     let mut wire = wire_of(rt.alloc(), &[5000])?;
-    let mut run = begun_put(&mut wire, Vec::from_slice(rt.alloc(), F1)?)?;
+    let mut run = begun_put(&mut wire, Vec::from_slice(rt.alloc(), HUNDRED)?)?;
     let has_begun = sent_last(&wire, 5000, SERVER, WRQ);
     let stays = stays_with_first(rt.alloc(), &mut wire, &mut run)?;
     assert_eq!(rt; (has_begun, stays, send_count(&wire)), (true, true, 3));
@@ -232,11 +242,11 @@ fn two_answers_to_one_request(rt: HostRuntime) -> Result<(), Fail> {
 fn serves_across(alloc: Global, wire: &mut MemoryWire, server: &mut Server) -> Result<bool, Fail> {
     for (port, host, bytes, taken) in [
         (6969, 2, WRQ.as_slice(), 0),
-        (4000, 2, DATA_F1.as_slice(), 1),
-        (6969, 3, RRQ.as_slice(), 0),
+        (4000, 2, DATA_HUNDRED.as_slice(), 1),
+        (6969, 3, RRQ_LYNX.as_slice(), 0),
         (6969, 4, WRQ.as_slice(), 0),
-        (4002, 4, DATA_F2.as_slice(), 1),
-        (6969, 5, RRQ.as_slice(), 0),
+        (4002, 4, DATA_NINETY.as_slice(), 1),
+        (6969, 5, RRQ_LYNX.as_slice(), 0),
     ] {
         wire.arrive(alloc, port, Endpoint { host, port: 5000 }, bytes)?;
         if serve_turns(wire, &mut NoKeeper, server, 6) != taken {
@@ -257,7 +267,7 @@ fn is_fetched(alloc: Global, port: u16, data: &[u8; 32]) -> Result<bool, Fail> {
 
 // Whether each get was sent its block once, and can fetch it.
 fn are_fetched(alloc: Global, wire: &MemoryWire) -> Result<bool, Fail> {
-    for (port, host, data) in [(4001, 3, DATA_F1), (4003, 5, DATA_F2)] {
+    for (port, host, data) in [(4001, 3, DATA_HUNDRED), (4003, 5, DATA_NINETY)] {
         let times = sent_times(wire, port, Endpoint { host, port: 5000 }, data);
         if times != 1 || !is_fetched(alloc, port, data)? {
             return Ok(false);

@@ -3,75 +3,25 @@ use archive_table::{MemoryKeeper, Table};
 use archive_turns::{Entry, MemoryWire, PutRun};
 use std::alloc::Global;
 use std::test::Fail;
+use test_samples::{ALICE, DATA_HUNDRED, HUNDRED, SERVER, WRQ};
 use tftp_packet::Endpoint;
 use tws_file::Ruleset;
-
-pub(crate) const SERVER: Endpoint = Endpoint {
-    host: 1,
-    port: 6969,
-};
-
-// A port of the server's host.
-pub(crate) fn at(port: u16) -> Endpoint {
-    Endpoint { host: 1, port }
-}
-
-pub(crate) const C1: Endpoint = Endpoint {
-    host: 2,
-    port: 5000,
-};
-
-pub(crate) const C2: Endpoint = Endpoint {
-    host: 3,
-    port: 5000,
-};
-
-pub(crate) const WRQ: &[u8; 19] = b"\0\x02upload.tws\0octet\0";
-
-// A Lynx file: level 1, BDHP, 100 ticks, no moves.
-pub(crate) const F1: &[u8; 28] =
-    b"\x35\x33\x9B\x99\x01\0\0\0\x10\0\0\0\x01\0BDHP\0\0\0\0\0\0\x64\0\0\0";
-
-// DATA 1 with that file.
-pub(crate) const DATA_F1: &[u8; 32] =
-    b"\0\x03\0\x01\x35\x33\x9B\x99\x01\0\0\0\x10\0\0\0\x01\0BDHP\0\0\0\0\0\0\x64\0\0\0";
-
-// The same with 90 ticks.
-pub(crate) const DATA_F2: &[u8; 32] =
-    b"\0\x03\0\x01\x35\x33\x9B\x99\x01\0\0\0\x10\0\0\0\x01\0BDHP\0\0\0\0\0\0\x5A\0\0\0";
-
-// The headers of files without a solution.
-pub(crate) const EMPTY_LYNX: &[u8; 8] = b"\x35\x33\x9B\x99\x01\0\0\0";
-
-pub(crate) const EMPTY_MS: &[u8; 8] = b"\x35\x33\x9B\x99\x02\0\0\0";
-
-pub(crate) const RRQ: &[u8; 17] = b"\0\x01lynx.tws\0octet\0";
-
-pub(crate) const UNKNOWN: &[u8; 21] = b"\0\x05\0\x05unknown transfer\0";
-
-pub(crate) const NOT_KEPT: &[u8; 13] = b"\0\x05\0\0not kept\0";
-
-pub(crate) const ACK_0: &[u8; 4] = b"\0\x04\0\0";
-
-pub(crate) const ACK_1: &[u8; 4] = b"\0\x04\0\x01";
-
-pub(crate) const ACK_2: &[u8; 4] = b"\0\x04\0\x02";
 
 pub(crate) fn wire_of(alloc: Global, opens: &[u16]) -> Result<MemoryWire, Fail> {
     Ok(MemoryWire::new(alloc, Vec::from_slice(alloc, opens)?))
 }
 
-// A wire that opens this port, with a request from C1.
+// A wire that opens this port, with a request from ALICE.
 pub(crate) fn request_wire(alloc: Global, opens: u16) -> Result<MemoryWire, Fail> {
     let mut wire = wire_of(alloc, &[opens])?;
-    wire.arrive(alloc, 6969, C1, WRQ)?;
+    wire.arrive(alloc, 6969, ALICE, WRQ)?;
     Ok(wire)
 }
 
-// The same with the whole put of F1, whose block arrives at 4000.
+// The same with the whole put of HUNDRED, whose block arrives at 4000.
 pub(crate) fn put_wire(alloc: Global, opens: u16) -> Result<MemoryWire, Fail> {
     let mut wire = request_wire(alloc, opens)?;
-    wire.arrive(alloc, 4000, C1, DATA_F1)?;
+    wire.arrive(alloc, 4000, ALICE, DATA_HUNDRED)?;
     Ok(wire)
 }
 
@@ -177,12 +127,15 @@ pub(crate) fn has_texts(
     Ok(one.as_slice() == lynx && other.as_slice() == ms)
 }
 
-// Whether a keeper was given the text of F1 for Lynx once for each of `wanted`, and kept it each time or not, as that
+// Whether a keeper was given the text of HUNDRED for Lynx once for each of `wanted`, and kept it each time or not, as that
 // says.
 pub(crate) fn was_given(keeper: &MemoryKeeper, wanted: &[bool]) -> bool {
     let kept = keeper.kept();
     for (one, ok) in kept.iter().zip(wanted) {
-        if one.ruleset != Ruleset::Lynx || one.text.as_slice() != F1.as_slice() || one.ok != *ok {
+        if one.ruleset != Ruleset::Lynx
+            || one.text.as_slice() != HUNDRED.as_slice()
+            || one.ok != *ok
+        {
             return false;
         }
     }

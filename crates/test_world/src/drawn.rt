@@ -1,11 +1,13 @@
 // Lists of events that are drawn: six operations at six endpoints, whose datagrams are mostly delivered, and now and then
 // lost, repeated or overtaken; time-outs, strangers' datagrams and restarts.
-use crate::cast::{ACK_0, ACK_1, ACK_2, STRANGER, WRQ, at, client};
-use crate::scene::{Act, bytes_of, event_of};
+use crate::scene::{Act, STRANGER, bytes_of, event_of};
 use archive_table::MemoryKeeper;
 use archive_world::{Datagram, Event, Op, OpKind, Outcome, SERVER, WorldFault, replay};
 use std::alloc::Global;
 use std::test::Fail;
+use test_samples::{
+    ACK_0, ACK_1, ACK_2, Draws, EMPTY_LYNX, EMPTY_MS, WRQ, at, client, join, record, steps,
+};
 use tftp_packet::Endpoint;
 use tws_file::Ruleset;
 
@@ -17,33 +19,7 @@ const OPERATIONS: u16 = 6;
 
 // How many bytes of moves a file has, besides 28 others: a block and less, a whole block, more than one, two whole
 // blocks, and more than two.
-const MOVES: [u16; 8] = [0, 0, 2, 300, 484, 700, 996, 1200];
-
-// Pseudo-random numbers from a linear congruential generator with a fixed seed.
-#[derive(Drop)]
-pub(crate) struct Draws(pub(crate) u64);
-
-impl Draws {
-    pub(crate) fn below(&mut self, n: u16) -> u16 {
-        self.0 = self
-            .0
-            .wrapping_mul(6364136223846793005)
-            .wrapping_add(1442695040888963407);
-        match (self.0 >> 33).checked_rem(u64::from(n)) {
-            Some(drawn) => (drawn % 65536) as u16,
-            None => 0,
-        }
-    }
-
-    fn once_in(&mut self, n: u16) -> bool {
-        self.below(n) == 0
-    }
-
-    // A place in a list of this length.
-    fn place(&mut self, len: usize) -> usize {
-        usize::from(self.below((len % 65536) as u16))
-    }
-}
+const MOVES: [usize; 8] = [0, 0, 2, 300, 484, 700, 996, 1200];
 
 // A list that is being drawn.
 #[derive(Drop)]
@@ -59,16 +35,16 @@ pub(crate) struct Drawn {
 // A file of one solution of one of three levels, of either ruleset. One in twelve is cut, and so is not a solution
 // file.
 fn file(alloc: Global, draws: &mut Draws) -> Result<Vec<u8>, Fail> {
-    let moves = MOVES.get(usize::from(draws.below(8))).copied().unwrap_or(0);
-    let rules = if draws.once_in(4) { 2 } else { 1 };
-    let mut bytes = Vec::from_slice(alloc, &[0x35, 0x33, 0x9B, 0x99, rules, 0, 0, 0])?;
-    bytes.extend_from_slice(&(16 + u32::from(moves)).to_le_bytes())?;
-    bytes.extend_from_slice(&draws.below(3).to_le_bytes())?;
-    bytes.extend_from_slice(b"BDHP\0\0\0\0\0\0")?;
-    bytes.extend_from_slice(&u32::from(draws.below(5)).to_le_bytes())?;
-    for _ in 0..moves {
-        bytes.push(1)?;
-    }
+    let count = MOVES.get(usize::from(draws.below(8))).copied().unwrap_or(0);
+    let moves = steps(alloc, count)?;
+    let header = if draws.once_in(4) {
+        EMPTY_MS
+    } else {
+        EMPTY_LYNX
+    };
+    let (number, ticks) = (draws.below(3), u32::from(draws.below(5)));
+    let solution = record(alloc, number, b"BDHP", 0, ticks, &moves)?;
+    let mut bytes = join(alloc, header, &[&solution])?;
     if draws.once_in(12) {
         let _last = bytes.pop();
     }

@@ -1,11 +1,11 @@
 // Lists of events without a run.
-use crate::cast::{C1, C2, HUNDRED, RRQ_MS, WRQ, at};
 use crate::scene::{
     Act, NO_CALL, NOTHING, ONE_PUT, Wanted, fault, fault_by, other_after, was_given,
 };
 use archive_table::MemoryKeeper;
 use archive_world::{SERVER, WorldFault};
 use std::test::Fail;
+use test_samples::{ALICE, BOB, HUNDRED, RRQ_MS, WRQ, at};
 use tftp_packet::Endpoint;
 use tws_file::Ruleset;
 
@@ -21,7 +21,7 @@ fn a_delivery_of_what_was_not_sent(rt: HostRuntime) -> Result<(), Fail> {
         fault(rt.alloc(), &[Act::Ask(0, 4000)])?,
         Some(WorldFault::BadEvent(0))
     );
-    let acts = [Act::Put(C1, HUNDRED), Act::Ask(0, 4000), Act::Deliver(2)];
+    let acts = [Act::Put(ALICE, HUNDRED), Act::Ask(0, 4000), Act::Deliver(2)];
     assert_eq!(rt; fault(rt.alloc(), &acts)?, Some(WorldFault::BadEvent(2)));
     Ok(())
 }
@@ -29,9 +29,13 @@ fn a_delivery_of_what_was_not_sent(rt: HostRuntime) -> Result<(), Fail> {
 // The request port is never spare, nor is a port with a transfer.
 #[test]
 fn a_spare_port_that_is_not_free(rt: HostRuntime) -> Result<(), Fail> {
-    let acts = [Act::Put(C1, HUNDRED), Act::Ask(0, 4000), Act::Ask(0, 4000)];
+    let acts = [
+        Act::Put(ALICE, HUNDRED),
+        Act::Ask(0, 4000),
+        Act::Ask(0, 4000),
+    ];
     assert_eq!(rt; fault(rt.alloc(), &acts)?, Some(WorldFault::BadEvent(2)));
-    let acts = [Act::Put(C1, HUNDRED), Act::Ask(0, 6969)];
+    let acts = [Act::Put(ALICE, HUNDRED), Act::Ask(0, 6969)];
     assert_eq!(rt; fault(rt.alloc(), &acts)?, Some(WorldFault::BadEvent(1)));
     Ok(())
 }
@@ -42,7 +46,7 @@ fn clients_where_none_may_be(rt: HostRuntime) -> Result<(), Fail> {
         let acts = [Act::Get(at(port), Ruleset::Lynx)];
         assert_eq!(rt; fault(rt.alloc(), &acts)?, Some(WorldFault::BadEvent(0)));
     }
-    let acts = [Act::Put(C1, HUNDRED), Act::ClientWaits(C2)];
+    let acts = [Act::Put(ALICE, HUNDRED), Act::ClientWaits(BOB)];
     assert_eq!(rt; fault(rt.alloc(), &acts)?, Some(WorldFault::BadEvent(1)));
     Ok(())
 }
@@ -51,8 +55,11 @@ fn clients_where_none_may_be(rt: HostRuntime) -> Result<(), Fail> {
 #[test]
 fn a_put_of_a_file_that_is_too_long(rt: HostRuntime) -> Result<(), Fail> {
     let file = vec![in rt.alloc(); 7; 33_553_920]?;
-    let first = fault(rt.alloc(), &[Act::Put(C1, &file)])?;
-    let second = fault(rt.alloc(), &[Act::Put(C1, HUNDRED), Act::Put(C1, &file)])?;
+    let first = fault(rt.alloc(), &[Act::Put(ALICE, &file)])?;
+    let second = fault(
+        rt.alloc(),
+        &[Act::Put(ALICE, HUNDRED), Act::Put(ALICE, &file)],
+    )?;
     assert_eq!(rt;
         (first, second),
         (Some(WorldFault::BadEvent(0)), Some(WorldFault::BadEvent(1)))
@@ -63,9 +70,9 @@ fn a_put_of_a_file_that_is_too_long(rt: HostRuntime) -> Result<(), Fail> {
 #[test]
 fn two_operations_of_one_client(rt: HostRuntime) -> Result<(), Fail> {
     let acts = [
-        Act::Get(C1, Ruleset::Lynx),
+        Act::Get(ALICE, Ruleset::Lynx),
         Act::Ask(0, 4000),
-        Act::Get(C1, Ruleset::Ms),
+        Act::Get(ALICE, Ruleset::Ms),
     ];
     assert_eq!(rt; fault(rt.alloc(), &acts)?, Some(WorldFault::PortReused(2)));
     Ok(())
@@ -75,7 +82,7 @@ fn two_operations_of_one_client(rt: HostRuntime) -> Result<(), Fail> {
 #[test]
 fn two_transfers_of_one_client_at_one_port(rt: HostRuntime) -> Result<(), Fail> {
     let acts = [
-        Act::Put(C1, HUNDRED),
+        Act::Put(ALICE, HUNDRED),
         Act::Ask(0, 4000),
         Act::PortWaits(4000),
         Act::PortWaits(4000),
@@ -93,7 +100,7 @@ fn two_transfers_of_one_client_at_one_port(rt: HostRuntime) -> Result<(), Fail> 
 fn a_fault_after_a_file_was_taken(rt: HostRuntime) -> Result<(), Fail> {
     let mut keeper = MemoryKeeper::new(rt.alloc());
     let acts = [
-        Act::Put(C1, HUNDRED),
+        Act::Put(ALICE, HUNDRED),
         Act::Ask(0, 4000),
         Act::Deliver(1),
         Act::Deliver(2),
@@ -116,13 +123,13 @@ fn events_that_change_nothing(rt: HostRuntime) -> Result<(), Fail> {
     };
     let acts = [
         Act::PortWaits(4000),
-        Act::Put(C1, HUNDRED),
-        Act::Stray(C2, nobody, RRQ_MS),
+        Act::Put(ALICE, HUNDRED),
+        Act::Stray(BOB, nobody, RRQ_MS),
         Act::Deliver(1),
         Act::PortWaits(6969),
     ];
     let wanted = Wanted {
-        datagrams: &[(C1, SERVER, WRQ), (C2, nobody, RRQ_MS)],
+        datagrams: &[(ALICE, SERVER, WRQ), (BOB, nobody, RRQ_MS)],
         ..NOTHING
     };
     assert_eq!(rt; other_after(rt.alloc(), &acts, NO_CALL, &wanted)?, None);

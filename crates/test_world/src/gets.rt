@@ -1,32 +1,32 @@
 // Gets.
-use crate::cast::{
-    ACK_0, ACK_1, BUSY, C1, C2, C3, C4, DATA_EMPTY_LYNX, DATA_EMPTY_MS, DATA_HUNDRED, DATA_NINETY,
-    EMPTY_LYNX, EMPTY_MS, HUNDRED, NINETY, RRQ_LYNX, RRQ_MS, WRQ, at, client,
-};
 use crate::scene::{Act, NO_CALL, NOTHING, Wanted, is_datagram, other_after, run};
 use archive_table::MemoryKeeper;
 use archive_world::{Asked, Outcome, SERVER};
 use std::alloc::Global;
 use std::test::Fail;
+use test_samples::{
+    ACK_0, ACK_1, ALICE, BOB, BUSY, CAROL, DATA_EMPTY_LYNX, DATA_EMPTY_MS, DATA_HUNDRED,
+    DATA_NINETY, DAVE, EMPTY_LYNX, EMPTY_MS, HUNDRED, NINETY, RRQ_LYNX, RRQ_MS, WRQ, at, client,
+};
 use tws_file::Ruleset;
 
 const READ: Asked = Asked::Read(Ruleset::Lynx);
 
 // A put is made between the request and the first block of a get, and another get after it.
 const ACROSS: [Act<'static>; 15] = [
-    Act::Put(C1, HUNDRED),
+    Act::Put(ALICE, HUNDRED),
     Act::Ask(0, 4000),
     Act::Deliver(1),
     Act::Deliver(2),
     Act::Deliver(3),
-    Act::Get(C2, Ruleset::Lynx),
+    Act::Get(BOB, Ruleset::Lynx),
     Act::Ask(4, 4001),
-    Act::Put(C3, NINETY),
+    Act::Put(CAROL, NINETY),
     Act::Ask(6, 4002),
     Act::Deliver(7),
     Act::Deliver(8),
     Act::Deliver(5),
-    Act::Get(C4, Ruleset::Lynx),
+    Act::Get(DAVE, Ruleset::Lynx),
     Act::Ask(11, 4003),
     Act::Deliver(12),
 ];
@@ -35,32 +35,32 @@ const ACROSS: [Act<'static>; 15] = [
 #[test]
 fn a_get_across_a_put(rt: HostRuntime) -> Result<(), Fail> {
     let wanted = Wanted {
-        taken: &[(C1, HUNDRED), (C3, NINETY)],
+        taken: &[(ALICE, HUNDRED), (CAROL, NINETY)],
         // The last ACK of the second put is never delivered.
-        sent: &[C1],
-        got: &[(C2, HUNDRED), (C4, NINETY)],
+        sent: &[ALICE],
+        got: &[(BOB, HUNDRED), (DAVE, NINETY)],
         opened: &[
-            (C1, 4000, Asked::Write, 0),
-            (C2, 4001, READ, 1),
-            (C3, 4002, Asked::Write, 1),
-            (C4, 4003, READ, 2),
+            (ALICE, 4000, Asked::Write, 0),
+            (BOB, 4001, READ, 1),
+            (CAROL, 4002, Asked::Write, 1),
+            (DAVE, 4003, READ, 2),
         ],
         lynx: NINETY,
         datagrams: &[
-            (C1, SERVER, WRQ),
-            (at(4000), C1, ACK_0),
-            (C1, at(4000), DATA_HUNDRED),
-            (at(4000), C1, ACK_1),
-            (C2, SERVER, RRQ_LYNX),
-            (at(4001), C2, DATA_HUNDRED),
-            (C3, SERVER, WRQ),
-            (at(4002), C3, ACK_0),
-            (C3, at(4002), DATA_NINETY),
-            (at(4002), C3, ACK_1),
-            (C2, at(4001), ACK_1),
-            (C4, SERVER, RRQ_LYNX),
-            (at(4003), C4, DATA_NINETY),
-            (C4, at(4003), ACK_1),
+            (ALICE, SERVER, WRQ),
+            (at(4000), ALICE, ACK_0),
+            (ALICE, at(4000), DATA_HUNDRED),
+            (at(4000), ALICE, ACK_1),
+            (BOB, SERVER, RRQ_LYNX),
+            (at(4001), BOB, DATA_HUNDRED),
+            (CAROL, SERVER, WRQ),
+            (at(4002), CAROL, ACK_0),
+            (CAROL, at(4002), DATA_NINETY),
+            (at(4002), CAROL, ACK_1),
+            (BOB, at(4001), ACK_1),
+            (DAVE, SERVER, RRQ_LYNX),
+            (at(4003), DAVE, DATA_NINETY),
+            (DAVE, at(4003), ACK_1),
         ],
         given: &[
             (Ruleset::Lynx, HUNDRED, true),
@@ -75,18 +75,18 @@ fn a_get_across_a_put(rt: HostRuntime) -> Result<(), Fail> {
 #[test]
 fn a_get_of_an_empty_collection(rt: HostRuntime) -> Result<(), Fail> {
     let acts = [
-        Act::Get(C1, Ruleset::Ms),
+        Act::Get(ALICE, Ruleset::Ms),
         Act::Ask(0, 4000),
         Act::Deliver(1),
         Act::Deliver(2),
     ];
     let wanted = Wanted {
-        got: &[(C1, EMPTY_MS)],
-        opened: &[(C1, 4000, Asked::Read(Ruleset::Ms), 0)],
+        got: &[(ALICE, EMPTY_MS)],
+        opened: &[(ALICE, 4000, Asked::Read(Ruleset::Ms), 0)],
         datagrams: &[
-            (C1, SERVER, RRQ_MS),
-            (at(4000), C1, DATA_EMPTY_MS),
-            (C1, at(4000), ACK_1),
+            (ALICE, SERVER, RRQ_MS),
+            (at(4000), ALICE, DATA_EMPTY_MS),
+            (ALICE, at(4000), ACK_1),
         ],
         ..NOTHING
     };

@@ -5,8 +5,6 @@
 #![tactic(auto)]
 
 #[cfg(test)]
-mod cast;
-#[cfg(test)]
 mod drawn;
 #[cfg(test)]
 mod faults;

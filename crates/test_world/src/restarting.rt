@@ -1,8 +1,4 @@
 // A server that restarts, and a keeper that fails.
-use crate::cast::{
-    ACK_0, ACK_1, C1, C2, DATA_HUNDRED, EMPTY_MS, HUNDRED, NO_SOLUTION_FILE, NOT_KEPT, RRQ_LYNX,
-    WRQ, at,
-};
 use crate::scene::{
     Act, NO_CALL, NOTHING, ONE_PUT, Wanted, fault, fault_by, other_after, was_given,
 };
@@ -10,37 +6,41 @@ use archive_table::MemoryKeeper;
 use archive_world::{Asked, SERVER, WorldFault};
 use std::alloc::Global;
 use std::test::Fail;
+use test_samples::{
+    ACK_0, ACK_1, ALICE, BOB, DATA_HUNDRED, EMPTY_MS, HUNDRED, NOT_KEPT, RRQ_LYNX, UNREADABLE, WRQ,
+    at,
+};
 use tws_file::Ruleset;
 
 // What was taken before the restart is fetched after it. A time-out of the port that had a transfer changes nothing.
 #[test]
 fn a_restart_between_a_put_and_a_get(rt: HostRuntime) -> Result<(), Fail> {
     let acts = [
-        Act::Put(C1, HUNDRED),
+        Act::Put(ALICE, HUNDRED),
         Act::Ask(0, 4000),
         Act::Deliver(1),
         Act::Deliver(2),
         Act::Deliver(3),
         Act::Restart,
         Act::PortWaits(4000),
-        Act::Get(C2, Ruleset::Lynx),
+        Act::Get(BOB, Ruleset::Lynx),
         Act::Ask(4, 4001),
         Act::Deliver(5),
     ];
     let wanted = Wanted {
-        got: &[(C2, HUNDRED)],
+        got: &[(BOB, HUNDRED)],
         opened: &[
-            (C1, 4000, Asked::Write, 0),
-            (C2, 4001, Asked::Read(Ruleset::Lynx), 1),
+            (ALICE, 4000, Asked::Write, 0),
+            (BOB, 4001, Asked::Read(Ruleset::Lynx), 1),
         ],
         datagrams: &[
-            (C1, SERVER, WRQ),
-            (at(4000), C1, ACK_0),
-            (C1, at(4000), DATA_HUNDRED),
-            (at(4000), C1, ACK_1),
-            (C2, SERVER, RRQ_LYNX),
-            (at(4001), C2, DATA_HUNDRED),
-            (C2, at(4001), ACK_1),
+            (ALICE, SERVER, WRQ),
+            (at(4000), ALICE, ACK_0),
+            (ALICE, at(4000), DATA_HUNDRED),
+            (at(4000), ALICE, ACK_1),
+            (BOB, SERVER, RRQ_LYNX),
+            (at(4001), BOB, DATA_HUNDRED),
+            (BOB, at(4001), ACK_1),
         ],
         ..ONE_PUT
     };
@@ -52,7 +52,7 @@ fn a_restart_between_a_put_and_a_get(rt: HostRuntime) -> Result<(), Fail> {
 #[test]
 fn a_port_from_before_the_restart(rt: HostRuntime) -> Result<(), Fail> {
     let acts = [
-        Act::Put(C1, HUNDRED),
+        Act::Put(ALICE, HUNDRED),
         Act::Ask(0, 4000),
         Act::Deliver(1),
         Act::Deliver(2),
@@ -68,33 +68,33 @@ fn a_port_from_before_the_restart(rt: HostRuntime) -> Result<(), Fail> {
 #[test]
 fn a_keep_that_fails(rt: HostRuntime) -> Result<(), Fail> {
     let acts = [
-        Act::Put(C1, HUNDRED),
+        Act::Put(ALICE, HUNDRED),
         Act::Ask(0, 4000),
         Act::Deliver(1),
         Act::Deliver(2),
         Act::Deliver(3),
-        Act::ClientWaits(C1),
+        Act::ClientWaits(ALICE),
         Act::PortWaits(4000),
-        Act::Put(C2, HUNDRED),
+        Act::Put(BOB, HUNDRED),
         Act::Ask(4, 4001),
         Act::Deliver(5),
         Act::Deliver(6),
         Act::Deliver(7),
     ];
     let wanted = Wanted {
-        taken: &[(C2, HUNDRED)],
-        sent: &[C2],
-        opened: &[(C1, 4000, Asked::Write, 0), (C2, 4001, Asked::Write, 0)],
+        taken: &[(BOB, HUNDRED)],
+        sent: &[BOB],
+        opened: &[(ALICE, 4000, Asked::Write, 0), (BOB, 4001, Asked::Write, 0)],
         lynx: HUNDRED,
         datagrams: &[
-            (C1, SERVER, WRQ),
-            (at(4000), C1, ACK_0),
-            (C1, at(4000), DATA_HUNDRED),
-            (at(4000), C1, NOT_KEPT),
-            (C2, SERVER, WRQ),
-            (at(4001), C2, ACK_0),
-            (C2, at(4001), DATA_HUNDRED),
-            (at(4001), C2, ACK_1),
+            (ALICE, SERVER, WRQ),
+            (at(4000), ALICE, ACK_0),
+            (ALICE, at(4000), DATA_HUNDRED),
+            (at(4000), ALICE, NOT_KEPT),
+            (BOB, SERVER, WRQ),
+            (at(4001), BOB, ACK_0),
+            (BOB, at(4001), DATA_HUNDRED),
+            (at(4001), BOB, ACK_1),
         ],
         given: &[
             (Ruleset::Lynx, HUNDRED, false),
@@ -108,7 +108,7 @@ fn a_keep_that_fails(rt: HostRuntime) -> Result<(), Fail> {
 
 // A put, and then a restart.
 const PUT_AND_RESTART: [Act<'static>; 5] = [
-    Act::Put(C1, HUNDRED),
+    Act::Put(ALICE, HUNDRED),
     Act::Ask(0, 4000),
     Act::Deliver(1),
     Act::Deliver(2),
@@ -119,12 +119,12 @@ const PUT_AND_RESTART: [Act<'static>; 5] = [
 #[test]
 fn a_restart_after_a_keep_that_fails(rt: HostRuntime) -> Result<(), Fail> {
     let wanted = Wanted {
-        opened: &[(C1, 4000, Asked::Write, 0)],
+        opened: &[(ALICE, 4000, Asked::Write, 0)],
         datagrams: &[
-            (C1, SERVER, WRQ),
-            (at(4000), C1, ACK_0),
-            (C1, at(4000), DATA_HUNDRED),
-            (at(4000), C1, NOT_KEPT),
+            (ALICE, SERVER, WRQ),
+            (at(4000), ALICE, ACK_0),
+            (ALICE, at(4000), DATA_HUNDRED),
+            (at(4000), ALICE, NOT_KEPT),
         ],
         given: &[(Ruleset::Lynx, HUNDRED, false)],
         ..NOTHING
@@ -142,10 +142,10 @@ fn a_restart_after_a_put(rt: HostRuntime) -> Result<(), Fail> {
     let wanted = Wanted {
         sent: &[],
         datagrams: &[
-            (C1, SERVER, WRQ),
-            (at(4000), C1, ACK_0),
-            (C1, at(4000), DATA_HUNDRED),
-            (at(4000), C1, ACK_1),
+            (ALICE, SERVER, WRQ),
+            (at(4000), ALICE, ACK_0),
+            (ALICE, at(4000), DATA_HUNDRED),
+            (at(4000), ALICE, ACK_1),
         ],
         ..ONE_PUT
     };
@@ -187,10 +187,10 @@ fn a_restart_that_fails(rt: HostRuntime) -> Result<(), Fail> {
 #[test]
 fn a_restart_with_bytes_that_are_no_collection(rt: HostRuntime) -> Result<(), Fail> {
     let alloc = rt.alloc();
-    for text in [NO_SOLUTION_FILE.as_slice(), EMPTY_MS.as_slice()] {
+    for text in [UNREADABLE.as_slice(), EMPTY_MS.as_slice()] {
         let text = Vec::from_slice(alloc, text)?;
         let mut keeper = MemoryKeeper::with(alloc, Some(text), None)?;
-        let acts = [Act::Put(C1, HUNDRED), Act::Restart];
+        let acts = [Act::Put(ALICE, HUNDRED), Act::Restart];
         assert_eq!(rt;
             fault_by(alloc, &mut keeper, &acts)?,
             Some(WorldFault::NotLoaded(1))

@@ -1,13 +1,16 @@
 // Lists of events in abbreviated form, and their expected outcomes.
-use crate::cast::{C1, EMPTY_LYNX, EMPTY_MS, HUNDRED};
 use archive_table::MemoryKeeper;
 use archive_world::{
     Asked, Datagram, Event, GotFile, Op, OpKind, Opening, Outcome, TakenFile, WorldFault, replay,
 };
 use std::alloc::Global;
 use std::test::Fail;
+use test_samples::{ALICE, EMPTY_LYNX, EMPTY_MS, HUNDRED};
 use tftp_packet::Endpoint;
 use tws_file::{Bytes, Ruleset};
+
+// A stranger, with no operation.
+pub(crate) const STRANGER: Endpoint = Endpoint { host: 100, port: 7 };
 
 // An event in abbreviated form.
 #[derive(Clone, Copy)]
@@ -117,10 +120,10 @@ pub(crate) const NOTHING: Wanted<'static> = Wanted {
 // The outcome of a put by the first client, except for its datagrams: of the file of 100 ticks, with its transfer at
 // port 4000.
 pub(crate) const ONE_PUT: Wanted<'static> = Wanted {
-    taken: &[(C1, HUNDRED)],
-    sent: &[C1],
+    taken: &[(ALICE, HUNDRED)],
+    sent: &[ALICE],
     got: &[],
-    opened: &[(C1, 4000, Asked::Write, 0)],
+    opened: &[(ALICE, 4000, Asked::Write, 0)],
     lynx: HUNDRED,
     ms: EMPTY_MS,
     datagrams: &[],

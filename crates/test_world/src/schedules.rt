@@ -1,13 +1,15 @@
 // A thousand lists of up to sixty events, each outcome tested against every promise. The first two lists are fixed,
 // each with its own test.
-use crate::cast::{C1, C2, C3, C4, EMPTY_LYNX, EMPTY_MS, NOT_KEPT, RRQ_LYNX, WRQ, at};
-use crate::drawn::{Drawn, Draws, draw};
+use crate::drawn::{Drawn, draw};
 use crate::promises::{begin_counts, broken_promise};
 use crate::scene::{Act, are_got, are_opened, are_taken, events_of};
 use archive_table::MemoryKeeper;
 use archive_world::{Asked, Datagram, Event, Outcome, SERVER, replay};
 use std::alloc::Global;
 use std::test::Fail;
+use test_samples::{
+    ALICE, BOB, CAROL, DAVE, Draws, EMPTY_LYNX, EMPTY_MS, NOT_KEPT, PEER, RRQ_LYNX, WRQ, at,
+};
 use tftp_packet::Endpoint;
 use tws_file::Ruleset;
 
@@ -36,45 +38,13 @@ fn fast_file() -> [u8; 728] {
     file
 }
 
-// DATA 1 with the slow file's first block.
-fn slow_first() -> [u8; 516] {
-    let mut data = [1; 516];
-    data[..4].copy_from_slice(b"\0\x03\0\x01");
-    data[4..32].copy_from_slice(
-        b"\x35\x33\x9B\x99\x01\0\0\0\xC0\x04\0\0\x01\0BDHP\0\0\0\0\0\0\x64\0\0\0",
-    );
-    data
-}
-
-// DATA 1 with the fast file's first block.
-fn fast_first() -> [u8; 516] {
-    let mut data = [1; 516];
-    data[..4].copy_from_slice(b"\0\x03\0\x01");
-    data[4..32].copy_from_slice(
-        b"\x35\x33\x9B\x99\x01\0\0\0\xCC\x02\0\0\x01\0BDHP\0\0\0\0\0\0\x5A\0\0\0",
-    );
-    data
-}
-
-// DATA 2 with the slow file's second block.
-fn slow_second() -> [u8; 516] {
-    let mut data = [1; 516];
-    data[..4].copy_from_slice(b"\0\x03\0\x02");
-    data
-}
-
-// DATA 3 with the last 204 bytes of the slow file.
-fn slow_third() -> [u8; 208] {
-    let mut data = [1; 208];
-    data[..4].copy_from_slice(b"\0\x03\0\x03");
-    data
-}
-
-// DATA 2 with the last 216 bytes of the fast file.
-fn fast_second() -> [u8; 220] {
-    let mut data = [1; 220];
-    data[..4].copy_from_slice(b"\0\x03\0\x02");
-    data
+// Whether these bytes are DATA with block `n` of a file.
+fn is_block(bytes: &[u8], n: u8, file: &[u8]) -> bool {
+    let before = usize::from(n).saturating_sub(1);
+    match file.chunks(512).skip(before).next() {
+        Some(body) => bytes.starts_with(&[0, 3, 0, n]) && bytes.get(4..) == Some(body),
+        None => false,
+    }
 }
 
 // A packet of the fixed lists; the number is that of an ACK or of a block.
@@ -92,12 +62,8 @@ fn is_line(bytes: &[u8], line: Line) -> bool {
         Line::Write => bytes == WRQ.as_slice(),
         Line::Read => bytes == RRQ_LYNX.as_slice(),
         Line::Ack(n) => bytes == [0, 4, 0, n].as_slice(),
-        Line::Slow(1) => bytes == slow_first().as_slice(),
-        Line::Slow(2) => bytes == slow_second().as_slice(),
-        Line::Slow(3) => bytes == slow_third().as_slice(),
-        Line::Fast(1) => bytes == fast_first().as_slice(),
-        Line::Fast(2) => bytes == fast_second().as_slice(),
-        Line::Slow(_) | Line::Fast(_) => false,
+        Line::Slow(n) => is_block(bytes, n, &slow_file()),
+        Line::Fast(n) => is_block(bytes, n, &fast_file()),
     }
 }
 
@@ -121,15 +87,10 @@ fn unbroken(alloc: Global, events: &[Event]) -> Result<Outcome, Fail> {
     }
 }
 
-fn outcome_of(alloc: Global, acts: &[Act<'_>]) -> Result<Outcome, Fail> {
-    let events = events_of(alloc, acts)?;
-    unbroken(alloc, &events)
-}
-
-// A put, and then a get: each datagram is delivered once, in order.
-fn put_and_get(file: &[u8]) -> [Act<'_>; 17] {
+// A put of the slow file: each datagram is delivered once, in order.
+fn slow_put(slow: &[u8]) -> [Act<'_>; 9] {
     [
-        Act::Put(C1, file),
+        Act::Put(ALICE, slow),
         Act::Ask(0, 4000),
         Act::Deliver(1),
         Act::Deliver(2),
@@ -138,43 +99,66 @@ fn put_and_get(file: &[u8]) -> [Act<'_>; 17] {
         Act::Deliver(5),
         Act::Deliver(6),
         Act::Deliver(7),
-        Act::Get(C2, Ruleset::Lynx),
-        Act::Ask(8, 4001),
-        Act::Deliver(9),
-        Act::Deliver(10),
-        Act::Deliver(11),
-        Act::Deliver(12),
-        Act::Deliver(13),
-        Act::Deliver(14),
     ]
 }
 
 // What is sent in it.
-fn put_and_get_lines() -> [(Endpoint, Endpoint, Line); 15] {
+const SLOW_PUT: [(Endpoint, Endpoint, Line); 8] = [
+    (ALICE, SERVER, Line::Write),
+    (PEER, ALICE, Line::Ack(0)),
+    (ALICE, PEER, Line::Slow(1)),
+    (PEER, ALICE, Line::Ack(1)),
+    (ALICE, PEER, Line::Slow(2)),
+    (PEER, ALICE, Line::Ack(2)),
+    (ALICE, PEER, Line::Slow(3)),
+    (PEER, ALICE, Line::Ack(3)),
+];
+
+// The outcome of that put and then these events.
+fn outcome_after_put(alloc: Global, slow: &[u8], acts: &[Act<'_>]) -> Result<Outcome, Fail> {
+    let mut events = events_of(alloc, &slow_put(slow))?;
+    events.append(&mut events_of(alloc, acts)?)?;
+    unbroken(alloc, &events)
+}
+
+// Whether that put and then exactly these were sent, each with its source and target.
+fn were_sent_after_put(datagrams: &[Datagram], wanted: &[(Endpoint, Endpoint, Line)]) -> bool {
+    match datagrams.split_at_checked(SLOW_PUT.len()) {
+        Some((first, rest)) => were_sent(first, &SLOW_PUT) && were_sent(rest, wanted),
+        None => false,
+    }
+}
+
+// A get after it: each datagram is delivered once, in order.
+const GET: [Act<'static>; 8] = [
+    Act::Get(BOB, Ruleset::Lynx),
+    Act::Ask(8, 4001),
+    Act::Deliver(9),
+    Act::Deliver(10),
+    Act::Deliver(11),
+    Act::Deliver(12),
+    Act::Deliver(13),
+    Act::Deliver(14),
+];
+
+// What is sent in it.
+fn get_lines() -> [(Endpoint, Endpoint, Line); 7] {
     [
-        (C1, SERVER, Line::Write),
-        (at(4000), C1, Line::Ack(0)),
-        (C1, at(4000), Line::Slow(1)),
-        (at(4000), C1, Line::Ack(1)),
-        (C1, at(4000), Line::Slow(2)),
-        (at(4000), C1, Line::Ack(2)),
-        (C1, at(4000), Line::Slow(3)),
-        (at(4000), C1, Line::Ack(3)),
-        (C2, SERVER, Line::Read),
-        (at(4001), C2, Line::Slow(1)),
-        (C2, at(4001), Line::Ack(1)),
-        (at(4001), C2, Line::Slow(2)),
-        (C2, at(4001), Line::Ack(2)),
-        (at(4001), C2, Line::Slow(3)),
-        (C2, at(4001), Line::Ack(3)),
+        (BOB, SERVER, Line::Read),
+        (at(4001), BOB, Line::Slow(1)),
+        (BOB, at(4001), Line::Ack(1)),
+        (at(4001), BOB, Line::Slow(2)),
+        (BOB, at(4001), Line::Ack(2)),
+        (at(4001), BOB, Line::Slow(3)),
+        (BOB, at(4001), Line::Ack(3)),
     ]
 }
 
 // Whether the file was taken, counts as sent, and was fetched.
 fn has_gone_round(outcome: &Outcome, file: &[u8]) -> bool {
-    are_taken(outcome.taken.as_slice(), &[(C1, file)])
-        && outcome.sent.as_slice() == [C1].as_slice()
-        && are_got(outcome.got.as_slice(), &[(C2, file)])
+    are_taken(outcome.taken.as_slice(), &[(ALICE, file)])
+        && outcome.sent.as_slice() == [ALICE].as_slice()
+        && are_got(outcome.got.as_slice(), &[(BOB, file)])
         && outcome.lynx.as_slice() == file
         && outcome.ms.as_slice() == EMPTY_MS.as_slice()
 }
@@ -182,10 +166,10 @@ fn has_gone_round(outcome: &Outcome, file: &[u8]) -> bool {
 #[test]
 fn a_get_after_a_put(rt: HostRuntime) -> Result<(), Fail> {
     let file = slow_file();
-    let outcome = outcome_of(rt.alloc(), &put_and_get(&file))?;
-    let opened = [(C1, 4000, Asked::Write, 0), (C2, 4001, READ, 1)];
+    let outcome = outcome_after_put(rt.alloc(), &file, &GET)?;
+    let opened = [(ALICE, 4000, Asked::Write, 0), (BOB, 4001, READ, 1)];
     let is_right = (
-        were_sent(outcome.datagrams.as_slice(), &put_and_get_lines()),
+        were_sent_after_put(outcome.datagrams.as_slice(), &get_lines()),
         has_gone_round(&outcome, &file),
         are_opened(outcome.opened.as_slice(), &opened),
     );
@@ -193,26 +177,17 @@ fn a_get_after_a_put(rt: HostRuntime) -> Result<(), Fail> {
     Ok(())
 }
 
-// The slow file is taken. Then the fast one is sent; one download was asked for before that, another one begins
+// After the put of the slow file the fast one is sent; one download was asked for before that, another one begins
 // meanwhile, and both end after the fast file was taken.
-fn crossing<'a>(slow: &'a [u8], fast: &'a [u8]) -> [Act<'a>; 32] {
+fn crossing(fast: &[u8]) -> [Act<'_>; 23] {
     [
-        Act::Put(C1, slow),
-        Act::Ask(0, 4000),
-        Act::Deliver(1),
-        Act::Deliver(2),
-        Act::Deliver(3),
-        Act::Deliver(4),
-        Act::Deliver(5),
-        Act::Deliver(6),
-        Act::Deliver(7),
-        Act::Get(C2, Ruleset::Lynx),
-        Act::Put(C3, fast),
+        Act::Get(BOB, Ruleset::Lynx),
+        Act::Put(CAROL, fast),
         Act::Ask(8, 4001),
         Act::Ask(9, 4002),
         Act::Deliver(10),
         Act::Deliver(11),
-        Act::Get(C4, Ruleset::Lynx),
+        Act::Get(DAVE, Ruleset::Lynx),
         Act::Deliver(13),
         Act::Ask(14, 4003),
         Act::Deliver(12),
@@ -234,44 +209,36 @@ fn crossing<'a>(slow: &'a [u8], fast: &'a [u8]) -> [Act<'a>; 32] {
 }
 
 // What is sent in the crossing.
-fn crossed_lines() -> [(Endpoint, Endpoint, Line); 28] {
+fn crossed_lines() -> [(Endpoint, Endpoint, Line); 20] {
     [
-        (C1, SERVER, Line::Write),
-        (at(4000), C1, Line::Ack(0)),
-        (C1, at(4000), Line::Slow(1)),
-        (at(4000), C1, Line::Ack(1)),
-        (C1, at(4000), Line::Slow(2)),
-        (at(4000), C1, Line::Ack(2)),
-        (C1, at(4000), Line::Slow(3)),
-        (at(4000), C1, Line::Ack(3)),
-        (C2, SERVER, Line::Read),
-        (C3, SERVER, Line::Write),
-        (at(4001), C2, Line::Slow(1)),
-        (at(4002), C3, Line::Ack(0)),
-        (C2, at(4001), Line::Ack(1)),
-        (C3, at(4002), Line::Fast(1)),
-        (C4, SERVER, Line::Read),
-        (at(4002), C3, Line::Ack(1)),
-        (at(4003), C4, Line::Slow(1)),
-        (at(4001), C2, Line::Slow(2)),
-        (C3, at(4002), Line::Fast(2)),
-        (C2, at(4001), Line::Ack(2)),
-        (at(4002), C3, Line::Ack(2)),
-        (C4, at(4003), Line::Ack(1)),
-        (at(4003), C4, Line::Slow(2)),
-        (at(4001), C2, Line::Slow(3)),
-        (C2, at(4001), Line::Ack(3)),
-        (C4, at(4003), Line::Ack(2)),
-        (at(4003), C4, Line::Slow(3)),
-        (C4, at(4003), Line::Ack(3)),
+        (BOB, SERVER, Line::Read),
+        (CAROL, SERVER, Line::Write),
+        (at(4001), BOB, Line::Slow(1)),
+        (at(4002), CAROL, Line::Ack(0)),
+        (BOB, at(4001), Line::Ack(1)),
+        (CAROL, at(4002), Line::Fast(1)),
+        (DAVE, SERVER, Line::Read),
+        (at(4002), CAROL, Line::Ack(1)),
+        (at(4003), DAVE, Line::Slow(1)),
+        (at(4001), BOB, Line::Slow(2)),
+        (CAROL, at(4002), Line::Fast(2)),
+        (BOB, at(4001), Line::Ack(2)),
+        (at(4002), CAROL, Line::Ack(2)),
+        (DAVE, at(4003), Line::Ack(1)),
+        (at(4003), DAVE, Line::Slow(2)),
+        (at(4001), BOB, Line::Slow(3)),
+        (BOB, at(4001), Line::Ack(3)),
+        (DAVE, at(4003), Line::Ack(2)),
+        (at(4003), DAVE, Line::Slow(3)),
+        (DAVE, at(4003), Line::Ack(3)),
     ]
 }
 
 // The files of the crossing: which are taken, count as sent, and are fetched. The gets still have the slow one.
 fn has_crossed(outcome: &Outcome, slow: &[u8], fast: &[u8]) -> bool {
-    are_taken(outcome.taken.as_slice(), &[(C1, slow), (C3, fast)])
-        && outcome.sent.as_slice() == [C1, C3].as_slice()
-        && are_got(outcome.got.as_slice(), &[(C2, slow), (C4, slow)])
+    are_taken(outcome.taken.as_slice(), &[(ALICE, slow), (CAROL, fast)])
+        && outcome.sent.as_slice() == [ALICE, CAROL].as_slice()
+        && are_got(outcome.got.as_slice(), &[(BOB, slow), (DAVE, slow)])
         && outcome.lynx.as_slice() == fast
         && outcome.ms.as_slice() == EMPTY_MS.as_slice()
 }
@@ -279,15 +246,15 @@ fn has_crossed(outcome: &Outcome, slow: &[u8], fast: &[u8]) -> bool {
 #[test]
 fn two_gets_across_a_put(rt: HostRuntime) -> Result<(), Fail> {
     let (slow, fast) = (slow_file(), fast_file());
-    let outcome = outcome_of(rt.alloc(), &crossing(&slow, &fast))?;
+    let outcome = outcome_after_put(rt.alloc(), &slow, &crossing(&fast))?;
     let opened = [
-        (C1, 4000, Asked::Write, 0),
-        (C2, 4001, READ, 1),
-        (C3, 4002, Asked::Write, 1),
-        (C4, 4003, READ, 1),
+        (ALICE, 4000, Asked::Write, 0),
+        (BOB, 4001, READ, 1),
+        (CAROL, 4002, Asked::Write, 1),
+        (DAVE, 4003, READ, 1),
     ];
     let is_right = (
-        were_sent(outcome.datagrams.as_slice(), &crossed_lines()),
+        were_sent_after_put(outcome.datagrams.as_slice(), &crossed_lines()),
         has_crossed(&outcome, &slow, &fast),
         are_opened(outcome.opened.as_slice(), &opened),
     );
@@ -426,7 +393,7 @@ fn count_draw(alloc: Global, draws: &mut Draws, tally: &mut Tally) -> Result<(),
 
 // What happened in all lists.
 fn count_draws(alloc: Global) -> Result<Tally, Fail> {
-    let mut draws = Draws(5);
+    let mut draws = Draws::new(5);
     let mut tally = Tally::new();
     for _ in 0..DRAWN {
         count_draw(alloc, &mut draws, &mut tally)?;

@@ -1,10 +1,10 @@
 // Strangers' datagrams.
-use crate::cast::{
-    ACK_0, ACK_1, C1, DATA_HUNDRED, DATA_NINETY, HUNDRED, NINETY, STRANGER, UNKNOWN, WRQ, at,
-};
-use crate::scene::{Act, NO_CALL, NOTHING, Wanted, fault, other_after};
+use crate::scene::{Act, NO_CALL, NOTHING, STRANGER, Wanted, fault, other_after};
 use archive_world::{Asked, SERVER, WorldFault};
 use std::test::Fail;
+use test_samples::{
+    ACK_0, ACK_1, ALICE, DATA_HUNDRED, DATA_NINETY, HUNDRED, NINETY, UNKNOWN_TRANSFER, WRQ, at,
+};
 use tws_file::Ruleset;
 
 const PUT: Asked = Asked::Write;
@@ -14,7 +14,7 @@ const PUT: Asked = Asked::Write;
 #[test]
 fn a_stranger_beside_a_put(rt: HostRuntime) -> Result<(), Fail> {
     let acts = [
-        Act::Put(C1, HUNDRED),
+        Act::Put(ALICE, HUNDRED),
         Act::Ask(0, 4000),
         Act::Stray(STRANGER, at(4000), ACK_1),
         Act::Deliver(2),
@@ -27,21 +27,21 @@ fn a_stranger_beside_a_put(rt: HostRuntime) -> Result<(), Fail> {
         Act::Deliver(9),
     ];
     let wanted = Wanted {
-        taken: &[(STRANGER, NINETY), (C1, HUNDRED)],
-        sent: &[C1],
-        opened: &[(C1, 4000, PUT, 0), (STRANGER, 4001, PUT, 0)],
+        taken: &[(STRANGER, NINETY), (ALICE, HUNDRED)],
+        sent: &[ALICE],
+        opened: &[(ALICE, 4000, PUT, 0), (STRANGER, 4001, PUT, 0)],
         lynx: NINETY,
         datagrams: &[
-            (C1, SERVER, WRQ),
-            (at(4000), C1, ACK_0),
+            (ALICE, SERVER, WRQ),
+            (at(4000), ALICE, ACK_0),
             (STRANGER, at(4000), ACK_1),
-            (at(4000), STRANGER, UNKNOWN),
+            (at(4000), STRANGER, UNKNOWN_TRANSFER),
             (STRANGER, SERVER, WRQ),
             (at(4001), STRANGER, ACK_0),
             (STRANGER, at(4001), DATA_NINETY),
             (at(4001), STRANGER, ACK_1),
-            (C1, at(4000), DATA_HUNDRED),
-            (at(4000), C1, ACK_1),
+            (ALICE, at(4000), DATA_HUNDRED),
+            (at(4000), ALICE, ACK_1),
         ],
         // The second file is not better, so nothing is kept for it.
         given: &[(Ruleset::Lynx, NINETY, true)],
@@ -55,12 +55,12 @@ fn a_stranger_beside_a_put(rt: HostRuntime) -> Result<(), Fail> {
 #[test]
 fn a_stranger_that_answers_a_client(rt: HostRuntime) -> Result<(), Fail> {
     let acts = [
-        Act::Put(C1, HUNDRED),
-        Act::Stray(STRANGER, C1, ACK_0),
+        Act::Put(ALICE, HUNDRED),
+        Act::Stray(STRANGER, ALICE, ACK_0),
         Act::Deliver(1),
     ];
     let wanted = Wanted {
-        datagrams: &[(C1, SERVER, WRQ), (STRANGER, C1, ACK_0)],
+        datagrams: &[(ALICE, SERVER, WRQ), (STRANGER, ALICE, ACK_0)],
         ..NOTHING
     };
     assert_eq!(rt; other_after(rt.alloc(), &acts, NO_CALL, &wanted)?, None);
@@ -69,8 +69,8 @@ fn a_stranger_that_answers_a_client(rt: HostRuntime) -> Result<(), Fail> {
 
 #[test]
 fn a_stranger_where_an_operation_is(rt: HostRuntime) -> Result<(), Fail> {
-    let from_client = [Act::Put(C1, HUNDRED), Act::Stray(C1, SERVER, WRQ)];
-    let from_server = [Act::Stray(at(4000), C1, ACK_0)];
+    let from_client = [Act::Put(ALICE, HUNDRED), Act::Stray(ALICE, SERVER, WRQ)];
+    let from_server = [Act::Stray(at(4000), ALICE, ACK_0)];
     let begins = [
         Act::Stray(STRANGER, SERVER, WRQ),
         Act::Put(STRANGER, HUNDRED),
