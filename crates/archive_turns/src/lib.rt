@@ -1,7 +1,7 @@
 //! The running archive over any wire: one turn of a server or of a client, and the loops over them.
 //!
 //! Read `specs/Turn.antt` first: which calls of the wire a turn makes, and which steps of the table. `specs/Wire.antt`
-//! has the log in which a wire tells its calls. docs/CALLING.md shows how the crate is called.
+//! has the log in which a wire tells its calls. README.md shows how the crate is called.
 #![tactic(auto)]
 
 mod arrival;
