@@ -1,11 +1,16 @@
 #!/usr/bin/env python3
-"""Checks what the documents cite: `documents.py names` each name in backticks, `documents.py callers` each quoted
-caller. It reads the sources alone. The last line is 'N passed, M failed'."""
+"""Checks the documents: `names`, that what they cite in backticks and link to is in the tree; `callers`, that the
+callers that they quote are those of the crate `uses`; `sessions`, that a shell prints what they say. The arguments say
+which of these, by default all. The last line is 'N passed, M failed'."""
 import functools
 import os
+import queue
 import re
+import signal
 import subprocess
 import sys
+import tempfile
+import threading
 from pathlib import Path
 
 # Words in backticks that are no names of the tree: values of fields, words of standards, and commands of the system.
@@ -174,14 +179,22 @@ class Names:
         return any(name in crate.laws for crate in self.crates)
 
 
-def cited(document):
-    """The spans in backticks outside code blocks, each with its line; and the text without blocks."""
-    blocks = False
+def prose(document):
+    """The lines outside code blocks, numbered; of a source its head comment alone."""
+    block = False
     for number, line in enumerate(document.read_text().splitlines(), 1):
-        if line.lstrip().startswith("```"):
-            blocks = not blocks
-        elif not blocks:
+        if document.suffix == ".rt":
+            if not line.startswith("//!"):
+                return
+            line = line[4:]
+        if line.startswith("```"):
+            block = not block
+        elif not block:
             yield number, line
+
+
+def documents():
+    return [Path(name) for name in files() if name.endswith((".md", "/src/lib.rt"))]
 
 
 def library_names(names):
@@ -212,7 +225,7 @@ def library_names(names):
 def faults_in(document):
     """What the document cites that is not there, as (line, text, the name to look for in the toolchain or None)."""
     names = Names(document)
-    for number, line in cited(document):
+    for number, line in prose(document):
         for match in re.finditer(r"`([^`]+)`", line):
             span = match.group(1)
             fault = look_up(names, span)
@@ -241,8 +254,14 @@ def look_up(names, span):
     return None
 
 
-def documents():
-    return [Path(name) for name in files() if name.endswith(".md")]
+def links_in(document):
+    """Each link to a file, with its line, and each page of `docs` that is named in passing."""
+    for number, line in prose(document):
+        for target in re.findall(r"\]\(([^)#\s]+)\)", line):
+            if "://" not in target:
+                yield number, document.parent / target
+        for target in re.findall(r"\bdocs/\w+\.md", line):
+            yield number, Path(target)
 
 
 def check_names():
@@ -250,7 +269,12 @@ def check_names():
     for document in documents():
         found = list(faults_in(document))
         faults += [(document, *fault) for fault in found]
-        passed += sum(len(re.findall(r"`[^`]+`", line)) for _, line in cited(document)) - len(found)
+        passed += sum(len(re.findall(r"`[^`]+`", line)) for _, line in prose(document)) - len(found)
+        for number, target in links_in(document):
+            if target.exists():
+                passed += 1
+            else:
+                faults.append((document, number, str(target), ""))
     known = library_names({name for *_, name in faults if name})
     failed = 0
     for document, number, span, name in faults:
@@ -269,12 +293,10 @@ def flat(text):
 def check_callers():
     """Each caller that a crate's README quotes is in the source of `uses`, line by line."""
     passed = failed = 0
-    for document in documents():
-        if document.parts[0] != "crates" or document.name != "README.md":
-            continue
+    for document in Path("crates").glob("*/README.md"):
         source = Path("crates/uses/src", f"{document.parts[1]}.rt")
+        lines = flat(source.read_text()) if source.exists() else []
         for block in re.findall(r"```rust\n(.*?)```", document.read_text(), re.S):
-            lines = flat(source.read_text()) if source.exists() else []
             quoted = flat(block)
             if any(lines[i:i + len(quoted)] == quoted for i in range(len(lines))):
                 passed += 1
@@ -284,8 +306,86 @@ def check_callers():
     return passed, failed
 
 
+class Shell:
+    """A shell in a folder of its own, where the program and the examples are as in the top folder."""
+
+    def __init__(self, folder):
+        for name in ("tws", "examples"):
+            os.symlink(Path(name).resolve(), Path(folder, name))
+        self.process = subprocess.Popen(
+            ["bash", "--norc"], cwd=folder, text=True, bufsize=1, start_new_session=True,
+            stdin=subprocess.PIPE, stdout=subprocess.PIPE, stderr=subprocess.STDOUT,
+        )
+        self.lines = queue.Queue()
+        threading.Thread(target=self.read, daemon=True).start()
+
+    def read(self):
+        for line in self.process.stdout:
+            # What a shell says of a job that was ended.
+            if not re.search(r"\bTerminated\b", line):
+                self.lines.put(line.rstrip("\n"))
+
+    def run(self, command, wanted):
+        """What the command prints; of one in the background, as many lines as are wanted."""
+        end = "end of the command"
+        print(command, f"echo {end}", sep="\n", file=self.process.stdin, flush=True)
+        printed, ended = [], False
+        try:
+            while not ended or (command.endswith("&") and len(printed) < len(wanted)):
+                line = self.lines.get(timeout=60)
+                if line == end:
+                    ended = True
+                else:
+                    printed.append(line)
+        except queue.Empty:
+            printed.append("(nothing more within a minute)")
+        return printed
+
+    def end(self):
+        """Ends what the shell left running, and the shell."""
+        print("kill $(jobs -p)", "wait", "exit", sep="\n", file=self.process.stdin, flush=True)
+        try:
+            self.process.wait(timeout=10)
+        except subprocess.TimeoutExpired:
+            os.killpg(self.process.pid, signal.SIGKILL)
+            self.process.wait()
+
+
+def sessions_in(document):
+    """Each block that begins with a command, as a list of commands with the lines that they print."""
+    for block in re.findall(r"^```\n(\$ .*?)^```", document.read_text(), re.S | re.M):
+        steps = []
+        for line in block.splitlines():
+            if line.startswith("$ "):
+                steps.append((line[2:], []))
+            else:
+                steps[-1][1].append(line)
+        yield steps
+
+
+def check_sessions():
+    """Each session prints what the document says. They use the default port."""
+    passed = failed = 0
+    for document in documents():
+        for steps in sessions_in(document):
+            with tempfile.TemporaryDirectory() as folder:
+                shell = Shell(folder)
+                for command, wanted in steps:
+                    printed = shell.run(command, wanted)
+                    if printed == wanted:
+                        passed += 1
+                        continue
+                    failed += 1
+                    print(f"{document}: $ {command}", *printed, sep="\n")
+                    break
+                shell.end()
+    return passed, failed
+
+
 def main():
-    passed, failed = {"names": check_names, "callers": check_callers}[sys.argv[1]]()
+    parts = {"names": check_names, "callers": check_callers, "sessions": check_sessions}
+    counts = [parts[name]() for name in sys.argv[1:] or parts]
+    passed, failed = (sum(column) for column in zip(*counts))
     print(f"{passed} passed, {failed} failed")
     return 1 if failed else 0
 
