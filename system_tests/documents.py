@@ -243,6 +243,8 @@ def faults_in(document):
 
 def look_up(names, span):
     """None if what the span cites exists, or if it is no citation; else the name that the toolchain might have."""
+    if re.search(r"(\b|_)(NAME|FN|DIR)\b", span):  # any name, function or folder
+        return None
     if re.fullmatch(r"--[\w-]+(=.*)?", span):
         return None if span.split("=")[0] in options() | FOREIGN_OPTIONS else ""
     if re.fullmatch(r"[\w.*/-]+", span) and span not in (".", "..") and ("/" in span and not span.startswith("/") or span.endswith(EXTENSIONS)):
