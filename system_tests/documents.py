@@ -17,7 +17,8 @@ from pathlib import Path
 WORDS = set("""
 BBBB BDHP CCCC abcd ABCD blksize lynx mail ms netascii octet timeout tsize windowsize
 bash cachegrind callgrind curl free malloc memcpy perf python3 rustc strace tftp valgrind
-as continue data elim false impl let match mod record requires ruleset suc true unsafe use where zero
+abbrev as case cc continue data elim false impl let match mod record requires ruleset suc true unfolding unsafe use using where zero
+Dec
 """.split())
 
 # Files that are no part of the tree: a server's, and Tile World's.
