@@ -26,7 +26,7 @@ FOREIGN_FILES = {"lynx.tws", "ms.tws", "upload.tws", "solution.c"}
 
 # Options of other programs, by the program.
 FOREIGN_OPTIONS = set("""
---backend --branch-sim --dump-instr --incremental --jobs --only --option --test --tftp-no-options
+--backend --branch-sim --dump-instr --incremental --jobs --only --option --test --tftp-no-options --tool
 """.split())
 
 EXTENSIONS = (".antt", ".bash", ".c", ".edit", ".h", ".md", ".py", ".rt", ".tws", ".txt")
@@ -168,13 +168,17 @@ class Names:
             return True
         return any(name in path.split("/") for path in files())
 
+    def clauses(self, function):
+        for crate in self.crates:
+            for known, clauses in crate.clauses.items():
+                if function in (known, known.split("::")[-1]):
+                    yield clauses
+
+    def has_clauses(self, function):
+        return any(True for _ in self.clauses(function))
+
     def has_clause(self, function, clause):
-        return any(
-            clause in crate.clauses.get(known, ())
-            for crate in self.crates
-            for known in crate.clauses
-            if known == function or known.split("::")[-1] == function
-        )
+        return any(clause in clauses for clauses in self.clauses(function))
 
     def is_law(self, name):
         return any(name in crate.laws for crate in self.crates)
@@ -246,12 +250,14 @@ def look_up(names, span):
     """None if what the span cites exists, or if it is no citation; else the name that the toolchain might have."""
     if re.search(r"(\b|_)(NAME|FN|DIR)\b", span):  # any name, function or folder
         return None
-    if re.fullmatch(r"--[\w-]+(=.*)?", span):
-        return None if span.split("=")[0] in options() | FOREIGN_OPTIONS else ""
+    if not set(re.findall(r"(?<![\w-])--[a-z][\w-]*", span)) <= options() | FOREIGN_OPTIONS:
+        return ""
     if re.fullmatch(r"[\w.*/-]+", span) and span not in (".", "..") and ("/" in span and not span.startswith("/") or span.endswith(EXTENSIONS)):
         return None if names.is_file(span) else ""
     if match := re.fullmatch(r"(\w+)(?:<.*>)?::(\w+)(?:\(.*\))?", span):
         return None if names.is_member(*match.groups()) else match.group(2)
+    if (match := re.fullmatch(r"(\w+)\.(\w+)", span)) and names.has_clauses(match.group(1)):
+        return None if names.has_clause(*match.groups()) else ""
     if match := re.fullmatch(rf"({NAME})(?:[(<].*[)>])?", span):
         return None if names.is_name(match.group(1)) else match.group(1)
     return None
@@ -267,8 +273,14 @@ def links_in(document):
             yield number, Path(target)
 
 
+def has_page(folder):
+    """Whether the crate has a README, or needs none: only libraries of the product do."""
+    name = folder.name
+    return name == "uses" or name.startswith("test_") or not (folder / "src/lib.rt").exists() or (folder / "README.md").exists()
+
+
 def check_names():
-    passed, faults = 0, []
+    passed, faults = 0, [(folder, 0, "README.md", "") for folder in Path("crates").iterdir() if not has_page(folder)]
     for document in documents():
         found = list(faults_in(document))
         faults += [(document, *fault) for fault in found]
