@@ -322,11 +322,11 @@ def check_callers():
 
 
 class Shell:
-    """A shell in a folder of its own, where the program and the examples are as in the top folder."""
+    """A shell in a folder of its own, with the built program (so that no launcher proves it first) and the examples."""
 
     def __init__(self, folder):
-        for name in ("tws", "examples"):
-            os.symlink(Path(name).resolve(), Path(folder, name))
+        for name, place in (("tws", "crates/tws/out/tws"), ("examples", "examples")):
+            os.symlink(Path(place).resolve(), Path(folder, name))
         self.process = subprocess.Popen(
             ["bash", "--norc"], cwd=folder, text=True, bufsize=1, start_new_session=True,
             stdin=subprocess.PIPE, stdout=subprocess.PIPE, stderr=subprocess.STDOUT,
