@@ -132,8 +132,12 @@ def libraries():
 
 @functools.cache
 def files():
-    listed = subprocess.run(["git", "ls-files", "-co", "--exclude-standard"], capture_output=True, text=True, check=True)
-    return [name for name in listed.stdout.splitlines() if os.path.exists(name)]
+    """All files of the tree but those that are built."""
+    found = []
+    for folder, folders, names in os.walk("."):
+        folders[:] = [name for name in folders if name not in (".git", "out", "__pycache__")]
+        found += [os.path.normpath(os.path.join(folder, name)) for name in sorted(names)]
+    return found
 
 
 @functools.cache
