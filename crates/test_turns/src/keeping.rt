@@ -1,7 +1,7 @@
 // Servers with a keeper, over wires in memory: a put that is not kept, one that is, and a start with what was kept.
 use crate::wires::*;
 use archive_table::{KeepFault, LoadFault, MemoryKeeper, Table};
-use archive_turns::{MemoryWire, ReadyServer, Server, serve_ready, serve_turns};
+use archive_turns::{MemoryWire, Server, serve_rounds, serve_turns};
 use std::alloc::Global;
 use std::test::Fail;
 use test_samples::{
@@ -94,28 +94,28 @@ fn a_keep_that_fails(rt: HostRuntime) -> Result<(), Fail> {
     Ok(())
 }
 
-// ---- the server that waits for ready ports
+// ---- rounds
 
 // The same with a round for each.
 fn put_in_rounds(
     alloc: Global,
     wire: &mut MemoryWire,
     keeper: &mut MemoryKeeper,
-    server: &mut ReadyServer,
+    server: &mut Server,
     port: u16,
     client: Endpoint,
 ) -> Result<u64, Fail> {
     wire.arrive(alloc, 6969, client, WRQ)?;
-    let first = serve_ready(wire, keeper, server, 1);
+    let first = serve_rounds(wire, keeper, server, 1);
     wire.arrive(alloc, port, client, DATA_HUNDRED)?;
-    Ok(first.saturating_add(serve_ready(wire, keeper, server, 1)))
+    Ok(first.saturating_add(serve_rounds(wire, keeper, server, 1)))
 }
 
 fn puts_in_rounds(
     alloc: Global,
     wire: &mut MemoryWire,
     keeper: &mut MemoryKeeper,
-    server: &mut ReadyServer,
+    server: &mut Server,
 ) -> Result<(Left, Left), Fail> {
     let taken = put_in_rounds(alloc, wire, keeper, server, 4000, ALICE)?;
     let refused = (4000, ALICE, NOT_KEPT.as_slice());
@@ -131,7 +131,7 @@ fn a_keep_that_fails_in_a_round(rt: HostRuntime) -> Result<(), Fail> {
     let mut wire = wire_of(rt.alloc(), &[4000, 4001])?;
     let mut keeper = MemoryKeeper::new(rt.alloc());
     keeper.fail_at(1);
-    let mut server = ReadyServer::new(rt.alloc(), 6969);
+    let mut server = Server::new(rt.alloc(), 6969);
     let puts = puts_in_rounds(rt.alloc(), &mut wire, &mut keeper, &mut server)?;
     assert_eq!(rt;
         (puts, was_given(&keeper, &[false, true])),
@@ -151,17 +151,9 @@ fn keeper_of(alloc: Global, failing: u64) -> Result<MemoryKeeper, Fail> {
     Ok(keeper)
 }
 
-// Why the server that counts turns does not start; if it does, whether it has both texts.
+// Why a server does not start; if it does, whether it has both texts.
 fn starts(alloc: Global, failing: u64) -> Result<Result<bool, LoadFault>, Fail> {
     match Server::load(alloc, 6969, &mut keeper_of(alloc, failing)?) {
-        Ok(server) => Ok(Ok(has_texts(alloc, server.table(), HUNDRED, EMPTY_MS)?)),
-        Err(fault) => Ok(Err(fault)),
-    }
-}
-
-// The same for the server that waits for ready ports.
-fn starts_ready(alloc: Global, failing: u64) -> Result<Result<bool, LoadFault>, Fail> {
-    match ReadyServer::load(alloc, 6969, &mut keeper_of(alloc, failing)?) {
         Ok(server) => Ok(Ok(has_texts(alloc, server.table(), HUNDRED, EMPTY_MS)?)),
         Err(fault) => Ok(Err(fault)),
     }
@@ -171,13 +163,7 @@ fn starts_ready(alloc: Global, failing: u64) -> Result<Result<bool, LoadFault>, 
 fn a_start_with_what_was_kept(rt: HostRuntime) -> Result<(), Fail> {
     let device = Err(LoadFault::Keep(KeepFault::Device));
     for (failing, wanted) in [(0, Ok(true)), (1, device), (2, device), (3, Ok(true))] {
-        assert_eq!(rt;
-            (
-                starts(rt.alloc(), failing)?,
-                starts_ready(rt.alloc(), failing)?
-            ),
-            (wanted, wanted)
-        );
+        assert_eq!(rt; starts(rt.alloc(), failing)?, wanted);
     }
     Ok(())
 }

@@ -1,21 +1,21 @@
 // The server that waits for ready ports, over wires in memory whose clock the test sets.
 use crate::wires::*;
 use archive_table::NoKeeper;
-use archive_turns::{MemoryWire, RECEIVE_SIZE, Ready, ReadyServer, ReadyWire, Wire, serve_ready};
+use archive_turns::{MemoryWire, RECEIVE_SIZE, Ready, ReadyWire, Server, Wire, serve_rounds};
 use std::alloc::Global;
 use std::test::Fail;
 use test_samples::{ACK_0, ACK_1, ALICE, DATA_HUNDRED};
 use tws_file::Ruleset;
 
 // Makes one round of the server. Returns how many files it takes, and whether it has sent this to the client last.
-fn acks(wire: &mut MemoryWire, server: &mut ReadyServer, ack: &[u8; 4]) -> (u64, bool) {
-    let taken = serve_ready(wire, &mut NoKeeper, server, 1);
+fn acks(wire: &mut MemoryWire, server: &mut Server, ack: &[u8; 4]) -> (u64, bool) {
+    let taken = serve_rounds(wire, &mut NoKeeper, server, 1);
     (taken, sent_last(wire, 4000, ALICE, ack))
 }
 
 // Makes one round of the server. Returns how many transfers are live after it.
-fn lives(wire: &mut MemoryWire, server: &mut ReadyServer) -> usize {
-    serve_ready(wire, &mut NoKeeper, server, 1);
+fn lives(wire: &mut MemoryWire, server: &mut Server) -> usize {
+    serve_rounds(wire, &mut NoKeeper, server, 1);
     server.table().live()
 }
 
@@ -23,7 +23,7 @@ fn lives(wire: &mut MemoryWire, server: &mut ReadyServer) -> usize {
 fn put_in_rounds(
     alloc: Global,
     wire: &mut MemoryWire,
-    server: &mut ReadyServer,
+    server: &mut Server,
 ) -> Result<[(u64, bool); 2], Fail> {
     let first = acks(wire, server, ACK_0);
     wire.set_time(999);
@@ -34,7 +34,7 @@ fn put_in_rounds(
 #[test]
 fn a_put_to_the_ready_server(rt: HostRuntime) -> Result<(), Fail> {
     let mut wire = request_wire(rt.alloc(), 4000)?;
-    let mut server = ReadyServer::new(rt.alloc(), 6969);
+    let mut server = Server::new(rt.alloc(), 6969);
     let rounds = put_in_rounds(rt.alloc(), &mut wire, &mut server)?;
     let sent = send_count(&wire);
     let solutions = server.table().collection(Ruleset::Lynx).len();
@@ -52,12 +52,12 @@ fn a_put_to_the_ready_server(rt: HostRuntime) -> Result<(), Fail> {
 fn are_sent_in_time(
     alloc: Global,
     wire: &mut MemoryWire,
-    server: &mut ReadyServer,
+    server: &mut Server,
 ) -> Result<bool, Fail> {
     for (time, sent) in [(1, 1), (999, 1), (1000, 2), (1999, 2), (2000, 3), (2001, 3)] {
         wire.set_time(time);
         wire.arrive(alloc, 6969, ALICE, b"no packet")?;
-        serve_ready(wire, &mut NoKeeper, server, 1);
+        serve_rounds(wire, &mut NoKeeper, server, 1);
         if send_count(wire) != sent {
             return Ok(false);
         }
@@ -69,8 +69,8 @@ fn are_sent_in_time(
 #[test]
 fn a_busy_request_port(rt: HostRuntime) -> Result<(), Fail> {
     let mut wire = request_wire(rt.alloc(), 4000)?;
-    let mut server = ReadyServer::new(rt.alloc(), 6969);
-    serve_ready(&mut wire, &mut NoKeeper, &mut server, 1);
+    let mut server = Server::new(rt.alloc(), 6969);
+    serve_rounds(&mut wire, &mut NoKeeper, &mut server, 1);
     assert!(rt; are_sent_in_time(rt.alloc(), &mut wire, &mut server)?);
     Ok(())
 }

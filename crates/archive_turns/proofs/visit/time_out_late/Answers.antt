@@ -1,5 +1,5 @@
 use Rattle.archive_turns.proofs.Following.{walks_at, tracks_at}
-use Rattle.archive_turns.proofs.visit.time_out_due.Goals as goal
+use Rattle.archive_turns.proofs.visit.time_out_late.Goals as goal
 
 pub loop-port-preserved : goal.loop-port-preserved
 loop-port-preserved g c =

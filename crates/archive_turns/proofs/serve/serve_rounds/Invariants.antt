@@ -1,6 +1,6 @@
 use Rattle.std.proofs.Common.{◌≤◌}
-use Rattle.archive_turns.specs.Ready.{MakesRounds}
-use Rattle.archive_turns.proofs.serve.serve_ready.Given as goal
+use Rattle.archive_turns.specs.Turn.{MakesRounds}
+use Rattle.archive_turns.proofs.serve.serve_rounds.Given as goal
 
 abbrev pub invariant-loop-round : goal.invariant-loop-round
 invariant-loop-round g l =
