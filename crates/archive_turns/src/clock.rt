@@ -6,7 +6,7 @@ use crate::limits::{QUIET_TURNS, TIMEOUT};
 
 /// What a server measures time by.
 #[derive(Clone, Copy, Debug, PartialEq, Eq)]
-pub(crate) enum Clock {
+pub enum Clock {
     /// Its quiet turns: those in which nothing was received.
     Turns,
     /// The clock of the wire, which shows this time in milliseconds.
