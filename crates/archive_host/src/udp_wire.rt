@@ -29,7 +29,10 @@ const LAPS: u8 = 16;
 /// A wire over UDP and IPv4, whose ports are open at every address of this host. `receive` waits 5 ms at most, and not
 /// at all at the port that `wait` has just returned. For `wait`, a port that was just read is ready again only if no
 /// other is, or in every sixteenth lap over the ports, and it may turn out to have nothing. The clock is in
-/// milliseconds. The wire does not tell its log.
+/// milliseconds. The wire has no ghost log.
+///
+/// Once a datagram was sent from a port, other than the one that listens, `receive` returns only datagrams from the
+/// host that it was sent to. The others are dropped.
 #[derive(Drop)]
 pub struct UdpWire<R: Net + Clock + AllocGlobal + Copy> {
     rt: R,
@@ -37,7 +40,10 @@ pub struct UdpWire<R: Net + Clock + AllocGlobal + Copy> {
     ports: OpenPorts,
     range: PortRange,
     given: Option<u16>,
+    listens: bool,
     lap: u8,
+    // The time of the look that began the lap, if since then each port that may have a datagram was to be read.
+    began: Option<u64>,
     time: u64,
     failures: u64,
     ghost laps: { lap < LAPS },
@@ -63,7 +69,9 @@ impl<R: Net + Clock + AllocGlobal + Copy> UdpWire<R> {
             ports: OpenPorts::new(rt.alloc()),
             range: PortRange::from_place(place(&rt)),
             given: None,
+            listens: false,
             lap: 0,
+            began: None,
             time: 0,
             failures: 0,
         }
@@ -80,7 +88,10 @@ impl<R: Net + Clock + AllocGlobal + Copy> UdpWire<R> {
     {
         let mut wire = Self::new(rt);
         match wire.open_port(port) {
-            Ok(()) => Ok(wire),
+            Ok(()) => {
+                wire.listens = true;
+                Ok(wire)
+            }
             Err(_) => Err(WireFault::Open),
         }
     }
@@ -207,23 +218,29 @@ impl<R: Net + Clock + AllocGlobal + Copy> UdpWire<R> {
         let millis = self.until(until);
         self.look(millis);
         self.lap = (self.lap + 1) % LAPS;
+        self.began = None;
         if self.lap == 0 || self.ports.ready_least().is_none() {
             self.ports.mark_read();
+            self.began = Some(self.now());
         }
     }
 
-    // The next ready port. Once no port above `after` is ready a lap begins, so that arrivals are looked for once in
-    // each lap, however busy the ports are.
-    fn next_ready(&mut self, after: u16, until: Option<u64>) -> Option<u16>
+    // The next ready port, and the time up to which all that arrived was handed out, if that is known now. Once no port
+    // above `after` is ready a lap begins, so that arrivals are looked for once in each lap, however busy the ports are.
+    fn next_ready(&mut self, after: u16, until: Option<u64>) -> (Option<u16>, Option<u64>)
         ensures failures { self.new.failures ≡ self.old.failures }
     {
         if let Some(port) = self.ports.ready_above(after) {
-            return Some(port);
+            return (Some(port), None);
         }
+        let settled = match self.ports.ready_least() {
+            Some(_) => None,
+            None => self.began,
+        };
         self.begin_lap(until);
-        match self.ports.ready_above(after) {
-            Some(port) => Some(port),
-            None => self.ports.ready_least(),
+        match self.ports.ready_above(after).or(self.ports.ready_least()) {
+            Some(port) => (Some(port), settled),
+            None => (None, self.began),
         }
     }
 }
@@ -273,8 +290,14 @@ impl<R: Net + Clock + AllocGlobal + Copy> Wire for UdpWire<R> {
     }
 
     fn send(&mut self, out: &Out) -> Result<(), WireFault> {
-        let sent = match self.ports.get(out.from_port) {
-            Some(open) => open.send(out),
+        let listens = self.listens && Some(out.from_port) == self.ports.first();
+        let sent = match self.ports.get_mut(out.from_port) {
+            Some(open) => {
+                if !listens {
+                    open.keep_to(out.to.host);
+                }
+                open.send(out)
+            }
             None => false,
         };
         if sent {
@@ -292,9 +315,13 @@ impl<R: Net + Clock + AllocGlobal + Copy> Wire for UdpWire<R> {
 
 impl<R: Net + Clock + AllocGlobal + Copy> ReadyWire for UdpWire<R> {
     fn wait(&mut self, after: u16, until: Option<u64>) -> Ready {
-        let port = self.next_ready(after, until);
+        let (port, settled) = self.next_ready(after, until);
         self.given = port;
         let time = self.now();
-        Ready { port, time }
+        Ready {
+            port,
+            time,
+            settled,
+        }
     }
 }

@@ -6,7 +6,7 @@ use Rattle.archive_turns.specs.Turn.{Service}
 use Rattle.archive_turns.specs.Run.{Run}
 
 abbrev pub service_of : {A : Type 0} → servers.Inside A → Service
-service_of s = record { table = s.table; last = s.last; timers = s.timers }
+service_of s = record { table = s.table; last = s.last; timers = s.timers; per_host = s.per_host }
 
 abbrev pub run_of_put : {A : Type 0} → putting.Inside A → Run
 run_of_put r = record { client = r.put; port = r.port; left = r.left }

@@ -6,12 +6,12 @@
 
 mod arrival;
 mod change;
-mod clock;
 mod entry;
 mod get_run;
 mod laws;
 mod limits;
 mod memory_wire;
+mod mode;
 mod next;
 mod put_run;
 mod ready_wire;
@@ -30,11 +30,14 @@ pub use get_run::GetRun;
 pub use laws::limit_values;
 pub use limits::{QUIET_TURNS, TIMEOUT};
 pub use memory_wire::MemoryWire;
+pub use mode::Mode;
+pub use next::Next;
 pub use put_run::PutRun;
 pub use ready_wire::{Ready, ReadyWire};
 pub use run_fault::RunFault;
 pub use runs::{run_get, run_put};
 pub use serve::{serve_rounds, serve_turns};
 pub use server::Server;
+pub use timer::Timer;
 pub use wire::{RECEIVE_SIZE, Wire};
 pub use wire_fault::WireFault;

@@ -1,6 +1,6 @@
 /// What a server visits next.
 #[derive(Clone, Copy, Debug, PartialEq, Eq)]
-pub(crate) enum Next {
+pub enum Next {
     /// Its request port.
     Request,
     /// The port of a transfer.
