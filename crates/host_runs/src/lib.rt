@@ -1,9 +1,0 @@
-//! Tests only: the wire over loopback and the keeper over a folder.
-#![tactic(auto)]
-
-#[cfg(test)]
-mod folders;
-#[cfg(test)]
-mod samples;
-#[cfg(test)]
-mod wires;

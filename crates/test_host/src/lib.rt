@@ -1,0 +1,7 @@
+//! Tests only: the wire over loopback and the keeper over a folder.
+#![tactic(auto)]
+
+#[cfg(test)]
+mod folders;
+#[cfg(test)]
+mod wires;
