@@ -1,5 +1,5 @@
 use Rattle.archive_turns.specs.Run.{MakesSome}
-use Rattle.archive_turns.proofs.put_run.PutRun.turns.Given as goal
+use Rattle.archive_turns.proofs.run.Run.turns.Given as goal
 
 abbrev pub invariant-loop-turn : goal.invariant-loop-turn
 invariant-loop-turn g l =

@@ -1,6 +1,6 @@
 use Rattle.archive_turns.specs.Wire.{was_done}
 use Rattle.archive_turns.proofs.Running.{begin_failed, begin_made, begin_long, short_put, long_put}
-use Rattle.archive_turns.proofs.put_run.PutRun.begin.Goals as goal
+use Rattle.archive_turns.proofs.run.Run+Put+A.begin.Goals as goal
 
 pub returns-in-Err : goal.returns-in-Err
 returns-in-Err g c = begin_failed _ _ c.in-Err.ensures.log
