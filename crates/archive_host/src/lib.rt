@@ -3,8 +3,8 @@
 //! No clause can say what a socket or a file does. What is proved is that each call ends if the system's calls do, that
 //! a fault of the wire is named after its call, and that failures are counted. The rest is tested.
 //!
-//! Read `specs/Arrivals.antt` first: which port is read next, and which are open. docs/CALLING.md shows how the crate
-//! is called.
+//! Read `specs/Arrivals.antt` first: which port is read next, and which are open. README.md shows how the crate is
+//! called.
 #![tactic(auto)]
 
 mod dir_keeper;

@@ -294,7 +294,8 @@ fn is_kept_as(alloc: Global, records: &[&[u8]], wanted: &[u8]) -> Result<bool, F
 
 #[test]
 fn no_other_record_is_kept(rt: HostRuntime) -> Result<(), Fail> {
-    let among: [&[u8]; 5] = [&SET, &PAD, &BARE, &HUNDRED[8..], &PAD];
+    let file = HUNDRED.as_slice();
+    let among: [&[u8]; 5] = [&SET, &PAD, &BARE, &file[8..], &PAD];
     let is_alone = is_kept_as(rt.alloc(), &among, HUNDRED)?;
     let is_none = is_kept_as(rt.alloc(), &[&SET, &PAD, &BARE], EMPTY_LYNX)?;
     assert_eq!(rt; (is_alone, is_none), (true, true));

@@ -106,8 +106,9 @@ fn reading_in_pieces(rt: HostRuntime) -> Result<(), Fail> {
 // Reads the cut file byte by byte. A push that was out of memory is made again, so that the fault is that of the file.
 fn read_cut(refusing: &Refusing<Global>) -> Result<(), FileFault> {
     let mut reader = Reader::new(refusing);
-    for i in 0..CUT_MOVE.len() {
-        push_again(&mut reader, &CUT_MOVE[i..i + 1])?;
+    let bytes = CUT_MOVE.as_slice();
+    for i in 0..bytes.len() {
+        push_again(&mut reader, &bytes[i..i + 1])?;
     }
     let _file = reader.finish()?;
     Ok(())

@@ -104,7 +104,10 @@ fn request(global: Global, refusing: &Refusing<Global>, unopened: &Cell<bool>) -
     };
     if left.opened.is_empty() {
         unopened.set(true);
-        let sent = [(ALICE, SERVER, WRQ.as_slice()), (SERVER, ALICE, OUT_OF_MEMORY)];
+        let sent = [
+            (ALICE, SERVER, WRQ.as_slice()),
+            (SERVER, ALICE, OUT_OF_MEMORY),
+        ];
         return Outcome::refused(has_nothing(&left) && were_sent(left.datagrams.as_slice(), &sent));
     }
     let sent: [(Endpoint, Endpoint, &[u8]); 3] = [

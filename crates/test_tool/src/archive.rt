@@ -93,10 +93,11 @@ fn a_put_of_an_input_that_ends_at_the_last_read(rt: HostRuntime) -> Result<(), F
 // `Memory`.
 #[test]
 fn a_put_of_an_input_that_breaks(rt: HostRuntime) -> Result<(), Fail> {
+    let file = HUNDRED.as_slice();
     for (bytes, kind) in [
         (None, io::ErrorKind::Other),
-        (Some(&HUNDRED[..10]), io::ErrorKind::Other),
-        (Some(&HUNDRED[..]), io::ErrorKind::OutOfMemory),
+        (Some(&file[..10]), io::ErrorKind::Other),
+        (Some(file), io::ErrorKind::OutOfMemory),
     ] {
         let mut input = Breaks { bytes, kind };
         assert_eq!(rt; put_of(&rt, &mut input)?, (Err(ToolFault::Read), 0, 0));

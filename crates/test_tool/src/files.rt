@@ -3,7 +3,7 @@ use crate::outcome::*;
 use crate::streams::*;
 use std::io;
 use std::test::Fail;
-use test_samples::{CUT_MOVE, HUNDRED};
+use test_samples::{CUT_MOVE, EMPTY_LYNX, HUNDRED};
 use tws_file::{FileFault, Ruleset};
 use tws_tool::{INPUT_READS, ToolFault, run_best, run_show, run_words};
 
@@ -89,10 +89,11 @@ fn show_of<R: io::Read>(rt: &HostRuntime, input: &mut R) -> (Result<(), ToolFaul
 
 #[test]
 fn show_refuses_what_is_no_file(rt: HostRuntime) -> Result<(), Fail> {
+    let file = HUNDRED.as_slice();
     let faults: [(&[u8], &str); 4] = [
         (&[], "tws: standard input: unreadable: ShortHeader(0)\n"),
         (
-            &HUNDRED[..27],
+            &file[..27],
             "tws: standard input: unreadable: ShortRecord(8)\n",
         ),
         (
@@ -137,7 +138,8 @@ const UNSIGNED: [u8; 8] = [0x35, 0x33, 0x9B, 0x98, 2, 0, 0, 0];
 // which is then not the one that is reported.
 #[test]
 fn an_input_that_breaks(rt: HostRuntime) {
-    for bytes in [&HUNDRED[..10], &HUNDRED[..8], &UNSIGNED[..8]] {
+    let file = HUNDRED.as_slice();
+    for bytes in [&file[..10], &file[..8], &UNSIGNED[..8]] {
         let mut input = Breaks {
             bytes: Some(bytes),
             kind: io::ErrorKind::Other,
@@ -207,7 +209,7 @@ fn best_answers_the_first_input_that_fails(rt: HostRuntime) {
 
 // A Lynx file of `count` records that have only a level's password, and its listing.
 fn passwords(rt: &HostRuntime, count: u32) -> Result<(Vec<u8>, Vec<u8>), Fail> {
-    let mut bytes = Vec::from_slice(rt.alloc(), &HUNDRED[..8])?;
+    let mut bytes = Vec::from_slice(rt.alloc(), EMPTY_LYNX)?;
     let mut listing = Vec::from_slice(rt.alloc(), b"ruleset lynx word 0000 extra 0\n")?;
     for _ in 0..count {
         bytes.extend_from_slice(&[6, 0, 0, 0, 1, 0, 0x42, 0x44, 0x48, 0x50])?;

@@ -38,12 +38,13 @@ fn a_get_in_one_turn(rt: HostRuntime) -> Result<(), Fail> {
 // Whatever is written before the writer fails is a prefix of the file.
 #[test]
 fn a_get_to_a_writer_that_fails(rt: HostRuntime) -> Result<(), Fail> {
+    let file = HUNDRED.as_slice();
     for j in 0..28usize {
         let mut wire = answered_wire(rt.alloc())?;
         let mut room = [0u8; 28];
         let mut out = &mut room[..j];
         let got = run_get(rt.alloc(), &mut wire, SERVER, Ruleset::Lynx, 1, &mut out);
-        assert_eq!(rt; (got, &room[..j]), (Err(RunFault::Write), &HUNDRED[..j]));
+        assert_eq!(rt; (got, &room[..j]), (Err(RunFault::Write), &file[..j]));
     }
     Ok(())
 }
