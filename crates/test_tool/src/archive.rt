@@ -1,13 +1,13 @@
 // The commands of the archive over wires in memory: what is sent, what is printed, and inputs that fail.
 use crate::streams::*;
 use archive_table::NoKeeper;
-use archive_turns::{Entry, MemoryWire, ReadyServer, Server};
+use archive_turns::{Entry, MemoryWire, Server};
 use std::io;
 use std::test::Fail;
 use test_samples::{ACK_0, ACK_1, ALICE, DATA_HUNDRED, HUNDRED, PEER, RRQ_LYNX, SERVER, WRQ};
 use tftp_packet::Endpoint;
 use tws_file::{FileFault, Ruleset};
-use tws_tool::{INPUT_READS, ToolFault, get_file, put_file, serve_counted, serve_waiting};
+use tws_tool::{INPUT_READS, Passes, ToolFault, get_file, put_file, serve_archive};
 
 fn wire_of(rt: &HostRuntime, opens: &[u16]) -> Result<MemoryWire, Fail> {
     Ok(MemoryWire::new(rt.alloc(), Vec::from_slice(rt.alloc(), opens)?))
@@ -150,29 +150,31 @@ fn put_wire(rt: &HostRuntime) -> Result<MemoryWire, Fail> {
     Ok(wire)
 }
 
-// Makes two turns of a new server, or two rounds of one that waits, whose lines go to `out`.
+// Makes two turns or rounds of a new server, whose lines go to `out`.
 fn serve_two(
     rt: &HostRuntime,
-    waits: bool,
+    passes: Passes,
     wire: &mut MemoryWire,
     out: &mut Vec<u8>,
 ) -> Result<(), ToolFault> {
-    let alloc = rt.alloc();
-    if waits {
-        let mut server = ReadyServer::new(alloc, 6969);
-        serve_waiting(alloc, wire, &mut NoKeeper, &mut server, 6969, 2, out)
-    } else {
-        let mut server = Server::new(alloc, 6969);
-        serve_counted(alloc, wire, &mut NoKeeper, &mut server, 6969, 2, out)
-    }
+    let mut server = Server::new(rt.alloc(), 6969);
+    serve_archive(
+        rt.alloc(),
+        wire,
+        &mut NoKeeper,
+        &mut server,
+        6969,
+        passes,
+        out,
+    )
 }
 
 #[test]
 fn serving(rt: HostRuntime) -> Result<(), Fail> {
-    for waits in [false, true] {
+    for passes in [Passes::Turns(2), Passes::Rounds(2)] {
         let mut wire = put_wire(&rt)?;
         let mut out = Vec::new(rt.alloc());
-        serve_two(&rt, waits, &mut wire, &mut out)?;
+        serve_two(&rt, passes, &mut wire, &mut out)?;
         let taken = sent(&wire, ALICE, ACK_1);
         assert_eq!(rt; (out.as_slice(), taken), (LINES.as_slice(), 1));
     }

@@ -1,7 +1,7 @@
 // Which job the arguments ask for.
 use crate::outcome::owned;
 use std::test::Fail;
-use tws_tool::{Job, JobFault, job_of};
+use tws_tool::{Job, JobFault, ServeArguments, job_of};
 
 fn job(rt: &HostRuntime, words: &[&str]) -> Result<Result<Job, JobFault>, Fail> {
     Ok(job_of(rt.alloc(), &owned(rt, words)?))
@@ -10,9 +10,10 @@ fn job(rt: &HostRuntime, words: &[&str]) -> Result<Result<Job, JobFault>, Fail> 
 #[test]
 fn serve_with_options(rt: HostRuntime) -> Result<(), Fail> {
     let words = ["tws", "serve", "--turns=7", "--dir", "kept", "--port", "70"];
-    let Ok(Job::Serve { port, turns, dir }) = job(&rt, &words)? else {
+    let Ok(Job::Serve(arguments)) = job(&rt, &words)? else {
         return Err(Fail::new("another job"));
     };
+    let ServeArguments { port, turns, dir } = arguments;
     let Some(dir) = dir else {
         return Err(Fail::new("no folder"));
     };
