@@ -80,6 +80,7 @@ asks_for_counted names program = (
       record {
         port_is = counted_number 65535 80 (codes "80") (omega arith, (omega arith, (omega arith, tt))) refl (omega arith) (omega arith);
         turns_are = counted_number 1000000000 5 (codes "5") (omega arith, (omega arith, tt)) refl (omega arith) (omega arith);
+        per_host_is = refl;
         dir_is = refl;
       },
     ),
