@@ -23,6 +23,8 @@ pub(crate) struct OpenPort {
     unread: Unread,
     /// The only host whose datagrams are handed out, once there is one.
     host: Option<u32>,
+    /// Whether a datagram was sent from here or received.
+    used: bool,
 }
 
 impl OpenPort {
@@ -44,6 +46,7 @@ impl OpenPort {
             socket,
             unread: Unread::Nothing,
             host: None,
+            used: false,
         })
     }
 
@@ -101,6 +104,7 @@ impl OpenPort {
         match self.socket.recv_from(&mut buffer[..]) {
             Ok((count, SocketAddr::V4(from))) => {
                 self.unread = Unread::Perhaps;
+                self.used = true;
                 let host = from.ip().to_bits();
                 let port = from.port();
                 Ok(Some((count, Endpoint { host, port })))
@@ -143,10 +147,19 @@ impl OpenPort {
         Ok(None)
     }
 
-    /// From now on hands out only datagrams from this host, unless another one was chosen before.
-    pub(crate) fn keep_to(&mut self, host: u32)
-        ensures { self.new ≡ record self.old { host = option_or self.old.host (Some host) } }
+    /// Whether a datagram was sent from here or received.
+    pub(crate) fn is_used(&self) -> bool
+        ensures { result ≡ self.now.used }
     {
+        self.used
+    }
+
+    /// Notes that a datagram is sent to this host: from now on only datagrams from there are handed out, unless another
+    /// host was noted before.
+    pub(crate) fn keep_to(&mut self, host: u32)
+        ensures { self.new ≡ record self.old { host = option_or self.old.host (Some host); used = true } }
+    {
+        self.used = true;
         self.host = self.host.or(Some(host));
     }
 

@@ -21,6 +21,7 @@ use clap::{Arg, ArgMatches, Command};
 use std::alloc::{AllocError, Global};
 use std::io::Write;
 use std::net::Net;
+use std::random::RandomSource;
 use std::rt::Files;
 use std::time::Clock;
 
@@ -171,7 +172,7 @@ fn not_loaded<E: Write>(name: &str, errors: &mut E) -> u8
 }
 
 // Opens the server's request port, and serves there.
-fn listen_and_serve<P: Net + Clock + AllocGlobal + Copy, K: Keeper, W: Write>(
+fn listen_and_serve<P: Net + Clock + RandomSource + AllocGlobal + Copy, K: Keeper, W: Write>(
     rt: P,
     alloc: Global,
     keeper: &mut K,
@@ -191,7 +192,7 @@ fn listen_and_serve<P: Net + Clock + AllocGlobal + Copy, K: Keeper, W: Write>(
 }
 
 // Serves with this keeper, whose name its faults are reported with, and returns the status.
-fn serve_with<P: Net + Clock + AllocGlobal + Copy, K: Keeper, W: Write, E: Write>(
+fn serve_with<P: Net + Clock + RandomSource + AllocGlobal + Copy, K: Keeper, W: Write, E: Write>(
     rt: P,
     alloc: Global,
     arguments: &ServeArguments,
@@ -217,7 +218,7 @@ fn serve_with<P: Net + Clock + AllocGlobal + Copy, K: Keeper, W: Write, E: Write
 }
 
 /// Runs `serve`, with the collections kept in the folder of this name, if there is one, and returns the status.
-pub(crate) fn run<P: Files + Net + Clock + AllocGlobal + Copy, W: Write, E: Write>(
+pub(crate) fn run<P: Files + Net + Clock + RandomSource + AllocGlobal + Copy, W: Write, E: Write>(
     rt: P,
     alloc: Global,
     arguments: &ServeArguments,
