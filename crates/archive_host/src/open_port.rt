@@ -1,4 +1,4 @@
-ghost use Rattle.std.specs.Prelude.{◌≡◌, ◌≤◌, Some, IfOk, OnErr, IfSome, IfNone};
+ghost use Rattle.std.specs.Prelude.{◌≡◌, ◌≤◌, true, Some, IfOk, OnErr, IfSome, IfNone};
 ghost use Rattle.std.specs.Option.{option_or};
 ghost use Rattle.archive_host.specs.declared.unread.Unread.TheVariants.{Nothing, Perhaps, Reported};
 ghost use Rattle.archive_host.specs.Arrivals.{is_reported, may_have_more, marked_read};
@@ -135,7 +135,7 @@ impl OpenPort {
         ensures count { IfOk result (λ got. IfSome got (λ g. g.0 ≤ RECEIVE_SIZE)) }
         ensures port { self.new.port ≡ self.old.port }
     {
-        for _ in 0..OTHERS {
+        for _other in 0..OTHERS {
             match self.read_one(buffer)? {
                 Some((count, from)) if self.takes_from(from.host) => {
                     return Ok(Some((count, from)));

@@ -1,5 +1,6 @@
 ghost use Rattle.std.specs.Prelude.{◌≡◌, ◌<◌, ◌+◌, ◌%◌, vec_len, IfOk, Some, None};
 ghost use Rattle.archive_host.specs.Drawing.{Draws};
+ghost use Rattle.archive_host.specs.declared.port_deck.TheConstants.{LEN};
 
 use rand_chacha::ChaCha20Rng;
 use rand_core::{Rng, SeedableRng};
@@ -56,6 +57,7 @@ impl PortDeck {
         ensures drawn { (i : _) × (i < DRAWN) × (result ≡ (self.old.next + i) % LEN) }
         ensures ports { self.new.ports ≡ self.old.ports }
         ensures next { self.new.next ≡ self.old.next }
+        ensures returned { self.new.returned ≡ self.old.returned }
     {
         let ahead = self.random.next_u32() % DRAWN;
         (self.next + ahead as usize) % LEN
