@@ -1,5 +1,5 @@
 -- Which port is read next, and which are open.
-use Rattle.std.specs.Prelude.{ℕ, nat_lt, Bool, true, false, ◌&&◌, ◌||◌, ◌≡◌, ◌≢◌, List, All, fold, slice_get, Option, None, Some}
+use Rattle.std.specs.Prelude.{ℕ, nat_lt, Bool, true, false, ◌&&◌, ◌||◌, ◌≡◌, ◌≢◌, List, [], ◌∷◌, All, fold, slice_get, Option, None, Some}
 use Rattle.std.specs.List.{remove}
 use Rattle.archive_turns.specs.Noted.{lesser}
 use Rattle.archive_host.specs.declared.open_port.OpenPort.{OpenPort}
@@ -28,6 +28,11 @@ marked_read o = record o { unread = marked o.unread }
 abbrev pub lesser_if : Bool → Option ℕ → ℕ → Option ℕ
 lesser_if true least port = lesser least port
 lesser_if false least port = least
+
+-- the port that was opened first
+abbrev pub first_port : List OpenPort → Option ℕ
+first_port [] = None
+first_port (o ∷ os) = Some o.port
 
 -- the least ready port, and the least one above `after`
 abbrev pub ready_least : List OpenPort → Option ℕ

@@ -10,7 +10,7 @@
 mod dir_keeper;
 mod open_port;
 mod open_ports;
-mod port_range;
+mod port_deck;
 mod udp_wire;
 mod unread;
 mod watch;

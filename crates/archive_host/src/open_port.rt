@@ -1,4 +1,5 @@
-ghost use Rattle.std.specs.Prelude.{◌≡◌, ◌≤◌, IfOk, OnErr, IfSome, IfNone};
+ghost use Rattle.std.specs.Prelude.{◌≡◌, ◌≤◌, true, Some, IfOk, OnErr, IfSome, IfNone};
+ghost use Rattle.std.specs.Option.{option_or};
 ghost use Rattle.archive_host.specs.declared.unread.Unread.TheVariants.{Nothing, Perhaps, Reported};
 ghost use Rattle.archive_host.specs.Arrivals.{is_reported, may_have_more, marked_read};
 
@@ -11,12 +12,19 @@ use std::io::ErrorKind;
 use std::net::{Ipv4Addr, Net, SocketAddr};
 use tftp_packet::{Endpoint, Out};
 
+// How many datagrams of other hosts are dropped in one read, at most.
+const OTHERS: u32 = 16;
+
 /// A port that is open, and its socket.
 #[derive(Drop)]
 pub(crate) struct OpenPort {
     port: u16,
     socket: UdpSocket,
     unread: Unread,
+    /// The only host whose datagrams are handed out, once there is one.
+    host: Option<u32>,
+    /// Whether a datagram was sent from here or received.
+    used: bool,
 }
 
 impl OpenPort {
@@ -37,6 +45,8 @@ impl OpenPort {
             port,
             socket,
             unread: Unread::Nothing,
+            host: None,
+            used: false,
         })
     }
 
@@ -83,16 +93,8 @@ impl OpenPort {
         }
     }
 
-    /// Reads the oldest unread datagram, without waiting. Returns how many of its bytes are in the buffer and the
-    /// endpoint that it came from, or `None` if there is none.
-    ///
-    /// # Errors
-    ///
-    /// Those of the system. A later call may return a datagram.
-    pub(crate) fn read(
-        &mut self,
-        buffer: &mut [u8; RECEIVE_SIZE],
-    ) -> io::Result<Option<(usize, Endpoint)>>
+    // Reads the oldest unread datagram, without waiting.
+    fn read_one(&mut self, buffer: &mut [u8; RECEIVE_SIZE]) -> io::Result<Option<(usize, Endpoint)>>
         ensures count { IfOk result (λ got. IfSome got (λ g. g.0 ≤ RECEIVE_SIZE)) }
         ensures port { self.new.port ≡ self.old.port }
         ensures came { IfOk result (λ got. IfSome got (λ _. self.new.unread ≡ Perhaps)) }
@@ -102,6 +104,7 @@ impl OpenPort {
         match self.socket.recv_from(&mut buffer[..]) {
             Ok((count, SocketAddr::V4(from))) => {
                 self.unread = Unread::Perhaps;
+                self.used = true;
                 let host = from.ip().to_bits();
                 let port = from.port();
                 Ok(Some((count, Endpoint { host, port })))
@@ -115,6 +118,56 @@ impl OpenPort {
                     Err(e)
                 }
             }
+        }
+    }
+
+    /// Reads the oldest unread datagram of a host that this port takes from, without waiting. Returns how many of its
+    /// bytes are in the buffer and the endpoint that it came from, or `None` if there is none, or there are too many
+    /// others before it.
+    ///
+    /// # Errors
+    ///
+    /// Those of the system. A later call may return a datagram.
+    pub(crate) fn read(
+        &mut self,
+        buffer: &mut [u8; RECEIVE_SIZE],
+    ) -> io::Result<Option<(usize, Endpoint)>>
+        ensures count { IfOk result (λ got. IfSome got (λ g. g.0 ≤ RECEIVE_SIZE)) }
+        ensures port { self.new.port ≡ self.old.port }
+    {
+        for _other in 0..OTHERS {
+            match self.read_one(buffer)? {
+                Some((count, from)) if self.takes_from(from.host) => {
+                    return Ok(Some((count, from)));
+                }
+                Some(_) => {}
+                None => return Ok(None),
+            }
+        }
+        Ok(None)
+    }
+
+    /// Whether a datagram was sent from here or received.
+    pub(crate) fn is_used(&self) -> bool
+        ensures { result ≡ self.now.used }
+    {
+        self.used
+    }
+
+    /// Notes that a datagram is sent to this host: from now on only datagrams from there are handed out, unless another
+    /// host was noted before.
+    pub(crate) fn keep_to(&mut self, host: u32)
+        ensures { self.new ≡ record self.old { host = option_or self.old.host (Some host); used = true } }
+    {
+        self.used = true;
+        self.host = self.host.or(Some(host));
+    }
+
+    // Whether datagrams from a host are handed out.
+    fn takes_from(&self, host: u32) -> bool {
+        match self.host {
+            Some(only) => only == host,
+            None => true,
         }
     }
 

@@ -1,6 +1,6 @@
 ghost use Rattle.std.specs.Prelude.{◌≡◌, ◌≢◌, ◌<◌, ◌++◌, ◌∷◌, [], length, map, All, IfSome, IfNone, OnOk, OnErr, slice_get, Some};
 ghost use Rattle.archive_turns.specs.Noted.{lesser};
-ghost use Rattle.archive_host.specs.Arrivals.{ready_least, ready_above, one_may_have_more, marked_read, Closes};
+ghost use Rattle.archive_host.specs.Arrivals.{first_port, ready_least, ready_above, one_may_have_more, marked_read, Closes};
 
 use crate::open_port::OpenPort;
 use std::alloc::{AllocError, Global};
@@ -60,12 +60,14 @@ impl OpenPorts {
         self.ports.iter().position(|open| open.port() == port)
     }
 
-    /// The open port with this number.
-    pub(crate) fn get(&self, port: u16) -> Option<&OpenPort>
-        ensures { IfSome result (λ o. o.now.port ≡ port) }
+    /// The port that was opened first, as long as it is open.
+    pub(crate) fn first(&self) -> Option<u16>
+        ensures { result ≡ first_port self.now.ports.items }
     {
-        let i = self.index_of(port)?;
-        Some(&self.ports[i])
+        match self.ports.as_slice() {
+            [] => None,
+            [open, ..] => Some(open.port()),
+        }
     }
 
     /// The open port with this number, to be changed.

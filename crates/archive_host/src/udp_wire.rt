@@ -7,12 +7,13 @@ ghost use Rattle.archive_host.specs.declared.udp_wire.TheConstants.{LAPS};
 
 use crate::open_port::OpenPort;
 use crate::open_ports::OpenPorts;
-use crate::port_range::PortRange;
+use crate::port_deck::{LEN, PortDeck};
 use crate::watch::Watch;
 use archive_turns::{RECEIVE_SIZE, Ready, ReadyWire, Wire, WireFault};
 use std::io;
 use std::io::ErrorKind;
 use std::net::Net;
+use std::random::RandomSource;
 use std::time::Clock;
 use tftp_packet::{Endpoint, Out};
 
@@ -29,30 +30,41 @@ const LAPS: u8 = 16;
 /// A wire over UDP and IPv4, whose ports are open at every address of this host. `receive` waits 5 ms at most, and not
 /// at all at the port that `wait` has just returned. For `wait`, a port that was just read is ready again only if no
 /// other is, or in every sixteenth lap over the ports, and it may turn out to have nothing. The clock is in
-/// milliseconds. The wire does not tell its log.
+/// milliseconds. The wire has no ghost log.
+///
+/// Once a datagram was sent from a port, other than the one that listens, `receive` returns only datagrams from the
+/// host that it was sent to. The others are dropped.
 #[derive(Drop)]
-pub struct UdpWire<R: Net + Clock + AllocGlobal + Copy> {
+pub struct UdpWire<R: Net + Clock + RandomSource + AllocGlobal + Copy> {
     rt: R,
     watch: Option<Watch>,
     ports: OpenPorts,
-    range: PortRange,
+    deck: Option<PortDeck>,
     given: Option<u16>,
+    listens: bool,
     lap: u8,
+    // The time of the look that began the lap, if since then each port that may have a datagram was to be read.
+    began: Option<u64>,
     time: u64,
     failures: u64,
     ghost laps: { lap < LAPS },
 }
 
-// A number that differs from one start of the program to the next, so that a port that was open before a restart is
-// seldom opened again soon.
-fn seed<R: Clock>(rt: &R) -> u32 {
-    match rt.since_1970() {
-        Ok(time) => time.subsec_nanos() / 1000,
-        Err(_) => 0,
+// A seed that nobody can foresee, if the system has a source of random bytes, and otherwise one that differs from one
+// start of the program to the next.
+fn seed<R: Clock + RandomSource>(rt: &R) -> [u8; 32] {
+    let mut seed = [0; 32];
+    if rt.fill_bytes(&mut seed).is_err() {
+        let nanos = match rt.since_1970() {
+            Ok(time) => time.subsec_nanos(),
+            Err(_) => 0,
+        };
+        seed[..4].copy_from_slice(&nanos.to_le_bytes());
     }
+    seed
 }
 
-impl<R: Net + Clock + AllocGlobal + Copy> UdpWire<R> {
+impl<R: Net + Clock + RandomSource + AllocGlobal + Copy> UdpWire<R> {
     /// Returns a wire without ports. Does not allocate.
     pub fn new(rt: R) -> Self
         ensures failures { result.failures ≡ 0 }
@@ -61,9 +73,11 @@ impl<R: Net + Clock + AllocGlobal + Copy> UdpWire<R> {
             rt,
             watch: None,
             ports: OpenPorts::new(rt.alloc()),
-            range: PortRange::from_seed(seed(&rt)),
+            deck: None,
             given: None,
+            listens: false,
             lap: 0,
+            began: None,
             time: 0,
             failures: 0,
         }
@@ -80,7 +94,10 @@ impl<R: Net + Clock + AllocGlobal + Copy> UdpWire<R> {
     {
         let mut wire = Self::new(rt);
         match wire.open_port(port) {
-            Ok(()) => Ok(wire),
+            Ok(()) => {
+                wire.listens = true;
+                Ok(wire)
+            }
             Err(_) => Err(WireFault::Open),
         }
     }
@@ -111,12 +128,25 @@ impl<R: Net + Clock + AllocGlobal + Copy> UdpWire<R> {
         }
     }
 
+    // The next port to be tried.
+    fn next_port(&mut self) -> Option<u16>
+        ensures failures { self.new.failures ≡ self.old.failures }
+    {
+        if self.deck.is_none() {
+            self.deck = PortDeck::new(self.rt.alloc(), seed(&self.rt)).ok();
+        }
+        match &mut self.deck {
+            Some(deck) => Some(deck.take()),
+            None => None,
+        }
+    }
+
     // Opens the next port that no other socket has. Any error other than `AddrInUse` ends the search.
     fn open_next(&mut self) -> Option<u16>
         ensures failures { self.new.failures ≡ self.old.failures }
     {
-        for _ in 0..PortRange::LEN {
-            let port = self.range.take();
+        for _ in 0..LEN {
+            let port = self.next_port()?;
             match self.open_port(port) {
                 Ok(()) => return Some(port),
                 Err(e) => {
@@ -127,6 +157,21 @@ impl<R: Net + Clock + AllocGlobal + Copy> UdpWire<R> {
             }
         }
         None
+    }
+
+    // Gives a port back that is about to be closed, if it was not used.
+    fn give_back(&mut self, port: u16)
+        ensures failures { self.new.failures ≡ self.old.failures }
+    {
+        let unused = match self.ports.get_mut(port) {
+            Some(open) => !open.is_used(),
+            None => false,
+        };
+        if let Some(deck) = &mut self.deck {
+            if unused {
+                deck.give_back(port);
+            }
+        }
     }
 
     // The time of the clock, or the last known time if the system does not report it.
@@ -207,28 +252,34 @@ impl<R: Net + Clock + AllocGlobal + Copy> UdpWire<R> {
         let millis = self.millis_left(until);
         self.look(millis);
         self.lap = (self.lap + 1) % LAPS;
+        self.began = None;
         if self.lap == 0 || self.ports.ready_least().is_none() {
             self.ports.mark_read();
+            self.began = Some(self.now());
         }
     }
 
-    // The next ready port. Once no port above `after` is ready a lap begins, so that arrivals are looked for once in
-    // each lap, however busy the ports are.
-    fn next_ready(&mut self, after: u16, until: Option<u64>) -> Option<u16>
+    // The next ready port, and the time up to which all that arrived was handed out, if that is known now. Once no port
+    // above `after` is ready a lap begins, so that arrivals are looked for once in each lap, however busy the ports are.
+    fn next_ready(&mut self, after: u16, until: Option<u64>) -> (Option<u16>, Option<u64>)
         ensures failures { self.new.failures ≡ self.old.failures }
     {
         if let Some(port) = self.ports.ready_above(after) {
-            return Some(port);
+            return (Some(port), None);
         }
+        let settled = match self.ports.ready_least() {
+            Some(_) => None,
+            None => self.began,
+        };
         self.begin_lap(until);
-        match self.ports.ready_above(after) {
-            Some(port) => Some(port),
-            None => self.ports.ready_least(),
+        match self.ports.ready_above(after).or(self.ports.ready_least()) {
+            Some(port) => (Some(port), settled),
+            None => (None, self.began),
         }
     }
 }
 
-impl<R: Net + Clock + AllocGlobal + Copy> Wire for UdpWire<R> {
+impl<R: Net + Clock + RandomSource + AllocGlobal + Copy> Wire for UdpWire<R> {
     ghost log = { λ _. None };
 
     ghost failed = { λ w. w.failures };
@@ -244,6 +295,7 @@ impl<R: Net + Clock + AllocGlobal + Copy> Wire for UdpWire<R> {
     }
 
     fn close(&mut self, port: u16) -> Result<(), WireFault> {
+        self.give_back(port);
         if self.ports.close(port) {
             Ok(())
         } else {
@@ -273,8 +325,14 @@ impl<R: Net + Clock + AllocGlobal + Copy> Wire for UdpWire<R> {
     }
 
     fn send(&mut self, out: &Out) -> Result<(), WireFault> {
-        let sent = match self.ports.get(out.from_port) {
-            Some(open) => open.send(out),
+        let listens = self.listens && Some(out.from_port) == self.ports.first();
+        let sent = match self.ports.get_mut(out.from_port) {
+            Some(open) => {
+                if !listens {
+                    open.keep_to(out.to.host);
+                }
+                open.send(out)
+            }
             None => false,
         };
         if sent {
@@ -290,11 +348,15 @@ impl<R: Net + Clock + AllocGlobal + Copy> Wire for UdpWire<R> {
     }
 }
 
-impl<R: Net + Clock + AllocGlobal + Copy> ReadyWire for UdpWire<R> {
+impl<R: Net + Clock + RandomSource + AllocGlobal + Copy> ReadyWire for UdpWire<R> {
     fn wait(&mut self, after: u16, until: Option<u64>) -> Ready {
-        let port = self.next_ready(after, until);
+        let (port, settled) = self.next_ready(after, until);
         self.given = port;
         let time = self.now();
-        Ready { port, time }
+        Ready {
+            port,
+            time,
+            settled,
+        }
     }
 }

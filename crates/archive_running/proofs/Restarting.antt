@@ -7,10 +7,10 @@ use Rattle.tws_file.specs.declared.«ruleset».Ruleset.TheVariants.{Lynx, Ms}
 use Rattle.tws_best.specs.Best.{Collected, IsCollected}
 use Rattle.archive_table.specs.Server.{Server, Maps, Taken, Answer, Grant, all, no_memory, unkept, transfer_at, server_datagram}
 use Rattle.archive_table.specs.Keeper.{Keeping, KeepsOne, KeepsMaps, FailsKeepOf, StepKeeps}
-use Rattle.archive_turns.specs.Turn.{Replies, Receipt, datagram, nothing, fault, Answers, Asks, is_usable, request_used, request_spared, request_received, received_asks, transfer_received, KeepsAsked, Walk, walk_on, next_visit, next_asks, IsPass}
+use Rattle.archive_turns.specs.Turn.{Replies, Receipt, datagram, nothing, fault, Answers, Asks, is_usable, request_used, request_spared, request_admitted, request_received, received_asks, transfer_received, KeepsAsked, Walk, walk_on, next_visit, next_asks, IsPass}
 use Rattle.archive_turns.specs.Timers.{timers_after, restart}
 use Rattle.archive_turns.specs.Wire.{Entry}
-use Rattle.archive_turns.specs.declared.clock.Clock.{Clock}
+use Rattle.archive_turns.specs.declared.mode.Mode.{Mode}
 use Rattle.archive_turns.specs.declared.next.Next.{Next}
 use Rattle.archive_turns.specs.declared.next.Next.TheVariants as next
 use Rattle.archive_turns.specs.declared.timer.Timer.{Timer}
@@ -86,8 +86,12 @@ module _ (s : Server) where
   spared_maps (Some spare) verdict replies from bytes = used_maps (is_usable spare s) spare verdict replies from bytes
   spared_maps None verdict replies from bytes = refl
 
+  admitted_maps : (admitted : Bool) (answers : Answers) (from : Endpoint) (bytes : List ℕ) → (request_admitted admitted answers from bytes s).server.maps ≡ s.maps
+  admitted_maps true answers from bytes = spared_maps answers.spare answers.verdict answers.replies from bytes
+  admitted_maps false answers from bytes = refl
+
   request_maps : (receipt : Receipt) (answers : Answers) → (request_received receipt answers s).server.maps ≡ s.maps
-  request_maps (datagram from bytes) answers = spared_maps answers.spare answers.verdict answers.replies from bytes
+  request_maps (datagram from bytes) answers = admitted_maps answers.admitted answers from bytes
   request_maps nothing answers = refl
   request_maps fault answers = refl
 
@@ -110,12 +114,12 @@ ends_kept : (asks : Option Asks) (old mid new : Maps) (kept now : Option (List K
 ends_kept asks old mid new kept now keeps fine is rules has =
     subst (KeptIn now) (sym is) (asked-kept asks old mid kept now keeps fine (subst AreOwnRules is rules) has)
 
-pub pass-kept : (clock : Clock) (n : Next) (old new : Server) (timers left : List Timer) (took : Bool) (calls : List Entry) (kept now : Option (List Keeping)) → IsPass clock n old new timers left took calls kept now → AreOwnRules new.maps → KeptIn kept old.maps → KeptIn now new.maps
-pass-kept clock n old new timers left took calls kept now p rules has =
+pub pass-kept : (mode : Mode) (n : Next) (old new : Server) (timers left : List Timer) (took : Bool) (calls : List Entry) (kept now : Option (List Keeping)) → IsPass mode n old new timers left took calls kept now → AreOwnRules new.maps → KeptIn kept old.maps → KeptIn now new.maps
+pass-kept mode n old new timers left took calls kept now p rules has =
     let v = next_visit n p.answers old in
     ends_kept (next_asks n p.answers old) old.maps v.server.maps new.maps kept now p.keeps
     (visit_fine old n p.answers)
-    (ap (λ (s : Server). s.maps) p.table ∙ walk_maps p.late (restart clock) (record { server = v.server; timers = timers_after clock v.change timers; calls = [] }))
+    (ap (λ (s : Server). s.maps) p.table ∙ walk_maps p.late (restart mode) (record { server = v.server; timers = timers_after mode v.change timers; calls = [] }))
     rules has
 
 -- ---- a restart

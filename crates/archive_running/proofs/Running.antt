@@ -138,13 +138,13 @@ restarted a members maps now has before =
     subst (λ (m : Maps). Made (after_restart m now a) (members ++ does loads ∷ [])) (sym same.0) whole
 
 moved : {a b : Archive} {members added : List Member} → Made a members → Moves a b added → Made b (members ++ added)
-moved {members} before (server_turns a last timers new took calls now t brings) =
+moved {members} before (server_turns a last timers per_host new took calls now t brings) =
     served a _ members _ before
-    (turn-makes a (trace_from members start) last timers new took calls now t before.makes.shows (by_places server_endpoint.host calls a brings))
+    (turn-makes a (trace_from members start) last timers per_host new took calls now t before.makes.shows (by_places server_endpoint.host calls a brings))
     (λ rules. pass-kept _ _ a.server new.table _ _ took calls a.kept now t.pass rules before.kept)
-moved {members} before (server_rounds a last timers new took calls now t brings) =
+moved {members} before (server_rounds a last timers per_host new took calls now t brings) =
     served a _ members _ before
-    (round-makes a (trace_from members start) last timers new took calls now t before.makes.shows (by_places server_endpoint.host calls a brings))
+    (round-makes a (trace_from members start) last timers per_host new took calls now t before.makes.shows (by_places server_endpoint.host calls a brings))
     (λ rules. pass-kept _ _ a.server new.table _ _ took _ a.kept now t.pass rules before.kept)
 moved {members} before (server_restarts a maps now has) = restarted a members maps now has before
 moved {members} before (client_begins a host operation port replies r away is) =

@@ -14,9 +14,9 @@ use Rattle.archive_client.specs.declared.state.State.TheVariants as state
 use Rattle.archive_client.specs.Client.{Operation, put, get, client_start, request_out, state_of, file_of}
 use Rattle.archive_turns.specs.declared.limits.TheConstants.{QUIET_TURNS}
 use Rattle.archive_turns.specs.Wire.{Entry}
-use Rattle.archive_turns.specs.declared.clock.Clock.TheVariants.{Turns}
-use Rattle.archive_turns.specs.Timers.{timers_after, late_ports}
-use Rattle.archive_turns.specs.Turn.{Replies, datagram, Answers, Service, IsTurn, Visited, KeepsAsked, next_asks, next_visit, turn_next, walk_after, noted}
+use Rattle.archive_turns.specs.declared.mode.Mode.TheVariants.{Turn}
+use Rattle.archive_turns.specs.Timers.{timers_after, is_quiet, late_ports}
+use Rattle.archive_turns.specs.Turn.{Replies, datagram, Answers, Service, IsTurn, Visited, KeepsAsked, next_asks, next_admits, next_visit, turn_next, walk_after, noted}
 use Rattle.archive_turns.specs.Run.{Run, RunAnswers, run_turn, begin_opened}
 use Rattle.archive_world.specs.World.{Datagram, server_endpoint, start}
 use Rattle.archive_world.specs.Traces.{Member, starts, trace_from}
@@ -42,7 +42,7 @@ brings_at host calls a x n come at d among =
 
 -- a server that has visited the request port last, and in whose turn no port times out
 abbrev before : Archive → Service
-before a = server_of 0 [] a
+before a = server_of 0 [] 0 a
 
 abbrev visited : Archive → Answers → Visited
 visited a answers = next_visit (turn_next (before a)) answers a.server
@@ -50,22 +50,24 @@ visited a answers = next_visit (turn_next (before a)) answers a.server
 abbrev after : Archive → Answers → Service
 after a answers =
     record {
-      table = (walk_after Turns (visited a answers) [] []).server;
+      table = (walk_after Turn (visited a answers) [] []).server;
       last = noted (port_above 0 a.server);
-      timers = (walk_after Turns (visited a answers) [] []).timers;
+      timers = (walk_after Turn (visited a answers) [] []).timers;
+      per_host = 0;
     }
 
 abbrev calls_of : Archive → Answers → List Entry
-calls_of a answers = (visited a answers).calls ++ (walk_after Turns (visited a answers) [] []).calls
+calls_of a answers = (visited a answers).calls ++ (walk_after Turn (visited a answers) [] []).calls
 
 abbrev nothing_kept : Option (List Keeping)
 nothing_kept = Some []
 
-abbrev a_turn : (a : Archive) (answers : Answers) → Merges (visited a answers).taken a.server.maps (visited a answers).server.maps → KeepsAsked (next_asks (turn_next (before a)) answers a.server) a.server.maps (visited a answers).server.maps nothing_kept nothing_kept → [] ≡ late_ports Turns (visited a answers).change (timers_after Turns (visited a answers).change []) → IsTurn (before a) (after a answers) (is_some (visited a answers).taken) (calls_of a answers) nothing_kept nothing_kept
-a_turn a answers merges keeps late =
+abbrev a_turn : (a : Archive) (answers : Answers) → Merges (visited a answers).taken a.server.maps (visited a answers).server.maps → KeepsAsked (next_asks (turn_next (before a)) answers a.server) a.server.maps (visited a answers).server.maps nothing_kept nothing_kept → [] ≡ late_ports Turn (is_quiet (visited a answers).change) (timers_after Turn (visited a answers).change []) (visited a answers).server → answers.admitted ≡ next_admits Turn (turn_next (before a)) [] answers.receipt a.server → IsTurn (before a) (after a answers) (is_some (visited a answers).taken) (calls_of a answers) nothing_kept nothing_kept
+a_turn a answers merges keeps late let_in =
     record {
       pass = record {
         answers = answers;
+        admitted = let_in;
         late = [];
         late_are = late;
         table = refl;
@@ -76,6 +78,7 @@ a_turn a answers merges keeps late =
         keeps = keeps;
       };
       last = refl;
+      per_host = refl;
     }
 
 abbrev turned : Archive → Answers → Archive
@@ -98,7 +101,7 @@ done = record { sent = true; closed = true }
 
 abbrev hears_from : Endpoint → List ℕ → Answers
 hears_from from bytes =
-    record { receipt = datagram from bytes; spare = Some 4000; verdict = granted; grant = all; maps = empty_maps; replies = done }
+    record { receipt = datagram from bytes; admitted = true; spare = Some 4000; verdict = granted; grant = all; maps = empty_maps; replies = done }
 
 abbrev answered : List ℕ → RunAnswers
 answered bytes = record { receipt = datagram there bytes; verdict = granted; sent = true }
@@ -171,7 +174,7 @@ unfolding encode decode_bytes block_of
 opens_put =
     let a = begun empty in
     let answers = request empty in
-    server_turns a 0 [] (after a answers) _ (calls_of a answers) nothing_kept (a_turn a answers refl refl refl)
+    server_turns a 0 [] 0 (after a answers) _ (calls_of a answers) nothing_kept (a_turn a answers refl refl refl refl)
     (brings_at server_endpoint.host (calls_of a answers) a _ 0 refl refl)
 
 binds_put : Moves (opened empty) (heard empty first_ack) (client_members (answered first_ack) 2 (asking empty))
@@ -185,8 +188,8 @@ takes : Moves (heard empty first_ack) taken (server_members (heard empty first_a
 unfolding encode decode_bytes block_of
 takes =
     let a = heard empty first_ack in
-    server_turns a 0 [] (after a last_block) _ (calls_of a last_block) nothing_kept
-    (a_turn a last_block empty_merged (keeps_all all (Some (record { peer = here; file = [] })) empty_maps empty_maps nothing_kept nothing_kept refl refl refl) refl)
+    server_turns a 0 [] 0 (after a last_block) _ (calls_of a last_block) nothing_kept
+    (a_turn a last_block empty_merged (keeps_all all (Some (record { peer = here; file = [] })) empty_maps empty_maps nothing_kept nothing_kept refl refl refl) refl refl)
     (brings_at server_endpoint.host (calls_of a last_block) a _ 2 refl refl)
 
 ends_put : Moves taken acked (client_members (answered last_ack) 2 (bound empty first_ack))
@@ -237,7 +240,7 @@ unfolding encode decode_bytes block_of
 opens_get =
     let a = begun lynx in
     let answers = request lynx in
-    server_turns a 0 [] (after a answers) _ (calls_of a answers) nothing_kept (a_turn a answers refl refl refl)
+    server_turns a 0 [] 0 (after a answers) _ (calls_of a answers) nothing_kept (a_turn a answers refl refl refl refl)
     (brings_at server_endpoint.host (calls_of a answers) a _ 0 refl refl)
 
 gets : Moves (opened lynx) (heard lynx whole) (client_members (answered whole) 2 (asking lynx))

@@ -7,19 +7,19 @@ use Rattle.tftp_packet.specs.declared.out.Out.{Out}
 use Rattle.tftp_ends.specs.Ends.{Verdict}
 use Rattle.archive_table.specs.Server.{Server, Transfer, Taken, Merges, transfer_at, port_above, server_timeout, server_request, server_datagram}
 use Rattle.archive_table.specs.Keeper.{Keeping}
-use Rattle.archive_turns.specs.declared.clock.Clock.{Clock}
-use Rattle.archive_turns.specs.declared.clock.Clock.TheVariants.{Turns, Milliseconds}
+use Rattle.archive_turns.specs.declared.mode.Mode.{Mode}
+use Rattle.archive_turns.specs.declared.mode.Mode.TheVariants.{Turn, Round}
 use Rattle.archive_turns.specs.declared.next.Next.{Next}
 use Rattle.archive_turns.specs.declared.next.Next.TheVariants as next
 use Rattle.archive_turns.specs.declared.timer.Timer.{Timer}
 use Rattle.archive_turns.specs.Timers.{timers_after, restart}
 use Rattle.archive_turns.specs.Wire.{Entry}
-use Rattle.archive_turns.specs.Turn.{Replies, Receipt, datagram, nothing, fault, Answers, Visited, sendings, step_calls, transfer_received, is_usable, request_used, request_spared, request_received, Walk, walk_on, walk_after, next_visit, next_of, port_next, ready_next, turn_next, IsPass, Service, IsTurn, IsRound}
+use Rattle.archive_turns.specs.Turn.{Replies, Receipt, datagram, nothing, fault, Answers, Visited, sendings, step_calls, transfer_received, is_usable, request_used, request_spared, request_admitted, request_received, Walk, walk_on, walk_after, next_visit, next_of, port_next, ready_next, turn_next, IsPass, Service, IsTurn, IsRound}
 use Rattle.archive_world.specs.World.{Datagram, World, server_endpoint, taken_with}
 use Rattle.archive_world.specs.Traces.{Member, server_waits_long, after_deed, trace_from}
 use Rattle.archive_world.proofs.Places.{Has, Has-extends}
 use Rattle.archive_world.proofs.Lasting.{either}
-use Rattle.archive_running.specs.Members.{arrival, sent_in, come_in, sent_by, come_to, does, transfer_members, used_members, spared_members, request_members, visit_members, late_members}
+use Rattle.archive_running.specs.Members.{arrival, sent_in, come_in, sent_by, come_to, does, transfer_members, used_members, spared_members, admitted_members, request_members, visit_members, late_members}
 use Rattle.archive_running.specs.Archive.{Archive, after_server, server_of}
 use Rattle.archive_running.proofs.Fitting.{fit-append, trace-append}
 use Rattle.archive_running.proofs.Ports.{IsApart, above-apart}
@@ -132,11 +132,18 @@ module _ (a : Archive) (w : World) (h : Shows a w) where
       used_made (is_usable spare a.server) spare refl verdict replies from bytes brought
   spared_made None verdict replies from bytes brought = nothing_made
 
+  admitted_made : (admitted : Bool) (answers : Answers) (from : Endpoint) (bytes : List ℕ) →
+      let v = request_admitted admitted answers from bytes a.server in
+      IsBrought (arrival server_endpoint.host a.server.request from bytes) a → VisitMakes v (admitted_members admitted answers from bytes a.server)
+  admitted_made true answers from bytes brought =
+      spared_made answers.spare answers.verdict answers.replies from bytes brought
+  admitted_made false answers from bytes brought = nothing_made
+
   request_made : (receipt : Receipt) (answers : Answers) →
       let v = request_received receipt answers a.server in
       Brought server_endpoint.host v.calls a → VisitMakes v (request_members receipt answers a.server)
   request_made (datagram from bytes) answers brought =
-      spared_made answers.spare answers.verdict answers.replies from bytes (brought _ (record { place = 0; is = refl }))
+      admitted_made answers.admitted answers from bytes (brought _ (record { place = 0; is = refl }))
   request_made nothing answers brought = nothing_made
   request_made fault answers brought = nothing_made
 
@@ -198,27 +205,27 @@ keeps-makes now s told calls a ms w made =
     }
 
 -- a visit, and the time-outs after it
-pass-makes : (a : Archive) (w : World) (clock : Clock) (n : Next) (new : Server) (timers left : List Timer) (took : Bool) (calls : List Entry) (now : Option (List Keeping)) (p : IsPass clock n a.server new timers left took calls a.kept now) → IsFit n a.server → Shows a w → Brought server_endpoint.host calls a → Makes (after_server new (next_visit n p.answers a.server).taken calls now a) (visit_members n p.answers a.server ++ late_members p.late) w
-pass-makes a w clock n new timers left took calls now p fit h brought =
+pass-makes : (a : Archive) (w : World) (mode : Mode) (n : Next) (new : Server) (timers left : List Timer) (took : Bool) (calls : List Entry) (now : Option (List Keeping)) (p : IsPass mode n a.server new timers left took calls a.kept now) → IsFit n a.server → Shows a w → Brought server_endpoint.host calls a → Makes (after_server new (next_visit n p.answers a.server).taken calls now a) (visit_members n p.answers a.server ++ late_members p.late) w
+pass-makes a w mode n new timers left took calls now p fit h brought =
     let v = next_visit n p.answers a.server in
-    let end = walk_after clock v p.late timers in
+    let end = walk_after mode v p.late timers in
     let came : Brought server_endpoint.host v.calls a = brought-first server_endpoint.host v.calls end.calls a (subst (λ (l : List Entry). Brought server_endpoint.host l a) p.calls_are brought) in
     let visited = after_server v.server v.taken v.calls a.kept a in
     keeps-makes now new v.taken calls a _ w
     (after_visit a w v end _ _
     (visit_made a w h n fit p.answers came p.merges)
-    (λ shown. walk_made p.late (restart clock) (record { server = v.server; timers = timers_after clock v.change timers; calls = [] }) visited _ (shows-still visited _ shown))
+    (λ shown. walk_made p.late (restart mode) (record { server = v.server; timers = timers_after mode v.change timers; calls = [] }) visited _ (shows-still visited _ shown))
     new calls p.table (ap (sent_by server_endpoint.host) p.calls_are))
 
 turn_fits : (last : ℕ) (found : Option ℕ) (s : Server) → port_above last s ≡ found → IsApart s → IsFit (next_of found) s
 turn_fits last (Some port) s is apart = above-apart last s apart port is
 turn_fits last None s is apart = tt
 
-pub turn-makes : (a : Archive) (w : World) (last : ℕ) (timers : List Timer) (new : Service) (took : Bool) (calls : List Entry) (now : Option (List Keeping)) (t : IsTurn (server_of last timers a) new took calls a.kept now) → Shows a w → Brought server_endpoint.host calls a →
-    let n = turn_next (server_of last timers a) in
+pub turn-makes : (a : Archive) (w : World) (last : ℕ) (timers : List Timer) (per_host : ℕ) (new : Service) (took : Bool) (calls : List Entry) (now : Option (List Keeping)) (t : IsTurn (server_of last timers per_host a) new took calls a.kept now) → Shows a w → Brought server_endpoint.host calls a →
+    let n = turn_next (server_of last timers per_host a) in
     Makes (after_server new.table (next_visit n t.pass.answers a.server).taken calls now a) (visit_members n t.pass.answers a.server ++ late_members t.pass.late) w
-turn-makes a w last timers new took calls now t h brought =
-    pass-makes a w Turns (turn_next (server_of last timers a)) new.table timers new.timers took calls now t.pass (turn_fits last (port_above last a.server) a.server refl h.apart) h brought
+turn-makes a w last timers per_host new took calls now t h brought =
+    pass-makes a w Turn (turn_next (server_of last timers per_host a)) new.table timers new.timers took calls now t.pass (turn_fits last (port_above last a.server) a.server refl h.apart) h brought
 
 port_fits : (is_request : Bool) (port : ℕ) (s : Server) → (port == s.request) ≡ is_request → IsFit (port_next is_request port) s
 port_fits true port s is = tt
@@ -228,12 +235,12 @@ ready_fits : (ready : Option ℕ) (s : Server) → IsFit (ready_next ready s) s
 ready_fits (Some port) s = port_fits (port == s.request) port s refl
 ready_fits None s = tt
 
-pub round-makes : (a : Archive) (w : World) (last : ℕ) (timers : List Timer) (new : Service) (took : Bool) (calls : List Entry) (now : Option (List Keeping)) (t : IsRound (server_of last timers a) new took calls a.kept now) → Shows a w → Brought server_endpoint.host calls a →
+pub round-makes : (a : Archive) (w : World) (last : ℕ) (timers : List Timer) (per_host : ℕ) (new : Service) (took : Bool) (calls : List Entry) (now : Option (List Keeping)) (t : IsRound (server_of last timers per_host a) new took calls a.kept now) → Shows a w → Brought server_endpoint.host calls a →
     let n = ready_next t.ready a.server in
     Makes (after_server new.table (next_visit n t.pass.answers a.server).taken calls now a) (visit_members n t.pass.answers a.server ++ late_members t.pass.late) w
-round-makes a w last timers new took calls now t h brought =
+round-makes a w last timers per_host new took calls now t h brought =
     let n = ready_next t.ready a.server in
     let others : Brought server_endpoint.host t.others a = subst (λ (l : List Entry). Brought server_endpoint.host l a) t.calls_are brought in
-    let made = pass-makes a w (Milliseconds t.time) n new.table timers new.timers took t.others now t.pass (ready_fits t.ready a.server) h others in
+    let made = pass-makes a w (Round t.time t.settled per_host) n new.table timers new.timers took t.others now t.pass (ready_fits t.ready a.server) h others in
     let make : List Entry → Archive = λ l. after_server new.table (next_visit n t.pass.answers a.server).taken l now a in
     subst (λ (l : List Entry). Makes (make l) (visit_members n t.pass.answers a.server ++ late_members t.pass.late) w) (sym t.calls_are) made

@@ -117,17 +117,17 @@ LoadsKept (Some log) (Some told) old new =
 
 -- ---- how it moves
 
--- the archive's server, with the port that it visited last and its timers
-abbrev pub server_of : (last : ℕ) (timers : List Timer) → Archive → Service
-server_of last timers a = record { table = a.server; last = last; timers = timers }
+-- the archive's server, with the port that it visited last, its timers, and how many transfers one host may have
+abbrev pub server_of : (last : ℕ) (timers : List Timer) (per_host : ℕ) → Archive → Service
+server_of last timers per_host a = record { table = a.server; last = last; timers = timers; per_host = per_host }
 
 -- One move: a turn of the server or of a client, a begin, or a restart; with its members of the trace. A begin that
 -- fails sends nothing and leaves no client, so it is not a move.
 pub data Moves : (old new : Archive) → List Member → Type 0 where
-  -- the server makes a turn; the port that it visited last, and its timers, may be any
-  server_turns : (a : Archive) (last : ℕ) (timers : List Timer) (new : Service) (took : Bool) (calls : List Entry) (now : Option (List Keeping)) (t : IsTurn (server_of last timers a) new took calls a.kept now) → Brings server_endpoint.host calls a → Moves a (after_server new.table (next_visit (turn_next (server_of last timers a)) t.pass.answers a.server).taken calls now a) (visit_members (turn_next (server_of last timers a)) t.pass.answers a.server ++ late_members t.pass.late)
+  -- the server makes a turn; the port that it visited last, its timers and its limit may be any
+  server_turns : (a : Archive) (last : ℕ) (timers : List Timer) (per_host : ℕ) (new : Service) (took : Bool) (calls : List Entry) (now : Option (List Keeping)) (t : IsTurn (server_of last timers per_host a) new took calls a.kept now) → Brings server_endpoint.host calls a → Moves a (after_server new.table (next_visit (turn_next (server_of last timers per_host a)) t.pass.answers a.server).taken calls now a) (visit_members (turn_next (server_of last timers per_host a)) t.pass.answers a.server ++ late_members t.pass.late)
   -- the server makes a round
-  server_rounds : (a : Archive) (last : ℕ) (timers : List Timer) (new : Service) (took : Bool) (calls : List Entry) (now : Option (List Keeping)) (t : IsRound (server_of last timers a) new took calls a.kept now) → Brings server_endpoint.host calls a → Moves a (after_server new.table (next_visit (ready_next t.ready a.server) t.pass.answers a.server).taken calls now a) (visit_members (ready_next t.ready a.server) t.pass.answers a.server ++ late_members t.pass.late)
+  server_rounds : (a : Archive) (last : ℕ) (timers : List Timer) (per_host : ℕ) (new : Service) (took : Bool) (calls : List Entry) (now : Option (List Keeping)) (t : IsRound (server_of last timers per_host a) new took calls a.kept now) → Brings server_endpoint.host calls a → Moves a (after_server new.table (next_visit (ready_next t.ready a.server) t.pass.answers a.server).taken calls now a) (visit_members (ready_next t.ready a.server) t.pass.answers a.server ++ late_members t.pass.late)
   server_restarts : (a : Archive) (maps : Maps) (now : Option (List Keeping)) → LoadsKept a.kept now a.server.maps maps → Moves a (after_restart maps now a) (does loads ∷ [])
   -- an operation begins on another host than the server's
   client_begins : (a : Archive) (host : ℕ) (operation : Operation) (port : Option ℕ) (replies : Replies) (r : Run) → host ≢ server_endpoint.host → (begin_opened port server_endpoint operation replies).result ≡ Ok r → Moves a (after_begin host operation r (begin_opened port server_endpoint operation replies).calls a) (does (starts (own_endpoint host r) operation) ∷ [])

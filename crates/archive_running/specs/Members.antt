@@ -26,7 +26,7 @@ sent_in host (came port from bytes) = []
 sent_in host (quiet port) = []
 sent_in host (failed port) = []
 sent_in host (sent out ok) = datagram_of host out ∷ []
-sent_in host (waited after until ready now) = []
+sent_in host (waited after until ready now settled) = []
 
 abbrev pub come_in : (host : ℕ) → Entry → List Datagram
 come_in host (opened port) = []
@@ -35,7 +35,7 @@ come_in host (came port from bytes) = arrival host port from bytes ∷ []
 come_in host (quiet port) = []
 come_in host (failed port) = []
 come_in host (sent out ok) = []
-come_in host (waited after until ready now) = []
+come_in host (waited after until ready now settled) = []
 
 abbrev pub sent_by : (host : ℕ) → List Entry → List Datagram
 sent_by host calls = flat_map (sent_in host) calls
@@ -74,8 +74,13 @@ abbrev pub spared_members : Option ℕ → Verdict → (from : Endpoint) (bytes 
 spared_members (Some spare) verdict from bytes s = used_members (is_usable spare s) spare verdict from bytes s
 spared_members None verdict from bytes s = []
 
+-- A datagram that is not let in is dropped too.
+abbrev pub admitted_members : (admitted : Bool) → Answers → (from : Endpoint) (bytes : List ℕ) → Server → List Member
+admitted_members true a from bytes s = spared_members a.spare a.verdict from bytes s
+admitted_members false a from bytes s = []
+
 abbrev pub request_members : Receipt → Answers → Server → List Member
-request_members (datagram from bytes) a s = spared_members a.spare a.verdict from bytes s
+request_members (datagram from bytes) a s = admitted_members a.admitted a from bytes s
 request_members nothing a s = []
 request_members fault a s = []
 

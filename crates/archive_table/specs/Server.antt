@@ -1,6 +1,6 @@
 -- The server: its state, and what each datagram and each time-out does to it. RFC 1350 sections 2, 4 and 6. What an end
 -- does is defined in tftp_ends; docs/FORMATS.md has the rest as a table.
-use Rattle.std.specs.Prelude.{◌≡◌, ◌≢◌, ℕ, ◌<◌, ◌≤◌, Bool, true, false, ◌==◌, ◌&&◌, nat_lt, List, [], ◌∷◌, ◌++◌, length, Contains, Option, None, Some, Result, Ok, Err}
+use Rattle.std.specs.Prelude.{◌≡◌, ◌≢◌, ℕ, ◌<◌, ◌≤◌, Bool, true, false, ◌==◌, ◌&&◌, nat_lt, List, [], ◌∷◌, ◌++◌, length, Contains, Option, None, Some, option_map, unwrap_or, Result, Ok, Err}
 use Rattle.std.specs.Str.{bytes_eq}
 use Rattle.std.specs.Ordering.{nat_cmp}
 use Rattle.std.specs.List.{All}
@@ -95,6 +95,24 @@ transfer_at port s = lookup (at_port port) s.live
 
 abbrev pub with_live : List (ℕ × Transfer) → Server → Server
 with_live live s = record { request = s.request; maps = s.maps; live = live }
+
+-- the peer of the transfer at a port
+abbrev pub peer_at : (port : ℕ) → Server → Option Endpoint
+peer_at port s = option_map (λ t. t.peer) (transfer_at port s)
+
+abbrev pub is_complete : RecvState → Bool
+is_complete recv.Running = false
+is_complete recv.Complete = true
+is_complete recv.TimedOut = false
+is_complete recv.Over = false
+
+abbrev pub is_done : End → Bool
+is_done (sending s) = false
+is_done (receiving r) = is_complete r.state
+
+-- whether the transfer at a port has received its whole file, and only waits for a repeated last block
+abbrev pub is_dallying : (port : ℕ) → Server → Bool
+is_dallying port s = unwrap_or (option_map (λ t. is_done t.end) (transfer_at port s)) false
 
 -- the first of these ports
 abbrev pub first_port : {T : Type 0} → List (ℕ × T) → Option ℕ

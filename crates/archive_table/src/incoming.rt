@@ -4,7 +4,7 @@ ghost use Rattle.std.specs.Prelude.{◌≡◌, ◌+◌, ◌≤◌, ◌==◌, ◌
 ghost use Rattle.std.specs.Option.{option_map};
 ghost use Rattle.tws_file.specs.Reader.{HasRoom, HasTaken, IsAnswer};
 ghost use Rattle.tftp_ends.specs.Ends.{granted, verdict_of, answer_of, dgram_of, receiver_start, receiver_data, receiver_take, receiver_timeout, IsReceiver};
-ghost use Rattle.archive_table.specs.Server.{IsReceiving};
+ghost use Rattle.archive_table.specs.Server.{is_complete as complete_state, IsReceiving};
 ghost use Rattle.archive_table.specs.Incoming.{HasRead, receiver_after, file_after, sent_by};
 
 use std::alloc::Allocator;
@@ -162,6 +162,18 @@ impl<A: Allocator + Copy> Incoming<A> {
         ensures fits { IsReceiving self.new }
     {
         self.receiver.on_timeout()
+    }
+
+    /// Whether the whole file was received, and its dally is not over.
+    pub(crate) fn is_complete(&self) -> bool
+        ensures { result ≡ complete_state self.now.state }
+    {
+        match self.receiver.state() {
+            RecvState::Running => false,
+            RecvState::Complete => true,
+            RecvState::TimedOut => false,
+            RecvState::Over => false,
+        }
     }
 
     /// The receiver's state.

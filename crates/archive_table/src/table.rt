@@ -1,7 +1,7 @@
 //! The table of a server.
 
 ghost use Rattle.std.specs.Prelude.{◌≡◌, ◌≢◌, ◌<◌, ◌≤◌, ◌^◌, None, Some, Err, IfOk, IfErr, true, length, is_some};
-ghost use Rattle.archive_table.specs.Server.{empty_server, nothing_told, refuses, opens_if, request_verdict, server_request, server_timeout, transfer_at, has_place, read_asked, read_placed, write_asked, map_of, port_above, IsEnd, IsServer, server_datagram, grant_of, all, unkept, Merges};
+ghost use Rattle.archive_table.specs.Server.{empty_server, is_dallying as dallies_at, nothing_told, peer_at, refuses, opens_if, request_verdict, server_request, server_timeout, transfer_at, has_place, read_asked, read_placed, write_asked, map_of, port_above, IsEnd, IsServer, server_datagram, grant_of, all, unkept, Merges};
 ghost use Rattle.tftp_packet.specs.Packet.{is_octet as octet_mode};
 ghost use Rattle.tws_best.specs.Best.{collection_text};
 ghost use Rattle.tws_best.specs.Frozen.{frozen_text};
@@ -359,6 +359,26 @@ impl<A: Allocator + Copy> Table<A> {
         ensures { result ≡ self.now.request }
     {
         self.request
+    }
+
+    /// The peer of the transfer at a port, if there is one.
+    pub fn peer(&self, port: u16) -> Option<Endpoint>
+        ensures { result ≡ peer_at port self.now }
+    {
+        match self.live.get(port) {
+            Some(transfer) => Some(transfer.peer),
+            None => None,
+        }
+    }
+
+    /// Whether the transfer at a port has received its whole file, and only waits for a repeated last block.
+    pub fn is_dallying(&self, port: u16) -> bool
+        ensures { result ≡ dallies_at port self.now }
+    {
+        match self.live.get(port) {
+            Some(transfer) => transfer.is_dallying(),
+            None => false,
+        }
     }
 
     /// Whether a transfer is at this port.

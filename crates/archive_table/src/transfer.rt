@@ -1,7 +1,7 @@
 //! One transfer at the server.
 
 ghost use Rattle.std.specs.Prelude.{◌≡◌};
-ghost use Rattle.archive_table.specs.Server.{is_same};
+ghost use Rattle.archive_table.specs.Server.{is_done, is_same};
 
 use crate::end::End;
 use crate::incoming::Incoming;
@@ -36,5 +36,15 @@ impl<A: Allocator + Copy> Transfer<A> {
         ensures { result ≡ is_same from self.now.peer }
     {
         from.host == self.peer.host && from.port == self.peer.port
+    }
+
+    /// Whether it has received its whole file, and only waits for a repeated last block.
+    pub(crate) fn is_dallying(&self) -> bool
+        ensures { result ≡ is_done self.now.end }
+    {
+        match &self.end {
+            End::Sending(_) => false,
+            End::Receiving(incoming) => incoming.is_complete(),
+        }
     }
 }

@@ -11,7 +11,7 @@ use Rattle.archive_turns.specs.declared.timer.Timer.{Timer}
 use Rattle.archive_turns.specs.Wire.{Entry, Grows}
 use Rattle.archive_turns.specs.Timers.{ports_of, live_ports, with_timer, timed, timed_out, HasRoom, Tracks}
 use Rattle.archive_turns.specs.Parts.{IsTimeout, Walks}
-use Rattle.archive_turns.specs.Turn.{Replies, Receipt, datagram, nothing, fault, Answers, Visited, transfer_change, transfer_visit, transfer_received, timeout_visit, request_change, request_visit, request_received, request_spared, request_used, is_usable, Walk, walk, walk_on}
+use Rattle.archive_turns.specs.Turn.{Replies, Receipt, datagram, nothing, fault, Answers, Visited, transfer_change, transfer_visit, transfer_received, timeout_visit, request_change, request_visit, request_received, request_admitted, request_spared, is_peer, request_used, is_usable, Walk, walk, walk_on}
 use Rattle.archive_turns.proofs.Log.{grows_join}
 use Rattle.archive_turns.proofs.Ports.{insert_port, remove_port, ports_with, ports_without, ports_due, length_with}
 use Rattle.archive_turns.proofs.Requests.{server_request_step}
@@ -23,23 +23,25 @@ pub record Keeps (s : Server) (v : Visited) : Type 0 where
   pub tracks : (due : ℕ) (timers : List Timer) → ports_of timers ≡ live_ports s → ports_of (timed v.change due timers) ≡ live_ports v.server
   pub room : (timers : List Timer) → ports_of timers ≡ live_ports s → length v.server.live ≤ LIVE → HasRoom v.change timers
 
-transfer_tracks : (closed : Bool) (out : Option Out) (port : ℕ) (s new : Server) → live_ports new ≡ cond closed (remove_port port (live_ports s)) (live_ports s) → (due : ℕ) (timers : List Timer) → ports_of timers ≡ live_ports s → ports_of (timed (transfer_change closed out port) due timers) ≡ live_ports new
-transfer_tracks true out port s new e due timers same = ports_without port timers ∙ ap (remove_port port) same ∙ sym e
-transfer_tracks false (Some out) port s new e due timers same = ports_due port due timers ∙ same ∙ sym e
-transfer_tracks false None port s new e due timers same = same ∙ sym e
+transfer_tracks : (closed : Bool) (out : Option Out) (to_peer : Bool) (port : ℕ) (s new : Server) → live_ports new ≡ cond closed (remove_port port (live_ports s)) (live_ports s) → (due : ℕ) (timers : List Timer) → ports_of timers ≡ live_ports s → ports_of (timed (transfer_change closed out to_peer port) due timers) ≡ live_ports new
+transfer_tracks true out to_peer port s new e due timers same = ports_without port timers ∙ ap (remove_port port) same ∙ sym e
+transfer_tracks false (Some out) true port s new e due timers same = ports_due port due timers ∙ same ∙ sym e
+transfer_tracks false (Some out) false port s new e due timers same = same ∙ sym e
+transfer_tracks false None to_peer port s new e due timers same = same ∙ sym e
 
-transfer_room : (closed : Bool) (out : Option Out) (port : ℕ) (timers : List Timer) → HasRoom (transfer_change closed out port) timers
-transfer_room true out port timers = tt
-transfer_room false (Some out) port timers = tt
-transfer_room false None port timers = tt
+transfer_room : (closed : Bool) (out : Option Out) (to_peer : Bool) (port : ℕ) (timers : List Timer) → HasRoom (transfer_change closed out to_peer port) timers
+transfer_room true out to_peer port timers = tt
+transfer_room false (Some out) true port timers = tt
+transfer_room false (Some out) false port timers = tt
+transfer_room false None to_peer port timers = tt
 
 received_keeps : (r : Receipt) (a : Answers) (port : ℕ) (s : Server) → Keeps s (transfer_received r a port s)
 received_keeps (datagram from bytes) a port s =
     let step = server_datagram_step a.grant a.maps port from bytes s in
     let made = server_datagram a.grant a.maps port from bytes s in
     record {
-      tracks = transfer_tracks made.told.closed made.told.out port s made.server step.ports;
-      room = λ timers same few. transfer_room made.told.closed made.told.out port timers;
+      tracks = transfer_tracks made.told.closed made.told.out (is_peer from port s) port s made.server step.ports;
+      room = λ timers same few. transfer_room made.told.closed made.told.out (is_peer from port s) port timers;
     }
 received_keeps nothing a port s =
     record { tracks = λ due timers same. same; room = λ timers same few. tt }
@@ -83,9 +85,14 @@ spared_keeps (Some spare) a from bytes s = used_keeps (is_usable spare s) spare 
 spared_keeps None a from bytes s =
     record { tracks = λ due timers same. same; room = λ timers same few. tt }
 
+admitted_keeps : (admitted : Bool) (a : Answers) (from : _) (bytes : List ℕ) (s : Server) → Keeps s (request_admitted admitted a from bytes s)
+admitted_keeps true a from bytes s = spared_keeps a.spare a from bytes s
+admitted_keeps false a from bytes s =
+    record { tracks = λ due timers same. same; room = λ timers same few. tt }
+
 request_keeps_at : (r : Receipt) (a : Answers) (s : Server) → Keeps s (request_received r a s)
 request_keeps_at (datagram from bytes) a s =
-    let kept = spared_keeps a.spare a from bytes s in
+    let kept = admitted_keeps a.admitted a from bytes s in
     record { tracks = kept.tracks; room = kept.room }
 request_keeps_at nothing a s =
     record { tracks = λ due timers same. same; room = λ timers same few. tt }
@@ -97,7 +104,7 @@ request_keeps a s = request_keeps_at a.receipt a s
 
 -- ---- time-outs
 
-timeout_ports : (closed : Bool) (out : Option Out) (port : ℕ) (s new : Server) → live_ports new ≡ cond closed (remove_port port (live_ports s)) (live_ports s) → (due : ℕ) (timers : List Timer) → ports_of timers ≡ live_ports s → ports_of (timed_out (transfer_change closed out port) port due timers) ≡ live_ports new
+timeout_ports : (closed : Bool) (out : Option Out) (port : ℕ) (s new : Server) → live_ports new ≡ cond closed (remove_port port (live_ports s)) (live_ports s) → (due : ℕ) (timers : List Timer) → ports_of timers ≡ live_ports s → ports_of (timed_out (transfer_change closed out true port) port due timers) ≡ live_ports new
 timeout_ports true out port s new e due timers same = ports_without port timers ∙ ap (remove_port port) same ∙ sym e
 timeout_ports false (Some out) port s new e due timers same = ports_due port due timers ∙ same ∙ sym e
 timeout_ports false None port s new e due timers same = ports_due port due timers ∙ same ∙ sym e

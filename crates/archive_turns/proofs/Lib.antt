@@ -5,6 +5,7 @@ pub mod Visits
 pub mod Requests
 pub mod Rows
 pub mod Ports
+pub mod Noticing
 pub mod Transfers
 pub mod Following
 pub mod Turns

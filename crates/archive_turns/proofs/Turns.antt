@@ -6,17 +6,18 @@ use Rattle.archive_table.specs.Server.{Server, IsServer, Merges, port_above}
 use Rattle.archive_table.specs.Keeper.{Keeping}
 use Rattle.archive_turns.specs.declared.change.Change.{Change}
 use Rattle.archive_turns.specs.declared.change.Change.TheVariants.{Quiet, Nothing}
-use Rattle.archive_turns.specs.declared.clock.Clock.{Clock}
-use Rattle.archive_turns.specs.declared.clock.Clock.TheVariants.{Turns, Milliseconds}
+use Rattle.archive_turns.specs.declared.mode.Mode.{Mode}
+use Rattle.archive_turns.specs.declared.mode.Mode.TheVariants.{Turn, Round}
 use Rattle.archive_turns.specs.declared.next.Next.{Next}
 use Rattle.archive_turns.specs.declared.next.Next.TheVariants as next
 use Rattle.archive_turns.specs.declared.timer.Timer.{Timer}
 use Rattle.archive_turns.specs.Wire.{Entry, Grows, waited}
-use Rattle.archive_turns.specs.Timers.{ports_of, live_ports, lower, timed, timers_if, timers_after, counts, is_quiet, late_ports, restart, earliest, HasRoom}
+use Rattle.archive_turns.specs.Timers.{ports_of, live_ports, lower, timed, timers_if, timers_after, counts, noticed, is_quiet, late_ports, restart, earliest, HasRoom}
 use Rattle.archive_turns.specs.Parts.{IsVisit, Walks, Passes}
-use Rattle.archive_turns.specs.Turn.{Answers, Visited, nothing, KeepsAsked, next_visit, next_asks, walk_after, IsPass, Service, next_of, turn_next, ready_next, noted, noted_or, IsTurn, IsRound, Step, Makes, MakesTurn, MakesRound, count_if, none, more, MakesMany}
+use Rattle.archive_turns.specs.Turn.{Receipt, Answers, Visited, nothing, KeepsAsked, next_visit, next_asks, next_admits, walk_after, IsPass, Service, next_of, turn_next, ready_next, noted, noted_or, IsTurn, IsRound, Step, Makes, MakesTurn, MakesRound, count_if, none, more, MakesMany}
 use Rattle.archive_turns.proofs.Log.{grows_none, grows_join}
 use Rattle.archive_turns.proofs.Ports.{ports_lower}
+use Rattle.archive_turns.proofs.Noticing.{ports_noticed}
 use Rattle.archive_turns.proofs.Visits.{answers_of}
 use Rattle.archive_turns.proofs.Following.{Keeps, transfer_keeps, request_keeps}
 
@@ -29,14 +30,14 @@ visit_keeps next.Nowhere a s =
     record { tracks = λ due timers same. same; room = λ timers same few. tt }
 
 -- no port is ready
-pub visit_none : (log : Option (List Entry)) (kept : Option (List Keeping)) (n : Next) (s : Server) → n ≡ next.Nowhere → IsVisit (λ a. next_visit n a s) (λ a. next_asks n a s) s s false Nothing log log kept kept
-visit_none log kept n s e =
-    let here : IsVisit (λ a. next_visit next.Nowhere a s) (λ a. next_asks next.Nowhere a s) s s false Nothing log log kept kept = record { answers = answers_of nothing s; server = refl; taken_is = refl; change_is = refl; log = grows_none log; merges = refl; keeps = refl } in
-    subst (λ (m : Next). IsVisit (λ a. next_visit m a s) (λ a. next_asks m a s) s s false Nothing log log kept kept) (sym e) here
+pub visit_none : (log : Option (List Entry)) (kept : Option (List Keeping)) (mode : Mode) (timers : List Timer) (n : Next) (s : Server) → n ≡ next.Nowhere → IsVisit (λ a. next_visit n a s) (λ a. next_asks n a s) (λ r. next_admits mode n timers r s) s s false Nothing log log kept kept
+visit_none log kept mode timers n s e =
+    let here : IsVisit (λ a. next_visit next.Nowhere a s) (λ a. next_asks next.Nowhere a s) (λ r. next_admits mode next.Nowhere timers r s) s s false Nothing log log kept kept = record { answers = answers_of nothing s; admitted = refl; server = refl; taken_is = refl; change_is = refl; log = grows_none log; merges = refl; keeps = refl } in
+    subst (λ (m : Next). IsVisit (λ a. next_visit m a s) (λ a. next_asks m a s) (λ r. next_admits mode m timers r s) s s false Nothing log log kept kept) (sym e) here
 
 -- there is a place for the timer of a port that was opened
-pub visit_room : {before after : Option (List Entry)} {kept now : Option (List Keeping)} (n : Next) (s new : Server) (taken : Bool) (change : Change) (timers : List Timer) → IsVisit (λ a. next_visit n a s) (λ a. next_asks n a s) s new taken change before after kept now → ports_of timers ≡ live_ports s → IsServer new → HasRoom change timers
-visit_room n s new taken change timers visit same fits =
+pub visit_room : {before after : Option (List Entry)} {kept now : Option (List Keeping)} (lets_in : Receipt → Bool) (n : Next) (s new : Server) (taken : Bool) (change : Change) (timers : List Timer) → IsVisit (λ a. next_visit n a s) (λ a. next_asks n a s) lets_in s new taken change before after kept now → ports_of timers ≡ live_ports s → IsServer new → HasRoom change timers
+visit_room lets_in n s new taken change timers visit same fits =
     let few : length (next_visit n visit.answers s).server.live ≤ LIVE = subst (λ (x : Server). length x.live ≤ LIVE) visit.server fits.few in
     subst (λ (c : Change). HasRoom c timers) (sym visit.change_is) ((visit_keeps n visit.answers s).room timers same few)
 
@@ -45,28 +46,30 @@ ports_if true change due timers ports down follows = down refl
 ports_if false change due timers ports down follows = follows
 
 -- a visit that counts down the timers was quiet, and changed no port
-quiet_same : (clock : Clock) (change : Change) (due : ℕ) (timers : List Timer) → counts clock (is_quiet change) ≡ true → ports_of (timed change due timers) ≡ ports_of (lower timers)
-quiet_same Turns Quiet due timers e = sym (ports_lower timers)
-quiet_same clock change due timers e = absurd cc
+quiet_same : (mode : Mode) (change : Change) (due : ℕ) (timers : List Timer) → counts mode (is_quiet change) ≡ true → ports_of (timed change due timers) ≡ ports_of (lower timers)
+quiet_same Turn Quiet due timers e = sym (ports_lower timers)
+quiet_same mode change due timers e = absurd cc
 
 -- the timers can follow the visit
-pub visit_tracks : {before after : Option (List Entry)} {kept now : Option (List Keeping)} (n : Next) (s new : Server) (taken : Bool) (change : Change) (clock : Clock) (timers : List Timer) → IsVisit (λ a. next_visit n a s) (λ a. next_asks n a s) s new taken change before after kept now → ports_of timers ≡ live_ports s → ports_of (timers_after clock change timers) ≡ live_ports new
-visit_tracks n s new taken change clock timers visit same =
-    let due : ℕ = restart clock in
+pub visit_tracks : {before after : Option (List Entry)} {kept now : Option (List Keeping)} (lets_in : Receipt → Bool) (n : Next) (s new : Server) (taken : Bool) (change : Change) (mode : Mode) (timers : List Timer) → IsVisit (λ a. next_visit n a s) (λ a. next_asks n a s) lets_in s new taken change before after kept now → ports_of timers ≡ live_ports s → ports_of (timers_after mode change timers) ≡ live_ports new
+visit_tracks lets_in n s new taken change mode timers visit same =
+    let due : ℕ = restart mode in
     let follows : ports_of (timed change due timers) ≡ live_ports new = ap (λ (c : Change). ports_of (timed c due timers)) visit.change_is ∙ (visit_keeps n visit.answers s).tracks due timers same ∙ ap live_ports (sym visit.server) in
-    ports_if (counts clock (is_quiet change)) change due timers (live_ports new) (λ e. sym (quiet_same clock change due timers e) ∙ follows) follows
+    ports_if (counts mode (is_quiet change)) (noticed mode change) due timers (live_ports new) (λ e. sym (quiet_same mode change due timers e) ∙ follows) (ports_noticed mode change due timers ∙ follows)
 
 -- ---- a visit and the time-outs after it
 
-pub pass_made : {before mid after : Option (List Entry)} {kept now : Option (List Keeping)} (clock : Clock) (n : Next) (s between new : Server) (timers after_visit left : List Timer) (taken : Bool) (change : Change) → IsVisit (λ a. next_visit n a s) (λ a. next_asks n a s) s between taken change before mid kept now → after_visit ≡ timers_after clock change timers → Walks (late_ports clock change after_visit) (restart clock) between new after_visit left mid after → Passes clock n s new timers left taken before after kept now
-pass_made {before} {mid} {after} {kept} {now} clock n s between new timers after_visit left taken change visit timers-are walks =
+pub pass_made : {before mid after : Option (List Entry)} {kept now : Option (List Keeping)} (mode : Mode) (n : Next) (s between new : Server) (timers after_visit left : List Timer) (taken : Bool) (change : Change) → IsVisit (λ a. next_visit n a s) (λ a. next_asks n a s) (λ r. next_admits mode n timers r s) s between taken change before mid kept now → after_visit ≡ timers_after mode change timers → Walks (late_ports mode (is_quiet change) after_visit between) (restart mode) between new after_visit left mid after → Passes mode n s new timers left taken before after kept now
+pass_made {before} {mid} {after} {kept} {now} mode n s between new timers after_visit left taken change visit timers-are walks =
     let v : Visited = next_visit n visit.answers s in
-    let by_change : Walks (late_ports clock change (timers_after clock change timers)) (restart clock) between new (timers_after clock change timers) left mid after = subst (λ (l : List Timer). Walks (late_ports clock change l) (restart clock) between new l left mid after) timers-are walks in
-    let by_visit : Walks (late_ports clock v.change (timers_after clock v.change timers)) (restart clock) between new (timers_after clock v.change timers) left mid after = subst (λ (c : Change). Walks (late_ports clock c (timers_after clock c timers)) (restart clock) between new (timers_after clock c timers) left mid after) visit.change_is by_change in
-    let done : Walks (late_ports clock v.change (timers_after clock v.change timers)) (restart clock) v.server new (timers_after clock v.change timers) left mid after = subst (λ (x : Server). Walks (late_ports clock v.change (timers_after clock v.change timers)) (restart clock) x new (timers_after clock v.change timers) left mid after) visit.server by_visit in
-    let calls : List Entry = v.calls ++ (walk_after clock v done.late timers).calls in
-    let pass : IsPass clock n s new timers left taken calls kept now = record {
+    let Ends : Change → Server → List Timer → Type 0 = λ c x l. Walks (late_ports mode (is_quiet c) l x) (restart mode) x new l left mid after in
+    let by_change : Ends change between (timers_after mode change timers) = subst (Ends change between) timers-are walks in
+    let by_visit : Ends v.change between (timers_after mode v.change timers) = subst (λ (c : Change). Ends c between (timers_after mode c timers)) visit.change_is by_change in
+    let done : Ends v.change v.server (timers_after mode v.change timers) = subst (λ (x : Server). Ends v.change x (timers_after mode v.change timers)) visit.server by_visit in
+    let calls : List Entry = v.calls ++ (walk_after mode v done.late timers).calls in
+    let pass : IsPass mode n s new timers left taken calls kept now = record {
       answers = visit.answers;
+      admitted = visit.admitted;
       late = done.late;
       late_are = done.late_are;
       table = done.server;
@@ -80,24 +83,24 @@ pass_made {before} {mid} {after} {kept} {now} clock n s between new timers after
 
 -- ---- a turn and a round
 
-abbrev service : Server → (last : ℕ) → List Timer → Service
-service s last timers = record { table = s; last = last; timers = timers }
+abbrev service : Server → (last : ℕ) → List Timer → (per_host : ℕ) → Service
+service s last timers per_host = record { table = s; last = last; timers = timers; per_host = per_host }
 
-pub turn_made : {before after : Option (List Entry)} {kept now : Option (List Keeping)} (port : Option ℕ) (n : Next) (s new : Server) (last noted_last : ℕ) (timers left : List Timer) (taken : Bool) (from : Service) → service s last timers ≡ from → port ≡ port_above last s → n ≡ next_of port → noted_last ≡ noted port → Passes Turns n s new timers left taken before after kept now → MakesTurn from (service new noted_last left) taken before after kept now
-turn_made {before} {after} {kept} {now} port n s new last noted_last timers left taken from from-is port-is n-is last-is passes =
-    let here : Passes Turns (next_of (port_above last s)) s new timers left taken before after kept now = subst (λ (m : Next). Passes Turns m s new timers left taken before after kept now) (n-is ∙ ap next_of port-is) passes in
-    let turn : IsTurn (service s last timers) (service new noted_last left) taken here.calls kept now = record { pass = here.pass; last = last-is ∙ ap noted port-is } in
-    let made : MakesTurn (service s last timers) (service new noted_last left) taken before after kept now = record { calls = here.calls; made = turn; log = here.log } in
-    subst (λ (c : Service). MakesTurn c (service new noted_last left) taken before after kept now) from-is made
+pub turn_made : {before after : Option (List Entry)} {kept now : Option (List Keeping)} (port : Option ℕ) (n : Next) (s new : Server) (last noted_last per_host : ℕ) (timers left : List Timer) (taken : Bool) (from : Service) → service s last timers per_host ≡ from → port ≡ port_above last s → n ≡ next_of port → noted_last ≡ noted port → Passes Turn n s new timers left taken before after kept now → MakesTurn from (service new noted_last left per_host) taken before after kept now
+turn_made {before} {after} {kept} {now} port n s new last noted_last per_host timers left taken from from-is port-is n-is last-is passes =
+    let here : Passes Turn (next_of (port_above last s)) s new timers left taken before after kept now = subst (λ (m : Next). Passes Turn m s new timers left taken before after kept now) (n-is ∙ ap next_of port-is) passes in
+    let turn : IsTurn (service s last timers per_host) (service new noted_last left per_host) taken here.calls kept now = record { pass = here.pass; last = last-is ∙ ap noted port-is; per_host = refl } in
+    let made : MakesTurn (service s last timers per_host) (service new noted_last left per_host) taken before after kept now = record { calls = here.calls; made = turn; log = here.log } in
+    subst (λ (c : Service). MakesTurn c (service new noted_last left per_host) taken before after kept now) from-is made
 
-pub round_made : {before mid after : Option (List Entry)} {kept now : Option (List Keeping)} (until ready : Option ℕ) (time : ℕ) (n : Next) (s new : Server) (last noted_last : ℕ) (timers left : List Timer) (taken : Bool) (from : Service) → service s last timers ≡ from → until ≡ earliest timers → n ≡ ready_next ready s → noted_last ≡ noted_or last ready → Grows before mid (waited last until ready time ∷ []) → Passes (Milliseconds time) n s new timers left taken mid after kept now → MakesRound from (service new noted_last left) taken before after kept now
-round_made {before} {mid} {after} {kept} {now} until ready time n s new last noted_last timers left taken from from-is until-is n-is last-is first passes =
-    let wait : Grows before mid (waited last (earliest timers) ready time ∷ []) = subst (λ (u : Option ℕ). Grows before mid (waited last u ready time ∷ [])) until-is first in
-    let here : Passes (Milliseconds time) (ready_next ready s) s new timers left taken mid after kept now = subst (λ (m : Next). Passes (Milliseconds time) m s new timers left taken mid after kept now) n-is passes in
-    let calls : List Entry = waited last (earliest timers) ready time ∷ here.calls in
-    let round : IsRound (service s last timers) (service new noted_last left) taken calls kept now = record { ready = ready; time = time; others = here.calls; pass = here.pass; calls_are = refl; last = last-is } in
-    let made : MakesRound (service s last timers) (service new noted_last left) taken before after kept now = record { calls = calls; made = round; log = grows_join wait here.log } in
-    subst (λ (c : Service). MakesRound c (service new noted_last left) taken before after kept now) from-is made
+pub round_made : {before mid after : Option (List Entry)} {kept now : Option (List Keeping)} (until ready : Option ℕ) (time : ℕ) (settled : Option ℕ) (n : Next) (s new : Server) (last noted_last per_host : ℕ) (timers left : List Timer) (taken : Bool) (from : Service) → service s last timers per_host ≡ from → until ≡ earliest timers → n ≡ ready_next ready s → noted_last ≡ noted_or last ready → Grows before mid (waited last until ready time settled ∷ []) → Passes (Round time settled per_host) n s new timers left taken mid after kept now → MakesRound from (service new noted_last left per_host) taken before after kept now
+round_made {before} {mid} {after} {kept} {now} until ready time settled n s new last noted_last per_host timers left taken from from-is until-is n-is last-is first passes =
+    let wait : Grows before mid (waited last (earliest timers) ready time settled ∷ []) = subst (λ (u : Option ℕ). Grows before mid (waited last u ready time settled ∷ [])) until-is first in
+    let here : Passes (Round time settled per_host) (ready_next ready s) s new timers left taken mid after kept now = subst (λ (m : Next). Passes (Round time settled per_host) m s new timers left taken mid after kept now) n-is passes in
+    let calls : List Entry = waited last (earliest timers) ready time settled ∷ here.calls in
+    let round : IsRound (service s last timers per_host) (service new noted_last left per_host) taken calls kept now = record { ready = ready; time = time; settled = settled; others = here.calls; pass = here.pass; calls_are = refl; last = last-is; per_host = refl } in
+    let made : MakesRound (service s last timers per_host) (service new noted_last left per_host) taken before after kept now = record { calls = calls; made = round; log = grows_join wait here.log } in
+    subst (λ (c : Service). MakesRound c (service new noted_last left per_host) taken before after kept now) from-is made
 
 -- ---- one after another
 

@@ -16,7 +16,7 @@ entry_of (Came port from bytes) = came port from bytes
 entry_of (Quiet port) = quiet port
 entry_of (Failed port) = failed port
 entry_of (Sent out ok) = sent out ok
-entry_of (Waited after until ready now) = waited after until ready now
+entry_of (Waited after until ready now settled) = waited after until ready now settled
 
 abbrev pub entries_of : {A : Type 0} → List (noted.Entry A) → List Entry
 entries_of entries = map entry_of entries
@@ -43,6 +43,8 @@ pub record Memory : Type 0 where
   pub fails_in : ℕ
   -- the time
   pub time : ℕ
+  -- what `wait` reports as settled beside a ready port
+  pub settled : Option ℕ
 
 abbrev pub memory_of : {A : Type 0} → wires.Inside A → Memory
 memory_of w =
@@ -54,6 +56,7 @@ memory_of w =
       failures = w.failures;
       fails_in = w.fails_in;
       time = w.time;
+      settled = w.settled;
     }
 
 -- the log, as long as it has an entry for each call
@@ -90,6 +93,7 @@ pub record SameButLog (old new : Memory) : Type 0 where
   pub inbox : new.inbox ≡ old.inbox
   pub fails_in : new.fails_in ≡ old.fails_in
   pub time : new.time ≡ old.time
+  pub settled : new.settled ≡ old.settled
 
 -- ---- `open`
 
@@ -147,6 +151,11 @@ least_above after waiting = fold (λ least one. if nat_lt after one.port then le
 -- the next port above `after` at which a datagram waits, or else the least
 abbrev pub next_ready : (after : ℕ) → List Waiting → Option ℕ
 next_ready after waiting = option_or (least_above after waiting) (least_port waiting)
+
+-- where nothing waits, all that arrived was handed out
+abbrev pub settled_by : (ready : Option ℕ) → (settled : Option ℕ) → (time : ℕ) → Option ℕ
+settled_by (Some port) settled time = settled
+settled_by None settled time = Some time
 
 -- if nothing has arrived, the clock advances to the moment that is waited for
 abbrev pub time_after : (ready until : Option ℕ) → (time : ℕ) → ℕ

@@ -4,15 +4,16 @@ use Rattle.tftp_packet.specs.declared.out.Out.{Out}
 use Rattle.archive_table.specs.Server.{Server, Merges}
 use Rattle.archive_table.specs.Keeper.{Keeping}
 use Rattle.archive_turns.specs.declared.change.Change.{Change}
-use Rattle.archive_turns.specs.declared.clock.Clock.{Clock}
+use Rattle.archive_turns.specs.declared.mode.Mode.{Mode}
 use Rattle.archive_turns.specs.declared.next.Next.{Next}
 use Rattle.archive_turns.specs.declared.timer.Timer.{Timer}
 use Rattle.archive_turns.specs.Wire.{Entry, Grows}
-use Rattle.archive_turns.specs.Turn.{Replies, Answers, Visited, Asks, KeepsAsked, IsPass, sendings, step_calls, walk}
+use Rattle.archive_turns.specs.Turn.{Replies, Receipt, Answers, Visited, Asks, KeepsAsked, IsPass, sendings, step_calls, walk}
 
 -- A visit does what its definition says for some answers, and the log has grown by its calls.
-pub record IsVisit (visit : Answers → Visited) (asks : Answers → Option Asks) (old new : Server) (taken : Bool) (change : Change) (before after : Option (List Entry)) (kept now : Option (List Keeping)) : Type 0 where
+pub record IsVisit (visit : Answers → Visited) (asks : Answers → Option Asks) (lets_in : Receipt → Bool) (old new : Server) (taken : Bool) (change : Change) (before after : Option (List Entry)) (kept now : Option (List Keeping)) : Type 0 where
   pub answers : Answers
+  pub admitted : answers.admitted ≡ lets_in answers.receipt
   pub server : new ≡ (visit answers).server
   pub taken_is : taken ≡ is_some (visit answers).taken
   pub change_is : change ≡ (visit answers).change
@@ -46,7 +47,7 @@ pub record Walks (ports : List ℕ) (due : ℕ) (old new : Server) (timers left 
   pub log : Grows before after (walk due old timers late).calls
 
 -- the state after a visit and the time-outs after it
-pub record Passes (clock : Clock) (next : Next) (old new : Server) (timers left : List Timer) (taken : Bool) (before after : Option (List Entry)) (kept now : Option (List Keeping)) : Type 0 where
+pub record Passes (mode : Mode) (next : Next) (old new : Server) (timers left : List Timer) (taken : Bool) (before after : Option (List Entry)) (kept now : Option (List Keeping)) : Type 0 where
   pub calls : List Entry
-  pub pass : IsPass clock next old new timers left taken calls kept now
+  pub pass : IsPass mode next old new timers left taken calls kept now
   pub log : Grows before after calls

@@ -127,6 +127,17 @@ pub record MakesRan (ran : (ok : Bool) → Ran) (new : Run) (before after : Opti
   pub run : new ≡ (ran ok).run
   pub log : Grows before after (ran ok).calls
 
+-- a client's step, for some verdict
+pub record ClientSteps (step : Verdict → Answer) (new : Client) (out : Option Out) : Type 0 where
+  pub verdict : Verdict
+  pub client : new ≡ (step verdict).client
+  pub out_is : out ≡ (step verdict).out
+
+-- a datagram was received, and its step was made
+pub record Takes (from : Endpoint) (bytes : List ℕ) (old new : Run) (before after : Option (List Entry)) : Type 0 where
+  pub verdict : Verdict
+  pub ran : MakesRan (λ ok. run_heard from bytes verdict old ok) new before after
+
 -- turns one after another, as long as the client is not over
 pub data Runs : (turns : ℕ) (old new : Run) (calls : List Entry) → Type 0 where
   none : (r : Run) → Runs 0 r r []

@@ -1,11 +1,11 @@
 -- When each live port times out: a list of timers, one for each live port, in the order of the ports.
-use Rattle.std.specs.Prelude.{◌≡◌, ℕ, ◌+◌, ◌-◌, ◌^◌, ◌==◌, ◌<◌, nat_lt, nat_le, min, Bool, true, false, List, [], ◌∷◌, map, fold, filter, length, Option, None, Some, if◌then◌else◌}
+use Rattle.std.specs.Prelude.{◌≡◌, ℕ, ◌+◌, ◌-◌, ◌^◌, ◌==◌, ◌<◌, ◌&&◌, ◌||◌, not, nat_lt, nat_le, min, Bool, true, false, List, [], ◌∷◌, map, fold, filter, length, Option, None, Some, if◌then◌else◌}
 use Rattle.archive_table.specs.declared.limits.TheConstants.{LIVE}
-use Rattle.archive_table.specs.Server.{Server, IsServer}
+use Rattle.archive_table.specs.Server.{Server, IsServer, has_place, is_dallying}
 use Rattle.archive_turns.specs.declared.change.Change.{Change}
-use Rattle.archive_turns.specs.declared.change.Change.TheVariants.{Quiet, Nothing, Opened, Sent, Closed}
-use Rattle.archive_turns.specs.declared.clock.Clock.{Clock}
-use Rattle.archive_turns.specs.declared.clock.Clock.TheVariants.{Turns, Milliseconds}
+use Rattle.archive_turns.specs.declared.change.Change.TheVariants.{Quiet, Nothing, Opened, Sent, Answered, Closed}
+use Rattle.archive_turns.specs.declared.mode.Mode.{Mode}
+use Rattle.archive_turns.specs.declared.mode.Mode.TheVariants.{Turn, Round}
 use Rattle.archive_turns.specs.declared.limits.TheConstants.{QUIET_TURNS, TIMEOUT}
 use Rattle.archive_turns.specs.declared.timer.Timer.{Timer}
 
@@ -43,10 +43,6 @@ lowered t = record { port = t.port; due = t.due - 1 }
 abbrev pub lower : List Timer → List Timer
 lower timers = map lowered timers
 
--- the ports that are due by `now`
-abbrev pub due_ports : (now : ℕ) → List Timer → List ℕ
-due_ports now timers = ports_of (filter (λ t. nat_le t.due now) timers)
-
 -- The timers after a visit: a port that was opened gets a new one, a port that was closed has none, and that of a port
 -- whose step sent restarts.
 abbrev pub timed : Change → (due : ℕ) → List Timer → List Timer
@@ -54,6 +50,7 @@ timed Quiet due timers = timers
 timed Nothing due timers = timers
 timed (Opened port) due timers = with_timer (record { port = port; due = due }) timers
 timed (Sent port) due timers = with_due port due timers
+timed (Answered port) due timers = timers
 timed (Closed port) due timers = without_timer port timers
 
 -- The timers after a time-out: that of the port restarts, unless the port was closed.
@@ -62,6 +59,7 @@ timed_out Quiet port due timers = with_due port due timers
 timed_out Nothing port due timers = with_due port due timers
 timed_out (Opened p) port due timers = with_due port due timers
 timed_out (Sent p) port due timers = with_due port due timers
+timed_out (Answered p) port due timers = with_due port due timers
 timed_out (Closed p) port due timers = without_timer p timers
 
 -- whether there is a place for a new timer, if one is needed
@@ -70,52 +68,69 @@ HasRoom Quiet timers = Unit {0}
 HasRoom Nothing timers = Unit {0}
 HasRoom (Opened port) timers = length timers < LIVE
 HasRoom (Sent port) timers = Unit {0}
+HasRoom (Answered port) timers = Unit {0}
 HasRoom (Closed port) timers = Unit {0}
 
--- ---- by the clock
+-- ---- by the mode of a pass
 
 -- when a port that was opened or sent at `time` times out
 abbrev pub deadline : (time : ℕ) → ℕ
 deadline time = min (time + TIMEOUT) (2 ^ 64 - 1)
 
 -- to what the timer of a port restarts
-abbrev pub restart : Clock → ℕ
-restart Turns = QUIET_TURNS
-restart (Milliseconds now) = deadline now
+abbrev pub restart : Mode → ℕ
+restart Turn = QUIET_TURNS
+restart (Round now settled per_host) = deadline now
 
 abbrev pub is_quiet : Change → Bool
 is_quiet Quiet = true
 is_quiet Nothing = false
 is_quiet (Opened port) = false
 is_quiet (Sent port) = false
+is_quiet (Answered port) = false
 is_quiet (Closed port) = false
 
 -- whether a visit counts down each timer: only quiet turns do
-abbrev pub counts : Clock → (quiet : Bool) → Bool
-counts Turns quiet = quiet
-counts (Milliseconds now) quiet = false
+abbrev pub counts : Mode → (quiet : Bool) → Bool
+counts Turn quiet = quiet
+counts (Round now settled per_host) quiet = false
+
+-- an answer to a stranger restarts a timer only where turns are counted
+abbrev pub noticed : Mode → Change → Change
+noticed mode Quiet = Quiet
+noticed mode Nothing = Nothing
+noticed mode (Opened port) = Opened port
+noticed mode (Sent port) = Sent port
+noticed Turn (Answered port) = Sent port
+noticed (Round now settled per_host) (Answered port) = Nothing
+noticed mode (Closed port) = Closed port
 
 abbrev pub timers_if : (counts_down : Bool) → Change → (due : ℕ) → List Timer → List Timer
 timers_if true change due timers = lower timers
 timers_if false change due timers = timed change due timers
 
 -- the timers after a visit
-abbrev pub timers_after : Clock → Change → List Timer → List Timer
-timers_after clock change timers = timers_if (counts clock (is_quiet change)) change (restart clock) timers
+abbrev pub timers_after : Mode → Change → List Timer → List Timer
+timers_after mode change timers = timers_if (counts mode (is_quiet change)) (noticed mode change) (restart mode) timers
 
 -- up to which value of their timers ports time out after a visit
-abbrev pub due_by : Clock → (quiet : Bool) → Option ℕ
-due_by Turns true = Some 0
-due_by Turns false = None
-due_by (Milliseconds now) quiet = Some now
+abbrev pub due_by : Mode → (quiet : Bool) → Option ℕ
+due_by Turn true = Some 0
+due_by Turn false = None
+due_by (Round now settled per_host) quiet = settled
 
-abbrev pub ports_by : Option ℕ → List Timer → List ℕ
-ports_by (Some now) timers = due_ports now timers
-ports_by None timers = []
+-- Where all places are taken, a transfer that only waits for a repeated last block gives way.
+abbrev pub gives_way : Mode → (port : ℕ) → Server → Bool
+gives_way Turn port s = false
+gives_way (Round now settled per_host) port s = not (has_place s) && is_dallying port s
 
--- the ports that time out after a visit, by the timers after it
-abbrev pub late_ports : Clock → Change → List Timer → List ℕ
-late_ports clock change timers = ports_by (due_by clock (is_quiet change)) timers
+abbrev pub is_due : Option ℕ → Timer → Bool
+is_due (Some now) t = nat_le t.due now
+is_due None t = false
+
+-- the ports that time out after a visit: those that are due, and those that give way
+abbrev pub late_ports : Mode → (quiet : Bool) → List Timer → Server → List ℕ
+late_ports mode quiet timers s = ports_of (filter (λ t. is_due (due_by mode quiet) t || gives_way mode t.port s) timers)
 
 -- ---- how long the wire waits
 

@@ -1,19 +1,22 @@
 -- One turn or round of a server: which calls of the wire it makes, in which order, and which steps of the table. What the
 -- wire returns is an argument, and so is what the steps are granted. A client's turn is in `Run`.
-use Rattle.std.specs.Prelude.{◌≡◌, ℕ, ◌==◌, ◌&&◌, not, Bool, true, false, ◌+◌, List, [], ◌∷◌, ◌++◌, map, fold, Option, None, Some, is_some}
+use Rattle.std.specs.Prelude.{◌≡◌, ℕ, ◌==◌, ◌&&◌, ◌||◌, not, nat_lt, Bool, true, false, ◌+◌, ◌/◌, ◌^◌, List, [], ◌∷◌, ◌++◌, map, fold, count_by, Option, None, Some, is_some, option_map, unwrap_or, Result, Ok, Err}
 use Rattle.tftp_packet.specs.declared.endpoint.Endpoint.{Endpoint}
 use Rattle.tftp_packet.specs.declared.out.Out.{Out}
+use Rattle.tftp_packet.specs.declared.packet_fault.PacketFault.{PacketFault}
+use Rattle.tftp_packet.specs.Packet.{Packet, read, write, data_block, ack, error}
+use Rattle.tftp_packet.specs.Decode.{decode_bytes}
 use Rattle.tftp_ends.specs.Ends.{Verdict}
-use Rattle.archive_table.specs.Server.{Server, Maps, Taken, Answer, Grant, all, Merges, transfer_at, port_above, server_request, server_datagram, server_timeout}
+use Rattle.archive_table.specs.Server.{Server, Maps, Taken, Answer, Grant, all, Merges, transfer_at, peer_at, is_same, port_above, server_request, server_datagram, server_timeout}
 use Rattle.archive_table.specs.Keeper.{Keeping, StepKeeps}
 use Rattle.archive_turns.specs.declared.change.Change.{Change}
-use Rattle.archive_turns.specs.declared.change.Change.TheVariants.{Quiet, Nothing, Opened, Sent, Closed}
-use Rattle.archive_turns.specs.declared.clock.Clock.{Clock}
-use Rattle.archive_turns.specs.declared.clock.Clock.TheVariants.{Turns, Milliseconds}
+use Rattle.archive_turns.specs.declared.change.Change.TheVariants.{Quiet, Nothing, Opened, Sent, Answered, Closed}
+use Rattle.archive_turns.specs.declared.mode.Mode.{Mode}
+use Rattle.archive_turns.specs.declared.mode.Mode.TheVariants.{Turn, Round}
 use Rattle.archive_turns.specs.declared.next.Next.{Next}
 use Rattle.archive_turns.specs.declared.next.Next.TheVariants as next
 use Rattle.archive_turns.specs.declared.timer.Timer.{Timer}
-use Rattle.archive_turns.specs.Timers.{timed_out, timers_after, late_ports, restart, earliest}
+use Rattle.archive_turns.specs.Timers.{timed_out, timers_after, is_quiet, late_ports, restart, earliest}
 use Rattle.archive_turns.specs.Wire.{Entry, opened, closed, came, quiet, failed, sent, waited, Grows}
 
 -- ---- what is returned and granted
@@ -32,6 +35,8 @@ pub data Receipt : Type 0 where
 -- In a visit to a port. What is not asked for has no effect.
 pub record Answers : Type 0 where
   pub receipt : Receipt
+  -- whether a datagram at the request port is let in
+  pub admitted : Bool
   -- by `open`
   pub spare : Option ℕ
   -- what a request is granted
@@ -66,17 +71,22 @@ pub record Visited : Type 0 where
 
 -- ---- a transfer's port
 
-abbrev pub transfer_change : (closed : Bool) → Option Out → (port : ℕ) → Change
-transfer_change true out port = Closed port
-transfer_change false (Some out) port = Sent port
-transfer_change false None port = Nothing
+-- by whether the step answers its peer
+abbrev pub sent_change : (to_peer : Bool) → (port : ℕ) → Change
+sent_change true port = Sent port
+sent_change false port = Answered port
 
-abbrev pub transfer_stepped : (port : ℕ) → Replies → (before : List Entry) → Answer → Visited
-transfer_stepped port replies before a =
+abbrev pub transfer_change : (closed : Bool) → Option Out → (to_peer : Bool) → (port : ℕ) → Change
+transfer_change true out to_peer port = Closed port
+transfer_change false (Some out) to_peer port = sent_change to_peer port
+transfer_change false None to_peer port = Nothing
+
+abbrev pub transfer_stepped : (port : ℕ) → (to_peer : Bool) → Replies → (before : List Entry) → Answer → Visited
+transfer_stepped port to_peer replies before a =
     record {
       server = a.server;
       taken = a.told.taken;
-      change = transfer_change a.told.closed a.told.out port;
+      change = transfer_change a.told.closed a.told.out to_peer port;
       calls = before ++ step_calls a.told.closed port a.told.out replies;
     }
 
@@ -84,9 +94,13 @@ transfer_stepped port replies before a =
 abbrev pub quiet_visit : Entry → Server → Visited
 quiet_visit call s = record { server = s; taken = None; change = Quiet; calls = call ∷ [] }
 
+-- whether this endpoint is the peer of the transfer at a port
+abbrev pub is_peer : (from : Endpoint) → (port : ℕ) → Server → Bool
+is_peer from port s = unwrap_or (option_map (is_same from) (peer_at port s)) false
+
 abbrev pub transfer_received : Receipt → Answers → (port : ℕ) → Server → Visited
 transfer_received (datagram from bytes) a port s =
-    transfer_stepped port a.replies (came port from bytes ∷ []) (server_datagram a.grant a.maps port from bytes s)
+    transfer_stepped port (is_peer from port s) a.replies (came port from bytes ∷ []) (server_datagram a.grant a.maps port from bytes s)
 transfer_received nothing a port s = quiet_visit (quiet port) s
 transfer_received fault a port s = quiet_visit (failed port) s
 
@@ -96,7 +110,7 @@ transfer_visit a port s = transfer_received a.receipt a port s
 
 -- a time-out at a transfer's port
 abbrev pub timeout_visit : Replies → (port : ℕ) → Server → Visited
-timeout_visit replies port s = transfer_stepped port replies [] (server_timeout port s)
+timeout_visit replies port s = transfer_stepped port true replies [] (server_timeout port s)
 
 -- ---- the request port
 
@@ -136,9 +150,14 @@ request_spared None verdict replies from bytes s = lost_visit (opened None ∷ [
 abbrev pub preceded : Entry → Visited → Visited
 preceded call v = record { server = v.server; taken = v.taken; change = v.change; calls = call ∷ v.calls }
 
+-- A datagram that is not let in is lost.
+abbrev pub request_admitted : (admitted : Bool) → Answers → (from : Endpoint) (bytes : List ℕ) → Server → Visited
+request_admitted true a from bytes s = request_spared a.spare a.verdict a.replies from bytes s
+request_admitted false a from bytes s = lost_visit [] s
+
 abbrev pub request_received : Receipt → Answers → Server → Visited
 request_received (datagram from bytes) a s =
-    preceded (came s.request from bytes) (request_spared a.spare a.verdict a.replies from bytes s)
+    preceded (came s.request from bytes) (request_admitted a.admitted a from bytes s)
 request_received nothing a s = quiet_visit (quiet s.request) s
 request_received fault a s = quiet_visit (failed s.request) s
 
@@ -199,18 +218,56 @@ next_asks (next.Transfer port) a s = transfer_asks a port s
 next_asks next.Nowhere a s = None
 
 -- After a visit each port that is due times out.
-abbrev pub walk_after : Clock → Visited → (late : List (ℕ × Replies)) → List Timer → Walk
-walk_after clock v late timers = walk (restart clock) v.server (timers_after clock v.change timers) late
+abbrev pub walk_after : Mode → Visited → (late : List (ℕ × Replies)) → List Timer → Walk
+walk_after mode v late timers = walk (restart mode) v.server (timers_after mode v.change timers) late
 
--- What a server does by this clock, once it knows what it visits next: the visit, and the time-outs after it. `late` has
--- the results of the calls after each time-out.
-pub record IsPass (clock : Clock) (next : Next) (old new : Server) (timers left : List Timer) (taken : Bool) (calls : List Entry) (kept now : Option (List Keeping)) : Type 0 where
+-- ---- what is let in
+
+-- the loopback range is this host's own
+abbrev pub is_loopback : (host : ℕ) → Bool
+is_loopback host = host / 2 ^ 24 == 127
+
+abbrev pub is_from : (host : ℕ) → Option Endpoint → Bool
+is_from host None = false
+is_from host (Some peer) = peer.host == host
+
+-- how many transfers are with a host
+abbrev pub count_from : (host : ℕ) → List Timer → Server → ℕ
+count_from host timers s = count_by (λ t. is_from host (peer_at t.port s)) timers
+
+abbrev pub asks_for : Result Packet PacketFault → Bool
+asks_for (Ok (read name mode)) = true
+asks_for (Ok (write name mode)) = true
+asks_for (Ok (data_block n body)) = false
+asks_for (Ok (ack n)) = false
+asks_for (Ok (error code text)) = false
+asks_for (Err e) = false
+
+-- A round lets in only requests, and only from a host that has fewer transfers than it may have.
+abbrev pub admits : Mode → List Timer → Receipt → Server → Bool
+admits Turn timers receipt s = true
+admits (Round now settled per_host) timers (datagram from bytes) s =
+    asks_for (decode_bytes bytes) && (is_loopback from.host || nat_lt (count_from from.host timers s) per_host)
+admits (Round now settled per_host) timers nothing s = true
+admits (Round now settled per_host) timers fault s = true
+
+abbrev pub next_admits : Mode → Next → List Timer → Receipt → Server → Bool
+next_admits mode next.Request timers receipt s = admits mode timers receipt s
+next_admits mode (next.Transfer port) timers receipt s = true
+next_admits mode next.Nowhere timers receipt s = true
+
+-- ---- a pass
+
+-- What a server does once it knows what it visits next: the visit, and the time-outs after it. `late` has the results of
+-- the calls after each time-out.
+pub record IsPass (mode : Mode) (next : Next) (old new : Server) (timers left : List Timer) (taken : Bool) (calls : List Entry) (kept now : Option (List Keeping)) : Type 0 where
   pub answers : Answers
+  pub admitted : answers.admitted ≡ next_admits mode next timers answers.receipt old
   pub late : List (ℕ × Replies)
-  pub late_are : map (λ e. e.0) late ≡ late_ports clock (next_visit next answers old).change (timers_after clock (next_visit next answers old).change timers)
-  pub table : new ≡ (walk_after clock (next_visit next answers old) late timers).server
-  pub timers_are : left ≡ (walk_after clock (next_visit next answers old) late timers).timers
-  pub calls_are : calls ≡ (next_visit next answers old).calls ++ (walk_after clock (next_visit next answers old) late timers).calls
+  pub late_are : map (λ e. e.0) late ≡ late_ports mode (is_quiet (next_visit next answers old).change) (timers_after mode (next_visit next answers old).change timers) (next_visit next answers old).server
+  pub table : new ≡ (walk_after mode (next_visit next answers old) late timers).server
+  pub timers_are : left ≡ (walk_after mode (next_visit next answers old) late timers).timers
+  pub calls_are : calls ≡ (next_visit next answers old).calls ++ (walk_after mode (next_visit next answers old) late timers).calls
   pub taken_is : taken ≡ is_some (next_visit next answers old).taken
   -- the visit changes the collections as the table's calls do
   pub merges : Merges (next_visit next answers old).taken old.maps (next_visit next answers old).server.maps
@@ -224,6 +281,12 @@ pub record Service : Type 0 where
   pub last : ℕ
   -- for each live port how many quiet turns are left until it times out, or the time at which it does
   pub timers : List Timer
+  -- in rounds, the most transfers of one host
+  pub per_host : ℕ
+
+-- a server with this table, before its first turn or round
+abbrev pub fresh_server : (per_host : ℕ) → Server → Service
+fresh_server per_host table = record { table = table; last = 0; timers = []; per_host = per_host }
 
 abbrev pub next_of : Option ℕ → Next
 next_of (Some port) = next.Transfer port
@@ -240,8 +303,9 @@ turn_next s = next_of (port_above s.last s.table)
 
 -- One turn of the server that counts its quiet turns.
 pub record IsTurn (old new : Service) (taken : Bool) (calls : List Entry) (kept now : Option (List Keeping)) : Type 0 where
-  pub pass : IsPass Turns (turn_next old) old.table new.table old.timers new.timers taken calls kept now
+  pub pass : IsPass Turn (turn_next old) old.table new.table old.timers new.timers taken calls kept now
   pub last : new.last ≡ noted (port_above old.last old.table)
+  pub per_host : new.per_host ≡ old.per_host
 
 abbrev pub port_next : (is_request : Bool) → (port : ℕ) → Next
 port_next true port = next.Request
@@ -256,16 +320,18 @@ abbrev pub noted_or : (last : ℕ) → Option ℕ → ℕ
 noted_or last (Some port) = port
 noted_or last None = last
 
--- One round: a wait, a visit to the ready port, and the time-outs of the ports that are due, however busy the wire is. Its
--- time is that of the wire's clock, in milliseconds. The wait asks for the next port above the last one, so that none
--- starves if the wire returns that port.
+-- One round: a wait, a visit to the ready port, and the time-outs of the ports that were due when all that had arrived was
+-- handed out. Its time is that of the wire's clock, in milliseconds. The wait asks for the next port above the last one,
+-- so that none starves if the wire returns that port.
 pub record IsRound (old new : Service) (taken : Bool) (calls : List Entry) (kept now : Option (List Keeping)) : Type 0 where
   pub ready : Option ℕ
   pub time : ℕ
+  pub settled : Option ℕ
   pub others : List Entry
-  pub pass : IsPass (Milliseconds time) (ready_next ready old.table) old.table new.table old.timers new.timers taken others kept now
-  pub calls_are : calls ≡ waited old.last (earliest old.timers) ready time ∷ others
+  pub pass : IsPass (Round time settled old.per_host) (ready_next ready old.table) old.table new.table old.timers new.timers taken others kept now
+  pub calls_are : calls ≡ waited old.last (earliest old.timers) ready time settled ∷ others
   pub last : new.last ≡ noted_or old.last ready
+  pub per_host : new.per_host ≡ old.per_host
 
 -- ---- one after another
 

@@ -18,8 +18,9 @@ pub data Entry : Type 0 where
   failed : (port : ℕ) → Entry
   -- `send`, and whether it succeeded
   sent : (out : Out) (ok : Bool) → Entry
-  -- `wait` for a ready port after this one, until this moment: the ready port, and the time
-  waited : (after : ℕ) (until : Option ℕ) (ready : Option ℕ) (now : ℕ) → Entry
+  -- `wait` for a ready port after this one, until this moment: the ready port, the time, and the time up to which all
+  -- that arrived was handed out, if that was just found
+  waited : (after : ℕ) (until : Option ℕ) (ready : Option ℕ) (now : ℕ) (settled : Option ℕ) → Entry
 
 -- ---- the entry of a call, by its result
 

@@ -10,8 +10,10 @@ pub(crate) enum Change {
     Nothing,
     /// A transfer was opened on this port.
     Opened(u16),
-    /// A step at this port sent a datagram.
+    /// A step at this port sent a datagram to its peer.
     Sent(u16),
+    /// A step at this port answered a stranger.
+    Answered(u16),
     /// The transfer at this port has ended.
     Closed(u16),
 }
@@ -26,6 +28,7 @@ impl Change {
             Change::Nothing => false,
             Change::Opened(_) => false,
             Change::Sent(_) => false,
+            Change::Answered(_) => false,
             Change::Closed(_) => false,
         }
     }

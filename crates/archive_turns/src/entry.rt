@@ -40,5 +40,7 @@ pub enum Entry<A: Allocator = Global> {
         ready: Option<u16>,
         /// The time.
         now: u64,
+        /// The time up to which all that arrived was handed out, if that was just found.
+        settled: Option<u64>,
     },
 }

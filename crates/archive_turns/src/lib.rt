@@ -6,15 +6,15 @@
 
 mod arrival;
 mod change;
-mod clock;
 mod entry;
-mod get_run;
 mod laws;
 mod limits;
 mod memory_wire;
+mod mode;
 mod next;
-mod put_run;
 mod ready_wire;
+mod run;
+mod run_client;
 mod run_fault;
 mod runs;
 mod serve;
@@ -25,15 +25,15 @@ mod visit;
 mod wire;
 mod wire_fault;
 
-pub use clock::Clock;
 pub use entry::Entry;
-pub use get_run::GetRun;
 pub use laws::limit_values;
 pub use limits::{QUIET_TURNS, TIMEOUT};
 pub use memory_wire::MemoryWire;
+pub use mode::Mode;
 pub use next::Next;
-pub use put_run::PutRun;
 pub use ready_wire::{Ready, ReadyWire};
+pub use run::{GetRun, PutRun, Run};
+pub use run_client::RunClient;
 pub use run_fault::RunFault;
 pub use runs::{run_get, run_put};
 pub use serve::{serve_rounds, serve_turns};

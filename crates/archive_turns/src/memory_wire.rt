@@ -4,7 +4,7 @@ ghost use Rattle.std.specs.Prelude.{◌≡◌, ◌≢◌, ◌==◌, ◌≤◌, [
 ghost use Rattle.std.specs.List.{position};
 ghost use Rattle.std.specs.Option.{option_map};
 ghost use Rattle.archive_table.specs.Keeper.{FailsAt};
-ghost use Rattle.archive_turns.specs.Noted.{entry_of, entries_of, waiting_of, arrives, counts_call, rises, notes, log_of, SameButLog, first_port, port_taken, takes_port, first_to, without_first, receipt, takes_arrival, lesser, next_ready, time_after};
+ghost use Rattle.archive_turns.specs.Noted.{entry_of, entries_of, waiting_of, arrives, counts_call, rises, notes, log_of, SameButLog, first_port, port_taken, takes_port, first_to, without_first, receipt, takes_arrival, lesser, next_ready, settled_by, time_after};
 ghost use Rattle.archive_turns.specs.Wire.{Grows, opened, closed, sent, port_opened, was_done, came, received, quiet, failed, waited};
 
 use crate::arrival::Arrival;
@@ -28,6 +28,7 @@ pub struct MemoryWire<A: Allocator = Global> {
     failures: u64,
     fails_in: u64,
     time: u64,
+    settled: Option<u64>,
 }
 
 impl<A: Allocator> Model for MemoryWire<A> {
@@ -41,7 +42,7 @@ impl<A: Allocator> Model for MemoryWire<A> {
 impl<A: Allocator + Copy> MemoryWire<A> {
     /// Returns a wire whose `open` returns these ports, in order, and at which nothing has arrived. Its clock is at 0.
     pub fn new(alloc: A, opens: Vec<u16, A>) -> Self
-        ensures { result ≡ record { opens = opens.items; inbox = []; log = []; telling = true; failures = 0; fails_in = 0; time = 0 } }
+        ensures { result ≡ record { opens = opens.items; inbox = []; log = []; telling = true; failures = 0; fails_in = 0; time = 0; settled = None } }
     {
         MemoryWire {
             opens,
@@ -51,6 +52,7 @@ impl<A: Allocator + Copy> MemoryWire<A> {
             failures: 0,
             fails_in: 0,
             time: 0,
+            settled: None,
         }
     }
 
@@ -89,6 +91,13 @@ impl<A: Allocator + Copy> MemoryWire<A> {
         ensures { self.new ≡ record self.old { time = time } }
     {
         self.time = time;
+    }
+
+    /// Sets what `wait` reports as settled while datagrams wait.
+    pub fn set_settled(&mut self, settled: Option<u64>)
+        ensures { self.new ≡ record self.old { settled = settled } }
+    {
+        self.settled = settled;
     }
 
     /// An entry for each call, in order, as long as the wire is `telling`.
@@ -344,26 +353,40 @@ fn end_of_wait(ready: Option<u16>, until: Option<u64>, time: u64) -> u64
     }
 }
 
+// What is settled at this time: all, if no port is ready, and otherwise what the test has set.
+fn settled_at(ready: Option<u16>, settled: Option<u64>, time: u64) -> Option<u64>
+    ensures { result ≡ settled_by ready settled time }
+{
+    match ready {
+        Some(_) => settled,
+        None => Some(time),
+    }
+}
+
 impl<A: Allocator> ReadyWire for MemoryWire<A> {
     fn wait(&mut self, after: u16, until: Option<u64>) -> Ready
-        ensures log { Grows (log_of self.old) (log_of self.new) (waited after until result.port result.time ∷ []) }
+        ensures log { Grows (log_of self.old) (log_of self.new) (waited after until result.port result.time result.settled ∷ []) }
         ensures ready { result.port ≡ next_ready after self.old.inbox }
         ensures time { result.time ≡ time_after result.port until self.old.time }
+        ensures settled { result.settled ≡ settled_by result.port self.old.settled result.time }
         ensures left { SameButLog (record self.old { time = result.time }) self.new }
         ensures steady { self.new.failures ≡ self.old.failures }
     {
         let ready = next_at(self.inbox.as_slice(), after);
         let now = end_of_wait(ready, until, self.time);
+        let settled = settled_at(ready, self.settled, now);
         self.time = now;
         self.note(Entry::Waited {
             after,
             until,
             ready,
             now,
+            settled,
         });
         Ready {
             port: ready,
             time: now,
+            settled,
         }
     }
 }

@@ -10,6 +10,9 @@ pub struct Ready {
     pub port: Option<u16>,
     /// The time of the wire's clock, in milliseconds.
     pub time: u64,
+    /// The time up to which all that arrived was handed out, if the wire has just found that: each port at which a
+    /// datagram waited then was returned since. So nothing waited then at a port that was not returned.
+    pub settled: Option<u64>,
 }
 
 /// A wire that reports which port is ready, and has a clock.
@@ -17,5 +20,5 @@ pub trait ReadyWire: Wire {
     /// Waits until a datagram arrives at a port, or until the moment `until` of the wire's clock, if there is one.
     /// Returns the next ready port above `after`, or the least of all if there is none above, and the time.
     fn wait(&mut self, after: u16, until: Option<u64>) -> Ready
-        ensures { Grows (Self.log self.old) (Self.log self.new) (waited after until result.port result.time ∷ []) };
+        ensures { Grows (Self.log self.old) (Self.log self.new) (waited after until result.port result.time result.settled ∷ []) };
 }

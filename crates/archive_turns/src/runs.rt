@@ -3,8 +3,7 @@
 ghost use Rattle.std.specs.Prelude.{◌≡◌};
 ghost use Rattle.archive_turns.specs.Run.{RunsPut, RunsGet, EndsPut, EndsGet, WritesGot, put_result, fault_of, unfinished};
 
-use crate::get_run::GetRun;
-use crate::put_run::PutRun;
+use crate::run::{GetRun, PutRun};
 use crate::run_fault::RunFault;
 use crate::wire::Wire;
 use archive_client::{Cause, Get, State};

@@ -5,15 +5,15 @@ ghost use Rattle.archive_table.specs.Server.{empty_server, IsServer, port_above}
 ghost use Rattle.archive_table.specs.Keeper.{HasLoaded, TableFails, FailsAt};
 ghost use Rattle.archive_turns.specs.Timers.{Tracks};
 ghost use Rattle.archive_turns.specs.Parts.{IsVisit, Passes};
-ghost use Rattle.archive_turns.specs.Turn.{MakesTurn, MakesRound, next_visit, next_asks, next_of, ready_next, noted, noted_or};
+ghost use Rattle.archive_turns.specs.Turn.{MakesTurn, MakesRound, fresh_server, next_visit, next_asks, next_admits, next_of, ready_next, noted, noted_or};
 
-use crate::clock::Clock;
+use crate::mode::Mode;
 use crate::next::Next;
 use crate::ready_wire::ReadyWire;
 use crate::timers::Timers;
 use crate::visit::{Visit, time_out_late, visit_request, visit_transfer};
 use crate::wire::Wire;
-use archive_table::{KeepFault, Keeper, LoadFault, Table};
+use archive_table::{KeepFault, Keeper, LIVE, LoadFault, Table};
 use std::alloc::{Allocator, Global};
 use std::marker::Model;
 
@@ -24,6 +24,7 @@ pub struct Server<A: Allocator + Copy = Global> {
     table: Table<A>,
     last: u16,
     timers: Timers,
+    per_host: usize,
 }
 
 impl<A: Allocator + Copy> Model for Server<A> {
@@ -64,13 +65,15 @@ fn visit<A: Allocator + Copy, W: Wire, K: Keeper>(
     table: &mut Table<A>,
     wire: &mut W,
     keeper: &mut K,
+    timers: &Timers,
+    mode: Mode,
     next: Next,
 ) -> Visit
-    ensures visit { IsVisit (λ a. next_visit next a table.old) (λ a. next_asks next a table.old) table.old table.new result.taken result.change (W.log wire.old) (W.log wire.new) (K.log keeper.old) (K.log keeper.new) }
+    ensures visit { IsVisit (λ a. next_visit next a table.old) (λ a. next_asks next a table.old) (λ r. next_admits mode next timers.now r table.old) table.old table.new result.taken result.change (W.log wire.old) (W.log wire.new) (K.log keeper.old) (K.log keeper.new) }
     ensures fits { IsServer table.old → IsServer table.new }
 {
     match next {
-        Next::Request => visit_request(table, wire),
+        Next::Request => visit_request(table, wire, timers, mode),
         Next::Transfer(port) => visit_transfer(table, wire, keeper, port),
         Next::Nowhere => Visit::LOST,
     }
@@ -82,16 +85,16 @@ fn pass<A: Allocator + Copy, W: Wire, K: Keeper>(
     wire: &mut W,
     keeper: &mut K,
     timers: &mut Timers,
-    clock: Clock,
+    mode: Mode,
     next: Next,
 ) -> bool
     requires { Tracks table.old timers.old }
-    ensures passes { Passes clock next table.old table.new timers.old timers.new result (W.log wire.old) (W.log wire.new) (K.log keeper.old) (K.log keeper.new) }
+    ensures passes { Passes mode next table.old table.new timers.old timers.new result (W.log wire.old) (W.log wire.new) (K.log keeper.old) (K.log keeper.new) }
     ensures tracks { Tracks table.new timers.new }
 {
-    let visit = visit(table, wire, keeper, next);
-    timers.apply(clock, visit.change);
-    time_out_late(table, wire, timers, clock, visit.change);
+    let visit = visit(table, wire, keeper, timers, mode, next);
+    timers.apply(mode, visit.change);
+    time_out_late(table, wire, timers, mode, visit.change);
     visit.taken
 }
 
@@ -119,7 +122,7 @@ impl<A: Allocator + Copy> Server<A> {
     /// Returns a server with this request port, empty collections and no transfer, which has visited no port yet. Does
     /// not allocate.
     pub fn new(alloc: A, request: u16) -> Self
-        ensures { result ≡ record { table = empty_server request; last = 0; timers = [] } }
+        ensures { result ≡ fresh_server LIVE (empty_server request) }
     {
         Self::of(Table::new(alloc, request))
     }
@@ -132,7 +135,7 @@ impl<A: Allocator + Copy> Server<A> {
     /// Those of `Table::load`.
     pub fn load<K: Keeper>(alloc: A, request: u16, keeper: &mut K) -> Result<Self, LoadFault>
         ensures loaded { IfOk result (λ s. HasLoaded request (K.log keeper.old) s.table) }
-        ensures fresh { IfOk result (λ s. s ≡ record { table = s.table; last = 0; timers = [] }) }
+        ensures fresh { IfOk result (λ s. s ≡ fresh_server LIVE s.table) }
         ensures fault { IfErr result (TableFails (K.log keeper.old)) }
         ensures log { K.log keeper.new ≡ K.log keeper.old }
         ensures failed { result ≡ Err (LoadFault.Keep KeepFault.Device) → FailsAt (K.failed keeper.old) (K.failed keeper.new) }
@@ -147,13 +150,22 @@ impl<A: Allocator + Copy> Server<A> {
     fn of(table: Table<A>) -> Self
         requires idle { table.live ≡ [] }
         requires fits { IsServer table }
-        ensures { result ≡ record { table = table; last = 0; timers = [] } }
+        ensures { result ≡ fresh_server LIVE table }
     {
         Server {
             table,
             last: 0,
             timers: Timers::new(),
+            per_host: LIVE,
         }
+    }
+
+    /// Sets how many transfers one host may have in rounds; a request beyond that is lost. Clients on the server's own
+    /// host, at addresses of the loopback range, are not counted. At first it is `LIVE`.
+    pub fn limit_per_host(&mut self, per_host: usize)
+        ensures { self.new ≡ record self.old { per_host = per_host } }
+    {
+        self.per_host = per_host;
     }
 
     /// Makes one turn: visits the least live port above the last one, or the request port if there is none. Returns
@@ -172,13 +184,18 @@ impl<A: Allocator + Copy> Server<A> {
             wire,
             keeper,
             &mut self.timers,
-            Clock::Turns,
+            Mode::Turn,
             next_at(port),
         )
     }
 
-    /// Makes one round: waits for a ready port, visits it as a turn does, and lets each transfer time out that was
-    /// opened or last sent `TIMEOUT` milliseconds ago or earlier. Returns whether a file was taken.
+    /// Makes one round: waits for a ready port, visits it as a turn does, and lets transfers time out. Returns whether a
+    /// file was taken.
+    ///
+    /// A datagram at the request port that is no request costs no port, and neither does one of a host that has as many
+    /// transfers as it may have. A transfer times out `TIMEOUT` milliseconds after it was opened or last sent to its
+    /// peer, once all that had arrived by then was handed out. One that only waits for a repeated last block gives way
+    /// when all places are taken.
     pub fn round<W: ReadyWire, K: Keeper>(&mut self, wire: &mut W, keeper: &mut K) -> bool
         ensures { MakesRound self.old self.new result (W.log wire.old) (W.log wire.new) (K.log keeper.old) (K.log keeper.new) }
     {
@@ -190,7 +207,11 @@ impl<A: Allocator + Copy> Server<A> {
             wire,
             keeper,
             &mut self.timers,
-            Clock::Milliseconds(ready.time),
+            Mode::Round {
+                now: ready.time,
+                settled: ready.settled,
+                per_host: self.per_host,
+            },
             next,
         )
     }

@@ -1,13 +1,16 @@
 ghost use Rattle.std.specs.Prelude.{◌≡◌, ℕ, ◌<◌, ◌≤◌, [], length, map, take, drop, IfSome, IfNone};
 ghost use Rattle.std.specs.List.{insert, remove};
-ghost use Rattle.archive_turns.specs.Timers.{with_timer, without_timer, with_due, renewed, lower, lowered, due_ports, late_ports, timed, timed_out, timers_after, restart, earlier, earliest, HasRoom};
+ghost use Rattle.archive_turns.specs.Timers.{with_timer, without_timer, with_due, renewed, lower, lowered, late_ports, is_due as due_at, gives_way as way_given, is_quiet, timed, timed_out, timers_after, restart, earlier, earliest, HasRoom};
+ghost use Rattle.archive_turns.specs.Turn.{is_from as from_host, count_from};
 
 use crate::change::Change;
-use crate::clock::Clock;
+use crate::mode::Mode;
 use crate::timer::Timer;
-use archive_table::LIVE;
+use archive_table::{LIVE, Table};
 use arrayvec::ArrayVec;
+use std::alloc::Allocator;
 use std::marker::Model;
+use tftp_packet::Endpoint;
 
 /// A timer for each live port, in the order of the ports. They are in a fixed row of `LIVE` places and allocate
 /// nothing.
@@ -101,6 +104,36 @@ fn earlier_of(least: Option<u64>, timer: Timer) -> Option<u64>
     }
 }
 
+// Whether a port is due, if any is by `by`.
+fn is_due(by: Option<u64>, timer: Timer) -> bool
+    ensures { result ≡ due_at by timer }
+{
+    match by {
+        Some(now) => timer.due <= now,
+        None => false,
+    }
+}
+
+// Whether the transfer at a port only waits for a repeated last block, while all places are taken.
+fn gives_way<A: Allocator + Copy>(mode: Mode, port: u16, table: &Table<A>) -> bool
+    ensures { result ≡ way_given mode port table.now }
+{
+    match mode {
+        Mode::Turn => false,
+        Mode::Round { .. } => table.live() >= LIVE && table.is_dallying(port),
+    }
+}
+
+// Whether a peer is on this host.
+fn is_from(host: u32, peer: Option<Endpoint>) -> bool
+    ensures { result ≡ from_host host peer }
+{
+    match peer {
+        None => false,
+        Some(peer) => peer.host == host,
+    }
+}
+
 impl Timers {
     /// Returns one without timers.
     pub(crate) fn new() -> Self
@@ -112,14 +145,14 @@ impl Timers {
     }
 
     /// Updates the timers after a visit.
-    pub(crate) fn apply(&mut self, clock: Clock, change: Change)
+    pub(crate) fn apply(&mut self, mode: Mode, change: Change)
         requires { HasRoom change self.old }
-        ensures { self.new ≡ timers_after clock change self.old }
+        ensures { self.new ≡ timers_after mode change self.old }
     {
-        if clock.counts(change) {
+        if mode.counts(change) {
             self.lower();
         } else {
-            self.follow(change, clock.restart());
+            self.follow(mode.noticed(change), mode.restart());
         }
     }
 
@@ -129,7 +162,7 @@ impl Timers {
         ensures { self.new ≡ timed change due self.old }
     {
         match change {
-            Change::Quiet | Change::Nothing => {}
+            Change::Quiet | Change::Nothing | Change::Answered(_) => {}
             Change::Opened(port) => {
                 let place = place_for(self.row.as_slice(), port);
                 self.row.insert(place, Timer { port, due });
@@ -140,13 +173,17 @@ impl Timers {
     }
 
     /// Updates the timers after a time-out of a port.
-    pub(crate) fn apply_timeout(&mut self, clock: Clock, change: Change, port: u16)
-        ensures { self.new ≡ timed_out change port (restart clock) self.old }
+    pub(crate) fn apply_timeout(&mut self, mode: Mode, change: Change, port: u16)
+        ensures { self.new ≡ timed_out change port (restart mode) self.old }
     {
         match change {
             Change::Closed(port) => self.remove(port),
-            Change::Quiet | Change::Nothing | Change::Opened(_) | Change::Sent(_) => {
-                self.renew(port, clock.restart());
+            Change::Quiet
+            | Change::Nothing
+            | Change::Opened(_)
+            | Change::Sent(_)
+            | Change::Answered(_) => {
+                self.renew(port, mode.restart());
             }
         }
     }
@@ -174,27 +211,34 @@ impl Timers {
         lower_in(self.row.as_mut_slice());
     }
 
-    /// The ports that time out after a visit, in order.
-    pub(crate) fn late(&self, clock: Clock, change: Change) -> ArrayVec<u16, LIVE>
-        ensures { result.items ≡ late_ports clock change self.now }
+    /// The ports that time out after a visit, in order: those that are due, and those that give way.
+    pub(crate) fn late<A: Allocator + Copy>(
+        &self,
+        mode: Mode,
+        change: Change,
+        table: &Table<A>,
+    ) -> ArrayVec<u16, LIVE>
+        ensures { result.items ≡ late_ports mode (is_quiet change) self.now table.now }
     {
-        match clock.due_by(change) {
-            Some(by) => self.due(by),
-            None => ArrayVec::new(),
-        }
-    }
-
-    // The ports that are due by `now`, in order.
-    fn due(&self, now: u64) -> ArrayVec<u16, LIVE>
-        ensures { result.items ≡ due_ports now self.now }
-    {
+        let by = mode.due_by(change);
         let mut ports = ArrayVec::new();
         for timer in self.row.as_slice() {
-            if timer.due <= now {
+            if is_due(by, *timer) || gives_way(mode, timer.port, table) {
                 ports.push(timer.port);
             }
         }
         ports
+    }
+
+    /// How many transfers are with this host.
+    pub(crate) fn count_from<A: Allocator + Copy>(&self, host: u32, table: &Table<A>) -> usize
+        ensures { result ≡ count_from host self.now table.now }
+    {
+        let timers = self.row.as_slice();
+        timers
+            .iter()
+            .filter(|timer| is_from(host, table.peer(timer.port)))
+            .count()
     }
 
     /// The earliest time at which a port is due, if there is a port.

@@ -1,18 +1,19 @@
 //! One visit to a port, and one time-out at a port, on the table only.
 
-ghost use Rattle.std.specs.Prelude.{◌≡◌, ◌≢◌, not, is_some, None, Some};
+ghost use Rattle.std.specs.Prelude.{◌≡◌, ◌≢◌, ◌||◌, nat_lt, not, is_some, true, None, Some};
+ghost use Rattle.tftp_packet.specs.Decode.{decode_bytes};
 ghost use Rattle.archive_table.specs.Server.{IsServer, transfer_at};
-ghost use Rattle.archive_turns.specs.Timers.{ports_of, live_ports, late_ports, restart, Tracks};
+ghost use Rattle.archive_turns.specs.Timers.{ports_of, live_ports, is_quiet, late_ports, restart, Tracks};
 ghost use Rattle.archive_turns.specs.Parts.{IsVisit, IsTimeout, Acts, SendsOut, Walks};
-ghost use Rattle.archive_turns.specs.Turn.{transfer_visit, transfer_asks, timeout_visit, request_visit, request_spared, request_change, transfer_change, is_usable as usable_at};
+ghost use Rattle.archive_turns.specs.Turn.{transfer_visit, transfer_asks, timeout_visit, request_visit, request_spared, request_change, transfer_change, datagram, admits, asks_for, count_from, is_loopback, is_peer as peer_is, is_usable as usable_at};
 
 use crate::change::Change;
-use crate::clock::Clock;
+use crate::mode::Mode;
 use crate::timers::Timers;
 use crate::wire::{RECEIVE_SIZE, Wire};
 use archive_table::{Keeper, Step, Table};
 use std::alloc::Allocator;
-use tftp_packet::{Endpoint, Out};
+use tftp_packet::{Endpoint, Out, Packet, decode};
 
 /// The result of a visit: whether a file was taken, and what changed for the live ports.
 #[derive(Clone, Copy, Debug)]
@@ -65,28 +66,40 @@ fn act<W: Wire>(wire: &mut W, closes: bool, port: u16, out: &Option<Out>)
 }
 
 // What a step at a transfer's port changed for the live ports.
-fn change_at<A: Allocator>(port: u16, step: &Step<A>) -> Change
-    ensures { result ≡ transfer_change step.now.closed step.now.out port }
+fn change_at<A: Allocator>(port: u16, to_peer: bool, step: &Step<A>) -> Change
+    ensures { result ≡ transfer_change step.now.closed step.now.out to_peer port }
 {
     if step.closed {
         Change::Closed(port)
-    } else if step.out.is_some() {
+    } else if step.out.is_none() {
+        Change::Nothing
+    } else if to_peer {
         Change::Sent(port)
     } else {
-        Change::Nothing
+        Change::Answered(port)
     }
 }
 
 // Ends a step at a transfer's port: makes the calls after it.
-fn end_step<A: Allocator, W: Wire>(wire: &mut W, port: u16, step: &Step<A>) -> Visit
+fn end_step<A: Allocator, W: Wire>(wire: &mut W, port: u16, to_peer: bool, step: &Step<A>) -> Visit
     ensures calls { Acts step.now.closed port step.now.out (W.log wire.old) (W.log wire.new) }
     ensures taken { result.taken ≡ is_some step.now.taken }
-    ensures change { result.change ≡ transfer_change step.now.closed step.now.out port }
+    ensures change { result.change ≡ transfer_change step.now.closed step.now.out to_peer port }
 {
     act(wire, step.closed, port, &step.out);
     Visit {
         taken: step.taken.is_some(),
-        change: change_at(port, step),
+        change: change_at(port, to_peer, step),
+    }
+}
+
+// Whether an endpoint is the peer of the transfer at a port.
+fn is_peer<A: Allocator + Copy>(table: &Table<A>, port: u16, from: Endpoint) -> bool
+    ensures { result ≡ peer_is from port table.now }
+{
+    match table.peer(port) {
+        Some(peer) => from.host == peer.host && from.port == peer.port,
+        None => false,
     }
 }
 
@@ -97,14 +110,15 @@ pub(crate) fn visit_transfer<A: Allocator + Copy, W: Wire, K: Keeper>(
     keeper: &mut K,
     port: u16,
 ) -> Visit
-    ensures visit { IsVisit (λ a. transfer_visit a port table.old) (λ a. transfer_asks a port table.old) table.old table.new result.taken result.change (W.log wire.old) (W.log wire.new) (K.log keeper.old) (K.log keeper.new) }
+    ensures visit { IsVisit (λ a. transfer_visit a port table.old) (λ a. transfer_asks a port table.old) (λ r. true) table.old table.new result.taken result.change (W.log wire.old) (W.log wire.new) (K.log keeper.old) (K.log keeper.new) }
     ensures fits { IsServer table.old → IsServer table.new }
 {
     let mut buffer = [0; RECEIVE_SIZE];
     match wire.receive(port, &mut buffer) {
         Ok(Some((count, from))) => {
+            let to_peer = is_peer(table, port, from);
             let step = table.on_datagram(keeper, port, from, &buffer[..count]);
-            end_step(wire, port, &step)
+            end_step(wire, port, to_peer, &step)
         }
         Ok(None) => Visit::QUIET,
         Err(_) => Visit::QUIET,
@@ -121,7 +135,7 @@ pub(crate) fn time_out<A: Allocator + Copy, W: Wire>(
     ensures fits { IsServer table.new }
 {
     let step = table.on_timeout(port);
-    end_step(wire, port, &step).change
+    end_step(wire, port, true, &step).change
 }
 
 // Ends a request: the spare port is closed again unless a transfer was opened on it.
@@ -148,17 +162,69 @@ fn is_usable<A: Allocator + Copy>(table: &Table<A>, spare: u16) -> bool
     spare != 0 && spare != table.request() && !table.is_live(spare)
 }
 
+// Whether bytes are a request.
+fn is_request(bytes: &[u8]) -> bool
+    ensures { result ≡ asks_for (decode_bytes bytes.now) }
+{
+    match decode(bytes) {
+        Ok(Packet::Read { .. }) => true,
+        Ok(Packet::Write { .. }) => true,
+        Ok(Packet::Data { .. }) => false,
+        Ok(Packet::Ack { .. }) => false,
+        Ok(Packet::Error { .. }) => false,
+        Err(_) => false,
+    }
+}
+
+// Whether a host may have one more transfer. This host's own clients are not counted.
+fn has_room_for<A: Allocator + Copy>(
+    table: &Table<A>,
+    timers: &Timers,
+    host: u32,
+    per_host: usize,
+) -> bool
+    ensures { result ≡ (is_loopback host || nat_lt (count_from host timers.now table.now) per_host) }
+{
+    host >> 24 == 127 || timers.count_from(host, table) < per_host
+}
+
+// Whether a datagram at the request port is let in.
+fn is_admitted<A: Allocator + Copy>(
+    table: &Table<A>,
+    timers: &Timers,
+    mode: Mode,
+    from: Endpoint,
+    bytes: &[u8],
+) -> bool
+    ensures { result ≡ admits mode timers.now (datagram from bytes.now) table.now }
+{
+    match mode {
+        Mode::Turn => true,
+        Mode::Round { per_host, .. } => {
+            is_request(bytes) && has_room_for(table, timers, from.host, per_host)
+        }
+    }
+}
+
 /// Visits the request port.
 pub(crate) fn visit_request<A: Allocator + Copy, W: Wire>(
     table: &mut Table<A>,
     wire: &mut W,
+    timers: &Timers,
+    mode: Mode,
 ) -> Visit
-    ensures visit { IsVisit (λ a. request_visit a table.old) (λ a. None) table.old table.new result.taken result.change (W.log wire.old) (W.log wire.new) None None }
+    ensures visit { IsVisit (λ a. request_visit a table.old) (λ a. None) (λ r. admits mode timers.now r table.old) table.old table.new result.taken result.change (W.log wire.old) (W.log wire.new) None None }
     ensures fits { IsServer table.old → IsServer table.new }
 {
     let mut buffer = [0; RECEIVE_SIZE];
     match wire.receive(table.request(), &mut buffer) {
-        Ok(Some((count, from))) => answer_request(table, wire, from, &buffer[..count]),
+        Ok(Some((count, from))) => {
+            if is_admitted(table, timers, mode, from, &buffer[..count]) {
+                answer_request(table, wire, from, &buffer[..count])
+            } else {
+                Visit::LOST
+            }
+        }
         Ok(None) => Visit::QUIET,
         Err(_) => Visit::QUIET,
     }
@@ -171,7 +237,7 @@ fn answer_request<A: Allocator + Copy, W: Wire>(
     from: Endpoint,
     bytes: &[u8],
 ) -> Visit
-    ensures visit { IsVisit (λ a. request_spared a.spare a.verdict a.replies from bytes.now table.old) (λ a. None) table.old table.new result.taken result.change (W.log wire.old) (W.log wire.new) None None }
+    ensures visit { IsVisit (λ a. request_spared a.spare a.verdict a.replies from bytes.now table.old) (λ a. None) (λ r. true) table.old table.new result.taken result.change (W.log wire.old) (W.log wire.new) None None }
     ensures fits { IsServer table.old → IsServer table.new }
 {
     match wire.open() {
@@ -184,23 +250,23 @@ fn answer_request<A: Allocator + Copy, W: Wire>(
     }
 }
 
-/// Lets each port that is due after a visit with this result time out, in the order of the ports. Its timer restarts,
-/// unless its transfer has ended.
+/// Lets each port that is due after a visit with this result, or gives way, time out, in the order of the ports. Its
+/// timer restarts, unless its transfer has ended.
 pub(crate) fn time_out_late<A: Allocator + Copy, W: Wire>(
     table: &mut Table<A>,
     wire: &mut W,
     timers: &mut Timers,
-    clock: Clock,
+    mode: Mode,
     change: Change,
 )
     requires fits { IsServer table.old }
     requires tracks { ports_of timers.old ≡ live_ports table.old }
-    ensures walks { Walks (late_ports clock change timers.old) (restart clock) table.old table.new timers.old timers.new (W.log wire.old) (W.log wire.new) }
+    ensures walks { Walks (late_ports mode (is_quiet change) timers.old table.old) (restart mode) table.old table.new timers.old timers.new (W.log wire.old) (W.log wire.new) }
     ensures keeps { Tracks table.new timers.new }
 {
-    let ports = timers.late(clock, change);
+    let ports = timers.late(mode, change, table);
     for port in ports.as_slice() {
         let change = time_out(table, wire, *port);
-        timers.apply_timeout(clock, change, *port);
+        timers.apply_timeout(mode, change, *port);
     }
 }

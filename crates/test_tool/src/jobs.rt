@@ -9,14 +9,29 @@ fn job(rt: &HostRuntime, words: &[&str]) -> Result<Result<Job, JobFault>, Fail> 
 
 #[test]
 fn serve_with_options(rt: HostRuntime) -> Result<(), Fail> {
-    let words = ["tws", "serve", "--turns=7", "--dir", "kept", "--port", "70"];
+    let words = [
+        "tws",
+        "serve",
+        "--turns=7",
+        "--dir",
+        "kept",
+        "--port",
+        "70",
+        "--per-host",
+        "3",
+    ];
     let Ok(Job::Serve(arguments)) = job(&rt, &words)? else {
         return Err(Fail::new("another job"));
     };
-    let ServeArguments { port, turns, dir } = arguments;
+    let ServeArguments {
+        port,
+        turns,
+        per_host,
+        dir,
+    } = arguments;
     let Some(dir) = dir else {
         return Err(Fail::new("no folder"));
     };
-    assert_eq!(rt; (port, turns, dir.as_str()), (70, 7, "kept"));
+    assert_eq!(rt; (port, turns, per_host, dir.as_str()), (70, 7, 3, "kept"));
     Ok(())
 }

@@ -1,4 +1,4 @@
-// The server that waits for ready ports, over wires in memory whose clock the test sets.
+// Rounds of a server over wires in memory whose clock the test sets.
 use crate::wires::*;
 use archive_table::NoKeeper;
 use archive_turns::{MemoryWire, RECEIVE_SIZE, Ready, ReadyWire, Server, Wire, serve_rounds};
@@ -47,15 +47,23 @@ fn a_put_to_the_ready_server(rt: HostRuntime) -> Result<(), Fail> {
     Ok(())
 }
 
-// Makes one round at each of these times, before which a malformed datagram arrives at the request port. Returns
-// whether each time the expected number of datagrams was sent.
+// Makes one round at each of these times, before which a malformed datagram arrives at the request port. All that had
+// arrived up to the second time was handed out. Returns whether each time the expected number of datagrams was sent.
 fn are_sent_in_time(
     alloc: Global,
     wire: &mut MemoryWire,
     server: &mut Server,
 ) -> Result<bool, Fail> {
-    for (time, sent) in [(1, 1), (999, 1), (1000, 2), (1999, 2), (2000, 3), (2001, 3)] {
+    for (time, settled, sent) in [
+        (999, 999, 1),
+        (1500, 999, 1),
+        (1500, 1000, 2),
+        (2499, 2499, 2),
+        (2500, 2500, 3),
+        (2501, 2501, 3),
+    ] {
         wire.set_time(time);
+        wire.set_settled(Some(settled));
         wire.arrive(alloc, 6969, ALICE, b"no packet")?;
         serve_rounds(wire, &mut NoKeeper, server, 1);
         if send_count(wire) != sent {
@@ -65,7 +73,8 @@ fn are_sent_in_time(
     Ok(true)
 }
 
-// A transfer times out one second after it last sent, however much arrives at the request port meanwhile.
+// A transfer times out one second after it last sent, once all that had arrived by then was handed out, however much
+// arrives at the request port meanwhile.
 #[test]
 fn a_busy_request_port(rt: HostRuntime) -> Result<(), Fail> {
     let mut wire = request_wire(rt.alloc(), 4000)?;
@@ -96,6 +105,7 @@ fn take_turns(wire: &mut MemoryWire, first: u16, ports: &[u16]) -> bool {
         let ready = Ready {
             port: Some(*port),
             time: 0,
+            settled: None,
         };
         if wire.wait(after, None) != ready || !has_ack(wire, *port) {
             return false;
@@ -113,6 +123,7 @@ fn ports_that_are_ready(rt: HostRuntime) -> Result<(), Fail> {
     let quiet = Ready {
         port: None,
         time: 70,
+        settled: Some(70),
     };
     assert_eq!(rt;
         (are_ready, wire.wait(5, Some(70)), wire.wait(5, Some(60))),

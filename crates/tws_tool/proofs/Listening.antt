@@ -1,7 +1,8 @@
 -- What `serve` did, by its result.
-use Rattle.std.proofs.Common.{[], ◌≡◌, ℕ, List, Option, None, Result, Ok, Err, OnOk, IfErr, refl, arith, ap, subst, inl, inr, ⊎_elim}
+use Rattle.std.proofs.Common.{[], ◌≡◌, ℕ, List, Option, None, Result, Ok, Err, OnOk, IfErr, refl, arith, ap, sym, subst, ◌∙◌, inl, inr, ⊎_elim}
+use Rattle.archive_table.specs.declared.limits.TheConstants.{LIVE}
 use Rattle.archive_table.specs.Keeper.{Keeping, HasLoaded}
-use Rattle.archive_turns.specs.Turn.{Service}
+use Rattle.archive_turns.specs.Turn.{Service, fresh_server}
 use Rattle.tws_tool.specs.declared.commands.serve.Passes.{Passes}
 use Rattle.tws_tool.specs.declared.tool_fault.ToolFault.{ToolFault}
 use Rattle.tws_tool.specs.declared.tool_fault.ToolFault.TheVariants.{Read, Write, Unreadable, Memory, Socket, Transfer}
@@ -32,17 +33,25 @@ module _ (old new : Option (List ℕ)) where
   stops_status port Unmade Made e stops =
       ⊎_elim (λ (s : (e ≡ Socket) × (new ≡ old) × Unmade). ap status_of s.0) (λ fails. ⊎_elim (λ first. line_status (serving_line port) old new e first.1) (λ last. line_status (taken_line last.taken) last.between new e last.fails) fails) stops
 
-  module _ (port turns : ℕ) (kept now : Option (List Keeping)) where
-    pub served : (r : Result (Unit {0}) ToolFault) → OnOk r (Serves port (ServerServed port turns kept now) old new) → IfErr r (ServeStops port (now ≡ kept) (ServerServed port turns kept now) old new) → Served port turns (answer_status r) kept now old new
+  module _ (port turns per_host : ℕ) (kept now : Option (List Keeping)) where
+    pub served : (r : Result (Unit {0}) ToolFault) → OnOk r (Serves port (ServerServed port turns per_host kept now) old new) → IfErr r (ServeStops port (now ≡ kept) (ServerServed port turns per_host kept now) old new) → Served port turns per_host (answer_status r) kept now old new
     served (Ok done) serves stops = record { done = λ e. serves; failed = λ e. absurd (omega (arith, e)); few = inl refl }
     served (Err e) serves stops =
-        let two = stops_status port (now ≡ kept) (ServerServed port turns kept now) e stops in
+        let two = stops_status port (now ≡ kept) (ServerServed port turns per_host kept now) e stops in
         record { done = λ z. absurd (omega (arith, z, two)); failed = λ z. inr (e, stops); few = inr two }
 
+-- a server that was loaded, once its limit is set
+pub limited_server : (loaded limited : Service) (port per_host : ℕ) (kept : Option (List Keeping)) → HasLoaded port kept loaded.table → loaded ≡ fresh_server LIVE loaded.table → limited ≡ record loaded { per_host = per_host } → HasLoaded port kept limited.table × (limited ≡ fresh_server per_host limited.table)
+limited_server loaded limited port per_host kept has fresh is =
+    let set : Service → Service = λ s. record s { per_host = per_host } in
+    let whole : limited ≡ fresh_server per_host loaded.table = is ∙ ap set fresh in
+    let table : loaded.table ≡ limited.table = sym (ap (λ (s : Service). s.table) whole) in
+    (subst (HasLoaded port kept) table has, whole ∙ ap (fresh_server per_host) table)
+
 -- a server from its load on, which keeps nothing
-pub server_served : (port turns : ℕ) (kept mid now : Option (List Keeping)) → mid ≡ kept → (passes : Passes) (first last : Service) → ArePassesFor turns passes → HasLoaded port kept first.table → first ≡ record { table = first.table; last = 0; timers = [] }
-    → (taken : ℕ) → MakesPasses passes first last taken None None mid now → ServerServed port turns kept now taken
-server_served port turns kept mid now same passes first last are loaded fresh taken made = record {
+pub server_served : (port turns per_host : ℕ) (kept mid now : Option (List Keeping)) → mid ≡ kept → (passes : Passes) (first last : Service) → ArePassesFor turns passes → HasLoaded port kept first.table → first ≡ fresh_server per_host first.table
+    → (taken : ℕ) → MakesPasses passes first last taken None None mid now → ServerServed port turns per_host kept now taken
+server_served port turns per_host kept mid now same passes first last are loaded fresh taken made = record {
   first = first;
   last = last;
   loaded = loaded;

@@ -26,6 +26,7 @@ pub use show::{ShowArguments, run_show};
 use std::alloc::{AllocError, Global};
 use std::io::{Read, Write};
 use std::net::Net;
+use std::random::RandomSource;
 use std::rt::Files;
 use std::time::Clock;
 
@@ -95,7 +96,7 @@ pub(crate) fn asked(
 pub(crate) fn run_job<
     S: FileSystem,
     N: Wire,
-    P: Files + Net + Clock + AllocGlobal + Copy,
+    P: Files + Net + Clock + RandomSource + AllocGlobal + Copy,
     R: Read,
     W: Write,
     E: Write,

@@ -50,7 +50,7 @@ pub use file_system::FileSystem;
 pub use input::INPUT_READS;
 pub use job::{JobFault, job_of};
 pub use laws::{limit_values, words_of_commands};
-pub use limits::{PORT, TURNS};
+pub use limits::{PER_HOST, PORT, TURNS};
 pub use program::{run_words, run_words_with};
 pub use target::Target;
 pub use tool_fault::ToolFault;

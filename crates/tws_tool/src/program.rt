@@ -17,6 +17,7 @@ use archive_turns::Wire;
 use std::alloc::Global;
 use std::io::{Read, Write};
 use std::net::Net;
+use std::random::RandomSource;
 use std::rt::Files;
 use std::time::Clock;
 
@@ -24,7 +25,7 @@ use std::time::Clock;
 fn run_answer<
     S: FileSystem,
     N: Wire,
-    P: Files + Net + Clock + AllocGlobal + Copy,
+    P: Files + Net + Clock + RandomSource + AllocGlobal + Copy,
     R: Read,
     W: Write,
     E: Write,
@@ -61,7 +62,7 @@ fn run_answer<
 pub fn run_words_with<
     S: FileSystem,
     N: Wire,
-    P: Files + Net + Clock + AllocGlobal + Copy,
+    P: Files + Net + Clock + RandomSource + AllocGlobal + Copy,
     R: Read,
     W: Write,
     E: Write,
@@ -96,7 +97,7 @@ pub fn run_words_with<
 }
 
 /// The same with the system's files and sockets, which tell nothing.
-pub fn run_words<P: Files + Net + Clock + AllocGlobal + Copy, R: Read, W: Write, E: Write>(
+pub fn run_words<P: Files + Net + Clock + RandomSource + AllocGlobal + Copy, R: Read, W: Write, E: Write>(
     rt: &P,
     alloc: Global,
     words: &[String],

@@ -3,11 +3,12 @@ use archive_table::NoKeeper;
 use archive_turns::{Server, WireFault, serve_turns};
 use std::alloc::Global;
 use std::net::Net;
+use std::random::RandomSource;
 use std::time::Clock;
 
 /// Makes `turns` turns of a server at this port, and returns how many files were taken. It keeps nothing: a `DirKeeper`
 /// in place of `NoKeeper` keeps the collections in a folder. A client's wire is `UdpWire::new`.
-pub fn serve<P: Net + Clock + AllocGlobal + Copy>(
+pub fn serve<P: Net + Clock + RandomSource + AllocGlobal + Copy>(
     rt: P,
     alloc: Global,
     port: u16,

@@ -3,12 +3,13 @@ use Rattle.std.specs.Prelude.{◌≡◌, ◌⊎◌, ℕ, ◌<◌, ◌≤◌, ◌
 use Rattle.std.specs.Io.KnownBytes.{Appends}
 use Rattle.clap.specs.Words.{App, Row, Rule, Text, first_of, new_app, new_rule, with_rule}
 use Rattle.archive_table.specs.Keeper.{Keeping, HasLoaded}
-use Rattle.archive_turns.specs.Turn.{MakesRounds, MakesTurns, Service}
+use Rattle.archive_table.specs.declared.limits.TheConstants.{LIVE}
+use Rattle.archive_turns.specs.Turn.{MakesRounds, MakesTurns, Service, fresh_server}
 use Rattle.archive_turns.specs.Wire.{Entry}
 use Rattle.tws_tool.specs.declared.commands.serve.Passes.{Passes}
 use Rattle.tws_tool.specs.declared.commands.serve.Passes.TheVariants.{Turns, Rounds}
 use Rattle.tws_tool.specs.declared.commands.serve.ServeArguments.{ServeArguments}
-use Rattle.tws_tool.specs.declared.limits.TheConstants.{TURNS}
+use Rattle.tws_tool.specs.declared.limits.TheConstants.{PER_HOST, TURNS}
 use Rattle.tws_tool.specs.declared.tool_fault.ToolFault.{ToolFault}
 use Rattle.tws_tool.specs.declared.tool_fault.ToolFault.TheVariants.{Socket}
 use Rattle.tws_tool.specs.Arguments.{HasNumber, NumberOption, number_rule, port_option}
@@ -20,17 +21,22 @@ serve_name = codes "serve"
 abbrev pub turns_option : NumberOption
 turns_option = record { name = codes "turns"; most = TURNS; default = TURNS }
 
+abbrev pub per_host_option : NumberOption
+per_host_option = record { name = codes "per-host"; most = LIVE; default = PER_HOST }
+
 abbrev pub dir_rule : Rule
 dir_rule = record (new_rule (codes "dir")) { long = Some (codes "dir"); value_names = 1 }
 
--- `serve [--port N] [--turns N] [--dir DIR]`
+-- `serve [--port N] [--turns N] [--per-host N] [--dir DIR]`
 abbrev pub serve_app : App
-serve_app = with_rule (with_rule (with_rule (new_app serve_name) (number_rule port_option)) (number_rule turns_option)) dir_rule
+serve_app =
+    with_rule (with_rule (with_rule (with_rule (new_app serve_name) (number_rule port_option)) (number_rule turns_option)) (number_rule per_host_option)) dir_rule
 
 -- what was found for its arguments
 pub record AsksToServe (rows : List Row) (arguments : ServeArguments) : Type 0 where
   pub port_is : HasNumber port_option rows arguments.port
   pub turns_are : HasNumber turns_option rows arguments.turns
+  pub per_host_is : HasNumber per_host_option rows arguments.per_host
   pub dir_is : option_map string_bytes arguments.dir ≡ first_of dir_rule.id rows
 
 -- ---- what it does and prints
@@ -65,12 +71,13 @@ MakesPasses (Rounds rounds) old new taken before after kept now = MakesRounds ro
 abbrev pub ArePassesFor : (turns : ℕ) → Passes → Type 0
 ArePassesFor turns passes = ((turns < TURNS) × (passes ≡ Turns turns)) ⊎ ((TURNS ≤ turns) × (passes ≡ Rounds (2 ^ 64 - 1)))
 
--- a server was loaded, and made its turns or rounds: what was kept before and after, and how many files were taken
-pub record ServerServed (port turns : ℕ) (kept now : Option (List Keeping)) (taken : ℕ) : Type 0 where
+-- a server was loaded, and made its turns or rounds, in which one host had at most so many transfers: what was kept before
+-- and after, and how many files were taken
+pub record ServerServed (port turns per_host : ℕ) (kept now : Option (List Keeping)) (taken : ℕ) : Type 0 where
   pub first : Service
   pub last : Service
   pub loaded : HasLoaded port kept first.table
-  pub fresh : first ≡ record { table = first.table; last = 0; timers = [] }
+  pub fresh : first ≡ fresh_server per_host first.table
   pub passes : Passes
   pub passes_are : ArePassesFor turns passes
   pub made : MakesPasses passes first last taken None None kept now
@@ -81,12 +88,12 @@ pub record ServerServed (port turns : ℕ) (kept now : Option (List Keeping)) (t
 abbrev pub ServeStops : (port : ℕ) (Unmade : Type 0) (Made : (taken : ℕ) → Type 0) (old new : Option (List ℕ)) → ToolFault → Type 0
 ServeStops port Unmade Made old new e = ((e ≡ Socket) × (new ≡ old) × Unmade) ⊎ ServeFails port Unmade Made old new e
 
--- what `serve` on this port did, with this many turns: what its keeper had and has
-pub record Served (port turns status : ℕ) (kept now : Option (List Keeping)) (old new : Option (List ℕ)) : Type 0 where
-  pub done : status ≡ 0 → Serves port (ServerServed port turns kept now) old new
-  pub failed : status ≡ 2 → ((new ≡ old) × (now ≡ kept)) ⊎ ((e : ToolFault) × ServeStops port (now ≡ kept) (ServerServed port turns kept now) old new e)
+-- what `serve` on this port did, with this many turns and transfers of one host: what its keeper had and has
+pub record Served (port turns per_host status : ℕ) (kept now : Option (List Keeping)) (old new : Option (List ℕ)) : Type 0 where
+  pub done : status ≡ 0 → Serves port (ServerServed port turns per_host kept now) old new
+  pub failed : status ≡ 2 → ((new ≡ old) × (now ≡ kept)) ⊎ ((e : ToolFault) × ServeStops port (now ≡ kept) (ServerServed port turns per_host kept now) old new e)
   pub few : (status ≡ 0) ⊎ (status ≡ 2)
 
 -- what it did; nothing is known of what its folder keeps
 abbrev pub ServeRan : ServeArguments → (status : ℕ) → (old new : Option (List ℕ)) → Type 0
-ServeRan arguments status old new = Served arguments.port arguments.turns status None None old new
+ServeRan arguments status old new = Served arguments.port arguments.turns arguments.per_host status None None old new

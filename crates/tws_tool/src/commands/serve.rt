@@ -5,22 +5,23 @@ ghost use Rattle.clap.specs.Matches.{found_of};
 ghost use Rattle.clap.specs.Words.{app_of, rows_of, rule_of};
 ghost use Rattle.clap.specs.declared.builder.command.Command.TheViews.{out-Command};
 ghost use Rattle.tws_tool.specs.Arguments.{Answers, number_rule};
-ghost use Rattle.tws_tool.specs.Commands.Serve.{ArePassesFor, AsksToServe, MakesPasses, ServeFails, ServeRan, ServeStops, Served, Serves, dir_rule, serve_app, turns_option};
+ghost use Rattle.tws_tool.specs.Commands.Serve.{ArePassesFor, AsksToServe, MakesPasses, ServeFails, ServeRan, ServeStops, Served, Serves, dir_rule, per_host_option, serve_app, turns_option};
 
 use crate::arguments::{number_given, port_argument, port_given, string_given};
-use crate::limits::TURNS;
+use crate::limits::{PER_HOST, TURNS};
 use crate::line::write_line;
 use crate::reporting::{finish, report};
 use crate::status::FAILED;
 use crate::tool_fault::ToolFault;
 use archive_host::{DirKeeper, UdpWire};
-use archive_table::{Keeper, NoKeeper};
+use archive_table::{Keeper, LIVE, NoKeeper};
 use archive_turns::{ReadyWire, Server, serve_rounds, serve_turns};
 use clap::builder::ValueParser;
 use clap::{Arg, ArgMatches, Command};
 use std::alloc::{AllocError, Global};
 use std::io::Write;
 use std::net::Net;
+use std::random::RandomSource;
 use std::rt::Files;
 use std::time::Clock;
 
@@ -31,6 +32,8 @@ pub struct ServeArguments {
     pub port: u16,
     /// For this many turns.
     pub turns: u64,
+    /// With at most this many transfers of one host.
+    pub per_host: u64,
     /// With the collections kept in this folder.
     pub dir: Option<String>,
 }
@@ -44,6 +47,17 @@ fn turns_argument<'a>(alloc: Global) -> Arg<'a>
         .value_name("N")
         .value_parser(ValueParser::Unsigned(1, TURNS))
         .help("Stop after this many turns")
+}
+
+fn per_host_argument<'a>(alloc: Global) -> Arg<'a>
+    ensures rule { rule_of result ≡ number_rule per_host_option }
+    ensures local { result.global ≡ false }
+{
+    Arg::new(alloc, "per-host")
+        .long("per-host")
+        .value_name("N")
+        .value_parser(ValueParser::Unsigned(1, LIVE as u64))
+        .help("At most this many transfers of one host, 32 if none is given")
 }
 
 fn dir_argument<'a>(alloc: Global) -> Arg<'a>
@@ -64,6 +78,7 @@ pub(crate) fn command<'a>(alloc: Global) -> Result<Command<'a>, AllocError>
         .about("Serve the archive by TFTP")
         .arg(port_argument(alloc))?
         .arg(turns_argument(alloc))?
+        .arg(per_host_argument(alloc))?
         .arg(dir_argument(alloc))
 }
 
@@ -77,8 +92,16 @@ pub(crate) fn asked(alloc: Global, words: &ArgMatches) -> Result<Option<ServeArg
     let Some(turns) = number_given(words, "turns", TURNS, TURNS) else {
         return Ok(None);
     };
+    let Some(per_host) = number_given(words, "per-host", PER_HOST, LIVE as u64) else {
+        return Ok(None);
+    };
     let dir = string_given(alloc, words, "dir")?;
-    Ok(Some(ServeArguments { port, turns, dir }))
+    Ok(Some(ServeArguments {
+        port,
+        turns,
+        per_host,
+        dir,
+    }))
 }
 
 /// What a server is to make: turns, or rounds that wait for ready ports.
@@ -149,7 +172,7 @@ fn not_loaded<E: Write>(name: &str, errors: &mut E) -> u8
 }
 
 // Opens the server's request port, and serves there.
-fn listen_and_serve<P: Net + Clock + AllocGlobal + Copy, K: Keeper, W: Write>(
+fn listen_and_serve<P: Net + Clock + RandomSource + AllocGlobal + Copy, K: Keeper, W: Write>(
     rt: P,
     alloc: Global,
     keeper: &mut K,
@@ -169,23 +192,24 @@ fn listen_and_serve<P: Net + Clock + AllocGlobal + Copy, K: Keeper, W: Write>(
 }
 
 // Serves with this keeper, whose name its faults are reported with, and returns the status.
-fn serve_with<P: Net + Clock + AllocGlobal + Copy, K: Keeper, W: Write, E: Write>(
+fn serve_with<P: Net + Clock + RandomSource + AllocGlobal + Copy, K: Keeper, W: Write, E: Write>(
     rt: P,
     alloc: Global,
-    port: u16,
-    turns: u64,
+    arguments: &ServeArguments,
     keeper: &mut K,
     name: &str,
     out: &mut W,
     errors: &mut E,
 ) -> u8
-    ensures served { Served port turns result (K.log keeper.old) (K.log keeper.new) (W.contents out.old) (W.contents out.new) }
+    ensures served { Served arguments.now.port arguments.now.turns arguments.now.per_host result (K.log keeper.old) (K.log keeper.new) (W.contents out.old) (W.contents out.new) }
     ensures status { (result ≡ 0) ⊎ (result ≡ 2) }
     ensures silent { result ≡ 0 → errors.new ≡ errors.old }
 {
-    let passes = passes_for(turns);
+    let port = arguments.port;
+    let passes = passes_for(arguments.turns);
     match Server::load(alloc, port, keeper) {
         Ok(mut server) => {
+            server.limit_per_host(arguments.per_host as usize);
             let done = listen_and_serve(rt, alloc, keeper, &mut server, port, passes, out);
             finish(done, &[], errors)
         }
@@ -194,7 +218,7 @@ fn serve_with<P: Net + Clock + AllocGlobal + Copy, K: Keeper, W: Write, E: Write
 }
 
 /// Runs `serve`, with the collections kept in the folder of this name, if there is one, and returns the status.
-pub(crate) fn run<P: Files + Net + Clock + AllocGlobal + Copy, W: Write, E: Write>(
+pub(crate) fn run<P: Files + Net + Clock + RandomSource + AllocGlobal + Copy, W: Write, E: Write>(
     rt: P,
     alloc: Global,
     arguments: &ServeArguments,
@@ -205,7 +229,6 @@ pub(crate) fn run<P: Files + Net + Clock + AllocGlobal + Copy, W: Write, E: Writ
     ensures status { (result ≡ 0) ⊎ (result ≡ 2) }
     ensures silent { result ≡ 0 → errors.new ≡ errors.old }
 {
-    let (port, turns) = (arguments.port, arguments.turns);
     match &arguments.dir {
         Some(dir) => {
             let name = dir.as_str();
@@ -213,8 +236,8 @@ pub(crate) fn run<P: Files + Net + Clock + AllocGlobal + Copy, W: Write, E: Writ
                 return report(ToolFault::Memory, &[], errors);
             };
             let mut keeper = DirKeeper::new(rt, folder);
-            serve_with(rt, alloc, port, turns, &mut keeper, name, out, errors)
+            serve_with(rt, alloc, arguments, &mut keeper, name, out, errors)
         }
-        None => serve_with(rt, alloc, port, turns, &mut NoKeeper, "memory", out, errors),
+        None => serve_with(rt, alloc, arguments, &mut NoKeeper, "memory", out, errors),
     }
 }

@@ -1,0 +1,17 @@
+use Rattle.std.proofs.Common.{ap}
+use Rattle.archive_turns.specs.Run.{Run}
+use Rattle.archive_turns.proofs.Log.{grows_come, grows_quiet}
+use Rattle.archive_turns.proofs.Running.{turn_heard, turn_quiet, turn_failed}
+use Rattle.archive_turns.proofs.run.Run.turn.Goals as goal
+
+pub returns-in-Ok-Some : goal.returns-in-Ok-Some
+returns-in-Ok-Some g c =
+    turn_heard _ _ _ _ _ _ (ap (λ (r : Run). r.port) c.self.view_is) (grows_come _ _ _ _ _ c.in-Ok-Some.field-0-is c.in-Ok-Some.ensures.log) c.take.ensures.ran
+
+pub returns-in-Ok-None : goal.returns-in-Ok-None
+returns-in-Ok-None g c =
+    turn_quiet _ _ _ (ap (λ (r : Run). r.port) c.self.view_is) (grows_quiet _ c.receive.new.buffer _ c.in-Ok-None.field-0-is c.in-Ok-None.ensures.log) c.wait.ensures
+
+pub returns-in-Err : goal.returns-in-Err
+returns-in-Err g c =
+    turn_failed _ _ _ (ap (λ (r : Run). r.port) c.self.view_is) c.in-Err.ensures.log c.wait-in-Err.ensures
