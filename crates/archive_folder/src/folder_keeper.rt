@@ -50,10 +50,11 @@ impl<F: Folder> FolderKeeper<F> {
     }
 
     /// The folder.
-    pub fn folder(&self) -> &F
-        ensures { result.now ≡ self.now.folder }
+    pub fn into_folder(self) -> F
+        ensures { result ≡ self.folder }
     {
-        &self.folder
+        let FolderKeeper { folder, .. } = self;
+        folder
     }
 
     // Counts a failure of the device.

@@ -10,7 +10,7 @@ ghost use Rattle.archive_folder.specs.Names.{at_name};
 use crate::by_name::ByName;
 use crate::file_name::FileName;
 use crate::folder::Folder;
-use crate::stored::{Left, Stored, copy_disk, copy_synced};
+use crate::stored::{Left, Stored, copy_disk, copy_synced, store_all};
 use archive_table::KeepFault;
 use std::alloc::{AllocError, Allocator, Global};
 
@@ -26,8 +26,8 @@ pub struct MemoryFolder {
 }
 
 impl MemoryFolder {
-    ghost use Rattle.archive_folder.specs.Stored.{text_of};
-    ghost use Rattle.archive_folder.specs.Memory.{Recalls};
+    ghost use Rattle.archive_folder.specs.Stored.{text_of, synced_of};
+    ghost use Rattle.archive_folder.specs.Memory.{memory_leaves, Recalls};
 
     /// Returns an empty folder. Does not allocate.
     pub fn new(alloc: Global) -> Self
@@ -51,6 +51,37 @@ impl MemoryFolder {
             past: Vec::new(alloc),
             faults: 0,
         }
+    }
+
+    /// The folder that a crash leaves: of each file what was synced. The names are as they were when the folder was synced
+    /// if later changes are lost, and else as they are now.
+    ///
+    /// # Errors
+    ///
+    /// Out of memory.
+    pub fn after_crash(self, are_names_lost: bool) -> Result<Self, AllocError>
+        ensures left { IfOk result (λ after. (name : FileName) → memory_leaves self name (text_of (at_name after.files name))) }
+        ensures synced { IfOk result (λ after. (name : FileName) → synced_of (at_name after.files name) ≡ text_of (at_name after.files name)) }
+        ensures disk { IfOk result (λ after. (name : FileName) → texts_of (at_name after.disk name) ≡ text_of (at_name after.files name)) }
+    {
+        let MemoryFolder {
+            alloc,
+            files,
+            disk,
+            ..
+        } = self;
+        let left = if are_names_lost {
+            disk
+        } else {
+            copy_synced(alloc, &files)?
+        };
+        Ok(MemoryFolder {
+            alloc,
+            files: store_all(alloc, &left)?,
+            disk: left,
+            past: Vec::new(alloc),
+            faults: 0,
+        })
     }
 
     // Counts a call that failed.

@@ -2,7 +2,7 @@ ghost use Rattle.std.specs.Prelude.{◌≡◌, [], IfOk};
 ghost use Rattle.archive_table.specs.Keeper.{texts_of};
 ghost use Rattle.archive_folder.specs.declared.file_name.FileName.{FileName};
 ghost use Rattle.archive_folder.specs.Names.{at_name};
-ghost use Rattle.archive_folder.specs.Stored.{synced_of};
+ghost use Rattle.archive_folder.specs.Stored.{text_of, synced_of};
 
 use crate::by_name::ByName;
 use std::alloc::{AllocError, Global};
@@ -81,5 +81,35 @@ pub(crate) fn copy_synced(
         ms: copy_one(alloc, &files.ms)?,
         lynx_draft: copy_one(alloc, &files.lynx_draft)?,
         ms_draft: copy_one(alloc, &files.ms_draft)?,
+    })
+}
+
+// A file with this text, which is synced, if there is one.
+fn store_one(alloc: Global, text: &Option<Vec<u8>>) -> Result<Option<Stored>, AllocError>
+    ensures text { IfOk result (λ file. text_of file ≡ texts_of text.now) }
+    ensures synced { IfOk result (λ file. synced_of file ≡ texts_of text.now) }
+{
+    match text {
+        Some(text) => Ok(Some(Stored {
+            text: text.to_vec(alloc)?,
+            synced: text.to_vec(alloc)?,
+        })),
+        None => Ok(None),
+    }
+}
+
+/// Files with these texts, which are synced.
+pub(crate) fn store_all(
+    alloc: Global,
+    texts: &ByName<Option<Vec<u8>>>,
+) -> Result<ByName<Option<Stored>>, AllocError>
+    ensures text { IfOk result (λ files. (name : FileName) → text_of (at_name files name) ≡ texts_of (at_name texts.now name)) }
+    ensures synced { IfOk result (λ files. (name : FileName) → synced_of (at_name files name) ≡ texts_of (at_name texts.now name)) }
+{
+    Ok(ByName {
+        lynx: store_one(alloc, &texts.lynx)?,
+        ms: store_one(alloc, &texts.ms)?,
+        lynx_draft: store_one(alloc, &texts.lynx_draft)?,
+        ms_draft: store_one(alloc, &texts.ms_draft)?,
     })
 }
