@@ -8,15 +8,15 @@ use Rattle.archive_folder.specs.Replacing.{Stays, Replaces, HasOnly, IsWritten}
 
 module _ {D : Type 0} (reads : D → Texts) (holds : D → Files) (leaves : D → Texts) (moment : D → ℕ) (left_since : D → ℕ → Texts) where
   -- one call that leaves this name alone
-  pub stays_by : {tells : Bool} → ((d : D) (t : ℕ) (name : FileName) (left : Option (List ℕ)) → tells ≡ true → t ≤ moment d → leaves d name left → left_since d t name left)
-      → ((d : D) (name : FileName) (left : Option (List ℕ)) → tells ≡ true → left_since d (moment d) name left → leaves d name left)
-      → (told : tells ≡ true) (old new : D) (name : FileName) → NarrowsAt name (reads old) (reads new) (holds old) (holds new) (leaves old) (leaves new)
+  pub stays_by : {has_model : Bool} → ((d : D) (t : ℕ) (name : FileName) (left : Option (List ℕ)) → has_model ≡ true → t ≤ moment d → leaves d name left → left_since d t name left)
+      → ((d : D) (name : FileName) (left : Option (List ℕ)) → has_model ≡ true → left_since d (moment d) name left → leaves d name left)
+      → (modelled : has_model ≡ true) (old new : D) (name : FileName) → NarrowsAt name (reads old) (reads new) (holds old) (holds new) (leaves old) (leaves new)
       → Elapses (moment old) (moment new) (left_since old) (left_since new) (leaves new) → Stays reads holds leaves moment left_since old new name
-  stays_by counts only told old new name narrows time = record {
+  stays_by counts only modelled old new name narrows time = record {
     possible = narrows;
     later = time.later;
-    each = λ left since. ⊎_elim (only old name left told) (narrows.left left) (time.adds (moment old) name left (omega arith) since);
-    before = λ t left le since. ⊎_elim (λ past. past) (λ now. counts old t name left told le (narrows.left left now)) (time.adds t name left le since);
+    each = λ left since. ⊎_elim (only old name left modelled) (narrows.left left) (time.adds (moment old) name left (omega arith) since);
+    before = λ t left le since. ⊎_elim (λ past. past) (λ now. counts old t name left modelled le (narrows.left left now)) (time.adds t name left le since);
   }
 
   pub stays_then : (old mid new : D) (name : FileName) → Stays reads holds leaves moment left_since old mid name → Stays reads holds leaves moment left_since mid new name → Stays reads holds leaves moment left_since old new name
@@ -64,21 +64,21 @@ module _ {D : Type 0} (reads : D → Texts) (holds : D → Files) (leaves : D �
   held_is old from text only (Some t) h = ap Some (only t h)
 
   -- the rename of a file that was written
-  pub replaces_move : {tells : Bool} → ((d : D) (t : ℕ) (name : FileName) (left : Option (List ℕ)) → tells ≡ true → t ≤ moment d → leaves d name left → left_since d t name left)
-      → ((d : D) (name : FileName) (left : Option (List ℕ)) → tells ≡ true → left_since d (moment d) name left → leaves d name left)
-      → (told : tells ≡ true) (old new : D) (from to : FileName) (text : List ℕ) → IsWritten (reads old) (holds old) from text
+  pub replaces_move : {has_model : Bool} → ((d : D) (t : ℕ) (name : FileName) (left : Option (List ℕ)) → has_model ≡ true → t ≤ moment d → leaves d name left → left_since d t name left)
+      → ((d : D) (name : FileName) (left : Option (List ℕ)) → has_model ≡ true → left_since d (moment d) name left → leaves d name left)
+      → (modelled : has_model ≡ true) (old new : D) (from to : FileName) (text : List ℕ) → IsWritten (reads old) (holds old) from text
       → ((read : Option (List ℕ)) → reads new to read → reads old to read ⊎ reads old from read)
       → ((left : Option (List ℕ)) → leaves new to left → leaves old to left ⊎ IsHeld (holds old from) left)
       → Elapses (moment old) (moment new) (left_since old) (left_since new) (leaves new) → Replaces reads leaves moment left_since old new to text
-  replaces_move counts only told old new from to text written either either_left time =
+  replaces_move counts only modelled old new from to text written either either_left time =
       let now_left : (left : Option (List ℕ)) → leaves new to left → leaves old to left ⊎ (left ≡ Some text) =
       λ left h. ⊎_elim (λ was. inl was) (λ held. inr (held_is old from text written.held left held)) (either_left left h) in
       record {
         now = λ r h. ⊎_elim (λ was. inl was) (λ is. inr (written.now r is)) (either r h);
         left = now_left;
         later = time.later;
-        each = λ left since. ⊎_elim (λ past. inl (only old to left told past)) (λ h. now_left left h) (time.adds (moment old) to left (omega arith) since);
-        before = λ t left le since. ⊎_elim (λ past. inl past) (λ h. ⊎_elim (λ was. inl (counts old t to left told le was)) (λ is. inr is) (now_left left h)) (time.adds t to left le since);
+        each = λ left since. ⊎_elim (λ past. inl (only old to left modelled past)) (λ h. now_left left h) (time.adds (moment old) to left (omega arith) since);
+        before = λ t left le since. ⊎_elim (λ past. inl past) (λ h. ⊎_elim (λ was. inl (counts old t to left modelled le was)) (λ is. inr is) (now_left left h)) (time.adds t to left le since);
       }
 
   settled_is : (mid : D) (to : FileName) (text : List ℕ) → Only (Some text) (reads mid to) → Only text (holds mid to) → (left : Option (List ℕ)) → IsSettled (reads mid to) (holds mid to) left → left ≡ Some text

@@ -34,5 +34,5 @@ none_left [] name left had = had
 none_left (l ∷ past) name left had = none_left past name left had
 
 pub memory_only_now : (f : MemoryFolder) (name : FileName) (left : Option (List ℕ)) → true ≡ true → memory_since f (length f.past.items) name left → memory_leaves f name left
-memory_only_now f name left told (inl now) = now
-memory_only_now f name left told (inr had) = absurd (none_left f.past.items name left had)
+memory_only_now f name left modelled (inl now) = now
+memory_only_now f name left modelled (inr had) = absurd (none_left f.past.items name left had)

@@ -16,8 +16,8 @@ use std::alloc::Allocator;
 use tws_best::Collection;
 use tws_file::Ruleset;
 
-/// A keeper that has the collection of each ruleset in a file of a folder. It does not tell its list: its calls say what
-/// they make of the folder.
+/// A keeper that has the collection of each ruleset in a file of a folder. It has no ghost log: its clauses say what a
+/// call makes of the folder.
 ///
 /// Once it is unknown whether a collection was kept, the keeper is no longer usable: every later keep returns `Device`.
 /// A server then has to end, since after a restart the new collection may be loaded or the last one.
@@ -69,7 +69,7 @@ impl<F: Folder> FolderKeeper<F> {
         }
     }
 
-    // Notes why the folder did not keep a collection. Returns what the server is told of it.
+    // Notes why the folder did not keep a collection. Returns the fault that the server gets.
     fn note(&mut self, fault: FolderFault) -> KeepFault
         ensures folder { self.new.folder ≡ self.old.folder }
         ensures unknown { fault ≡ FolderFault.Unknown → self.new.is_usable ≡ false }
@@ -100,12 +100,12 @@ impl<F: Folder> Keeper for FolderKeeper<F> {
         collection: &Collection<A>,
     ) -> Result<(), KeepFault>
         // From then on a crash leaves the new collection and nothing else.
-        ensures kept { F.tells ≡ true → OnOk result (HasOnly (F.reads self.new.folder) (F.holds self.new.folder) (F.leaves self.new.folder) (FileName.Kept kind) (collection_text collection.now)) }
+        ensures kept { F.has_model ≡ true → OnOk result (HasOnly (F.reads self.new.folder) (F.holds self.new.folder) (F.leaves self.new.folder) (FileName.Kept kind) (collection_text collection.now)) }
         // A crash at any moment of the call leaves what was possible before, or the new collection.
-        ensures any_moment { F.tells ≡ true → Replaces F.reads F.leaves F.moment F.left_since self.old.folder self.new.folder (FileName.Kept kind) (collection_text collection.now) }
+        ensures any_moment { F.has_model ≡ true → Replaces F.reads F.leaves F.moment F.left_since self.old.folder self.new.folder (FileName.Kept kind) (collection_text collection.now) }
         // If the keeper is still usable, nothing was kept.
-        ensures not_kept { F.tells ≡ true → OnErr result (self.new.is_usable ≡ true → Stays F.reads F.holds F.leaves F.moment F.left_since self.old.folder self.new.folder (FileName.Kept kind)) }
-        ensures others { F.tells ≡ true → (other : FileName) → other ≢ FileName.Kept kind → other ≢ FileName.Draft kind → Stays F.reads F.holds F.leaves F.moment F.left_since self.old.folder self.new.folder other }
+        ensures not_kept { F.has_model ≡ true → OnErr result (self.new.is_usable ≡ true → Stays F.reads F.holds F.leaves F.moment F.left_since self.old.folder self.new.folder (FileName.Kept kind)) }
+        ensures others { F.has_model ≡ true → (other : FileName) → other ≢ FileName.Kept kind → other ≢ FileName.Draft kind → Stays F.reads F.holds F.leaves F.moment F.left_since self.old.folder self.new.folder other }
         ensures usable { OnOk result (self.old.is_usable ≡ true) }
         ensures still_usable { OnOk result (self.new.is_usable ≡ true) }
         // Once it is unknown whether a collection was kept, nothing is kept any more.
@@ -133,8 +133,8 @@ impl<F: Folder> Keeper for FolderKeeper<F> {
         kind: Ruleset,
     ) -> Result<Option<Vec<u8, A>>, KeepFault>
         // What a read of the collection's file may give, so `None` only if there may be no file.
-        ensures found { F.tells ≡ true → IfOk result (λ found. F.reads self.old.folder (FileName.Kept kind) (texts_of found)) }
-        ensures all { F.tells ≡ true → (other : FileName) → Stays F.reads F.holds F.leaves F.moment F.left_since self.old.folder self.new.folder other }
+        ensures found { F.has_model ≡ true → IfOk result (λ found. F.reads self.old.folder (FileName.Kept kind) (texts_of found)) }
+        ensures all { F.has_model ≡ true → (other : FileName) → Stays F.reads F.holds F.leaves F.moment F.left_since self.old.folder self.new.folder other }
         ensures usable { self.new.is_usable ≡ self.old.is_usable }
         // It does not give up by itself.
         ensures fault { OnErr result (Rises (F.faults self.old.folder) (F.faults self.new.folder)) }

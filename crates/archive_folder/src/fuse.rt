@@ -72,7 +72,7 @@ impl<F: Folder> Fuse<F> {
 impl<F: Folder> Folder for Fuse<F> {
     type File = F::File;
 
-    ghost tells = { F.tells };
+    ghost has_model = { F.has_model };
 
     ghost reads = { λ s. F.reads s.folder };
 

@@ -131,7 +131,7 @@ impl Folder for MemoryFolder {
 
     ghost use Rattle.archive_folder.specs.Memory.{memory_reads, memory_holds, memory_leaves, memory_since, memory_only_now};
 
-    ghost tells = { true };
+    ghost has_model = { true };
 
     ghost reads = { memory_reads };
 
@@ -145,7 +145,7 @@ impl Folder for MemoryFolder {
 
     ghost faults = { λ f. f.faults };
 
-    ghost counts_now = { λ f t name left told le now. inl now };
+    ghost counts_now = { λ f t name left modelled le now. inl now };
 
     ghost only_now = { memory_only_now };
 

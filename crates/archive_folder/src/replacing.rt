@@ -21,8 +21,8 @@ fn write_file<F: Folder, A: Allocator>(
     name: FileName,
     collection: &Collection<A>,
 ) -> Result<(), KeepFault>
-    ensures written { F.tells ≡ true → OnOk result (IsWritten (F.reads folder.new) (F.holds folder.new) name (collection_text collection.now)) }
-    ensures others { F.tells ≡ true → (other : FileName) → other ≢ name → Stays F.reads F.holds F.leaves F.moment F.left_since folder.old folder.new other }
+    ensures written { F.has_model ≡ true → OnOk result (IsWritten (F.reads folder.new) (F.holds folder.new) name (collection_text collection.now)) }
+    ensures others { F.has_model ≡ true → (other : FileName) → other ≢ name → Stays F.reads F.holds F.leaves F.moment F.left_since folder.old folder.new other }
     ensures more { F.faults folder.old ≤ F.faults folder.new }
     ensures fault { OnErr result (Rises (F.faults folder.old) (F.faults folder.new)) }
 {
@@ -40,9 +40,9 @@ fn write_draft<F: Folder, A: Allocator>(
     draft: FileName,
     collection: &Collection<A>,
 ) -> Result<(), KeepFault>
-    ensures written { F.tells ≡ true → OnOk result (IsWritten (F.reads folder.new) (F.holds folder.new) draft (collection_text collection.now)) }
-    ensures others { F.tells ≡ true → (other : FileName) → other ≢ draft → Stays F.reads F.holds F.leaves F.moment F.left_since folder.old folder.new other }
-    ensures cleared { F.tells ≡ true → OnErr result (IsCleared (F.reads folder.old) (F.reads folder.new) draft (F.faults folder.old) (F.faults folder.new)) }
+    ensures written { F.has_model ≡ true → OnOk result (IsWritten (F.reads folder.new) (F.holds folder.new) draft (collection_text collection.now)) }
+    ensures others { F.has_model ≡ true → (other : FileName) → other ≢ draft → Stays F.reads F.holds F.leaves F.moment F.left_since folder.old folder.new other }
+    ensures cleared { F.has_model ≡ true → OnErr result (IsCleared (F.reads folder.old) (F.reads folder.new) draft (F.faults folder.old) (F.faults folder.new)) }
     ensures more { F.faults folder.old ≤ F.faults folder.new }
     ensures fault { OnErr result (Rises (F.faults folder.old) (F.faults folder.new)) }
 {
@@ -57,9 +57,9 @@ fn write_draft<F: Folder, A: Allocator>(
 
 // Gives the file under one name the other, which is on the disk on success.
 fn publish<F: Folder>(folder: &mut F, from: FileName, to: FileName) -> Result<(), KeepFault>
-    ensures has { F.tells ≡ true → OnOk result ((text : List ℕ) → IsWritten (F.reads folder.old) (F.holds folder.old) from text → HasOnly (F.reads folder.new) (F.holds folder.new) (F.leaves folder.new) to text) }
-    ensures replaces { F.tells ≡ true → (text : List ℕ) → IsWritten (F.reads folder.old) (F.holds folder.old) from text → Replaces F.reads F.leaves F.moment F.left_since folder.old folder.new to text }
-    ensures others { F.tells ≡ true → (other : FileName) → other ≢ from → other ≢ to → Stays F.reads F.holds F.leaves F.moment F.left_since folder.old folder.new other }
+    ensures has { F.has_model ≡ true → OnOk result ((text : List ℕ) → IsWritten (F.reads folder.old) (F.holds folder.old) from text → HasOnly (F.reads folder.new) (F.holds folder.new) (F.leaves folder.new) to text) }
+    ensures replaces { F.has_model ≡ true → (text : List ℕ) → IsWritten (F.reads folder.old) (F.holds folder.old) from text → Replaces F.reads F.leaves F.moment F.left_since folder.old folder.new to text }
+    ensures others { F.has_model ≡ true → (other : FileName) → other ≢ from → other ≢ to → Stays F.reads F.holds F.leaves F.moment F.left_since folder.old folder.new other }
     ensures more { F.faults folder.old ≤ F.faults folder.new }
     ensures fault { OnErr result (Rises (F.faults folder.old) (F.faults folder.new)) }
 {
@@ -79,13 +79,13 @@ pub fn replace<F: Folder, A: Allocator>(
     collection: &Collection<A>,
 ) -> Result<(), FolderFault>
     // From then on a crash leaves the new collection and nothing else.
-    ensures kept { F.tells ≡ true → OnOk result (HasOnly (F.reads folder.new) (F.holds folder.new) (F.leaves folder.new) (FileName.Kept kind) (collection_text collection.now)) }
+    ensures kept { F.has_model ≡ true → OnOk result (HasOnly (F.reads folder.new) (F.holds folder.new) (F.leaves folder.new) (FileName.Kept kind) (collection_text collection.now)) }
     // A crash at any moment of the call leaves what was possible before, or the new collection.
-    ensures any_moment { F.tells ≡ true → Replaces F.reads F.leaves F.moment F.left_since folder.old folder.new (FileName.Kept kind) (collection_text collection.now) }
-    ensures not_kept { F.tells ≡ true → (fault : KeepFault) → result ≡ Err (FolderFault.NotKept fault) → Stays F.reads F.holds F.leaves F.moment F.left_since folder.old folder.new (FileName.Kept kind) }
+    ensures any_moment { F.has_model ≡ true → Replaces F.reads F.leaves F.moment F.left_since folder.old folder.new (FileName.Kept kind) (collection_text collection.now) }
+    ensures not_kept { F.has_model ≡ true → (fault : KeepFault) → result ≡ Err (FolderFault.NotKept fault) → Stays F.reads F.holds F.leaves F.moment F.left_since folder.old folder.new (FileName.Kept kind) }
     // The draft is removed again, unless that fails too.
-    ensures cleared { F.tells ≡ true → (fault : KeepFault) → result ≡ Err (FolderFault.NotKept fault) → IsCleared (F.reads folder.old) (F.reads folder.new) (FileName.Draft kind) (F.faults folder.old) (F.faults folder.new) }
-    ensures others { F.tells ≡ true → (other : FileName) → other ≢ FileName.Kept kind → other ≢ FileName.Draft kind → Stays F.reads F.holds F.leaves F.moment F.left_since folder.old folder.new other }
+    ensures cleared { F.has_model ≡ true → (fault : KeepFault) → result ≡ Err (FolderFault.NotKept fault) → IsCleared (F.reads folder.old) (F.reads folder.new) (FileName.Draft kind) (F.faults folder.old) (F.faults folder.new) }
+    ensures others { F.has_model ≡ true → (other : FileName) → other ≢ FileName.Kept kind → other ≢ FileName.Draft kind → Stays F.reads F.holds F.leaves F.moment F.left_since folder.old folder.new other }
     ensures more { F.faults folder.old ≤ F.faults folder.new }
     ensures fault { OnErr result (Rises (F.faults folder.old) (F.faults folder.new)) }
 {

@@ -52,7 +52,7 @@ fn a_crash_after_it(rt: HostRuntime) -> Result<(), Fail> {
     Ok(())
 }
 
-// After the first call that fails each later one does, and the keeper tells both from a load that finds nothing.
+// The folder's sync fails. Then the keeper is not usable, and the next keep fails at once.
 #[test]
 fn an_unknown_outcome_ends_the_keeper(rt: HostRuntime) -> Result<(), Fail> {
     let mut keeper = FolderKeeper::new(Fuse::new(folder(rt)?, 4));

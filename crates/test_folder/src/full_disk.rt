@@ -32,7 +32,7 @@ impl Write for Limited {
     }
 }
 
-// A folder that tells nothing, each file of which takes this many bytes.
+// A folder without a model, each file of which takes this many bytes.
 #[derive(Drop)]
 struct FullFolder {
     folder: MemoryFolder,
@@ -42,7 +42,7 @@ struct FullFolder {
 impl Folder for FullFolder {
     type File = Limited;
 
-    ghost tells = { false };
+    ghost has_model = { false };
 
     ghost reads = { λ _ _ _. Unit {0} };
 
