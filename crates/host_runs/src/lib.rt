@@ -4,6 +4,8 @@
 #[cfg(test)]
 mod folders;
 #[cfg(test)]
+mod obstacles;
+#[cfg(test)]
 mod samples;
 #[cfg(test)]
 mod wires;
