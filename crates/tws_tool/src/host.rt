@@ -19,7 +19,7 @@ use crate::serve::{serve_counted, serve_waiting};
 use crate::status::{FAILED, USAGE};
 use crate::target::Target;
 use crate::tool_fault::ToolFault;
-use archive_host::UdpWire;
+use archive_host::{OpenFault, UdpWire};
 use archive_table::Keeper;
 use archive_turns::{ReadyServer, Server, Wire};
 use std::alloc::Global;
@@ -43,6 +43,14 @@ fn not_loaded<E: Write>(name: &str, errors: &mut E) -> u8
     ensures { result ≡ 2 }
 {
     let _ = writeln!(errors, "tws: {name}: not loaded");
+    FAILED
+}
+
+/// Reports why a folder cannot be opened, and returns the status.
+pub(crate) fn not_opened<E: Write>(fault: OpenFault, name: &str, errors: &mut E) -> u8
+    ensures { result ≡ 2 }
+{
+    let _ = writeln!(errors, "tws: {name}: {fault}");
     FAILED
 }
 

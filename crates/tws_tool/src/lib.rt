@@ -42,7 +42,7 @@ mod target;
 mod tool_fault;
 
 pub use address::Address;
-pub use archive_host::{DirKeeper, UdpWire};
+pub use archive_host::{DirKeeper, HostFolder, OpenFault, UdpWire};
 pub use archive_turns::{
     Entry, GetRun, MemoryWire, PutRun, ReadyServer, RunFault, Server, Wire, WireFault, run_get,
     run_put, serve_ready, serve_turns,

@@ -19,11 +19,12 @@ use crate::pack::run_pack;
 use crate::show::run_show;
 use crate::status::{DONE, USAGE};
 use crate::tool_fault::ToolFault;
-use archive_host::{DirKeeper, UdpWire};
+use archive_host::{DirKeeper, HostFolder, UdpWire};
 use archive_table::NoKeeper;
 use archive_turns::Wire;
 use byte_output::put;
 use std::alloc::Global;
+use std::fs::File;
 use std::io::{Read, Write};
 use std::net::Net;
 use std::rt::Files;
@@ -128,7 +129,7 @@ fn write_best<S: FileSystem, W: Write>(
 }
 
 // Serves the archive, with its collections kept in the folder of this name, if there is one.
-fn serve_job<P: Files + Net + Clock + AllocGlobal + Copy, W: Write, E: Write>(
+fn serve_job<P: Files<File = File> + Net + Clock + AllocGlobal + Copy, W: Write, E: Write>(
     rt: P,
     alloc: Global,
     port: u16,
@@ -143,10 +144,11 @@ fn serve_job<P: Files + Net + Clock + AllocGlobal + Copy, W: Write, E: Write>(
 {
     match dir {
         Some(dir) => {
-            let Ok(folder) = String::from_str(alloc, dir.as_str()) else {
-                return report(ToolFault::Memory, &[], errors);
+            let folder = match HostFolder::open(rt, dir.as_str()) {
+                Ok(folder) => folder,
+                Err(fault) => return host::not_opened(fault, dir.as_str(), errors),
             };
-            let mut keeper = DirKeeper::new(rt, folder);
+            let mut keeper = DirKeeper::new(folder);
             host::serve(
                 rt,
                 alloc,
@@ -166,7 +168,7 @@ fn serve_job<P: Files + Net + Clock + AllocGlobal + Copy, W: Write, E: Write>(
 fn run_job<
     S: FileSystem,
     N: Wire,
-    P: Files + Net + Clock + AllocGlobal + Copy,
+    P: Files<File = File> + Net + Clock + AllocGlobal + Copy,
     R: Read,
     W: Write,
     E: Write,
@@ -215,7 +217,7 @@ fn run_job<
 pub fn run_words_with<
     S: FileSystem,
     N: Wire,
-    P: Files + Net + Clock + AllocGlobal + Copy,
+    P: Files<File = File> + Net + Clock + AllocGlobal + Copy,
     R: Read,
     W: Write,
     E: Write,
@@ -252,14 +254,12 @@ pub fn run_words_with<
 }
 
 /// The same with the system's files and sockets, which tell nothing.
-pub fn run_words<P: Files + Net + Clock + AllocGlobal + Copy, R: Read, W: Write, E: Write>(
-    rt: &P,
-    alloc: Global,
-    words: &[String],
-    input: &mut R,
-    out: &mut W,
-    errors: &mut E,
-) -> u8
+pub fn run_words<
+    P: Files<File = File> + Net + Clock + AllocGlobal + Copy,
+    R: Read,
+    W: Write,
+    E: Write,
+>(rt: &P, alloc: Global, words: &[String], input: &mut R, out: &mut W, errors: &mut E) -> u8
     ensures ran { (job : Result Job JobFault) × AnswersWords (map string_bytes words.now) job × JobRuns (λ name. None) (λ name. None) job result None None (R.remaining input.old) (R.remaining input.new) (W.contents out.old) (W.contents out.new) }
     ensures usage { result ≡ 1 → (input.new ≡ input.old) × (out.new ≡ out.old) }
     ensures status { result ≤ 4 }
