@@ -1,4 +1,4 @@
-/* The loop of `ends_bench` in C, to time it against: one sender and one receiver of a file of the greatest length, in memory,
+/* The loop of `bench_ends` in C, to time it against: one sender and one receiver of a file of the greatest length, in memory,
    several times. */
 #include <stdio.h>
 #include <stdlib.h>

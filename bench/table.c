@@ -1,4 +1,4 @@
-/* The loop of `table_bench` in C, to time it against: a server's table in memory, with downloads of a collection and uploads
+/* The loop of `bench_table` in C, to time it against: a server's table in memory, with downloads of a collection and uploads
    of files in turn. The first byte of the input says how many transfers are live at a time, `1` or otherwise 64; the second
    how long the solutions of the files are, `l` for long ones, or otherwise about as long as those that players send; the
    third how many downloads and uploads there are, `+` for 320 of each, or otherwise 64. */

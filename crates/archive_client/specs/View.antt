@@ -4,7 +4,7 @@ use Rattle.tftp_packet.specs.declared.sizes.TheConstants.{BLOCK_SIZE}
 use Rattle.tftp_ends.specs.Ends.{Sender, Receiver}
 use Rattle.tftp_ends.specs.Heard.{Heard, nothing, stray, refusal, acked, block}
 use Rattle.tws_file.specs.declared.«ruleset».Ruleset.{Ruleset}
-use Rattle.archive_client.specs.declared.phase.Phase as kept
+use Rattle.archive_client.specs.declared.phase.Phase as phases
 use Rattle.archive_client.specs.declared.phase.Phase.TheVariants as phase
 use Rattle.archive_client.specs.declared.heard.Heard as borrowed
 use Rattle.archive_client.specs.declared.heard.Heard.TheVariants as hears
@@ -12,21 +12,21 @@ use Rattle.archive_client.specs.declared.put.Put.TheInside as putting
 use Rattle.archive_client.specs.declared.get.Get.TheInside as getting
 use Rattle.archive_client.specs.Client.{Phase, asking, sending, receiving, failed, Client, put, get}
 
-abbrev pub put_phase : kept.Phase (List ℕ) Sender → Phase
+abbrev pub put_phase : phases.Phase (List ℕ) Sender → Phase
 put_phase (phase.Asking file misses) = asking (put file) misses
 put_phase (phase.Bound peer s) = sending peer s
 put_phase (phase.Failed why) = failed why
 
-abbrev pub get_phase : kept.Phase Ruleset Receiver → Phase
+abbrev pub get_phase : phases.Phase Ruleset Receiver → Phase
 get_phase (phase.Asking kind misses) = asking (get kind) misses
 get_phase (phase.Bound peer r) = receiving peer r
 get_phase (phase.Failed why) = failed why
 
 -- the port that a client is bound to, whatever its end
-abbrev pub kept_peer : {W E : Type 0} → kept.Phase W E → Option ℕ
-kept_peer (phase.Asking wanted misses) = None
-kept_peer (phase.Bound peer e) = Some peer
-kept_peer (phase.Failed why) = None
+abbrev pub bound_peer : {W E : Type 0} → phases.Phase W E → Option ℕ
+bound_peer (phase.Asking wanted misses) = None
+bound_peer (phase.Bound peer e) = Some peer
+bound_peer (phase.Failed why) = None
 
 abbrev pub put_of : {A : Type 0} → putting.Inside A → Client
 put_of p = record { port = p.line.port; server = p.line.server; phase = put_phase p.phase }

@@ -1,5 +1,5 @@
 ghost use Rattle.std.specs.Prelude.{◌≡◌};
-ghost use Rattle.archive_client.specs.View.{kept_peer};
+ghost use Rattle.archive_client.specs.View.{bound_peer};
 
 use crate::cause::Cause;
 
@@ -14,7 +14,7 @@ pub(crate) enum Phase<W, E> {
 impl<W, E> Phase<W, E> {
     /// The port that the client is bound to, if any.
     pub(crate) fn peer(&self) -> Option<u16>
-        ensures { result ≡ kept_peer self.now }
+        ensures { result ≡ bound_peer self.now }
     {
         match self {
             Phase::Bound { peer, .. } => Some(*peer),

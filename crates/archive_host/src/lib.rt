@@ -4,8 +4,8 @@
 //! a fault of the wire is named after its call, that failures are counted, and which paths a folder uses. The rest is
 //! tested.
 //!
-//! Read `specs/Arrivals.antt` first: which port is read next, and which are open. docs/CALLING.md shows how the crate
-//! is called.
+//! Read `specs/Arrivals.antt` first: which port is read next, and which are open. README.md shows how the crate is
+//! called.
 #![tactic(auto)]
 
 mod host_folder;

@@ -51,8 +51,8 @@ impl OpenPorts {
         Ok(())
     }
 
-    // The place of a port in the list.
-    fn place(&self, port: u16) -> Option<usize>
+    // The index of a port in the list.
+    fn index_of(&self, port: u16) -> Option<usize>
         ensures within { IfSome result (λ i. i < length self.now.ports.items) }
         ensures port { IfSome result (λ i. (o : _) → slice_get self.now.ports.items i ≡ Some o → o.port ≡ port) }
         ensures none { IfNone result (All (λ o. o.port ≢ port) self.now.ports.items) }
@@ -64,25 +64,25 @@ impl OpenPorts {
     pub(crate) fn get(&self, port: u16) -> Option<&OpenPort>
         ensures { IfSome result (λ o. o.now.port ≡ port) }
     {
-        let place = self.place(port)?;
-        Some(&self.ports[place])
+        let i = self.index_of(port)?;
+        Some(&self.ports[i])
     }
 
     /// The open port with this number, to be changed.
     pub(crate) fn get_mut(&mut self, port: u16) -> Option<&mut OpenPort>
         ensures { IfSome result (λ o. o.now.port ≡ port) }
     {
-        let place = self.place(port)?;
-        Some(&mut self.ports[place])
+        let i = self.index_of(port)?;
+        Some(&mut self.ports[i])
     }
 
     /// Closes a port. Returns whether it was open.
     pub(crate) fn close(&mut self, port: u16) -> bool
         ensures { Closes port result self.old.ports.items self.new.ports.items }
     {
-        match self.place(port) {
-            Some(place) => {
-                self.ports.remove(place);
+        match self.index_of(port) {
+            Some(i) => {
+                self.ports.remove(i);
                 true
             }
             None => false,

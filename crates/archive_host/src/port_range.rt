@@ -15,12 +15,12 @@ impl PortRange {
     /// The number of ports in the range.
     pub(crate) const LEN: u16 = 16_384;
 
-    /// Returns the ports from this place on. After the last place the range starts over.
-    pub(crate) fn from_place(place: u32) -> Self
-        ensures { result.next ≡ FIRST + place % Self.LEN }
+    /// Returns the ports from one that the seed chooses. After the last port the range starts over.
+    pub(crate) fn from_seed(seed: u32) -> Self
+        ensures { result.next ≡ FIRST + seed % Self.LEN }
     {
         PortRange {
-            next: FIRST + (place % u32::from(Self::LEN)) as u16,
+            next: FIRST + (seed % u32::from(Self::LEN)) as u16,
         }
     }
 

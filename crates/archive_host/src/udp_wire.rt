@@ -43,9 +43,9 @@ pub struct UdpWire<R: Net + Clock + AllocGlobal + Copy> {
     ghost laps: { lap < LAPS },
 }
 
-// A place that differs from one start of the program to the next, so that a port that was open before a restart is
+// A number that differs from one start of the program to the next, so that a port that was open before a restart is
 // seldom opened again soon.
-fn place<R: Clock>(rt: &R) -> u32 {
+fn seed<R: Clock>(rt: &R) -> u32 {
     match rt.since_1970() {
         Ok(time) => time.subsec_nanos() / 1000,
         Err(_) => 0,
@@ -61,7 +61,7 @@ impl<R: Net + Clock + AllocGlobal + Copy> UdpWire<R> {
             rt,
             watch: None,
             ports: OpenPorts::new(rt.alloc()),
-            range: PortRange::from_place(place(&rt)),
+            range: PortRange::from_seed(seed(&rt)),
             given: None,
             lap: 0,
             time: 0,
@@ -185,8 +185,8 @@ impl<R: Net + Clock + AllocGlobal + Copy> UdpWire<R> {
         Ok(None)
     }
 
-    // How long to wait for the moment `until`: not at all if a datagram may be left to read.
-    fn until(&mut self, until: Option<u64>) -> Option<u64>
+    // How many milliseconds to wait for the moment `until`: none if a datagram may be left to read.
+    fn millis_left(&mut self, until: Option<u64>) -> Option<u64>
         ensures failures { self.new.failures ≡ self.old.failures }
         ensures at_once { one_may_have_more self.old.ports.ports.items ≡ true → result ≡ Some 0 }
         ensures without_end { one_may_have_more self.old.ports.ports.items ≡ false → until ≡ None → result ≡ None }
@@ -195,7 +195,7 @@ impl<R: Net + Clock + AllocGlobal + Copy> UdpWire<R> {
             return Some(0);
         }
         let now = self.now();
-        until.map(|until| until.saturating_sub(now))
+        until.map(|moment| moment.saturating_sub(now))
     }
 
     // Begins a lap over the ports: looks for arrivals. A port that was read mostly has no second datagram, so it is
@@ -204,7 +204,7 @@ impl<R: Net + Clock + AllocGlobal + Copy> UdpWire<R> {
     fn begin_lap(&mut self, until: Option<u64>)
         ensures failures { self.new.failures ≡ self.old.failures }
     {
-        let millis = self.until(until);
+        let millis = self.millis_left(until);
         self.look(millis);
         self.lap = (self.lap + 1) % LAPS;
         if self.lap == 0 || self.ports.ready_least().is_none() {

@@ -5,13 +5,15 @@ use Rattle.tftp_packet.specs.Decode.{decode_bytes}
 use Rattle.tftp_ends.specs.Ends.{Verdict}
 use Rattle.tws_file.specs.declared.«ruleset».Ruleset.TheVariants.{Lynx, Ms}
 use Rattle.tws_best.specs.Best.{Collected, IsCollected}
-use Rattle.archive_table.specs.Server.{Server, Maps, Taken, Answer, Grant, all, no_memory, unkept, transfer_at, server_datagram, port_above}
+use Rattle.archive_table.specs.Server.{Server, Maps, Taken, Answer, Grant, all, no_memory, unkept, transfer_at, server_datagram}
 use Rattle.archive_table.specs.Keeper.{Keeping, KeepsOne, KeepsMaps, FailsKeepOf, StepKeeps}
-use Rattle.archive_turns.specs.Turn.{Replies, Receipt, datagram, nothing, fault, Answers, Asks, is_usable, request_used, request_spared, request_received, received_asks, transfer_received, visit_at, visit_asks, KeepsAsked, Walk, walk_on, turn_ends, Visited, Counted, IsTurn, next_visit, is_quiet}
-use Rattle.archive_turns.specs.Timers.{lower, timed}
+use Rattle.archive_turns.specs.Turn.{Replies, Receipt, datagram, nothing, fault, Answers, Asks, is_usable, request_used, request_spared, request_received, received_asks, transfer_received, KeepsAsked, Walk, walk_on, next_visit, next_asks, IsPass}
+use Rattle.archive_turns.specs.Timers.{timers_after, restart}
 use Rattle.archive_turns.specs.Wire.{Entry}
-use Rattle.archive_turns.specs.declared.limits.TheConstants.{QUIET_TURNS}
-use Rattle.archive_turns.specs.Ready.{Clocked, IsRound, deadline, port_visit, port_asks, ready_visit, ready_asks}
+use Rattle.archive_turns.specs.declared.clock.Clock.{Clock}
+use Rattle.archive_turns.specs.declared.next.Next.{Next}
+use Rattle.archive_turns.specs.declared.next.Next.TheVariants as next
+use Rattle.archive_turns.specs.declared.timer.Timer.{Timer}
 use Rattle.archive_world.specs.Restarts.{HasKept, IsTextAt, AreOwnRules}
 use Rattle.archive_world.proofs.Loading.{step-stays_kept, loads-the_same}
 use Rattle.archive_world.proofs.Remaining.{decoded_leaves, timeout_leaves, found_takes}
@@ -89,17 +91,10 @@ module _ (s : Server) where
   request_maps nothing answers = refl
   request_maps fault answers = refl
 
-  visit_fine : (found : Option ℕ) (answers : Answers) → IsFine (visit_asks found answers s) s.maps (visit_at found answers s).server.maps
-  visit_fine (Some port) answers = received_fine answers.receipt answers port
-  visit_fine None answers = request_maps answers.receipt answers
-
-  port_fine : (is_request : Bool) (port : ℕ) (answers : Answers) → IsFine (port_asks is_request port answers s) s.maps (port_visit is_request port answers s).server.maps
-  port_fine true port answers = request_maps answers.receipt answers
-  port_fine false port answers = received_fine answers.receipt answers port
-
-  ready_fine : (ready : Option ℕ) (answers : Answers) → IsFine (ready_asks ready answers s) s.maps (ready_visit ready answers s).server.maps
-  ready_fine (Some port) answers = port_fine (port == s.request) port answers
-  ready_fine None answers = refl
+  visit_fine : (n : Next) (answers : Answers) → IsFine (next_asks n answers s) s.maps (next_visit n answers s).server.maps
+  visit_fine next.Request answers = request_maps answers.receipt answers
+  visit_fine (next.Transfer port) answers = received_fine answers.receipt answers port
+  visit_fine next.Nowhere answers = refl
 
 -- ---- time-outs
 
@@ -108,32 +103,19 @@ walk_maps [] due k = refl
 walk_maps (e ∷ late) due k =
     walk_maps late due (walk_on due k e) ∙ (timeout_leaves (transfer_at e.0 k.server) e.0 k.server).1
 
-ends_maps : (quiet : Bool) (v : Visited) (late : List (ℕ × Replies)) (old : Counted) → (turn_ends quiet v.change v.server late old.timers).server.maps ≡ v.server.maps
-ends_maps true v late old =
-    walk_maps late QUIET_TURNS (record { server = v.server; timers = lower old.timers; calls = [] })
-ends_maps false v late old = refl
-
--- ---- a turn
+-- ---- a turn or a round
 
 -- by what the visit and the time-outs do to the collections
 ends_kept : (asks : Option Asks) (old mid new : Maps) (kept now : Option (List Keeping)) → KeepsAsked asks old mid kept now → IsFine asks old mid → new ≡ mid → AreOwnRules new → KeptIn kept old → KeptIn now new
 ends_kept asks old mid new kept now keeps fine is rules has =
     subst (KeptIn now) (sym is) (asked-kept asks old mid kept now keeps fine (subst AreOwnRules is rules) has)
 
-pub turn-kept : (old new : Counted) (took : Bool) (calls : List Entry) (kept now : Option (List Keeping)) → IsTurn old new took calls kept now → AreOwnRules new.table.maps → KeptIn kept old.table.maps → KeptIn now new.table.maps
-turn-kept old new took calls kept now t rules has =
-    let v = next_visit old.last t.answers old.table in
-    ends_kept (visit_asks (port_above old.last old.table) t.answers old.table) old.table.maps v.server.maps new.table.maps kept now t.keeps
-    (visit_fine old.table (port_above old.last old.table) t.answers)
-    (ap (λ (s : Server). s.maps) t.table ∙ ends_maps (is_quiet v.change) v t.late old)
-    rules has
-
-pub round-kept : (old new : Clocked) (took : Bool) (calls : List Entry) (kept now : Option (List Keeping)) → IsRound old new took calls kept now → AreOwnRules new.table.maps → KeptIn kept old.table.maps → KeptIn now new.table.maps
-round-kept old new took calls kept now t rules has =
-    let v = ready_visit t.ready t.answers old.table in
-    ends_kept (ready_asks t.ready t.answers old.table) old.table.maps v.server.maps new.table.maps kept now t.keeps
-    (ready_fine old.table t.ready t.answers)
-    (ap (λ (s : Server). s.maps) t.table ∙ walk_maps t.late (deadline t.time) (record { server = v.server; timers = timed v.change (deadline t.time) old.timers; calls = [] }))
+pub pass-kept : (clock : Clock) (n : Next) (old new : Server) (timers left : List Timer) (took : Bool) (calls : List Entry) (kept now : Option (List Keeping)) → IsPass clock n old new timers left took calls kept now → AreOwnRules new.maps → KeptIn kept old.maps → KeptIn now new.maps
+pass-kept clock n old new timers left took calls kept now p rules has =
+    let v = next_visit n p.answers old in
+    ends_kept (next_asks n p.answers old) old.maps v.server.maps new.maps kept now p.keeps
+    (visit_fine old n p.answers)
+    (ap (λ (s : Server). s.maps) p.table ∙ walk_maps p.late (restart clock) (record { server = v.server; timers = timers_after clock v.change timers; calls = [] }))
     rules has
 
 -- ---- a restart

@@ -30,7 +30,7 @@ use Rattle.archive_running.specs.Archive.{Archive, idle, IsStrangers, Brings, ow
 use Rattle.archive_running.proofs.Fitting.{all-may, all-merged}
 use Rattle.archive_running.proofs.Showing.{Shows, with_client, shows-mirrors}
 use Rattle.archive_running.proofs.Coming.{Makes, IsBrought, begin-makes, client-makes, waits-makes, restart-makes}
-use Rattle.archive_running.proofs.Restarting.{KeptIn, turn-kept, round-kept, restart-same}
+use Rattle.archive_running.proofs.Restarting.{KeptIn, pass-kept, restart-same}
 use Rattle.archive_running.proofs.Serving.{Brought, makes-then, sent-sendings, turn-makes, round-makes}
 
 -- ---- a turn of a client
@@ -138,14 +138,14 @@ restarted a members maps now has before =
     subst (λ (m : Maps). Made (after_restart m now a) (members ++ does loads ∷ [])) (sym same.0) whole
 
 moved : {a b : Archive} {members added : List Member} → Made a members → Moves a b added → Made b (members ++ added)
-moved {members} before (server_turns a old new took calls now t is brings) =
+moved {members} before (server_turns a last timers new took calls now t brings) =
     served a _ members _ before
-    (turn-makes a (trace_from members start) old new took calls a.kept now t is before.makes.shows (by_places server_endpoint.host calls a brings))
-    (λ rules. turn-kept old new took calls a.kept now t rules (subst (λ (s : Server). KeptIn a.kept s.maps) is before.kept))
-moved {members} before (server_rounds a old new took calls now t is brings) =
+    (turn-makes a (trace_from members start) last timers new took calls now t before.makes.shows (by_places server_endpoint.host calls a brings))
+    (λ rules. pass-kept _ _ a.server new.table _ _ took calls a.kept now t.pass rules before.kept)
+moved {members} before (server_rounds a last timers new took calls now t brings) =
     served a _ members _ before
-    (round-makes a (trace_from members start) old new took calls a.kept now t is before.makes.shows (by_places server_endpoint.host calls a brings))
-    (λ rules. round-kept old new took calls a.kept now t rules (subst (λ (s : Server). KeptIn a.kept s.maps) is before.kept))
+    (round-makes a (trace_from members start) last timers new took calls now t before.makes.shows (by_places server_endpoint.host calls a brings))
+    (λ rules. pass-kept _ _ a.server new.table _ _ took _ a.kept now t.pass rules before.kept)
 moved {members} before (server_restarts a maps now has) = restarted a members maps now has before
 moved {members} before (client_begins a host operation port replies r away is) =
     asked a _ members _ before refl refl

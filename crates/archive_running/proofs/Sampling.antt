@@ -14,7 +14,9 @@ use Rattle.archive_client.specs.declared.state.State.TheVariants as state
 use Rattle.archive_client.specs.Client.{Operation, put, get, client_start, request_out, state_of, file_of}
 use Rattle.archive_turns.specs.declared.limits.TheConstants.{QUIET_TURNS}
 use Rattle.archive_turns.specs.Wire.{Entry}
-use Rattle.archive_turns.specs.Turn.{Replies, datagram, Answers, Counted, IsTurn, Visited, KeepsAsked, visit_asks, next_visit, is_quiet, ports_late, turn_visited, noted}
+use Rattle.archive_turns.specs.declared.clock.Clock.TheVariants.{Turns}
+use Rattle.archive_turns.specs.Timers.{timers_after, late_ports}
+use Rattle.archive_turns.specs.Turn.{Replies, datagram, Answers, Service, IsTurn, Visited, KeepsAsked, next_asks, next_visit, turn_next, walk_after, noted}
 use Rattle.archive_turns.specs.Run.{Run, RunAnswers, run_turn, begin_opened}
 use Rattle.archive_world.specs.World.{Datagram, server_endpoint, start}
 use Rattle.archive_world.specs.Traces.{Member, starts, trace_from}
@@ -23,7 +25,7 @@ use Rattle.archive_world.proofs.Places.{Has-contains, Has-from_contains}
 use Rattle.archive_world.proofs.OwnTest.{own-by}
 use Rattle.archive_world.proofs.Premises.{empty_merged}
 use Rattle.archive_running.specs.Members.{come_to, visit_members, late_members, client_members, does}
-use Rattle.archive_running.specs.Archive.{Archive, idle, Brings, after_server, after_begin, after_client, Moves, server_turns, client_begins, client_turns, told, more, CanReach}
+use Rattle.archive_running.specs.Archive.{Archive, idle, Brings, server_of, after_server, after_begin, after_client, Moves, server_turns, client_begins, client_turns, told, more, CanReach}
 
 -- ---- one turn
 
@@ -39,43 +41,41 @@ brings_at host calls a x n come at d among =
     inl (Has-contains a.net d (record { place = n; is = at ∙ ap Some (sym same) }))
 
 -- a server that has visited the request port last, and in whose turn no port times out
-abbrev before : Archive → Counted
-before a = record { table = a.server; last = 0; timers = [] }
+abbrev before : Archive → Service
+before a = server_of 0 [] a
 
 abbrev visited : Archive → Answers → Visited
-visited a answers = next_visit 0 answers a.server
+visited a answers = next_visit (turn_next (before a)) answers a.server
 
-abbrev after : Archive → Answers → Counted
+abbrev after : Archive → Answers → Service
 after a answers =
     record {
-      table = (turn_visited (visited a answers) [] []).server;
+      table = (walk_after Turns (visited a answers) [] []).server;
       last = noted (port_above 0 a.server);
-      timers = (turn_visited (visited a answers) [] []).timers;
+      timers = (walk_after Turns (visited a answers) [] []).timers;
     }
 
 abbrev calls_of : Archive → Answers → List Entry
-calls_of a answers = (turn_visited (visited a answers) [] []).calls
-
-none_late : (quiet : Bool) → [] ≡ ports_late quiet []
-none_late true = refl
-none_late false = refl
+calls_of a answers = (visited a answers).calls ++ (walk_after Turns (visited a answers) [] []).calls
 
 abbrev nothing_kept : Option (List Keeping)
 nothing_kept = Some []
 
-abbrev a_turn : (a : Archive) (answers : Answers) → Merges (visited a answers).taken a.server.maps (visited a answers).server.maps → KeepsAsked (visit_asks (port_above 0 a.server) answers a.server) a.server.maps (visited a answers).server.maps nothing_kept nothing_kept → IsTurn (before a) (after a answers) (is_some (visited a answers).taken) (calls_of a answers) nothing_kept nothing_kept
-a_turn a answers merges keeps =
+abbrev a_turn : (a : Archive) (answers : Answers) → Merges (visited a answers).taken a.server.maps (visited a answers).server.maps → KeepsAsked (next_asks (turn_next (before a)) answers a.server) a.server.maps (visited a answers).server.maps nothing_kept nothing_kept → [] ≡ late_ports Turns (visited a answers).change (timers_after Turns (visited a answers).change []) → IsTurn (before a) (after a answers) (is_some (visited a answers).taken) (calls_of a answers) nothing_kept nothing_kept
+a_turn a answers merges keeps late =
     record {
-      answers = answers;
-      late = [];
-      late_are = none_late (is_quiet (visited a answers).change);
-      table = refl;
-      timers = refl;
-      calls_are = refl;
+      pass = record {
+        answers = answers;
+        late = [];
+        late_are = late;
+        table = refl;
+        timers_are = refl;
+        calls_are = refl;
+        taken_is = refl;
+        merges = merges;
+        keeps = keeps;
+      };
       last = refl;
-      taken_is = refl;
-      merges = merges;
-      keeps = keeps;
     }
 
 abbrev turned : Archive → Answers → Archive
@@ -83,7 +83,7 @@ turned a answers =
     after_server (after a answers).table (visited a answers).taken (calls_of a answers) nothing_kept a
 
 abbrev server_members : Archive → Answers → List Member
-server_members a answers = visit_members (port_above 0 a.server) answers a.server ++ late_members []
+server_members a answers = visit_members (turn_next (before a)) answers a.server ++ late_members []
 
 -- ---- both ends
 
@@ -171,7 +171,7 @@ unfolding encode decode_bytes block_of
 opens_put =
     let a = begun empty in
     let answers = request empty in
-    server_turns a (before a) (after a answers) _ (calls_of a answers) nothing_kept (a_turn a answers refl refl) refl
+    server_turns a 0 [] (after a answers) _ (calls_of a answers) nothing_kept (a_turn a answers refl refl refl)
     (brings_at server_endpoint.host (calls_of a answers) a _ 0 refl refl)
 
 binds_put : Moves (opened empty) (heard empty first_ack) (client_members (answered first_ack) 2 (asking empty))
@@ -185,8 +185,8 @@ takes : Moves (heard empty first_ack) taken (server_members (heard empty first_a
 unfolding encode decode_bytes block_of
 takes =
     let a = heard empty first_ack in
-    server_turns a (before a) (after a last_block) _ (calls_of a last_block) nothing_kept
-    (a_turn a last_block empty_merged (keeps_all all (Some (record { peer = here; file = [] })) empty_maps empty_maps nothing_kept nothing_kept refl refl refl)) refl
+    server_turns a 0 [] (after a last_block) _ (calls_of a last_block) nothing_kept
+    (a_turn a last_block empty_merged (keeps_all all (Some (record { peer = here; file = [] })) empty_maps empty_maps nothing_kept nothing_kept refl refl refl) refl)
     (brings_at server_endpoint.host (calls_of a last_block) a _ 2 refl refl)
 
 ends_put : Moves taken acked (client_members (answered last_ack) 2 (bound empty first_ack))
@@ -237,7 +237,7 @@ unfolding encode decode_bytes block_of
 opens_get =
     let a = begun lynx in
     let answers = request lynx in
-    server_turns a (before a) (after a answers) _ (calls_of a answers) nothing_kept (a_turn a answers refl refl) refl
+    server_turns a 0 [] (after a answers) _ (calls_of a answers) nothing_kept (a_turn a answers refl refl refl)
     (brings_at server_endpoint.host (calls_of a answers) a _ 0 refl refl)
 
 gets : Moves (opened lynx) (heard lynx whole) (client_members (answered whole) 2 (asking lynx))

@@ -7,17 +7,20 @@ use Rattle.tftp_packet.specs.declared.out.Out.{Out}
 use Rattle.tftp_ends.specs.Ends.{Verdict}
 use Rattle.archive_table.specs.Server.{Server, Transfer, Taken, Merges, transfer_at, port_above, server_timeout, server_request, server_datagram}
 use Rattle.archive_table.specs.Keeper.{Keeping}
-use Rattle.archive_turns.specs.declared.limits.TheConstants.{QUIET_TURNS}
-use Rattle.archive_turns.specs.Timers.{lower, timed}
+use Rattle.archive_turns.specs.declared.clock.Clock.{Clock}
+use Rattle.archive_turns.specs.declared.clock.Clock.TheVariants.{Turns, Milliseconds}
+use Rattle.archive_turns.specs.declared.next.Next.{Next}
+use Rattle.archive_turns.specs.declared.next.Next.TheVariants as next
+use Rattle.archive_turns.specs.declared.timer.Timer.{Timer}
+use Rattle.archive_turns.specs.Timers.{timers_after, restart}
 use Rattle.archive_turns.specs.Wire.{Entry}
-use Rattle.archive_turns.specs.Turn.{Replies, Receipt, datagram, nothing, fault, Answers, Visited, sendings, step_calls, transfer_received, is_usable, request_used, request_spared, request_received, visit_at, Walk, walk_on, Counted, IsTurn, next_visit, is_quiet, ports_late, turn_ends}
-use Rattle.archive_turns.specs.Ready.{Clocked, IsRound, deadline, port_visit, ready_visit, round_walk}
+use Rattle.archive_turns.specs.Turn.{Replies, Receipt, datagram, nothing, fault, Answers, Visited, sendings, step_calls, transfer_received, is_usable, request_used, request_spared, request_received, Walk, walk_on, walk_after, next_visit, next_of, port_next, ready_next, turn_next, IsPass, Service, IsTurn, IsRound}
 use Rattle.archive_world.specs.World.{Datagram, World, server_endpoint, taken_with}
 use Rattle.archive_world.specs.Traces.{Member, server_waits_long, after_deed, trace_from}
 use Rattle.archive_world.proofs.Places.{Has, Has-extends}
 use Rattle.archive_world.proofs.Lasting.{either}
-use Rattle.archive_running.specs.Members.{arrival, sent_in, come_in, sent_by, come_to, does, transfer_members, used_members, spared_members, request_members, visit_members, port_members, ready_members, late_members}
-use Rattle.archive_running.specs.Archive.{Archive, after_server}
+use Rattle.archive_running.specs.Members.{arrival, sent_in, come_in, sent_by, come_to, does, transfer_members, used_members, spared_members, request_members, visit_members, late_members}
+use Rattle.archive_running.specs.Archive.{Archive, after_server, server_of}
 use Rattle.archive_running.proofs.Fitting.{fit-append, trace-append}
 use Rattle.archive_running.proofs.Ports.{IsApart, above-apart}
 use Rattle.archive_running.proofs.Showing.{Shows, outs, with_answer}
@@ -73,6 +76,12 @@ brought-first host before after a brought d has =
     brought d (Has-extends (come_to host before) (come_to host (before ++ after)) d (record { rest = come_to host after; is = flat_map-append (come_in host) before after }) has)
 
 -- ---- a visit of the server
+
+-- The request port is no transfer's.
+abbrev IsFit : Next → Server → Type 0
+IsFit next.Request s = Unit {0}
+IsFit (next.Transfer port) s = port ≢ s.request
+IsFit next.Nowhere s = Unit {0}
 
 module _ (a : Archive) (w : World) (h : Shows a w) where
   abbrev pub VisitMakes : Visited → List Member → Type 0
@@ -131,26 +140,12 @@ module _ (a : Archive) (w : World) (h : Shows a w) where
   request_made nothing answers brought = nothing_made
   request_made fault answers brought = nothing_made
 
-  visit_made : (last : ℕ) (found : Option ℕ) → port_above last a.server ≡ found → (answers : Answers) →
-      let v = visit_at found answers a.server in
-      Brought server_endpoint.host v.calls a → Merges v.taken a.server.maps v.server.maps → VisitMakes v (visit_members found answers a.server)
-  visit_made last (Some port) is answers brought merges =
-      transfer_made answers.receipt answers port (above-apart last a.server h.apart port is) brought merges
-  visit_made last None is answers brought merges = request_made answers.receipt answers brought
-
-  port_made : (is_request : Bool) (port : ℕ) → (port == a.server.request) ≡ is_request → (answers : Answers) →
-      let v = port_visit is_request port answers a.server in
-      Brought server_endpoint.host v.calls a → Merges v.taken a.server.maps v.server.maps → VisitMakes v (port_members is_request port answers a.server)
-  port_made true port is answers brought merges = request_made answers.receipt answers brought
-  port_made false port is answers brought merges =
-      transfer_made answers.receipt answers port (eqb-false _ _ is) brought merges
-
-  ready_made : (ready : Option ℕ) (answers : Answers) →
-      let v = ready_visit ready answers a.server in
-      Brought server_endpoint.host v.calls a → Merges v.taken a.server.maps v.server.maps → VisitMakes v (ready_members ready answers a.server)
-  ready_made (Some port) answers brought merges =
-      port_made (port == a.server.request) port refl answers brought merges
-  ready_made None answers brought merges = nothing_made
+  visit_made : (n : Next) → IsFit n a.server → (answers : Answers) →
+      let v = next_visit n answers a.server in
+      Brought server_endpoint.host v.calls a → Merges v.taken a.server.maps v.server.maps → VisitMakes v (visit_members n answers a.server)
+  visit_made next.Request fit answers brought merges = request_made answers.receipt answers brought
+  visit_made (next.Transfer port) fit answers brought merges = transfer_made answers.receipt answers port fit brought merges
+  visit_made next.Nowhere fit answers brought merges = nothing_made
 
 -- ---- time-outs
 
@@ -170,15 +165,6 @@ walk_made (e ∷ late) due k a w h =
     let shown : Shows (after_server x.server None (k.calls ++ calls) a.kept a) (after_deed m.deed m.grant m.maps w) = subst (λ (l : List Datagram). Shows (make l) (after_deed m.deed m.grant m.maps w)) net first.shows in
     let rest = walk_made late due (walk_on due k e) a (after_deed m.deed m.grant m.maps w) shown in
     record { fit = (first.fit.0, rest.fit); shows = rest.shows }
-
--- those after a visit of the server that counts its turns
-ended : (is_quiet : Bool) (v : Visited) (late : List (ℕ × Replies)) (old : Counted) (a : Archive) (w : World) → Shows a w → map (λ e. e.0) late ≡ ports_late is_quiet old.timers →
-    let end = turn_ends is_quiet v.change a.server late old.timers in
-    Makes (after_server end.server None end.calls a.kept a) (late_members late) w
-ended true v late old a w h are =
-    walk_made late QUIET_TURNS (record { server = a.server; timers = lower old.timers; calls = [] }) a w (shows-still a w h)
-ended false v [] old a w h are = record { fit = tt; shows = shows-still a w h }
-ended false v (e ∷ late) old a w h are = absurd cc
 
 -- what follows a visit
 after_visit : (a : Archive) (w : World) (v : Visited) (end : Walk) (ms late : List Member) →
@@ -211,50 +197,43 @@ keeps-makes now s told calls a ms w made =
       };
     }
 
--- the same archive, with an equal server
-abbrev as_server : Server → Archive → Archive
-as_server s a = record { server = s; clients = a.clients; begun = a.begun; taken = a.taken; net = a.net; kept = a.kept }
+-- a visit, and the time-outs after it
+pass-makes : (a : Archive) (w : World) (clock : Clock) (n : Next) (new : Server) (timers left : List Timer) (took : Bool) (calls : List Entry) (now : Option (List Keeping)) (p : IsPass clock n a.server new timers left took calls a.kept now) → IsFit n a.server → Shows a w → Brought server_endpoint.host calls a → Makes (after_server new (next_visit n p.answers a.server).taken calls now a) (visit_members n p.answers a.server ++ late_members p.late) w
+pass-makes a w clock n new timers left took calls now p fit h brought =
+    let v = next_visit n p.answers a.server in
+    let end = walk_after clock v p.late timers in
+    let came : Brought server_endpoint.host v.calls a = brought-first server_endpoint.host v.calls end.calls a (subst (λ (l : List Entry). Brought server_endpoint.host l a) p.calls_are brought) in
+    let visited = after_server v.server v.taken v.calls a.kept a in
+    keeps-makes now new v.taken calls a _ w
+    (after_visit a w v end _ _
+    (visit_made a w h n fit p.answers came p.merges)
+    (λ shown. walk_made p.late (restart clock) (record { server = v.server; timers = timers_after clock v.change timers; calls = [] }) visited _ (shows-still visited _ shown))
+    new calls p.table (ap (sent_by server_endpoint.host) p.calls_are))
 
-shows-as : (a : Archive) (w : World) (s : Server) → a.server ≡ s → Shows a w → Shows (as_server s a) w
-shows-as a w s is h =
-    record {
-      server = h.server ∙ is;
-      clients = h.clients;
-      begun = h.begun;
-      taken = h.taken;
-      net = h.net;
-      others = h.others;
-      sent = h.sent;
-      got = h.got;
-      known = h.known;
-      apart = subst IsApart is h.apart;
-    }
+turn_fits : (last : ℕ) (found : Option ℕ) (s : Server) → port_above last s ≡ found → IsApart s → IsFit (next_of found) s
+turn_fits last (Some port) s is apart = above-apart last s apart port is
+turn_fits last None s is apart = tt
 
-brought-as : (s : Server) (d : Datagram) (a : Archive) → IsBrought d a → IsBrought d (as_server s a)
-brought-as s d a (inl before) = inl before
-brought-as s d a (inr stranger) = inr (record { away = stranger.away; unbegun = stranger.unbegun })
+pub turn-makes : (a : Archive) (w : World) (last : ℕ) (timers : List Timer) (new : Service) (took : Bool) (calls : List Entry) (now : Option (List Keeping)) (t : IsTurn (server_of last timers a) new took calls a.kept now) → Shows a w → Brought server_endpoint.host calls a →
+    let n = turn_next (server_of last timers a) in
+    Makes (after_server new.table (next_visit n t.pass.answers a.server).taken calls now a) (visit_members n t.pass.answers a.server ++ late_members t.pass.late) w
+turn-makes a w last timers new took calls now t h brought =
+    pass-makes a w Turns (turn_next (server_of last timers a)) new.table timers new.timers took calls now t.pass (turn_fits last (port_above last a.server) a.server refl h.apart) h brought
 
-pub turn-makes : (a : Archive) (w : World) (old new : Counted) (took : Bool) (calls : List Entry) (kept now : Option (List Keeping)) (t : IsTurn old new took calls kept now) → a.server ≡ old.table → Shows a w → Brought server_endpoint.host calls a → Makes (after_server new.table (next_visit old.last t.answers old.table).taken calls now a) (visit_members (port_above old.last old.table) t.answers old.table ++ late_members t.late) w
-turn-makes a w old new took calls kept now t is h brought =
-    let v = next_visit old.last t.answers old.table in
-    let end = turn_ends (is_quiet v.change) v.change v.server t.late old.timers in
-    let b = as_server old.table a in
-    let came : Brought server_endpoint.host v.calls b = brought-first server_endpoint.host v.calls end.calls b (subst (λ (l : List Entry). Brought server_endpoint.host l b) t.calls_are (λ d has. brought-as old.table d a (brought d has))) in
-    keeps-makes now new.table v.taken calls b _ w
-    (after_visit b w v end _ _
-    (visit_made b w (shows-as a w old.table is h) old.last (port_above old.last old.table) refl t.answers came t.merges)
-    (λ shown. ended (is_quiet v.change) v t.late old _ _ shown t.late_are)
-    new.table calls t.table (ap (sent_by server_endpoint.host) t.calls_are))
+port_fits : (is_request : Bool) (port : ℕ) (s : Server) → (port == s.request) ≡ is_request → IsFit (port_next is_request port) s
+port_fits true port s is = tt
+port_fits false port s is = eqb-false _ _ is
 
-pub round-makes : (a : Archive) (w : World) (old new : Clocked) (took : Bool) (calls : List Entry) (kept now : Option (List Keeping)) (t : IsRound old new took calls kept now) → a.server ≡ old.table → Shows a w → Brought server_endpoint.host calls a → Makes (after_server new.table (ready_visit t.ready t.answers old.table).taken calls now a) (ready_members t.ready t.answers old.table ++ late_members t.late) w
-round-makes a w old new took calls kept now t is h brought =
-    let v = ready_visit t.ready t.answers old.table in
-    let end = round_walk v t.time t.late old.timers in
-    let b = as_server old.table a in
-    let came : Brought server_endpoint.host v.calls b = brought-first server_endpoint.host v.calls end.calls b (subst (λ (l : List Entry). Brought server_endpoint.host l b) t.calls_are (λ d has. brought-as old.table d a (brought d has))) in
-    let visited = after_server v.server v.taken v.calls b.kept b in
-    keeps-makes now new.table v.taken calls b _ w
-    (after_visit b w v end _ _
-    (ready_made b w (shows-as a w old.table is h) t.ready t.answers came t.merges)
-    (λ shown. walk_made t.late (deadline t.time) (record { server = v.server; timers = timed v.change (deadline t.time) old.timers; calls = [] }) visited _ (shows-still visited _ shown))
-    new.table calls t.table (ap (sent_by server_endpoint.host) t.calls_are))
+ready_fits : (ready : Option ℕ) (s : Server) → IsFit (ready_next ready s) s
+ready_fits (Some port) s = port_fits (port == s.request) port s refl
+ready_fits None s = tt
+
+pub round-makes : (a : Archive) (w : World) (last : ℕ) (timers : List Timer) (new : Service) (took : Bool) (calls : List Entry) (now : Option (List Keeping)) (t : IsRound (server_of last timers a) new took calls a.kept now) → Shows a w → Brought server_endpoint.host calls a →
+    let n = ready_next t.ready a.server in
+    Makes (after_server new.table (next_visit n t.pass.answers a.server).taken calls now a) (visit_members n t.pass.answers a.server ++ late_members t.pass.late) w
+round-makes a w last timers new took calls now t h brought =
+    let n = ready_next t.ready a.server in
+    let others : Brought server_endpoint.host t.others a = subst (λ (l : List Entry). Brought server_endpoint.host l a) t.calls_are brought in
+    let made = pass-makes a w (Milliseconds t.time) n new.table timers new.timers took t.others now t.pass (ready_fits t.ready a.server) h others in
+    let make : List Entry → Archive = λ l. after_server new.table (next_visit n t.pass.answers a.server).taken l now a in
+    subst (λ (l : List Entry). Makes (make l) (visit_members n t.pass.answers a.server ++ late_members t.pass.late) w) (sym t.calls_are) made

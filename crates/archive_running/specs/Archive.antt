@@ -6,19 +6,19 @@ use Rattle.std.specs.Map.{lookup, set_value}
 use Rattle.std.specs.Io.KnownBytes.{Appends}
 use Rattle.tftp_packet.specs.declared.endpoint.Endpoint.{Endpoint}
 use Rattle.tws_file.specs.declared.«ruleset».Ruleset.TheVariants.{Lynx, Ms}
-use Rattle.archive_table.specs.Server.{Server, Maps, Taken, port_above, empty_maps, is_same}
+use Rattle.archive_table.specs.Server.{Server, Maps, Taken, empty_maps, is_same}
 use Rattle.archive_table.specs.Keeper.{Keeping, LoadedFrom}
 use Rattle.archive_client.specs.declared.state.State.TheVariants as state
 use Rattle.archive_client.specs.Client.{Client, Operation, state_of, file_of}
 use Rattle.archive_turns.specs.Wire.{Entry}
-use Rattle.archive_turns.specs.Turn.{Replies, Counted, IsTurn, next_visit}
-use Rattle.archive_turns.specs.Ready.{Clocked, IsRound, ready_visit}
+use Rattle.archive_turns.specs.declared.timer.Timer.{Timer}
+use Rattle.archive_turns.specs.Turn.{Replies, Service, IsTurn, IsRound, next_visit, turn_next, ready_next}
 use Rattle.archive_turns.specs.Run.{Run, begin_opened, IsRunTurn}
 use Rattle.archive_world.specs.World.{Datagram, Begun, World, server_endpoint, taken_with, start}
 use Rattle.archive_world.specs.Headline.{HasOwnPorts, IsFinishedGet}
 use Rattle.archive_world.specs.Restarts.{AreAlike}
 use Rattle.archive_world.specs.Traces.{starts, loads, Member, trace_from}
-use Rattle.archive_running.specs.Members.{sent_by, come_to, does, visit_members, ready_members, late_members, client_members}
+use Rattle.archive_running.specs.Members.{sent_by, come_to, does, visit_members, late_members, client_members}
 
 -- ---- what runs
 
@@ -117,13 +117,17 @@ LoadsKept (Some log) (Some told) old new =
 
 -- ---- how it moves
 
+-- the archive's server, with the port that it visited last and its timers
+abbrev pub server_of : (last : ℕ) (timers : List Timer) → Archive → Service
+server_of last timers a = record { table = a.server; last = last; timers = timers }
+
 -- One move: a turn of the server or of a client, a begin, or a restart; with its members of the trace. A begin that
 -- fails sends nothing and leaves no client, so it is not a move.
 pub data Moves : (old new : Archive) → List Member → Type 0 where
-  -- the server that counts its turns makes one; the port that it visited last, and its timers, may be any
-  server_turns : (a : Archive) (old new : Counted) (took : Bool) (calls : List Entry) (now : Option (List Keeping)) (t : IsTurn old new took calls a.kept now) → a.server ≡ old.table → Brings server_endpoint.host calls a → Moves a (after_server new.table (next_visit old.last t.answers old.table).taken calls now a) (visit_members (port_above old.last old.table) t.answers old.table ++ late_members t.late)
-  -- the server that waits makes a round
-  server_rounds : (a : Archive) (old new : Clocked) (took : Bool) (calls : List Entry) (now : Option (List Keeping)) (t : IsRound old new took calls a.kept now) → a.server ≡ old.table → Brings server_endpoint.host calls a → Moves a (after_server new.table (ready_visit t.ready t.answers old.table).taken calls now a) (ready_members t.ready t.answers old.table ++ late_members t.late)
+  -- the server makes a turn; the port that it visited last, and its timers, may be any
+  server_turns : (a : Archive) (last : ℕ) (timers : List Timer) (new : Service) (took : Bool) (calls : List Entry) (now : Option (List Keeping)) (t : IsTurn (server_of last timers a) new took calls a.kept now) → Brings server_endpoint.host calls a → Moves a (after_server new.table (next_visit (turn_next (server_of last timers a)) t.pass.answers a.server).taken calls now a) (visit_members (turn_next (server_of last timers a)) t.pass.answers a.server ++ late_members t.pass.late)
+  -- the server makes a round
+  server_rounds : (a : Archive) (last : ℕ) (timers : List Timer) (new : Service) (took : Bool) (calls : List Entry) (now : Option (List Keeping)) (t : IsRound (server_of last timers a) new took calls a.kept now) → Brings server_endpoint.host calls a → Moves a (after_server new.table (next_visit (ready_next t.ready a.server) t.pass.answers a.server).taken calls now a) (visit_members (ready_next t.ready a.server) t.pass.answers a.server ++ late_members t.pass.late)
   server_restarts : (a : Archive) (maps : Maps) (now : Option (List Keeping)) → LoadsKept a.kept now a.server.maps maps → Moves a (after_restart maps now a) (does loads ∷ [])
   -- an operation begins on another host than the server's
   client_begins : (a : Archive) (host : ℕ) (operation : Operation) (port : Option ℕ) (replies : Replies) (r : Run) → host ≢ server_endpoint.host → (begin_opened port server_endpoint operation replies).result ≡ Ok r → Moves a (after_begin host operation r (begin_opened port server_endpoint operation replies).calls a) (does (starts (own_endpoint host r) operation) ∷ [])

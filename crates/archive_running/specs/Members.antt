@@ -1,9 +1,11 @@
 -- What the turns of archive_turns are in the world of archive_world: a datagram that is received and not dropped is a
 -- `hears`, and a time-out is a `client_waits_long` or a `server_waits_long`.
-use Rattle.std.specs.Prelude.{ℕ, ◌==◌, Bool, true, false, nat_le, List, [], ◌∷◌, map, flat_map, Option, None, Some}
+use Rattle.std.specs.Prelude.{ℕ, Bool, true, false, nat_le, List, [], ◌∷◌, map, flat_map, Option, None, Some}
 use Rattle.tftp_packet.specs.declared.endpoint.Endpoint.{Endpoint}
 use Rattle.tftp_ends.specs.Ends.{Verdict, granted, refused}
 use Rattle.archive_table.specs.Server.{Server, Maps, Grant, all, no_memory, empty_maps}
+use Rattle.archive_turns.specs.declared.next.Next.{Next}
+use Rattle.archive_turns.specs.declared.next.Next.TheVariants as next
 use Rattle.archive_turns.specs.Wire.{Entry, opened, closed, came, quiet, failed, sent, waited}
 use Rattle.archive_turns.specs.Turn.{Replies, Receipt, datagram, nothing, fault, Answers, is_usable}
 use Rattle.archive_turns.specs.Run.{Run, RunAnswers}
@@ -77,19 +79,10 @@ request_members (datagram from bytes) a s = spared_members a.spare a.verdict fro
 request_members nothing a s = []
 request_members fault a s = []
 
--- the visit of the server that counts its turns: to a live port, or to the request port
-abbrev pub visit_members : Option ℕ → Answers → Server → List Member
-visit_members (Some port) a s = transfer_members a.receipt a port
-visit_members None a s = request_members a.receipt a s
-
--- that of the server that waits: to the ready port, if there is one
-abbrev pub port_members : (is_request : Bool) → (port : ℕ) → Answers → Server → List Member
-port_members true port a s = request_members a.receipt a s
-port_members false port a s = transfer_members a.receipt a port
-
-abbrev pub ready_members : Option ℕ → Answers → Server → List Member
-ready_members (Some port) a s = port_members (port == s.request) port a s
-ready_members None a s = []
+abbrev pub visit_members : Next → Answers → Server → List Member
+visit_members next.Request a s = request_members a.receipt a s
+visit_members (next.Transfer port) a s = transfer_members a.receipt a port
+visit_members next.Nowhere a s = []
 
 -- the time-outs after a visit
 abbrev pub late_members : List (ℕ × Replies) → List Member

@@ -45,8 +45,8 @@ impl<A: Allocator> Step<A> {
         }
     }
 
-    // Sends this datagram from a port, if there is one.
-    pub(crate) fn send(&mut self, port: u16, to: Endpoint, dgram: Option<Dgram>)
+    // Fills in the datagram to send, if there is one.
+    pub(crate) fn set_out(&mut self, port: u16, to: Endpoint, dgram: Option<Dgram>)
         requires silent { self.old.out ≡ None }
         ensures { self.new ≡ record { out = sends_from port to dgram; opened = self.old.opened; taken = self.old.taken; closed = self.old.closed } }
     {
@@ -67,6 +67,6 @@ impl<A: Allocator> Step<A> {
         ensures told { self.new ≡ record { out = Some (out_from port from (refusal_packet UnknownTransfer)); opened = false; taken = None; closed = false } }
         ensures grant { grant_of self.new.out ≡ all }
     {
-        self.send(port, from, Some(Refusal::UnknownTransfer.dgram()));
+        self.set_out(port, from, Some(Refusal::UnknownTransfer.dgram()));
     }
 }

@@ -97,7 +97,7 @@ impl<A: Allocator + Copy> Table<A> {
         ensures fits { IsServer self.now }
     {
         let mut step = Step::nothing();
-        step.send(self.request, from, Some(why.dgram()));
+        step.set_out(self.request, from, Some(why.dgram()));
         step
     }
 
@@ -298,14 +298,14 @@ impl<A: Allocator + Copy> Table<A> {
         let peer = transfer.peer;
         match &mut transfer.end {
             End::Sending(sender) => {
-                step.send(port, peer, sender.on_timeout());
+                step.set_out(port, peer, sender.on_timeout());
                 match sender.state() {
                     SendState::Running => {}
                     SendState::Finished | SendState::TimedOut => self.close(port, step),
                 }
             }
             End::Receiving(incoming) => {
-                step.send(port, peer, incoming.on_timeout());
+                step.set_out(port, peer, incoming.on_timeout());
                 match incoming.state() {
                     RecvState::Running | RecvState::Complete => {}
                     RecvState::TimedOut | RecvState::Over => self.close(port, step),

@@ -9,4 +9,3 @@ pub mod Transfers
 pub mod Following
 pub mod Turns
 pub mod Running
-pub mod Rounding

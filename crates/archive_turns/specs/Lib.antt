@@ -4,5 +4,4 @@ pub mod Timers
 pub mod Turn
 pub mod Parts
 pub mod Run
-pub mod Ready
 pub mod View

@@ -1,12 +1,14 @@
--- What private functions do: parts of a turn and of a round.
+-- What private functions do: parts of a turn or round.
 use Rattle.std.specs.Prelude.{◌≡◌, ℕ, Bool, List, map, Option, is_some}
 use Rattle.tftp_packet.specs.declared.out.Out.{Out}
 use Rattle.archive_table.specs.Server.{Server, Merges}
 use Rattle.archive_table.specs.Keeper.{Keeping}
 use Rattle.archive_turns.specs.declared.change.Change.{Change}
+use Rattle.archive_turns.specs.declared.clock.Clock.{Clock}
+use Rattle.archive_turns.specs.declared.next.Next.{Next}
 use Rattle.archive_turns.specs.declared.timer.Timer.{Timer}
 use Rattle.archive_turns.specs.Wire.{Entry, Grows}
-use Rattle.archive_turns.specs.Turn.{Replies, Answers, Visited, Asks, KeepsAsked, sendings, step_calls, walk, is_quiet, ports_late, turn_ends}
+use Rattle.archive_turns.specs.Turn.{Replies, Answers, Visited, Asks, KeepsAsked, IsPass, sendings, step_calls, walk}
 
 -- A visit does what its definition says for some answers, and the log has grown by its calls.
 pub record IsVisit (visit : Answers → Visited) (asks : Answers → Option Asks) (old new : Server) (taken : Bool) (change : Change) (before after : Option (List Entry)) (kept now : Option (List Keeping)) : Type 0 where
@@ -43,10 +45,8 @@ pub record Walks (ports : List ℕ) (due : ℕ) (old new : Server) (timers left 
   pub timers_are : left ≡ (walk due old timers late).timers
   pub log : Grows before after (walk due old timers late).calls
 
--- the state after the end of a turn
-pub record Ends (change : Change) (old new : Server) (timers left : List Timer) (before after : Option (List Entry)) : Type 0 where
-  pub late : List (ℕ × Replies)
-  pub late_are : map (λ e. e.0) late ≡ ports_late (is_quiet change) timers
-  pub server : new ≡ (turn_ends (is_quiet change) change old late timers).server
-  pub timers_are : left ≡ (turn_ends (is_quiet change) change old late timers).timers
-  pub log : Grows before after (turn_ends (is_quiet change) change old late timers).calls
+-- the state after a visit and the time-outs after it
+pub record Passes (clock : Clock) (next : Next) (old new : Server) (timers left : List Timer) (taken : Bool) (before after : Option (List Entry)) (kept now : Option (List Keeping)) : Type 0 where
+  pub calls : List Entry
+  pub pass : IsPass clock next old new timers left taken calls kept now
+  pub log : Grows before after calls

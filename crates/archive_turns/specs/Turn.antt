@@ -1,6 +1,5 @@
--- One turn of a server: which calls of the wire it makes, in which order, and which steps of the table. What the wire
--- returns is an argument, and so is what the steps are granted. A client's turn is in `Run`, the server that waits for
--- ready ports in `Ready`.
+-- One turn or round of a server: which calls of the wire it makes, in which order, and which steps of the table. What the
+-- wire returns is an argument, and so is what the steps are granted. A client's turn is in `Run`.
 use Rattle.std.specs.Prelude.{◌≡◌, ℕ, ◌==◌, ◌&&◌, not, Bool, true, false, ◌+◌, List, [], ◌∷◌, ◌++◌, map, fold, Option, None, Some, is_some}
 use Rattle.tftp_packet.specs.declared.endpoint.Endpoint.{Endpoint}
 use Rattle.tftp_packet.specs.declared.out.Out.{Out}
@@ -9,10 +8,13 @@ use Rattle.archive_table.specs.Server.{Server, Maps, Taken, Answer, Grant, all, 
 use Rattle.archive_table.specs.Keeper.{Keeping, StepKeeps}
 use Rattle.archive_turns.specs.declared.change.Change.{Change}
 use Rattle.archive_turns.specs.declared.change.Change.TheVariants.{Quiet, Nothing, Opened, Sent, Closed}
-use Rattle.archive_turns.specs.declared.limits.TheConstants.{QUIET_TURNS}
+use Rattle.archive_turns.specs.declared.clock.Clock.{Clock}
+use Rattle.archive_turns.specs.declared.clock.Clock.TheVariants.{Turns, Milliseconds}
+use Rattle.archive_turns.specs.declared.next.Next.{Next}
+use Rattle.archive_turns.specs.declared.next.Next.TheVariants as next
 use Rattle.archive_turns.specs.declared.timer.Timer.{Timer}
-use Rattle.archive_turns.specs.Timers.{lower, due_ports, timed, timed_out}
-use Rattle.archive_turns.specs.Wire.{Entry, opened, closed, came, quiet, failed, sent, Grows}
+use Rattle.archive_turns.specs.Timers.{timed_out, timers_after, late_ports, restart, earliest}
+use Rattle.archive_turns.specs.Wire.{Entry, opened, closed, came, quiet, failed, sent, waited, Grows}
 
 -- ---- what is returned and granted
 
@@ -160,10 +162,6 @@ received_asks fault grant port s = None
 abbrev pub transfer_asks : Answers → (port : ℕ) → Server → Option Asks
 transfer_asks a port s = received_asks a.receipt a.grant port s
 
-abbrev pub visit_asks : Option ℕ → Answers → Server → Option Asks
-visit_asks (Some port) a s = transfer_asks a port s
-visit_asks None a s = None
-
 -- what the keeper's list gains, if the keeper tells it
 abbrev pub KeepsAsked : Option Asks → Maps → Maps → (kept now : Option (List Keeping)) → Type 0
 KeepsAsked (Some a) old new kept now = StepKeeps a.grant a.wanted old new kept now
@@ -188,84 +186,123 @@ walk_on due w e = walk_timeout e.0 due w (timeout_visit e.1 e.0 w.server)
 abbrev pub walk : (due : ℕ) → Server → List Timer → List (ℕ × Replies) → Walk
 walk due s timers late = fold (walk_on due) (record { server = s; timers = timers; calls = [] }) late
 
--- ---- the server that counts turns
+-- ---- a visit and the time-outs after it
 
-pub record Counted : Type 0 where
+abbrev pub next_visit : Next → Answers → Server → Visited
+next_visit next.Request a s = request_visit a s
+next_visit (next.Transfer port) a s = transfer_visit a port s
+next_visit next.Nowhere a s = lost_visit [] s
+
+abbrev pub next_asks : Next → Answers → Server → Option Asks
+next_asks next.Request a s = None
+next_asks (next.Transfer port) a s = transfer_asks a port s
+next_asks next.Nowhere a s = None
+
+-- After a visit each port that is due times out.
+abbrev pub walk_after : Clock → Visited → (late : List (ℕ × Replies)) → List Timer → Walk
+walk_after clock v late timers = walk (restart clock) v.server (timers_after clock v.change timers) late
+
+-- What a server does by this clock, once it knows what it visits next: the visit, and the time-outs after it. `late` has
+-- the results of the calls after each time-out.
+pub record IsPass (clock : Clock) (next : Next) (old new : Server) (timers left : List Timer) (taken : Bool) (calls : List Entry) (kept now : Option (List Keeping)) : Type 0 where
+  pub answers : Answers
+  pub late : List (ℕ × Replies)
+  pub late_are : map (λ e. e.0) late ≡ late_ports clock (next_visit next answers old).change (timers_after clock (next_visit next answers old).change timers)
+  pub table : new ≡ (walk_after clock (next_visit next answers old) late timers).server
+  pub timers_are : left ≡ (walk_after clock (next_visit next answers old) late timers).timers
+  pub calls_are : calls ≡ (next_visit next answers old).calls ++ (walk_after clock (next_visit next answers old) late timers).calls
+  pub taken_is : taken ≡ is_some (next_visit next answers old).taken
+  -- the visit changes the collections as the table's calls do
+  pub merges : Merges (next_visit next answers old).taken old.maps (next_visit next answers old).server.maps
+  pub keeps : KeepsAsked (next_asks next answers old) old.maps (next_visit next answers old).server.maps kept now
+
+-- ---- a turn and a round
+
+pub record Service : Type 0 where
   pub table : Server
-  -- the port visited last, 0 if that was the request port
+  -- the port visited last, initially 0
   pub last : ℕ
-  -- for each live port how many quiet turns are left until it times out
+  -- for each live port how many quiet turns are left until it times out, or the time at which it does
   pub timers : List Timer
 
-abbrev pub visit_at : Option ℕ → Answers → Server → Visited
-visit_at (Some port) a s = transfer_visit a port s
-visit_at None a s = request_visit a s
+abbrev pub next_of : Option ℕ → Next
+next_of (Some port) = next.Transfer port
+next_of None = next.Request
 
--- The port visited is the least live port above the last one, or the request port if there is none.
-abbrev pub next_visit : (last : ℕ) → Answers → Server → Visited
-next_visit last a s = visit_at (port_above last s) a s
-
--- the port to note as the last one visited
+-- the port to note as the last one visited, 0 if that was the request port
 abbrev pub noted : Option ℕ → ℕ
 noted (Some port) = port
 noted None = 0
 
-abbrev pub is_quiet : Change → Bool
-is_quiet Quiet = true
-is_quiet Nothing = false
-is_quiet (Opened port) = false
-is_quiet (Sent port) = false
-is_quiet (Closed port) = false
+-- A turn visits the least live port above the last one, or the request port if there is none.
+abbrev pub turn_next : Service → Next
+turn_next s = next_of (port_above s.last s.table)
 
--- the ports that time out after the visit
-abbrev pub ports_late : (quiet : Bool) → List Timer → List ℕ
-ports_late true timers = due_ports 0 (lower timers)
-ports_late false timers = []
-
-abbrev pub walk_after : List Entry → Walk → Walk
-walk_after calls w = record { server = w.server; timers = w.timers; calls = calls ++ w.calls }
-
--- A turn in which nothing was received is quiet: each live port has one quiet turn fewer left, and those that have none
--- left time out.
-abbrev pub turn_ends : (quiet : Bool) → Change → Server → (late : List (ℕ × Replies)) → List Timer → Walk
-turn_ends true change s late timers = walk QUIET_TURNS s (lower timers) late
-turn_ends false change s late timers = record { server = s; timers = timed change QUIET_TURNS timers; calls = [] }
-
-abbrev pub turn_visited : Visited → (late : List (ℕ × Replies)) → List Timer → Walk
-turn_visited v late timers = walk_after v.calls (turn_ends (is_quiet v.change) v.change v.server late timers)
-
--- One turn: a visit, and the time-outs after it. `late` has the results of the calls after each time-out.
-pub record IsTurn (old new : Counted) (taken : Bool) (calls : List Entry) (kept now : Option (List Keeping)) : Type 0 where
-  pub answers : Answers
-  pub late : List (ℕ × Replies)
-  pub late_are : map (λ e. e.0) late ≡ ports_late (is_quiet (next_visit old.last answers old.table).change) old.timers
-  pub table : new.table ≡ (turn_visited (next_visit old.last answers old.table) late old.timers).server
-  pub timers : new.timers ≡ (turn_visited (next_visit old.last answers old.table) late old.timers).timers
-  pub calls_are : calls ≡ (turn_visited (next_visit old.last answers old.table) late old.timers).calls
+-- One turn of the server that counts its quiet turns.
+pub record IsTurn (old new : Service) (taken : Bool) (calls : List Entry) (kept now : Option (List Keeping)) : Type 0 where
+  pub pass : IsPass Turns (turn_next old) old.table new.table old.timers new.timers taken calls kept now
   pub last : new.last ≡ noted (port_above old.last old.table)
-  pub taken_is : taken ≡ is_some (next_visit old.last answers old.table).taken
-  -- the visit changes the collections as the table's calls do
-  pub merges : Merges (next_visit old.last answers old.table).taken old.table.maps (next_visit old.last answers old.table).server.maps
-  pub keeps : KeepsAsked (visit_asks (port_above old.last old.table) answers old.table) old.table.maps (next_visit old.last answers old.table).server.maps kept now
 
--- a turn was made, and the log has grown by its calls
-pub record MakesTurn (old new : Counted) (taken : Bool) (before after : Option (List Entry)) (kept now : Option (List Keeping)) : Type 0 where
+abbrev pub port_next : (is_request : Bool) → (port : ℕ) → Next
+port_next true port = next.Request
+port_next false port = next.Transfer port
+
+-- A round visits the port that is ready, if one is.
+abbrev pub ready_next : Option ℕ → Server → Next
+ready_next (Some port) s = port_next (port == s.request) port
+ready_next None s = next.Nowhere
+
+abbrev pub noted_or : (last : ℕ) → Option ℕ → ℕ
+noted_or last (Some port) = port
+noted_or last None = last
+
+-- One round: a wait, a visit to the ready port, and the time-outs of the ports that are due, however busy the wire is. Its
+-- time is that of the wire's clock, in milliseconds. The wait asks for the next port above the last one, so that none
+-- starves if the wire returns that port.
+pub record IsRound (old new : Service) (taken : Bool) (calls : List Entry) (kept now : Option (List Keeping)) : Type 0 where
+  pub ready : Option ℕ
+  pub time : ℕ
+  pub others : List Entry
+  pub pass : IsPass (Milliseconds time) (ready_next ready old.table) old.table new.table old.timers new.timers taken others kept now
+  pub calls_are : calls ≡ waited old.last (earliest old.timers) ready time ∷ others
+  pub last : new.last ≡ noted_or old.last ready
+
+-- ---- one after another
+
+-- what is known of the server and its keeper before and after, of the calls, and of whether a file was taken
+abbrev pub Step : Type 1
+Step = Service → Service → Bool → List Entry → Option (List Keeping) → Option (List Keeping) → Type 0
+
+-- a turn or round was made, and the log has grown by its calls
+pub record Makes (Is : Step) (old new : Service) (taken : Bool) (before after : Option (List Entry)) (kept now : Option (List Keeping)) : Type 0 where
   pub calls : List Entry
-  pub turn : IsTurn old new taken calls kept now
+  pub made : Is old new taken calls kept now
   pub log : Grows before after calls
+
+abbrev pub MakesTurn : (old new : Service) (taken : Bool) (before after : Option (List Entry)) (kept now : Option (List Keeping)) → Type 0
+MakesTurn old new taken before after kept now = Makes IsTurn old new taken before after kept now
+
+abbrev pub MakesRound : (old new : Service) (taken : Bool) (before after : Option (List Entry)) (kept now : Option (List Keeping)) → Type 0
+MakesRound old new taken before after kept now = Makes IsRound old new taken before after kept now
 
 -- one more file, if one was taken
 abbrev pub count_if : (took : Bool) → ℕ → ℕ
 count_if true taken = taken + 1
 count_if false taken = taken
 
--- turns one after another: how many of them took a file, and their calls
-pub data Serves : (turns : ℕ) (old new : Counted) (taken : ℕ) (calls : List Entry) (kept now : Option (List Keeping)) → Type 0 where
-  none : (c : Counted) (kept : Option (List Keeping)) → Serves 0 c c 0 [] kept kept
-  more : {turns : ℕ} {old mid new : Counted} {taken : ℕ} {calls added : List Entry} {kept between now : Option (List Keeping)} (took : Bool) → Serves turns old mid taken calls kept between → IsTurn mid new took added between now → Serves (turns + 1) old new (count_if took taken) (calls ++ added) kept now
+-- turns or rounds one after another: how many of them took a file, and their calls
+pub data Serves (Is : Step) : (count : ℕ) (old new : Service) (taken : ℕ) (calls : List Entry) (kept now : Option (List Keeping)) → Type 0 where
+  none : (s : Service) (kept : Option (List Keeping)) → Serves Is 0 s s 0 [] kept kept
+  more : {count : ℕ} {old mid new : Service} {taken : ℕ} {calls added : List Entry} {kept between now : Option (List Keeping)} (took : Bool) → Serves Is count old mid taken calls kept between → Is mid new took added between now → Serves Is (count + 1) old new (count_if took taken) (calls ++ added) kept now
 
--- turns were made, of which `taken` took a file
-pub record MakesTurns (turns : ℕ) (old new : Counted) (taken : ℕ) (before after : Option (List Entry)) (kept now : Option (List Keeping)) : Type 0 where
+-- so many of them were made, of which `taken` took a file
+pub record MakesMany (Is : Step) (count : ℕ) (old new : Service) (taken : ℕ) (before after : Option (List Entry)) (kept now : Option (List Keeping)) : Type 0 where
   pub calls : List Entry
-  pub served : Serves turns old new taken calls kept now
+  pub served : Serves Is count old new taken calls kept now
   pub log : Grows before after calls
+
+abbrev pub MakesTurns : (turns : ℕ) (old new : Service) (taken : ℕ) (before after : Option (List Entry)) (kept now : Option (List Keeping)) → Type 0
+MakesTurns turns old new taken before after kept now = MakesMany IsTurn turns old new taken before after kept now
+
+abbrev pub MakesRounds : (rounds : ℕ) (old new : Service) (taken : ℕ) (before after : Option (List Entry)) (kept now : Option (List Keeping)) → Type 0
+MakesRounds rounds old new taken before after kept now = MakesMany IsRound rounds old new taken before after kept now

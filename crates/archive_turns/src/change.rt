@@ -1,3 +1,6 @@
+ghost use Rattle.std.specs.Prelude.{◌≡◌};
+ghost use Rattle.archive_turns.specs.Timers.{is_quiet as quiet_change};
+
 /// What a visit to a port, or a time-out, changed for the live ports.
 #[derive(Clone, Copy, Debug, PartialEq, Eq)]
 pub(crate) enum Change {
@@ -11,4 +14,19 @@ pub(crate) enum Change {
     Sent(u16),
     /// The transfer at this port has ended.
     Closed(u16),
+}
+
+impl Change {
+    /// Whether nothing was received.
+    pub(crate) fn is_quiet(self) -> bool
+        ensures { result ≡ quiet_change self }
+    {
+        match self {
+            Change::Quiet => true,
+            Change::Nothing => false,
+            Change::Opened(_) => false,
+            Change::Sent(_) => false,
+            Change::Closed(_) => false,
+        }
+    }
 }

@@ -1,8 +1,6 @@
 ghost use Rattle.std.specs.Prelude.{◌≡◌, ◌<◌, ◌≤◌, ◌+◌};
-ghost use Rattle.archive_turns.specs.Ready.{MakesRounds};
-ghost use Rattle.archive_turns.specs.Turn.{MakesTurns, count_if};
+ghost use Rattle.archive_turns.specs.Turn.{MakesTurns, MakesRounds, count_if};
 
-use crate::ready_server::ReadyServer;
 use crate::ready_wire::ReadyWire;
 use crate::server::Server;
 use crate::wire::Wire;
@@ -34,11 +32,11 @@ pub fn serve_turns<A: Allocator + Copy, W: Wire, K: Keeper>(
     taken
 }
 
-/// Makes this many rounds of a server that waits for ready ports. Returns how many files were taken.
-pub fn serve_ready<A: Allocator + Copy, W: ReadyWire, K: Keeper>(
+/// Makes this many rounds of a server. Returns how many files were taken.
+pub fn serve_rounds<A: Allocator + Copy, W: ReadyWire, K: Keeper>(
     wire: &mut W,
     keeper: &mut K,
-    server: &mut ReadyServer<A>,
+    server: &mut Server<A>,
     rounds: u64,
 ) -> u64
     ensures { MakesRounds rounds server.old server.new result (W.log wire.old) (W.log wire.new) (K.log keeper.old) (K.log keeper.new) }

@@ -1,23 +1,24 @@
-//! The server that counts turns.
+//! The server over a wire: turns that count, and rounds that wait for ready ports.
 
-ghost use Rattle.std.specs.Prelude.{◌≡◌, Err, IfOk, IfErr, []};
+ghost use Rattle.std.specs.Prelude.{◌≡◌, Err, IfOk, IfErr, ◌==◌, []};
 ghost use Rattle.archive_table.specs.Server.{empty_server, IsServer, port_above};
 ghost use Rattle.archive_table.specs.Keeper.{HasLoaded, TableFails, FailsAt};
-ghost use Rattle.archive_turns.specs.Timers.{ports_of, live_ports, timed, HasRoom, Tracks};
-ghost use Rattle.archive_turns.specs.Parts.{IsVisit, Ends};
-ghost use Rattle.archive_turns.specs.Turn.{MakesTurn, visit_at, visit_asks, noted};
+ghost use Rattle.archive_turns.specs.Timers.{Tracks};
+ghost use Rattle.archive_turns.specs.Parts.{IsVisit, Passes};
+ghost use Rattle.archive_turns.specs.Turn.{MakesTurn, MakesRound, next_visit, next_asks, next_of, ready_next, noted, noted_or};
 
-use crate::change::Change;
-use crate::limits::QUIET_TURNS;
+use crate::clock::Clock;
+use crate::next::Next;
+use crate::ready_wire::ReadyWire;
 use crate::timers::Timers;
-use crate::visit::{Visit, time_out_due, visit_request, visit_transfer};
+use crate::visit::{Visit, time_out_late, visit_request, visit_transfer};
 use crate::wire::Wire;
 use archive_table::{KeepFault, Keeper, LoadFault, Table};
 use std::alloc::{Allocator, Global};
 use std::marker::Model;
 
-/// A server whose time is counted in turns: a table, the port that was visited last, and for each live port how many
-/// quiet turns are left until it times out.
+/// A table, the port that was visited last, and a timer for each live port: how many quiet turns are left until it times
+/// out, if `turn` is called, or the time at which it does, if `round` is.
 #[derive(Drop)]
 pub struct Server<A: Allocator + Copy = Global> {
     table: Table<A>,
@@ -27,41 +28,74 @@ pub struct Server<A: Allocator + Copy = Global> {
 
 impl<A: Allocator + Copy> Model for Server<A> {
     ghost use Rattle.archive_turns.specs.Timers.{Tracks};
-    ghost use Rattle.archive_turns.specs.Turn.{Counted};
+    ghost use Rattle.archive_turns.specs.Turn.{Service};
 
-    ghost Value = { Counted };
+    ghost Value = { Service };
 
-    ghost use Rattle.archive_turns.specs.View.{counted_of};
+    ghost use Rattle.archive_turns.specs.View.{service_of};
 
-    ghost view = { counted_of };
+    ghost view = { service_of };
 
     ghost invariant = { λ s. Tracks s.table s.timers };
 }
 
-// The port to visit next; `None` means the request port.
-fn next_port<A: Allocator + Copy>(table: &Table<A>, last: u16) -> Option<u16>
-    ensures { result ≡ port_above last table.now }
+// What a turn visits: the port of a transfer, or the request port if `port` is `None`.
+fn next_at(port: Option<u16>) -> Next
+    ensures { result ≡ next_of port }
 {
-    table.next_port(last)
+    match port {
+        Some(port) => Next::Transfer(port),
+        None => Next::Request,
+    }
 }
 
-// Visits a transfer's port, or the request port if `port` is `None`.
+// What a round visits, by the port that is ready, if one is.
+fn next_ready<A: Allocator + Copy>(table: &Table<A>, ready: Option<u16>) -> Next
+    ensures { result ≡ ready_next ready table.now }
+{
+    match ready {
+        Some(port) if port == table.request() => Next::Request,
+        Some(port) => Next::Transfer(port),
+        None => Next::Nowhere,
+    }
+}
+
 fn visit<A: Allocator + Copy, W: Wire, K: Keeper>(
     table: &mut Table<A>,
     wire: &mut W,
     keeper: &mut K,
-    port: Option<u16>,
+    next: Next,
 ) -> Visit
-    ensures visit { IsVisit (λ a. visit_at port a table.old) (λ a. visit_asks port a table.old) table.old table.new result.taken result.change (W.log wire.old) (W.log wire.new) (K.log keeper.old) (K.log keeper.new) }
+    ensures visit { IsVisit (λ a. next_visit next a table.old) (λ a. next_asks next a table.old) table.old table.new result.taken result.change (W.log wire.old) (W.log wire.new) (K.log keeper.old) (K.log keeper.new) }
     ensures fits { IsServer table.old → IsServer table.new }
 {
-    match port {
-        Some(port) => visit_transfer(table, wire, keeper, port),
-        None => visit_request(table, wire),
+    match next {
+        Next::Request => visit_request(table, wire),
+        Next::Transfer(port) => visit_transfer(table, wire, keeper, port),
+        Next::Nowhere => Visit::LOST,
     }
 }
 
-// The port to note as the last one visited.
+// A visit, and the time-outs after it. Returns whether a file was taken.
+fn pass<A: Allocator + Copy, W: Wire, K: Keeper>(
+    table: &mut Table<A>,
+    wire: &mut W,
+    keeper: &mut K,
+    timers: &mut Timers,
+    clock: Clock,
+    next: Next,
+) -> bool
+    requires { Tracks table.old timers.old }
+    ensures passes { Passes clock next table.old table.new timers.old timers.new result (W.log wire.old) (W.log wire.new) (K.log keeper.old) (K.log keeper.new) }
+    ensures tracks { Tracks table.new timers.new }
+{
+    let visit = visit(table, wire, keeper, next);
+    timers.apply(clock, visit.change);
+    time_out_late(table, wire, timers, clock, visit.change);
+    visit.taken
+}
+
+// The port to note as the last one visited by a turn.
 fn noted_port(port: Option<u16>) -> u16
     ensures { result ≡ noted port }
 {
@@ -71,25 +105,13 @@ fn noted_port(port: Option<u16>) -> u16
     }
 }
 
-// Ends a turn: updates the timers after the visit, and lets those that are due after a quiet turn time out.
-fn end_turn<A: Allocator + Copy, W: Wire>(
-    table: &mut Table<A>,
-    wire: &mut W,
-    timers: &mut Timers,
-    change: Change,
-)
-    requires fits { IsServer table.old }
-    requires room { HasRoom change timers.old }
-    requires tracks { ports_of (timed change QUIET_TURNS timers.old) ≡ live_ports table.old }
-    ensures ends { Ends change table.old table.new timers.old timers.new (W.log wire.old) (W.log wire.new) }
-    ensures keeps { Tracks table.new timers.new }
+// The port to note as the last one visited by a round.
+fn noted_ready(last: u16, ready: Option<u16>) -> u16
+    ensures { result ≡ noted_or last ready }
 {
-    match change {
-        Change::Quiet => {
-            timers.lower();
-            time_out_due(table, wire, timers, 0, QUIET_TURNS);
-        }
-        _ => timers.apply(change, QUIET_TURNS),
+    match ready {
+        Some(port) => port,
+        None => last,
     }
 }
 
@@ -121,7 +143,7 @@ impl<A: Allocator + Copy> Server<A> {
         }
     }
 
-    // A server with this table, before its first turn.
+    // A server with this table, before its first turn or round.
     fn of(table: Table<A>) -> Self
         requires idle { table.live ≡ [] }
         requires fits { IsServer table }
@@ -134,7 +156,8 @@ impl<A: Allocator + Copy> Server<A> {
         }
     }
 
-    /// Makes one turn: visits the port after the last one. Returns whether a file was taken.
+    /// Makes one turn: visits the least live port above the last one, or the request port if there is none. Returns
+    /// whether a file was taken.
     ///
     /// For a datagram at the request port a spare port is opened, and closed again unless a transfer was opened on it.
     /// A turn in which nothing was received is quiet; a transfer times out after `QUIET_TURNS` quiet turns since it was
@@ -142,11 +165,34 @@ impl<A: Allocator + Copy> Server<A> {
     pub fn turn<W: Wire, K: Keeper>(&mut self, wire: &mut W, keeper: &mut K) -> bool
         ensures { MakesTurn self.old self.new result (W.log wire.old) (W.log wire.new) (K.log keeper.old) (K.log keeper.new) }
     {
-        let port = next_port(&self.table, self.last);
-        let visit = visit(&mut self.table, wire, keeper, port);
+        let port = self.table.next_port(self.last);
         self.last = noted_port(port);
-        end_turn(&mut self.table, wire, &mut self.timers, visit.change);
-        visit.taken
+        pass(
+            &mut self.table,
+            wire,
+            keeper,
+            &mut self.timers,
+            Clock::Turns,
+            next_at(port),
+        )
+    }
+
+    /// Makes one round: waits for a ready port, visits it as a turn does, and lets each transfer time out that was
+    /// opened or last sent `TIMEOUT` milliseconds ago or earlier. Returns whether a file was taken.
+    pub fn round<W: ReadyWire, K: Keeper>(&mut self, wire: &mut W, keeper: &mut K) -> bool
+        ensures { MakesRound self.old self.new result (W.log wire.old) (W.log wire.new) (K.log keeper.old) (K.log keeper.new) }
+    {
+        let ready = wire.wait(self.last, self.timers.earliest());
+        self.last = noted_ready(self.last, ready.port);
+        let next = next_ready(&self.table, ready.port);
+        pass(
+            &mut self.table,
+            wire,
+            keeper,
+            &mut self.timers,
+            Clock::Milliseconds(ready.time),
+            next,
+        )
     }
 
     /// The table.

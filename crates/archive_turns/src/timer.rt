@@ -1,8 +1,8 @@
 /// When the transfer at a live port times out.
 #[derive(Clone, Copy, Debug, Default, PartialEq, Eq)]
-pub(crate) struct Timer {
+pub struct Timer {
     /// The port.
-    pub(crate) port: u16,
+    pub port: u16,
     /// In the server that counts turns, how many quiet turns are left; in the one that waits, the time in milliseconds.
-    pub(crate) due: u64,
+    pub due: u64,
 }

@@ -1,9 +1,9 @@
 ghost use Rattle.std.specs.Prelude.{◌≡◌, ℕ, ◌<◌, ◌≤◌, [], length, map, take, drop, IfSome, IfNone};
 ghost use Rattle.std.specs.List.{insert, remove};
-ghost use Rattle.archive_turns.specs.Ready.{earlier, earliest};
-ghost use Rattle.archive_turns.specs.Timers.{with_timer, without_timer, with_due, renewed, lower, lowered, due_ports, timed, timed_out, HasRoom};
+ghost use Rattle.archive_turns.specs.Timers.{with_timer, without_timer, with_due, renewed, lower, lowered, due_ports, late_ports, timed, timed_out, timers_after, restart, earlier, earliest, HasRoom};
 
 use crate::change::Change;
+use crate::clock::Clock;
 use crate::timer::Timer;
 use archive_table::LIVE;
 use arrayvec::ArrayVec;
@@ -112,7 +112,19 @@ impl Timers {
     }
 
     /// Updates the timers after a visit.
-    pub(crate) fn apply(&mut self, change: Change, due: u64)
+    pub(crate) fn apply(&mut self, clock: Clock, change: Change)
+        requires { HasRoom change self.old }
+        ensures { self.new ≡ timers_after clock change self.old }
+    {
+        if clock.counts(change) {
+            self.lower();
+        } else {
+            self.follow(change, clock.restart());
+        }
+    }
+
+    // Follows what a visit changed for the live ports: the timer of a port that was opened or sent starts at `due`.
+    fn follow(&mut self, change: Change, due: u64)
         requires { HasRoom change self.old }
         ensures { self.new ≡ timed change due self.old }
     {
@@ -128,13 +140,13 @@ impl Timers {
     }
 
     /// Updates the timers after a time-out of a port.
-    pub(crate) fn apply_timeout(&mut self, change: Change, port: u16, due: u64)
-        ensures { self.new ≡ timed_out change port due self.old }
+    pub(crate) fn apply_timeout(&mut self, clock: Clock, change: Change, port: u16)
+        ensures { self.new ≡ timed_out change port (restart clock) self.old }
     {
         match change {
             Change::Closed(port) => self.remove(port),
             Change::Quiet | Change::Nothing | Change::Opened(_) | Change::Sent(_) => {
-                self.renew(port, due);
+                self.renew(port, clock.restart());
             }
         }
     }
@@ -155,15 +167,25 @@ impl Timers {
         }
     }
 
-    /// Counts a quiet turn.
-    pub(crate) fn lower(&mut self)
+    // Counts a quiet turn.
+    fn lower(&mut self)
         ensures { self.new ≡ lower self.old }
     {
         lower_in(self.row.as_mut_slice());
     }
 
-    /// The ports that are due by `now`, in order.
-    pub(crate) fn due(&self, now: u64) -> ArrayVec<u16, LIVE>
+    /// The ports that time out after a visit, in order.
+    pub(crate) fn late(&self, clock: Clock, change: Change) -> ArrayVec<u16, LIVE>
+        ensures { result.items ≡ late_ports clock change self.now }
+    {
+        match clock.due_by(change) {
+            Some(by) => self.due(by),
+            None => ArrayVec::new(),
+        }
+    }
+
+    // The ports that are due by `now`, in order.
+    fn due(&self, now: u64) -> ArrayVec<u16, LIVE>
         ensures { result.items ≡ due_ports now self.now }
     {
         let mut ports = ArrayVec::new();

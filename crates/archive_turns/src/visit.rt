@@ -2,11 +2,12 @@
 
 ghost use Rattle.std.specs.Prelude.{◌≡◌, ◌≢◌, not, is_some, None, Some};
 ghost use Rattle.archive_table.specs.Server.{IsServer, transfer_at};
-ghost use Rattle.archive_turns.specs.Timers.{ports_of, live_ports, due_ports, Tracks};
+ghost use Rattle.archive_turns.specs.Timers.{ports_of, live_ports, late_ports, restart, Tracks};
 ghost use Rattle.archive_turns.specs.Parts.{IsVisit, IsTimeout, Acts, SendsOut, Walks};
 ghost use Rattle.archive_turns.specs.Turn.{transfer_visit, transfer_asks, timeout_visit, request_visit, request_spared, request_change, transfer_change, is_usable as usable_at};
 
 use crate::change::Change;
+use crate::clock::Clock;
 use crate::timers::Timers;
 use crate::wire::{RECEIVE_SIZE, Wire};
 use archive_table::{Keeper, Step, Table};
@@ -183,23 +184,23 @@ fn answer_request<A: Allocator + Copy, W: Wire>(
     }
 }
 
-/// Lets each port that is due by `now` time out, in the order of the ports. Its timer restarts at `due`, unless its
-/// transfer has ended.
-pub(crate) fn time_out_due<A: Allocator + Copy, W: Wire>(
+/// Lets each port that is due after a visit with this result time out, in the order of the ports. Its timer restarts,
+/// unless its transfer has ended.
+pub(crate) fn time_out_late<A: Allocator + Copy, W: Wire>(
     table: &mut Table<A>,
     wire: &mut W,
     timers: &mut Timers,
-    now: u64,
-    due: u64,
+    clock: Clock,
+    change: Change,
 )
     requires fits { IsServer table.old }
     requires tracks { ports_of timers.old ≡ live_ports table.old }
-    ensures walks { Walks (due_ports now timers.old) due table.old table.new timers.old timers.new (W.log wire.old) (W.log wire.new) }
+    ensures walks { Walks (late_ports clock change timers.old) (restart clock) table.old table.new timers.old timers.new (W.log wire.old) (W.log wire.new) }
     ensures keeps { Tracks table.new timers.new }
 {
-    let ports = timers.due(now);
+    let ports = timers.late(clock, change);
     for port in ports.as_slice() {
         let change = time_out(table, wire, *port);
-        timers.apply_timeout(change, *port, due);
+        timers.apply_timeout(clock, change, *port);
     }
 }

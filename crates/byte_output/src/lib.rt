@@ -1,15 +1,8 @@
 //! Lists of bytes, and writing a text of bytes to a writer: the definitions and lemmas that every crate above shares.
+//! README.md has a caller, and what is proved.
 //!
 //! Read `specs/Output.antt` first: it defines what a call leaves written. `specs/Bytes.antt` defines which lists are
 //! bytes. `proofs/` has the lemmas on both, and those on lists that more than one crate needs.
-//!
-//! ```text
-//! let mut buffer = Buffer::<LARGE>::new();
-//! for text in texts {
-//!     buffer.send(text, out)?;
-//! }
-//! put(out, buffer.as_slice())
-//! ```
 #![tactic(auto)]
 
 mod buffer;

@@ -3,12 +3,13 @@ use crate::samples::*;
 use archive_folder::{FolderFault, FolderKeeper, Fuse, MemoryFolder, replace};
 use archive_table::{KeepFault, Keeper};
 use std::test::Fail;
+use test_samples::NINETY;
 use tws_file::Ruleset;
 
-// Keeps F2 over F1 in a folder that passes this many calls on. Returns the result, and the folder.
+// Keeps NINETY over HUNDRED in a folder that passes this many calls on. Returns the result, and the folder.
 fn keep_with(rt: HostRuntime, calls: u64) -> Result<(Result<(), FolderFault>, MemoryFolder), Fail> {
     let mut fuse = Fuse::new(folder(rt)?, calls);
-    let result = replace(&mut fuse, Ruleset::Lynx, &collection(rt, F2)?);
+    let result = replace(&mut fuse, Ruleset::Lynx, &collection(rt, NINETY)?);
     Ok((result, fuse.into_folder()))
 }
 
@@ -56,7 +57,7 @@ fn a_crash_after_it(rt: HostRuntime) -> Result<(), Fail> {
 #[test]
 fn an_unknown_outcome_ends_the_keeper(rt: HostRuntime) -> Result<(), Fail> {
     let mut keeper = FolderKeeper::new(Fuse::new(folder(rt)?, 4));
-    let next = collection(rt, F2)?;
+    let next = collection(rt, NINETY)?;
     let first = keeper.keep(Ruleset::Lynx, &next);
     let usable = keeper.is_usable();
     let second = keeper.keep(Ruleset::Lynx, &next);
@@ -70,7 +71,7 @@ fn an_unknown_outcome_ends_the_keeper(rt: HostRuntime) -> Result<(), Fail> {
 // The keeper of a folder that fails at once, after a keep and a load: its results, and how many calls failed.
 fn fails_at_both(rt: HostRuntime) -> Result<(bool, bool, bool, u64), Fail> {
     let mut keeper = FolderKeeper::new(Fuse::new(folder(rt)?, 0));
-    let kept = keeper.keep(Ruleset::Lynx, &collection(rt, F2)?);
+    let kept = keeper.keep(Ruleset::Lynx, &collection(rt, NINETY)?);
     let loaded = keeper.load(rt.alloc(), Ruleset::Lynx);
     Ok((
         kept == Err(KeepFault::Device),
@@ -92,7 +93,7 @@ fn a_draft_that_is_left(rt: HostRuntime) -> Result<(), Fail> {
     let (_, folder) = keep_with(rt, 3)?;
     let mut keeper = FolderKeeper::new(folder.after_crash(false)?);
     let before = loaded(rt, &mut keeper)?;
-    keeper.keep(Ruleset::Lynx, &collection(rt, F2)?)?;
+    keeper.keep(Ruleset::Lynx, &collection(rt, NINETY)?)?;
     assert_eq!(rt; (before, loaded(rt, &mut keeper)?), (1, 2));
     Ok(())
 }

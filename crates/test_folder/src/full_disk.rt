@@ -8,6 +8,7 @@ use std::alloc::Allocator;
 use std::io;
 use std::io::{ErrorKind, Write};
 use std::test::Fail;
+use test_samples::NINETY;
 use tws_file::Ruleset;
 
 // A file, and how many more bytes it takes.
@@ -95,12 +96,12 @@ impl Folder for FullFolder {
     }
 }
 
-// The result of a keep of F2 over F1 whose file takes this many bytes, what is loaded then, whether there is a draft, and
+// The result of a keep of NINETY over HUNDRED whose file takes this many bytes, what is loaded then, whether there is a draft, and
 // whether the keeper can still be used.
 fn kept_in(rt: HostRuntime, room: usize) -> Result<(Result<(), KeepFault>, u8, bool, bool), Fail> {
     let folder = folder(rt)?;
     let mut keeper = FolderKeeper::new(FullFolder { folder, room });
-    let result = keeper.keep(Ruleset::Lynx, &collection(rt, F2)?);
+    let result = keeper.keep(Ruleset::Lynx, &collection(rt, NINETY)?);
     let text = loaded(rt, &mut keeper)?;
     let usable = keeper.is_usable();
     let mut folder = keeper.into_folder();

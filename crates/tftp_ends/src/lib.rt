@@ -1,28 +1,10 @@
 //! The two ends of a TFTP transfer: the sender of a file, block by block, and the receiver. RFC 1350 section 2, with
-//! RFC 1123 section 4.2.3.1.
+//! RFC 1123 section 4.2.3.1. README.md has a caller, and what is proved.
 //!
 //! Read `specs/Ends.antt` first: it defines what each end keeps, and the effect of each call. `specs/Pair.antt` defines
 //! what holds of two ends with any network between them, `specs/Chunks.antt` how a received file is stored in memory.
 //! `proofs/Steps.antt` has what each step of one end keeps and sends, and `proofs/Holding.antt` what a receiver knows
 //! of the file, for crates above.
-//!
-//! An example of a caller:
-//!
-//! ```text
-//! // What the receiver sends for a DATA, and the file once all of it has arrived.
-//! fn receive(
-//!     receiver: &mut Receiver,
-//!     datagram: &[u8],
-//! ) -> Result<(Option<Dgram>, Option<Received>), RecvFault> {
-//!     match decode(datagram) {
-//!         Ok(Packet::Data { block, body }) => {
-//!             let ack = receiver.on_data(block, body)?;
-//!             Ok((ack, receiver.take_file()))
-//!         }
-//!         _ => Ok((None, None)),
-//!     }
-//! }
-//! ```
 #![tactic(auto)]
 
 mod chunks;

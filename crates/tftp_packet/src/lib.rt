@@ -1,20 +1,12 @@
 //! TFTP: exactly what a datagram is, and how a file is cut into blocks. The protocol is that of RFC 1350; what follows
-//! a request's mode, such as the options of RFC 2347, is not read. Nothing here allocates.
+//! a request's mode, such as the options of RFC 2347, is not read. Nothing here allocates. README.md has a caller, and
+//! what is proved.
 //!
 //! Read `specs/Packet.antt` first: it defines the packets, and the bytes of each. `specs/Blocks.antt` defines the
 //! blocks of a file. `laws` has what holds of every datagram and every file.
 //!
-//! An example of a caller:
-//!
-//! ```text
-//! // The ACK for a DATA; `None` for any other datagram.
-//! fn acknowledge(datagram: &[u8]) -> Option<Dgram> {
-//!     match decode(datagram) {
-//!         Ok(Packet::Data { block, .. }) => Some(encode_ack(block)),
-//!         _ => None,
-//!     }
-//! }
-//! ```
+//! `decoding` goes from bytes to packets, `encoding` from packets to the bytes of a `dgram`; `refusal` has the errors
+//! that are sent. `blocks` is a file in blocks, `owned` one in a vector.
 #![tactic(auto)]
 
 mod blocks;

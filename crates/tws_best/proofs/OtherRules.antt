@@ -15,7 +15,7 @@ nothing Lynx Ms rs e = refl
 nothing Ms Lynx rs e = refl
 nothing Ms Ms rs e = absurd cc
 
--- what is kept is still the best
+-- what was best still is
 pub still_best : (es : List Entry) (j k other rules : Ruleset) (rs : List Record) → j ≡ rules → k ≡ other → not (sameb the_type j k) ≡ true → IsRising es → IsBestOf (Contains (es ++ (solved_by rules other rs ++ []))) es
 still_best es j k other rules rs j-is k-is apart rising =
     let none : solved_by rules other rs ≡ [] = ap (λ r. solved_by r other rs) (sym j-is) ∙ ap (λ r. solved_by j r rs) (sym k-is) ∙ nothing j k rs apart in

@@ -116,8 +116,8 @@ found_in own s starts offset place own-is starts-are past last bound point =
     record { past = some; inside = found.inside; counted = omega (arith, found.inside, many); low = found.low; within = found.within; is = found.is }
 
 -- the start that was read, from any list that equals the starts
-pub start_read : (starts kept : List ℕ) (i start : ℕ) → starts ≡ kept → i < length starts → start ≡ get_or kept i start → start ≡ get_or starts i 0
-start_read starts kept i start same inside is =
+pub start_read : (starts held : List ℕ) (i start : ℕ) → starts ≡ held → i < length starts → start ≡ get_or held i start → start ≡ get_or starts i 0
+start_read starts held i start same inside is =
     is ∙ ap (λ (ns : List ℕ). get_or ns i start) (sym same) ∙ get_or_default starts i start 0 inside
 
 -- one more body is noted

@@ -1,4 +1,4 @@
--- What is kept after one more solution is the best of all so far.
+-- What is best after one more solution is the best of all so far.
 use Rattle.std.proofs.Common.{◌≡◌, ◌≢◌, ◌⊎◌, ◌+◌, List, [], ◌∷◌, ◌++◌, Some, None, refl, ap, sym, ◌∙◌, subst, inl, inr, append_assoc, append-nil, ℕ, if◌then◌else◌, arith, Result, Ok, Err, OnOk}
 use Rattle.std.specs.declared.cmp.Ordering.{Ordering}
 use Rattle.std.specs.declared.cmp.Ordering.TheVariants.{Less, Equal, Greater}
@@ -12,7 +12,7 @@ use Rattle.std.proofs.lemmas.List.Sorted.{Contains-permutation, IsPermutation-sy
 use Rattle.tws_file.specs.declared.key.Key.{Key}
 use Rattle.tws_file.specs.Text.{Solution, Record, pad, set, bare, solution, IsRecord, body_of}
 use Rattle.tws_best.specs.Rank.{rank_of, IsBelow}
-use Rattle.tws_best.specs.Best.{Entry, IsEntry, IsBestOf, IsRising, IsKept, key_cmp, entry_of, solved_in}
+use Rattle.tws_best.specs.Best.{Entry, IsEntry, IsBestOf, IsRising, AreCollected, key_cmp, entry_of, solved_in}
 use Rattle.tws_best.specs.Bodies.{Pair, entries_of}
 use Rattle.tws_best.specs.Choice.{placed, better_of, put_in}
 use Rattle.tws_best.specs.Steps.{IsHeld, IsBetter, Stays, Enters, Takes}
@@ -111,7 +111,7 @@ module _ (first so_far : List Entry) (x : Entry) (es new : List Entry) (of : IsB
       ((next.best k.entry k.present).least x (Contains-append_right es (x ∷ []) x (Contains-here x [])) (sym k.key_is))
       (better h.holder h.member (h.same ∙ k.key_is))
 
--- what holds after each solution of a file: what is kept is the best so far, and nothing was noted or something changed
+-- what holds after each solution of a file: the bodies are the best so far, and nothing was noted or something changed
 pub record IsTaken (first : List Pair) (solved : List Entry) (now : List Pair) (count : ℕ) : Type 0 where
   pub best : IsBestOf (Contains (entries_of first ++ solved)) (entries_of now)
   pub changed : (count ≡ 0) ⊎ (entries_of now ≢ entries_of first)
@@ -152,7 +152,7 @@ taken_more first so_far x old new was is t takes = elim takes [
 
 -- ---- all solutions, in whatever order
 
--- what is best of what was kept and of the solutions does not depend on their order
+-- what is best of the bodies before and of the solutions does not depend on their order
 pub best_moved : (old solved moved new : List Entry) → IsPermutation solved moved → IsBestOf (Contains (old ++ moved)) new → IsBestOf (Contains (old ++ solved)) new
 best_moved old solved moved new order of =
     same_best (Contains (old ++ moved)) (Contains (old ++ solved)) new of
@@ -165,7 +165,7 @@ best_moved old solved moved new order of =
       | inr second ↦ Contains-append_right old moved e (Contains-permutation solved moved e order second)
     ])
 
--- ---- what is kept are solutions, with each key only once
+-- ---- what a collection has are solutions, with each key only once
 
 pub solved_entries : (rs : List Record) → AllByRecursion IsRecord rs → AllByRecursion IsEntry (solved_in rs)
 solved_entries [] fits = tt
@@ -174,12 +174,12 @@ solved_entries (set rest ∷ rs) fits = solved_entries rs fits.1
 solved_entries (bare key ∷ rs) fits = solved_entries rs fits.1
 solved_entries (solution s ∷ rs) fits = (record { solved = s; fits = fits.0; is = refl }, solved_entries rs fits.1)
 
--- the best of two lists of what can be kept can be kept
-pub best_kept : (old more new : List Entry) → IsKept old → AllByRecursion IsEntry more → IsBestOf (Contains (old ++ more)) new → IsKept new
-best_kept old more new kept fits of = record {
+-- the best of two lists of what a collection can have, a collection can have
+pub best_collected : (old more new : List Entry) → AreCollected old → AllByRecursion IsEntry more → IsBestOf (Contains (old ++ more)) new → AreCollected new
+best_collected old more new collected fits of = record {
   rising = of.rising;
   solved = all_from IsEntry new (λ e has. elim (Contains-append_cases old more e (of.best e has).member) [
-    | inl first ↦ all_at IsEntry old e kept.solved first
+    | inl first ↦ all_at IsEntry old e collected.solved first
     | inr second ↦ all_at IsEntry more e fits second
   ]);
 }

@@ -1,4 +1,4 @@
--- What is kept of all solutions: the best one for each level number and password, whatever the order of the files.
+-- What a collection has of all solutions: the best one for each level number and password, whatever the order of the files.
 use Rattle.std.specs.Prelude.{◌≡◌, ℕ, List, [], ◌∷◌, ◌++◌, length, Contains}
 use Rattle.std.specs.declared.cmp.Ordering.{Ordering}
 use Rattle.std.specs.declared.cmp.Ordering.TheVariants.{Less}
@@ -97,13 +97,13 @@ pub record Collected : Type 0 where
   pub «ruleset» : Ruleset
   pub entries : List Entry
 
--- entries that can be kept: solutions, with each key only once
-pub record IsKept (entries : List Entry) : Type 0 where
+-- what a collection can have: solutions, with each key only once
+pub record AreCollected (entries : List Entry) : Type 0 where
   pub rising : IsRising entries
   pub solved : AllByRecursion IsEntry entries
 
 abbrev pub IsCollected : Collected → Type 0
-IsCollected c = IsKept c.entries
+IsCollected c = AreCollected c.entries
 
 -- the size in four bytes, and the body
 abbrev pub body_text : List ℕ → List ℕ

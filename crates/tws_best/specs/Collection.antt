@@ -4,4 +4,4 @@ use Rattle.tws_best.specs.Best.{Collected}
 use Rattle.tws_best.specs.Bodies.{entries_of}
 
 abbrev pub collected : {A : Type 0} → Inside A → Collected
-collected c = record { «ruleset» = c.ruleset; entries = entries_of c.kept.entries }
+collected c = record { «ruleset» = c.ruleset; entries = entries_of c.best.entries }

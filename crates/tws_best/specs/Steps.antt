@@ -14,19 +14,19 @@ pub record IsHeld (IsMember : Entry → Type 0) (f : Entry) : Type 0 where
   pub same : holder.key ≡ f.key
   pub no_worse : IsBelow (rank_of f.body) (rank_of holder.body) → ⊥
 
--- better than any that is kept for its key
+-- better than the best so far at its key
 abbrev pub IsBetter : List Entry → Entry → Type 0
 IsBetter old f = (e : Entry) → Contains old e → e.key ≡ f.key → IsBelow (rank_of f.body) (rank_of e.body)
 
 -- ---- one solution
 
--- what is kept for its key is no worse, and nothing changes
+-- the best so far at its key is no worse, and nothing changes
 pub record Stays (x : Entry) (old new : List Pair) (was is : ℕ) : Type 0 where
   pub held : IsHeld (Contains (entries_of old)) x
   pub same : new ≡ old
   pub count : is ≡ was
 
--- it is better than what is kept for its key, and replaces it
+-- it is better than the best so far at its key, and replaces it
 pub record Enters (x : Entry) (old new : List Pair) (is : ℕ) : Type 0 where
   pub better : IsBetter (entries_of old) x
   pub inserted : new ≡ insert_entry key_cmp old x.key x.body

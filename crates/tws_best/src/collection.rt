@@ -20,7 +20,7 @@ use tws_file::{Key, Ruleset, TwsFile};
 pub struct Collection<A: Allocator = Global> {
     alloc: A,
     ruleset: Ruleset,
-    kept: Bodies<A>,
+    best: Bodies<A>,
 }
 
 impl<A: Allocator> Model for Collection<A> {
@@ -45,7 +45,7 @@ impl<A: Allocator + Copy> Collection<A> {
         Collection {
             alloc,
             ruleset: kind,
-            kept: BTreeMap::new(alloc),
+            best: BTreeMap::new(alloc),
         }
     }
 
@@ -64,7 +64,7 @@ impl<A: Allocator + Copy> Collection<A> {
         Ok(collection)
     }
 
-    /// Adds the solutions of a file: compares them with the best so far, and keeps the best of both. Returns whether
+    /// Adds the solutions of a file: compares them with the best so far; the best of both remain. Returns whether
     /// anything changed. A file of the other ruleset changes nothing, and nothing is allocated for it.
     ///
     /// # Errors
@@ -81,7 +81,7 @@ impl<A: Allocator + Copy> Collection<A> {
         if self.ruleset != file.ruleset {
             return Ok(false);
         }
-        add(self.alloc, &mut self.kept, file.records.as_slice())
+        add(self.alloc, &mut self.best, file.records.as_slice())
     }
 
     /// Returns an equal collection. The bodies are shared, not copied.
@@ -93,14 +93,14 @@ impl<A: Allocator + Copy> Collection<A> {
         ensures equal { IfOk result (λ copy. copy ≡ self.now) }
         ensures empty { self.now.entries ≡ [] → IsOk result }
     {
-        if self.kept.is_empty() {
+        if self.best.is_empty() {
             return Ok(Collection::new(self.alloc, self.ruleset));
         }
-        let kept = self.kept.clone()?;
+        let best = self.best.clone()?;
         Ok(Collection {
             alloc: self.alloc,
             ruleset: self.ruleset,
-            kept,
+            best,
         })
     }
 
@@ -115,7 +115,7 @@ impl<A: Allocator + Copy> Collection<A> {
         ensures value { IfOk result (λ s. s ≡ frozen self.now) }
         ensures text { IfOk result (λ s. frozen_text s ≡ collection_text self.now) }
     {
-        Snapshot::of(self.alloc, self.ruleset, &self.kept)
+        Snapshot::of(self.alloc, self.ruleset, &self.best)
     }
 }
 
@@ -131,14 +131,14 @@ impl<A: Allocator> Collection<A> {
     pub fn len(&self) -> usize
         ensures { result ≡ length self.now.entries }
     {
-        self.kept.len()
+        self.best.len()
     }
 
     /// Whether there are no solutions.
     pub fn is_empty(&self) -> bool
         ensures { IsTrue result ↔ (self.now.entries ≡ []) }
     {
-        self.kept.is_empty()
+        self.best.is_empty()
     }
 
     /// Returns the body of the solution for a key, which is the bytes after its record's size, if the collection has
@@ -147,7 +147,7 @@ impl<A: Allocator> Collection<A> {
         ensures found { IfSome result (λ body. HasBody self.now.entries key body.now) }
         ensures absent { IfNone result (HasKey self.now.entries key → ⊥) }
     {
-        match self.kept.get(&key) {
+        match self.best.get(&key) {
             Some(body) => Some(body.as_slice()),
             None => None,
         }
@@ -157,7 +157,7 @@ impl<A: Allocator> Collection<A> {
     pub fn text_len(&self) -> u128
         ensures { result ≡ length (collection_text self.now) }
     {
-        8 + bodies_len(&self.kept)
+        8 + bodies_len(&self.best)
     }
 
     /// Writes the text: a header without further bytes, and then a record for each solution, by rising number and then
@@ -171,6 +171,6 @@ impl<A: Allocator> Collection<A> {
         ensures err { OnErr result (AppendsPrefix (W.contents out.old) (W.contents out.new) (collection_text self.now)) }
         ensures io { IfErr result (λ e. e ≡ OutFault.Io) }
     {
-        write_parts(self.ruleset, &self.kept, out)
+        write_parts(self.ruleset, &self.best, out)
     }
 }

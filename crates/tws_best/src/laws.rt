@@ -1,4 +1,4 @@
-//! What holds of every set of solutions and of every collection, whatever code keeps it. These functions do nothing:
+//! What holds of every set of solutions and of every collection, whatever code holds it. These functions do nothing:
 //! each contract is a theorem.
 
 ghost use Rattle.std.specs.Prelude.{◌≡◌, ◌↔◌, ℕ, List, [], ◌∷◌, ◌++◌, Contains};

@@ -1,24 +1,11 @@
-//! The best solution of each level number and password: what is best, the collection of what is best so far, and
-//! snapshots of its text.
+//! The best solution of each level number and password, the collection of what is best so far, and snapshots of its
+//! text. README.md has a caller, and what is proved.
 //!
 //! Read `specs/Best.antt` first: it defines what is best of a set, by the rank of a solution, and a collection's text.
-//! `specs/Frozen.antt` defines a snapshot.
+//! `specs/Rank.antt` defines the rank, `specs/Frozen.antt` a snapshot.
 //!
-//! # Example
-//!
-//! A collection keeps its allocator. `merge` adds a file, or leaves the collection unchanged; `copy` and `snapshot`
-//! share the bodies. A snapshot is sent in blocks, like any other file of `tftp_packet`.
-//!
-//! ```text
-//! fn best_blocks(alloc: Global, file: &TwsFile) -> Result<Option<Snapshot>, AllocError> {
-//!     let mut collection = Collection::new(alloc, Ruleset::Lynx);
-//!     collection.merge(file)?;
-//!     if collection.text_len() > u128::from(u64::MAX) {
-//!         return Ok(None);
-//!     }
-//!     Ok(Some(collection.snapshot()?))
-//! }
-//! ```
+//! `merging` merges all of a file that is better, or nothing; `text` writes a collection; `body` is what collections and
+//! snapshots share; `block` is a block of a snapshot's text.
 #![tactic(auto)]
 
 mod block;

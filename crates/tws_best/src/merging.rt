@@ -1,4 +1,4 @@
-//! Merging the solutions of a file into the kept bodies: takes all that are better than what is kept, or none.
+//! Merging the solutions of a file into the best bodies so far: takes all that are better, or none.
 
 ghost use Rattle.std.specs.Prelude.{◌≡◌, ◌≢◌, ◌⊎◌, ◌∷◌, [], ◌+◌, ◌++◌, List, length, map, Contains, Option, IfOk, IfSome, IfNone, OnOk, OnErr, MatchBool};
 ghost use Rattle.std.specs.List.{AllByRecursion};
@@ -6,7 +6,7 @@ ghost use Rattle.std.specs.List.Sorted.{IsPermutation};
 ghost use Rattle.std.specs.BTreeMap.{get, insert_entry, IsOrdered};
 ghost use Rattle.tws_file.specs.Record.{records_of};
 ghost use Rattle.tws_file.specs.Text.{IsRecord};
-ghost use Rattle.tws_best.specs.Best.{IsKept, IsBestOf, entry_of, key_cmp, solved_in};
+ghost use Rattle.tws_best.specs.Best.{AreCollected, IsBestOf, entry_of, key_cmp, solved_in};
 ghost use Rattle.tws_best.specs.Bodies.{Pair, entries_of};
 ghost use Rattle.tws_best.specs.Steps.{Takes, Undoes, CanGoBack, back_to};
 
@@ -15,7 +15,7 @@ use std::alloc::{AllocError, Allocator};
 use std::collections::BTreeMap;
 use tws_file::{Key, Record, Solution};
 
-// The body that is kept for each key.
+// The best body so far at each key.
 pub(crate) type Bodies<A> = BTreeMap<Key, Body<A>, A>;
 
 // Each key that was changed, with what it had before.
@@ -23,20 +23,20 @@ type Changes<A> = Vec<(Key, Option<Body<A>>), A>;
 
 // Sets the body of a key, and notes the change before it is made.
 fn replace<A: Allocator + Copy>(
-    kept: &mut Bodies<A>,
+    best: &mut Bodies<A>,
     done: &mut Changes<A>,
     key: Key,
     old: Option<Body<A>>,
     body: Body<A>,
 ) -> Result<(), AllocError>
-    requires { old ≡ get key_cmp kept.old key }
-    ensures ok { OnOk result (kept.new.entries ≡ insert_entry key_cmp kept.old.entries key body) }
+    requires { old ≡ get key_cmp best.old key }
+    ensures ok { OnOk result (best.new.entries ≡ insert_entry key_cmp best.old.entries key body) }
     ensures noted { OnOk result (length done.new.items ≡ length done.old.items + 1) }
-    ensures ordered { OnOk result (IsOrdered key_cmp kept.old) }
-    ensures undo { (first : List Pair) → Undoes first done.old.items kept.old.entries → Undoes first done.new.items kept.new.entries }
+    ensures ordered { OnOk result (IsOrdered key_cmp best.old) }
+    ensures undo { (first : List Pair) → Undoes first done.old.items best.old.entries → Undoes first done.new.items best.new.entries }
 {
     done.push((key, old))?;
-    match kept.insert(key, body) {
+    match best.insert(key, body) {
         Ok(_) => Ok(()),
         Err(_) => {
             done.pop();
@@ -45,27 +45,27 @@ fn replace<A: Allocator + Copy>(
     }
 }
 
-// Takes a solution if it is better than what is kept for its key.
+// Takes a solution if it is better than the best so far at its key.
 fn take<A: Allocator + Copy, B: Allocator>(
     alloc: A,
-    kept: &mut Bodies<A>,
+    best: &mut Bodies<A>,
     done: &mut Changes<A>,
     solution: &Solution<B>,
 ) -> Result<(), AllocError>
-    ensures ok { OnOk result (Takes (entry_of solution.now) kept.old.entries kept.new.entries (length done.old.items) (length done.new.items)) }
-    ensures undo { (first : List Pair) → Undoes first done.old.items kept.old.entries → Undoes first done.new.items kept.new.entries }
+    ensures ok { OnOk result (Takes (entry_of solution.now) best.old.entries best.new.entries (length done.old.items) (length done.new.items)) }
+    ensures undo { (first : List Pair) → Undoes first done.old.items best.old.entries → Undoes first done.new.items best.new.entries }
 {
     let key = solution.key;
-    match kept.get(&key) {
+    match best.get(&key) {
         Some(old) if old.is_worse_than(solution) => {
             let old = old.clone()?;
             let bytes = solution.body(alloc)?;
-            replace(kept, done, key, Some(old), Body::of(bytes)?)
+            replace(best, done, key, Some(old), Body::of(bytes)?)
         }
         Some(_) => Ok(()),
         None => {
             let bytes = solution.body(alloc)?;
-            replace(kept, done, key, None, Body::of(bytes)?)
+            replace(best, done, key, None, Body::of(bytes)?)
         }
     }
 }
@@ -99,70 +99,70 @@ fn sorted_solutions<A: Allocator, B: Allocator>(
     Ok(all)
 }
 
-// Takes those of the solutions that are better than what is kept.
+// Takes those of the solutions that are better than the best so far.
 fn take_all<A: Allocator + Copy, B: Allocator>(
     alloc: A,
-    kept: &mut Bodies<A>,
+    best: &mut Bodies<A>,
     done: &mut Changes<A>,
     solutions: &[(Key, &Solution<B>)],
 ) -> Result<(), AllocError>
-    requires kept { IsKept (entries_of kept.old.entries) }
+    requires collected { AreCollected (entries_of best.old.entries) }
     requires none { done.old.items ≡ [] }
-    ensures best { OnOk result (IsBestOf (Contains (entries_of kept.old.entries ++ map (λ s. entry_of s.1.now) solutions.now)) (entries_of kept.new.entries)) }
-    ensures changed { OnOk result ((done.new.items ≡ []) ⊎ (entries_of kept.new.entries ≢ entries_of kept.old.entries)) }
-    ensures undo { Undoes kept.old.entries done.new.items kept.new.entries }
+    ensures best { OnOk result (IsBestOf (Contains (entries_of best.old.entries ++ map (λ s. entry_of s.1.now) solutions.now)) (entries_of best.new.entries)) }
+    ensures changed { OnOk result ((done.new.items ≡ []) ⊎ (entries_of best.new.entries ≢ entries_of best.old.entries)) }
+    ensures undo { Undoes best.old.entries done.new.items best.new.entries }
 {
     for (_, solution) in solutions {
-        take(alloc, kept, done, solution)?;
+        take(alloc, best, done, solution)?;
     }
     Ok(())
 }
 
 // Restores what a key had. If that was a body, the key has a body now, so nothing grows.
-fn go_back<A: Allocator + Copy>(kept: &mut Bodies<A>, key: Key, old: Option<Body<A>>)
-    requires { CanGoBack key old kept.old.entries }
-    ensures { kept.new.entries ≡ back_to key old kept.old.entries }
+fn go_back<A: Allocator + Copy>(best: &mut Bodies<A>, key: Key, old: Option<Body<A>>)
+    requires { CanGoBack key old best.old.entries }
+    ensures { best.new.entries ≡ back_to key old best.old.entries }
 {
     match old {
         Some(body) => {
-            let _ = kept.insert(key, body);
+            let _ = best.insert(key, body);
         }
         None => {
-            kept.remove(&key);
+            best.remove(&key);
         }
     }
 }
 
 // Undoes the changes, the last one first. Does not allocate.
-fn undo<A: Allocator + Copy>(kept: &mut Bodies<A>, done: Changes<A>)
-    requires { (first : List Pair) × Undoes first done.items kept.old.entries }
-    ensures { (first : List Pair) → Undoes first done.items kept.old.entries → kept.new.entries ≡ first }
+fn undo<A: Allocator + Copy>(best: &mut Bodies<A>, done: Changes<A>)
+    requires { (first : List Pair) × Undoes first done.items best.old.entries }
+    ensures { (first : List Pair) → Undoes first done.items best.old.entries → best.new.entries ≡ first }
 {
     let mut done = done;
     while let Some((key, old)) = done.pop() {
-        go_back(kept, key, old);
+        go_back(best, key, old);
     }
 }
 
-// Adds the solutions among the records, and keeps the best of all. Returns whether anything changed.
+// Adds the solutions among the records: the best of all remain. Returns whether anything changed.
 pub(crate) fn add<A: Allocator + Copy, B: Allocator>(
     alloc: A,
-    kept: &mut Bodies<A>,
+    best: &mut Bodies<A>,
     records: &[Record<B>],
 ) -> Result<bool, AllocError>
-    requires kept { IsKept (entries_of kept.old.entries) }
+    requires collected { AreCollected (entries_of best.old.entries) }
     requires records { AllByRecursion IsRecord (records_of records.now) }
-    ensures best { OnOk result (IsBestOf (Contains (entries_of kept.old.entries ++ solved_in (records_of records.now))) (entries_of kept.new.entries)) }
-    ensures changed { IfOk result (λ changed. MatchBool changed (entries_of kept.new.entries ≢ entries_of kept.old.entries) (entries_of kept.new.entries ≡ entries_of kept.old.entries)) }
-    ensures err { OnErr result (kept.new.entries ≡ kept.old.entries) }
-    ensures fits { IsKept (entries_of kept.new.entries) }
+    ensures best { OnOk result (IsBestOf (Contains (entries_of best.old.entries ++ solved_in (records_of records.now))) (entries_of best.new.entries)) }
+    ensures changed { IfOk result (λ changed. MatchBool changed (entries_of best.new.entries ≢ entries_of best.old.entries) (entries_of best.new.entries ≡ entries_of best.old.entries)) }
+    ensures err { OnErr result (best.new.entries ≡ best.old.entries) }
+    ensures fits { AreCollected (entries_of best.new.entries) }
 {
     let solutions = sorted_solutions(alloc, records)?;
     let mut done = Vec::new(alloc);
-    match take_all(alloc, kept, &mut done, solutions.as_slice()) {
+    match take_all(alloc, best, &mut done, solutions.as_slice()) {
         Ok(()) => Ok(!done.is_empty()),
         Err(fault) => {
-            undo(kept, done);
+            undo(best, done);
             Err(fault)
         }
     }

@@ -48,15 +48,15 @@ impl<A: Allocator> Model for Snapshot<A> {
 
 impl<A: Allocator + Copy> Snapshot<A> {
     // A snapshot with the records of these bodies. Fails where an allocation for the two lists was refused.
-    pub(crate) fn of(alloc: A, kind: Ruleset, kept: &Bodies<A>) -> Result<Self, AllocError>
-        requires { 8 + length (flat_map body_text (values kept.now)) < 2 ^ 64 }
+    pub(crate) fn of(alloc: A, kind: Ruleset, best: &Bodies<A>) -> Result<Self, AllocError>
+        requires { 8 + length (flat_map body_text (values best.now)) < 2 ^ 64 }
         ensures rules { IfOk result (λ s. s.ruleset ≡ kind) }
-        ensures bodies { IfOk result (λ s. s.bodies ≡ values kept.now) }
+        ensures bodies { IfOk result (λ s. s.bodies ≡ values best.now) }
     {
-        let mut starts = Vec::with_capacity(alloc, kept.len())?;
-        let mut bodies = Vec::with_capacity(alloc, kept.len())?;
+        let mut starts = Vec::with_capacity(alloc, best.len())?;
+        let mut bodies = Vec::with_capacity(alloc, best.len())?;
         let mut len = 8u64;
-        for body in kept.values() {
+        for body in best.values() {
             starts.push(len)?;
             bodies.push(body.clone()?)?;
             len += 4 + u64::from(body.size());

@@ -1,4 +1,4 @@
-//! The text of the kept solutions.
+//! The text of the best solutions.
 
 ghost use Rattle.std.specs.Prelude.{◌≡◌, ◌<◌, ◌^◌, ◌++◌, length, IfErr, OnOk, OnErr};
 ghost use Rattle.std.specs.List.{flat_map};
@@ -17,12 +17,12 @@ use std::io::Write;
 use tws_file::{Ruleset, SIGNATURE};
 
 // The length of all records in bytes.
-pub(crate) fn bodies_len<A: Allocator>(kept: &Bodies<A>) -> u128
-    ensures is { result ≡ length (flat_map body_text (values kept.now)) }
+pub(crate) fn bodies_len<A: Allocator>(best: &Bodies<A>) -> u128
+    ensures is { result ≡ length (flat_map body_text (values best.now)) }
     ensures small { result < 2 ^ 100 }
 {
     let mut total = 0u128;
-    for body in kept.values() {
+    for body in best.values() {
         total += 4 + u128::from(body.size());
     }
     total
@@ -62,14 +62,14 @@ fn send_body<A: Allocator, W: Write>(
 // Sends a record for each body, in the order of the keys.
 fn send_bodies<A: Allocator, W: Write>(
     buffer: &mut Buffer<LARGE>,
-    kept: &Bodies<A>,
+    best: &Bodies<A>,
     out: &mut W,
 ) -> Result<(), OutFault>
-    ensures ok { OnOk result (Sends (W.contents out.old) (W.contents out.new) (buffer.old ++ flat_map body_text (values kept.now)) buffer.new) }
-    ensures err { OnErr result (AppendsPrefix (W.contents out.old) (W.contents out.new) (buffer.old ++ flat_map body_text (values kept.now))) }
+    ensures ok { OnOk result (Sends (W.contents out.old) (W.contents out.new) (buffer.old ++ flat_map body_text (values best.now)) buffer.new) }
+    ensures err { OnErr result (AppendsPrefix (W.contents out.old) (W.contents out.new) (buffer.old ++ flat_map body_text (values best.now))) }
     ensures io { IfErr result (λ e. e ≡ OutFault.Io) }
 {
-    for body in kept.values() {
+    for body in best.values() {
         send_body(buffer, body, out)?;
     }
     Ok(())
@@ -78,15 +78,15 @@ fn send_bodies<A: Allocator, W: Write>(
 // Writes a header, and a record for each body.
 pub(crate) fn write_parts<A: Allocator, W: Write>(
     kind: Ruleset,
-    kept: &Bodies<A>,
+    best: &Bodies<A>,
     out: &mut W,
 ) -> Result<(), OutFault>
-    ensures ok { OnOk result (Appends (W.contents out.old) (W.contents out.new) (collection_header kind ++ flat_map body_text (values kept.now))) }
-    ensures err { OnErr result (AppendsPrefix (W.contents out.old) (W.contents out.new) (collection_header kind ++ flat_map body_text (values kept.now))) }
+    ensures ok { OnOk result (Appends (W.contents out.old) (W.contents out.new) (collection_header kind ++ flat_map body_text (values best.now))) }
+    ensures err { OnErr result (AppendsPrefix (W.contents out.old) (W.contents out.new) (collection_header kind ++ flat_map body_text (values best.now))) }
     ensures io { IfErr result (λ e. e ≡ OutFault.Io) }
 {
     let mut buffer = Buffer::new();
     buffer.send(&header_bytes(kind), out)?;
-    send_bodies(&mut buffer, kept, out)?;
+    send_bodies(&mut buffer, best, out)?;
     put(out, buffer.as_slice())
 }

@@ -1,23 +1,13 @@
-//! Tile World solution files (TWS): what a file is, which fault bytes have, and the listing of a file.
+//! Tile World solution files (TWS): what a file is, which fault bytes have, and the listing of a file. README.md has a
+//! caller, and what is proved.
 //!
 //! Read `specs/Text.antt` first: it defines which values have a text, and which text. `specs/Fault.antt` defines the
 //! fault of bytes that are not a file's text; `specs/Reader.antt` defines what a reader of pieces has taken. The
 //! definitions in `specs/Steps.antt` are only for private functions.
 //!
-//! An example of a caller, in a crate that lists `tws_file`; it needs no proof file:
-//!
-//! ```text
-//! ghost use Rattle.std.specs.Prelude.{OnOk};
-//! ghost use Rattle.tws_file.specs.Text.{IsReadable};
-//!
-//! /// How many records a solution file has.
-//! fn record_count(alloc: Global, bytes: &[u8]) -> Result<usize, FileFault>
-//!     ensures { OnOk result (IsReadable bytes.now) }
-//! {
-//!     let file = read_file(alloc, bytes)?;
-//!     Ok(file.records.len())
-//! }
-//! ```
+//! `tws_file` and `solution` check which values have a text. `reader` reads bytes, by `header` and `reading`; `writing`
+//! writes them; `listing` writes the lines of `lines`; `packing` makes the packed file. `ruleset` and `upload_name` have
+//! the names of files at a server.
 #![tactic(auto)]
 
 mod bytes;

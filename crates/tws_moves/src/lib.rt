@@ -1,24 +1,11 @@
-//! The moves of a Tile World solution, and how bytes spell them.
+//! The moves of a Tile World solution, and how bytes spell them. README.md has a caller, and what is proved.
 //!
 //! Read `specs/Spelling.antt` first: it defines what bytes spell (`Spells`). `specs/Shortest.antt` defines which
 //! spellings are the shortest and which moves have none; `specs/Move.antt` defines moves and their ticks. The
 //! definitions in `specs/Steps.antt` are only for private functions.
 //!
-//! An example of a caller, in a crate that lists `tws_moves`; it needs no proof file:
-//!
-//! ```text
-//! ghost use Rattle.std.specs.Prelude.{◌≡◌, ◌<◌, ◌^◌, length, IfOk, IsTrue};
-//! ghost use Rattle.tws_moves.specs.Shortest.{packed_bytes};
-//!
-//! /// Whether the bytes are the shortest that spell their moves.
-//! fn is_packed(alloc: Global, bytes: &[u8]) -> Result<bool, MovesFault>
-//!     requires { length bytes.now < 2 ^ 32 }
-//!     ensures { IfOk result (λ same. IsTrue same → packed_bytes bytes.now ≡ bytes.now) }
-//! {
-//!     let packed = pack_moves(alloc, bytes)?;
-//!     Ok(packed.as_slice() == bytes)
-//! }
-//! ```
+//! `reading` and `counting` go from bytes to moves, by the fields of `layout`; `writing` goes from moves to bytes, by
+//! `wait` and `piece`; `pack` goes from bytes to the fewest bytes, with the steps of `pending` that may share a byte.
 #![tactic(auto)]
 
 mod act;

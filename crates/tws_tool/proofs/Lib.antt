@@ -1,7 +1,9 @@
 pub mod Taking
-pub mod Told
 pub mod Statuses
+pub mod Collecting
+pub mod Sending
+pub mod Fetching
+pub mod Listening
 pub mod Asking
 pub mod Addresses
 pub mod Given
-pub mod Sending

@@ -1,5 +1,5 @@
--- Why a put fails, and what a put that succeeded has sent.
-use Rattle.std.proofs.Common.{◌≡◌, ◌≢◌, ◌∙◌, ℕ, Bool, true, false, List, length, Option, Some, None, Result, Ok, Err, refl, ap, sym, subst, inl, inr}
+-- Why a put fails, what a put that succeeded has sent, and what `put` did, by its result.
+use Rattle.std.proofs.Common.{◌≡◌, ◌≢◌, ◌∙◌, ℕ, Bool, true, false, List, length, Option, Some, None, Result, Ok, Err, OnOk, IfErr, string_bytes, refl, arith, ap, sym, subst, inl, inr}
 use Rattle.std.specs.Io.KnownBytes.{Appends}
 use Rattle.tws_file.specs.Text.{IsReadable}
 use Rattle.tftp_packet.specs.declared.endpoint.Endpoint.{Endpoint}
@@ -15,9 +15,13 @@ use Rattle.archive_turns.specs.Wire.{Entry}
 use Rattle.archive_turns.specs.Run.{Run, PutAfter, RunsPut, begin_opened, begin_sized, put_result}
 use Rattle.tws_tool.specs.declared.tool_fault.ToolFault.{ToolFault}
 use Rattle.tws_tool.specs.declared.tool_fault.ToolFault.TheVariants as tool
-use Rattle.tws_tool.specs.Faults.{run_fault}
-use Rattle.tws_tool.specs.Archiving.{IsBlamed, PutFails, PutRuns, Puts, SaysSent}
-use Rattle.tws_tool.specs.Lines.{sent_line}
+use Rattle.tws_tool.specs.Faults.{answer_status, run_fault}
+use Rattle.tws_tool.specs.declared.commands.put.PutArguments.{PutArguments}
+use Rattle.tws_tool.specs.Address.{IsAddress}
+use Rattle.tws_tool.specs.Commands.Put.{IsBlamed, PutFails, PutRan, PutRuns, Puts, SaysSent, put_known}
+use Rattle.tws_tool.specs.Inputs.{IsUnreadable}
+use Rattle.tws_tool.proofs.Statuses.{at_zero, map_err, map_ok, no_usage, transfers}
+use Rattle.tws_tool.specs.Lines.{Transfers, Unsaid, sent_line}
 
 -- a put writes nothing, so it has no write fault
 no_write_of : (why : Cause) (len : ℕ) → put_result (state.Failed why) len ≢ Err run.Write
@@ -96,3 +100,41 @@ put_blames known server before after old new (tool.Unreadable index fault) fails
 put_blames known server before after old new tool.Memory fails = tt
 put_blames known server before after old new tool.Socket fails = tt
 put_blames known server before after old new (tool.Transfer why) fails = tt
+
+-- ---- by the exit status
+
+module _ (old new : Option (List ℕ)) where
+  put_unsaid : (known : Option (List ℕ)) (server : Endpoint) (before after : Option (List Entry)) (e : ToolFault) → PutFails known server before after old new e → Unsaid sent_line old new e
+  put_unsaid known server before after tool.Read fails = fails.1
+  put_unsaid known server before after tool.Write fails = inr (fails.len, fails.prefix)
+  put_unsaid known server before after (tool.Unreadable index fault) fails = fails.1
+  put_unsaid known server before after tool.Memory fails = inl fails.0
+  put_unsaid known server before after tool.Socket fails = fails.0
+  put_unsaid known server before after (tool.Transfer why) fails = fails.0
+
+  -- an input that is blamed at status 3 is unreadable
+  blamed : (known : Option (List ℕ)) (r : Result (Unit {0}) ToolFault) → IfErr r (IsBlamed known) → answer_status r ≡ 3 → IsUnreadable known
+  blamed known (Ok done) blames three = absurd (omega (arith, three))
+  blamed known (Err tool.Read) blames three = absurd (omega (arith, three))
+  blamed known (Err tool.Write) blames three = absurd (omega (arith, three))
+  blamed known (Err (tool.Unreadable index fault)) blames three = (fault, blames)
+  blamed known (Err tool.Memory) blames three = absurd (omega (arith, three))
+  blamed known (Err tool.Socket) blames three = absurd (omega (arith, three))
+  blamed known (Err (tool.Transfer why)) blames three = absurd (omega (arith, three))
+
+  module _ (bytes_of : List ℕ → Option (List ℕ)) (arguments : PutArguments) where
+    pub put_ran : (host : ℕ) (before after : Option (List Entry)) (r : Result (Unit {0}) ToolFault) → IsAddress (string_bytes arguments.target.address) host
+        → OnOk r (Puts (put_known bytes_of arguments) (record { host = host; port = arguments.target.port }) before after old new)
+        → IfErr r (PutFails (put_known bytes_of arguments) (record { host = host; port = arguments.target.port }) before after old new)
+        → PutRan bytes_of arguments (answer_status r) before after old new
+    put_ran host before after r is puts fails = record {
+      transfers = transfers old new (string_bytes arguments.target.address) sent_line host r is (map_ok r (λ p. (p.len, p.said)) puts) (map_err r (put_unsaid (put_known bytes_of arguments) _ before after) fails);
+      sent = at_zero r (map_ok r (put_says (put_known bytes_of arguments) _ before after old new) puts);
+      unreadable = blamed (put_known bytes_of arguments) r (map_err r (put_blames (put_known bytes_of arguments) _ before after old new) fails);
+      ended = λ other. (host, is, record { done = r; status_is = refl; puts = puts; fails = fails });
+      nowhere = λ one. absurd (no_usage r one);
+    }
+
+    -- nothing is sent to a text that is not an address
+    pub put_nowhere : (status : ℕ) (log : Option (List Entry)) → status ≡ 1 → Transfers (string_bytes arguments.target.address) sent_line status old new → PutRan bytes_of arguments status log log old new
+    put_nowhere status log one transfers = record { transfers = transfers; sent = λ e. absurd (omega (arith, e, one)); unreadable = λ e. absurd (omega (arith, e, one)); ended = λ other. absurd (other one); nowhere = λ e. refl }

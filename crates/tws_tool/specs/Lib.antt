@@ -1,11 +1,9 @@
 pub mod Address
+pub mod Arguments
 pub mod Inputs
 pub mod Faults
 pub mod Written
-pub mod Collecting
 pub mod Help
 pub mod Lines
-pub mod Archiving
-pub mod Serving
-pub mod Jobs
+pub mod Commands
 pub mod CommandLine

@@ -1,22 +1,12 @@
 -- What a command of one input writes: a text of the file that was read, such as its listing.
-use Rattle.std.specs.Prelude.{◌≡◌, ◌⊎◌, ℕ, Bool, List, Option, IfSome}
-use Rattle.std.specs.Io.KnownBytes.{Appends}
+use Rattle.std.specs.Prelude.{◌≡◌, ◌≢◌, ◌⊎◌, ℕ, ◌≤◌, List, Option, IfSome}
+use Rattle.std.specs.Io.KnownBytes.{Appends, IsAtEnd}
 use Rattle.tws_file.specs.Text.{File, IsText}
-use Rattle.tws_file.specs.Listing.{listing_of}
-use Rattle.tws_file.specs.Packing.{packed_text}
 use Rattle.byte_output.specs.Output.{AppendsPrefix}
 use Rattle.tws_tool.specs.declared.tool_fault.ToolFault.{ToolFault}
 use Rattle.tws_tool.specs.declared.tool_fault.ToolFault.TheVariants.{Read, Write, Unreadable, Memory, Socket, Transfer}
 use Rattle.tws_tool.specs.Faults.{ReadFails}
-
--- the texts that commands of one input write
-pub data CommandText : Type 0 where
-  listing : (moves : Bool) → CommandText
-  packed : CommandText
-
-abbrev pub text_by : CommandText → File → List ℕ
-text_by (listing moves) file = listing_of moves file
-text_by packed file = packed_text file
+use Rattle.tws_tool.specs.Inputs.{IsUnreadable}
 
 -- the bytes that were read are a file's text, and this text of the file was written
 abbrev pub Writes : (File → List ℕ) → (known old new : Option (List ℕ)) → Type 0
@@ -33,3 +23,12 @@ WriteFails text known old new (Unreadable index fault) = (new ≡ old) × ReadFa
 WriteFails text known old new Memory = (new ≡ old) ⊎ WritesPrefix text known old new
 WriteFails text known old new Socket = ⊥
 WriteFails text known old new (Transfer why) = ⊥
+
+-- a command with one input, which writes this text of the file: what the input had and has left, and the output before
+-- and after
+pub record Ran (text : File → List ℕ) (status : ℕ) (known left old new : Option (List ℕ)) : Type 0 where
+  pub done : status ≡ 0 → IsAtEnd left × Writes text known old new
+  pub failed : status ≡ 2 → (new ≡ old) ⊎ WritesPrefix text known old new
+  pub unreadable : status ≡ 3 → IsAtEnd left × (new ≡ old) × IsUnreadable known
+  pub never : status ≢ 1
+  pub few : status ≤ 3

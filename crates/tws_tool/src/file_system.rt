@@ -1,7 +1,10 @@
 //! Files by their names.
 
-ghost use Rattle.std.specs.Prelude.{◌≡◌, ℕ, List, Option, None, IfOk};
+ghost use Rattle.std.specs.Prelude.{◌≡◌, ℕ, List, Option, None, map, string_bytes, IfOk, IfErr};
+ghost use Rattle.tws_tool.specs.Faults.{IsReadFault};
 
+use crate::tool_fault::ToolFault;
+use std::alloc::Global;
 use std::fs::OpenFile;
 use std::io::{Read, Write};
 use std::rt::Files;
@@ -81,4 +84,43 @@ impl<P: Files + Copy> FileSystem for SystemFiles<P> {
         let file = fs::create(&self.0, name)?;
         Ok(SystemFile(file.try_clone()?))
     }
+}
+
+/// Opens the file of this name.
+pub(crate) fn open<S: FileSystem>(system: &S, name: &str) -> Result<S::File, ToolFault>
+    ensures opened { IfOk result (λ file. S.File.remaining file ≡ S.bytes_of system.now name.now) }
+    ensures fault { IfErr result (λ e. e ≡ ToolFault.Read) }
+{
+    match system.open(name) {
+        Ok(file) => Ok(file),
+        Err(_) => Err(ToolFault::Read),
+    }
+}
+
+/// Creates the file of this name.
+pub(crate) fn create<S: FileSystem>(system: &S, name: &str) -> Result<S::Created, ToolFault>
+    ensures created { IfOk result (λ file. S.Created.contents file ≡ S.created_of system.now name.now) }
+    ensures fault { IfErr result (λ e. e ≡ ToolFault.Write) }
+{
+    match system.create(name) {
+        Ok(file) => Ok(file),
+        Err(_) => Err(ToolFault::Write),
+    }
+}
+
+/// Opens the files of these names, all of them before one is read.
+pub(crate) fn open_all<S: FileSystem>(
+    system: &S,
+    alloc: Global,
+    names: &[String],
+) -> Result<Vec<S::File>, ToolFault>
+    ensures opened { IfOk result (λ files. map (λ file. S.File.remaining file) files.items ≡ map (λ name. S.bytes_of system.now (string_bytes name)) names.now) }
+    ensures fault { IfErr result IsReadFault }
+{
+    let mut files = Vec::new(alloc);
+    for name in names {
+        let file = open(system, name.as_str())?;
+        files.push(file)?;
+    }
+    Ok(files)
 }

@@ -1,5 +1,5 @@
 //! The commands of the program `tws`, over any reader and writer. Read `specs/Inputs.antt` first, then
-//! `specs/Jobs.antt`.
+//! `specs/Commands.antt`.
 //!
 //! How to call it, from a crate that lists `tws_tool` and `tws_file`; this needs no proof file:
 //!
@@ -21,22 +21,17 @@
 #![tactic(auto)]
 
 mod address;
-mod best;
-mod command;
+mod arguments;
+mod commands;
 mod file_system;
-mod get;
-mod host;
+mod help;
 mod input;
 mod job;
 mod laws;
 mod limits;
 mod line;
-mod number;
-mod pack;
 mod program;
-mod put;
-mod serve;
-mod show;
+mod reporting;
 mod status;
 mod target;
 mod tool_fault;
@@ -44,20 +39,18 @@ mod tool_fault;
 pub use address::Address;
 pub use archive_host::{DirKeeper, HostFolder, OpenFault, UdpWire};
 pub use archive_turns::{
-    Entry, GetRun, MemoryWire, PutRun, ReadyServer, RunFault, Server, Wire, WireFault, run_get,
-    run_put, serve_ready, serve_turns,
+    Entry, GetRun, MemoryWire, PutRun, RunFault, Server, Wire, WireFault, run_get, run_put,
+    serve_rounds, serve_turns,
 };
-pub use best::run_best;
+pub use commands::{
+    BestArguments, GetArguments, Job, Passes, PutArguments, ServeArguments, ShowArguments,
+    get_file, put_file, run_best, run_pack, run_show, serve_archive,
+};
 pub use file_system::FileSystem;
-pub use get::get_file;
 pub use input::INPUT_READS;
-pub use job::{Job, JobFault, job_of};
+pub use job::{JobFault, job_of};
 pub use laws::{limit_values, words_of_commands};
 pub use limits::{PORT, TURNS};
-pub use pack::run_pack;
 pub use program::{run_words, run_words_with};
-pub use put::put_file;
-pub use serve::{serve_counted, serve_waiting};
-pub use show::run_show;
 pub use target::Target;
 pub use tool_fault::ToolFault;

@@ -39,7 +39,7 @@ impl<A: Allocator + Copy> Table<A> {
         ensures told { step.new ≡ (closes port peer (Some (refusal_dgram why)) self.old).told }
         ensures fits { IsServer self.new }
     {
-        step.send(port, peer, Some(why.dgram()));
+        step.set_out(port, peer, Some(why.dgram()));
         self.close(port, step);
     }
 
@@ -66,7 +66,7 @@ impl<A: Allocator + Copy> Table<A> {
             return;
         };
         if sender.advance(n) {
-            step.send(port, peer, Some(sender.data()));
+            step.set_out(port, peer, Some(sender.data()));
             return;
         }
         match sender.state() {
@@ -98,7 +98,7 @@ impl<A: Allocator + Copy> Table<A> {
         let Whole { file, read } = whole;
         match merge_file(&mut self.lynx, &mut self.ms, keeper, &read) {
             Ok(()) => {
-                step.send(port, peer, ack);
+                step.set_out(port, peer, ack);
                 step.taken = Some(Taken { peer, file });
             }
             Err(why) => self.fail(port, peer, why, step),
@@ -140,7 +140,7 @@ impl<A: Allocator + Copy> Table<A> {
         match came {
             Err(fault) => self.fail(port, peer, fault.refusal(), step),
             Ok((ack, whole)) => match whole {
-                None => step.send(port, peer, ack),
+                None => step.set_out(port, peer, ack),
                 Some(whole) => self.on_file(keeper, port, peer, whole, ack, step),
             },
         }

@@ -8,27 +8,27 @@ use Rattle.tws_best.proofs.merging.take_all.Goals as goal
 
 pub loop-solution-init : goal.loop-solution-init
 loop-solution-init g c =
-    let first = c.args.kept.now.entries in
+    let first = c.args.best.now.entries in
     record {
-      taken = taken_none first (length c.args.done.now.items) c.requires.kept.rising (ap length c.requires.none);
+      taken = taken_none first (length c.args.done.now.items) c.requires.collected.rising (ap length c.requires.none);
       undo = subst (λ ds. Undoes first ds first) (sym c.requires.none) refl;
     }
 
 pub returns-in_err-take-clause-undo : goal.returns-in_err-take-clause-undo
-returns-in_err-take-clause-undo g c = c.take.ensures.undo c.args.kept.now.entries c.loop-solution.invariant.undo
+returns-in_err-take-clause-undo g c = c.take.ensures.undo c.args.best.now.entries c.loop-solution.invariant.undo
 
 pub loop-solution-preserved : goal.loop-solution-preserved
 loop-solution-preserved g c =
     let i = c.loop-solution.solution-index in
     let solutions = c.args.solutions.now in
-    let first = c.args.kept.now.entries in
+    let first = c.args.best.now.entries in
     let so_far = map (λ s. entry_of s.1.now) (take i solutions) in
     let item = c.loop-solution-item.result in
     let more = mapped_more (λ s. entry_of s.1.now) solutions i item c.loop-solution-test.true c.loop-solution-item.is in
     let before = c.loop-solution in
     record {
-      taken = subst (λ (es : List Entry). IsTaken first es c.take.new.kept.entries (length c.take.new.done.items)) (sym more)
-          (taken_more first so_far (entry_of item.1.now) before.kept.entries c.take.new.kept.entries (length before.done.items) (length c.take.new.done.items) before.invariant.taken c.in_ok-take.ensures.ok);
+      taken = subst (λ (es : List Entry). IsTaken first es c.take.new.best.entries (length c.take.new.done.items)) (sym more)
+          (taken_more first so_far (entry_of item.1.now) before.best.entries c.take.new.best.entries (length before.done.items) (length c.take.new.done.items) before.invariant.taken c.in_ok-take.ensures.ok);
       undo = c.take.ensures.undo first before.invariant.undo;
     }
 

@@ -6,6 +6,6 @@ use Rattle.tws_best.proofs.merging.take_all.Given as goal
 
 abbrev pub invariant-loop-solution : goal.invariant-loop-solution
 invariant-loop-solution g l = record {
-  taken : IsTaken l.fn.kept.entries (map (λ s. entry_of s.1.now) (take l.solution-index l.solutions)) l.kept.entries (length l.done.items);
-  undo : Undoes l.fn.kept.entries l.done.items l.kept.entries;
+  taken : IsTaken l.fn.best.entries (map (λ s. entry_of s.1.now) (take l.solution-index l.solutions)) l.best.entries (length l.done.items);
+  undo : Undoes l.fn.best.entries l.done.items l.best.entries;
 }

@@ -6,6 +6,6 @@ use Rattle.tws_best.proofs.text.bodies_len.Given as goal
 
 abbrev pub invariant-loop-body : goal.invariant-loop-body
 invariant-loop-body g l = record {
-  is : l.total + length (flat_map body_text l.body-iterator) ≡ length (flat_map body_text (values l.kept));
-  small : l.total + length l.body-iterator * 2 ^ 33 ≤ length (values l.kept) * 2 ^ 33;
+  is : l.total + length (flat_map body_text l.body-iterator) ≡ length (flat_map body_text (values l.best));
+  small : l.total + length l.body-iterator * 2 ^ 33 ≤ length (values l.best) * 2 ^ 33;
 }

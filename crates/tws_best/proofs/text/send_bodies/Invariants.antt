@@ -6,4 +6,4 @@ use Rattle.tws_best.proofs.text.send_bodies.Given as goal
 
 abbrev pub invariant-loop-body : goal.invariant-loop-body
 invariant-loop-body g l =
-    Sends (g.W.Write.contents l.fn.out) (g.W.Write.contents l.out) (l.fn.buffer ++ texts (values l.kept)) (l.buffer ++ texts l.body-iterator)
+    Sends (g.W.Write.contents l.fn.out) (g.W.Write.contents l.out) (l.fn.buffer ++ texts (values l.best)) (l.buffer ++ texts l.body-iterator)

@@ -14,7 +14,7 @@ returns-in_err-send-clause-err g c =
     let new = g.W.Write.contents c.send.new.out in
     let text = ap (λ (x : List ℕ). x ++ c.header_bytes.result) c.new-buffer.ensures ∙ c.header_bytes.ensures in
     let cut = subst (λ (x : List ℕ). AppendsPrefix old new x) text c.in_err-send.ensures.err in
-    at_err c.from_residual.result (prefix_more old new (collection_header c.args.kind) cut (texts (values c.args.kept.now)))
+    at_err c.from_residual.result (prefix_more old new (collection_header c.args.kind) cut (texts (values c.args.best.now)))
 
 pub returns-in_err-send_bodies-clause-err : goal.returns-in_err-send_bodies-clause-err
 returns-in_err-send_bodies-clause-err g c =
@@ -22,7 +22,7 @@ returns-in_err-send_bodies-clause-err g c =
     let mid = g.W.Write.contents c.send.new.out in
     let new = g.W.Write.contents c.send_bodies.new.out in
     let head = collection_header c.args.kind in
-    let bodies = texts (values c.args.kept.now) in
+    let bodies = texts (values c.args.best.now) in
     let first = c.send.new.self in
     let text = ap (λ (x : List ℕ). x ++ c.header_bytes.result) c.new-buffer.ensures ∙ c.header_bytes.ensures in
     let sent = Sends-push old mid mid head first (subst (λ (x : List ℕ). Sends old mid x first) text c.in_ok-send.ensures.ok) bodies in
@@ -35,7 +35,7 @@ returns-clause-ok g c =
     let later = g.W.Write.contents c.send_bodies.new.out in
     let new = g.W.Write.contents c.put.new.out in
     let head = collection_header c.args.kind in
-    let bodies = texts (values c.args.kept.now) in
+    let bodies = texts (values c.args.best.now) in
     let first = c.send.new.self in
     let left = c.send_bodies.new.buffer in
     let text = ap (λ (x : List ℕ). x ++ c.header_bytes.result) c.new-buffer.ensures ∙ c.header_bytes.ensures in
@@ -50,7 +50,7 @@ returns-clause-err g c =
     let later = g.W.Write.contents c.send_bodies.new.out in
     let new = g.W.Write.contents c.put.new.out in
     let head = collection_header c.args.kind in
-    let bodies = texts (values c.args.kept.now) in
+    let bodies = texts (values c.args.best.now) in
     let first = c.send.new.self in
     let left = c.send_bodies.new.buffer in
     let text = ap (λ (x : List ℕ). x ++ c.header_bytes.result) c.new-buffer.ensures ∙ c.header_bytes.ensures in

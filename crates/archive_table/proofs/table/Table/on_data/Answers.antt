@@ -27,8 +27,8 @@ returns-in-Err-clause-keeps g c =
 
 pub returns-in-None-clause-keeps : goal.returns-in-None-clause-keeps
 returns-in-None-clause-keeps g c =
-    keeps_all (grant_of c.send.new.self.out) _ c.args.self.now.maps _ _ _
-    (ap (λ (t : Told). grant_of t.out) c.send.ensures ∙ sent_grant c.args.port _ c.in-Ok.ack (data_reply granted c.args.n c.args.body.now _ c.in-Ok.ack c.in-Ok.ensures.sent))
+    keeps_all (grant_of c.set_out.new.self.out) _ c.args.self.now.maps _ _ _
+    (ap (λ (t : Told). grant_of t.out) c.set_out.ensures ∙ sent_grant c.args.port _ c.in-Ok.ack (data_reply granted c.args.n c.args.body.now _ c.in-Ok.ack c.in-Ok.ensures.sent))
     (ap (λ (s : Server). s.maps) c.self.view_is) refl
 
 pub returns-then-not-is_with-clause-keeps : goal.returns-then-not-is_with-clause-keeps

@@ -1,5 +1,5 @@
 use Rattle.std.proofs.Common.{◌≡◌, None, fold, take}
-use Rattle.archive_turns.specs.Ready.{earlier}
+use Rattle.archive_turns.specs.Timers.{earlier}
 use Rattle.archive_turns.proofs.timers.Timers.earliest.Given as goal
 
 abbrev pub invariant-loop-timer : goal.invariant-loop-timer

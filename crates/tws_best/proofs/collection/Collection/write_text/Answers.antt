@@ -10,12 +10,12 @@ pub returns-clause-ok : goal.returns-clause-ok
 returns-clause-ok g c =
     let old = g.W.Write.contents c.args.out.now in
     let new = g.W.Write.contents c.write_parts.new.out in
-    let text = ap (λ (x : List ℕ). collection_header c.self.inside.ruleset ++ x) (sym (entries_text c.self.inside.kept.entries)) ∙ ap collection_text c.self.view_is in
+    let text = ap (λ (x : List ℕ). collection_header c.self.inside.ruleset ++ x) (sym (entries_text c.self.inside.best.entries)) ∙ ap collection_text c.self.view_is in
     on_ok c.write_parts.result (subst (λ (x : List ℕ). Appends old new x) text) c.write_parts.ensures.ok
 
 pub returns-clause-err : goal.returns-clause-err
 returns-clause-err g c =
     let old = g.W.Write.contents c.args.out.now in
     let new = g.W.Write.contents c.write_parts.new.out in
-    let text = ap (λ (x : List ℕ). collection_header c.self.inside.ruleset ++ x) (sym (entries_text c.self.inside.kept.entries)) ∙ ap collection_text c.self.view_is in
+    let text = ap (λ (x : List ℕ). collection_header c.self.inside.ruleset ++ x) (sym (entries_text c.self.inside.best.entries)) ∙ ap collection_text c.self.view_is in
     on_err c.write_parts.result (subst (λ (x : List ℕ). AppendsPrefix old new x) text) c.write_parts.ensures.err

@@ -16,7 +16,7 @@ returns-then-k-eq1-clause-bytes g c =
 
 pub returns-else-k-eq1-clause-bytes : goal.returns-else-k-eq1-clause-bytes
 returns-else-k-eq1-clause-bytes g c =
-    let kept = c.self.inside.bodies.items in
+    let held = c.self.inside.bodies.items in
     let i = c.find-index.result.0 in
     let r = c.find-index.result.1 in
     let body = c.index.result.now in
@@ -25,7 +25,7 @@ returns-else-k-eq1-clause-bytes g c =
     let same = ap (λ v. length v.bodies) c.self.view_is in
     later_block (collection_header c.args.self.now.ruleset) body first (take c.put_bodies-else-k-eq1.result c.put_bodies-else-k-eq1.new.block) c.args.self.now.bodies (take (length slice - (i + 1)) (drop (i + 1) slice)) i r c.args.k refl c.find-index.ensures.inside c.find-index.ensures.within
     (ap (λ n. 512 * (n - 1)) (sym c.from.ensures) ∙ c.find-index.ensures.is)
-    (c.index.ensures ∙ get_or_default kept i body [] (omega (arith, c.find-index.ensures.inside, same)) ∙ ap (λ v. get_or v.bodies i []) c.self.view_is)
+    (c.index.ensures ∙ get_or_default held i body [] (omega (arith, c.find-index.ensures.inside, same)) ∙ ap (λ v. get_or v.bodies i []) c.self.view_is)
     (take_rest slice (i + 1) ∙ ap (drop (i + 1)) (c.deref.ensures.value ∙ ap (λ v. v.bodies) c.self.view_is))
     c.put_record-first.ensures.bytes
     c.put_bodies-else-k-eq1.ensures.bytes

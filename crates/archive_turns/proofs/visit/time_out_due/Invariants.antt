@@ -1,8 +1,0 @@
-use Rattle.std.proofs.Common.{take}
-use Rattle.archive_turns.specs.Timers.{Tracks}
-use Rattle.archive_turns.specs.Parts.{Walks}
-use Rattle.archive_turns.proofs.visit.time_out_due.Given as goal
-
-abbrev pub invariant-loop-port : goal.invariant-loop-port
-invariant-loop-port g l =
-    Walks (take l.port-index l.port-items) l.due l.initial.table l.table l.initial.timers l.timers (g.W.Wire.log l.initial.wire) (g.W.Wire.log l.wire) × Tracks l.table l.timers

@@ -1,5 +1,0 @@
-use Rattle.tws_file.specs.Reader.{HasAtMost}
-use Rattle.file_vectors.proofs.pieces.push_bytes.Given as goal
-
-abbrev pub invariant-loop-i : goal.invariant-loop-i
-invariant-loop-i g l = HasAtMost l.reader l.i

@@ -1,0 +1,462 @@
+// Transfers worked out by hand: which datagrams are sent at which call, by RFC 1350 sections 2, 5 and 6 and RFC 1123
+// section 4.2.3.1.
+ghost use Rattle.std.specs.Prelude.{◌≤◌, length};
+
+use std::alloc::Global;
+use std::test::Fail;
+use test_samples::HUNDRED;
+use tftp_ends::{Received, Receiver, RecvFault, RecvState, SendState, Sender};
+use tftp_packet::{Dgram, Owned};
+
+// The blocks of a file. Each byte of block n is n, and the last block has fewer than 512 bytes.
+#[derive(Clone, Copy)]
+struct Blocks {
+    count: u16,
+    last: usize,
+}
+
+// The bytes of a block, and how many of them it has.
+fn block(blocks: Blocks, n: u16) -> ([u8; 512], usize)
+    ensures { result.1 ≤ 512 }
+{
+    let size = if n < blocks.count {
+        512
+    } else {
+        blocks.last.min(511)
+    };
+    ([n.to_be_bytes()[1]; 512], size)
+}
+
+// A sender of these blocks, and what it sends first.
+fn start(alloc: Global, blocks: Blocks) -> Result<(Sender<Owned>, Dgram), Fail> {
+    let mut file = Vec::new(alloc);
+    for n in 1..=blocks.count {
+        let (bytes, size) = block(blocks, n);
+        file.extend_from_slice(&bytes[..size])?;
+    }
+    if file.len() > 33_553_919 {
+        return Err(Fail::new("too long"));
+    }
+    Ok(Sender::start(Owned::of(file)))
+}
+
+fn is_data(dgram: &Dgram, n: u16, body: &[u8]) -> bool {
+    let [high, low] = n.to_be_bytes();
+    let bytes = dgram.bytes();
+    bytes.len() == 4 + body.len() && bytes.starts_with(&[0, 3, high, low]) && bytes.ends_with(body)
+}
+
+fn sends_data(out: &Option<Dgram>, n: u16, body: &[u8]) -> bool {
+    match out {
+        Some(dgram) => is_data(dgram, n, body),
+        None => false,
+    }
+}
+
+fn sends_ack(out: &Option<Dgram>, n: u16) -> bool {
+    let [high, low] = n.to_be_bytes();
+    match out {
+        Some(dgram) => dgram.bytes() == [0, 4, high, low].as_slice(),
+        None => false,
+    }
+}
+
+// What a sender is given: an ACK with this number, or a time-out.
+#[derive(Clone, Copy)]
+enum Heard {
+    Ack(u16),
+    Nothing,
+}
+
+// What a receiver is given: a DATA with this number, or a time-out.
+#[derive(Clone, Copy)]
+enum Given {
+    Data(u16),
+    Nothing,
+}
+
+fn sends_block(out: &Option<Dgram>, blocks: Blocks, n: u16) -> bool {
+    let (bytes, size) = block(blocks, n);
+    sends_data(out, n, &bytes[..size])
+}
+
+// Whether a sender follows these rows: what it is given, the block that it sends then, and its state after that.
+fn plays_sender(
+    sender: &mut Sender<Owned>,
+    blocks: Blocks,
+    rows: &[(Heard, Option<u16>, SendState)],
+) -> bool {
+    for (heard, answer, state) in rows {
+        let out = match *heard {
+            Heard::Ack(n) => sender.on_ack(n),
+            Heard::Nothing => sender.on_timeout(),
+        };
+        let is_right = match *answer {
+            Some(n) => sends_block(&out, blocks, n),
+            None => out.is_none(),
+        };
+        if !is_right || sender.state() != *state {
+            return false;
+        }
+    }
+    true
+}
+
+// Whether a new sender of these blocks sends the first of them, and then follows these rows.
+fn sends(
+    alloc: Global,
+    blocks: Blocks,
+    rows: &[(Heard, Option<u16>, SendState)],
+) -> Result<bool, Fail> {
+    let (mut sender, first) = start(alloc, blocks)?;
+    Ok(sends_block(&Some(first), blocks, 1) && plays_sender(&mut sender, blocks, rows))
+}
+
+// Whether a receiver follows these rows: what it is given, the ACK that it sends then, and its state after that. All
+// DATA have this body.
+fn plays_receiver(
+    receiver: &mut Receiver,
+    body: &[u8],
+    rows: &[(Given, Option<u16>, RecvState)],
+) -> bool
+    requires { length body.now ≤ 512 }
+{
+    for (given, answer, state) in rows {
+        let out = match *given {
+            Given::Data(n) => receiver.on_data(n, body),
+            Given::Nothing => Ok(receiver.on_timeout()),
+        };
+        let is_right = match (out, *answer) {
+            (Ok(out), Some(n)) => sends_ack(&out, n),
+            (Ok(out), None) => out.is_none(),
+            (Err(_fault), _) => false,
+        };
+        if !is_right || receiver.state() != *state {
+            return false;
+        }
+    }
+    true
+}
+
+#[test]
+fn a_repeated_ack_sends_nothing(rt: HostRuntime) -> Result<(), Fail> {
+    let blocks = Blocks {
+        count: 4,
+        last: 464,
+    };
+    let rows = [
+        (Heard::Ack(1), Some(2), SendState::Running),
+        (Heard::Ack(2), Some(3), SendState::Running),
+        (Heard::Ack(3), Some(4), SendState::Running),
+        (Heard::Ack(3), None, SendState::Running),
+        (Heard::Ack(3), None, SendState::Running),
+        (Heard::Ack(3), None, SendState::Running),
+        (Heard::Ack(3), None, SendState::Running),
+        (Heard::Nothing, Some(4), SendState::Running),
+        (Heard::Ack(4), None, SendState::Finished),
+        (Heard::Ack(4), None, SendState::Finished),
+        (Heard::Nothing, None, SendState::Finished),
+    ];
+    assert!(rt; sends(rt.alloc(), blocks, &rows)?);
+    Ok(())
+}
+
+// The rows of a sender of two blocks that gives up.
+fn rows_to_the_end() -> [(Heard, Option<u16>, SendState); 23] {
+    let wait = (Heard::Nothing, Some(1), SendState::Running);
+    let again = (Heard::Nothing, Some(2), SendState::Running);
+    let before = (Heard::Ack(0), None, SendState::Running);
+    let last = (Heard::Ack(1), None, SendState::Running);
+    let after = (Heard::Ack(3), None, SendState::Running);
+    [
+        wait,
+        wait,
+        wait,
+        wait,
+        (Heard::Ack(1), Some(2), SendState::Running),
+        again,
+        before,
+        last,
+        after,
+        again,
+        before,
+        last,
+        after,
+        again,
+        before,
+        last,
+        after,
+        again,
+        before,
+        last,
+        after,
+        (Heard::Nothing, None, SendState::TimedOut),
+        (Heard::Ack(2), None, SendState::TimedOut),
+    ]
+}
+
+// Only the ACK of the current block is progress.
+#[test]
+fn a_sender_gives_up(rt: HostRuntime) -> Result<(), Fail> {
+    let blocks = Blocks { count: 2, last: 88 };
+    assert!(rt; sends(rt.alloc(), blocks, &rows_to_the_end())?);
+    Ok(())
+}
+
+// Whether a block of 512 bytes is sent, and its receiver waits for another.
+fn passes_the_whole_block(first: &Dgram, receiver: &mut Receiver) -> bool {
+    let rows = [(Given::Data(1), Some(1), RecvState::Running)];
+    is_data(first, 1, &[1; 512])
+        && plays_receiver(receiver, &[1; 512], &rows)
+        && receiver.take_file().is_none()
+}
+
+// Whether an empty block follows, and both ends are done.
+fn passes_the_empty_block(sender: &mut Sender<Owned>, receiver: &mut Receiver) -> bool {
+    let rows = [(Given::Data(2), Some(2), RecvState::Complete)];
+    sends_data(&sender.on_ack(1), 2, b"")
+        && plays_receiver(receiver, b"", &rows)
+        && sender.on_ack(2).is_none()
+        && sender.state() == SendState::Finished
+}
+
+// Whether the file is taken out and sent on in the same two blocks.
+fn sends_on(receiver: &mut Receiver) -> bool {
+    let Some(received) = receiver.take_file() else {
+        return false;
+    };
+    let (mut sender, first) = Sender::start(received);
+    is_data(&first, 1, &[1; 512]) && sends_data(&sender.on_ack(1), 2, b"")
+}
+
+// A file of 512 bytes ends with an empty block, and what was received is sent on.
+#[test]
+fn a_whole_block_and_an_empty_one(rt: HostRuntime) -> Result<(), Fail> {
+    let (mut sender, first) = start(rt.alloc(), Blocks { count: 2, last: 0 })?;
+    let mut receiver = Receiver::new(rt.alloc());
+    let passed = (
+        passes_the_whole_block(&first, &mut receiver),
+        passes_the_empty_block(&mut sender, &mut receiver),
+        sends_on(&mut receiver),
+    );
+    assert_eq!(rt; passed, (true, true, true));
+    Ok(())
+}
+
+// The bytes of a file, which are the same in a vector as when they are written.
+fn bytes_of(alloc: Global, received: &Received) -> Result<Vec<u8>, Fail> {
+    let bytes = received.to_vec(alloc)?;
+    let mut out = Vec::new(alloc);
+    received.write_to(&mut out)?;
+    if out != bytes {
+        return Err(Fail::new("other bytes were written"));
+    }
+    Ok(bytes)
+}
+
+// Whether the received file is this one, in one chunk.
+fn is_file(alloc: Global, received: &Received) -> Result<bool, Fail> {
+    let is_counted = received.len() == 28 && received.chunk_count() == 1;
+    Ok(is_counted && bytes_of(alloc, received)?.as_slice() == HUNDRED.as_slice())
+}
+
+// Whether a receiver hands out the file, and only once.
+fn gives_file(alloc: Global, receiver: &mut Receiver) -> Result<bool, Fail> {
+    let received = receiver.take_file().ok_or("no file")?;
+    Ok(receiver.take_file().is_none() && is_file(alloc, &received)?)
+}
+
+// Whether a new receiver that is given the file follows these rows, and then hands out the file once.
+fn receives_file(alloc: Global, rows: &[(Given, Option<u16>, RecvState)]) -> Result<bool, Fail> {
+    let mut receiver = Receiver::new(alloc);
+    Ok(plays_receiver(&mut receiver, HUNDRED, rows) && gives_file(alloc, &mut receiver)?)
+}
+
+#[test]
+fn a_file_is_given_once(rt: HostRuntime) -> Result<(), Fail> {
+    let rows = [(Given::Data(1), Some(1), RecvState::Complete)];
+    assert!(rt; receives_file(rt.alloc(), &rows)?);
+    Ok(())
+}
+
+// The last block is acknowledged when it arrives again, but does not make the receiver wait longer.
+#[test]
+fn a_receiver_waits_after_the_last_block(rt: HostRuntime) -> Result<(), Fail> {
+    let rows = [
+        (Given::Data(1), Some(1), RecvState::Complete),
+        (Given::Nothing, None, RecvState::Complete),
+        (Given::Data(1), Some(1), RecvState::Complete),
+        (Given::Data(2), None, RecvState::Complete),
+        (Given::Nothing, None, RecvState::Over),
+        (Given::Data(1), None, RecvState::Over),
+        (Given::Nothing, None, RecvState::Over),
+    ];
+    assert!(rt; receives_file(rt.alloc(), &rows)?);
+    Ok(())
+}
+
+// The rows of a receiver of full blocks that waits after this one, and is given others in vain.
+fn rows_of_a_wait(last: u16) -> [(Given, Option<u16>, RecvState); 12] {
+    let wait = (Given::Nothing, Some(last), RecvState::Running);
+    let again = (
+        Given::Data(last),
+        (last > 0).then_some(last),
+        RecvState::Running,
+    );
+    let other = (
+        Given::Data(last.saturating_add(2)),
+        None,
+        RecvState::Running,
+    );
+    [
+        wait, again, other, wait, again, other, wait, again, other, wait, again, other,
+    ]
+}
+
+// Only the next block is progress. There is no block 0.
+#[test]
+fn a_receiver_gives_up(rt: HostRuntime) {
+    let mut receiver = Receiver::new(rt.alloc());
+    let first = [(Given::Data(1), Some(1), RecvState::Running)];
+    let end = [
+        (Given::Nothing, None, RecvState::TimedOut),
+        (Given::Data(2), None, RecvState::TimedOut),
+    ];
+    let played = (
+        plays_receiver(&mut receiver, &[1; 512], &rows_of_a_wait(0)),
+        plays_receiver(&mut receiver, &[1; 512], &first),
+        plays_receiver(&mut receiver, &[1; 512], &rows_of_a_wait(1)),
+        plays_receiver(&mut receiver, &[1; 512], &end),
+    );
+    assert_eq!(rt;
+        (played, receiver.take_file().is_none()),
+        ((true, true, true, true), true)
+    );
+}
+
+// Gives a receiver the 65,534 full blocks of the longest file. Returns whether it goes on after each.
+fn takes_full_blocks(receiver: &mut Receiver) -> bool {
+    for n in 1..65_535 {
+        let rows = [(Given::Data(n), Some(n), RecvState::Running)];
+        let body = [n.to_be_bytes()[1]; 512];
+        if !plays_receiver(receiver, &body, &rows) {
+            return false;
+        }
+    }
+    true
+}
+
+// Whether one byte too many is refused, and the file ends without it.
+fn takes_the_last_block(receiver: &mut Receiver) -> bool {
+    let rows = [(Given::Data(65_535), Some(65_535), RecvState::Complete)];
+    receiver.on_data(65_535, &[255; 512]).err() == Some(RecvFault::TooLong)
+        && receiver.state() == RecvState::Running
+        && plays_receiver(receiver, &[255; 511], &rows)
+}
+
+// Whether no number follows that of the last block.
+fn is_past_all_numbers(receiver: &mut Receiver) -> bool {
+    let again = [(Given::Data(65_535), Some(65_535), RecvState::Complete)];
+    let others = [
+        (Given::Data(0), None, RecvState::Complete),
+        (Given::Data(1), None, RecvState::Complete),
+    ];
+    plays_receiver(receiver, &[255; 511], &again) && plays_receiver(receiver, &[1; 512], &others)
+}
+
+// Whether each byte of the longest file is the number of its block.
+fn is_the_greatest(alloc: Global, received: &Received) -> Result<bool, Fail> {
+    let bytes = bytes_of(alloc, received)?;
+    let is_right = bytes
+        .iter()
+        .enumerate()
+        .all(|(i, b)| usize::from(*b) == (i / 512 + 1) % 256);
+    Ok(is_right && received.len() == 33_553_919 && bytes.len() == 33_553_919)
+}
+
+// 65,534 full blocks and one of 511 bytes; one more byte cannot be numbered.
+#[test]
+fn the_greatest_file(rt: HostRuntime) -> Result<(), Fail> {
+    let mut receiver = Receiver::new(rt.alloc());
+    let taken = (
+        takes_full_blocks(&mut receiver),
+        takes_the_last_block(&mut receiver),
+        is_past_all_numbers(&mut receiver),
+    );
+    let received = receiver.take_file().ok_or("no file")?;
+    let is_right = is_the_greatest(rt.alloc(), &received)?;
+    assert_eq!(rt; (taken, is_right), ((true, true, true), true));
+    Ok(())
+}
+
+// The file that is received from these blocks.
+fn received(alloc: Global, blocks: Blocks) -> Result<Received, Fail> {
+    let mut receiver = Receiver::new(alloc);
+    for n in 1..=blocks.count {
+        let (bytes, size) = block(blocks, n);
+        let _ = receiver.on_data(n, &bytes[..size])?;
+    }
+    Ok(receiver.take_file().ok_or("no file")?)
+}
+
+// Whether the bytes of a file, from the offset `from` on, are the numbers of their blocks.
+fn are_numbers(bytes: &[u8], from: usize) -> bool {
+    bytes.iter().enumerate().all(|(i, b)| usize::from(*b) == i.wrapping_add(from) / 512 % 256 + 1)
+}
+
+// Whether a file has `count` chunks, the last one of size `last` and the others full, and each byte of them is the number
+// of its block.
+fn has_chunks(received: &Received, count: usize, last: usize) -> bool {
+    for i in 0..received.chunk_count() {
+        let chunk = received.chunk(i);
+        let is_last = i.wrapping_add(1) == count;
+        let size = if is_last { last } else { 16_384 };
+        if !are_numbers(chunk, i.wrapping_mul(16_384)) || chunk.len() != size {
+            return false;
+        }
+    }
+    received.chunk_count() == count
+}
+
+// Whether a file has `length` bytes, each the number of its block.
+fn has_numbers(alloc: Global, received: &Received, length: usize) -> Result<bool, Fail> {
+    let bytes = received.to_vec(alloc)?;
+    Ok(bytes.len() == length && are_numbers(&bytes, 0))
+}
+
+// A chunk has 16,384 bytes, and the last one at least 1.
+#[test]
+fn files_in_chunks(rt: HostRuntime) -> Result<(), Fail> {
+    let rows = [
+        (1, 0, 0, 0),
+        (1, 511, 1, 511),
+        (2, 0, 1, 512),
+        (2, 1, 1, 513),
+        (33, 0, 1, 16_384),
+        (33, 1, 2, 1),
+    ];
+    for (block_count, last, count, last_chunk) in rows {
+        let blocks = Blocks {
+            count: block_count,
+            last,
+        };
+        let received = received(rt.alloc(), blocks)?;
+        let length = (usize::from(block_count).wrapping_sub(1))
+            .wrapping_mul(512)
+            .wrapping_add(last);
+        assert!(rt; has_numbers(rt.alloc(), &received, length)?, "at {length}");
+        assert!(rt; has_chunks(&received, count, last_chunk), "at {length}");
+    }
+    Ok(())
+}
+
+#[test]
+fn faults_by_name(rt: HostRuntime) -> Result<(), Fail> {
+    for (fault, name) in [
+        (RecvFault::Memory, "Memory"),
+        (RecvFault::TooLong, "TooLong"),
+    ] {
+        assert_eq!(rt; format!(in rt.alloc(); "{fault}")?.as_str(), name);
+    }
+    Ok(())
+}

@@ -1,0 +1,129 @@
+// Fetching a collection and sending a file, with each allocation refused in turn.
+use archive_client::{Cause, Get, Put, State};
+use refusing::{Outcome, Refusing, refuse_each};
+use std::alloc::{Allocator, Global};
+use std::test::Fail;
+use test_samples::{
+    ACK_0, ACK_1, DATA_HUNDRED, HUNDRED, OUT_OF_MEMORY, PEER, SERVER, WRQ, whole_block,
+};
+use tftp_packet::{Endpoint, Out};
+use tws_file::Ruleset;
+
+fn is_out(out: &Out, to: Endpoint, bytes: &[u8]) -> bool {
+    out.from_port == 5000 && out.to == to && out.dgram.bytes() == bytes
+}
+
+fn goes(out: &Option<Out>, to: Endpoint, bytes: &[u8]) -> bool {
+    match out {
+        Some(out) => is_out(out, to, bytes),
+        None => false,
+    }
+}
+
+// Whether the client failed because it was out of memory, sent the ERROR for that, and is silent from now on.
+fn gives_up<A: Allocator + Copy>(client: &mut Get<A>, out: &Option<Out>, data: &[u8]) -> bool {
+    goes(out, PEER, OUT_OF_MEMORY)
+        && client.state() == State::Failed(Cause::Memory)
+        && client.over()
+        && client.on_datagram(PEER, data).is_none()
+        && client.on_timeout().is_none()
+        && client.state() == State::Failed(Cause::Memory)
+}
+
+// Passes a block to the client. Returns an outcome if the client did not acknowledge it.
+fn give<A: Allocator + Copy>(client: &mut Get<A>, n: u8, data: &[u8]) -> Result<(), Outcome> {
+    let out = client.on_datagram(PEER, data);
+    if goes(&out, PEER, &[0, 4, 0, n]) {
+        return Ok(());
+    }
+    Err(Outcome::refused(gives_up(client, &out, data)))
+}
+
+// Whether the client fetched a file, and it is this one.
+fn has_got<A: Allocator + Copy>(global: Global, client: Get<A>, bytes: &[u8]) -> bool {
+    if client.state() != State::Got {
+        return false;
+    }
+    let Ok(file) = client.into_file() else {
+        return false;
+    };
+    match file.to_vec(global) {
+        Ok(got) => got.as_slice() == bytes,
+        Err(_) => false,
+    }
+}
+
+fn fetch_one(global: Global, refusing: &Refusing<Global>) -> Outcome {
+    let (mut client, _) = Get::start(refusing, 5000, SERVER, Ruleset::Lynx);
+    if refusing.requests() != 0 {
+        return Outcome::Wrong;
+    }
+    match give(&mut client, 1, DATA_HUNDRED) {
+        Ok(()) => Outcome::of(has_got(global, client, HUNDRED)),
+        Err(Outcome::OutOfMemory) => Outcome::refused(client.into_file().is_err()),
+        Err(outcome) => outcome,
+    }
+}
+
+// The first block is refused, so the client is never bound.
+#[test]
+fn fetching_one_block(rt: HostRuntime) -> Result<(), Fail> {
+    let global = rt.alloc();
+    Ok(refuse_each(
+        global,
+        1,
+        &|refusing: &Refusing<Global>| fetch_one(global, refusing),
+    )?)
+}
+
+// Passes three blocks to the client, of which the last is empty; each byte of a block is its number.
+fn give_three<A: Allocator + Copy>(client: &mut Get<A>) -> Result<(), Outcome> {
+    give(client, 1, &whole_block(1, 1))?;
+    give(client, 2, &whole_block(2, 2))?;
+    give(client, 3, b"\0\x03\0\x03")
+}
+
+fn fetch_some(global: Global, refusing: &Refusing<Global>) -> Outcome {
+    let mut file = [1; 1024];
+    file[512..].copy_from_slice(&[2; 512]);
+    let (mut client, _) = Get::start(refusing, 5000, SERVER, Ruleset::Ms);
+    match give_three(&mut client) {
+        Ok(()) => Outcome::of(has_got(global, client, &file)),
+        Err(outcome) => outcome,
+    }
+}
+
+// A later block is refused: the client was bound, and failed all the same.
+#[test]
+fn fetching_some_blocks(rt: HostRuntime) -> Result<(), Fail> {
+    let global = rt.alloc();
+    Ok(refuse_each(
+        global,
+        1,
+        &|refusing: &Refusing<Global>| fetch_some(global, refusing),
+    )?)
+}
+
+// Whether the request, the data and the end of a put are right, and request and data are sent again at a time-out.
+fn sends_file<A: Allocator + Copy>(client: &mut Put<A>, first: Out) -> bool {
+    goes(&Some(first), SERVER, WRQ)
+        && goes(&client.on_timeout(), SERVER, WRQ)
+        && goes(&client.on_datagram(PEER, ACK_0), PEER, DATA_HUNDRED)
+        && goes(&client.on_timeout(), PEER, DATA_HUNDRED)
+        && client.on_datagram(PEER, ACK_1).is_none()
+        && client.state() == State::Sent
+}
+
+// A put does not allocate.
+#[test]
+fn sending(rt: HostRuntime) -> Result<(), Fail> {
+    let refusing = Refusing::new(rt.alloc(), 0);
+    let file = Vec::from_slice(&refusing, HUNDRED)?;
+    let requests = refusing.requests();
+    let Ok((mut client, first)) = Put::start(5000, SERVER, file) else {
+        return Err(Fail::new("too long"));
+    };
+    assert!(rt; sends_file(&mut client, first));
+    assert_eq!(rt; refusing.requests(), requests);
+    Ok(())
+}

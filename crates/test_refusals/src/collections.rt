@@ -1,0 +1,192 @@
+// Merging files into a collection and loading them, and making copies and snapshots of collections.
+use refusing::{Outcome, Refusing, refuse_each};
+use std::alloc::{Allocator, Global};
+use std::test::Fail;
+use test_samples::{EMPTY_LYNX, record};
+use tftp_packet::Blocks;
+use tws_best::Collection;
+use tws_file::{Ruleset, TwsFile, read_file};
+
+// A Lynx file of solutions without moves, each with this number, a letter that is its password four times, and its
+// ticks.
+fn text_of(alloc: Global, solutions: &[(u16, u8, u32)]) -> Result<Vec<u8>, Fail> {
+    let mut text = Vec::from_slice(alloc, EMPTY_LYNX)?;
+    for (number, letter, ticks) in solutions {
+        let solution = record(alloc, *number, &[*letter; 4], 0, *ticks, &[])?;
+        text.extend_from_slice(&solution)?;
+    }
+    Ok(text)
+}
+
+// A file, and its text.
+#[derive(Drop)]
+struct Sample {
+    file: TwsFile,
+    text: Vec<u8>,
+}
+
+fn read_sample(global: Global, solutions: &[(u16, u8, u32)]) -> Result<Sample, Fail> {
+    let text = text_of(global, solutions)?;
+    let file = read_file(global, &text)?;
+    Ok(Sample { file, text })
+}
+
+fn is_text<A: Allocator + Copy>(global: Global, collection: &Collection<A>, text: &[u8]) -> bool {
+    let mut out = Vec::new(global);
+    collection.write_text(&mut out).is_ok() && out.as_slice() == text
+}
+
+const THREE: [(u16, u8, u32); 3] = [(1, 0x41, 50), (2, 0x42, 60), (4, 0x44, 70)];
+
+// A solution of another level, and a better one of a level that is kept.
+const TWO: [(u16, u8, u32); 2] = [(3, 0x43, 10), (2, 0x42, 20)];
+
+const ALL: [(u16, u8, u32); 4] = [(1, 0x41, 50), (2, 0x42, 20), (3, 0x43, 10), (4, 0x44, 70)];
+
+// Merges a file into a collection, which then has the new text, or still the old one.
+fn merge<A: Allocator + Copy>(
+    global: Global,
+    collection: &mut Collection<A>,
+    file: &TwsFile,
+    old: &[u8],
+    new: &[u8],
+) -> Outcome {
+    match collection.merge(file) {
+        Ok(changed) => Outcome::of(changed && is_text(global, collection, new)),
+        Err(_) => Outcome::refused(is_text(global, collection, old)),
+    }
+}
+
+#[test]
+fn merging(rt: HostRuntime) -> Result<(), Fail> {
+    let global = rt.alloc();
+    let three = read_sample(global, &THREE)?;
+    let two = read_sample(global, &TWO)?;
+    let all = text_of(global, &ALL)?;
+    Ok(refuse_each(
+        global,
+        5,
+        &|refusing: &Refusing<Global>| {
+            let mut collection = Collection::new(refusing, Ruleset::Lynx);
+            match merge(
+                global,
+                &mut collection,
+                &three.file,
+                EMPTY_LYNX,
+                &three.text,
+            ) {
+                Outcome::Right => merge(global, &mut collection, &two.file, &three.text, &all),
+                outcome => outcome,
+            }
+        },
+    )?)
+}
+
+fn load(global: Global, refusing: &Refusing<Global>, three: &Sample) -> Outcome {
+    match Collection::load(refusing, &three.file) {
+        Ok(collection) => Outcome::of(is_text(global, &collection, &three.text)),
+        Err(_) => Outcome::OutOfMemory,
+    }
+}
+
+#[test]
+fn loading(rt: HostRuntime) -> Result<(), Fail> {
+    let global = rt.alloc();
+    let three = read_sample(global, &THREE)?;
+    Ok(refuse_each(
+        global,
+        3,
+        &|refusing: &Refusing<Global>| load(global, refusing, &three),
+    )?)
+}
+
+// Neither the empty collection nor its copy makes a request.
+#[test]
+fn empty_collections(rt: HostRuntime) -> Result<(), Fail> {
+    let refusing = Refusing::new(rt.alloc(), 1);
+    let collection = Collection::new(&refusing, Ruleset::Lynx);
+    let copy = collection.copy()?;
+    assert!(rt; is_text(rt.alloc(), &copy, EMPTY_LYNX));
+    assert_eq!(rt; refusing.requests(), 0);
+    Ok(())
+}
+
+// The outcome of a call that must leave the collection unchanged.
+fn unless_changed<A: Allocator + Copy>(
+    global: Global,
+    collection: &Collection<A>,
+    text: &[u8],
+    outcome: Outcome,
+) -> Outcome {
+    if is_text(global, collection, text) {
+        outcome
+    } else {
+        Outcome::Wrong
+    }
+}
+
+fn copy(global: Global, refusing: &Refusing<Global>, three: &Sample) -> Outcome {
+    let Ok(collection) = Collection::load(refusing, &three.file) else {
+        return Outcome::OutOfMemory;
+    };
+    let outcome = match collection.copy() {
+        Ok(copy) => Outcome::of(is_text(global, &copy, &three.text)),
+        Err(_) => Outcome::OutOfMemory,
+    };
+    unless_changed(global, &collection, &three.text, outcome)
+}
+
+#[test]
+fn copying(rt: HostRuntime) -> Result<(), Fail> {
+    let global = rt.alloc();
+    let three = read_sample(global, &THREE)?;
+    Ok(refuse_each(
+        global,
+        5,
+        &|refusing: &Refusing<Global>| copy(global, refusing, &three),
+    )?)
+}
+
+// All blocks, joined in order.
+fn joined_blocks(global: Global, blocks: &impl Blocks) -> Option<Vec<u8>> {
+    let mut text = Vec::new(global);
+    let mut out = [0; 512];
+    let count = u16::try_from(blocks.file_len() / 512 + 1).ok()?;
+    for before in 0..count {
+        let size = blocks.block(before + 1, &mut out);
+        text.extend_from_slice(&out[..size]).ok()?;
+    }
+    Some(text)
+}
+
+fn has_blocks(global: Global, blocks: &impl Blocks, text: &[u8]) -> bool {
+    match joined_blocks(global, blocks) {
+        Some(joined) => joined.as_slice() == text,
+        None => false,
+    }
+}
+
+fn snapshot(global: Global, refusing: &Refusing<Global>, three: &Sample) -> Outcome {
+    let Ok(collection) = Collection::load(refusing, &three.file) else {
+        return Outcome::OutOfMemory;
+    };
+    if collection.text_len() > 1_000_000 {
+        return Outcome::Wrong;
+    }
+    let outcome = match collection.snapshot() {
+        Ok(snapshot) => Outcome::of(has_blocks(global, &snapshot, &three.text)),
+        Err(_) => Outcome::OutOfMemory,
+    };
+    unless_changed(global, &collection, &three.text, outcome)
+}
+
+#[test]
+fn snapshots(rt: HostRuntime) -> Result<(), Fail> {
+    let global = rt.alloc();
+    let three = read_sample(global, &THREE)?;
+    Ok(refuse_each(
+        global,
+        5,
+        &|refusing: &Refusing<Global>| snapshot(global, refusing, &three),
+    )?)
+}

@@ -1,0 +1,95 @@
+// A download from the server's table does not allocate after its first block, nor to open if another one has its text.
+use crate::blocks::Blocks;
+use crate::table::{REQUEST, ask, goes, hear};
+use archive_table::Table;
+use refusing::Refusing;
+use std::alloc::{Allocator, Global};
+use std::test::Fail;
+use test_samples::{ACK_0, ACK_1, ACK_2, ALICE, BOB, RRQ_LYNX, UNKNOWN_TRANSFER, WRQ};
+
+// Whether a file is taken.
+fn takes<A: Allocator + Copy>(table: &mut Table<A>, file: &Blocks) -> bool {
+    let Some(step) = ask(table, 4000, ALICE, WRQ) else {
+        return false;
+    };
+    step.opened
+        && hear(table, 4000, ALICE, &file.first).taken.is_none()
+        && hear(table, 4000, ALICE, &file.second).taken.is_some()
+}
+
+// Whether a download is opened, and its first block is the file's.
+fn opens<A: Allocator + Copy>(table: &mut Table<A>, file: &Blocks) -> bool {
+    match ask(table, 4001, BOB, RRQ_LYNX) {
+        Some(step) => step.opened && goes(&step.out, 4001, BOB, &file.first),
+        None => false,
+    }
+}
+
+// Whether a block is sent again at a time-out, ACK 0 has no effect, and a stranger is sent its ERROR.
+fn repeats<A: Allocator + Copy>(table: &mut Table<A>, block: &[u8]) -> bool {
+    goes(&table.on_timeout(4001).out, 4001, BOB, block)
+        && hear(table, 4001, BOB, ACK_0).out.is_none()
+        && goes(
+            &hear(table, 4001, ALICE, ACK_1).out,
+            4001,
+            ALICE,
+            UNKNOWN_TRANSFER,
+        )
+}
+
+// Whether the rest of the download is right: each block is sent once more at a time-out, the second one at the ACK of
+// the first, and the transfer ends at the ACK of the second.
+fn goes_on<A: Allocator + Copy>(table: &mut Table<A>, file: &Blocks) -> bool {
+    if !repeats(table, &file.first) {
+        return false;
+    }
+    let second = hear(table, 4001, BOB, ACK_1);
+    goes(&second.out, 4001, BOB, &file.second)
+        && repeats(table, &file.second)
+        && hear(table, 4001, BOB, ACK_2).closed
+        && table.live() == 1
+}
+
+#[test]
+fn a_download_after_its_first_block(rt: HostRuntime) -> Result<(), Fail> {
+    let refusing: Refusing<Global> = Refusing::new(rt.alloc(), 0);
+    let mut table = Table::new(&refusing, REQUEST);
+    let file = Blocks::new();
+    assert!(rt; takes(&mut table, &file));
+    assert!(rt; opens(&mut table, &file));
+    let requests = refusing.requests();
+    assert!(rt; goes_on(&mut table, &file));
+    assert_eq!(rt; refusing.requests(), requests);
+    Ok(())
+}
+
+// Whether a download is opened at this port.
+fn opens_at<A: Allocator + Copy>(table: &mut Table<A>, port: u16) -> bool {
+    match ask(table, port, BOB, RRQ_LYNX) {
+        Some(step) => step.opened,
+        None => false,
+    }
+}
+
+// Whether an ERROR of its peer closes it.
+fn closes_at<A: Allocator + Copy>(table: &mut Table<A>, port: u16) -> bool {
+    hear(table, port, BOB, b"\0\x05\0\0\0").closed
+}
+
+// The second download has the snapshot of the first. It is dropped with the last of them, so the next one allocates.
+#[test]
+fn downloads_of_one_text(rt: HostRuntime) -> Result<(), Fail> {
+    let refusing: Refusing<Global> = Refusing::new(rt.alloc(), 0);
+    let mut table = Table::new(&refusing, REQUEST);
+    assert!(rt; takes(&mut table, &Blocks::new()));
+    assert!(rt; opens_at(&mut table, 4001));
+    let first = refusing.requests();
+    assert!(rt; opens_at(&mut table, 4002));
+    assert_eq!(rt; refusing.requests(), first);
+    assert!(rt; closes_at(&mut table, 4001) && opens_at(&mut table, 4001));
+    assert_eq!(rt; refusing.requests(), first);
+    assert!(rt; closes_at(&mut table, 4001) && closes_at(&mut table, 4002));
+    assert!(rt; opens_at(&mut table, 4001));
+    assert!(rt; refusing.requests() > first);
+    Ok(())
+}

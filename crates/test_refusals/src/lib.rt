@@ -1,0 +1,33 @@
+//! Tests only: each request for memory is refused in turn, in runs of the calls that allocate.
+//!
+//! Each run reports that it is out of memory, or returns the complete answer, and changes nothing where it says so.
+#![tactic(auto)]
+
+#[cfg(test)]
+mod blocks;
+#[cfg(test)]
+mod clients;
+#[cfg(test)]
+mod collections;
+#[cfg(test)]
+mod downloads;
+#[cfg(test)]
+mod files;
+#[cfg(test)]
+mod moves;
+#[cfg(test)]
+mod packing;
+#[cfg(test)]
+mod received_files;
+#[cfg(test)]
+mod replays;
+#[cfg(test)]
+mod requests;
+#[cfg(test)]
+mod runs;
+#[cfg(test)]
+mod table;
+#[cfg(test)]
+mod uploads;
+#[cfg(test)]
+mod wires;

@@ -1,0 +1,260 @@
+// Collections that are kept, or not, and loaded again by a server that starts.
+use crate::archive::{Archive, Input, Left, NOTHING, Told, client, has_texts, is_live, other_of};
+use archive_table::{KeepFault, LoadFault, MemoryKeeper};
+use std::alloc::Global;
+use std::test::Fail;
+use test_samples::{
+    ACK_0, ACK_1, DATA_EMPTY_LYNX, DATA_HUNDRED, DATA_NINETY, DATA_UNREADABLE, EMPTY_LYNX,
+    EMPTY_MS, HUNDRED, NINETY, NOT_KEPT, RRQ_LYNX, UNREADABLE, WRQ,
+};
+use tws_file::{FileFault, Ruleset};
+
+// Whether the keeper was given exactly these Lynx texts, and kept each or not.
+fn was_given(keeper: &MemoryKeeper, wanted: &[(&[u8; 28], bool)]) -> bool {
+    let kept = keeper.kept();
+    for (one, (text, ok)) in kept.iter().zip(wanted) {
+        if one.ruleset != Ruleset::Lynx || one.text.as_slice() != text.as_slice() || one.ok != *ok {
+            return false;
+        }
+    }
+    kept.len() == wanted.len()
+}
+
+// The index of the first of these inputs to a new archive whose step is not the expected one, if only this call of its
+// keeper fails; the number of inputs if they leave something else, the keeper was given something else, or a server that
+// starts again has other texts.
+fn other_kept(
+    alloc: Global,
+    failing: u64,
+    rows: &[(Input<'_>, Told<'_>)],
+    left: Left<'_>,
+    given: &[(&[u8; 28], bool)],
+) -> Result<Option<usize>, Fail> {
+    let mut keeper = MemoryKeeper::new(alloc);
+    keeper.fail_at(failing);
+    let other = other_of(alloc, Archive::new(alloc), &mut keeper, rows, left)?;
+    if other.is_some() {
+        return Ok(other);
+    }
+    let is_kept = was_given(&keeper, given) && loads(alloc, &mut keeper, left.lynx, left.ms)?;
+    Ok(if is_kept { None } else { Some(rows.len()) })
+}
+
+// A file that is not kept is refused, and joins no collection: a reader is sent the empty one, and the same file from
+// another client is given to the keeper again.
+#[test]
+fn a_keep_that_fails(rt: HostRuntime) -> Result<(), Fail> {
+    let rows = [
+        (Input::Ask(4000, 2, WRQ), Told::Opens(4000, 2, ACK_0)),
+        (
+            Input::Hear(4000, 2, DATA_HUNDRED),
+            Told::Closes(4000, 2, NOT_KEPT),
+        ),
+        (Input::Wait(4000), Told::Nothing),
+        (
+            Input::Ask(4002, 4, RRQ_LYNX),
+            Told::Opens(4002, 4, DATA_EMPTY_LYNX),
+        ),
+        (Input::Hear(4002, 4, ACK_1), Told::Ends),
+        (Input::Ask(4001, 3, WRQ), Told::Opens(4001, 3, ACK_0)),
+        (
+            Input::Hear(4001, 3, DATA_HUNDRED),
+            Told::Takes(4001, 3, ACK_1, HUNDRED),
+        ),
+    ];
+    let left = Left {
+        lynx: HUNDRED,
+        live: 1,
+        least: Some(4001),
+        ..NOTHING
+    };
+    let given = [(HUNDRED, false), (HUNDRED, true)];
+    assert_eq!(rt; other_kept(rt.alloc(), 1, &rows, left, &given)?, None);
+    Ok(())
+}
+
+// The collection stays as it was before a better file that is not kept, also for a server that starts again.
+#[test]
+fn a_better_file_that_is_not_kept(rt: HostRuntime) -> Result<(), Fail> {
+    let rows = [
+        (Input::Ask(4000, 2, WRQ), Told::Opens(4000, 2, ACK_0)),
+        (
+            Input::Hear(4000, 2, DATA_HUNDRED),
+            Told::Takes(4000, 2, ACK_1, HUNDRED),
+        ),
+        (Input::Ask(4001, 3, WRQ), Told::Opens(4001, 3, ACK_0)),
+        (
+            Input::Hear(4001, 3, DATA_NINETY),
+            Told::Closes(4001, 3, NOT_KEPT),
+        ),
+        (
+            Input::Ask(4001, 4, RRQ_LYNX),
+            Told::Opens(4001, 4, DATA_HUNDRED),
+        ),
+    ];
+    let left = Left {
+        lynx: HUNDRED,
+        live: 2,
+        least: Some(4000),
+        ..NOTHING
+    };
+    let given = [(HUNDRED, true), (NINETY, false)];
+    assert_eq!(rt; other_kept(rt.alloc(), 2, &rows, left, &given)?, None);
+    Ok(())
+}
+
+// The second file changes nothing, and nothing is kept for it; nor for bytes that are not a file.
+#[test]
+fn nothing_to_keep(rt: HostRuntime) -> Result<(), Fail> {
+    let rows = [
+        (Input::Ask(4000, 2, WRQ), Told::Opens(4000, 2, ACK_0)),
+        (
+            Input::Hear(4000, 2, DATA_HUNDRED),
+            Told::Takes(4000, 2, ACK_1, HUNDRED),
+        ),
+        (Input::Ask(4001, 3, WRQ), Told::Opens(4001, 3, ACK_0)),
+        (
+            Input::Hear(4001, 3, DATA_HUNDRED),
+            Told::Takes(4001, 3, ACK_1, HUNDRED),
+        ),
+        (Input::Ask(4002, 4, WRQ), Told::Opens(4002, 4, ACK_0)),
+        (
+            Input::Hear(4002, 4, DATA_UNREADABLE),
+            Told::Takes(4002, 4, ACK_1, UNREADABLE),
+        ),
+    ];
+    let left = Left {
+        lynx: HUNDRED,
+        live: 3,
+        least: Some(4000),
+        ..NOTHING
+    };
+    let given = [(HUNDRED, true)];
+    assert_eq!(rt; other_kept(rt.alloc(), 0, &rows, left, &given)?, None);
+    Ok(())
+}
+
+fn fault(alloc: Global, keeper: &mut MemoryKeeper) -> Option<LoadFault> {
+    match Archive::load(alloc, keeper) {
+        Ok(_archive) => None,
+        Err(fault) => Some(fault),
+    }
+}
+
+fn copied(alloc: Global, text: Option<&[u8]>) -> Result<Option<Vec<u8>>, Fail> {
+    match text {
+        Some(bytes) => Ok(Some(Vec::from_slice(alloc, bytes)?)),
+        None => Ok(None),
+    }
+}
+
+// Why nothing is loaded from a keeper with these texts for Lynx and MS, if this call of it fails.
+fn fault_of(
+    alloc: Global,
+    lynx: Option<&[u8]>,
+    ms: Option<&[u8]>,
+    failing: u64,
+) -> Result<Option<LoadFault>, Fail> {
+    let mut keeper = MemoryKeeper::with(alloc, copied(alloc, lynx)?, copied(alloc, ms)?)?;
+    keeper.fail_at(failing);
+    Ok(fault(alloc, &mut keeper))
+}
+
+// After a Lynx text that cannot be loaded the second call is never made, so it cannot fail.
+#[test]
+fn loading_lynx_refused(rt: HostRuntime) -> Result<(), Fail> {
+    let device = LoadFault::Keep(KeepFault::Device);
+    let short = LoadFault::Unreadable(FileFault::ShortHeader(7));
+    let rows: [(Option<&[u8]>, u64, LoadFault); 6] = [
+        (None, 1, device),
+        (Some(UNREADABLE), 0, short),
+        (Some(UNREADABLE), 1, device),
+        (Some(UNREADABLE), 2, short),
+        (Some(EMPTY_MS), 0, LoadFault::WrongRuleset),
+        (Some(EMPTY_MS), 2, LoadFault::WrongRuleset),
+    ];
+    for (lynx, failing, wanted) in rows {
+        assert_eq!(rt;
+            fault_of(rt.alloc(), lynx, Some(UNREADABLE), failing)?,
+            Some(wanted)
+        );
+    }
+    Ok(())
+}
+
+#[test]
+fn loading_ms_refused(rt: HostRuntime) -> Result<(), Fail> {
+    let device = LoadFault::Keep(KeepFault::Device);
+    let short = LoadFault::Unreadable(FileFault::ShortHeader(7));
+    let rows: [(Option<&[u8]>, u64, LoadFault); 4] = [
+        (None, 2, device),
+        (Some(UNREADABLE), 0, short),
+        (Some(UNREADABLE), 2, device),
+        (Some(EMPTY_LYNX), 0, LoadFault::WrongRuleset),
+    ];
+    for (ms, failing, wanted) in rows {
+        assert_eq!(rt; fault_of(rt.alloc(), None, ms, failing)?, Some(wanted));
+    }
+    Ok(())
+}
+
+// Whether a server loaded from this keeper has these texts, and no transfer.
+fn loads(alloc: Global, keeper: &mut MemoryKeeper, lynx: &[u8], ms: &[u8]) -> Result<bool, Fail> {
+    match Archive::load(alloc, keeper) {
+        Ok(archive) => Ok(has_texts(alloc, &archive, lynx, ms)? && is_live(&archive, 0, None)),
+        Err(_fault) => Ok(false),
+    }
+}
+
+// Whether both texts are loaded from a keeper that has them.
+fn loads_both(alloc: Global, lynx: &[u8], ms: &[u8]) -> Result<bool, Fail> {
+    let one = Vec::from_slice(alloc, lynx)?;
+    let other = Vec::from_slice(alloc, ms)?;
+    let mut keeper = MemoryKeeper::with(alloc, Some(one), Some(other))?;
+    Ok(keeper.kept().len() == 2 && loads(alloc, &mut keeper, lynx, ms)?)
+}
+
+#[test]
+fn loading(rt: HostRuntime) -> Result<(), Fail> {
+    assert!(rt; loads_both(rt.alloc(), HUNDRED, EMPTY_MS)?);
+    let mut keeper = MemoryKeeper::new(rt.alloc());
+    assert!(rt; loads(rt.alloc(), &mut keeper, EMPTY_LYNX, EMPTY_MS)?);
+    Ok(())
+}
+
+// Whether a server takes the file.
+fn takes(archive: &mut Archive, keeper: &mut MemoryKeeper) -> Result<bool, Fail> {
+    archive.ask(4000, client(2), WRQ)?;
+    let step = archive.hear(keeper, 4000, client(2), DATA_HUNDRED);
+    Ok(step.taken.is_some())
+}
+
+// Whether a server loads what was taken, and no more.
+fn finds(alloc: Global, keeper: &mut MemoryKeeper, is_taken: bool) -> Result<bool, Fail> {
+    let lynx = if is_taken {
+        HUNDRED.as_slice()
+    } else {
+        EMPTY_LYNX.as_slice()
+    };
+    loads(alloc, keeper, lynx, EMPTY_MS)
+}
+
+// Whether a server loads what was taken when it starts again after this call of its keeper has failed. The first call
+// keeps the file, the second and third load.
+fn finds_what_was_taken(alloc: Global, failing: u64) -> Result<bool, Fail> {
+    let mut keeper = MemoryKeeper::new(alloc);
+    keeper.fail_at(failing);
+    let is_taken = takes(&mut Archive::new(alloc), &mut keeper)?;
+    let is_refused = fault(alloc, &mut keeper).is_some();
+    let is_found = finds(alloc, &mut keeper, is_taken)?;
+    Ok(is_found && is_taken == (failing != 1) && is_refused == (failing > 1))
+}
+
+// Each call of the keeper fails in turn.
+#[test]
+fn starting_again(rt: HostRuntime) -> Result<(), Fail> {
+    for failing in 0..4 {
+        assert!(rt; finds_what_was_taken(rt.alloc(), failing)?, "{failing}");
+    }
+    Ok(())
+}

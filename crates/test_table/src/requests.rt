@@ -1,0 +1,154 @@
+// Datagrams at the request port.
+use crate::archive::{
+    Archive, Input, Left, NOTHING, Told, client, has_told, other_of, other_of_new,
+};
+use archive_table::NoKeeper;
+use std::alloc::Global;
+use std::test::Fail;
+use test_samples::{ACK_0, ACK_1, BUSY, DATA_EMPTY_MS, WRQ};
+
+// A request to read `ms.tws` in mode `OCTET`, with an option after it.
+const RRQ_WITH_OPTION: &[u8; 28] = b"\0\x01ms.tws\0OCTET\0blksize\x001428\0";
+
+const OCTET_ONLY: &[u8; 15] = b"\0\x05\0\0octet only\0";
+
+const NO_SUCH_FILE: &[u8; 17] = b"\0\x05\0\x01no such file\0";
+
+#[test]
+fn a_request_to_read(rt: HostRuntime) -> Result<(), Fail> {
+    let rows = [
+        (
+            Input::Ask(4000, 2, RRQ_WITH_OPTION),
+            Told::Opens(4000, 2, DATA_EMPTY_MS),
+        ),
+        (Input::Hear(4000, 2, ACK_1), Told::Ends),
+    ];
+    assert_eq!(rt; other_of_new(rt.alloc(), &rows, NOTHING)?, None);
+    Ok(())
+}
+
+// A refused request leaves neither a transfer nor its port in use: the mode is checked before the name.
+#[test]
+fn requests_refused(rt: HostRuntime) -> Result<(), Fail> {
+    let octet_only = Told::Sends(6969, 2, OCTET_ONLY);
+    let no_such_file = Told::Sends(6969, 2, NO_SUCH_FILE);
+    let rows = [
+        (Input::Ask(4000, 2, b"\0\x01ms.tws\0netascii\0"), octet_only),
+        (Input::Ask(4000, 2, b"\0\x01MS.TWS\0netascii\0"), octet_only),
+        (Input::Ask(4000, 2, b"\0\x02upload.tws\0mail\0"), octet_only),
+        (Input::Ask(4000, 2, b"\0\x01MS.TWS\0octet\0"), no_such_file),
+        (Input::Ask(4000, 2, b"\0\x01\0octet\0"), no_such_file),
+    ];
+    assert_eq!(rt; other_of_new(rt.alloc(), &rows, NOTHING)?, None);
+    Ok(())
+}
+
+// No other datagram at the request port has an effect.
+#[test]
+fn no_requests(rt: HostRuntime) -> Result<(), Fail> {
+    let rows = [
+        (Input::Ask(4000, 2, b""), Told::Nothing),
+        (Input::Ask(4000, 2, b"\0\x03\0\x01"), Told::Nothing),
+        (Input::Ask(4000, 2, ACK_0), Told::Nothing),
+        (Input::Ask(4000, 2, b"\0\x05\0\0\0"), Told::Nothing),
+        (Input::Ask(4000, 2, b"\0\x06\0\0"), Told::Nothing),
+        (
+            Input::Ask(4000, 2, b"\0\x02upload.tws\0octet"),
+            Told::Nothing,
+        ),
+        (Input::Ask(4000, 2, &[0; 517]), Told::Nothing),
+    ];
+    assert_eq!(rt; other_of_new(rt.alloc(), &rows, NOTHING)?, None);
+    Ok(())
+}
+
+// Whether these bytes at the request port, with this spare port, make this step.
+fn tells(
+    alloc: Global,
+    archive: &mut Archive,
+    spare: u16,
+    bytes: &[u8],
+    told: Told<'_>,
+) -> Result<bool, Fail> {
+    let step = archive.ask(spare, client(2), bytes)?;
+    has_told(alloc, &step, told)
+}
+
+// Whether the first `count` bytes of the request have no effect, or open a transfer once they have the byte that ends
+// its mode.
+fn is_answered(alloc: Global, count: usize) -> Result<bool, Fail> {
+    let told = if count < 15 {
+        Told::Nothing
+    } else {
+        Told::Opens(4000, 2, DATA_EMPTY_MS)
+    };
+    tells(
+        alloc,
+        &mut Archive::new(alloc),
+        4000,
+        &RRQ_WITH_OPTION[..count.min(28)],
+        told,
+    )
+}
+
+// A request that is cut short before the byte that ends its mode has no effect; what follows that byte has none either.
+#[test]
+fn a_request_cut_short(rt: HostRuntime) -> Result<(), Fail> {
+    for count in 0..29 {
+        assert!(rt; is_answered(rt.alloc(), count)?, "{count}");
+    }
+    Ok(())
+}
+
+// Opens 64 transfers, at the ports from 4001 on.
+fn fill(alloc: Global, archive: &mut Archive) -> Result<(), Fail> {
+    for port in 4001..4065 {
+        let told = Told::Opens(port, 2, ACK_0);
+        if !tells(alloc, archive, port, WRQ, told)? {
+            return Err(Fail::new("not opened"));
+        }
+    }
+    Ok(())
+}
+
+// A server with 64 transfers.
+fn full(alloc: Global) -> Result<Archive, Fail> {
+    let mut archive = Archive::new(alloc);
+    fill(alloc, &mut archive)?;
+    Ok(archive)
+}
+
+// With 64 transfers a request in another mode or for another file is still refused for that; any other, as busy.
+#[test]
+fn a_busy_server(rt: HostRuntime) -> Result<(), Fail> {
+    let busy = Told::Sends(6969, 3, BUSY);
+    let rows = [
+        (Input::Ask(4065, 3, WRQ), busy),
+        (Input::Ask(4065, 3, RRQ_WITH_OPTION), busy),
+        (
+            Input::Ask(4065, 3, b"\0\x01MS.TWS\0octet\0"),
+            Told::Sends(6969, 3, NO_SUCH_FILE),
+        ),
+        (
+            Input::Ask(4065, 3, b"\0\x02upload.tws\0mail\0"),
+            Told::Sends(6969, 3, OCTET_ONLY),
+        ),
+        (Input::Hear(4001, 2, b"\0\x05\0\0\0"), Told::Ends),
+        (
+            Input::Ask(4065, 3, RRQ_WITH_OPTION),
+            Told::Opens(4065, 3, DATA_EMPTY_MS),
+        ),
+        (Input::Ask(4066, 3, RRQ_WITH_OPTION), busy),
+    ];
+    let left = Left {
+        live: 64,
+        least: Some(4002),
+        ..NOTHING
+    };
+    let archive = full(rt.alloc())?;
+    assert_eq!(rt;
+        other_of(rt.alloc(), archive, &mut NoKeeper, &rows, left)?,
+        None
+    );
+    Ok(())
+}

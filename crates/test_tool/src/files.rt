@@ -1,0 +1,248 @@
+// The commands as the program runs them: what is printed, and the status.
+use crate::outcome::*;
+use crate::streams::*;
+use std::io;
+use std::test::Fail;
+use test_samples::{CUT_MOVE, EMPTY_LYNX, HUNDRED};
+use tws_file::{FileFault, Ruleset};
+use tws_tool::{INPUT_READS, ToolFault, run_best, run_show, run_words};
+
+// The solution with four moves in two bytes.
+const MOVED: [u8; 30] = [
+    0x35, 0x33, 0x9B, 0x99, 0x01, 0x00, 0x00, 0x00, 0x12, 0x00, 0x00, 0x00, 0x01, 0x00, 0x42, 0x44,
+    0x48, 0x50, 0x00, 0x00, 0x00, 0x00, 0x00, 0x00, 0x64, 0x00, 0x00, 0x00, 0x00, 0x61,
+];
+
+#[test]
+fn show_lists_moves(rt: HostRuntime) -> Result<(), Fail> {
+    let outcome = run(&rt, &["tws", "show", "--moves"], &MOVED)?;
+    let listing =
+        "ruleset lynx word 0000 extra 0\nlevel 1 BDHP ticks 100 flags 00 start 00 seed 0 bytes 2\n at 3 step 0\n at 7 step 0\n at 11 step 0\n at 15 step 0\nrecords 1\n";
+    assert_eq!(rt;
+        (outcome.status, outcome.out.as_slice()),
+        (0, listing.as_bytes())
+    );
+    Ok(())
+}
+
+#[test]
+fn show_counts_bytes_of_moves(rt: HostRuntime) -> Result<(), Fail> {
+    let outcome = run(&rt, &["tws", "show"], &MOVED)?;
+    let listing =
+        "ruleset lynx word 0000 extra 0\nlevel 1 BDHP ticks 100 flags 00 start 00 seed 0 bytes 2\nrecords 1\n";
+    assert_eq!(rt;
+        (outcome.status, outcome.out.as_slice()),
+        (0, listing.as_bytes())
+    );
+    Ok(())
+}
+
+// The solution with four moves in four bytes.
+fn long_moves(rt: &HostRuntime) -> Result<Vec<u8>, Fail> {
+    let mut bytes = Vec::from_slice(rt.alloc(), HUNDRED)?;
+    bytes.extend_from_slice(&[0x61, 0x61, 0x61, 0x61])?;
+    bytes[8] = 0x14;
+    Ok(bytes)
+}
+
+#[test]
+fn pack_writes_the_fewest_bytes(rt: HostRuntime) -> Result<(), Fail> {
+    let bytes = long_moves(&rt)?;
+    let outcome = run(&rt, &["tws", "pack"], &bytes)?;
+    assert_eq!(rt;
+        (outcome.status, outcome.out.as_slice()),
+        (0, MOVED.as_slice())
+    );
+    Ok(())
+}
+
+#[test]
+fn pack_leaves_what_is_packed(rt: HostRuntime) -> Result<(), Fail> {
+    for packed in [HUNDRED.as_slice(), &MOVED, &UNSOLVED] {
+        let outcome = run(&rt, &["tws", "pack"], packed)?;
+        assert_eq!(rt; (outcome.status, outcome.out.as_slice()), (0, packed));
+    }
+    Ok(())
+}
+
+#[test]
+fn pack_refuses_what_is_no_file(rt: HostRuntime) -> Result<(), Fail> {
+    let outcome = run(&rt, &["tws", "pack"], &[0x35, 0x33, 0x9B, 0x98, 2, 0, 0, 0])?;
+    let line = "tws: standard input: unreadable: BadSignature\n";
+    assert!(rt; fails_with(&outcome, 3, line));
+    Ok(())
+}
+
+// The result of `best` for these inputs, and how many bytes it writes.
+fn best_of<R: io::Read>(rt: &HostRuntime, files: &mut [R]) -> (Result<(), ToolFault>, usize) {
+    let mut out = Vec::new(rt.alloc());
+    let done = run_best(rt.alloc(), Ruleset::Lynx, files, &mut out);
+    (done, out.len())
+}
+
+// The result of `show` for this input, and how many bytes it writes.
+fn show_of<R: io::Read>(rt: &HostRuntime, input: &mut R) -> (Result<(), ToolFault>, usize) {
+    let mut out = Vec::new(rt.alloc());
+    let done = run_show(rt.alloc(), input, &mut out, false);
+    (done, out.len())
+}
+
+#[test]
+fn show_refuses_what_is_no_file(rt: HostRuntime) -> Result<(), Fail> {
+    let file = HUNDRED.as_slice();
+    let faults: [(&[u8], &str); 4] = [
+        (&[], "tws: standard input: unreadable: ShortHeader(0)\n"),
+        (
+            &file[..27],
+            "tws: standard input: unreadable: ShortRecord(8)\n",
+        ),
+        (
+            &[0x35, 0x33, 0x9B, 0x98, 2, 0, 0, 0],
+            "tws: standard input: unreadable: BadSignature\n",
+        ),
+        (CUT_MOVE, "tws: standard input: unreadable: MoveCut(29)\n"),
+    ];
+    for (bytes, line) in faults {
+        let outcome = run(&rt, &["tws", "show"], bytes)?;
+        assert!(rt; fails_with(&outcome, 3, line), "{line}");
+    }
+    Ok(())
+}
+
+// A level that is not solved, and a pad.
+const UNSOLVED: [u8; 22] = [
+    0x35, 0x33, 0x9B, 0x99, 0x01, 0x00, 0x00, 0x00, 0x06, 0x00, 0x00, 0x00, 0x01, 0x00, 0x42, 0x44,
+    0x48, 0x50, 0x00, 0x00, 0x00, 0x00,
+];
+
+// Whatever is written before the writer fails is a proper prefix of the listing.
+#[test]
+fn show_to_a_writer_with_little_room(rt: HostRuntime) {
+    let listing = b"ruleset lynx word 0000 extra 0\nlevel 1 BDHP\npad\nrecords 2\n";
+    for j in 0..listing.len() {
+        let mut room = [0u8; 58];
+        let mut out = &mut room[..j];
+        let mut input = UNSOLVED.as_slice();
+        let done = run_show(rt.alloc(), &mut input, &mut out, false);
+        assert_eq!(rt;
+            (done, room.get(..j)),
+            (Err(ToolFault::Write), listing.get(..j))
+        );
+    }
+}
+
+// Eight bytes that do not begin a file: the signature is wrong.
+const UNSIGNED: [u8; 8] = [0x35, 0x33, 0x9B, 0x98, 2, 0, 0, 0];
+
+// The reader fails after a part of a record, after a header that would be a file, and after bytes that have a fault,
+// which is then not the one that is reported.
+#[test]
+fn an_input_that_breaks(rt: HostRuntime) {
+    let file = HUNDRED.as_slice();
+    for bytes in [&file[..10], &file[..8], &UNSIGNED[..8]] {
+        let mut input = Breaks {
+            bytes: Some(bytes),
+            kind: io::ErrorKind::Other,
+        };
+        assert_eq!(rt; show_of(&rt, &mut input), (Err(ToolFault::Read), 0));
+    }
+}
+
+// An input that failed is not read again, although it would then return a whole file.
+#[test]
+fn an_input_that_stumbles(rt: HostRuntime) {
+    let mut input = Stumbles {
+        bytes: HUNDRED,
+        has_failed: false,
+    };
+    assert_eq!(rt; show_of(&rt, &mut input), (Err(ToolFault::Read), 0));
+}
+
+#[test]
+fn an_input_that_does_not_end(rt: HostRuntime) {
+    let mut input = Drops { left: u32::MAX };
+    let shown = show_of(&rt, &mut input);
+    assert_eq!(rt;
+        (shown, input.left),
+        ((Err(ToolFault::Read), 0), u32::MAX - INPUT_READS)
+    );
+}
+
+// The last read that is allowed finds the end.
+#[test]
+fn an_input_that_ends_at_the_last_read(rt: HostRuntime) {
+    let mut input = Drops {
+        left: INPUT_READS - 1,
+    };
+    let fault = ToolFault::Unreadable {
+        index: 0,
+        fault: FileFault::BadSignature,
+    };
+    assert_eq!(rt; show_of(&rt, &mut input), (Err(fault), 0));
+}
+
+// Returns bytes, or fails.
+#[derive(Drop)]
+enum Input<'a> {
+    Whole(&'a [u8]),
+    Failing,
+}
+
+impl io::Read for Input<'_> {
+    fn read(&mut self, buf: &mut [u8]) -> io::Result<usize> {
+        match self {
+            Input::Whole(bytes) => bytes.read(buf),
+            Input::Failing => Err(io::Error::from(io::ErrorKind::Other)),
+        }
+    }
+}
+
+#[test]
+fn best_answers_the_first_input_that_fails(rt: HostRuntime) {
+    let fault = ToolFault::Unreadable {
+        index: 0,
+        fault: FileFault::BadSignature,
+    };
+    let mut files = [Input::Whole(&UNSIGNED), Input::Failing];
+    assert_eq!(rt; best_of(&rt, &mut files), (Err(fault), 0));
+}
+
+// A Lynx file of `count` records that have only a level's password, and its listing.
+fn passwords(rt: &HostRuntime, count: u32) -> Result<(Vec<u8>, Vec<u8>), Fail> {
+    let mut bytes = Vec::from_slice(rt.alloc(), EMPTY_LYNX)?;
+    let mut listing = Vec::from_slice(rt.alloc(), b"ruleset lynx word 0000 extra 0\n")?;
+    for _ in 0..count {
+        bytes.extend_from_slice(&[6, 0, 0, 0, 1, 0, 0x42, 0x44, 0x48, 0x50])?;
+        listing.extend_from_slice(b"level 1 BDHP\n")?;
+    }
+    Ok((bytes, listing))
+}
+
+#[test]
+fn show_to_a_writer_that_fails_late(rt: HostRuntime) -> Result<(), Fail> {
+    let (bytes, listing) = passwords(&rt, 6000)?;
+    let mut room = [0u8; 70_000];
+    let mut out = room.as_mut_slice();
+    let mut input = bytes.as_slice();
+    let done = run_show(rt.alloc(), &mut input, &mut out, false);
+    assert_eq!(rt;
+        (done, Some(room.as_slice())),
+        (Err(ToolFault::Write), listing.get(..70_000))
+    );
+    Ok(())
+}
+
+#[test]
+fn help_to_a_full_writer(rt: HostRuntime) -> Result<(), Fail> {
+    let words = owned(&rt, &["tws", "--help"])?;
+    let mut room = [0u8; 10];
+    let mut out = room.as_mut_slice();
+    let mut input = HUNDRED.as_slice();
+    let mut errors = Vec::new(rt.alloc());
+    let status = run_words(&rt, rt.alloc(), &words, &mut input, &mut out, &mut errors);
+    assert_eq!(rt;
+        (status, room, errors.as_slice()),
+        (2, *b"Lists, pac", b"tws: write fault\n".as_slice())
+    );
+    Ok(())
+}

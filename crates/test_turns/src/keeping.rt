@@ -1,0 +1,169 @@
+// Servers with a keeper, over wires in memory: a put that is not kept, one that is, and a start with what was kept.
+use crate::wires::*;
+use archive_table::{KeepFault, LoadFault, MemoryKeeper, Table};
+use archive_turns::{MemoryWire, Server, serve_rounds, serve_turns};
+use std::alloc::Global;
+use std::test::Fail;
+use test_samples::{
+    ACK_0, ACK_1, ALICE, BOB, DATA_HUNDRED, EMPTY_LYNX, EMPTY_MS, HUNDRED, NOT_KEPT, WRQ,
+};
+use tftp_packet::Endpoint;
+
+// What is left of a put: how many files were taken, how many transfers are live, whether this was sent to the client
+// last, and whether the Lynx collection has this text and the other one is empty.
+type Left = (u64, usize, bool, bool);
+
+fn left(
+    alloc: Global,
+    wire: &MemoryWire,
+    table: &Table,
+    taken: u64,
+    last: (u16, Endpoint, &[u8]),
+    lynx: &[u8],
+) -> Result<Left, Fail> {
+    let (port, client, bytes) = last;
+    let is_sent = sent_last(wire, port, client, bytes);
+    Ok((
+        taken,
+        table.live(),
+        is_sent,
+        has_texts(alloc, table, lynx, EMPTY_MS)?,
+    ))
+}
+
+// ---- the server that counts turns
+
+// Lets the request and the block of a put arrive, each before a turn. Returns how many files are taken.
+fn put_in_turns(
+    alloc: Global,
+    wire: &mut MemoryWire,
+    keeper: &mut MemoryKeeper,
+    server: &mut Server,
+    port: u16,
+    client: Endpoint,
+) -> Result<u64, Fail> {
+    wire.arrive(alloc, 6969, client, WRQ)?;
+    let first = serve_turns(wire, keeper, server, 1);
+    wire.arrive(alloc, port, client, DATA_HUNDRED)?;
+    Ok(first.saturating_add(serve_turns(wire, keeper, server, 1)))
+}
+
+// Whether the calls of a wire were those of a put that is not kept.
+fn has_refused(wire: &MemoryWire) -> bool {
+    let [came, opened, first, next, last, closed] = wire.log() else {
+        return false;
+    };
+    is_came(came, 6969, ALICE, WRQ)
+        && is_opened(opened, Some(4000))
+        && is_sent(first, 4000, ALICE, ACK_0, true)
+        && is_came(next, 4000, ALICE, DATA_HUNDRED)
+        && is_sent(last, 4000, ALICE, NOT_KEPT, true)
+        && is_closed(closed, 4000)
+}
+
+// A put whose keep fails, and then one of the same file by another client. Returns what is left of each, and whether the
+// calls for the first one were the expected ones.
+fn puts_in_turns(
+    alloc: Global,
+    wire: &mut MemoryWire,
+    keeper: &mut MemoryKeeper,
+    server: &mut Server,
+) -> Result<(bool, Left, Left), Fail> {
+    let taken = put_in_turns(alloc, wire, keeper, server, 4000, ALICE)?;
+    let has_refused = has_refused(wire);
+    let refused = (4000, ALICE, NOT_KEPT.as_slice());
+    let first = left(alloc, wire, server.table(), taken, refused, EMPTY_LYNX)?;
+    let taken = put_in_turns(alloc, wire, keeper, server, 4001, BOB)?;
+    let acked = (4001, BOB, ACK_1.as_slice());
+    let second = left(alloc, wire, server.table(), taken, acked, HUNDRED)?;
+    Ok((has_refused, first, second))
+}
+
+// The first put is refused, joins no collection and is closed. The file is taken when it is put again.
+#[test]
+fn a_keep_that_fails(rt: HostRuntime) -> Result<(), Fail> {
+    let mut wire = wire_of(rt.alloc(), &[4000, 4001])?;
+    let mut keeper = MemoryKeeper::new(rt.alloc());
+    keeper.fail_at(1);
+    let mut server = Server::new(rt.alloc(), 6969);
+    let puts = puts_in_turns(rt.alloc(), &mut wire, &mut keeper, &mut server)?;
+    assert_eq!(rt;
+        (puts, was_given(&keeper, &[false, true])),
+        ((true, (0, 0, true, true), (1, 1, true, true)), true)
+    );
+    Ok(())
+}
+
+// ---- rounds
+
+// The same with a round for each.
+fn put_in_rounds(
+    alloc: Global,
+    wire: &mut MemoryWire,
+    keeper: &mut MemoryKeeper,
+    server: &mut Server,
+    port: u16,
+    client: Endpoint,
+) -> Result<u64, Fail> {
+    wire.arrive(alloc, 6969, client, WRQ)?;
+    let first = serve_rounds(wire, keeper, server, 1);
+    wire.arrive(alloc, port, client, DATA_HUNDRED)?;
+    Ok(first.saturating_add(serve_rounds(wire, keeper, server, 1)))
+}
+
+fn puts_in_rounds(
+    alloc: Global,
+    wire: &mut MemoryWire,
+    keeper: &mut MemoryKeeper,
+    server: &mut Server,
+) -> Result<(Left, Left), Fail> {
+    let taken = put_in_rounds(alloc, wire, keeper, server, 4000, ALICE)?;
+    let refused = (4000, ALICE, NOT_KEPT.as_slice());
+    let first = left(alloc, wire, server.table(), taken, refused, EMPTY_LYNX)?;
+    let taken = put_in_rounds(alloc, wire, keeper, server, 4001, BOB)?;
+    let acked = (4001, BOB, ACK_1.as_slice());
+    let second = left(alloc, wire, server.table(), taken, acked, HUNDRED)?;
+    Ok((first, second))
+}
+
+#[test]
+fn a_keep_that_fails_in_a_round(rt: HostRuntime) -> Result<(), Fail> {
+    let mut wire = wire_of(rt.alloc(), &[4000, 4001])?;
+    let mut keeper = MemoryKeeper::new(rt.alloc());
+    keeper.fail_at(1);
+    let mut server = Server::new(rt.alloc(), 6969);
+    let puts = puts_in_rounds(rt.alloc(), &mut wire, &mut keeper, &mut server)?;
+    assert_eq!(rt;
+        (puts, was_given(&keeper, &[false, true])),
+        (((0, 0, true, true), (1, 1, true, true)), true)
+    );
+    Ok(())
+}
+
+// ---- a start with what was kept
+
+// A keeper that has HUNDRED for Lynx, and for MS the text of an empty collection. This call of it fails.
+fn keeper_of(alloc: Global, failing: u64) -> Result<MemoryKeeper, Fail> {
+    let lynx = Vec::from_slice(alloc, HUNDRED)?;
+    let ms = Vec::from_slice(alloc, EMPTY_MS)?;
+    let mut keeper = MemoryKeeper::with(alloc, Some(lynx), Some(ms))?;
+    keeper.fail_at(failing);
+    Ok(keeper)
+}
+
+// Why a server does not start; if it does, whether it has both texts.
+fn starts(alloc: Global, failing: u64) -> Result<Result<bool, LoadFault>, Fail> {
+    match Server::load(alloc, 6969, &mut keeper_of(alloc, failing)?) {
+        Ok(server) => Ok(Ok(has_texts(alloc, server.table(), HUNDRED, EMPTY_MS)?)),
+        Err(fault) => Ok(Err(fault)),
+    }
+}
+
+#[test]
+fn a_start_with_what_was_kept(rt: HostRuntime) -> Result<(), Fail> {
+    let device = Err(LoadFault::Keep(KeepFault::Device));
+    for (failing, wanted) in [(0, Ok(true)), (1, device), (2, device), (3, Ok(true))] {
+        assert_eq!(rt; starts(rt.alloc(), failing)?, wanted);
+    }
+    Ok(())
+}

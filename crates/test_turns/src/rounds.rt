@@ -1,0 +1,122 @@
+// The server that waits for ready ports, over wires in memory whose clock the test sets.
+use crate::wires::*;
+use archive_table::NoKeeper;
+use archive_turns::{MemoryWire, RECEIVE_SIZE, Ready, ReadyWire, Server, Wire, serve_rounds};
+use std::alloc::Global;
+use std::test::Fail;
+use test_samples::{ACK_0, ACK_1, ALICE, DATA_HUNDRED};
+use tws_file::Ruleset;
+
+// Makes one round of the server. Returns how many files it takes, and whether it has sent this to the client last.
+fn acks(wire: &mut MemoryWire, server: &mut Server, ack: &[u8; 4]) -> (u64, bool) {
+    let taken = serve_rounds(wire, &mut NoKeeper, server, 1);
+    (taken, sent_last(wire, 4000, ALICE, ack))
+}
+
+// Makes one round of the server. Returns how many transfers are live after it.
+fn lives(wire: &mut MemoryWire, server: &mut Server) -> usize {
+    serve_rounds(wire, &mut NoKeeper, server, 1);
+    server.table().live()
+}
+
+// The round of a request, and that of the block that arrives 999 milliseconds after it.
+fn put_in_rounds(
+    alloc: Global,
+    wire: &mut MemoryWire,
+    server: &mut Server,
+) -> Result<[(u64, bool); 2], Fail> {
+    let first = acks(wire, server, ACK_0);
+    wire.set_time(999);
+    wire.arrive(alloc, 4000, ALICE, DATA_HUNDRED)?;
+    Ok([first, acks(wire, server, ACK_1)])
+}
+
+#[test]
+fn a_put_to_the_ready_server(rt: HostRuntime) -> Result<(), Fail> {
+    let mut wire = request_wire(rt.alloc(), 4000)?;
+    let mut server = Server::new(rt.alloc(), 6969);
+    let rounds = put_in_rounds(rt.alloc(), &mut wire, &mut server)?;
+    let sent = send_count(&wire);
+    let solutions = server.table().collection(Ruleset::Lynx).len();
+    // The transfer waits for the last block twice, and is closed.
+    let live = (lives(&mut wire, &mut server), lives(&mut wire, &mut server));
+    assert_eq!(rt;
+        (rounds, sent, solutions, live, send_count(&wire)),
+        ([(0, true), (1, true)], 2, 1, (1, 0), 2)
+    );
+    Ok(())
+}
+
+// Makes one round at each of these times, before which a malformed datagram arrives at the request port. Returns
+// whether each time the expected number of datagrams was sent.
+fn are_sent_in_time(
+    alloc: Global,
+    wire: &mut MemoryWire,
+    server: &mut Server,
+) -> Result<bool, Fail> {
+    for (time, sent) in [(1, 1), (999, 1), (1000, 2), (1999, 2), (2000, 3), (2001, 3)] {
+        wire.set_time(time);
+        wire.arrive(alloc, 6969, ALICE, b"no packet")?;
+        serve_rounds(wire, &mut NoKeeper, server, 1);
+        if send_count(wire) != sent {
+            return Ok(false);
+        }
+    }
+    Ok(true)
+}
+
+// A transfer times out one second after it last sent, however much arrives at the request port meanwhile.
+#[test]
+fn a_busy_request_port(rt: HostRuntime) -> Result<(), Fail> {
+    let mut wire = request_wire(rt.alloc(), 4000)?;
+    let mut server = Server::new(rt.alloc(), 6969);
+    serve_rounds(&mut wire, &mut NoKeeper, &mut server, 1);
+    assert!(rt; are_sent_in_time(rt.alloc(), &mut wire, &mut server)?);
+    Ok(())
+}
+
+// A wire at which an ACK arrives at each of these ports.
+fn wire_with_acks(alloc: Global, ports: &[u16]) -> Result<MemoryWire, Fail> {
+    let mut wire = wire_of(alloc, &[])?;
+    for port in ports {
+        wire.arrive(alloc, *port, ALICE, ACK_0)?;
+    }
+    Ok(wire)
+}
+
+// Whether the datagram that waits at this port is such an ACK.
+fn has_ack(wire: &mut MemoryWire, port: u16) -> bool {
+    wire.receive(port, &mut [0; RECEIVE_SIZE]) == Ok(Some((4, ALICE)))
+}
+
+// Whether these ports are ready in this order, each after the one before it, and the datagram there is received.
+fn take_turns(wire: &mut MemoryWire, first: u16, ports: &[u16]) -> bool {
+    let mut after = first;
+    for port in ports {
+        let ready = Ready {
+            port: Some(*port),
+            time: 0,
+        };
+        if wire.wait(after, None) != ready || !has_ack(wire, *port) {
+            return false;
+        }
+        after = *port;
+    }
+    true
+}
+
+// Among ready ports the next one above the last has its turn.
+#[test]
+fn ports_that_are_ready(rt: HostRuntime) -> Result<(), Fail> {
+    let mut wire = wire_with_acks(rt.alloc(), &[5, 9, 5, 7, 5])?;
+    let are_ready = take_turns(&mut wire, 5, &[7, 9, 5, 5, 5]);
+    let quiet = Ready {
+        port: None,
+        time: 70,
+    };
+    assert_eq!(rt;
+        (are_ready, wire.wait(5, Some(70)), wire.wait(5, Some(60))),
+        (true, quiet, quiet)
+    );
+    Ok(())
+}

@@ -1,0 +1,143 @@
+// Wires in memory for the tests, the datagrams of a put and a get by hand, RFC 1350, and tests of a log's entries.
+use archive_table::{MemoryKeeper, Table};
+use archive_turns::{Entry, MemoryWire, PutRun};
+use std::alloc::Global;
+use std::test::Fail;
+use test_samples::{ALICE, DATA_HUNDRED, HUNDRED, SERVER, WRQ};
+use tftp_packet::Endpoint;
+use tws_file::Ruleset;
+
+pub(crate) fn wire_of(alloc: Global, opens: &[u16]) -> Result<MemoryWire, Fail> {
+    Ok(MemoryWire::new(alloc, Vec::from_slice(alloc, opens)?))
+}
+
+// A wire that opens this port, with a request from ALICE.
+pub(crate) fn request_wire(alloc: Global, opens: u16) -> Result<MemoryWire, Fail> {
+    let mut wire = wire_of(alloc, &[opens])?;
+    wire.arrive(alloc, 6969, ALICE, WRQ)?;
+    Ok(wire)
+}
+
+// The same with the whole put of HUNDRED, whose block arrives at 4000.
+pub(crate) fn put_wire(alloc: Global, opens: u16) -> Result<MemoryWire, Fail> {
+    let mut wire = request_wire(alloc, opens)?;
+    wire.arrive(alloc, 4000, ALICE, DATA_HUNDRED)?;
+    Ok(wire)
+}
+
+// A put of a file that has sent its request.
+pub(crate) fn begun_put(wire: &mut MemoryWire, file: Vec<u8>) -> Result<PutRun, Fail> {
+    match PutRun::begin(wire, SERVER, file) {
+        Ok(run) => Ok(run),
+        Err(_) => Err(Fail::new("not begun")),
+    }
+}
+
+pub(crate) fn is_came(entry: &Entry, at: u16, whom: Endpoint, what: &[u8]) -> bool {
+    match entry {
+        Entry::Came { port, from, bytes } => {
+            *port == at && *from == whom && bytes.as_slice() == what
+        }
+        _ => false,
+    }
+}
+
+pub(crate) fn is_sent(entry: &Entry, from: u16, to: Endpoint, what: &[u8], done: bool) -> bool {
+    match entry {
+        Entry::Sent { out, ok } => {
+            out.from_port == from && out.to == to && out.dgram.bytes() == what && *ok == done
+        }
+        _ => false,
+    }
+}
+
+pub(crate) fn is_opened(entry: &Entry, given: Option<u16>) -> bool {
+    match entry {
+        Entry::Opened(port) => *port == given,
+        _ => false,
+    }
+}
+
+pub(crate) fn is_closed(entry: &Entry, which: u16) -> bool {
+    match entry {
+        Entry::Closed(port, ok) => *port == which && *ok,
+        _ => false,
+    }
+}
+
+pub(crate) fn is_quiet(entry: &Entry, at: u16) -> bool {
+    match entry {
+        Entry::Quiet(port) => *port == at,
+        _ => false,
+    }
+}
+
+pub(crate) fn is_failed(entry: &Entry, at: u16) -> bool {
+    match entry {
+        Entry::Failed(port) => *port == at,
+        _ => false,
+    }
+}
+
+pub(crate) fn is_send(entry: &Entry) -> bool {
+    match entry {
+        Entry::Sent { .. } => true,
+        _ => false,
+    }
+}
+
+// How many datagrams were sent.
+pub(crate) fn send_count(wire: &MemoryWire) -> usize {
+    wire.log().iter().filter(|entry| is_send(entry)).count()
+}
+
+// How often this was sent.
+pub(crate) fn sent_times(wire: &MemoryWire, from: u16, to: Endpoint, what: &[u8]) -> usize {
+    let mut times = 0_usize;
+    for entry in wire.log() {
+        if is_sent(entry, from, to, what, true) {
+            times = times.wrapping_add(1);
+        }
+    }
+    times
+}
+
+// Whether this was sent last.
+pub(crate) fn sent_last(wire: &MemoryWire, from: u16, to: Endpoint, what: &[u8]) -> bool {
+    let mut last = false;
+    for entry in wire.log() {
+        if is_send(entry) {
+            last = is_sent(entry, from, to, what, true);
+        }
+    }
+    last
+}
+
+// Whether the collections of a server have these texts.
+pub(crate) fn has_texts(
+    alloc: Global,
+    table: &Table,
+    lynx: &[u8],
+    ms: &[u8],
+) -> Result<bool, Fail> {
+    let mut one = Vec::new(alloc);
+    let mut other = Vec::new(alloc);
+    table.collection(Ruleset::Lynx).write_text(&mut one)?;
+    table.collection(Ruleset::Ms).write_text(&mut other)?;
+    Ok(one.as_slice() == lynx && other.as_slice() == ms)
+}
+
+// Whether a keeper was given the text of HUNDRED for Lynx once for each of `wanted`, and kept it each time or not, as that
+// says.
+pub(crate) fn was_given(keeper: &MemoryKeeper, wanted: &[bool]) -> bool {
+    let kept = keeper.kept();
+    for (one, ok) in kept.iter().zip(wanted) {
+        if one.ruleset != Ruleset::Lynx
+            || one.text.as_slice() != HUNDRED.as_slice()
+            || one.ok != *ok
+        {
+            return false;
+        }
+    }
+    kept.len() == wanted.len()
+}

@@ -1,0 +1,200 @@
+// A server that restarts, and a keeper that fails.
+use crate::scene::{
+    Act, NO_CALL, NOTHING, ONE_PUT, Wanted, fault, fault_by, other_after, was_given,
+};
+use archive_table::MemoryKeeper;
+use archive_world::{Asked, SERVER, WorldFault};
+use std::alloc::Global;
+use std::test::Fail;
+use test_samples::{
+    ACK_0, ACK_1, ALICE, BOB, DATA_HUNDRED, EMPTY_MS, HUNDRED, NOT_KEPT, RRQ_LYNX, UNREADABLE, WRQ,
+    at,
+};
+use tws_file::Ruleset;
+
+// What was taken before the restart is fetched after it. A time-out of the port that had a transfer changes nothing.
+#[test]
+fn a_restart_between_a_put_and_a_get(rt: HostRuntime) -> Result<(), Fail> {
+    let acts = [
+        Act::Put(ALICE, HUNDRED),
+        Act::Ask(0, 4000),
+        Act::Deliver(1),
+        Act::Deliver(2),
+        Act::Deliver(3),
+        Act::Restart,
+        Act::PortWaits(4000),
+        Act::Get(BOB, Ruleset::Lynx),
+        Act::Ask(4, 4001),
+        Act::Deliver(5),
+    ];
+    let wanted = Wanted {
+        got: &[(BOB, HUNDRED)],
+        opened: &[
+            (ALICE, 4000, Asked::Write, 0),
+            (BOB, 4001, Asked::Read(Ruleset::Lynx), 1),
+        ],
+        datagrams: &[
+            (ALICE, SERVER, WRQ),
+            (at(4000), ALICE, ACK_0),
+            (ALICE, at(4000), DATA_HUNDRED),
+            (at(4000), ALICE, ACK_1),
+            (BOB, SERVER, RRQ_LYNX),
+            (at(4001), BOB, DATA_HUNDRED),
+            (BOB, at(4001), ACK_1),
+        ],
+        ..ONE_PUT
+    };
+    assert_eq!(rt; other_after(rt.alloc(), &acts, NO_CALL, &wanted)?, None);
+    Ok(())
+}
+
+// The transfer at the port is gone after the restart; the same client may not have another one there.
+#[test]
+fn a_port_from_before_the_restart(rt: HostRuntime) -> Result<(), Fail> {
+    let acts = [
+        Act::Put(ALICE, HUNDRED),
+        Act::Ask(0, 4000),
+        Act::Deliver(1),
+        Act::Deliver(2),
+        Act::Deliver(3),
+        Act::Restart,
+        Act::Ask(0, 4000),
+    ];
+    assert_eq!(rt; fault(rt.alloc(), &acts)?, Some(WorldFault::PortReused(6)));
+    Ok(())
+}
+
+// The first keep fails: nothing is taken, and the client is sent an ERROR. The next client's file is taken.
+#[test]
+fn a_keep_that_fails(rt: HostRuntime) -> Result<(), Fail> {
+    let acts = [
+        Act::Put(ALICE, HUNDRED),
+        Act::Ask(0, 4000),
+        Act::Deliver(1),
+        Act::Deliver(2),
+        Act::Deliver(3),
+        Act::ClientWaits(ALICE),
+        Act::PortWaits(4000),
+        Act::Put(BOB, HUNDRED),
+        Act::Ask(4, 4001),
+        Act::Deliver(5),
+        Act::Deliver(6),
+        Act::Deliver(7),
+    ];
+    let wanted = Wanted {
+        taken: &[(BOB, HUNDRED)],
+        sent: &[BOB],
+        opened: &[(ALICE, 4000, Asked::Write, 0), (BOB, 4001, Asked::Write, 0)],
+        lynx: HUNDRED,
+        datagrams: &[
+            (ALICE, SERVER, WRQ),
+            (at(4000), ALICE, ACK_0),
+            (ALICE, at(4000), DATA_HUNDRED),
+            (at(4000), ALICE, NOT_KEPT),
+            (BOB, SERVER, WRQ),
+            (at(4001), BOB, ACK_0),
+            (BOB, at(4001), DATA_HUNDRED),
+            (at(4001), BOB, ACK_1),
+        ],
+        given: &[
+            (Ruleset::Lynx, HUNDRED, false),
+            (Ruleset::Lynx, HUNDRED, true),
+        ],
+        ..NOTHING
+    };
+    assert_eq!(rt; other_after(rt.alloc(), &acts, 1, &wanted)?, None);
+    Ok(())
+}
+
+// A put, and then a restart.
+const PUT_AND_RESTART: [Act<'static>; 5] = [
+    Act::Put(ALICE, HUNDRED),
+    Act::Ask(0, 4000),
+    Act::Deliver(1),
+    Act::Deliver(2),
+    Act::Restart,
+];
+
+// The keep fails: nothing was taken, and the server loads nothing when it starts again.
+#[test]
+fn a_restart_after_a_keep_that_fails(rt: HostRuntime) -> Result<(), Fail> {
+    let wanted = Wanted {
+        opened: &[(ALICE, 4000, Asked::Write, 0)],
+        datagrams: &[
+            (ALICE, SERVER, WRQ),
+            (at(4000), ALICE, ACK_0),
+            (ALICE, at(4000), DATA_HUNDRED),
+            (at(4000), ALICE, NOT_KEPT),
+        ],
+        given: &[(Ruleset::Lynx, HUNDRED, false)],
+        ..NOTHING
+    };
+    assert_eq!(rt;
+        other_after(rt.alloc(), &PUT_AND_RESTART, 1, &wanted)?,
+        None
+    );
+    Ok(())
+}
+
+// No call fails: the file was taken, and the server has it again. The client has not received the last ACK.
+#[test]
+fn a_restart_after_a_put(rt: HostRuntime) -> Result<(), Fail> {
+    let wanted = Wanted {
+        sent: &[],
+        datagrams: &[
+            (ALICE, SERVER, WRQ),
+            (at(4000), ALICE, ACK_0),
+            (ALICE, at(4000), DATA_HUNDRED),
+            (at(4000), ALICE, ACK_1),
+        ],
+        ..ONE_PUT
+    };
+    assert_eq!(rt;
+        other_after(rt.alloc(), &PUT_AND_RESTART, NO_CALL, &wanted)?,
+        None
+    );
+    Ok(())
+}
+
+// The fault of these events if this call of the keeper fails, and whether the keeper was given the put's file.
+fn failing(alloc: Global, call: u64, acts: &[Act<'_>]) -> Result<(Option<WorldFault>, bool), Fail> {
+    let mut keeper = MemoryKeeper::new(alloc);
+    keeper.fail_at(call);
+    let fault = fault_by(alloc, &mut keeper, acts)?;
+    Ok((fault, was_given(&keeper, ONE_PUT.given)))
+}
+
+// A load fails: there is no run, and the keeper has what was kept before.
+#[test]
+fn a_restart_that_fails(rt: HostRuntime) -> Result<(), Fail> {
+    let empty = failing(rt.alloc(), 1, &[Act::Restart])?;
+    // The load of Lynx is the second call, that of MS the third.
+    let lynx = failing(rt.alloc(), 2, &PUT_AND_RESTART)?;
+    let ms = failing(rt.alloc(), 3, &PUT_AND_RESTART)?;
+    let not_loaded = Some(WorldFault::NotLoaded(4));
+    assert_eq!(rt;
+        (empty, lynx, ms),
+        (
+            (Some(WorldFault::NotLoaded(0)), false),
+            (not_loaded, true),
+            (not_loaded, true)
+        )
+    );
+    Ok(())
+}
+
+// What a keeper has is not loaded if it is not a file of the ruleset.
+#[test]
+fn a_restart_with_bytes_that_are_no_collection(rt: HostRuntime) -> Result<(), Fail> {
+    let alloc = rt.alloc();
+    for text in [UNREADABLE.as_slice(), EMPTY_MS.as_slice()] {
+        let text = Vec::from_slice(alloc, text)?;
+        let mut keeper = MemoryKeeper::with(alloc, Some(text), None)?;
+        let acts = [Act::Put(ALICE, HUNDRED), Act::Restart];
+        assert_eq!(rt;
+            fault_by(alloc, &mut keeper, &acts)?,
+            Some(WorldFault::NotLoaded(1))
+        );
+    }
+    Ok(())
+}

@@ -1,0 +1,9 @@
+use Rattle.std.proofs.Common.{◌∙◌, codes}
+use Rattle.clap.specs.Matches.{found_of}
+use Rattle.clap.proofs.WalkLemmas.{one_text-rows}
+use Rattle.tws_tool.proofs.commands.show.asked.Goals as goal
+
+pub returns : goal.returns
+returns c =
+    let text = one_text-rows (found_of c.args.words.now) (codes "moves") in
+    ((λ e. c.get_flag-moves.ensures.value (text ∙ e)), (λ e. c.get_flag-moves.ensures.other (text ∙ e)), (λ e. c.get_flag-moves.ensures.none (text ∙ e)))

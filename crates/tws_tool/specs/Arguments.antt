@@ -1,0 +1,82 @@
+-- The arguments that several commands share, as `clap` reads them, and what was given for an argument.
+use Rattle.std.specs.Prelude.{◌≡◌, ◌≤◌, ℕ, Bool, true, false, List, [], ◌∷◌, map, Option, Some, None, string_bytes, codes}
+use Rattle.std.specs.Borrow.{Bor}
+use Rattle.std.specs.Str.Parse.{IsNumeral, digits_value, without_leading_plus}
+use Rattle.clap.specs.Words.{Row, Rule, Text, first_of, new_rule, one_of}
+use Rattle.clap.specs.declared.builder.value_parser.ValueParser.TheVariants as parser
+use Rattle.tws_file.specs.declared.«ruleset».Ruleset.{Ruleset}
+use Rattle.tws_file.specs.Listing.{ruleset_name}
+use Rattle.tws_tool.specs.declared.limits.TheConstants.{PORT, MAX_PORT}
+use Rattle.tws_tool.specs.declared.target.Target.{Target}
+
+-- ---- the arguments
+
+-- references to the names of the rulesets
+abbrev pub RulesetNames : Type 0
+RulesetNames = Bor (List (Bor Text))
+
+abbrev pub AreRulesetNames : RulesetNames → Type 0
+AreRulesetNames names = map (λ name. name.now) names.now ≡ codes "lynx" ∷ codes "ms" ∷ []
+
+-- `RULESET`
+abbrev pub ruleset_rule : RulesetNames → Rule
+ruleset_rule names = record (new_rule (codes "ruleset")) { value_names = 1; parser = Some (parser.Names names); required = true }
+
+-- `ADDRESS`
+abbrev pub address_rule : Rule
+address_rule = record (new_rule (codes "address")) { value_names = 1; required = true }
+
+-- `FILE`
+abbrev pub file_rule : Rule
+file_rule = record (new_rule (codes "file")) { value_names = 1; required = true }
+
+-- an option with a number from 1 to `most`, and what the number is if none is given
+pub record NumberOption : Type 0 where
+  pub name : Text
+  pub most : ℕ
+  pub default : ℕ
+
+abbrev pub number_rule : NumberOption → Rule
+number_rule option = record (new_rule option.name) { long = Some option.name; value_names = 1; parser = Some (parser.Unsigned 1 option.most) }
+
+-- `[--port N]`
+abbrev pub port_option : NumberOption
+port_option = record { name = codes "port"; most = MAX_PORT; default = PORT }
+
+-- ---- what was given
+
+-- what is asked for, or nothing if nothing is
+abbrev pub Answers : {T : Type 0} → (T → Type 0) → Option T → Type 0
+Answers Asks (Some x) = Asks x
+Answers {T} Asks None = (x : T) → Asks x → ⊥
+
+-- whether a flag is set, by the text of its entry
+abbrev pub IsFlag : Option Text → Bool → Type 0
+IsFlag text flag = (text ≡ Some (codes "true") → flag ≡ true) × (text ≡ Some (codes "false") → flag ≡ false) × (text ≡ None → flag ≡ false)
+
+abbrev pub HasFlag : Rule → List Row → Bool → Type 0
+HasFlag rule rows flag = IsFlag (one_of rule.id rows) flag
+
+-- the text is a number from 1 to `most`
+pub record IsNumberUpTo (most : ℕ) (text : Text) (n : ℕ) : Type 0 where
+  pub numeral : IsNumeral 10 (without_leading_plus text)
+  pub value : n ≡ digits_value 10 (without_leading_plus text)
+  pub least : 1 ≤ n
+  pub greatest : n ≤ most
+
+-- the number that was given, or the default if none was
+abbrev pub IsNumberOr : (default most : ℕ) → Option Text → ℕ → Type 0
+IsNumberOr default most (Some text) n = IsNumberUpTo most text n
+IsNumberOr default most None n = n ≡ default
+
+abbrev pub HasNumber : NumberOption → List Row → ℕ → Type 0
+HasNumber option rows n = IsNumberOr option.default option.most (first_of option.name rows) n
+
+abbrev pub HasRuleset : List Row → Ruleset → Type 0
+HasRuleset rows rules = first_of (codes "ruleset") rows ≡ Some (ruleset_name rules)
+
+-- what was found for the arguments that `put` and `get` share
+pub record HasTarget (rows : List Row) (target : Target) : Type 0 where
+  pub address_is : first_of address_rule.id rows ≡ Some (string_bytes target.address)
+  pub file_is : first_of file_rule.id rows ≡ Some (string_bytes target.file)
+  pub port_is : HasNumber port_option rows target.port

@@ -1,0 +1,57 @@
+-- The lists over all commands: the command line, which job each command asks for, and what each job did. A command is
+-- defined in a file of its own in `Commands/`.
+pub mod Show
+pub mod Pack
+pub mod Best
+pub mod Serve
+pub mod Put
+pub mod Get
+use Rattle.std.specs.Prelude.{◌≡◌, ℕ, true, List, Option, Result, Ok, Err, codes}
+use Rattle.clap.specs.Words.{App, Row, Text, new_app, with_subcommand}
+use Rattle.archive_turns.specs.Wire.{Entry}
+use Rattle.tws_tool.specs.declared.commands.Job.{Job}
+use Rattle.tws_tool.specs.declared.commands.Job.TheVariants as job
+use Rattle.tws_tool.specs.declared.job.JobFault.{JobFault}
+use Rattle.tws_tool.specs.declared.job.JobFault.TheVariants as fault
+use Rattle.tws_tool.specs.Arguments.{RulesetNames}
+use Rattle.tws_tool.specs.Commands.Show.{AsksToShow, ShowRan, show_app, show_name}
+use Rattle.tws_tool.specs.Commands.Pack.{PackRan, pack_app, pack_name}
+use Rattle.tws_tool.specs.Commands.Best.{AsksForBest, BestRan, best_app, best_name}
+use Rattle.tws_tool.specs.Commands.Serve.{AsksToServe, ServeRan, serve_app, serve_name}
+use Rattle.tws_tool.specs.Commands.Put.{AsksToPut, PutRan, put_app, put_name}
+use Rattle.tws_tool.specs.Commands.Get.{AsksToGet, GetRan, get_app, get_name}
+use Rattle.tws_tool.specs.Help.{Explained}
+
+abbrev pub top_app : App
+top_app = let plain : App = new_app (codes "tws") in record plain { top = record plain.top { subcommand_required = true } }
+
+-- with only the commands on files
+abbrev pub files_app : RulesetNames → App
+files_app names = with_subcommand (with_subcommand (with_subcommand top_app show_app.top) pack_app.top) (best_app names).top
+
+abbrev pub tws_app : RulesetNames → App
+tws_app names = with_subcommand (with_subcommand (with_subcommand (files_app names) serve_app.top) put_app.top) (get_app names).top
+
+-- the command of this name, with what was found for its arguments, asks for the job
+abbrev pub AsksFor : Text × List Row → Job → Type 0
+AsksFor command (job.Show arguments) = (command.0 ≡ show_name) × AsksToShow command.1 arguments
+AsksFor command job.Pack = command.0 ≡ pack_name
+AsksFor command (job.Best arguments) = (command.0 ≡ best_name) × AsksForBest command.1 arguments
+AsksFor command (job.Serve arguments) = (command.0 ≡ serve_name) × AsksToServe command.1 arguments
+AsksFor command (job.Put arguments) = (command.0 ≡ put_name) × AsksToPut command.1 arguments
+AsksFor command (job.Get arguments) = (command.0 ≡ get_name) × AsksToGet command.1 arguments
+
+-- What a job did, by its exit status: 0 if all was done, 1 for a usage error, 2 if reading, writing, a socket or memory
+-- failed, 3 for an unreadable solution file, 4 for a failed transfer. Given are what is known of the bytes of the file
+-- with each name, and of the contents of a file that is created with a name, and what holds if standard input was not
+-- read; then the log of the wire before and after, what standard input had and has left, and the output before and
+-- after.
+abbrev pub JobRuns : (bytes_of created_of : List ℕ → Option (List ℕ)) → (Unread : Type 0) → Result Job JobFault → (status : ℕ) → (before after : Option (List Entry)) → (known left old new : Option (List ℕ)) → Type 0
+JobRuns bytes_of created_of Unread (Ok (job.Show arguments)) status before after known left old new = (after ≡ before) × ShowRan arguments status known left old new
+JobRuns bytes_of created_of Unread (Ok job.Pack) status before after known left old new = (after ≡ before) × PackRan status known left old new
+JobRuns bytes_of created_of Unread (Ok (job.Best arguments)) status before after known left old new = (after ≡ before) × Unread × BestRan bytes_of arguments status old new
+JobRuns bytes_of created_of Unread (Ok (job.Serve arguments)) status before after known left old new = (after ≡ before) × Unread × ServeRan arguments status old new
+JobRuns bytes_of created_of Unread (Ok (job.Put arguments)) status before after known left old new = Unread × PutRan bytes_of arguments status before after old new
+JobRuns bytes_of created_of Unread (Ok (job.Get arguments)) status before after known left old new = Unread × GetRan created_of arguments status before after old new
+JobRuns bytes_of created_of Unread (Err (fault.Words error)) status before after known left old new = (after ≡ before) × Unread × Explained error status old new
+JobRuns bytes_of created_of Unread (Err fault.Memory) status before after known left old new = (after ≡ before) × Unread × (status ≡ 2) × (new ≡ old)

@@ -1,0 +1,99 @@
+-- The command `put`: what it does over any wire, any file and any output.
+use Rattle.std.specs.Prelude.{◌≡◌, ◌≢◌, ◌⊎◌, ℕ, List, length, Option, IfSome, Result, Ok, Err, OnOk, IfErr, string_bytes, codes}
+use Rattle.std.specs.Io.KnownBytes.{Appends}
+use Rattle.clap.specs.Words.{App, Row, Text, new_app, with_rule}
+use Rattle.byte_output.specs.Output.{AppendsPrefix}
+use Rattle.tws_file.specs.Text.{IsReadable}
+use Rattle.tws_file.specs.Fault.{HasFault}
+use Rattle.tftp_packet.specs.declared.endpoint.Endpoint.{Endpoint}
+use Rattle.archive_turns.specs.declared.run_fault.RunFault.{RunFault}
+use Rattle.archive_turns.specs.declared.run_fault.RunFault.TheVariants as run
+use Rattle.archive_turns.specs.Wire.{Entry}
+use Rattle.archive_turns.specs.Run.{RunsPut}
+use Rattle.tws_tool.specs.declared.commands.put.PutArguments.{PutArguments}
+use Rattle.tws_tool.specs.declared.limits.TheConstants.{TURNS}
+use Rattle.tws_tool.specs.declared.tool_fault.ToolFault.{ToolFault}
+use Rattle.tws_tool.specs.declared.tool_fault.ToolFault.TheVariants.{Read, Write, Unreadable, Memory, Socket, Transfer}
+use Rattle.tws_tool.specs.Address.{IsAddress}
+use Rattle.tws_tool.specs.Arguments.{HasTarget, address_rule, file_rule, number_rule, port_option}
+use Rattle.tws_tool.specs.Faults.{answer_status}
+use Rattle.tws_tool.specs.Inputs.{IsUnreadable}
+use Rattle.tws_tool.specs.Lines.{Transfers, sent_line}
+
+abbrev pub put_name : Text
+put_name = codes "put"
+
+-- `put ADDRESS FILE [--port N]`
+abbrev pub put_app : App
+put_app = with_rule (with_rule (with_rule (new_app put_name) address_rule) file_rule) (number_rule port_option)
+
+-- what was found for its arguments
+abbrev pub AsksToPut : List Row → PutArguments → Type 0
+AsksToPut rows arguments = HasTarget rows arguments.target
+
+-- ---- what it does
+
+-- the whole input is these bytes, which are a file's text
+pub record IsWhole (known : Option (List ℕ)) (bytes : List ℕ) : Type 0 where
+  pub known_is : IfSome known (λ (xs : List ℕ). bytes ≡ xs)
+  pub readable : IsReadable bytes
+
+-- a complete run of a put of these bytes, with this result
+pub record PutRuns (known : Option (List ℕ)) (server : Endpoint) (result : Result ℕ RunFault) (before after : Option (List Entry)) : Type 0 where
+  pub bytes : List ℕ
+  pub whole : IsWhole known bytes
+  pub runs : RunsPut server bytes TURNS result before after
+
+-- the whole input was put, and the line that reports it was written
+pub record Puts (known : Option (List ℕ)) (server : Endpoint) (before after : Option (List Entry)) (old new : Option (List ℕ)) : Type 0 where
+  pub len : ℕ
+  pub put : PutRuns known server (Ok len) before after
+  pub said : Appends old new (sent_line len)
+
+-- a put that ran but was not reported: a proper prefix of the line was written
+pub record PutUnsaid (known : Option (List ℕ)) (server : Endpoint) (before after : Option (List Entry)) (old new : Option (List ℕ)) : Type 0 where
+  pub len : ℕ
+  pub put : PutRuns known server (Ok len) before after
+  pub prefix : AppendsPrefix old new (sent_line len)
+
+-- Nothing is sent over the wire if the input is not read to its end or is not a solution file.
+abbrev pub PutFails : (known : Option (List ℕ)) (server : Endpoint) (before after : Option (List Entry)) (old new : Option (List ℕ)) → ToolFault → Type 0
+PutFails known server before after old new Read = (after ≡ before) × (new ≡ old)
+PutFails known server before after old new Write = PutUnsaid known server before after old new
+PutFails known server before after old new (Unreadable index fault) = (after ≡ before) × (new ≡ old) × (index ≡ 0) × IfSome known (λ (bytes : List ℕ). HasFault bytes fault)
+PutFails known server before after old new Memory = (new ≡ old) × ((after ≡ before) ⊎ PutRuns known server (Err run.Memory) before after ⊎ ((len : ℕ) × PutRuns known server (Ok len) before after))
+PutFails known server before after old new Socket = (new ≡ old) × PutRuns known server (Err run.Socket) before after
+PutFails known server before after old new (Transfer why) = (new ≡ old) × PutRuns known server (Err (run.Transfer why)) before after
+
+-- the whole input is a file's text, and the line with its length was written
+abbrev pub SaysSent : (known old new : Option (List ℕ)) → Type 0
+SaysSent known old new = IfSome known (λ (bytes : List ℕ). IsReadable bytes × Appends old new (sent_line (length bytes)))
+
+-- an input that is reported as unreadable has that fault
+abbrev pub IsBlamed : (known : Option (List ℕ)) → ToolFault → Type 0
+IsBlamed known Read = Unit {0}
+IsBlamed known Write = Unit {0}
+IsBlamed known (Unreadable index fault) = IfSome known (λ (bytes : List ℕ). HasFault bytes fault)
+IsBlamed known Memory = Unit {0}
+IsBlamed known Socket = Unit {0}
+IsBlamed known (Transfer why) = Unit {0}
+
+-- a put of a file with these bytes, to the server at this host and port, ended with this status
+pub record PutEnds (known : Option (List ℕ)) (server : Endpoint) (status : ℕ) (before after : Option (List Entry)) (old new : Option (List ℕ)) : Type 0 where
+  pub done : Result (Unit {0}) ToolFault
+  pub status_is : status ≡ answer_status done
+  pub puts : OnOk done (Puts known server before after old new)
+  pub fails : IfErr done (PutFails known server before after old new)
+
+-- what is known of the bytes of its file
+abbrev pub put_known : (bytes_of : List ℕ → Option (List ℕ)) → PutArguments → Option (List ℕ)
+put_known bytes_of arguments = bytes_of (string_bytes arguments.target.file)
+
+-- What it did, by the exit status, given what is known of the bytes of the file with each name. The server is at the
+-- host of the address that was given, and at the port.
+pub record PutRan (bytes_of : List ℕ → Option (List ℕ)) (arguments : PutArguments) (status : ℕ) (before after : Option (List Entry)) (old new : Option (List ℕ)) : Type 0 where
+  pub transfers : Transfers (string_bytes arguments.target.address) sent_line status old new
+  pub sent : status ≡ 0 → SaysSent (put_known bytes_of arguments) old new
+  pub unreadable : status ≡ 3 → IsUnreadable (put_known bytes_of arguments)
+  pub ended : status ≢ 1 → (host : ℕ) × IsAddress (string_bytes arguments.target.address) host × PutEnds (put_known bytes_of arguments) (record { host = host; port = arguments.target.port }) status before after old new
+  pub nowhere : status ≡ 1 → after ≡ before

@@ -1,0 +1,92 @@
+-- The command `serve`: what it does and prints.
+use Rattle.std.specs.Prelude.{◌≡◌, ◌⊎◌, ℕ, ◌<◌, ◌≤◌, ◌^◌, ◌-◌, List, [], Option, Some, None, option_map, string_bytes, codes}
+use Rattle.std.specs.Io.KnownBytes.{Appends}
+use Rattle.clap.specs.Words.{App, Row, Rule, Text, first_of, new_app, new_rule, with_rule}
+use Rattle.archive_table.specs.Keeper.{Keeping, HasLoaded}
+use Rattle.archive_turns.specs.Turn.{MakesRounds, MakesTurns, Service}
+use Rattle.archive_turns.specs.Wire.{Entry}
+use Rattle.tws_tool.specs.declared.commands.serve.Passes.{Passes}
+use Rattle.tws_tool.specs.declared.commands.serve.Passes.TheVariants.{Turns, Rounds}
+use Rattle.tws_tool.specs.declared.commands.serve.ServeArguments.{ServeArguments}
+use Rattle.tws_tool.specs.declared.limits.TheConstants.{TURNS}
+use Rattle.tws_tool.specs.declared.tool_fault.ToolFault.{ToolFault}
+use Rattle.tws_tool.specs.declared.tool_fault.ToolFault.TheVariants.{Socket}
+use Rattle.tws_tool.specs.Arguments.{HasNumber, NumberOption, number_rule, port_option}
+use Rattle.tws_tool.specs.Lines.{LineFails, serving_line, taken_line}
+
+abbrev pub serve_name : Text
+serve_name = codes "serve"
+
+abbrev pub turns_option : NumberOption
+turns_option = record { name = codes "turns"; most = TURNS; default = TURNS }
+
+abbrev pub dir_rule : Rule
+dir_rule = record (new_rule (codes "dir")) { long = Some (codes "dir"); value_names = 1 }
+
+-- `serve [--port N] [--turns N] [--dir DIR]`
+abbrev pub serve_app : App
+serve_app = with_rule (with_rule (with_rule (new_app serve_name) (number_rule port_option)) (number_rule turns_option)) dir_rule
+
+-- what was found for its arguments
+pub record AsksToServe (rows : List Row) (arguments : ServeArguments) : Type 0 where
+  pub port_is : HasNumber port_option rows arguments.port
+  pub turns_are : HasNumber turns_option rows arguments.turns
+  pub dir_is : option_map string_bytes arguments.dir ≡ first_of dir_rule.id rows
+
+-- ---- what it does and prints
+
+-- the port was printed, then the turns were made, and then it was printed how many files they took
+pub record Serves (port : ℕ) (Made : (taken : ℕ) → Type 0) (old new : Option (List ℕ)) : Type 0 where
+  pub taken : ℕ
+  pub made : Made taken
+  pub between : Option (List ℕ)
+  pub first : Appends old between (serving_line port)
+  pub last : Appends between new (taken_line taken)
+
+-- the turns were made, but it was not printed how many files they took
+pub record ServesUnsaid (port : ℕ) (Made : (taken : ℕ) → Type 0) (old new : Option (List ℕ)) (e : ToolFault) : Type 0 where
+  pub taken : ℕ
+  pub made : Made taken
+  pub between : Option (List ℕ)
+  pub first : Appends old between (serving_line port)
+  pub fails : LineFails (taken_line taken) between new e
+
+-- a line was not written: the first one, and no turn was made, or the last one
+abbrev pub ServeFails : (port : ℕ) (Unmade : Type 0) (Made : (taken : ℕ) → Type 0) (old new : Option (List ℕ)) → ToolFault → Type 0
+ServeFails port Unmade Made old new e = (Unmade × LineFails (serving_line port) old new e) ⊎ ServesUnsaid port Made old new e
+
+-- so many turns or rounds were made, of which `taken` took a file
+abbrev pub MakesPasses : Passes → (old new : Service) (taken : ℕ) (before after : Option (List Entry)) (kept now : Option (List Keeping)) → Type 0
+MakesPasses (Turns turns) old new taken before after kept now = MakesTurns turns old new taken before after kept now
+MakesPasses (Rounds rounds) old new taken before after kept now = MakesRounds rounds old new taken before after kept now
+
+-- what a server makes that is given this many turns: if they are the most there are, rounds, more of them than any server
+-- will live to make
+abbrev pub ArePassesFor : (turns : ℕ) → Passes → Type 0
+ArePassesFor turns passes = ((turns < TURNS) × (passes ≡ Turns turns)) ⊎ ((TURNS ≤ turns) × (passes ≡ Rounds (2 ^ 64 - 1)))
+
+-- a server was loaded, and made its turns or rounds: what was kept before and after, and how many files were taken
+pub record ServerServed (port turns : ℕ) (kept now : Option (List Keeping)) (taken : ℕ) : Type 0 where
+  pub first : Service
+  pub last : Service
+  pub loaded : HasLoaded port kept first.table
+  pub fresh : first ≡ record { table = first.table; last = 0; timers = [] }
+  pub passes : Passes
+  pub passes_are : ArePassesFor turns passes
+  pub made : MakesPasses passes first last taken None None kept now
+
+-- ---- by the exit status
+
+-- no port was opened, and nothing was written or kept; or a line was not written
+abbrev pub ServeStops : (port : ℕ) (Unmade : Type 0) (Made : (taken : ℕ) → Type 0) (old new : Option (List ℕ)) → ToolFault → Type 0
+ServeStops port Unmade Made old new e = ((e ≡ Socket) × (new ≡ old) × Unmade) ⊎ ServeFails port Unmade Made old new e
+
+-- what `serve` on this port did, with this many turns: what its keeper had and has
+pub record Served (port turns status : ℕ) (kept now : Option (List Keeping)) (old new : Option (List ℕ)) : Type 0 where
+  pub done : status ≡ 0 → Serves port (ServerServed port turns kept now) old new
+  pub failed : status ≡ 2 → ((new ≡ old) × (now ≡ kept)) ⊎ ((e : ToolFault) × ServeStops port (now ≡ kept) (ServerServed port turns kept now) old new e)
+  pub few : (status ≡ 0) ⊎ (status ≡ 2)
+
+-- what it did; nothing is known of what its folder keeps
+abbrev pub ServeRan : ServeArguments → (status : ℕ) → (old new : Option (List ℕ)) → Type 0
+ServeRan arguments status old new = Served arguments.port arguments.turns status None None old new

@@ -1,0 +1,127 @@
+//! The lists over all commands: what the program is asked to do, its command line, and how each job is done. A command is
+//! in a file of its own in `commands/`.
+
+ghost use Rattle.std.specs.Prelude.{◌≡◌, ◌≤◌, Ok, IfOk};
+ghost use Rattle.clap.specs.Matches.{found_of};
+ghost use Rattle.clap.specs.Words.{app_of, rows_of};
+ghost use Rattle.tws_tool.specs.Arguments.{Answers};
+ghost use Rattle.tws_tool.specs.Commands.{AsksFor, JobRuns, files_app, tws_app};
+
+mod best;
+mod get;
+mod pack;
+mod put;
+mod serve;
+mod show;
+
+use crate::file_system::FileSystem;
+use archive_turns::Wire;
+pub use best::{BestArguments, run_best};
+use clap::{ArgMatches, Command};
+pub use get::{GetArguments, get_file};
+pub use pack::run_pack;
+pub use put::{PutArguments, put_file};
+pub use serve::{Passes, ServeArguments, serve_archive};
+pub use show::{ShowArguments, run_show};
+use std::alloc::{AllocError, Global};
+use std::fs::File;
+use std::io::{Read, Write};
+use std::net::Net;
+use std::rt::Files;
+use std::time::Clock;
+
+/// What the program is asked to do.
+#[derive(Drop)]
+pub enum Job {
+    /// To list the solution file on standard input.
+    Show(ShowArguments),
+    /// To write the solution file on standard input with its moves in the fewest bytes.
+    Pack,
+    /// To write the collection of the best solutions of several files.
+    Best(BestArguments),
+    /// To serve the archive.
+    Serve(ServeArguments),
+    /// To send a solution file to an archive.
+    Put(PutArguments),
+    /// To fetch a collection from an archive.
+    Get(GetArguments),
+}
+
+// The program with only its commands on files.
+fn file_commands<'a>(alloc: Global, names: &'a [&'a str]) -> Result<Command<'a>, AllocError>
+    ensures { IfOk result (λ command. app_of command ≡ files_app names.entry) }
+{
+    let show = show::command(alloc)?;
+    let command = Command::new(alloc, "tws")
+        .about("Lists, packs and collects Tile World solution files, and archives them by TFTP")
+        .subcommand_required(true)
+        .subcommand(show)?
+        .subcommand(pack::command(alloc))?;
+    let best = best::command(alloc, names)?;
+    command.subcommand(best)
+}
+
+/// The command line of the program, with these names of the rulesets.
+pub(crate) fn command<'a>(alloc: Global, names: &'a [&'a str]) -> Result<Command<'a>, AllocError>
+    ensures { IfOk result (λ command. app_of command ≡ tws_app names.entry) }
+{
+    let serve = serve::command(alloc)?;
+    let command = file_commands(alloc, names)?.subcommand(serve)?;
+    let put = put::command(alloc)?;
+    let command = command.subcommand(put)?;
+    let get = get::command(alloc, names)?;
+    command.subcommand(get)
+}
+
+/// What the arguments of the command of this name ask for; `None` if they ask for nothing, or there is no such command.
+pub(crate) fn asked(
+    alloc: Global,
+    name: &str,
+    words: &ArgMatches,
+) -> Result<Option<Job>, AllocError>
+    ensures { IfOk result (Answers (AsksFor (name.now, rows_of (found_of words.now)))) }
+{
+    match name {
+        "show" => Ok(Some(Job::Show(show::asked(words)))),
+        "pack" => Ok(Some(Job::Pack)),
+        "best" => Ok(best::asked(alloc, words)?.map(Job::Best)),
+        "serve" => Ok(serve::asked(alloc, words)?.map(Job::Serve)),
+        "put" => Ok(put::asked(alloc, words)?.map(Job::Put)),
+        "get" => Ok(get::asked(alloc, words)?.map(Job::Get)),
+        _ => Ok(None),
+    }
+}
+
+/// Does a job, and returns the status.
+pub(crate) fn run_job<
+    S: FileSystem,
+    N: Wire,
+    P: Files<File = File> + Net + Clock + AllocGlobal + Copy,
+    R: Read,
+    W: Write,
+    E: Write,
+>(
+    system: &S,
+    wire: &mut N,
+    rt: P,
+    alloc: Global,
+    job: &Job,
+    input: &mut R,
+    out: &mut W,
+    errors: &mut E,
+) -> u8
+    ensures ran { JobRuns (S.bytes_of system.now) (S.created_of system.now) (input.new ≡ input.old) (Ok job.now) result (N.log wire.old) (N.log wire.new) (R.remaining input.old) (R.remaining input.new) (W.contents out.old) (W.contents out.new) }
+    ensures usage { result ≡ 1 → (input.new ≡ input.old) × (out.new ≡ out.old) }
+    ensures status { result ≤ 4 }
+    ensures unreadable { result ≡ 3 → out.new ≡ out.old }
+    ensures silent { result ≡ 0 → errors.new ≡ errors.old }
+{
+    match job {
+        Job::Show(arguments) => show::run(alloc, arguments, input, out, errors),
+        Job::Pack => pack::run(alloc, input, out, errors),
+        Job::Best(arguments) => best::run(system, alloc, arguments, out, errors),
+        Job::Serve(arguments) => serve::run(rt, alloc, arguments, out, errors),
+        Job::Put(arguments) => put::run(system, wire, alloc, arguments, out, errors),
+        Job::Get(arguments) => get::run(system, wire, alloc, arguments, out, errors),
+    }
+}

@@ -1,0 +1,153 @@
+//! The command `best`: the best solutions of several files.
+
+ghost use Rattle.std.specs.Prelude.{◌≡◌, ◌≢◌, false, map, string_bytes, OnOk, IfOk, IfErr};
+ghost use Rattle.std.specs.List.{AllByRecursion};
+ghost use Rattle.std.specs.Io.KnownBytes.{IsAtEnd};
+ghost use Rattle.clap.specs.Matches.{found_of};
+ghost use Rattle.clap.specs.Words.{app_of, rows_of, rule_of};
+ghost use Rattle.clap.specs.declared.builder.command.Command.TheViews.{out-Command};
+ghost use Rattle.tws_tool.specs.Arguments.{Answers};
+ghost use Rattle.tws_tool.specs.Commands.Best.{AsksForBest, Collects, CollectFails, AreReadOut, BestWrites, BestFails, BestRan, best_app, files_rule};
+
+use crate::arguments::{ruleset_argument, ruleset_given};
+use crate::file_system::{FileSystem, open_all};
+use crate::input::read_input;
+use crate::reporting::finish;
+use crate::tool_fault::ToolFault;
+use clap::{Arg, ArgMatches, Command};
+use std::alloc::{AllocError, Global};
+use std::io::{Read, Write};
+use tws_best::Collection;
+use tws_file::Ruleset;
+
+/// What `best` is asked for.
+#[derive(Drop)]
+pub struct BestArguments {
+    /// Of files of this ruleset.
+    pub ruleset: Ruleset,
+    /// The names of the files.
+    pub files: Vec<String>,
+}
+
+fn files_argument<'a>(alloc: Global) -> Arg<'a>
+    ensures rule { rule_of result ≡ files_rule }
+    ensures local { result.global ≡ false }
+{
+    Arg::new(alloc, "files")
+        .value_name("FILE")
+        .num_args(1..)
+        .required(true)
+        .help("The solution files")
+}
+
+pub(crate) fn command<'a>(alloc: Global, names: &'a [&'a str]) -> Result<Command<'a>, AllocError>
+    ensures app { IfOk result (λ command. app_of command ≡ best_app names.entry) }
+    ensures local { IfOk result (λ command. (out-Command command).has_globals ≡ false) }
+{
+    Command::new(alloc, "best")
+        .about("Write the best solution of each level of several files")
+        .arg(ruleset_argument(alloc, names))?
+        .arg(files_argument(alloc))
+}
+
+// Copies of the texts.
+fn copied(alloc: Global, texts: &[&str]) -> Result<Vec<String>, AllocError>
+    ensures { IfOk result (λ copies. map string_bytes copies.items ≡ map (λ text. text.now) texts.now) }
+{
+    let mut copies = Vec::new(alloc);
+    for text in texts {
+        copies.push(String::from_str(alloc, text)?)?;
+    }
+    Ok(copies)
+}
+
+/// What the arguments ask for; `None` if the ruleset is unknown.
+pub(crate) fn asked(alloc: Global, words: &ArgMatches) -> Result<Option<BestArguments>, AllocError>
+    ensures { IfOk result (Answers (AsksForBest (rows_of (found_of words.now)))) }
+{
+    let Some(ruleset) = ruleset_given(words) else {
+        return Ok(None);
+    };
+    let files = copied(alloc, words.get_raw("files").unwrap_or(&[]))?;
+    Ok(Some(BestArguments { ruleset, files }))
+}
+
+// The collection over all inputs, each of which is read to its end.
+fn collect<R: Read>(
+    alloc: Global,
+    ruleset: Ruleset,
+    files: &mut [R],
+) -> Result<Collection, ToolFault>
+    ensures end { OnOk result (AllByRecursion (λ file. IsAtEnd (R.remaining file)) files.new) }
+    ensures collected { IfOk result (Collects «ruleset» (map (λ file. R.remaining file) files.old)) }
+    ensures fails { IfErr result (CollectFails (map (λ file. R.remaining file) files.old)) }
+    ensures unreadable { IfErr result (AreReadOut (λ file. R.remaining file) files.new) }
+{
+    let mut collection = Collection::new(alloc, ruleset);
+    for index in 0..files.len() {
+        let file = read_input(alloc, index, &mut files[index])?;
+        collection.merge(&file)?;
+    }
+    Ok(collection)
+}
+
+/// Reads solution files to their ends, in order, and writes the collection of the best solutions in those of this
+/// ruleset.
+///
+/// # Errors
+///
+/// The first input that fails decides. `Read` if it fails or does not end within `INPUT_READS` reads, and `Unreadable`
+/// with its number, counted from 0, and the fault of its bytes: then nothing was written. `Write` if the writer fails:
+/// then a proper prefix of the collection's text was written. `Memory` if an allocation was refused: then nothing was
+/// written.
+pub fn run_best<R: Read, W: Write>(
+    alloc: Global,
+    ruleset: Ruleset,
+    files: &mut [R],
+    out: &mut W,
+) -> Result<(), ToolFault>
+    ensures end { OnOk result (AllByRecursion (λ file. IsAtEnd (R.remaining file)) files.new) }
+    ensures collected { OnOk result (BestWrites «ruleset» (map (λ file. R.remaining file) files.old) (W.contents out.old) (W.contents out.new)) }
+    ensures fails { IfErr result (BestFails «ruleset» (map (λ file. R.remaining file) files.old) (W.contents out.old) (W.contents out.new)) }
+    ensures unreadable { IfErr result (AreReadOut (λ file. R.remaining file) files.new) }
+    // Holds also for a writer that does not tell its contents.
+    ensures unwritten { IfErr result (λ e. e ≢ ToolFault.Write → out.new ≡ out.old) }
+{
+    let collection = collect(alloc, ruleset, files)?;
+    collection.write_text(out)?;
+    Ok(())
+}
+
+// Writes the collection over the files of these names.
+fn write_best<S: FileSystem, W: Write>(
+    system: &S,
+    alloc: Global,
+    ruleset: Ruleset,
+    names: &[String],
+    out: &mut W,
+) -> Result<(), ToolFault>
+    ensures collected { OnOk result (BestWrites «ruleset» (map (λ name. S.bytes_of system.now (string_bytes name)) names.now) (W.contents out.old) (W.contents out.new)) }
+    ensures fails { IfErr result (BestFails «ruleset» (map (λ name. S.bytes_of system.now (string_bytes name)) names.now) (W.contents out.old) (W.contents out.new)) }
+    // Holds also for a writer that does not tell its contents.
+    ensures unwritten { IfErr result (λ e. e ≢ ToolFault.Write → out.new ≡ out.old) }
+{
+    let mut files = open_all(system, alloc, names)?;
+    run_best(alloc, ruleset, &mut files, out)
+}
+
+/// Runs `best` over the files of these names, and returns the status.
+pub(crate) fn run<S: FileSystem, W: Write, E: Write>(
+    system: &S,
+    alloc: Global,
+    arguments: &BestArguments,
+    out: &mut W,
+    errors: &mut E,
+) -> u8
+    ensures ran { BestRan (S.bytes_of system.now) arguments.now result (W.contents out.old) (W.contents out.new) }
+    ensures unreadable { result ≡ 3 → out.new ≡ out.old }
+    ensures silent { result ≡ 0 → errors.new ≡ errors.old }
+{
+    let names = &arguments.files;
+    let done = write_best(system, alloc, arguments.ruleset, names, out);
+    finish(done, names, errors)
+}

@@ -1,0 +1,163 @@
+//! The command `put`.
+
+ghost use Rattle.std.specs.Prelude.{◌≡◌, ◌≢◌, ◌⊎◌, false, Ok, Err, OnOk, IfOk, IfErr, IfSome, string_bytes};
+ghost use Rattle.std.specs.Io.KnownBytes.{IsAtEnd};
+ghost use Rattle.clap.specs.Matches.{found_of};
+ghost use Rattle.clap.specs.Words.{app_of, rows_of};
+ghost use Rattle.clap.specs.declared.builder.command.Command.TheViews.{out-Command};
+ghost use Rattle.archive_turns.specs.Run.{RunsPut};
+ghost use Rattle.tws_file.specs.Text.{IsReadable};
+ghost use Rattle.tws_file.specs.Fault.{HasFault};
+ghost use Rattle.tws_tool.specs.declared.limits.TheConstants.{TURNS};
+ghost use Rattle.tws_tool.specs.Address.{IsAddress};
+ghost use Rattle.tws_tool.specs.Arguments.{Answers};
+ghost use Rattle.tws_tool.specs.Commands.Put.{AsksToPut, IsWhole, PutFails, PutRan, PutRuns, Puts, put_app};
+ghost use Rattle.tws_tool.specs.Faults.{IsReadFault, IsReadOut, ReadFails, run_fault};
+ghost use Rattle.tws_tool.specs.Lines.{Unless};
+
+use crate::address::Address;
+use crate::arguments::{address_argument, file_argument, port_argument, target_given};
+use crate::file_system::{FileSystem, open};
+use crate::input::INPUT_READS;
+use crate::limits::TURNS;
+use crate::line::write_line;
+use crate::reporting::{bad_address, finish};
+use crate::target::Target;
+use crate::tool_fault::ToolFault;
+use archive_turns::{RunFault, Wire, run_put};
+use clap::{ArgMatches, Command};
+use std::alloc::{AllocError, Global};
+use std::io::{Read, Write};
+use std::slice;
+use tftp_packet::Endpoint;
+use tws_file::read_file;
+
+/// What `put` is asked for.
+#[derive(Drop)]
+pub struct PutArguments {
+    /// The file that is sent, and where to.
+    pub target: Target,
+}
+
+pub(crate) fn command<'a>(alloc: Global) -> Result<Command<'a>, AllocError>
+    ensures app { IfOk result (λ command. app_of command ≡ put_app) }
+    ensures local { IfOk result (λ command. (out-Command command).has_globals ≡ false) }
+{
+    Command::new(alloc, "put")
+        .about("Send a solution file to an archive")
+        .arg(address_argument(alloc))?
+        .arg(file_argument(alloc, "The solution file"))?
+        .arg(port_argument(alloc))
+}
+
+/// What the arguments ask for; `None` if they name no target.
+pub(crate) fn asked(alloc: Global, words: &ArgMatches) -> Result<Option<PutArguments>, AllocError>
+    ensures { IfOk result (Answers (AsksToPut (rows_of (found_of words.now)))) }
+{
+    let Some(target) = target_given(alloc, words)? else {
+        return Ok(None);
+    };
+    Ok(Some(PutArguments { target }))
+}
+
+// Reads all bytes of an input, in at most `INPUT_READS` reads.
+fn read_bytes<R: Read>(alloc: Global, input: &mut R) -> Result<Vec<u8>, ToolFault>
+    ensures bytes { IfOk result (λ bytes. IfSome (R.remaining input.old) (λ xs. bytes.items ≡ xs)) }
+    ensures end { OnOk result (IsAtEnd (R.remaining input.new)) }
+    ensures fault { IfErr result IsReadFault }
+{
+    let mut bytes = Vec::new(alloc);
+    let mut piece = [0; 1 << 16];
+    for _ in 0..INPUT_READS {
+        let Ok(count) = input.read(&mut piece) else {
+            return Err(ToolFault::Read);
+        };
+        if count == 0 {
+            return Ok(bytes);
+        }
+        bytes.extend_from_slice(&piece[..count])?;
+    }
+    Err(ToolFault::Read)
+}
+
+// Reads all bytes of an input, which must be the text of a solution file.
+fn read_whole<R: Read>(alloc: Global, input: &mut R) -> Result<Vec<u8>, ToolFault>
+    ensures whole { IfOk result (λ bytes. IsWhole (R.remaining input.old) bytes.items) }
+    ensures end { OnOk result (IsAtEnd (R.remaining input.new)) }
+    ensures unreadable { IfErr result (IsReadOut (R.remaining input.new)) }
+    ensures fault { IfErr result (ReadFails 0 (R.remaining input.old)) }
+{
+    let bytes = read_bytes(alloc, input)?;
+    match read_file(alloc, &bytes) {
+        Ok(_) => Ok(bytes),
+        Err(fault) => Err(ToolFault::of_input(0, fault)),
+    }
+}
+
+/// Reads a solution file to its end, and sends it to the archive in at most `TURNS` turns; then prints its length in
+/// bytes. `server` is the archive's host and request port.
+///
+/// # Errors
+///
+/// `Read` if the reader fails or does not end within `INPUT_READS` reads, and `Unreadable` with index 0 and the fault
+/// of the bytes: then nothing is sent. `Socket` if no port was opened, and `Transfer` with the cause of the failed
+/// transfer. `Write` if the writer fails, after the file was sent. `Memory` if an allocation was refused.
+pub fn put_file<R: Read, N: Wire, W: Write>(
+    alloc: Global,
+    input: &mut R,
+    wire: &mut N,
+    server: Endpoint,
+    out: &mut W,
+) -> Result<(), ToolFault>
+    ensures end { OnOk result (IsAtEnd (R.remaining input.new)) }
+    ensures unreadable { IfErr result (IsReadOut (R.remaining input.new)) }
+    ensures sent { OnOk result (Puts (R.remaining input.old) server (N.log wire.old) (N.log wire.new) (W.contents out.old) (W.contents out.new)) }
+    ensures fails { IfErr result (PutFails (R.remaining input.old) server (N.log wire.old) (N.log wire.new) (W.contents out.old) (W.contents out.new)) }
+    // Holds also for a writer that does not tell its contents.
+    ensures unwritten { IfErr result (Unless (out.new ≡ out.old)) }
+{
+    let bytes = read_whole(alloc, input)?;
+    let len = run_put(wire, server, bytes, TURNS)?;
+    write_line(alloc, "sent ", len, " bytes", out)
+}
+
+// Sends the file of this name.
+fn send<S: FileSystem, N: Wire, W: Write>(
+    system: &S,
+    wire: &mut N,
+    alloc: Global,
+    host: u32,
+    target: &Target,
+    out: &mut W,
+) -> Result<(), ToolFault>
+    ensures sent { OnOk result (Puts (S.bytes_of system.now (string_bytes target.now.file)) (record { host = host; port = target.now.port }) (N.log wire.old) (N.log wire.new) (W.contents out.old) (W.contents out.new)) }
+    ensures fails { IfErr result (PutFails (S.bytes_of system.now (string_bytes target.now.file)) (record { host = host; port = target.now.port }) (N.log wire.old) (N.log wire.new) (W.contents out.old) (W.contents out.new)) }
+    ensures unwritten { IfErr result (Unless (out.new ≡ out.old)) }
+{
+    let port = target.port;
+    let mut file = open(system, target.file.as_str())?;
+    put_file(alloc, &mut file, wire, Endpoint { host, port }, out)
+}
+
+/// Runs `put` over this wire, and returns the status.
+pub(crate) fn run<S: FileSystem, N: Wire, W: Write, E: Write>(
+    system: &S,
+    wire: &mut N,
+    alloc: Global,
+    arguments: &PutArguments,
+    out: &mut W,
+    errors: &mut E,
+) -> u8
+    ensures ran { PutRan (S.bytes_of system.now) arguments.now result (N.log wire.old) (N.log wire.new) (W.contents out.old) (W.contents out.new) }
+    ensures unwritten { result ≢ 0 → result ≢ 2 → out.new ≡ out.old }
+    ensures silent { result ≡ 0 → errors.new ≡ errors.old }
+{
+    let target = &arguments.target;
+    match Address::read(target.address.as_str()) {
+        Some(address) => {
+            let done = send(system, wire, alloc, address.host, target, out);
+            finish(done, slice::from_ref(&target.file), errors)
+        }
+        None => bad_address(errors),
+    }
+}

@@ -1,0 +1,19 @@
+use archive_host::UdpWire;
+use archive_table::NoKeeper;
+use archive_turns::{Server, WireFault, serve_turns};
+use std::alloc::Global;
+use std::net::Net;
+use std::time::Clock;
+
+/// Makes `turns` turns of a server at this port, and returns how many files were taken. It keeps nothing: a `DirKeeper`
+/// in place of `NoKeeper` keeps the collections in a folder. A client's wire is `UdpWire::new`.
+pub fn serve<P: Net + Clock + AllocGlobal + Copy>(
+    rt: P,
+    alloc: Global,
+    port: u16,
+    turns: u64,
+) -> Result<u64, WireFault> {
+    let mut wire = UdpWire::listen(rt, port)?;
+    let mut server = Server::new(alloc, port);
+    Ok(serve_turns(&mut wire, &mut NoKeeper, &mut server, turns))
+}

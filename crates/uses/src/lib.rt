@@ -1,0 +1,18 @@
+//! One short caller of each library, as it is usually called. Each is proved with no proof file, and quoted by the README
+//! of its library.
+#![tactic(auto)]
+
+pub mod calling_archive_client;
+pub mod calling_archive_folder;
+pub mod calling_archive_host;
+pub mod calling_archive_table;
+pub mod calling_archive_turns;
+pub mod calling_archive_world;
+pub mod calling_byte_output;
+pub mod calling_refusing;
+pub mod calling_tftp_ends;
+pub mod calling_tftp_packet;
+pub mod calling_tws_best;
+pub mod calling_tws_file;
+pub mod calling_tws_moves;
+pub mod calling_tws_tool;

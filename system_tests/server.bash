@@ -1,0 +1,106 @@
+# shellcheck shell=bash disable=SC2119,SC2120
+# What the scripts share that test the built program as a server over loopback, on ports of their own choice. They source it
+# in the project's folder, and call `finish` at their end.
+program=$PWD/crates/tws/out/tws
+work=$(mktemp -d)
+passed=0
+failed=0
+skipped=0
+server=
+port=41000
+
+# stop [SIGNAL]: ends the server that this script started.
+stop() {
+    [ -z "$server" ] || { kill -s "${1:-TERM}" "$server" && wait "$server"; } 2>/dev/null
+    server=
+}
+
+# finish: the last line counts the checks, and the status says whether all passed.
+finish() {
+    echo "$passed passed, $failed failed, $skipped skipped"
+    [ "$failed" = 0 ]
+}
+
+# check NAME COMMAND..: the command succeeds.
+check() {
+    local name=$1
+    shift
+    if "$@"; then
+        passed=$((passed + 1))
+    else
+        failed=$((failed + 1))
+        echo "check failed: $name"
+    fi
+}
+
+# adds FILE: the counts in the last line of another script's output, or one failure where it has none.
+adds() {
+    local last
+    last=$(tail -n 1 "$1")
+    if [[ $last =~ ^([0-9]+)\ passed,\ ([0-9]+)\ failed$ ]]; then
+        passed=$((passed + BASH_REMATCH[1]))
+        failed=$((failed + BASH_REMATCH[2]))
+    else
+        failed=$((failed + 1))
+        echo "check failed: no counts, but: $last"
+    fi
+}
+
+# listening: whether the server says so within ten seconds. One that has ended does not.
+listening() {
+    for _ in $(seq 200); do
+        grep -qsx "serving on port $port" "$work/serving" && return 0
+        kill -0 "$server" 2>/dev/null || return 1
+        sleep 0.05
+    done
+    return 1
+}
+
+# start WORDS: starts a server on the next free port, by the launcher, as users do.
+start() {
+    for _ in $(seq 100); do
+        port=$((port + 1))
+        ./tws serve --port "$port" "$@" >"$work/serving" 2>"$work/serving.errors" </dev/null &
+        server=$!
+        listening && return 0
+        stop
+    done
+    echo "no server starts: $(cat "$work/serving.errors")"
+    exit 2
+}
+
+# gives NAME STATUS OUT ERRORS WORDS: the program prints this and exits with this status, within two minutes.
+gives() {
+    local name=$1 want=$2 status
+    printf '%s' "${3:+$3$'\n'}" >"$work/want.out"
+    printf '%s' "${4:+$4$'\n'}" >"$work/want.errors"
+    shift 4
+    timeout 120 "$program" "$@" >"$work/out" 2>"$work/errors" </dev/null
+    status=$?
+    check "$name, status $status" [ "$status" = "$want" ]
+    check "$name, output" cmp "$work/out" "$work/want.out"
+    check "$name, errors" cmp "$work/errors" "$work/want.errors"
+}
+
+size() {
+    stat -c %s "$1"
+}
+
+# puts FILE: the file is sent.
+puts() {
+    gives "put $1" 0 "sent $(size "$1") bytes" "" put 127.0.0.1 "$1" --port "$port"
+}
+
+# gets RULESET FILE: the server's collection is the content of this file.
+gets() {
+    gives "get $1" 0 "got $(size "$2") bytes" "" get 127.0.0.1 "$1" "$work/got" --port "$port"
+    check "get $1, the file" cmp "$work/got" "$2"
+}
+
+# answers NAME LINES DATAGRAM..: what the server answers to these datagrams, as `system_tests/datagrams.py` prints it.
+answers() {
+    local name=$1 want=$2
+    shift 2
+    python3 system_tests/datagrams.py "$port" "$@" >"$work/answers" 2>&1
+    check "$name: $(cat "$work/answers")" cmp "$work/answers" <(printf '%s\n' "$want")
+}
