@@ -56,7 +56,7 @@ def read_rust(crate, path):
     for line in path.read_text().splitlines():
         if match := re.match(r"(?:unsafe )?impl\b.*", line):
             # The type is what comes after `for`, or else after the parameters of the impl.
-            target = line.split(" for ")[-1] if " for " in line else re.sub(r"^(unsafe )?impl(<.*?>)? ", "", line)
+            target = line.split(" for ")[-1] if " for " in line else re.sub(r"^(unsafe )?impl(<(?:[^<>]|<[^<>]*>)*>)? ", "", line)
             owner = re.match(r"\W*(\w+)", target).group(1)
             function = None
         elif match := re.match(r"(?:pub(?:\(crate\))? )?(struct|enum|trait) (\w+)", line):
@@ -80,7 +80,7 @@ def read_rust(crate, path):
                 crate.names.add(match.group(1))
         elif match := re.match(r"\s*ghost (\w+)\s*[:=]", line):
             crate.member(owner, match.group(1))
-        elif match := re.match(r"\s*(?:pub(?:\(crate\))? )?const (\w+)", line):
+        elif match := re.match(r"\s*(?:pub(?:\(crate\))? )?(?:const|type) (\w+)", line):
             crate.names.add(match.group(1))
         elif owner and (match := re.match(r"    (?:pub(?:\(crate\))? )?(\w+)(?:,$|\(|: | \{)", line)):
             crate.member(owner, match.group(1))

@@ -1,5 +1,5 @@
 // The keeper over folders of the system.
-use archive_host::DirKeeper;
+use archive_host::{DirKeeper, HostFolder};
 use archive_table::{KeepFault, Keeper};
 use archive_turns::{MemoryWire, Server, serve_turns};
 use std::test::Fail;
@@ -9,7 +9,7 @@ use tws_best::Collection;
 use tws_file::{Ruleset, read_file};
 
 // A new folder in the system's temporary one.
-fn folder(rt: &HostRuntime, name: &str) -> Result<String, Fail> {
+pub(crate) fn folder(rt: &HostRuntime, name: &str) -> Result<String, Fail> {
     let process = process::id(rt.process());
     let name = format!(in rt.alloc(); "tws-host-{process}-{name}")?;
     let path = env::temp_dir(rt)?.join(rt.alloc(), name.as_str())?;
@@ -17,16 +17,17 @@ fn folder(rt: &HostRuntime, name: &str) -> Result<String, Fail> {
     Ok(path.into_string())
 }
 
-fn file_in(rt: &HostRuntime, dir: &str, name: &str) -> Result<String, Fail> {
+pub(crate) fn file_in(rt: &HostRuntime, dir: &str, name: &str) -> Result<String, Fail> {
     Ok(format!(in rt.alloc(); "{dir}/{name}")?)
 }
 
-fn keeper_of(rt: HostRuntime, dir: &str) -> Result<DirKeeper<HostRuntime>, Fail> {
-    Ok(DirKeeper::new(rt, String::from_str(rt.alloc(), dir)?))
+pub(crate) fn keeper_of(rt: HostRuntime, dir: &str) -> Result<DirKeeper<HostRuntime>, Fail> {
+    let folder = HostFolder::open(rt, dir)?;
+    Ok(DirKeeper::new(folder))
 }
 
 // Keeps the Lynx collection of a file. Returns the keeper's result.
-fn keep(
+pub(crate) fn keep(
     rt: HostRuntime,
     keeper: &mut DirKeeper<HostRuntime>,
     text: &[u8],
@@ -36,7 +37,7 @@ fn keep(
     Ok(keeper.keep(Ruleset::Lynx, &collection))
 }
 
-fn loads(
+pub(crate) fn loads(
     rt: HostRuntime,
     keeper: &mut DirKeeper<HostRuntime>,
     kind: Ruleset,
@@ -140,9 +141,11 @@ fn obstruct(rt: &HostRuntime, dir: &str) -> Result<(), Fail> {
     Ok(())
 }
 
-// Whether the calls fail as above without the folder, and then with a folder in the place of the collection's file.
+// Whether the calls fail as above once the folder is removed, and then with a folder in the place of the collection's
+// file.
 fn fails_twice(rt: HostRuntime, dir: &str) -> Result<(bool, bool), Fail> {
     let mut keeper = keeper_of(rt, dir)?;
+    fs::remove_dir_all(&rt, dir)?;
     let without = fails_to_keep(rt, &mut keeper)?;
     obstruct(&rt, dir)?;
     Ok((without, fails_at_both(rt, &mut keeper)?))
@@ -151,7 +154,6 @@ fn fails_twice(rt: HostRuntime, dir: &str) -> Result<(bool, bool), Fail> {
 #[test]
 fn a_folder_that_fails(rt: HostRuntime) -> Result<(), Fail> {
     let dir = folder(&rt, "fails")?;
-    fs::remove_dir_all(&rt, dir.as_str())?;
     let failed = fails_twice(rt, &dir)?;
     fs::remove_dir_all(&rt, dir.as_str())?;
     assert_eq!(rt; failed, (true, true));

@@ -24,6 +24,7 @@ pub use put::{PutArguments, put_file};
 pub use serve::{Passes, ServeArguments, serve_archive};
 pub use show::{ShowArguments, run_show};
 use std::alloc::{AllocError, Global};
+use std::fs::File;
 use std::io::{Read, Write};
 use std::net::Net;
 use std::random::RandomSource;
@@ -96,7 +97,7 @@ pub(crate) fn asked(
 pub(crate) fn run_job<
     S: FileSystem,
     N: Wire,
-    P: Files + Net + Clock + RandomSource + AllocGlobal + Copy,
+    P: Files<File = File> + Net + Clock + RandomSource + AllocGlobal + Copy,
     R: Read,
     W: Write,
     E: Write,

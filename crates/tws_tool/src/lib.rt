@@ -37,7 +37,7 @@ mod target;
 mod tool_fault;
 
 pub use address::Address;
-pub use archive_host::{DirKeeper, UdpWire};
+pub use archive_host::{DirKeeper, HostFolder, OpenFault, UdpWire};
 pub use archive_turns::{
     Entry, GetRun, MemoryWire, PutRun, RunFault, Server, Wire, WireFault, run_get, run_put,
     serve_rounds, serve_turns,

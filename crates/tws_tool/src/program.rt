@@ -15,6 +15,7 @@ use crate::tool_fault::ToolFault;
 use archive_host::UdpWire;
 use archive_turns::Wire;
 use std::alloc::Global;
+use std::fs::File;
 use std::io::{Read, Write};
 use std::net::Net;
 use std::random::RandomSource;
@@ -25,7 +26,7 @@ use std::time::Clock;
 fn run_answer<
     S: FileSystem,
     N: Wire,
-    P: Files + Net + Clock + RandomSource + AllocGlobal + Copy,
+    P: Files<File = File> + Net + Clock + RandomSource + AllocGlobal + Copy,
     R: Read,
     W: Write,
     E: Write,
@@ -62,7 +63,7 @@ fn run_answer<
 pub fn run_words_with<
     S: FileSystem,
     N: Wire,
-    P: Files + Net + Clock + RandomSource + AllocGlobal + Copy,
+    P: Files<File = File> + Net + Clock + RandomSource + AllocGlobal + Copy,
     R: Read,
     W: Write,
     E: Write,
@@ -97,7 +98,7 @@ pub fn run_words_with<
 }
 
 /// The same with the system's files and sockets, which tell nothing.
-pub fn run_words<P: Files + Net + Clock + RandomSource + AllocGlobal + Copy, R: Read, W: Write, E: Write>(
+pub fn run_words<P: Files<File = File> + Net + Clock + RandomSource + AllocGlobal + Copy, R: Read, W: Write, E: Write>(
     rt: &P,
     alloc: Global,
     words: &[String],

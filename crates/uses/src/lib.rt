@@ -3,6 +3,7 @@
 #![tactic(auto)]
 
 pub mod calling_archive_client;
+pub mod calling_archive_folder;
 pub mod calling_archive_host;
 pub mod calling_archive_table;
 pub mod calling_archive_turns;

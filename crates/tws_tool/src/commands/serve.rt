@@ -10,15 +10,16 @@ ghost use Rattle.tws_tool.specs.Commands.Serve.{ArePassesFor, AsksToServe, Makes
 use crate::arguments::{number_given, port_argument, port_given, string_given};
 use crate::limits::{PER_HOST, TURNS};
 use crate::line::write_line;
-use crate::reporting::{finish, report};
+use crate::reporting::finish;
 use crate::status::FAILED;
 use crate::tool_fault::ToolFault;
-use archive_host::{DirKeeper, UdpWire};
+use archive_host::{DirKeeper, HostFolder, OpenFault, UdpWire};
 use archive_table::{Keeper, LIVE, NoKeeper};
 use archive_turns::{ReadyWire, Server, serve_rounds, serve_turns};
 use clap::builder::ValueParser;
 use clap::{Arg, ArgMatches, Command};
 use std::alloc::{AllocError, Global};
+use std::fs::File;
 use std::io::Write;
 use std::net::Net;
 use std::random::RandomSource;
@@ -171,6 +172,15 @@ fn not_loaded<E: Write>(name: &str, errors: &mut E) -> u8
     FAILED
 }
 
+// Reports that a folder cannot be opened, with the cause on a second line, and returns the status.
+fn not_opened<E: Write>(fault: OpenFault, name: &str, errors: &mut E) -> u8
+    ensures { result ≡ 2 }
+{
+    let status = not_loaded(name, errors);
+    let _ = writeln!(errors, "tws: {name}: {fault}");
+    status
+}
+
 // Opens the server's request port, and serves there.
 fn listen_and_serve<P: Net + Clock + RandomSource + AllocGlobal + Copy, K: Keeper, W: Write>(
     rt: P,
@@ -218,7 +228,7 @@ fn serve_with<P: Net + Clock + RandomSource + AllocGlobal + Copy, K: Keeper, W: 
 }
 
 /// Runs `serve`, with the collections kept in the folder of this name, if there is one, and returns the status.
-pub(crate) fn run<P: Files + Net + Clock + RandomSource + AllocGlobal + Copy, W: Write, E: Write>(
+pub(crate) fn run<P: Files<File = File> + Net + Clock + RandomSource + AllocGlobal + Copy, W: Write, E: Write>(
     rt: P,
     alloc: Global,
     arguments: &ServeArguments,
@@ -232,10 +242,11 @@ pub(crate) fn run<P: Files + Net + Clock + RandomSource + AllocGlobal + Copy, W:
     match &arguments.dir {
         Some(dir) => {
             let name = dir.as_str();
-            let Ok(folder) = String::from_str(alloc, name) else {
-                return report(ToolFault::Memory, &[], errors);
+            let folder = match HostFolder::open(rt, name) {
+                Ok(folder) => folder,
+                Err(fault) => return not_opened(fault, name, errors),
             };
-            let mut keeper = DirKeeper::new(rt, folder);
+            let mut keeper = DirKeeper::new(folder);
             serve_with(rt, alloc, arguments, &mut keeper, name, out, errors)
         }
         None => serve_with(rt, alloc, arguments, &mut NoKeeper, "memory", out, errors),

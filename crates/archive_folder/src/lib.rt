@@ -1,0 +1,20 @@
+//! A keeper over any folder, by whose calls a crash at any moment leaves the last collection or the new one.
+#![tactic(auto)]
+
+mod by_name;
+mod file_name;
+mod folder;
+mod folder_fault;
+mod folder_keeper;
+mod fuse;
+mod memory_folder;
+mod replacing;
+mod stored;
+
+pub use file_name::FileName;
+pub use folder::Folder;
+pub use folder_fault::FolderFault;
+pub use folder_keeper::FolderKeeper;
+pub use fuse::Fuse;
+pub use memory_folder::MemoryFolder;
+pub use replacing::replace;

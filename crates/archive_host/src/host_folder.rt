@@ -1,0 +1,243 @@
+//! A folder of the system.
+
+ghost use Rattle.std.specs.Prelude.{◌≡◌, ◌≤◌, codes, false, IfOk, OnErr};
+ghost use Rattle.std.specs.Path.{path_buf_bytes, path_join};
+ghost use Rattle.archive_folder.specs.Folder.{Rises};
+
+use crate::paths::Paths;
+use archive_folder::{FileName, Folder, FolderKeeper};
+use archive_table::KeepFault;
+use std::alloc::Allocator;
+use std::fs::{File, Metadata, OpenOptions, Permissions, TryLockError};
+use std::io::{ErrorKind, Read};
+use std::rt::Files;
+use std::{fs, io};
+use thiserror::Error;
+
+/// Why a folder cannot be opened.
+#[derive(Clone, Copy, Debug, PartialEq, Eq, Error)]
+pub enum OpenFault {
+    /// There is no folder of this name, or the system does not open it.
+    #[error("no folder")]
+    NoFolder,
+    /// It is open already, in this program or another.
+    #[error("folder in use")]
+    InUse,
+    /// Out of memory.
+    #[error("out of memory")]
+    Memory,
+}
+
+/// A keeper over a folder of the system.
+pub type DirKeeper<R> = FolderKeeper<HostFolder<R>>;
+
+/// A folder of the system, which is locked while it is open. It has the collections as `lynx.tws` and `ms.tws`, and the
+/// drafts as `lynx.new` and `ms.new`. A draft gets the permissions of the file that it replaces. A collection that is no
+/// regular file, such as a symbolic link, is refused without opening it. It has no model.
+#[derive(Drop)]
+pub struct HostFolder<R: Files<File = File> + AllocGlobal + Copy> {
+    rt: R,
+    paths: Paths,
+    // The folder itself, which holds the lock.
+    folder: File,
+    faults: u64,
+}
+
+// The file that a file replaces or is.
+fn kept(name: FileName) -> FileName {
+    match name {
+        FileName::Kept(kind) | FileName::Draft(kind) => FileName::Kept(kind),
+    }
+}
+
+// The fault for an error of the system or of std. Only errors raised by std itself lack an OS error code.
+fn fault_of(e: &io::Error) -> KeepFault {
+    if e.kind() == ErrorKind::OutOfMemory && e.raw_os_error().is_none() {
+        KeepFault::Memory
+    } else {
+        KeepFault::Device
+    }
+}
+
+// Opens a folder. What is no folder is not opened: that might wait for ever.
+fn open_folder<R: Files<File = File>>(rt: &R, dir: &str) -> io::Result<File> {
+    if !fs::metadata(rt, dir)?.is_dir() {
+        return Err(io::Error::from(ErrorKind::NotADirectory));
+    }
+    fs::open(rt, dir)
+}
+
+impl<R: Files<File = File> + AllocGlobal + Copy> HostFolder<R> {
+    /// Opens the folder of this name, and locks it. No later call allocates anything but the text that it reads.
+    ///
+    /// # Errors
+    ///
+    /// `NoFolder` also if the name is empty; `InUse` if the folder is locked.
+    pub fn open(rt: R, dir: &str) -> Result<Self, OpenFault>
+        ensures lynx { IfOk result (λ f. path_buf_bytes f.paths.lynx ≡ path_join dir.now (codes "lynx.tws")) }
+        ensures ms { IfOk result (λ f. path_buf_bytes f.paths.ms ≡ path_join dir.now (codes "ms.tws")) }
+        ensures lynx_draft { IfOk result (λ f. path_buf_bytes f.paths.lynx_draft ≡ path_join dir.now (codes "lynx.new")) }
+        ensures ms_draft { IfOk result (λ f. path_buf_bytes f.paths.ms_draft ≡ path_join dir.now (codes "ms.new")) }
+        ensures faults { IfOk result (λ f. f.faults ≡ 0) }
+    {
+        let Ok(paths) = Paths::new(rt.alloc(), dir) else {
+            return Err(OpenFault::Memory);
+        };
+        let Ok(folder) = open_folder(&rt, dir) else {
+            return Err(OpenFault::NoFolder);
+        };
+        match folder.try_lock() {
+            Ok(()) => Ok(HostFolder {
+                rt,
+                paths,
+                folder,
+                faults: 0,
+            }),
+            Err(TryLockError::WouldBlock) => Err(OpenFault::InUse),
+            Err(TryLockError::Error(_)) => Err(OpenFault::NoFolder),
+        }
+    }
+
+    // The result of a call, which is counted if it failed.
+    fn counted<T>(&mut self, outcome: io::Result<T>) -> Result<T, KeepFault>
+        ensures more { self.old.faults ≤ self.new.faults }
+        ensures fault { OnErr result (Rises self.old.faults self.new.faults) }
+    {
+        match outcome {
+            Ok(value) => Ok(value),
+            Err(e) => {
+                self.faults = self.faults.saturating_add(1);
+                Err(fault_of(&e))
+            }
+        }
+    }
+
+    // What the system knows of a file, if there is one. Fails if it is no regular file.
+    fn metadata(&self, name: FileName) -> io::Result<Option<Metadata>> {
+        match fs::symlink_metadata(&self.rt, self.paths.of(name)) {
+            Ok(metadata) => {
+                if metadata.is_file() {
+                    Ok(Some(metadata))
+                } else {
+                    Err(io::Error::from(ErrorKind::InvalidInput))
+                }
+            }
+            Err(e) => {
+                if e.kind() == ErrorKind::NotFound {
+                    Ok(None)
+                } else {
+                    Err(e)
+                }
+            }
+        }
+    }
+
+    // The permissions of the file that a new file of this name replaces, if there is one.
+    fn last_permissions(&self, name: FileName) -> io::Result<Option<Permissions>> {
+        match self.metadata(kept(name))? {
+            Some(metadata) => Ok(Some(metadata.permissions())),
+            None => Ok(None),
+        }
+    }
+
+    // `remove` without counting faults.
+    fn remove_file(&self, name: FileName) -> io::Result<()> {
+        match fs::remove_file(&self.rt, self.paths.of(name)) {
+            Ok(()) => Ok(()),
+            Err(e) => {
+                if e.kind() == ErrorKind::NotFound {
+                    Ok(())
+                } else {
+                    Err(e)
+                }
+            }
+        }
+    }
+
+    // `create_new` without counting faults.
+    fn create_file(&self, name: FileName) -> io::Result<File> {
+        let permissions = self.last_permissions(name)?;
+        let mut options = OpenOptions::new();
+        options.write(true).create_new(true);
+        let file = options.open(&self.rt, self.paths.of(name))?;
+        if let Some(permissions) = permissions {
+            file.set_permissions(permissions)?;
+        }
+        Ok(file)
+    }
+
+    // `rename` without counting faults.
+    fn rename_file(&self, from: FileName, to: FileName) -> io::Result<()> {
+        fs::rename(&self.rt, self.paths.of(from), self.paths.of(to))
+    }
+
+    // `read` without counting faults.
+    fn read_file<A: Allocator>(&self, alloc: A, name: FileName) -> io::Result<Option<Vec<u8, A>>> {
+        if self.metadata(name)?.is_none() {
+            return Ok(None);
+        }
+        let mut file = fs::open(&self.rt, self.paths.of(name))?;
+        let mut text = Vec::new(alloc);
+        file.read_to_end(&mut text)?;
+        Ok(Some(text))
+    }
+}
+
+impl<R: Files<File = File> + AllocGlobal + Copy> Folder for HostFolder<R> {
+    type File = File;
+
+    ghost has_model = { false };
+
+    ghost reads = { λ _ _ _. Unit {0} };
+
+    ghost holds = { λ _ _ _. Unit {0} };
+
+    ghost leaves = { λ _ _ _. Unit {0} };
+
+    ghost moment = { λ _. 0 };
+
+    ghost left_since = { λ _ _ _ _. Unit {0} };
+
+    ghost faults = { λ f. f.faults };
+
+    ghost counts_now = { λ _ _ _ _ _ _ _. tt };
+
+    ghost only_now = { λ _ _ _ _ _. tt };
+
+    fn remove(&mut self, name: FileName) -> Result<(), KeepFault> {
+        let result = self.remove_file(name);
+        self.counted(result)
+    }
+
+    fn create_new(&mut self, name: FileName) -> Result<File, KeepFault> {
+        let result = self.create_file(name);
+        self.counted(result)
+    }
+
+    fn abandon(&mut self, _file: File) {
+        self.faults = self.faults.saturating_add(1);
+    }
+
+    fn sync(&mut self, _name: FileName, file: File) -> Result<(), KeepFault> {
+        self.counted(file.sync_all())
+    }
+
+    fn rename(&mut self, from: FileName, to: FileName) -> Result<(), KeepFault> {
+        let result = self.rename_file(from, to);
+        self.counted(result)
+    }
+
+    fn sync_folder(&mut self) -> Result<(), KeepFault> {
+        let result = self.folder.sync_all();
+        self.counted(result)
+    }
+
+    fn read<A: Allocator>(
+        &mut self,
+        alloc: A,
+        name: FileName,
+    ) -> Result<Option<Vec<u8, A>>, KeepFault> {
+        let result = self.read_file(alloc, name);
+        self.counted(result)
+    }
+}

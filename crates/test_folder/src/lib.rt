@@ -1,0 +1,9 @@
+//! Tests only: keeps in a folder, each call of which fails in turn, and what a crash leaves.
+#![tactic(auto)]
+
+#[cfg(test)]
+mod crashes;
+#[cfg(test)]
+mod full_disk;
+#[cfg(test)]
+mod samples;
