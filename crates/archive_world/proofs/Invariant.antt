@@ -1,6 +1,6 @@
--- The invariant of a world, which every event keeps. Where it says that something has not happened, each step must be
--- examined; all else lasts by itself.
-use Rattle.std.proofs.Common.{◌≡◌, ◌≢◌, ◌⊎◌, ℕ, ◌≤◌, true, List, [], length, slice_get, None, Some, Ordering, Less, Equal, Greater, is_eq, nat_cmp, refl, ap, sym}
+-- The invariant of a world, which every event keeps, whoever reuses a port. Where it says that something has not
+-- happened, each step must be examined; all else lasts by itself.
+use Rattle.std.proofs.Common.{◌≡◌, ◌≢◌, ℕ, ◌≤◌, true, List, [], length, slice_get, None, Some, Ordering, Less, Equal, Greater, is_eq, nat_cmp, refl, ap, sym}
 use Rattle.std.specs.Cmp.{nat_cmp_is}
 use Rattle.std.proofs.lemmas.Map.Lookups.{exact_unsigned}
 use Rattle.tftp_packet.specs.declared.endpoint.Endpoint.{Endpoint}
@@ -10,10 +10,10 @@ use Rattle.tws_best.proofs.Sets.{no_texts}
 use Rattle.archive_table.specs.Server.{Maps, Taken, Transfer, at_port, transfer_at}
 use Rattle.archive_client.specs.Client.{Client}
 use Rattle.archive_world.specs.World.{Datagram, Begun, Opening, Got, World, start, client_at, server_endpoint}
-use Rattle.archive_world.specs.Headline.{files_of}
+use Rattle.archive_world.specs.Headline.{IsOwn, files_of}
 use Rattle.archive_world.proofs.Places.{Has}
 use Rattle.archive_world.proofs.Keyed.{IsApart}
-use Rattle.archive_world.proofs.Claims.{HasBegun, IsStranger, IsHonest, IsBound, IsLive, IsUntaken, IsFaithful, MayBind, IsOpening, IsTaken, IsSent, IsGot}
+use Rattle.archive_world.proofs.Claims.{HasBegun, IsHonest, IsBound, IsLive, IsUntaken, IsFaithful, MayBind, IsOpening, IsTaken, IsSent, IsGot}
 
 equal_from : (r : Ordering) → is_eq r ≡ true → r ≡ Equal
 equal_from Less e = absurd cc
@@ -32,10 +32,10 @@ pub record AreBest (taken : List Taken) (maps : Maps) : Type 0 where
   pub lynx : IsCollectionOf Lynx (files_of taken) maps.lynx
   pub ms : IsCollectionOf Ms (files_of taken) maps.ms
 
--- of two files from one peer, the peer is a stranger or they are the same
+-- two files from one peer whose ports are its own are the same
 abbrev pub TakesOnce : World → Type 0
 TakesOnce w =
-    (i j : ℕ) (t u : Taken) → slice_get w.taken i ≡ Some t → slice_get w.taken j ≡ Some u → t.peer ≡ u.peer → IsStranger w t.peer ⊎ (i ≡ j)
+    (i j : ℕ) (t u : Taken) → slice_get w.taken i ≡ Some t → slice_get w.taken j ≡ Some u → t.peer ≡ u.peer → IsOwn w t.peer → i ≡ j
 
 pub record IsBegun (w : World) (b : Begun) : Type 0 where
   pub away : b.client.host ≢ server_endpoint.host
@@ -48,9 +48,9 @@ pub record Holds (w : World) : Type 0 where
   pub untaken : (port : ℕ) (t : Transfer) → transfer_at port w.server ≡ Some t → IsUntaken w port t
   pub clients : (e : Endpoint) (c : Client) → client_at e w ≡ Some c → IsFaithful w e c
   -- a client has sent a DATA or an ACK to no other port than the one that it is bound to
-  pub bound : (e : Endpoint) (c : Client) → client_at e w ≡ Some c → (port : ℕ) → IsBound w e port → MayBind c.phase port
+  pub bound : (e : Endpoint) (c : Client) → client_at e w ≡ Some c → IsOwn w e → (port : ℕ) → IsBound w e port → MayBind c.phase port
   -- a client binds to one port
-  pub one_port : (e : Endpoint) (p q : ℕ) → HasBegun w e → IsBound w e p → IsBound w e q → p ≡ q
+  pub one_port : (e : Endpoint) (p q : ℕ) → HasBegun w e → IsOwn w e → IsBound w e p → IsBound w e q → p ≡ q
   pub begun : (b : Begun) → Has w.begun b → IsBegun w b
   pub strays : (d : Datagram) → Has w.strays d → d.source.host ≢ server_endpoint.host
   pub opened : (o : Opening) → Has w.opened o → IsOpening w o

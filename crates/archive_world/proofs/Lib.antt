@@ -42,6 +42,8 @@ pub mod Lists
 pub mod OwnTest
 pub mod SampleFiles
 pub mod SamplePremises
+pub mod OwnEndpoints
+pub mod SampleReuse
 pub mod Searches
 pub mod Steps
 pub mod Firsts

@@ -1,30 +1,33 @@
 //! What holds for every run. These functions do nothing: each contract is a theorem.
 
-ghost use Rattle.std.specs.Prelude.{◌≡◌, List, [], ◌∷◌, ◌++◌, Contains, Option};
-ghost use Rattle.archive_world.specs.Samples.{request_twice, late_ack, crossed_get, unanswered, strange_put, restart_between, empty_put, empty_get, barred_strays, opened_again, summary_of, sample_opening, one_put_summary, no_file_summary, crossed_get_summary, strange_put_summary, restart_summary, empty_put_summary, empty_get_summary};
+ghost use Rattle.std.specs.Prelude.{◌≡◌, true, false, List, [], ◌∷◌, ◌++◌, Contains, Option};
+ghost use Rattle.archive_world.specs.Samples.{request_twice, late_ack, crossed_get, unanswered, strange_put, restart_between, empty_put, empty_get, barred_strays, opened_again, reused_elsewhere, begun_twice, opened_twice, strayed_there, FailsBy, sample_client, summary_of, sample_opening, one_put_summary, no_file_summary, crossed_get_summary, strange_put_summary, restart_summary, empty_put_summary, empty_get_summary};
 ghost use Rattle.tftp_packet.specs.declared.endpoint.Endpoint.{Endpoint};
 ghost use Rattle.archive_client.specs.Client.{Operation};
-ghost use Rattle.archive_world.specs.Reuse.{BeginKeepsOwn, OpeningKeepsOwn, StrayKeepsOwn};
+ghost use Rattle.archive_world.specs.Reuse.{BeginKeepsOwn, OpeningKeepsOwn, StrayKeepsOwn, IsOwnByTests};
 ghost use Rattle.archive_world.specs.World.{Begun, Datagram, Opening, to_write, World, Event, Step, happens, start, run, server_endpoint, AllMerged, asked_by, AllMayHappen};
 ghost use Rattle.archive_table.specs.Server.{Grant, Maps, Taken, empty_maps};
 ghost use Rattle.archive_table.specs.Keeper.{Keeping};
 ghost use Rattle.archive_world.specs.Restarts.{HasKept, StepStaysKept, LoadsTheSame, FailsOutside, RunKeeps, RestartsFrom};
 ghost use Rattle.archive_world.specs.Traces.{Member, trace_from, trace_steps, AllDeedsMerged};
-ghost use Rattle.archive_world.specs.Headline.{HasOwnPorts, Headline, FetchesSent, BeganBy, StraysBy};
+ghost use Rattle.archive_world.specs.Headline.{IsOwn, HasOwnPorts, HasOperation, ClientsHeadline, Headline, FetchesOwnSent, FetchesSent, BeganBy, StraysBy};
 
 /// For every list of begins, deliveries of any datagram ever sent, losses, time-outs, strangers' datagrams and
-/// restarts, whatever memory is refused and whatever is not kept: if no two operations begin at one endpoint, no pair
-/// of endpoints serves two transfers and no stranger has the endpoint of an operation, a put's file is taken at most
-/// once and unchanged, and exactly once if its client counts it as sent; each collection is the best over the files
-/// taken; and a finished get is the collection at one of its own requests. If a step takes a file, the collections
-/// after it are those that the server's contract says.
+/// restarts, whatever memory is refused and whatever is not kept: each collection is the best over the files taken. And
+/// for each client whose ports are its own, so that no other operation begins at its endpoint, no port of the server is
+/// opened for it twice and no stranger sends from there: a put's file is taken at most once and unchanged, and exactly
+/// once if its client counts it as sent; and a finished get is the collection at one of its own requests. If a step
+/// takes a file, the collections after it are those that the server's contract says.
 pub fn network_law()
+    ensures clients { (steps : List Step) → AllMerged steps start → ClientsHeadline (run steps) }
+    // So if no port is reused, all of this holds of every client.
     ensures headline { (steps : List Step) → HasOwnPorts (run steps) → AllMerged steps start → Headline (run steps) }
     // Every operation that has begun is that of an event, with the number of files that were taken before that event.
     ensures began { (steps : List Step) (b : Begun) → Contains (run steps).begun b → BeganBy steps b }
     // The strays are those of the events.
     ensures strays { (steps : List Step) (d : Datagram) → Contains (run steps).strays d → StraysBy steps d }
     // So a put that was counted as sent before a get began is in what that get has fetched.
+    ensures since_own { (before after : List Step) (s : Step) → AllMerged (before ++ s ∷ after) start → FetchesOwnSent before after s }
     ensures since { (before after : List Step) (s : Step) → HasOwnPorts (run (before ++ s ∷ after)) → AllMerged (before ++ s ∷ after) start → FetchesSent before after s }
     // For all events and grants there are collections as the server's contract says, and the world after them is
     // unique.
@@ -40,9 +43,10 @@ pub fn server_values()
 
 /// For every trace, which names the datagrams that arrive: if each event that it makes may happen, so that each
 /// datagram that it names was sent before or is a stranger's, the run of these events, with what the trace was granted,
-/// does exactly the trace's deeds. So the headline holds for every such trace in which no port is reused.
+/// does exactly the trace's deeds. So the headline holds for every client of such a trace whose ports are its own.
 pub fn trace_law()
     ensures run { (members : List Member) → AllMayHappen (trace_steps members start) start → run (trace_steps members start) ≡ trace_from members start }
+    ensures clients { (members : List Member) → AllMayHappen (trace_steps members start) start → AllDeedsMerged members start → ClientsHeadline (trace_from members start) }
     ensures headline { (members : List Member) → AllMayHappen (trace_steps members start) start → HasOwnPorts (trace_from members start) → AllDeedsMerged members start → Headline (trace_from members start) }
 {}
 
@@ -66,6 +70,13 @@ pub fn sample_runs()
     ensures premises { HasOwnPorts (run empty_put) × AllMerged empty_put start }
     // A second opening for one peer at one port, as a restart allows, reuses the port.
     ensures opened_again { HasOwnPorts (run opened_again) → ⊥ }
+    // Another client that reuses its endpoint changes nothing for this one.
+    ensures reused_elsewhere { summary_of (run reused_elsewhere) ≡ one_put_summary 6 (sample_opening 1 4000 to_write 0 ∷ []) }
+    ensures reused_premises { (HasOwnPorts (run reused_elsewhere) → ⊥) × IsOwn (run reused_elsewhere) (sample_client 1) × AllMerged reused_elsewhere start }
+    // In each of these runs one part of own ports alone is missing, and the headline of the client fails.
+    ensures begun_twice { FailsBy begun_twice (record { once = false; apart = true; unstrayed = true }) }
+    ensures opened_twice { FailsBy opened_twice (record { once = true; apart = false; unstrayed = true }) }
+    ensures strayed_there { FailsBy strayed_there (record { once = true; apart = true; unstrayed = false }) }
 {}
 
 /// The tests for the reuse of a port: a begin reuses none if neither an operation nor a stranger has been at its
@@ -77,6 +88,12 @@ pub fn own_ports()
     ensures stray { (w : World) → HasOwnPorts w → (d : Datagram) → StrayKeepsOwn w d }
     // Once a port was reused, it stays reused.
     ensures before { (w : World) (s : Step) → HasOwnPorts (happens s w) → HasOwnPorts w }
+    // The ports of one endpoint are its own exactly if the tests say so. They are so at the start; once they are not,
+    // they stay so; and if no port is reused, those of each endpoint with an operation are its own.
+    ensures tests { (w : World) (e : Endpoint) → IsOwnByTests w e }
+    ensures own_start { (e : Endpoint) → IsOwn start e }
+    ensures own_before { (w : World) (s : Step) (e : Endpoint) → IsOwn (happens s w) e → IsOwn w e }
+    ensures each { (w : World) → HasOwnPorts w → (e : Endpoint) → HasOperation w.begun e → IsOwn w e }
 {}
 
 /// After each step a keeper has what the server has, and that is what a table loads from it: so a restart does not
