@@ -44,6 +44,7 @@ pub mod SampleFiles
 pub mod SamplePremises
 pub mod OwnEndpoints
 pub mod SampleReuse
+pub mod Enduring
 pub mod Searches
 pub mod Steps
 pub mod Firsts

@@ -9,3 +9,4 @@ pub mod View
 pub mod Inside
 pub mod Replays
 pub mod Exits
+pub mod Durable

@@ -9,6 +9,7 @@ ghost use Rattle.archive_world.specs.World.{Begun, Datagram, Opening, to_write, 
 ghost use Rattle.archive_table.specs.Server.{Grant, Maps, Taken, empty_maps};
 ghost use Rattle.archive_table.specs.Keeper.{Keeping};
 ghost use Rattle.archive_world.specs.Restarts.{HasKept, StepStaysKept, LoadsTheSame, FailsOutside, RunKeeps, RestartsFrom};
+ghost use Rattle.archive_world.specs.Durable.{AreNoWorse, LoadsPromised, CutsShort};
 ghost use Rattle.archive_world.specs.Traces.{Member, trace_from, trace_steps, AllDeedsMerged};
 ghost use Rattle.archive_world.specs.Headline.{IsOwn, HasOwnPorts, HasOperation, ClientsHeadline, Headline, FetchesOwnSent, FetchesSent, BeganBy, StraysBy};
 
@@ -29,6 +30,8 @@ pub fn network_law()
     // So a put that was counted as sent before a get began is in what that get has fetched.
     ensures since_own { (before after : List Step) (s : Step) → AllMerged (before ++ s ∷ after) start → FetchesOwnSent before after s }
     ensures since { (before after : List Step) (s : Step) → HasOwnPorts (run (before ++ s ∷ after)) → AllMerged (before ++ s ∷ after) start → FetchesSent before after s }
+    // The collections never get worse: later, at each key, they have a body, and none of higher rank.
+    ensures no_worse { (before after : List Step) → AllMerged (before ++ after) start → AreNoWorse (run before).server.maps (run (before ++ after)).server.maps }
     // For all events and grants there are collections as the server's contract says, and the world after them is
     // unique.
     ensures total { (asked : List (Event × Grant)) → (steps : List Step) × (asked_by steps ≡ asked) × AllMerged steps start }
@@ -108,6 +111,9 @@ pub fn restart_law()
     // For every run, from a keeper that holds nothing. The beginning of a run is a run, so this holds at each restart.
     ensures run { (steps : List Step) (log : List Keeping) → AllMerged steps start → RunKeeps steps start [] log → HasKept log (run steps).server.maps × RestartsFrom log (run steps) }
     ensures fails { (steps : List Step) (log : List Keeping) → AllMerged steps start → RunKeeps steps start [] log → FailsOutside log }
+    // So what a load gives holds all that was promised by then, and also if the step that comes next is cut short.
+    ensures promised { (steps : List Step) (log : List Keeping) → AllMerged steps start → RunKeeps steps start [] log → LoadsPromised steps log }
+    ensures cut { (steps : List Step) (s : Step) (log kept : List Keeping) → AllMerged (steps ++ s ∷ []) start → RunKeeps steps start [] log → CutsShort steps s log kept → LoadsPromised steps kept }
     // Every run with merged collections has such a list.
     ensures list { (steps : List Step) → AllMerged steps start → (log : List Keeping) × RunKeeps steps start [] log }
 {}

@@ -3,7 +3,7 @@
 //! holds.
 //!
 //! Read `specs/World.antt` first: what a world is, and what each event does to it. `specs/Headline.antt` has the
-//! premise on ports and what holds for every run. `Traces` has runs as their ends tell them, `Reuse` the tests for the reuse of a port, `Restarts` why a
+//! premise on ports and what holds for every run. `Durable` has what is never lost, `Traces` runs as their ends tell them, `Reuse` the tests for the reuse of a port, `Restarts` why a
 //! restart does not change the collections, `Outcomes` the outcome of a run, `Replays` what a replay of events
 //! guarantees, and `Samples` some runs. docs/CALLING.md shows how `replay` is called.
 #![tactic(auto)]
