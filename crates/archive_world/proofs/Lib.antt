@@ -45,6 +45,8 @@ pub mod SamplePremises
 pub mod OwnEndpoints
 pub mod SampleReuse
 pub mod Enduring
+pub mod Effects
+pub mod RealTime
 pub mod Searches
 pub mod Steps
 pub mod Firsts

@@ -10,3 +10,4 @@ pub mod Inside
 pub mod Replays
 pub mod Exits
 pub mod Durable
+pub mod Effects

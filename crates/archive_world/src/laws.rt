@@ -5,10 +5,11 @@ ghost use Rattle.archive_world.specs.Samples.{request_twice, late_ack, crossed_g
 ghost use Rattle.tftp_packet.specs.declared.endpoint.Endpoint.{Endpoint};
 ghost use Rattle.archive_client.specs.Client.{Operation};
 ghost use Rattle.archive_world.specs.Reuse.{BeginKeepsOwn, OpeningKeepsOwn, StrayKeepsOwn, IsOwnByTests};
-ghost use Rattle.archive_world.specs.World.{Begun, Datagram, Opening, to_write, World, Event, Step, happens, start, run, server_endpoint, AllMerged, asked_by, AllMayHappen};
+ghost use Rattle.archive_world.specs.World.{Begun, Datagram, Got, Opening, to_write, World, Event, Step, happens, start, run, server_endpoint, AllMerged, asked_by, AllMayHappen};
 ghost use Rattle.archive_table.specs.Server.{Grant, Maps, Taken, empty_maps};
 ghost use Rattle.archive_table.specs.Keeper.{Keeping};
 ghost use Rattle.archive_world.specs.Restarts.{HasKept, StepStaysKept, LoadsTheSame, FailsOutside, RunKeeps, RestartsFrom};
+ghost use Rattle.archive_world.specs.Effects.{TakesEffect, ReadsAtOnce, FetchesNoLess, FetchesNone};
 ghost use Rattle.archive_world.specs.Durable.{AreNoWorse, LoadsPromised, CutsShort};
 ghost use Rattle.archive_world.specs.Traces.{Member, trace_from, trace_steps, AllDeedsMerged};
 ghost use Rattle.archive_world.specs.Headline.{IsOwn, HasOwnPorts, HasOperation, ClientsHeadline, Headline, FetchesOwnSent, FetchesSent, BeganBy, StraysBy};
@@ -36,6 +37,18 @@ pub fn network_law()
     // unique.
     ensures total { (asked : List (Event × Grant)) → (steps : List Step) × (asked_by steps ≡ asked) × AllMerged steps start }
     ensures one { (first second : List Step) → asked_by first ≡ asked_by second → AllMerged first start → AllMerged second start → run first ≡ run second }
+{}
+
+/// The operations of the clients whose ports are their own are in one order, whatever others do: each put that is counted
+/// as sent takes effect at one step of the run, which takes its file, and each get that has fetched at one step, at which
+/// what it fetched is the server's collection; and that step comes after the begin of the operation and, as each beginning
+/// of a run is a run, before its end. So with what ends before something else begins: what was sent is fetched
+/// (`network_law`, `since_own`), a later get has fetched no less, and an earlier one has nothing of a later put.
+pub fn effects_law()
+    ensures puts { (steps : List Step) → AllMerged steps start → (e : Endpoint) → IsOwn (run steps) e → Contains (run steps).sent e → TakesEffect steps e }
+    ensures gets { (steps : List Step) → AllMerged steps start → (g : Got) → IsOwn (run steps) g.client → Contains (run steps).got g → ReadsAtOnce steps g }
+    ensures no_less { (before after : List Step) (s : Step) → AllMerged (before ++ s ∷ after) start → FetchesNoLess before after s }
+    ensures none { (before after : List Step) (s : Step) → AllMerged (before ++ s ∷ after) start → FetchesNone before after s }
 {}
 
 /// The values of the server's host and its request port, which the definitions refer to by name.

@@ -3,7 +3,8 @@
 //! holds.
 //!
 //! Read `specs/World.antt` first: what a world is, and what each event does to it. `specs/Headline.antt` has the
-//! premise on ports and what holds for every run. `Durable` has what is never lost, `Traces` runs as their ends tell them, `Reuse` the tests for the reuse of a port, `Restarts` why a
+//! premise on ports and what holds for every run. `Effects` has the order in which operations take effect, `Durable`
+//! what is never lost, `Traces` runs as their ends tell them, `Reuse` the tests for the reuse of a port, `Restarts` why a
 //! restart does not change the collections, `Outcomes` the outcome of a run, `Replays` what a replay of events
 //! guarantees, and `Samples` some runs. docs/CALLING.md shows how `replay` is called.
 #![tactic(auto)]
@@ -36,7 +37,7 @@ pub use datagram::Datagram;
 pub use event::Event;
 pub use got_file::GotFile;
 pub use laws::{
-    network_law, own_ports, restart_law, sample_runs, server_values, trace_law,
+    effects_law, network_law, own_ports, restart_law, sample_runs, server_values, trace_law,
 };
 pub use op::Op;
 pub use op_kind::OpKind;
