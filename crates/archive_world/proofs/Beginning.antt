@@ -149,8 +149,8 @@ module _ (w : World) (h : Holds w) (e : Endpoint) (operation : Operation) (away 
             (Has-push w.begun began b has);
         strays = h.strays;
         opened = λ o has. opening-lasts w after grows o (h.opened o has);
-        taken = λ t has. is_taken-lasts w after grows t (h.taken t has);
-        once = λ i j t u at_i at_j same own. h.once i j t u at_i at_j same (own_then t.peer own);
+        taken = λ t has other. is_taken-lasts w after grows t (h.taken t has other);
+        once = λ i j t u at_i at_j same other own. h.once i j t u at_i at_j same other (own_then t.peer own);
         sent = λ x has. sent-lasts w after grows x (h.sent x has);
         got = λ g has. got-lasts w after grows g (h.got g has);
         best = h.best;

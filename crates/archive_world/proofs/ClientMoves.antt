@@ -161,7 +161,7 @@ module _ (w : World) (h : Holds w) (e : Endpoint) (was next : Client) (out : Opt
 
   untaken_new : (port : ℕ) (t : Transfer) → transfer_at port w.server ≡ Some t → IsRunning t.end → IsOwn w t.peer → (u : Taken) → Has w.taken u → u.peer ≡ t.peer → NewBound t.peer port → ⊥
   untaken_new port t is running own u has same new =
-      let from = h.taken u has in
+      let from = h.taken u has (λ ours. (h.live port t is).away (ap (λ (x : Endpoint). x.host) (sym same) ∙ ours)) in
       let bound = (from.whose (subst (IsOwn w) (sym same) own)).bound in
       let there : IsBound w t.peer from.port = subst (λ (x : Endpoint). IsBound w x from.port) same bound in
       let one = agrees t.peer own from.port port there new in
@@ -185,7 +185,7 @@ module _ (w : World) (h : Holds w) (e : Endpoint) (was next : Client) (out : Opt
         begun = λ b has. record { away = (h.begun b has).away; counted = (h.begun b has).counted };
         strays = h.strays;
         opened = λ o has. opening-lasts w after grows o (h.opened o has);
-        taken = λ t has. is_taken-lasts w after grows t (h.taken t has);
+        taken = λ t has other. is_taken-lasts w after grows t (h.taken t has other);
         once = h.once;
         sent = λ x has. sent-lasts w after grows x (⊎_elim (h.sent x) (λ now. now) (a.sents x has));
         got = λ g has. got-lasts w after grows g (⊎_elim (h.got g) (λ now. now) (a.gots g has));

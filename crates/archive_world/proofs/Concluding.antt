@@ -1,15 +1,17 @@
 -- The headline of each client follows from the invariant, and with it the headline if no port is reused.
-use Rattle.std.proofs.Common.{◌≡◌, ◌⊎◌, ℕ, List, Contains, Some, slice_get, refl, sym, ◌∙◌, subst, inl, inr}
+use Rattle.std.proofs.Common.{◌≡◌, ◌≢◌, ◌⊎◌, ℕ, List, [], Contains, Some, slice_get, refl, ap, sym, ◌∙◌, subst, inl, inr}
 use Rattle.tftp_packet.specs.declared.endpoint.Endpoint.{Endpoint}
-use Rattle.archive_table.specs.Server.{Taken}
+use Rattle.archive_table.specs.Server.{Maps, Taken, empty_maps}
 use Rattle.archive_client.specs.Client.{put}
-use Rattle.archive_world.specs.World.{Begun, to_write, Got, World, Step, start, run, AllMerged}
-use Rattle.archive_world.specs.Headline.{IsOwn, HasOwnPorts, HasOperation, IsStrayFrom, TakenOnce, SentOnce, IsFinishedGet, ClientHeadline, ClientsHeadline, Headline}
+use Rattle.archive_world.specs.World.{Begun, to_write, Got, World, Step, server_endpoint, start_from, start, run_from, run, AllMerged}
+use Rattle.archive_world.specs.Headline.{IsOwn, HasOwnPorts, HasOperation, AreOver, IsStrayFrom, TakenOnce, SentOnce, IsFinishedGet, ClientHeadline, ClientsHeadline, Headline}
 use Rattle.archive_world.proofs.Places.{Has-contains, Has-from_contains}
 use Rattle.archive_world.proofs.Claims.{HasBegun, HasPut, IsStranger, IsAskedBy, IsTaken, IsSent, IsGot}
 use Rattle.archive_world.proofs.Owning.{own-each, put_begun, get_begun}
-use Rattle.archive_world.proofs.Invariant.{Holds}
-use Rattle.archive_world.proofs.Happening.{run-holds}
+use Rattle.archive_world.proofs.ServerMoves.{begun_away}
+use Rattle.archive_world.proofs.Invariant.{Holds, none-over, start_from-holds}
+use Rattle.archive_world.proofs.Happening.{run_from-holds}
+use Rattle.archive_world.proofs.Strangers.{AreFromOthers, run-from_others}
 
 module _ (w : World) (h : Holds w) where
   begun_there : (e : Endpoint) → HasBegun w e → HasOperation w.begun e
@@ -26,7 +28,13 @@ module _ (w : World) (h : Holds w) where
 
   -- ---- a client whose ports are its own
 
-  module _ (e : Endpoint) (own : IsOwn w e) where
+  module _ (e : Endpoint) (operation : HasOperation w.begun e) (own : IsOwn w e) where
+    -- it is not on the server's host
+    away : (x : Endpoint) → x ≡ e → x.host ≢ server_endpoint.host
+    away x same =
+        let begun : HasBegun w e = record { begun = operation.0; among = Has-from_contains w.begun operation.0 operation.1; client = operation.2 } in
+        λ ours. begun_away w h e begun (ap (λ (y : Endpoint). y.host) (sym same) ∙ ours)
+
     abbrev PutBy : List ℕ → Type 0
     PutBy file = (b : Begun) × Contains w.begun b × (b.client ≡ e) × (b.operation ≡ put file)
 
@@ -40,7 +48,7 @@ module _ (w : World) (h : Holds w) where
 
     once : (i j : ℕ) (t u : Taken) → slice_get w.taken i ≡ Some t → slice_get w.taken j ≡ Some u → t.peer ≡ e → u.peer ≡ e → i ≡ j
     once i j t u at_i at_j first second =
-        h.once i j t u at_i at_j (first ∙ sym second) (subst (IsOwn w) (sym first) own)
+        h.once i j t u at_i at_j (first ∙ sym second) (away t.peer first) (subst (IsOwn w) (sym first) own)
 
     sent_once : IsSent w e → SentOnce w.begun w.taken e
     sent_once s =
@@ -74,7 +82,7 @@ module _ (w : World) (h : Holds w) where
     client : ClientHeadline w e
     client =
         record {
-          unchanged = λ t among same. unchanged t (h.taken t (Has-from_contains w.taken t among)) same;
+          unchanged = λ t among same. unchanged t (h.taken t (Has-from_contains w.taken t among) (away t.peer same)) same;
           once = once;
           sent = λ among. sent_once (h.sent e (Has-from_contains w.sent e among));
           got = λ g among same. finished g (h.got g (Has-from_contains w.got g among)) same;
@@ -83,7 +91,7 @@ module _ (w : World) (h : Holds w) where
   pub clients : ClientsHeadline w
   clients =
       record {
-        taken = λ t among. taken_known t (h.taken t (Has-from_contains w.taken t among));
+        taken = λ t among other. taken_known t (h.taken t (Has-from_contains w.taken t among) other);
         sent = λ e among. let s = h.sent e (Has-from_contains w.sent e among) in begun_there e (put_begun w e s.file s.began);
         got = λ g among.
             let is = h.got g (Has-from_contains w.got g among) in
@@ -93,16 +101,16 @@ module _ (w : World) (h : Holds w) where
         client = client;
       }
 
--- ---- if no port is reused
+-- ---- if no port is reused, and the server had nothing at first
 
-module _ (w : World) (all : ClientsHeadline w) (own : HasOwnPorts w) where
+module _ (w : World) (all : ClientsHeadline w) (others : AreFromOthers w.taken) (own : HasOwnPorts w) where
   each : (e : Endpoint) → HasOperation w.begun e → ClientHeadline w e
-  each e operation = all.client e (own-each w own e operation)
+  each e operation = all.client e operation (own-each w own e operation)
 
   taken_once : TakenOnce w.begun w.taken w.strays
   taken_once =
       record {
-        known = all.taken;
+        known = λ t among. all.taken t among (others t (Has-from_contains w.taken t among));
         unchanged = λ t among operation. (each t.peer operation).unchanged t among refl;
         once = λ i j t u at_i at_j operation same. (each t.peer operation).once i j t u at_i at_j refl (sym same);
       }
@@ -117,8 +125,13 @@ module _ (w : World) (all : ClientsHeadline w) (own : HasOwnPorts w) where
         got = λ g among. (each g.client (all.got g among)).got g among refl;
       }
 
+pub run_from-clients : (texts : List (List ℕ)) (maps : Maps) → AreOver texts maps → (steps : List Step) → AllMerged steps (start_from texts maps) → ClientsHeadline (run_from steps (start_from texts maps))
+run_from-clients texts maps over steps merged =
+    let w = start_from texts maps in
+    clients (run_from steps w) (run_from-holds steps w (start_from-holds texts maps over) merged)
+
 pub run-clients : (steps : List Step) → AllMerged steps start → ClientsHeadline (run steps)
-run-clients steps merged = clients (run steps) (run-holds steps merged)
+run-clients steps merged = run_from-clients [] empty_maps none-over steps merged
 
 pub run-headline : (steps : List Step) → HasOwnPorts (run steps) → AllMerged steps start → Headline (run steps)
-run-headline steps own merged = headline (run steps) (run-clients steps merged) own
+run-headline steps own merged = headline (run steps) (run-clients steps merged) (run-from_others steps merged) own

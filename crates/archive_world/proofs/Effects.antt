@@ -1,21 +1,22 @@
 -- The step at which an operation takes effect.
-use Rattle.std.proofs.Common.{◌≡◌, ◌⊎◌, ℕ, ◌<◌, ◌≤◌, Bool, true, false, ◌==◌, List, [], ◌∷◌, ◌++◌, length, take, slice_get, Contains, Option, None, Some, refl, ap, sym, ◌∙◌, subst, inl, inr, ⊎_elim, arith, length-append, le_refl, take_all}
+use Rattle.std.proofs.Common.{◌≡◌, ◌≢◌, ◌⊎◌, ℕ, ◌<◌, ◌≤◌, Bool, true, false, ◌==◌, List, [], ◌∷◌, ◌++◌, length, take, slice_get, Contains, Option, None, Some, refl, ap, sym, ◌∙◌, subst, inl, inr, ⊎_elim, arith, length-append, le_refl, take_all}
 use Rattle.tftp_packet.specs.declared.endpoint.Endpoint.{Endpoint}
 use Rattle.tws_file.specs.declared.«ruleset».Ruleset.{Ruleset}
 use Rattle.tws_best.specs.Best.{collection_text}
 use Rattle.archive_table.specs.Server.{Maps, Taken, Transfer, Grant, memory_of, transfer_at, server_request, IsMerged, map_of}
 use Rattle.archive_client.specs.Client.{Operation, put, get, Client, is_too_long}
-use Rattle.archive_world.specs.World.{Datagram, Begun, Opening, to_read, Event, begin, deliver, client_times_out, server_times_out, stray, restart, Got, World, Step, server_endpoint, client_at, has_begun, opened_with, asked_of, begins_unless, request_comes, server_hears, client_hears, arrives, delivers, client_waits, strays_unless, event_happens, happens, run_from, run, start, HasMerged, AllMerged}
-use Rattle.archive_world.specs.Headline.{IsOwn, IsBestOver, files_of}
+use Rattle.archive_world.specs.World.{Datagram, Begun, Opening, to_read, Event, begin, deliver, client_times_out, server_times_out, stray, restart, Got, World, Step, server_endpoint, client_at, has_begun, opened_with, asked_of, begins_unless, request_comes, server_hears, client_hears, arrives, delivers, client_waits, strays_unless, event_happens, happens, start_from, run_from, HasMerged, AllMerged}
+use Rattle.archive_world.specs.Headline.{IsOwn, AreOver, IsBestOver, files_of}
 use Rattle.archive_world.specs.Effects.{HasBegunWith, PutsAt, GetsAt, TakesEffect, ReadsAtOnce, IsFetchedOver, FetchesNoLess, FetchesNone}
 use Rattle.archive_world.proofs.Places.{Has, Extends, Has-last, Has-extends, Has-contains, Has-from_contains, OldOrLast, at-push, at-last, at-extends, before_last, take-extends}
 use Rattle.archive_world.proofs.Claims.{GrowsTo, HasPut, HasGet, IsStranger, IsAskedBy}
-use Rattle.archive_world.proofs.Owning.{own-before, no_stranger, one_text, put_begun, get_begun}
-use Rattle.archive_world.proofs.Invariant.{Holds}
+use Rattle.archive_world.proofs.Owning.{own-before, no_stranger, one_text, put_begun}
+use Rattle.archive_world.proofs.ServerMoves.{begun_away}
+use Rattle.archive_world.proofs.Invariant.{Holds, given-at, start_from-holds}
 use Rattle.archive_world.proofs.Remaining.{step-takes, begins_remain}
 use Rattle.archive_world.proofs.Growing.{step-grows, run-grows}
 use Rattle.archive_world.proofs.Counting.{event_now}
-use Rattle.archive_world.proofs.Happening.{run-append, merged-first, merged-rest, step-holds, run-holds}
+use Rattle.archive_world.proofs.Happening.{run-append, merged-first, merged-rest, step-holds, run_from-holds}
 use Rattle.archive_world.proofs.Enduring.{best_at}
 use Rattle.archive_world.proofs.Totality.{not_more}
 
@@ -175,50 +176,50 @@ module _ (w : World) (s : Step) (b : Begun) (has : Has (happens s w).begun b) wh
 
 -- ---- a run that is split
 
-module _ (steps : List Step) (merged : AllMerged steps start) (before : List Step) (step : Step) (after : List Step) (split : steps ≡ before ++ step ∷ after) where
+module _ (w : World) (h : Holds w) (steps : List Step) (merged : AllMerged steps w) (before : List Step) (step : Step) (after : List Step) (split : steps ≡ before ++ step ∷ after) where
   abbrev first : World
-  first = run before
+  first = run_from before w
 
   abbrev next : World
   next = happens step first
 
-  parts_merged : AllMerged (before ++ step ∷ after) start
-  parts_merged = subst (λ (l : List Step). AllMerged l start) split merged
+  parts_merged : AllMerged (before ++ step ∷ after) w
+  parts_merged = subst (λ (l : List Step). AllMerged l w) split merged
 
   first_holds : Holds first
-  first_holds = run-holds before (merged-first before (step ∷ after) start parts_merged)
+  first_holds = run_from-holds before w h (merged-first before (step ∷ after) w parts_merged)
 
   step_merged : HasMerged step first
-  step_merged = (merged-rest before (step ∷ after) start parts_merged).0
+  step_merged = (merged-rest before (step ∷ after) w parts_merged).0
 
   next_holds : Holds next
   next_holds = step-holds first step first_holds step_merged
 
-  end_is : run steps ≡ run_from after next
-  end_is = ap run split ∙ run-append before (step ∷ after) start
+  end_is : run_from steps w ≡ run_from after next
+  end_is = ap (λ (l : List Step). run_from l w) split ∙ run-append before (step ∷ after) w
 
-  next_grows : GrowsTo next (run steps)
+  next_grows : GrowsTo next (run_from steps w)
   next_grows = subst (GrowsTo next) (sym end_is) (run-grows after next)
 
-  first_grows : GrowsTo first (run steps)
+  first_grows : GrowsTo first (run_from steps w)
   first_grows = subst (GrowsTo first) (sym end_is) (run-grows (step ∷ after) first)
 
   -- ---- a put
 
-  module _ (e : Endpoint) (own : IsOwn (run steps) e) where
+  module _ (e : Endpoint) (own : IsOwn (run_from steps w) e) where
     own_next : IsOwn next e
-    own_next = own-before next (run steps) next_grows e own
+    own_next = own-before next (run_from steps w) next_grows e own
 
     own_first : IsOwn first e
-    own_first = own-before first (run steps) first_grows e own
+    own_first = own-before first (run_from steps w) first_grows e own
 
-    module _ (file : List ℕ) (takes : next.taken ≡ first.taken ++ record { peer = e; file = file } ∷ []) where
+    module _ (away : e.host ≢ server_endpoint.host) (file : List ℕ) (takes : next.taken ≡ first.taken ++ record { peer = e; file = file } ∷ []) where
       last_taken : slice_get next.taken (length first.taken) ≡ Some (record { peer = e; file = file })
       last_taken = ap (λ (ts : List Taken). slice_get ts (length first.taken)) takes ∙ at-last first.taken _
 
       put_began : HasBegunWith first e (put file)
       put_began =
-          let from = (next_holds.taken _ (record { place = length first.taken; is = last_taken })).whose own_next in
+          let from = (next_holds.taken _ (record { place = length first.taken; is = last_taken }) away).whose own_next in
           let has = begun_if_taken first step _ from.began.among _ takes in
           (record { client = e; operation = put file; taken = from.began.count }, Has-contains first.begun _ has, refl, refl)
 
@@ -227,7 +228,7 @@ module _ (steps : List Step) (merged : AllMerged steps start) (before : List Ste
           let there = ((first_holds.sent e (Has-from_contains first.sent e among)).is_taken own_first).among in
           let early : there.place < length first.taken = before_last first.taken there.place _ there.is in
           let still = at-extends first.taken next.taken (step-grows first step).taken there.place _ there.is in
-          let same : there.place ≡ length first.taken = next_holds.once there.place (length first.taken) _ _ still last_taken refl own_next in
+          let same : there.place ≡ length first.taken = next_holds.once there.place (length first.taken) _ _ still last_taken refl away own_next in
           omega arith
 
       puts_at : PutsAt first step e file
@@ -241,7 +242,7 @@ module _ (steps : List Step) (merged : AllMerged steps start) (before : List Ste
 
   -- ---- a get
 
-  module _ (e : Endpoint) (own : IsOwn (run steps) e) (kind : Ruleset) (port count : ℕ) (opens : next.opened ≡ first.opened ++ record { peer = e; port = port; asked = to_read kind; taken = count } ∷ []) (counted : count ≡ length first.taken) where
+  module _ (e : Endpoint) (own : IsOwn (run_from steps w) e) (kind : Ruleset) (port count : ℕ) (opens : next.opened ≡ first.opened ++ record { peer = e; port = port; asked = to_read kind; taken = count } ∷ []) (counted : count ≡ length first.taken) where
     abbrev opening : Opening
     opening = record { peer = e; port = port; asked = to_read kind; taken = count }
 
@@ -254,13 +255,13 @@ module _ (steps : List Step) (merged : AllMerged steps start) (before : List Ste
     opened_last : Has next.opened opening
     opened_last = subst (λ (os : List Opening). Has os opening) (sym opens) (Has-last first.opened opening)
 
-    text_then : (file : List ℕ) → IsBestOver kind (files_of (take count (run steps).taken)) file → file ≡ collection_text (map_of kind first.server.maps)
+    text_then : (file : List ℕ) → IsBestOver kind (files_of (take count (run_from steps w).taken)) file → file ≡ collection_text (map_of kind first.server.maps)
     text_then file best =
-        let prefix : take count (run steps).taken ≡ first.taken = ap (λ (n : ℕ). take n (run steps).taken) counted ∙ take-extends first.taken (run steps).taken (length first.taken) first_grows.taken (le_refl (length first.taken)) ∙ take_all (length first.taken) first.taken (le_refl (length first.taken)) in
+        let prefix : take count (run_from steps w).taken ≡ first.taken = ap (λ (n : ℕ). take n (run_from steps w).taken) counted ∙ take-extends first.taken (run_from steps w).taken (length first.taken) first_grows.taken (le_refl (length first.taken)) ∙ take_all (length first.taken) first.taken (le_refl (length first.taken)) in
         let over = subst (λ (ts : List Taken). IsBestOver kind (files_of ts) file) prefix best in
         one_text kind (files_of first.taken) file (collection_text (map_of kind first.server.maps)) over (map_of kind first.server.maps, best_at first.taken first.server.maps kind first_holds.best, refl)
 
-    gets_at : (file : List ℕ) → IsBestOver kind (files_of (take count (run steps).taken)) file → GetsAt first step e kind file
+    gets_at : (file : List ℕ) → IsBestOver kind (files_of (take count (run_from steps w).taken)) file → GetsAt first step e kind file
     gets_at file best =
         record {
           began = asked_by (next_holds.opened opening opened_last).whose;
@@ -271,26 +272,39 @@ module _ (steps : List Step) (merged : AllMerged steps start) (before : List Ste
 
 -- ---- the operations of a run
 
-module _ (steps : List Step) (merged : AllMerged steps start) where
-  put_split : (e : Endpoint) → IsOwn (run steps) e → (place : ℕ) (file : List ℕ) → (slice_get start.taken place ≡ Some (record { peer = e; file = file })) ⊎ TakesIn steps start place (record { peer = e; file = file }) → TakesEffect steps e
-  put_split e own place file (inl old) = absurd cc
-  put_split e own place file (inr k) =
+module _ (texts : List (List ℕ)) (maps : Maps) (over : AreOver texts maps) (steps : List Step) (merged : AllMerged steps (start_from texts maps)) where
+  abbrev first_world : World
+  first_world = start_from texts maps
+
+  abbrev last_world : World
+  last_world = run_from steps first_world
+
+  at_first : Holds first_world
+  at_first = start_from-holds texts maps over
+
+  at_last : Holds last_world
+  at_last = run_from-holds steps first_world at_first merged
+
+  put_split : (e : Endpoint) → IsOwn last_world e → e.host ≢ server_endpoint.host → (place : ℕ) (file : List ℕ) → (slice_get first_world.taken place ≡ Some (record { peer = e; file = file })) ⊎ TakesIn steps first_world place (record { peer = e; file = file }) → TakesEffect first_world steps e
+  put_split e own away place file (inl old) = absurd (away (given-at texts place _ old))
+  put_split e own away place file (inr k) =
       record {
         file = file;
         before = k.before;
         step = k.step;
         after = k.after;
         split = k.split;
-        at = puts_at steps merged k.before k.step k.after k.split e own file k.takes;
+        at = puts_at first_world at_first steps merged k.before k.step k.after k.split e own away file k.takes;
       }
 
-  pub puts-at : (e : Endpoint) → IsOwn (run steps) e → Contains (run steps).sent e → TakesEffect steps e
+  pub puts-at : (e : Endpoint) → IsOwn last_world e → Contains last_world.sent e → TakesEffect first_world steps e
   puts-at e own among =
-      let s = (run-holds steps merged).sent e (Has-from_contains (run steps).sent e among) in
+      let s = at_last.sent e (Has-from_contains last_world.sent e among) in
       let there = (s.is_taken own).among in
-      put_split e own there.place s.file (taken_in steps start there.place _ there.is)
+      let away = begun_away last_world at_last e (put_begun last_world e s.file s.began) in
+      put_split e own away there.place s.file (taken_in steps first_world there.place _ there.is)
 
-  get_split : (g : Got) → IsOwn (run steps) g.client → (kind : Ruleset) (port count : ℕ) → IsBestOver kind (files_of (take count (run steps).taken)) g.file → Has start.opened (record { peer = g.client; port = port; asked = to_read kind; taken = count }) ⊎ OpensIn steps start (record { peer = g.client; port = port; asked = to_read kind; taken = count }) → ReadsAtOnce steps g
+  get_split : (g : Got) → IsOwn last_world g.client → (kind : Ruleset) (port count : ℕ) → IsBestOver kind (files_of (take count last_world.taken)) g.file → Has first_world.opened (record { peer = g.client; port = port; asked = to_read kind; taken = count }) ⊎ OpensIn steps first_world (record { peer = g.client; port = port; asked = to_read kind; taken = count }) → ReadsAtOnce first_world steps g
   get_split g own kind port count best (inl old) = let is = old.is in absurd cc
   get_split g own kind port count best (inr k) =
       record {
@@ -299,11 +313,11 @@ module _ (steps : List Step) (merged : AllMerged steps start) where
         step = k.step;
         after = k.after;
         split = k.split;
-        at = gets_at steps merged k.before k.step k.after k.split g.client own kind port count k.opens k.counted g.file best;
+        at = gets_at first_world at_first steps merged k.before k.step k.after k.split g.client own kind port count k.opens k.counted g.file best;
       }
 
-  pub gets-at : (g : Got) → IsOwn (run steps) g.client → Contains (run steps).got g → ReadsAtOnce steps g
+  pub gets-at : (g : Got) → IsOwn last_world g.client → Contains last_world.got g → ReadsAtOnce first_world steps g
   gets-at g own among =
-      let is = (run-holds steps merged).got g (Has-from_contains (run steps).got g among) in
+      let is = at_last.got g (Has-from_contains last_world.got g among) in
       let f = is.whose own in
-      get_split g own is.kind f.port f.serves.count f.serves.is_text.best (opened_in steps start _ f.serves.opened.among)
+      get_split g own is.kind f.port f.serves.count f.serves.is_text.best (opened_in steps first_world _ f.serves.opened.among)

@@ -16,19 +16,19 @@ use Rattle.tws_best.proofs.Texts.{file_from, is_text, file_solves, file_rules}
 use Rattle.archive_table.specs.Server.{Maps, Taken, map_of}
 use Rattle.archive_table.specs.Keeper.{Keeping}
 use Rattle.archive_client.specs.Client.{Operation, put}
-use Rattle.archive_world.specs.World.{Begun, Got, Step, World, start, run, run_from, happens, AllMerged}
-use Rattle.archive_world.specs.Headline.{IsOwn, IsBestOver, files_of}
-use Rattle.archive_world.specs.Restarts.{HasKept, RunKeeps}
+use Rattle.archive_world.specs.World.{Begun, Got, Step, World, start_from, run_from, happens, AllMerged}
+use Rattle.archive_world.specs.Headline.{IsOwn, AreOver, IsBestOver, files_of}
+use Rattle.archive_world.specs.Restarts.{HasKept, RunKeeps, RestartsFrom}
 use Rattle.archive_world.specs.Durable.{HasNoWorse, AreNoWorse, HoldsFile, HoldsPromised, LoadsPromised, CutsShort}
 use Rattle.archive_world.proofs.Places.{Has, Extends, Extends-same, Extends-on, Has-contains, Has-from_contains, Has-extends}
 use Rattle.archive_world.proofs.Owning.{one_operation}
-use Rattle.archive_world.proofs.Invariant.{AreBest, Holds}
+use Rattle.archive_world.proofs.Invariant.{AreBest, Holds, start_from-holds}
 use Rattle.archive_world.proofs.Collecting.{best-collected}
 use Rattle.archive_world.proofs.Growing.{run-grows, step-grows}
 use Rattle.archive_world.proofs.Remaining.{step-takes}
-use Rattle.archive_world.proofs.Happening.{run-append, merged-first, merged-rest, step-holds, run-holds}
+use Rattle.archive_world.proofs.Happening.{run-append, merged-first, merged-rest, step-holds, run_from-holds}
 use Rattle.archive_world.proofs.Loading.{loads-the_same}
-use Rattle.archive_world.proofs.Persisting.{own-rules, event-kept, maps-are, run-kept}
+use Rattle.archive_world.proofs.Persisting.{own-rules, event-kept, maps-are, run_from-kept, loads-from}
 
 -- ---- one collection
 
@@ -138,33 +138,50 @@ module _ (w : World) (h : Holds w) (taken : List Taken) (maps : Maps) (more : Ex
 
 -- ---- a run
 
-pub never-worse : (before after : List Step) → AllMerged (before ++ after) start → AreNoWorse (run before).server.maps (run (before ++ after)).server.maps
-never-worse before after merged =
-    let w = run before in
-    let v = run (before ++ after) in
-    let more : Extends w.taken v.taken = subst (λ (x : World). Extends w.taken x.taken) (sym (run-append before after start)) (run-grows after w).taken in
-    none-worse w (run-holds before (merged-first before after start merged)) v.taken v.server.maps more (run-holds (before ++ after) merged).best
-
 -- what a later world has kept holds what an earlier one has promised
-loads_later : (steps : List Step) (v : World) (log : List Keeping) → Holds (run steps) → Extends (run steps).taken v.taken → AreBest v.taken v.server.maps → HasKept log v.server.maps → LoadsPromised steps log
-loads_later steps v log h more best kept lynx ms from_lynx from_ms =
+loads_later : (w : World) (steps : List Step) (v : World) (log : List Keeping) → Holds (run_from steps w) → Extends (run_from steps w).taken v.taken → AreBest v.taken v.server.maps → HasKept log v.server.maps → LoadsPromised w steps log
+loads_later w steps v log h more best kept lynx ms from_lynx from_ms =
     let same = loads-the_same log v.server.maps kept (best-collected Lynx _ v.server.maps.lynx best.lynx) (best-collected Ms _ v.server.maps.ms best.ms) lynx ms from_lynx from_ms in
-    subst (HoldsPromised (run steps)) (maps-are lynx ms v.server.maps same.0 same.1) (holds-promised (run steps) h v.taken v.server.maps more best)
+    subst (HoldsPromised (run_from steps w)) (maps-are lynx ms v.server.maps same.0 same.1) (holds-promised (run_from steps w) h v.taken v.server.maps more best)
 
-pub loads-promised : (steps : List Step) (log : List Keeping) → AllMerged steps start → RunKeeps steps start [] log → LoadsPromised steps log
-loads-promised steps log merged keeps =
-    let w = run steps in
-    let h = run-holds steps merged in
-    loads_later steps w log h (Extends-same w.taken) h.best (run-kept steps log merged keeps).0
+module _ (texts : List (List ℕ)) (maps : Maps) (over : AreOver texts maps) where
+  abbrev first : World
+  first = start_from texts maps
 
-pub cut-promised : (steps : List Step) (s : Step) (log kept : List Keeping) → AllMerged (steps ++ s ∷ []) start → RunKeeps steps start [] log → CutsShort steps s log kept → LoadsPromised steps kept
-cut-promised steps s log kept merged keeps (after, by, inl before) =
-    subst (LoadsPromised steps) (sym before) (loads-promised steps log (merged-first steps (s ∷ []) start merged) keeps)
-cut-promised steps s log kept merged keeps (after, by, inr late) =
-    let w = run steps in
-    let v = happens s w in
-    let first = merged-first steps (s ∷ []) start merged in
-    let h = run-holds steps first in
-    let best = (step-holds w s h (merged-rest steps (s ∷ []) start merged).0).best in
-    let now = event-kept w s.event s.grant s.maps log after (step-takes w s) (own-rules v.taken v.server.maps best) by (run-kept steps log first keeps).0 in
-    subst (LoadsPromised steps) (sym late) (loads_later steps v after h (step-grows w s).taken best now)
+  at_first : Holds first
+  at_first = start_from-holds texts maps over
+
+  pub never-worse : (before after : List Step) → AllMerged (before ++ after) first → AreNoWorse (run_from before first).server.maps (run_from (before ++ after) first).server.maps
+  never-worse before after merged =
+      let w = run_from before first in
+      let v = run_from (before ++ after) first in
+      let more : Extends w.taken v.taken = subst (λ (x : World). Extends w.taken x.taken) (sym (run-append before after first)) (run-grows after w).taken in
+      let h = run_from-holds before first at_first (merged-first before after first merged) in
+      none-worse w h v.taken v.server.maps more (run_from-holds (before ++ after) first at_first merged).best
+
+  module _ (log : List Keeping) (kept : HasKept log maps) where
+    has_kept : (steps : List Step) (last : List Keeping) → AllMerged steps first → RunKeeps steps first log last → HasKept last (run_from steps first).server.maps
+    has_kept steps last merged keeps = run_from-kept steps first log last merged at_first.best keeps kept
+
+    pub run_from-restarts : (steps : List Step) (last : List Keeping) → AllMerged steps first → RunKeeps steps first log last → HasKept last (run_from steps first).server.maps × RestartsFrom last (run_from steps first)
+    run_from-restarts steps last merged keeps =
+        let now = has_kept steps last merged keeps in
+        (now, loads-from (run_from steps first) last (run_from-holds steps first at_first merged).best now)
+
+    pub loads-promised : (steps : List Step) (last : List Keeping) → AllMerged steps first → RunKeeps steps first log last → LoadsPromised first steps last
+    loads-promised steps last merged keeps =
+        let w = run_from steps first in
+        let h = run_from-holds steps first at_first merged in
+        loads_later first steps w last h (Extends-same w.taken) h.best (has_kept steps last merged keeps)
+
+    pub cut-promised : (steps : List Step) (s : Step) (before last : List Keeping) → AllMerged (steps ++ s ∷ []) first → RunKeeps steps first log before → CutsShort first steps s before last → LoadsPromised first steps last
+    cut-promised steps s before last merged keeps (after, by, inl early) =
+        subst (LoadsPromised first steps) (sym early) (loads-promised steps before (merged-first steps (s ∷ []) first merged) keeps)
+    cut-promised steps s before last merged keeps (after, by, inr late) =
+        let w = run_from steps first in
+        let v = happens s w in
+        let early = merged-first steps (s ∷ []) first merged in
+        let h = run_from-holds steps first at_first early in
+        let best = (step-holds w s h (merged-rest steps (s ∷ []) first merged).0).best in
+        let now = event-kept w s.event s.grant s.maps before after (step-takes w s) (own-rules v.taken v.server.maps best) by (has_kept steps before early keeps) in
+        subst (LoadsPromised first steps) (sym late) (loads_later first steps v after h (step-grows w s).taken best now)

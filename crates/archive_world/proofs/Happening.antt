@@ -1,12 +1,12 @@
 -- Every event keeps the invariant, and so every run.
 use Rattle.std.proofs.Common.{◌≡◌, ℕ, Bool, true, false, ◌==◌, List, [], ◌∷◌, ◌++◌, slice_get, Option, None, Some, refl, ap}
 use Rattle.std.proofs.lemmas.Bool.{eqb-true, eqb-false}
-use Rattle.archive_table.specs.Server.{Maps, Grant, Transfer, Taken, Answer, memory_of, transfer_at, server_datagram, IsMerged}
+use Rattle.archive_table.specs.Server.{Maps, empty_maps, Grant, Transfer, Taken, Answer, memory_of, transfer_at, server_datagram, IsMerged}
 use Rattle.archive_client.specs.Client.{Operation, Client, is_too_long}
 use Rattle.tftp_packet.specs.declared.endpoint.Endpoint.{Endpoint}
 use Rattle.archive_world.specs.World.{Datagram, World, Event, begin, deliver, client_times_out, server_times_out, stray, restart, Step, server_endpoint, client_at, has_begun, taken_with, after_transfer, begins_unless, request_comes, server_hears, client_hears, arrives, delivers, client_waits, strays_unless, event_happens, happens, run_from, run, start, HasMerged, AllMerged, AllMayHappen}
 use Rattle.archive_world.proofs.Places.{Has}
-use Rattle.archive_world.proofs.Invariant.{Holds, start-holds}
+use Rattle.archive_world.proofs.Invariant.{Holds, none-over, start_from-holds}
 use Rattle.archive_world.proofs.Acking.{timeout-holds}
 use Rattle.archive_world.proofs.Receiving.{Joined}
 use Rattle.archive_world.proofs.Hearing.{datagram-holds}
@@ -81,7 +81,7 @@ run_from-holds [] w h merged = h
 run_from-holds (s ∷ steps) w h merged = run_from-holds steps (happens s w) (step-holds w s h merged.0) merged.1
 
 pub run-holds : (steps : List Step) → AllMerged steps start → Holds (run steps)
-run-holds steps merged = run_from-holds steps start start-holds merged
+run-holds steps merged = run_from-holds steps start (start_from-holds [] empty_maps none-over) merged
 
 -- ---- the parts of a run
 

@@ -25,6 +25,7 @@ pub mod Beginning
 pub mod Straying
 pub mod Growing
 pub mod Happening
+pub mod Strangers
 pub mod Concluding
 pub mod Tracing
 pub mod Sampling
@@ -45,6 +46,7 @@ pub mod SamplePremises
 pub mod OwnEndpoints
 pub mod SampleReuse
 pub mod Enduring
+pub mod Folders
 pub mod Effects
 pub mod RealTime
 pub mod Searches

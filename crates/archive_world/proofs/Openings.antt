@@ -96,7 +96,9 @@ module _ (w : World) (h : Holds w) (spare : ℕ) (free : transfer_at spare w.ser
           never_opened to_write t.count o own
 
       untaken_new : IsUntaken opened spare transfer
-      untaken_new running own u has same bound = taken_before u same (before from spare f.away bound) (h.taken u has) own
+      untaken_new running own u has same bound =
+          let other = λ (ours : u.peer.host ≡ server_endpoint.host). f.away (ap (λ (x : Endpoint). x.host) (sym same) ∙ ours) in
+          taken_before u same (before from spare f.away bound) (h.taken u has other) own
 
       untaken_in : (q : ℕ) (u : Transfer) → NewOrOld at_port exact_port w.server.live spare transfer q u → IsUntaken opened q u
       untaken_in q u (inr old) =
@@ -106,7 +108,8 @@ module _ (w : World) (h : Holds w) (spare : ℕ) (free : transfer_at spare w.ser
           subst (λ (x : Transfer). IsUntaken opened q x) (sym new.1) (subst (λ (p : ℕ). IsUntaken opened p transfer) (sym new.0) untaken_new)
 
       once_in : TakesOnce opened
-      once_in i j t u at_i at_j same own = h.once i j t u at_i at_j same (own-before w opened grows t.peer own)
+      once_in i j t u at_i at_j same other own =
+          h.once i j t u at_i at_j same other (own-before w opened grows t.peer own)
 
       new_opening : IsOpening opened opening
       new_opening = record { counted = le_refl (length w.taken); whose = f.whose }

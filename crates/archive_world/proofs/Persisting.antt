@@ -55,7 +55,7 @@ event-kept w restart grant maps before after takes rules alike kept = alike_kept
 
 -- ---- a run
 
-run_from-kept : (steps : List Step) (w : World) (before last : List Keeping) → AllMerged steps w → AreBest w.taken w.server.maps → RunKeeps steps w before last → HasKept before w.server.maps → HasKept last (run_from steps w).server.maps
+pub run_from-kept : (steps : List Step) (w : World) (before last : List Keeping) → AllMerged steps w → AreBest w.taken w.server.maps → RunKeeps steps w before last → HasKept before w.server.maps → HasKept last (run_from steps w).server.maps
 run_from-kept [] w before last merged best log kept = subst (λ (l : List Keeping). HasKept l w.server.maps) (sym log) kept
 run_from-kept (s ∷ steps) w before last merged best keeps kept =
     let v = happens s w in
@@ -70,7 +70,7 @@ maps-are lynx ms maps first second =
     let whole : make maps.lynx maps.ms ≡ make lynx ms = cc in
     whole
 
-loads-from : (w : World) (log : List Keeping) → AreBest w.taken w.server.maps → HasKept log w.server.maps → RestartsFrom log w
+pub loads-from : (w : World) (log : List Keeping) → AreBest w.taken w.server.maps → HasKept log w.server.maps → RestartsFrom log w
 loads-from w log best kept lynx ms from_lynx from_ms =
     let loaded = loads-the_same log w.server.maps kept (best-collected Lynx _ w.server.maps.lynx best.lynx) (best-collected Ms _ w.server.maps.ms best.ms) lynx ms from_lynx from_ms in
     ap (λ (m : Maps). loaded_server w.server.request m.lynx m.ms) (maps-are lynx ms w.server.maps loaded.0 loaded.1)

@@ -1,21 +1,20 @@
 -- Operations of which one ends before the other begins: what the later one sees, and what the earlier one cannot.
-use Rattle.std.proofs.Common.{◌≡◌, ◌⊎◌, ℕ, ◌<◌, ◌≤◌, Bool, true, false, ◌==◌, List, [], ◌∷◌, ◌++◌, length, take, slice_get, Contains, Some, refl, ap, sym, ◌∙◌, subst, inl, inr, ⊎_elim, arith}
+use Rattle.std.proofs.Common.{◌≡◌, ◌≢◌, ◌⊎◌, ℕ, ◌<◌, ◌≤◌, Bool, true, false, ◌==◌, List, [], ◌∷◌, ◌++◌, length, take, slice_get, Contains, Some, refl, ap, sym, ◌∙◌, subst, inl, inr, ⊎_elim, arith}
 use Rattle.std.proofs.lemmas.Bool.{eqb-true}
 use Rattle.tftp_packet.specs.declared.endpoint.Endpoint.{Endpoint}
 use Rattle.tws_file.specs.declared.«ruleset».Ruleset.{Ruleset}
-use Rattle.archive_table.specs.Server.{Taken}
+use Rattle.archive_table.specs.Server.{Maps, Taken}
 use Rattle.archive_client.specs.Client.{Operation, put, get, is_too_long}
-use Rattle.archive_world.specs.World.{Begun, Event, begin, Got, World, Step, server_endpoint, begins_unless, event_happens, happens, run_from, run, start, AllMerged}
-use Rattle.archive_world.specs.Headline.{IsOwn}
+use Rattle.archive_world.specs.World.{Begun, Event, begin, Got, World, Step, server_endpoint, begins_unless, event_happens, happens, start_from, run_from, AllMerged}
+use Rattle.archive_world.specs.Headline.{IsOwn, AreOver}
 use Rattle.archive_world.specs.Effects.{IsFetchedOver, FetchesNoLess, FetchesNone}
 use Rattle.archive_world.proofs.Places.{Has, Has-extends, Has-contains, Has-from_contains, at-extends, at-last, before_last, take-extends}
 use Rattle.archive_world.proofs.Claims.{GrowsTo, HasPut, HasGet, IsGot}
 use Rattle.archive_world.proofs.Lasting.{either, text-grown, get-lasts, GrowsTo-same}
-use Rattle.archive_world.proofs.Owning.{own-before, put_begun}
-use Rattle.archive_world.proofs.Invariant.{Holds}
-use Rattle.archive_world.proofs.ServerMoves.{begun_away}
+use Rattle.archive_world.proofs.Owning.{own-before}
+use Rattle.archive_world.proofs.Invariant.{Holds, start_from-holds}
 use Rattle.archive_world.proofs.Growing.{run-grows}
-use Rattle.archive_world.proofs.Happening.{run-append, merged-first, run-holds}
+use Rattle.archive_world.proofs.Happening.{run-append, merged-first, run_from-holds}
 use Rattle.archive_world.proofs.Enduring.{first_extends}
 use Rattle.archive_world.proofs.Fetching.{begin_counted, counted}
 
@@ -59,14 +58,14 @@ module _ (w v : World) (s : Step) (h : Holds w) (k : Holds v) (grows : GrowsTo w
       (was.serves.count, (now.whose mine).serves.count, omega arith, fetched_over w v grows g is own_then, fetched_over v v (GrowsTo-same v) late now mine)
 
   -- nothing had been taken from the endpoint of the put before it began
-  none_before : (operation : Operation) → s.event ≡ begin e operation → is_too_long operation ≡ false → (t : Taken) → Has w.taken t → t.peer ≡ e → ⊥
-  none_before operation event short t has same =
+  none_before : (operation : Operation) → s.event ≡ begin e operation → e.host ≢ server_endpoint.host → is_too_long operation ≡ false → (t : Taken) → Has w.taken t → t.peer ≡ e → ⊥
+  none_before operation event away short t has same =
       let own_then = own-before w v grows e own in
-      let from = ((h.taken t has).whose (subst (IsOwn w) (sym same) own_then)).began in
+      let from = ((h.taken t has (λ ours. away (ap (λ (x : Endpoint). x.host) (sym same) ∙ ours))).whose (subst (IsOwn w) (sym same) own_then)).began in
       let began : HasPut w e t.file = subst (λ (x : Endpoint). HasPut w x t.file) same from in
       let place = began.among.place in
       let early : place < length w.begun = before_last w.begun place _ began.among.is in
-      ⊎_elim (λ ours. begun_away w h e (put_begun w e t.file began) ours)
+      ⊎_elim away
       (λ new.
       let still = at-extends w.begun v.begun grows.begun place _ began.among.is in
       let last = at-extends (happens s w).begun v.begun more.begun (length w.begun) _ new in
@@ -74,26 +73,29 @@ module _ (w v : World) (s : Step) (h : Holds w) (k : Holds v) (grows : GrowsTo w
       omega arith)
       (begin_at w s e operation event short)
 
-  gets_none : (file : List ℕ) → s.event ≡ begin e (put file) → is_too_long (put file) ≡ false → (g : Got) → Has w.got g → IsOwn w g.client → (count : ℕ) × IsFetchedOver v g count × ((t : Taken) → Contains (take count v.taken) t → t.peer ≡ e → ⊥)
-  gets_none file event short g has own_then =
+  gets_none : (file : List ℕ) → s.event ≡ begin e (put file) → e.host ≢ server_endpoint.host → is_too_long (put file) ≡ false → (g : Got) → Has w.got g → IsOwn w g.client → (count : ℕ) × IsFetchedOver v g count × ((t : Taken) → Contains (take count v.taken) t → t.peer ≡ e → ⊥)
+  gets_none file event away short g has own_then =
       let is = h.got g has in
       let count = (is.whose own_then).serves.count in
       let within : count ≤ length w.taken = (is.whose own_then).serves.is_text.within in
       let same_files : take count v.taken ≡ take count w.taken = take-extends w.taken v.taken count grows.taken within in
-      let none : (t : Taken) → Contains (take count v.taken) t → t.peer ≡ e → ⊥ = λ t among. none_before (put file) event short t (Has-extends (take count w.taken) w.taken t (first_extends count w.taken) (Has-from_contains (take count w.taken) t (subst (λ (ts : List Taken). Contains ts t) same_files among))) in
+      let none : (t : Taken) → Contains (take count v.taken) t → t.peer ≡ e → ⊥ = λ t among. none_before (put file) event away short t (Has-extends (take count w.taken) w.taken t (first_extends count w.taken) (Has-from_contains (take count w.taken) t (subst (λ (ts : List Taken). Contains ts t) same_files among))) in
       (count, fetched_over w v grows g is own_then, none)
 
 -- ---- a run
 
-module _ (before after : List Step) (s : Step) (merged : AllMerged (before ++ s ∷ after) start) where
+module _ (texts : List (List ℕ)) (maps : Maps) (over : AreOver texts maps) (before after : List Step) (s : Step) (merged : AllMerged (before ++ s ∷ after) (start_from texts maps)) where
+  abbrev first_world : World
+  first_world = start_from texts maps
+
   abbrev first : World
-  first = run before
+  first = run_from before first_world
 
   abbrev last : World
-  last = run (before ++ s ∷ after)
+  last = run_from (before ++ s ∷ after) first_world
 
   last_is : last ≡ run_from after (happens s first)
-  last_is = run-append before (s ∷ after) start
+  last_is = run-append before (s ∷ after) first_world
 
   grows : GrowsTo first last
   grows = subst (GrowsTo first) (sym last_is) (run-grows (s ∷ after) first)
@@ -102,15 +104,15 @@ module _ (before after : List Step) (s : Step) (merged : AllMerged (before ++ s 
   more = subst (GrowsTo (happens s first)) (sym last_is) (run-grows after (happens s first))
 
   first_holds : Holds first
-  first_holds = run-holds before (merged-first before (s ∷ after) start merged)
+  first_holds = run_from-holds before first_world (start_from-holds texts maps over) (merged-first before (s ∷ after) first_world merged)
 
   last_holds : Holds last
-  last_holds = run-holds (before ++ s ∷ after) merged
+  last_holds = run_from-holds (before ++ s ∷ after) first_world (start_from-holds texts maps over) merged
 
-  pub fetches-no_less : FetchesNoLess before after s
+  pub fetches-no_less : FetchesNoLess first_world before after s
   fetches-no_less e kind event own g among own_then late among_late same =
       gets_later first last s first_holds last_holds grows more e own kind event g (Has-from_contains first.got g among) own_then late (Has-from_contains last.got late among_late) same
 
-  pub fetches-none : FetchesNone before after s
-  fetches-none e file event short own g among own_then =
-      gets_none first last s first_holds last_holds grows more e own file event short g (Has-from_contains first.got g among) own_then
+  pub fetches-none : FetchesNone first_world before after s
+  fetches-none e file event away short own g among own_then =
+      gets_none first last s first_holds last_holds grows more e own file event away short g (Has-from_contains first.got g among) own_then

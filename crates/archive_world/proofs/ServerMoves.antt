@@ -92,7 +92,7 @@ module _ (w : World) (h : Holds w) (net : List Datagram) (server : Server) (take
         begun = λ b has. record { away = (h.begun b has).away; counted = le_trans (h.begun b has).counted (length-extends w.taken taken s.more_taken) };
         strays = h.strays;
         opened = λ o has. ⊎_elim (λ old. opening-lasts w after g o (h.opened o old)) (λ now. now) (s.openings o has);
-        taken = λ t has. ⊎_elim (λ old. is_taken-lasts w after g t (h.taken t old)) (λ now. now) (s.files t has);
+        taken = λ t has other. ⊎_elim (λ old. is_taken-lasts w after g t (h.taken t old other)) (λ now. now) (s.files t has);
         once = s.once;
         sent = λ e has. sent-lasts w after g e (h.sent e has);
         got = λ got has. got-lasts w after g got (h.got got has);

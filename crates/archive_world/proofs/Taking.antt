@@ -107,15 +107,15 @@ module _ (w : World) (h : Holds w) (maps : Maps) (port : ℕ) (t : Transfer) (fi
 
   -- ---- the files taken
 
-  once_in : (i j : ℕ) (a b : Taken) → OldOrLast w.taken (taken_of t file) i a → OldOrLast w.taken (taken_of t file) j b → a.peer ≡ b.peer → IsOwn w a.peer → i ≡ j
-  once_in i j a b (inl at_i) (inl at_j) same own = h.once i j a b at_i at_j same own
-  once_in i j a b (inl at_i) (inr last) same own =
+  once_in : (i j : ℕ) (a b : Taken) → OldOrLast w.taken (taken_of t file) i a → OldOrLast w.taken (taken_of t file) j b → a.peer ≡ b.peer → a.peer.host ≢ server_endpoint.host → IsOwn w a.peer → i ≡ j
+  once_in i j a b (inl at_i) (inl at_j) same other own = h.once i j a b at_i at_j same other own
+  once_in i j a b (inl at_i) (inr last) same other own =
       let peers : a.peer ≡ t.peer = same ∙ ap (λ (x : Taken). x.peer) last.1 in
       absurd (k.fresh (subst (IsOwn w) peers own) a (record { place = i; is = at_i }) peers)
-  once_in i j a b (inr last) (inl at_j) same own =
+  once_in i j a b (inr last) (inl at_j) same other own =
       let mine : a.peer ≡ t.peer = ap (λ (x : Taken). x.peer) last.1 in
       absurd (k.fresh (subst (IsOwn w) mine own) b (record { place = j; is = at_j }) (sym same ∙ mine))
-  once_in i j a b (inr last) (inr also) same own = last.0 ∙ sym also.0
+  once_in i j a b (inr last) (inr also) same other own = last.0 ∙ sym also.0
 
   new_taken : IsTaken after (taken_of t file)
   new_taken =

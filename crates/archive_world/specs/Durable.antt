@@ -9,7 +9,7 @@ use Rattle.tws_best.specs.Best.{Entry, Collected, HasBody, solutions_of}
 use Rattle.archive_table.specs.Server.{Maps, Taken, map_of}
 use Rattle.archive_table.specs.Keeper.{Keeping, LoadedFrom}
 use Rattle.archive_client.specs.Client.{put}
-use Rattle.archive_world.specs.World.{Begun, Got, Step, World, run, happens}
+use Rattle.archive_world.specs.World.{Begun, Got, Step, World, run_from, happens}
 use Rattle.archive_world.specs.Headline.{IsOwn}
 use Rattle.archive_world.specs.Restarts.{EventKeeps}
 
@@ -40,12 +40,12 @@ pub record HoldsPromised (w : World) (maps : Maps) : Type 0 where
   pub sent : (e : Endpoint) → IsOwn w e → Contains w.sent e → (b : Begun) (file : List ℕ) → Contains w.begun b → b.client ≡ e → b.operation ≡ put file → HoldsFile maps file
   pub got : (g : Got) → IsOwn w g.client → Contains w.got g → HoldsFile maps g.file
 
--- What these steps have promised is in what a keeper with this list loads.
-abbrev pub LoadsPromised : List Step → List Keeping → Type 0
-LoadsPromised steps log =
-    (lynx ms : Collected) → LoadedFrom Lynx (Some log) lynx → LoadedFrom Ms (Some log) ms → HoldsPromised (run steps) (record { lynx = lynx; ms = ms })
+-- What these steps from a first world have promised is in what a keeper with this list loads.
+abbrev pub LoadsPromised : World → List Step → List Keeping → Type 0
+LoadsPromised w steps log =
+    (lynx ms : Collected) → LoadedFrom Lynx (Some log) lynx → LoadedFrom Ms (Some log) ms → HoldsPromised (run_from steps w) (record { lynx = lynx; ms = ms })
 
 -- A step that is cut short leaves the keeper with the list that it had, or with the list after the step.
-abbrev pub CutsShort : List Step → Step → (before kept : List Keeping) → Type 0
-CutsShort steps s before kept =
-    (after : List Keeping) × EventKeeps s.event s.grant (run steps) (happens s (run steps)) before after × ((kept ≡ before) ⊎ (kept ≡ after))
+abbrev pub CutsShort : World → List Step → Step → (before kept : List Keeping) → Type 0
+CutsShort w steps s before kept =
+    (after : List Keeping) × EventKeeps s.event s.grant (run_from steps w) (happens s (run_from steps w)) before after × ((kept ≡ before) ⊎ (kept ≡ after))

@@ -1,13 +1,13 @@
 -- What holds for every run, about the operations that began, the files that were taken, sent and fetched, and the
 -- collections.
-use Rattle.std.specs.Prelude.{◌≡◌, ◌⊎◌, ℕ, ◌≤◌, List, [], ◌∷◌, ◌++◌, map, take, length, slice_get, Contains, Some}
+use Rattle.std.specs.Prelude.{◌≡◌, ◌≢◌, ◌⊎◌, ℕ, ◌≤◌, List, [], ◌∷◌, ◌++◌, map, take, length, slice_get, Contains, Some}
 use Rattle.tftp_packet.specs.declared.endpoint.Endpoint.{Endpoint}
 use Rattle.tws_file.specs.declared.«ruleset».Ruleset.{Ruleset}
 use Rattle.tws_file.specs.declared.«ruleset».Ruleset.TheVariants.{Lynx, Ms}
 use Rattle.tws_best.specs.Best.{Collected, IsCollectionOf, collection_text}
-use Rattle.archive_table.specs.Server.{Taken}
+use Rattle.archive_table.specs.Server.{Maps, Taken}
 use Rattle.archive_client.specs.Client.{put, get}
-use Rattle.archive_world.specs.World.{Datagram, Begun, begin, stray, Step, run, Opening, to_read, Got, World}
+use Rattle.archive_world.specs.World.{Datagram, Begun, begin, stray, Step, run, Opening, to_read, Got, World, server_endpoint}
 
 -- ---- own ports: no port is reused
 
@@ -96,15 +96,21 @@ pub record ClientHeadline (w : World) (e : Endpoint) : Type 0 where
   pub got : (g : Got) → Contains w.got g → g.client ≡ e → IsFinishedGet w.begun w.taken w.opened g
 
 -- What holds whatever the network does and whoever reuses a port: each file taken is from the endpoint of an operation
--- or of a stranger; whoever counts a file as sent, or has fetched one, has begun an operation; each collection is the
--- best over the files taken; and each client whose ports are its own has the headline, whatever others do.
+-- or of a stranger, if it is not a text that the server had at first; whoever counts a file as sent, or has fetched one,
+-- has begun an operation; each collection is the best over the files taken; and each client whose ports are its own has
+-- the headline, whatever others do.
 pub record ClientsHeadline (w : World) : Type 0 where
-  pub taken : (t : Taken) → Contains w.taken t → HasOperation w.begun t.peer ⊎ IsStrayFrom w.strays t.peer
+  pub taken : (t : Taken) → Contains w.taken t → t.peer.host ≢ server_endpoint.host → HasOperation w.begun t.peer ⊎ IsStrayFrom w.strays t.peer
   pub sent : (e : Endpoint) → Contains w.sent e → HasOperation w.begun e
   pub got : (g : Got) → Contains w.got g → HasOperation w.begun g.client
   pub lynx : IsBestOver Lynx (files_of w.taken) (collection_text w.server.maps.lynx)
   pub ms : IsBestOver Ms (files_of w.taken) (collection_text w.server.maps.ms)
-  pub client : (e : Endpoint) → IsOwn w e → ClientHeadline w e
+  pub client : (e : Endpoint) → HasOperation w.begun e → IsOwn w e → ClientHeadline w e
+
+-- The collections of a server are the best over these texts.
+pub record AreOver (texts : List (List ℕ)) (maps : Maps) : Type 0 where
+  pub lynx : IsCollectionOf Lynx texts maps.lynx
+  pub ms : IsCollectionOf Ms texts maps.ms
 
 -- Whatever the network does: a put's file is taken at most once and unchanged, and exactly once if its client counts it
 -- as sent. The collections are the best over the files taken. A finished get is the collection at one of its own

@@ -1,18 +1,20 @@
 //! What holds for every run. These functions do nothing: each contract is a theorem.
 
-ghost use Rattle.std.specs.Prelude.{◌≡◌, true, false, List, [], ◌∷◌, ◌++◌, Contains, Option};
+ghost use Rattle.std.specs.Prelude.{◌≡◌, ℕ, true, false, List, [], ◌∷◌, ◌++◌, Contains, Option};
 ghost use Rattle.archive_world.specs.Samples.{request_twice, late_ack, crossed_get, unanswered, strange_put, restart_between, empty_put, empty_get, barred_strays, opened_again, reused_elsewhere, begun_twice, opened_twice, strayed_there, FailsBy, sample_client, summary_of, sample_opening, one_put_summary, no_file_summary, crossed_get_summary, strange_put_summary, restart_summary, empty_put_summary, empty_get_summary};
 ghost use Rattle.tftp_packet.specs.declared.endpoint.Endpoint.{Endpoint};
 ghost use Rattle.archive_client.specs.Client.{Operation};
 ghost use Rattle.archive_world.specs.Reuse.{BeginKeepsOwn, OpeningKeepsOwn, StrayKeepsOwn, IsOwnByTests};
-ghost use Rattle.archive_world.specs.World.{Begun, Datagram, Got, Opening, to_write, World, Event, Step, happens, start, run, server_endpoint, AllMerged, asked_by, AllMayHappen};
+ghost use Rattle.archive_world.specs.World.{Begun, Datagram, Got, Opening, to_write, World, Event, Step, happens, start, start_from, run, run_from, server_endpoint, AllMerged, asked_by, AllMayHappen};
 ghost use Rattle.archive_table.specs.Server.{Grant, Maps, Taken, empty_maps};
+ghost use Rattle.tws_file.specs.declared.«ruleset».Ruleset.TheVariants.{Lynx, Ms};
+ghost use Rattle.tws_best.specs.Best.{Collected, IsCollected, collection_text};
 ghost use Rattle.archive_table.specs.Keeper.{Keeping};
 ghost use Rattle.archive_world.specs.Restarts.{HasKept, StepStaysKept, LoadsTheSame, FailsOutside, RunKeeps, RestartsFrom};
 ghost use Rattle.archive_world.specs.Effects.{TakesEffect, ReadsAtOnce, FetchesNoLess, FetchesNone};
 ghost use Rattle.archive_world.specs.Durable.{AreNoWorse, LoadsPromised, CutsShort};
 ghost use Rattle.archive_world.specs.Traces.{Member, trace_from, trace_steps, AllDeedsMerged};
-ghost use Rattle.archive_world.specs.Headline.{IsOwn, HasOwnPorts, HasOperation, ClientsHeadline, Headline, FetchesOwnSent, FetchesSent, BeganBy, StraysBy};
+ghost use Rattle.archive_world.specs.Headline.{IsOwn, AreOver, HasOwnPorts, HasOperation, ClientsHeadline, Headline, FetchesOwnSent, FetchesSent, BeganBy, StraysBy};
 
 /// For every list of begins, deliveries of any datagram ever sent, losses, time-outs, strangers' datagrams and
 /// restarts, whatever memory is refused and whatever is not kept: each collection is the best over the files taken. And
@@ -31,8 +33,6 @@ pub fn network_law()
     // So a put that was counted as sent before a get began is in what that get has fetched.
     ensures since_own { (before after : List Step) (s : Step) → AllMerged (before ++ s ∷ after) start → FetchesOwnSent before after s }
     ensures since { (before after : List Step) (s : Step) → HasOwnPorts (run (before ++ s ∷ after)) → AllMerged (before ++ s ∷ after) start → FetchesSent before after s }
-    // The collections never get worse: later, at each key, they have a body, and none of higher rank.
-    ensures no_worse { (before after : List Step) → AllMerged (before ++ after) start → AreNoWorse (run before).server.maps (run (before ++ after)).server.maps }
     // For all events and grants there are collections as the server's contract says, and the world after them is
     // unique.
     ensures total { (asked : List (Event × Grant)) → (steps : List Step) × (asked_by steps ≡ asked) × AllMerged steps start }
@@ -45,10 +45,26 @@ pub fn network_law()
 /// of a run is a run, before its end. So with what ends before something else begins: what was sent is fetched
 /// (`network_law`, `since_own`), a later get has fetched no less, and an earlier one has nothing of a later put.
 pub fn effects_law()
-    ensures puts { (steps : List Step) → AllMerged steps start → (e : Endpoint) → IsOwn (run steps) e → Contains (run steps).sent e → TakesEffect steps e }
-    ensures gets { (steps : List Step) → AllMerged steps start → (g : Got) → IsOwn (run steps) g.client → Contains (run steps).got g → ReadsAtOnce steps g }
-    ensures no_less { (before after : List Step) (s : Step) → AllMerged (before ++ s ∷ after) start → FetchesNoLess before after s }
-    ensures none { (before after : List Step) (s : Step) → AllMerged (before ++ s ∷ after) start → FetchesNone before after s }
+    ensures puts { (texts : List (List ℕ)) (maps : Maps) → AreOver texts maps → (steps : List Step) → AllMerged steps (start_from texts maps) → (e : Endpoint) → IsOwn (run_from steps (start_from texts maps)) e → Contains (run_from steps (start_from texts maps)).sent e → TakesEffect (start_from texts maps) steps e }
+    ensures gets { (texts : List (List ℕ)) (maps : Maps) → AreOver texts maps → (steps : List Step) → AllMerged steps (start_from texts maps) → (g : Got) → IsOwn (run_from steps (start_from texts maps)) g.client → Contains (run_from steps (start_from texts maps)).got g → ReadsAtOnce (start_from texts maps) steps g }
+    ensures no_less { (texts : List (List ℕ)) (maps : Maps) → AreOver texts maps → (before after : List Step) (s : Step) → AllMerged (before ++ s ∷ after) (start_from texts maps) → FetchesNoLess (start_from texts maps) before after s }
+    ensures none { (texts : List (List ℕ)) (maps : Maps) → AreOver texts maps → (before after : List Step) (s : Step) → AllMerged (before ++ s ∷ after) (start_from texts maps) → FetchesNone (start_from texts maps) before after s }
+{}
+
+/// A run may start from a server that has collections, as a real one has those of its folder. They are the best over
+/// some texts, such as their own two, which count as the first files taken; an empty server is the case of no texts.
+/// From there too the headline holds of each client whose ports are its own; the collections never get worse, so that
+/// later, at each key, they have a body, and none of higher rank; and a keeper that has the first collections has, after
+/// each step, what the server has. So what a load gives holds all that was promised by then, and also if the step that
+/// comes next is cut short.
+pub fn folder_law()
+    ensures empty { AreOver [] empty_maps }
+    ensures own { (lynx ms : Collected) → IsCollected lynx → IsCollected ms → lynx.«ruleset» ≡ Lynx → ms.«ruleset» ≡ Ms → AreOver (collection_text lynx ∷ collection_text ms ∷ []) (record { lynx = lynx; ms = ms }) }
+    ensures clients { (texts : List (List ℕ)) (maps : Maps) → AreOver texts maps → (steps : List Step) → AllMerged steps (start_from texts maps) → ClientsHeadline (run_from steps (start_from texts maps)) }
+    ensures no_worse { (texts : List (List ℕ)) (maps : Maps) → AreOver texts maps → (before after : List Step) → AllMerged (before ++ after) (start_from texts maps) → AreNoWorse (run_from before (start_from texts maps)).server.maps (run_from (before ++ after) (start_from texts maps)).server.maps }
+    ensures restarts { (texts : List (List ℕ)) (maps : Maps) → AreOver texts maps → (first : List Keeping) → HasKept first maps → (steps : List Step) (last : List Keeping) → AllMerged steps (start_from texts maps) → RunKeeps steps (start_from texts maps) first last → HasKept last (run_from steps (start_from texts maps)).server.maps × RestartsFrom last (run_from steps (start_from texts maps)) }
+    ensures promised { (texts : List (List ℕ)) (maps : Maps) → AreOver texts maps → (first : List Keeping) → HasKept first maps → (steps : List Step) (last : List Keeping) → AllMerged steps (start_from texts maps) → RunKeeps steps (start_from texts maps) first last → LoadsPromised (start_from texts maps) steps last }
+    ensures cut { (texts : List (List ℕ)) (maps : Maps) → AreOver texts maps → (first : List Keeping) → HasKept first maps → (steps : List Step) (s : Step) (before last : List Keeping) → AllMerged (steps ++ s ∷ []) (start_from texts maps) → RunKeeps steps (start_from texts maps) first before → CutsShort (start_from texts maps) steps s before last → LoadsPromised (start_from texts maps) steps last }
 {}
 
 /// The values of the server's host and its request port, which the definitions refer to by name.
@@ -62,7 +78,7 @@ pub fn server_values()
 /// does exactly the trace's deeds. So the headline holds for every client of such a trace whose ports are its own.
 pub fn trace_law()
     ensures run { (members : List Member) → AllMayHappen (trace_steps members start) start → run (trace_steps members start) ≡ trace_from members start }
-    ensures clients { (members : List Member) → AllMayHappen (trace_steps members start) start → AllDeedsMerged members start → ClientsHeadline (trace_from members start) }
+    ensures clients { (texts : List (List ℕ)) (maps : Maps) → AreOver texts maps → (members : List Member) → AllMayHappen (trace_steps members (start_from texts maps)) (start_from texts maps) → AllDeedsMerged members (start_from texts maps) → ClientsHeadline (trace_from members (start_from texts maps)) }
     ensures headline { (members : List Member) → AllMayHappen (trace_steps members start) start → HasOwnPorts (trace_from members start) → AllDeedsMerged members start → Headline (trace_from members start) }
 {}
 
@@ -124,9 +140,6 @@ pub fn restart_law()
     // For every run, from a keeper that holds nothing. The beginning of a run is a run, so this holds at each restart.
     ensures run { (steps : List Step) (log : List Keeping) → AllMerged steps start → RunKeeps steps start [] log → HasKept log (run steps).server.maps × RestartsFrom log (run steps) }
     ensures fails { (steps : List Step) (log : List Keeping) → AllMerged steps start → RunKeeps steps start [] log → FailsOutside log }
-    // So what a load gives holds all that was promised by then, and also if the step that comes next is cut short.
-    ensures promised { (steps : List Step) (log : List Keeping) → AllMerged steps start → RunKeeps steps start [] log → LoadsPromised steps log }
-    ensures cut { (steps : List Step) (s : Step) (log kept : List Keeping) → AllMerged (steps ++ s ∷ []) start → RunKeeps steps start [] log → CutsShort steps s log kept → LoadsPromised steps kept }
     // Every run with merged collections has such a list.
     ensures list { (steps : List Step) → AllMerged steps start → (log : List Keeping) × RunKeeps steps start [] log }
 {}

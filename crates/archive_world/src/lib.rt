@@ -37,7 +37,8 @@ pub use datagram::Datagram;
 pub use event::Event;
 pub use got_file::GotFile;
 pub use laws::{
-    effects_law, network_law, own_ports, restart_law, sample_runs, server_values, trace_law,
+    effects_law, folder_law, network_law, own_ports, restart_law, sample_runs, server_values,
+    trace_law,
 };
 pub use op::Op;
 pub use op_kind::OpKind;

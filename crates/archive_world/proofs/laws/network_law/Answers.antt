@@ -1,7 +1,6 @@
 use Rattle.archive_world.proofs.Counting.{began-by}
 use Rattle.archive_world.proofs.Entering.{strays-by}
 use Rattle.archive_world.proofs.Concluding.{run-clients, run-headline}
-use Rattle.archive_world.proofs.Enduring.{never-worse}
 use Rattle.archive_world.proofs.Fetching.{fetches-own_sent, fetches-sent}
 use Rattle.archive_world.proofs.Totality.{run-total, run-one}
 use Rattle.archive_world.proofs.laws.network_law.Goals as goal
@@ -17,9 +16,6 @@ returns-clause-headline c = run-headline
 
 pub returns-clause-since : goal.returns-clause-since
 returns-clause-since c = fetches-sent
-
-pub returns-clause-no_worse : goal.returns-clause-no_worse
-returns-clause-no_worse c = never-worse
 
 pub returns-clause-began : goal.returns-clause-began
 returns-clause-began c = began-by

@@ -1,6 +1,5 @@
 use Rattle.archive_world.proofs.Loading.{start-kept, step-stays_kept, loads-the_same}
 use Rattle.archive_world.proofs.Persisting.{run-kept, run-fails}
-use Rattle.archive_world.proofs.Enduring.{loads-promised, cut-promised}
 use Rattle.archive_world.proofs.Lists.{run-list}
 use Rattle.archive_world.proofs.laws.restart_law.Goals as goal
 
@@ -18,12 +17,6 @@ returns-clause-run c = run-kept
 
 pub returns-clause-fails : goal.returns-clause-fails
 returns-clause-fails c = run-fails
-
-pub returns-clause-promised : goal.returns-clause-promised
-returns-clause-promised c = loads-promised
-
-pub returns-clause-cut : goal.returns-clause-cut
-returns-clause-cut c = cut-promised
 
 pub returns-clause-list : goal.returns-clause-list
 returns-clause-list c = run-list
