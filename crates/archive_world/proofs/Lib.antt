@@ -47,6 +47,7 @@ pub mod OwnEndpoints
 pub mod SampleReuse
 pub mod Enduring
 pub mod Folders
+pub mod Costs
 pub mod Effects
 pub mod RealTime
 pub mod Searches

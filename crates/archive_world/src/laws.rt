@@ -1,6 +1,6 @@
 //! What holds for every run. These functions do nothing: each contract is a theorem.
 
-ghost use Rattle.std.specs.Prelude.{◌≡◌, ℕ, true, false, List, [], ◌∷◌, ◌++◌, Contains, Option};
+ghost use Rattle.std.specs.Prelude.{◌≡◌, ℕ, ◌≤◌, true, false, List, length, [], ◌∷◌, ◌++◌, Contains, Option};
 ghost use Rattle.archive_world.specs.Samples.{request_twice, late_ack, crossed_get, unanswered, strange_put, restart_between, empty_put, empty_get, barred_strays, opened_again, reused_elsewhere, begun_twice, opened_twice, strayed_there, FailsBy, sample_client, summary_of, sample_opening, one_put_summary, no_file_summary, crossed_get_summary, strange_put_summary, restart_summary, empty_put_summary, empty_get_summary};
 ghost use Rattle.tftp_packet.specs.declared.endpoint.Endpoint.{Endpoint};
 ghost use Rattle.archive_client.specs.Client.{Operation};
@@ -33,6 +33,8 @@ pub fn network_law()
     // So a put that was counted as sent before a get began is in what that get has fetched.
     ensures since_own { (before after : List Step) (s : Step) → AllMerged (before ++ s ∷ after) start → FetchesOwnSent before after s }
     ensures since { (before after : List Step) (s : Step) → HasOwnPorts (run (before ++ s ∷ after)) → AllMerged (before ++ s ∷ after) start → FetchesSent before after s }
+    // No step sends more than one datagram.
+    ensures cost { (steps : List Step) → length (run steps).net ≤ length steps }
     // For all events and grants there are collections as the server's contract says, and the world after them is
     // unique.
     ensures total { (asked : List (Event × Grant)) → (steps : List Step) × (asked_by steps ≡ asked) × AllMerged steps start }

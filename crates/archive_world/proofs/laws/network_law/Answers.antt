@@ -1,4 +1,5 @@
 use Rattle.archive_world.proofs.Counting.{began-by}
+use Rattle.archive_world.proofs.Costs.{run-sends}
 use Rattle.archive_world.proofs.Entering.{strays-by}
 use Rattle.archive_world.proofs.Concluding.{run-clients, run-headline}
 use Rattle.archive_world.proofs.Fetching.{fetches-own_sent, fetches-sent}
@@ -19,6 +20,9 @@ returns-clause-since c = fetches-sent
 
 pub returns-clause-began : goal.returns-clause-began
 returns-clause-began c = began-by
+
+pub returns-clause-cost : goal.returns-clause-cost
+returns-clause-cost c = run-sends
 
 pub returns-clause-total : goal.returns-clause-total
 returns-clause-total c = run-total
