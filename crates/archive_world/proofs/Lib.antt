@@ -48,6 +48,7 @@ pub mod SampleReuse
 pub mod Enduring
 pub mod Folders
 pub mod Costs
+pub mod Freeing
 pub mod Effects
 pub mod RealTime
 pub mod Searches

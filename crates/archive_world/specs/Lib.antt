@@ -11,3 +11,4 @@ pub mod Replays
 pub mod Exits
 pub mod Durable
 pub mod Effects
+pub mod Freeing

@@ -12,6 +12,7 @@ ghost use Rattle.tws_best.specs.Best.{Collected, IsCollected, collection_text};
 ghost use Rattle.archive_table.specs.Keeper.{Keeping};
 ghost use Rattle.archive_world.specs.Restarts.{HasKept, StepStaysKept, LoadsTheSame, FailsOutside, RunKeeps, RestartsFrom};
 ghost use Rattle.archive_world.specs.Effects.{TakesEffect, ReadsAtOnce, FetchesNoLess, FetchesNone};
+ghost use Rattle.archive_world.specs.Freeing.{IsFreed};
 ghost use Rattle.archive_world.specs.Durable.{AreNoWorse, LoadsPromised, CutsShort};
 ghost use Rattle.archive_world.specs.Traces.{Member, trace_from, trace_steps, AllDeedsMerged};
 ghost use Rattle.archive_world.specs.Headline.{IsOwn, AreOver, HasOwnPorts, HasOperation, ClientsHeadline, Headline, FetchesOwnSent, FetchesSent, BeganBy, StraysBy};
@@ -67,6 +68,8 @@ pub fn folder_law()
     ensures restarts { (texts : List (List ℕ)) (maps : Maps) → AreOver texts maps → (first : List Keeping) → HasKept first maps → (steps : List Step) (last : List Keeping) → AllMerged steps (start_from texts maps) → RunKeeps steps (start_from texts maps) first last → HasKept last (run_from steps (start_from texts maps)).server.maps × RestartsFrom last (run_from steps (start_from texts maps)) }
     ensures promised { (texts : List (List ℕ)) (maps : Maps) → AreOver texts maps → (first : List Keeping) → HasKept first maps → (steps : List Step) (last : List Keeping) → AllMerged steps (start_from texts maps) → RunKeeps steps (start_from texts maps) first last → LoadsPromised (start_from texts maps) steps last }
     ensures cut { (texts : List (List ℕ)) (maps : Maps) → AreOver texts maps → (first : List Keeping) → HasKept first maps → (steps : List Step) (s : Step) (before last : List Keeping) → AllMerged (steps ++ s ∷ []) (start_from texts maps) → RunKeeps steps (start_from texts maps) first before → CutsShort (start_from texts maps) steps s before last → LoadsPromised (start_from texts maps) steps last }
+    // No transfer stays for ever: whatever has happened, time-outs alone free every port.
+    ensures freed { (texts : List (List ℕ)) (maps : Maps) → AreOver texts maps → (steps : List Step) → AllMerged steps (start_from texts maps) → IsFreed (run_from steps (start_from texts maps)) }
 {}
 
 /// The values of the server's host and its request port, which the definitions refer to by name.
