@@ -1,20 +1,21 @@
 -- What was counted as sent before a get began is in what it has fetched.
-use Rattle.std.proofs.Common.{◌≡◌, ◌⊎◌, ℕ, ◌<◌, ◌≤◌, Bool, true, false, ◌==◌, List, ◌∷◌, ◌++◌, length, take, refl, ap, sym, subst, inl, inr, arith}
+use Rattle.std.proofs.Common.{◌≡◌, ◌⊎◌, ℕ, ◌<◌, ◌≤◌, Bool, true, false, ◌==◌, List, [], ◌∷◌, ◌++◌, length, take, refl, ap, sym, subst, inl, inr, arith}
 use Rattle.std.proofs.lemmas.Bool.{eqb-true}
 use Rattle.tftp_packet.specs.declared.endpoint.Endpoint.{Endpoint}
 use Rattle.tws_file.specs.declared.«ruleset».Ruleset.{Ruleset}
 use Rattle.tws_file.specs.declared.«ruleset».Ruleset.TheVariants.{Lynx}
+use Rattle.archive_table.specs.Server.{Maps, empty_maps}
 use Rattle.archive_client.specs.Client.{Operation, put, get}
-use Rattle.archive_world.specs.World.{Begun, Event, begin, Got, World, Step, server_endpoint, begins_unless, event_happens, happens, run_from, run, start, AllMerged}
-use Rattle.archive_world.specs.Headline.{IsOwn, HasOwnPorts, IsBestOver, files_of, IsFetchedWith, FetchesOwnSent, FetchesSent}
+use Rattle.archive_world.specs.World.{Begun, Event, begin, Got, World, Step, server_endpoint, begins_unless, event_happens, happens, start_from, run_from, run, start, AllMerged}
+use Rattle.archive_world.specs.Headline.{IsOwn, AreOver, HasOwnPorts, IsBestOver, files_of, IsFetchedWith, FetchesOwnSent, FetchesSent}
 use Rattle.archive_world.proofs.Places.{Has, Has-last, Has-extends, Has-contains, Has-from_contains, at-extends, at-take, before_last}
 use Rattle.archive_world.proofs.Claims.{GrowsTo, HasGet}
 use Rattle.archive_world.proofs.Lasting.{either}
 use Rattle.archive_world.proofs.Owning.{get_begun, one_operation, own-each, none_reused-before}
-use Rattle.archive_world.proofs.Invariant.{Holds}
+use Rattle.archive_world.proofs.Invariant.{Holds, none-over, start_from-holds}
 use Rattle.archive_world.proofs.ServerMoves.{begun_away}
 use Rattle.archive_world.proofs.Growing.{run-grows}
-use Rattle.archive_world.proofs.Happening.{run-append, merged-first, run-holds}
+use Rattle.archive_world.proofs.Happening.{run-append, merged-first, run_from-holds}
 use Rattle.archive_world.proofs.Concluding.{run-clients}
 
 -- the get was counted when it began
@@ -66,14 +67,16 @@ module _ (w v : World) (h : Holds w) (k : Holds v) (g : GrowsTo w v) (e : Endpoi
         among = Has-contains (take f.serves.count v.taken) _ among;
       }
 
-pub fetches-own_sent : (before after : List Step) (s : Step) → AllMerged (before ++ s ∷ after) start → FetchesOwnSent before after s
-fetches-own_sent before after s merged e kind is own x has own_then got has_got same =
-    let w = run before in
-    let v = run (before ++ s ∷ after) in
-    let end : v ≡ run_from after (happens s w) = run-append before (s ∷ after) start in
+pub fetches-own_sent : (texts : List (List ℕ)) (maps : Maps) → AreOver texts maps → (before after : List Step) (s : Step) → AllMerged (before ++ s ∷ after) (start_from texts maps) → FetchesOwnSent (start_from texts maps) before after s
+fetches-own_sent texts maps over before after s merged e kind is own x has own_then got has_got same =
+    let first = start_from texts maps in
+    let w = run_from before first in
+    let v = run_from (before ++ s ∷ after) first in
+    let end : v ≡ run_from after (happens s w) = run-append before (s ∷ after) first in
     let grows : GrowsTo w v = subst (GrowsTo w) (sym end) (run-grows (s ∷ after) w) in
-    let h = run-holds before (merged-first before (s ∷ after) start merged) in
-    let k = run-holds (before ++ s ∷ after) merged in
+    let at_first = start_from-holds texts maps over in
+    let h = run_from-holds before first at_first (merged-first before (s ∷ after) first merged) in
+    let k = run_from-holds (before ++ s ∷ after) first at_first merged in
     let now = begin_counted w s e kind is in
     let more : GrowsTo (happens s w) v = subst (GrowsTo (happens s w)) (sym end) (run-grows after (happens s w)) in
     let began = either (λ ours. ours) (Has-extends (happens s w).begun v.begun (record { client = e; operation = get kind; taken = length w.taken }) more.begun) now in
@@ -90,4 +93,4 @@ fetches-sent before after s own merged e kind is x has got has_got same =
     let first = run-clients before (merged-first before (s ∷ after) start merged) in
     let getter = subst (IsOwn v) same (own-each v own got.client (all.got got has_got)) in
     let sender = own-each w (none_reused-before w v grows own) x (first.sent x has) in
-    fetches-own_sent before after s merged e kind is getter x has sender got has_got same
+    fetches-own_sent [] empty_maps none-over before after s merged e kind is getter x has sender got has_got same

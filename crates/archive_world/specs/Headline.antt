@@ -7,7 +7,7 @@ use Rattle.tws_file.specs.declared.«ruleset».Ruleset.TheVariants.{Lynx, Ms}
 use Rattle.tws_best.specs.Best.{Collected, IsCollectionOf, collection_text}
 use Rattle.archive_table.specs.Server.{Maps, Taken}
 use Rattle.archive_client.specs.Client.{put, get}
-use Rattle.archive_world.specs.World.{Datagram, Begun, begin, stray, Step, run, Opening, to_read, Got, World, server_endpoint}
+use Rattle.archive_world.specs.World.{Datagram, Begun, begin, stray, Step, run_from, run, Opening, to_read, Got, World, server_endpoint}
 
 -- ---- own ports: no port is reused
 
@@ -132,11 +132,11 @@ pub record IsFetchedWith (kind : Ruleset) (taken : List Taken) (sent : Endpoint)
 
 -- What was counted as sent before a get began is in what it has fetched, if the ports of the get's endpoint are its own at
 -- the end, and those of the sender's when the get began.
-abbrev pub FetchesOwnSent : (before after : List Step) → Step → Type 0
-FetchesOwnSent before after s =
-    (e : Endpoint) (kind : Ruleset) → s.event ≡ begin e (get kind) → IsOwn (run (before ++ s ∷ after)) e → (x : Endpoint) → Contains (run before).sent x → IsOwn (run before) x → (g : Got) → Contains (run (before ++ s ∷ after)).got g → g.client ≡ e → IsFetchedWith kind (run (before ++ s ∷ after)).taken x g
+abbrev pub FetchesOwnSent : World → (before after : List Step) → Step → Type 0
+FetchesOwnSent w before after s =
+    (e : Endpoint) (kind : Ruleset) → s.event ≡ begin e (get kind) → IsOwn (run_from (before ++ s ∷ after) w) e → (x : Endpoint) → Contains (run_from before w).sent x → IsOwn (run_from before w) x → (g : Got) → Contains (run_from (before ++ s ∷ after) w).got g → g.client ≡ e → IsFetchedWith kind (run_from (before ++ s ∷ after) w).taken x g
 
--- the same if no port is reused
+-- the same if no port is reused, from a server that has nothing at first
 abbrev pub FetchesSent : (before after : List Step) → Step → Type 0
 FetchesSent before after s =
     (e : Endpoint) (kind : Ruleset) → s.event ≡ begin e (get kind) → (x : Endpoint) → Contains (run before).sent x → (g : Got) → Contains (run (before ++ s ∷ after)).got g → g.client ≡ e → IsFetchedWith kind (run (before ++ s ∷ after)).taken x g

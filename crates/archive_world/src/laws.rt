@@ -32,7 +32,6 @@ pub fn network_law()
     // The strays are those of the events.
     ensures strays { (steps : List Step) (d : Datagram) → Contains (run steps).strays d → StraysBy steps d }
     // So a put that was counted as sent before a get began is in what that get has fetched.
-    ensures since_own { (before after : List Step) (s : Step) → AllMerged (before ++ s ∷ after) start → FetchesOwnSent before after s }
     ensures since { (before after : List Step) (s : Step) → HasOwnPorts (run (before ++ s ∷ after)) → AllMerged (before ++ s ∷ after) start → FetchesSent before after s }
     // No step sends more than one datagram.
     ensures cost { (steps : List Step) → length (run steps).net ≤ length steps }
@@ -46,10 +45,11 @@ pub fn network_law()
 /// as sent takes effect at one step of the run, which takes its file, and each get that has fetched at one step, at which
 /// what it fetched is the server's collection; and that step comes after the begin of the operation and, as each beginning
 /// of a run is a run, before its end. So with what ends before something else begins: what was sent is fetched
-/// (`network_law`, `since_own`), a later get has fetched no less, and an earlier one has nothing of a later put.
+/// (`since`), a later get has fetched no less, and an earlier one has nothing of a later put.
 pub fn effects_law()
     ensures puts { (texts : List (List ℕ)) (maps : Maps) → AreOver texts maps → (steps : List Step) → AllMerged steps (start_from texts maps) → (e : Endpoint) → IsOwn (run_from steps (start_from texts maps)) e → Contains (run_from steps (start_from texts maps)).sent e → TakesEffect (start_from texts maps) steps e }
     ensures gets { (texts : List (List ℕ)) (maps : Maps) → AreOver texts maps → (steps : List Step) → AllMerged steps (start_from texts maps) → (g : Got) → IsOwn (run_from steps (start_from texts maps)) g.client → Contains (run_from steps (start_from texts maps)).got g → ReadsAtOnce (start_from texts maps) steps g }
+    ensures since { (texts : List (List ℕ)) (maps : Maps) → AreOver texts maps → (before after : List Step) (s : Step) → AllMerged (before ++ s ∷ after) (start_from texts maps) → FetchesOwnSent (start_from texts maps) before after s }
     ensures no_less { (texts : List (List ℕ)) (maps : Maps) → AreOver texts maps → (before after : List Step) (s : Step) → AllMerged (before ++ s ∷ after) (start_from texts maps) → FetchesNoLess (start_from texts maps) before after s }
     ensures none { (texts : List (List ℕ)) (maps : Maps) → AreOver texts maps → (before after : List Step) (s : Step) → AllMerged (before ++ s ∷ after) (start_from texts maps) → FetchesNone (start_from texts maps) before after s }
 {}
@@ -64,6 +64,11 @@ pub fn folder_law()
     ensures empty { AreOver [] empty_maps }
     ensures own { (lynx ms : Collected) → IsCollected lynx → IsCollected ms → lynx.«ruleset» ≡ Lynx → ms.«ruleset» ≡ Ms → AreOver (collection_text lynx ∷ collection_text ms ∷ []) (record { lynx = lynx; ms = ms }) }
     ensures clients { (texts : List (List ℕ)) (maps : Maps) → AreOver texts maps → (steps : List Step) → AllMerged steps (start_from texts maps) → ClientsHeadline (run_from steps (start_from texts maps)) }
+    // Also from there, for all events and grants, there are collections as the server's contract says, and lists of what a
+    // keeper has; and the world after them is unique.
+    ensures total { (texts : List (List ℕ)) (maps : Maps) (asked : List (Event × Grant)) → (steps : List Step) × (asked_by steps ≡ asked) × AllMerged steps (start_from texts maps) }
+    ensures one { (texts : List (List ℕ)) (maps : Maps) → AreOver texts maps → (first second : List Step) → asked_by first ≡ asked_by second → AllMerged first (start_from texts maps) → AllMerged second (start_from texts maps) → run_from first (start_from texts maps) ≡ run_from second (start_from texts maps) }
+    ensures list { (texts : List (List ℕ)) (maps : Maps) → AreOver texts maps → (steps : List Step) (first : List Keeping) → AllMerged steps (start_from texts maps) → (last : List Keeping) × RunKeeps steps (start_from texts maps) first last }
     ensures no_worse { (texts : List (List ℕ)) (maps : Maps) → AreOver texts maps → (before after : List Step) → AllMerged (before ++ after) (start_from texts maps) → AreNoWorse (run_from before (start_from texts maps)).server.maps (run_from (before ++ after) (start_from texts maps)).server.maps }
     ensures restarts { (texts : List (List ℕ)) (maps : Maps) → AreOver texts maps → (first : List Keeping) → HasKept first maps → (steps : List Step) (last : List Keeping) → AllMerged steps (start_from texts maps) → RunKeeps steps (start_from texts maps) first last → HasKept last (run_from steps (start_from texts maps)).server.maps × RestartsFrom last (run_from steps (start_from texts maps)) }
     ensures promised { (texts : List (List ℕ)) (maps : Maps) → AreOver texts maps → (first : List Keeping) → HasKept first maps → (steps : List Step) (last : List Keeping) → AllMerged steps (start_from texts maps) → RunKeeps steps (start_from texts maps) first last → LoadsPromised (start_from texts maps) steps last }

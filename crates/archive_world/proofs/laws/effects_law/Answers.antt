@@ -1,4 +1,5 @@
 use Rattle.archive_world.proofs.Effects.{puts-at, gets-at}
+use Rattle.archive_world.proofs.Fetching.{fetches-own_sent}
 use Rattle.archive_world.proofs.RealTime.{fetches-no_less, fetches-none}
 use Rattle.archive_world.proofs.laws.effects_law.Goals as goal
 
@@ -7,6 +8,9 @@ returns-clause-puts c = puts-at
 
 pub returns-clause-gets : goal.returns-clause-gets
 returns-clause-gets c = gets-at
+
+pub returns-clause-since : goal.returns-clause-since
+returns-clause-since c = fetches-own_sent
 
 pub returns-clause-no_less : goal.returns-clause-no_less
 returns-clause-no_less c = fetches-no_less

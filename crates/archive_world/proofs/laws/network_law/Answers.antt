@@ -2,15 +2,12 @@ use Rattle.archive_world.proofs.Counting.{began-by}
 use Rattle.archive_world.proofs.Costs.{run-sends}
 use Rattle.archive_world.proofs.Entering.{strays-by}
 use Rattle.archive_world.proofs.Concluding.{run-clients, run-headline}
-use Rattle.archive_world.proofs.Fetching.{fetches-own_sent, fetches-sent}
+use Rattle.archive_world.proofs.Fetching.{fetches-sent}
 use Rattle.archive_world.proofs.Totality.{run-total, run-one}
 use Rattle.archive_world.proofs.laws.network_law.Goals as goal
 
 pub returns-clause-clients : goal.returns-clause-clients
 returns-clause-clients c = run-clients
-
-pub returns-clause-since_own : goal.returns-clause-since_own
-returns-clause-since_own c = fetches-own_sent
 
 pub returns-clause-headline : goal.returns-clause-headline
 returns-clause-headline c = run-headline
