@@ -15,16 +15,15 @@ use Rattle.archive_turns.specs.declared.limits.TheConstants.{QUIET_TURNS}
 use Rattle.archive_turns.specs.Wire.{Entry}
 use Rattle.archive_turns.specs.Turn.{Replies, Receipt, datagram, nothing, fault}
 use Rattle.archive_turns.specs.Run.{Run, IsRunTurn, run_received, run_waited, begin_sized, begin_opened, put_result, Writes, WritesGot}
-use Rattle.archive_world.specs.World.{Datagram, World, server_endpoint, start, run_from, AllMayHappen, AllMerged}
-use Rattle.archive_world.specs.Headline.{HasOwnPorts, Headline, SentOnce}
-use Rattle.archive_world.specs.Traces.{Member, starts, loads, trace_from, trace_steps}
+use Rattle.archive_world.specs.World.{Datagram, World, server_endpoint, start_from, start, run_from, AllMayHappen, AllMerged}
+use Rattle.archive_world.specs.Headline.{IsOwn, AreOver, HasOwnPorts, ClientsHeadline, Headline, SentOnce, IsFinishedGet}
+use Rattle.archive_world.specs.Traces.{Member, starts, loads, trace_from, trace_steps, AllDeedsMerged}
 use Rattle.archive_world.specs.Restarts.{AreOwnRules}
 use Rattle.archive_world.proofs.Places.{Has-contains, Has-from_contains}
-use Rattle.archive_world.proofs.Invariant.{AreBest}
-use Rattle.archive_world.proofs.Collecting.{best-collected, run_from-best, start-best}
+use Rattle.archive_world.proofs.Invariant.{AreBest, none-over, start_from-best}
+use Rattle.archive_world.proofs.Collecting.{best-collected, run_from-best}
 use Rattle.archive_world.proofs.Persisting.{own-rules}
-use Rattle.archive_world.proofs.Loading.{start-kept}
-use Rattle.archive_world.proofs.Tracing.{trace-makes, trace_merged, trace-headline}
+use Rattle.archive_world.proofs.Tracing.{trace-makes, trace_merged, trace-clients, trace-headline}
 use Rattle.archive_running.specs.Members.{sent_by, come_to, does, received_members, quiet_members, client_members}
 use Rattle.archive_running.specs.Archive.{Archive, idle, IsStrangers, Brings, own_endpoint, after_begin, after_client, after_restart, LoadsKept, Moves, server_turns, server_rounds, server_restarts, client_begins, client_turns, Reaches, told, untold, more, Mirrors, WritesFinished}
 use Rattle.archive_running.proofs.Fitting.{all-may, all-merged}
@@ -95,91 +94,6 @@ by_places host calls a brings d has = by (brings d (Has-contains (come_to host c
     by (inl old) = inl (Has-from_contains a.net d old)
     by (inr stranger) = inr stranger
 
--- so far: the members are the world's, and the keeper has what the server has
-record Made (a : Archive) (members : List Member) : Type 0 where
-  makes : Makes a members start
-  kept : KeptIn a.kept a.server.maps
-
-steps_merged : (a : Archive) (members : List Member) → Makes a members start → AllMerged (trace_steps members start) start
-steps_merged a members makes =
-    trace_merged members start (all-may members start makes.fit) (all-merged members start makes.fit)
-
-are_best : (a : Archive) (members : List Member) → Makes a members start → AreBest (trace_from members start).taken a.server.maps
-are_best a members makes =
-    let steps = trace_steps members start in
-    let best = run_from-best steps start (steps_merged a members makes) start-best in
-    let made : run_from steps start ≡ trace_from members start = trace-makes members start (all-may members start makes.fit) in
-    let traced = subst (λ (w : World). AreBest w.taken w.server.maps) made best in
-    subst (λ (s : Server). AreBest (trace_from members start).taken s.maps) makes.shows.server traced
-
-rules_of : (a : Archive) (members : List Member) → Makes a members start → AreOwnRules a.server.maps
-rules_of a members makes = own-rules (trace_from members start).taken a.server.maps (are_best a members makes)
-
--- a move of the server
-served : (a b : Archive) (members added : List Member) → Made a members → Makes b added (trace_from members start) → (AreOwnRules b.server.maps → KeptIn b.kept b.server.maps) → Made b (members ++ added)
-served a b members added before makes kept =
-    let whole = makes-then b members added a start before.makes makes in
-    record { makes = whole; kept = kept (rules_of b (members ++ added) whole) }
-
--- a move of a client
-asked : (a b : Archive) (members added : List Member) → Made a members → b.server ≡ a.server → b.kept ≡ a.kept → Makes b added (trace_from members start) → Made b (members ++ added)
-asked a b members added before server kept makes =
-    record {
-      makes = makes-then b members added a start before.makes makes;
-      kept = subst (λ (o : Option (List Keeping)). KeptIn o b.server.maps) (sym kept) (subst (λ (s : Server). KeptIn a.kept s.maps) (sym server) before.kept);
-    }
-
-restarted : (a : Archive) (members : List Member) (maps : Maps) (now : Option (List Keeping)) → LoadsKept a.kept now a.server.maps maps → Made a members → Made (after_restart maps now a) (members ++ does loads ∷ [])
-restarted a members maps now has before =
-    let best = are_best a members before.makes in
-    let same = restart-same a.kept now a.server.maps maps has before.kept (best-collected Lynx _ a.server.maps.lynx best.lynx) (best-collected Ms _ a.server.maps.ms best.ms) in
-    let makes = restart-makes a (trace_from members start) before.makes.shows now in
-    let whole : Made (after_restart a.server.maps now a) (members ++ does loads ∷ []) = record { makes = makes-then _ members _ a start before.makes makes; kept = same.1 } in
-    subst (λ (m : Maps). Made (after_restart m now a) (members ++ does loads ∷ [])) (sym same.0) whole
-
-moved : {a b : Archive} {members added : List Member} → Made a members → Moves a b added → Made b (members ++ added)
-moved {members} before (server_turns a last timers per_host new took calls now t brings) =
-    served a _ members _ before
-    (turn-makes a (trace_from members start) last timers per_host new took calls now t before.makes.shows (by_places server_endpoint.host calls a brings))
-    (λ rules. pass-kept _ _ a.server new.table _ _ took calls a.kept now t.pass rules before.kept)
-moved {members} before (server_rounds a last timers per_host new took calls now t brings) =
-    served a _ members _ before
-    (round-makes a (trace_from members start) last timers per_host new took calls now t before.makes.shows (by_places server_endpoint.host calls a brings))
-    (λ rules. pass-kept _ _ a.server new.table _ _ took _ a.kept now t.pass rules before.kept)
-moved {members} before (server_restarts a maps now has) = restarted a members maps now has before
-moved {members} before (client_begins a host operation port replies r away is) =
-    asked a _ members _ before refl refl
-    (begin_made a (trace_from members start) before.makes.shows host operation replies r away port is)
-moved {members} before (client_turns a host old new calls t away is brings) =
-    asked a _ members _ before refl refl
-    (run_made a (trace_from members start) before.makes.shows host old away is new calls t (by_places host calls a brings))
-
-idle_made : (kept : Option (List Keeping)) → KeptIn kept empty_maps → Made (idle kept) []
-idle_made kept has =
-    record {
-      makes = record {
-        fit = tt;
-        shows = record {
-          server = refl;
-          clients = refl;
-          begun = refl;
-          taken = refl;
-          net = λ d has. let never = has.is in absurd cc;
-          others = λ d has. let never = has.is in absurd cc;
-          sent = λ e c is sent. absurd cc;
-          got = λ e c file is given. absurd cc;
-          known = λ e. refl;
-          apart = All-nil (λ p. p ≢ server_endpoint.port);
-        };
-      };
-      kept = has;
-    }
-
-reached : {a : Archive} {members : List Member} → Reaches a members → Made a members
-reached told = idle_made (Some []) start-kept
-reached untold = idle_made None tt
-reached (more before move) = moved (reached before) move
-
 -- a put returns Ok only if its client counts the file as sent
 put_sent : (s : State) (len n : ℕ) → put_result s len ≡ Ok n → s ≡ state.Sent
 put_sent state.Running len n e = absurd cc
@@ -187,36 +101,139 @@ put_sent state.Sent len n e = refl
 put_sent state.Got len n e = absurd cc
 put_sent (state.Failed why) len n e = absurd cc
 
--- ---- what is promised
+-- ---- from a server with these collections
 
-module _ (a : Archive) (members : List Member) (reaches : Reaches a members) where
-  pub run-mirrors : Mirrors a (trace_from members start)
-  run-mirrors = shows-mirrors a (trace_from members start) (reached reaches).makes.shows
+module _ (texts : List (List ℕ)) (maps : Maps) (over : AreOver texts maps) where
+  abbrev first : World
+  first = start_from texts maps
 
-  pub run-happens : AllMayHappen (trace_steps members start) start
-  run-happens = all-may members start (reached reaches).makes.fit
+  -- so far: the members are the world's, and the keeper has what the server has
+  record Made (a : Archive) (members : List Member) : Type 0 where
+    makes : Makes a members first
+    kept : KeptIn a.kept a.server.maps
 
-  pub run-merged : AllMerged (trace_steps members start) start
-  run-merged = steps_merged a members (reached reaches).makes
+  steps_merged : (a : Archive) (members : List Member) → Makes a members first → AllMerged (trace_steps members first) first
+  steps_merged a members makes =
+      trace_merged members first (all-may members first makes.fit) (all-merged members first makes.fit)
 
-  module _ (own : HasOwnPorts (trace_from members start)) where
-    pub run-headline : Headline (trace_from members start)
-    run-headline = trace-headline members run-happens own (all-merged members start (reached reaches).makes.fit)
+  are_best : (a : Archive) (members : List Member) → Makes a members first → AreBest (trace_from members first).taken a.server.maps
+  are_best a members makes =
+      let steps = trace_steps members first in
+      let best = run_from-best steps first (steps_merged a members makes) (start_from-best texts maps over) in
+      let made : run_from steps first ≡ trace_from members first = trace-makes members first (all-may members first makes.fit) in
+      let traced = subst (λ (w : World). AreBest w.taken w.server.maps) made best in
+      subst (λ (s : Server). AreBest (trace_from members first).taken s.maps) makes.shows.server traced
 
-    module _ (e : Endpoint) (c : Client) where
-      pub run-sent : (len n : ℕ) → lookup (is_same e) a.clients ≡ Some c → put_result (state_of c) len ≡ Ok n → SentOnce (trace_from members start).begun (trace_from members start).taken e
-      run-sent len n is ok = run-headline.sent e (run-mirrors.sent e c is (put_sent (state_of c) len n ok))
+  rules_of : (a : Archive) (members : List Member) → Makes a members first → AreOwnRules a.server.maps
+  rules_of a members makes = own-rules (trace_from members first).taken a.server.maps (are_best a members makes)
 
-      written_finished : (file : Result (List ℕ) Client) → file_of c ≡ file → (len : ℕ) (written now : Option (List ℕ)) → lookup (is_same e) a.clients ≡ Some c → Writes file (Ok len) written now → WritesFinished e c len (trace_from members start) written now
+  -- a move of the server
+  served : (a b : Archive) (members added : List Member) → Made a members → Makes b added (trace_from members first) → (AreOwnRules b.server.maps → KeptIn b.kept b.server.maps) → Made b (members ++ added)
+  served a b members added before makes kept =
+      let whole = makes-then b members added a first before.makes makes in
+      record { makes = whole; kept = kept (rules_of b (members ++ added) whole) }
+
+  -- a move of a client
+  asked : (a b : Archive) (members added : List Member) → Made a members → b.server ≡ a.server → b.kept ≡ a.kept → Makes b added (trace_from members first) → Made b (members ++ added)
+  asked a b members added before server kept makes =
+      record {
+        makes = makes-then b members added a first before.makes makes;
+        kept = subst (λ (o : Option (List Keeping)). KeptIn o b.server.maps) (sym kept) (subst (λ (s : Server). KeptIn a.kept s.maps) (sym server) before.kept);
+      }
+
+  restarted : (a : Archive) (members : List Member) (maps : Maps) (now : Option (List Keeping)) → LoadsKept a.kept now a.server.maps maps → Made a members → Made (after_restart maps now a) (members ++ does loads ∷ [])
+  restarted a members maps now has before =
+      let best = are_best a members before.makes in
+      let same = restart-same a.kept now a.server.maps maps has before.kept (best-collected Lynx _ a.server.maps.lynx best.lynx) (best-collected Ms _ a.server.maps.ms best.ms) in
+      let makes = restart-makes a (trace_from members first) before.makes.shows now in
+      let whole : Made (after_restart a.server.maps now a) (members ++ does loads ∷ []) = record { makes = makes-then _ members _ a first before.makes makes; kept = same.1 } in
+      subst (λ (m : Maps). Made (after_restart m now a) (members ++ does loads ∷ [])) (sym same.0) whole
+
+  moved : {a b : Archive} {members added : List Member} → Made a members → Moves a b added → Made b (members ++ added)
+  moved {members} before (server_turns a last timers per_host new took calls now t brings) =
+      served a _ members _ before
+      (turn-makes a (trace_from members first) last timers per_host new took calls now t before.makes.shows (by_places server_endpoint.host calls a brings))
+      (λ rules. pass-kept _ _ a.server new.table _ _ took calls a.kept now t.pass rules before.kept)
+  moved {members} before (server_rounds a last timers per_host new took calls now t brings) =
+      served a _ members _ before
+      (round-makes a (trace_from members first) last timers per_host new took calls now t before.makes.shows (by_places server_endpoint.host calls a brings))
+      (λ rules. pass-kept _ _ a.server new.table _ _ took _ a.kept now t.pass rules before.kept)
+  moved {members} before (server_restarts a maps now has) = restarted a members maps now has before
+  moved {members} before (client_begins a host operation port replies r away is) =
+      asked a _ members _ before refl refl
+      (begin_made a (trace_from members first) before.makes.shows host operation replies r away port is)
+  moved {members} before (client_turns a host old new calls t away is brings) =
+      asked a _ members _ before refl refl
+      (run_made a (trace_from members first) before.makes.shows host old away is new calls t (by_places host calls a brings))
+
+  idle_made : (kept : Option (List Keeping)) → KeptIn kept maps → Made (idle texts maps kept) []
+  idle_made kept has =
+      record {
+        makes = record {
+          fit = tt;
+          shows = record {
+            server = refl;
+            clients = refl;
+            begun = refl;
+            taken = refl;
+            net = λ d has. let never = has.is in absurd cc;
+            others = λ d has. let never = has.is in absurd cc;
+            sent = λ e c is sent. absurd cc;
+            got = λ e c file is given. absurd cc;
+            known = λ e. refl;
+            apart = All-nil (λ p. p ≢ server_endpoint.port);
+          };
+        };
+        kept = has;
+      }
+
+  reached : {a : Archive} {members : List Member} → Reaches texts maps a members → Made a members
+  reached (told log has) = idle_made (Some log) has
+  reached untold = idle_made None tt
+  reached (more before move) = moved (reached before) move
+
+  -- ---- what is promised
+
+  module _ (a : Archive) (members : List Member) (reaches : Reaches texts maps a members) where
+    pub run-mirrors : Mirrors a (trace_from members first)
+    run-mirrors = shows-mirrors a (trace_from members first) (reached reaches).makes.shows
+
+    pub run-happens : AllMayHappen (trace_steps members first) first
+    run-happens = all-may members first (reached reaches).makes.fit
+
+    pub run-merged : AllMerged (trace_steps members first) first
+    run-merged = steps_merged a members (reached reaches).makes
+
+    run-fits : AllDeedsMerged members first
+    run-fits = all-merged members first (reached reaches).makes.fit
+
+    pub run-clients : ClientsHeadline (trace_from members first)
+    run-clients = trace-clients texts maps over members run-happens run-fits
+
+    module _ (e : Endpoint) (own : IsOwn (trace_from members first) e) (c : Client) where
+      pub run-sent : (len n : ℕ) → lookup (is_same e) a.clients ≡ Some c → put_result (state_of c) len ≡ Ok n → SentOnce (trace_from members first).begun (trace_from members first).taken e
+      run-sent len n is ok =
+          let among = run-mirrors.sent e c is (put_sent (state_of c) len n ok) in
+          (run-clients.client e (run-clients.sent e among) own).sent among
+
+      finished_get : (file : List ℕ) → Contains (trace_from members first).got (record { client = e; file = file }) → IsFinishedGet (trace_from members first).begun (trace_from members first).taken (trace_from members first).opened (record { client = e; file = file })
+      finished_get file among = (run-clients.client e (run-clients.got _ among) own).got _ among refl
+
+      written_finished : (file : Result (List ℕ) Client) → file_of c ≡ file → (len : ℕ) (written now : Option (List ℕ)) → lookup (is_same e) a.clients ≡ Some c → Writes file (Ok len) written now → WritesFinished e c len (trace_from members first) written now
       written_finished (Ok file) given len written now is writes =
           record {
             file = file;
             is_got = given;
             size = writes.0;
             appends = writes.1;
-            finished = run-headline.got _ (run-mirrors.got e c file is given);
+            finished = finished_get file (run-mirrors.got e c file is given);
           }
       written_finished (Err k) given len written now is writes = absurd writes
 
-      pub run-fetched : (len : ℕ) (written now : Option (List ℕ)) → lookup (is_same e) a.clients ≡ Some c → WritesGot c (Ok len) written now → WritesFinished e c len (trace_from members start) written now
+      pub run-fetched : (len : ℕ) (written now : Option (List ℕ)) → lookup (is_same e) a.clients ≡ Some c → WritesGot c (Ok len) written now → WritesFinished e c len (trace_from members first) written now
       run-fetched len written now is writes = written_finished (file_of c) refl len written now is writes.writes
+
+-- a server that has nothing at first
+pub run-headline : (a : Archive) (members : List Member) → Reaches [] empty_maps a members → HasOwnPorts (trace_from members start) → Headline (trace_from members start)
+run-headline a members reaches own =
+    trace-headline members (run-happens [] empty_maps none-over a members reaches) own (run-fits [] empty_maps none-over a members reaches)

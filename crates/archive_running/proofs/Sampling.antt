@@ -21,6 +21,7 @@ use Rattle.archive_turns.specs.Run.{Run, RunAnswers, run_turn, begin_opened}
 use Rattle.archive_world.specs.World.{Datagram, server_endpoint, start}
 use Rattle.archive_world.specs.Traces.{Member, starts, trace_from}
 use Rattle.archive_world.specs.Headline.{HasOwnPorts}
+use Rattle.archive_world.proofs.Loading.{start-kept}
 use Rattle.archive_world.proofs.Places.{Has-contains, Has-from_contains}
 use Rattle.archive_world.proofs.OwnTest.{own-by}
 use Rattle.archive_world.proofs.Premises.{empty_merged}
@@ -114,7 +115,7 @@ asking operation =
 
 abbrev begun : Operation → Archive
 begun operation =
-    after_begin 2 operation (asking operation) (begin_opened (Some 5000) server_endpoint operation done).calls (idle nothing_kept)
+    after_begin 2 operation (asking operation) (begin_opened (Some 5000) server_endpoint operation done).calls (idle [] empty_maps nothing_kept)
 
 abbrev begin_members : Operation → List Member
 begin_members operation = does (starts here operation) ∷ []
@@ -166,8 +167,8 @@ abbrev acked : Archive
 acked =
     after_client 2 (bound empty first_ack) over (run_turn (answered last_ack) (bound empty first_ack)).calls taken
 
-begins_put : Moves (idle nothing_kept) (begun empty) (begin_members empty)
-begins_put = client_begins (idle nothing_kept) 2 empty (Some 5000) done (asking empty) (λ e. cc) refl
+begins_put : Moves (idle [] empty_maps nothing_kept) (begun empty) (begin_members empty)
+begins_put = client_begins (idle [] empty_maps nothing_kept) 2 empty (Some 5000) done (asking empty) (λ e. cc) refl
 
 opens_put : Moves (begun empty) (opened empty) (server_members (begun empty) (request empty))
 unfolding encode decode_bytes block_of
@@ -213,7 +214,7 @@ sends =
     record {
       archive = acked;
       members = put_members;
-      reaches = more (more (more (more (more told begins_put) opens_put) binds_put) takes) ends_put;
+      reaches = more (more (more (more (more (told [] start-kept) begins_put) opens_put) binds_put) takes) ends_put;
       own = put_own;
       endpoint = here;
       client = over.client;
@@ -232,8 +233,8 @@ empty_text = collection_text empty_maps.lynx
 abbrev whole : List ℕ
 whole = encode (data_block 1 empty_text)
 
-begins_get : Moves (idle nothing_kept) (begun lynx) (begin_members lynx)
-begins_get = client_begins (idle nothing_kept) 2 lynx (Some 5000) done (asking lynx) (λ e. cc) refl
+begins_get : Moves (idle [] empty_maps nothing_kept) (begun lynx) (begin_members lynx)
+begins_get = client_begins (idle [] empty_maps nothing_kept) 2 lynx (Some 5000) done (asking lynx) (λ e. cc) refl
 
 opens_get : Moves (begun lynx) (opened lynx) (server_members (begun lynx) (request lynx))
 unfolding encode decode_bytes block_of
@@ -260,7 +261,7 @@ fetches =
     record {
       archive = heard lynx whole;
       members = heard_members lynx whole;
-      reaches = more (more (more told begins_get) opens_get) gets;
+      reaches = more (more (more (told [] start-kept) begins_get) opens_get) gets;
       own = get_own;
       endpoint = here;
       client = (bound lynx whole).client;

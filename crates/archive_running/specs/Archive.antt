@@ -1,7 +1,7 @@
 -- The running archive: a server and its clients, each over a wire that tells its calls, and the network that joins
 -- these wires. Each move is taken at the moment at which its `receive` returns, and one that receives nothing at its
 -- first call; so what a move receives was sent by earlier moves.
-use Rattle.std.specs.Prelude.{◌≡◌, ◌≢◌, ◌⊎◌, ℕ, Bool, List, [], ◌∷◌, ◌++◌, length, Contains, Option, None, Some, Ok}
+use Rattle.std.specs.Prelude.{◌≡◌, ◌≢◌, ◌⊎◌, ℕ, Bool, List, [], ◌∷◌, ◌++◌, map, length, Contains, Option, None, Some, Ok}
 use Rattle.std.specs.Map.{lookup, set_value}
 use Rattle.std.specs.Io.KnownBytes.{Appends}
 use Rattle.tftp_packet.specs.declared.endpoint.Endpoint.{Endpoint}
@@ -14,9 +14,9 @@ use Rattle.archive_turns.specs.Wire.{Entry}
 use Rattle.archive_turns.specs.declared.timer.Timer.{Timer}
 use Rattle.archive_turns.specs.Turn.{Replies, Service, IsTurn, IsRound, next_visit, turn_next, ready_next}
 use Rattle.archive_turns.specs.Run.{Run, begin_opened, IsRunTurn}
-use Rattle.archive_world.specs.World.{Datagram, Begun, World, server_endpoint, taken_with, start}
+use Rattle.archive_world.specs.World.{Datagram, Begun, World, server_endpoint, given, taken_with, start}
 use Rattle.archive_world.specs.Headline.{HasOwnPorts, IsFinishedGet}
-use Rattle.archive_world.specs.Restarts.{AreAlike}
+use Rattle.archive_world.specs.Restarts.{HasKept, AreAlike}
 use Rattle.archive_world.specs.Traces.{starts, loads, Member, trace_from}
 use Rattle.archive_running.specs.Members.{sent_by, come_to, does, visit_members, late_members, client_members}
 
@@ -35,14 +35,15 @@ pub record Archive : Type 0 where
   -- the keeper's list, if it tells it
   pub kept : Option (List Keeping)
 
--- a server without files whose keeper has nothing, and no client
-abbrev pub idle : (kept : Option (List Keeping)) → Archive
-idle kept =
+-- a server with these collections, which are the best over these texts, and no client; the texts count as the first files
+-- taken
+abbrev pub idle : (texts : List (List ℕ)) → Maps → (kept : Option (List Keeping)) → Archive
+idle texts maps kept =
     record {
-      server = record { request = server_endpoint.port; maps = empty_maps; live = [] };
+      server = record { request = server_endpoint.port; maps = maps; live = [] };
       clients = [];
       begun = [];
-      taken = [];
+      taken = map given texts;
       net = [];
       kept = kept;
     }
@@ -133,12 +134,12 @@ pub data Moves : (old new : Archive) → List Member → Type 0 where
   client_begins : (a : Archive) (host : ℕ) (operation : Operation) (port : Option ℕ) (replies : Replies) (r : Run) → host ≢ server_endpoint.host → (begin_opened port server_endpoint operation replies).result ≡ Ok r → Moves a (after_begin host operation r (begin_opened port server_endpoint operation replies).calls a) (does (starts (own_endpoint host r) operation) ∷ [])
   client_turns : (a : Archive) (host : ℕ) (old new : Run) (calls : List Entry) (t : IsRunTurn old new calls) → host ≢ server_endpoint.host → lookup (is_same (own_endpoint host old)) a.clients ≡ Some old.client → Brings host calls a → Moves a (after_client host old new calls a) (client_members t.answers host old)
 
--- The archive reaches this state by one move after another, and these are their members. At first the keeper has
--- nothing.
-pub data Reaches : Archive → List Member → Type 0 where
-  told : Reaches (idle (Some [])) []
-  untold : Reaches (idle None) []
-  more : {a b : Archive} {members added : List Member} → Reaches a members → Moves a b added → Reaches b (members ++ added)
+-- From a server with these collections the archive reaches this state by one move after another, and these are their
+-- members. At first a keeper that tells its list has these collections.
+pub data Reaches : (texts : List (List ℕ)) → Maps → Archive → List Member → Type 0 where
+  told : {texts : List (List ℕ)} {maps : Maps} (log : List Keeping) → HasKept log maps → Reaches texts maps (idle texts maps (Some log)) []
+  untold : {texts : List (List ℕ)} {maps : Maps} → Reaches texts maps (idle texts maps None) []
+  more : {texts : List (List ℕ)} {maps : Maps} {a b : Archive} {members added : List Member} → Reaches texts maps a members → Moves a b added → Reaches texts maps b (members ++ added)
 
 -- ---- what is promised
 
@@ -164,11 +165,11 @@ pub record WritesFinished (e : Endpoint) (c : Client) (len : ℕ) (w : World) (w
 
 -- ---- samples
 
--- the archive can reach a client for which `P` holds, without reusing a port
+-- an archive that has nothing at first can reach a client for which `P` holds, without reusing a port
 pub record CanReach (P : Client → Type 0) : Type 0 where
   pub archive : Archive
   pub members : List Member
-  pub reaches : Reaches archive members
+  pub reaches : Reaches [] empty_maps archive members
   pub own : HasOwnPorts (trace_from members start)
   pub endpoint : Endpoint
   pub client : Client

@@ -1,5 +1,5 @@
 -- What the ends of the server's transfers send and become, as the claims about them say.
-use Rattle.std.proofs.Common.{◌≡◌, ◌≢◌, ◌⊎◌, ℕ, ◌+◌, Bool, true, false, ◌==◌, List, Option, None, Some, IfSome, refl, sym, subst, inr}
+use Rattle.std.proofs.Common.{◌≡◌, ◌≢◌, ℕ, ◌+◌, Bool, true, false, ◌==◌, List, Option, None, Some, IfSome, refl, sym, subst, inr}
 use Rattle.tftp_packet.specs.declared.endpoint.Endpoint.{Endpoint}
 use Rattle.tftp_packet.specs.Packet.{Packet, ack}
 use Rattle.tftp_packet.specs.Blocks.{block_of}
@@ -13,8 +13,8 @@ use Rattle.tftp_ends.proofs.Steps.{KeepsSender, sender_ack-keeps, sender_timeout
 use Rattle.tftp_ends.proofs.Holding.{last-ended, receiver_timeout-same}
 use Rattle.archive_table.specs.Server.{End, Transfer, sending, receiving, transfer_at, sends_from, sender_goes_on, sender_answered, ack_at, receiver_goes_on, receiver_answered, waits_at, timeout_at, server_timeout}
 use Rattle.archive_world.specs.World.{World, after_transfer}
-use Rattle.archive_world.proofs.Claims.{IsStranger, HasPut, HasTaken, Serves, ServesBlock, AcksPut, ServerAcks, Says, IsServing, HasCome, ReceivesPut, IsReceivingAt, IsLiveEnd, IsRunning}
-use Rattle.archive_world.proofs.Lasting.{either}
+use Rattle.archive_world.specs.Headline.{IsOwn}
+use Rattle.archive_world.proofs.Claims.{HasPut, HasTaken, Serves, ServesBlock, AcksPut, ServerAcks, Says, IsServing, HasCome, ReceivesPut, IsReceivingAt, IsLiveEnd, IsRunning}
 use Rattle.archive_world.proofs.Invariant.{Holds}
 use Rattle.archive_world.proofs.Sending.{SendsHonest, from_port, sends_packet, goes_on-holds, closes-holds}
 
@@ -76,7 +76,7 @@ acks-put w e file r recv.TimedOut is bounds began come = absurd come
 acks-put w e file r recv.Over is bounds began come = absurd come
 
 -- what is sent is an ACK of the receiver
-pub ack_says : (w : World) (port : ℕ) (peer : Endpoint) (out : Option Packet) (n : ℕ) → IfSome out (λ p. p ≡ ack n) → (IsStranger w peer ⊎ AcksPut w peer n) → IfSome out (Says w (from_port port) peer)
+pub ack_says : (w : World) (port : ℕ) (peer : Endpoint) (out : Option Packet) (n : ℕ) → IfSome out (λ p. p ≡ ack n) → (IsOwn w peer → AcksPut w peer n) → IfSome out (Says w (from_port port) peer)
 ack_says w port peer None n sends whom = tt
 ack_says w port peer (Some p) n sends whom =
     let acks : ServerAcks w (from_port port) peer n = record { ours = refl; whom = whom } in
@@ -125,10 +125,10 @@ module _ (w : World) (h : Holds w) (port : ℕ) (t : Transfer) (is : transfer_at
   abbrev waited : RecvAnswer
   waited = receiver_timeout r
 
-  waited_acks : IsStranger w t.peer ⊎ AcksPut w t.peer waited.receiver.count
-  waited_acks =
-      let same = (receiver_timeout-same r).0 in
-      either (λ s. s) (λ (p : ReceivesPut w t.peer r). subst (AcksPut w t.peer) (sym same) (acks-put w t.peer p.file r r.state refl there.bounds p.began p.come)) there.whose
+  waited_acks : IsOwn w t.peer → AcksPut w t.peer waited.receiver.count
+  waited_acks own =
+      let p = there.whose own in
+      subst (AcksPut w t.peer) (sym (receiver_timeout-same r).0) (acks-put w t.peer p.file r r.state refl there.bounds p.began p.come)
 
   waited_sends : SendsHonest w (sends_from port t.peer (dgram_of waited.out))
   waited_sends =
@@ -149,7 +149,7 @@ module _ (w : World) (h : Holds w) (port : ℕ) (t : Transfer) (is : transfer_at
         bounds = (receiver_timeout-keeps r).fits there.bounds;
         count = there.count;
         opened = there.opened;
-        whose = either (λ s. s) (waited_put on) there.whose;
+        whose = λ own. waited_put on (there.whose own);
       }
 
   onward : IsRunning (receiving waited.receiver) → IsRunning t.end

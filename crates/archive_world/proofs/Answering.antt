@@ -18,10 +18,10 @@ use Rattle.archive_client.specs.declared.cause.Cause.TheVariants as cause
 use Rattle.archive_client.specs.declared.state.State.TheVariants as state
 use Rattle.archive_client.specs.Client.{Operation, put, get, Phase, asking, sending, receiving, failed, Client, request_packet, request_out, phase_state, phase_peer, is_over, heard_decoded, heard_at, heard, ack_heard, data_heard, refusal_heard, client_heard, client_unless_over, client_datagram, asks_again, phase_waits, client_timeout, heard_at_port}
 use Rattle.archive_world.specs.World.{Datagram, World, server_endpoint, after_client, client_at}
-use Rattle.archive_world.specs.Headline.{HasOwnPorts}
+use Rattle.archive_world.specs.Headline.{IsOwn}
 use Rattle.archive_world.proofs.Places.{Has}
 use Rattle.archive_world.proofs.Claims.{Serves, ServesBlock, Says, Binds, IsAskingFor, IsGetting, IsPursuing, MayBind}
-use Rattle.archive_world.proofs.Owning.{put_begun, one_served}
+use Rattle.archive_world.proofs.Owning.{one_served}
 use Rattle.archive_world.proofs.Invariant.{Holds}
 use Rattle.archive_world.proofs.Changing.{never_sent, never_got, moves-holds, stays-holds, fails-holds, stray-holds, sends_it}
 use Rattle.archive_world.proofs.Putting.{acked_by, answered-holds, acked-holds, put_waits-holds}
@@ -77,7 +77,7 @@ module _ (d : Datagram) where
 
 -- ---- a datagram arrives
 
-module _ (w : World) (h : Holds w) (own : HasOwnPorts w) (d : Datagram) (among : Has w.net d) (c : Client) (is : client_at d.target w ≡ Some c) (verdict : Verdict) where
+module _ (w : World) (h : Holds w) (d : Datagram) (among : Has w.net d) (c : Client) (is : client_at d.target w ≡ Some c) (verdict : Verdict) where
   abbrev e : Endpoint
   e = d.target
 
@@ -91,33 +91,34 @@ module _ (w : World) (h : Holds w) (own : HasOwnPorts w) (d : Datagram) (among :
   ack_row n (asking (put file) misses) at there knows = answered-holds w h e c is file misses at there (n == 0) d.source.port
   ack_row n (asking (get kind) misses) at there knows = stays-holds w h e c is
   ack_row n (sending peer s) at there knows =
-      acked-holds w h e c is peer s at there own n (acked_by w h own d among (from_server knows.0) (put_begun w e s.file there.began) n knows.1)
+      acked-holds w h e c is peer s at there n (acked_by w h d among (from_server knows.0) n knows.1)
   ack_row n (receiving peer r) at there knows = stays-holds w h e c is
   ack_row n (failed why) at there knows = stays-holds w h e c is
 
   -- one text is served at the port that a get is bound to
-  same_text : (peer : ℕ) (r : Receiver) (there : IsGetting w e peer r) (n : ℕ) (body : List ℕ) → d.source.port ≡ peer → ServesBlock w d.source e n body → body ≡ block_of there.file n
-  same_text peer r there n body from serves =
+  same_text : (peer : ℕ) (r : Receiver) (there : IsGetting w e peer r) (n : ℕ) (body : List ℕ) → d.source.port ≡ peer → ServesBlock w d.source e n body → (own : IsOwn w e) → body ≡ block_of (there.served own).file n
+  same_text peer r there n body from serves own =
       let at_peer = subst (λ (p : ℕ). Serves w e p serves.kind serves.file) from serves.serves in
-      let same = one_served w own e peer serves.kind there.kind serves.file there.file at_peer there.serves in
+      let served = there.served own in
+      let same = one_served w e own peer serves.kind there.kind serves.file served.file at_peer served.serves in
       serves.is_block ∙ ap (λ (f : List ℕ). block_of f n) same
 
   data_row : (n : ℕ) (body : List ℕ) (phase : Phase) → c.phase ≡ phase → IsPursuing w e phase → Knows d host (phase_peer phase) (block n body) → Holds (after_client e c (data_heard phase verdict d.source.port n body c) w)
   data_row n body (asking (put file) misses) at there knows = stays-holds w h e c is
   data_row n body (asking (get kind) misses) at there knows =
       let serves = served_by w h d among (from_server knows.0) n body knows.1 in
-      get_answered-holds w h own e c is kind misses at there verdict d.source.port n body (data_size d.bytes n body knows.1) serves.kind serves.file serves.serves serves.is_block (n == 1)
+      get_answered-holds w h e c is kind misses at there verdict d.source.port n body (data_size d.bytes n body knows.1) serves.kind serves.file serves.serves serves.is_block (n == 1)
   data_row n body (sending peer s) at there knows = stays-holds w h e c is
   data_row n body (receiving peer r) at there knows =
       let serves = served_by w h d among (from_server knows.0) n body knows.1 in
-      took-holds w h own e c is peer (λ q m. subst (λ (x : Phase). MayBind x q) at m) r there verdict n body (data_size d.bytes n body knows.1)
+      took-holds w h e c is peer (λ q m. subst (λ (x : Phase). MayBind x q) at m) r there verdict n body (data_size d.bytes n body knows.1)
       (same_text peer r there n body knows.2 serves)
   data_row n body (failed why) at there knows = stays-holds w h e c is
 
   refusal_row : (code : ℕ) (phase : Phase) → Holds (after_client e c (refusal_heard phase code c) w)
   refusal_row code (asking operation misses) = fails-holds w h e c is (cause.Refused code)
   refusal_row code (sending peer s) = fails-holds w h e c is (cause.Refused code)
-  refusal_row code (receiving peer r) = get_refused-holds w h own e c is r.state code
+  refusal_row code (receiving peer r) = get_refused-holds w h e c is r.state code
   refusal_row code (failed why) = stays-holds w h e c is
 
   heard_row : (x : Heard) → Knows d host (phase_peer c.phase) x → Holds (after_client e c (client_heard x verdict d.source.port c) w)
@@ -158,7 +159,7 @@ request_binds (get kind) binds = subst Binds (request_fields (get kind)) binds
 
 -- ---- a time-out
 
-module _ (w : World) (h : Holds w) (own : HasOwnPorts w) (e : Endpoint) (c : Client) (is : client_at e w ≡ Some c) where
+module _ (w : World) (h : Holds w) (e : Endpoint) (c : Client) (is : client_at e w ≡ Some c) where
   asks_row : (last : Bool) (operation : Operation) (misses : ℕ) → c.phase ≡ asking operation misses → IsAskingFor w e operation → Holds (after_client e c (asks_again last operation misses c) w)
   asks_row true operation misses at there = fails-holds w h e c is cause.TimedOut
   asks_row false operation misses at there =
@@ -176,7 +177,7 @@ module _ (w : World) (h : Holds w) (own : HasOwnPorts w) (e : Endpoint) (c : Cli
   waits_row (asking operation misses) at there = asks_row (misses + 1 == MISSES) operation misses at there
   waits_row (sending peer s) at there = put_waits-holds w h e c is peer s at there
   waits_row (receiving peer r) at there =
-      get_waits-holds w h own e c is peer (λ q m. subst (λ (x : Phase). MayBind x q) at m) r there
+      get_waits-holds w h e c is peer (λ q m. subst (λ (x : Phase). MayBind x q) at m) r there
   waits_row (failed why) at there = stays-holds w h e c is
 
   pub client_timeout-holds : Holds (after_client e c (client_timeout c) w)

@@ -9,14 +9,14 @@ use Rattle.tftp_ends.specs.declared.limits.TheConstants.{MAX_FILE}
 use Rattle.archive_table.specs.Server.{is_same}
 use Rattle.archive_client.specs.Client.{Operation, put, get, Client, IsOperation, client_start, request_packet, is_too_long}
 use Rattle.archive_world.specs.World.{Datagram, Begun, World, server_endpoint, client_at, begins}
-use Rattle.archive_world.specs.Headline.{HasOwnPorts}
+use Rattle.archive_world.specs.Headline.{IsOwn}
 use Rattle.archive_world.proofs.Places.{Has, Has-last, Has-push, Extends-push, at-extends, at-last, before_last}
 use Rattle.archive_world.proofs.Endpoints.{exact_endpoint}
 use Rattle.archive_world.proofs.Claims.{GrowsTo, HasBegun, IsStranger, PutsBlock, ServesBlock, Fetches, ServerAcks, Says, IsHonest, Binds, IsBound, IsAskingFor, IsFaithful, MayBind}
-use Rattle.archive_world.proofs.Lasting.{either, honest-lasts, live-lasts, stranger-lasts, faithful-lasts, opening-lasts, is_taken-lasts, sent-lasts, got-lasts}
+use Rattle.archive_world.proofs.Lasting.{either, honest-lasts, live-lasts, faithful-lasts, opening-lasts, is_taken-lasts, sent-lasts, got-lasts}
 use Rattle.archive_world.proofs.Growing.{begins-grow}
-use Rattle.archive_world.proofs.Owning.{no_stranger, put_begun, get_begun}
-use Rattle.archive_world.proofs.Invariant.{TakesOnce, Holds}
+use Rattle.archive_world.proofs.Owning.{own-before, no_stranger, put_begun, get_begun}
+use Rattle.archive_world.proofs.Invariant.{Holds}
 use Rattle.archive_world.proofs.Sending.{honest_packet}
 use Rattle.archive_world.proofs.Answering.{request_fields, request_says, request_binds}
 
@@ -41,7 +41,7 @@ pub may_begin : (operation : Operation) → is_too_long operation ≡ false → 
 may_begin (put file) short = ltb-false MAX_FILE (length file) short
 may_begin (get kind) short = tt
 
-module _ (w : World) (h : Holds w) (e : Endpoint) (operation : Operation) (away : e.host ≢ server_endpoint.host) (may : IsOperation operation) (own : HasOwnPorts (begins e operation w)) where
+module _ (w : World) (h : Holds w) (e : Endpoint) (operation : Operation) (away : e.host ≢ server_endpoint.host) (may : IsOperation operation) where
   abbrev after : World
   after = begins e operation w
 
@@ -61,41 +61,41 @@ module _ (w : World) (h : Holds w) (e : Endpoint) (operation : Operation) (away 
   new_honest =
       honest_packet after e server_endpoint (request_packet operation) (request_fields operation) (request_says after e server_endpoint operation asking)
 
-  -- no operation began there before
-  not_before : {P : Type 0} → HasBegun w e → P
-  not_before b =
+  own_then : (f : Endpoint) → IsOwn after f → IsOwn w f
+  own_then f own = own-before w after grows f own
+
+  -- no operation began there before, if its ports are its own
+  not_before : {P : Type 0} → IsOwn after e → HasBegun w e → P
+  not_before own b =
       let place = b.among.place in
       let still = at-extends w.begun (w.begun ++ began ∷ []) (Extends-push w.begun began) place b.begun b.among.is in
       let earlier : place < length w.begun = before_last w.begun place b.begun b.among.is in
-      let same : place ≡ length w.begun = own.operations place (length w.begun) b.begun began still (at-last w.begun began) b.client in
+      let same : place ≡ length w.begun = own.operations place (length w.begun) b.begun began still (at-last w.begun began) b.client refl in
       absurd (omega arith)
 
-  begun_now : HasBegun after e
-  begun_now = record { begun = began; among = Has-last w.begun began; client = refl }
-
   -- nothing from there binds
-  unsaid : {P : Type 0} (target : Endpoint) (p : Packet) → Binds (Ok p) → Says w e target p → P
-  unsaid target (read name mode) binds says = absurd binds
-  unsaid target (write name mode) binds says = absurd binds
-  unsaid target (data_block n body) binds says =
-      ⊎_elim (λ (s : PutsBlock w e n body). not_before (put_begun w e s.file s.began)) (λ (s : ServesBlock w e target n body). absurd (away s.ours)) says
-  unsaid target (ack n) binds says =
-      ⊎_elim (λ (s : Fetches w e). not_before (get_begun w e s.kind s.count s.began)) (λ (s : ServerAcks w e target n). absurd (away s.ours)) says
-  unsaid target (error code text) binds says = absurd binds
+  unsaid : {P : Type 0} → IsOwn after e → (target : Endpoint) (p : Packet) → Binds (Ok p) → Says w e target p → P
+  unsaid own target (read name mode) binds says = absurd binds
+  unsaid own target (write name mode) binds says = absurd binds
+  unsaid own target (data_block n body) binds says =
+      ⊎_elim (λ (s : PutsBlock w e n body). not_before own (put_begun w e s.file s.began)) (λ (s : ServesBlock w e target n body). absurd (away s.ours)) says
+  unsaid own target (ack n) binds says =
+      ⊎_elim (λ (s : Fetches w e). not_before own (get_begun w e s.kind s.count s.began)) (λ (s : ServerAcks w e target n). absurd (away s.ours)) says
+  unsaid own target (error code text) binds says = absurd binds
 
-  unread : {P : Type 0} (d : Datagram) (answer : Result Packet PacketFault) → decode_bytes d.bytes ≡ answer → Binds answer → ((p : Packet) → decode_bytes d.bytes ≡ Ok p → Says w e d.target p) → P
-  unread d (Ok p) reads binds says = unsaid d.target p binds (says p reads)
-  unread d (Err fault) reads binds says = absurd binds
+  unread : {P : Type 0} → IsOwn after e → (d : Datagram) (answer : Result Packet PacketFault) → decode_bytes d.bytes ≡ answer → Binds answer → ((p : Packet) → decode_bytes d.bytes ≡ Ok p → Says w e d.target p) → P
+  unread own d (Ok p) reads binds says = unsaid own d.target p binds (says p reads)
+  unread own d (Err fault) reads binds says = absurd binds
 
   honest_there : (d : Datagram) → IsHonest w d → d.source ≡ e → IsStranger w e ⊎ ((p : Packet) → decode_bytes d.bytes ≡ Ok p → Says w e d.target p)
   honest_there d honest same =
       subst (λ (x : Endpoint). IsStranger w x ⊎ ((p : Packet) → decode_bytes d.bytes ≡ Ok p → Says w x d.target p)) same honest.says
 
-  unbound : {P : Type 0} (port : ℕ) → IsBound w e port → P
-  unbound port b =
+  unbound : {P : Type 0} → IsOwn after e → (port : ℕ) → IsBound w e port → P
+  unbound own port b =
       ⊎_elim
-      (λ (s : IsStranger w e). no_stranger after own e begun_now (stranger-lasts w after grows e s))
-      (λ says. unread b.datagram (decode_bytes b.datagram.bytes) refl b.binds says)
+      (no_stranger w e (own_then e own))
+      (λ says. unread own b.datagram (decode_bytes b.datagram.bytes) refl b.binds says)
       (honest_there b.datagram (h.net b.datagram b.among) b.source)
 
   -- the request binds nobody
@@ -120,20 +120,17 @@ module _ (w : World) (h : Holds w) (e : Endpoint) (operation : Operation) (away 
       subst (IsFaithful after f) (sym new.1) (subst (λ (x : Endpoint). IsFaithful after x (client_start e.port server_endpoint operation)) (sym new.0) here)
   faithful f c (inr old) = faithful-lasts w after grows f c (h.clients f c old)
 
-  bound_in : (f : Endpoint) (c : Client) → NewOr f c → (port : ℕ) → IsBound w f port → MayBind c.phase port
-  bound_in f c (inl new) port b = unbound port (subst (λ (x : Endpoint). IsBound w x port) new.0 b)
-  bound_in f c (inr old) port b = h.bound f c old port b
+  bound_in : (f : Endpoint) (c : Client) → NewOr f c → IsOwn after f → (port : ℕ) → IsBound w f port → MayBind c.phase port
+  bound_in f c (inl new) own port b =
+      unbound (subst (IsOwn after) new.0 own) port (subst (λ (x : Endpoint). IsBound w x port) new.0 b)
+  bound_in f c (inr old) own port b = h.bound f c old (own_then f own) port b
 
-  one_port_in : (f : Endpoint) (p q : ℕ) (b : HasBegun after f) → Has w.begun b.begun ⊎ (b.begun ≡ began) → IsBound w f p → IsBound w f q → p ≡ q
-  one_port_in f p q b (inl old) at_p at_q =
-      h.one_port f p q (record { begun = b.begun; among = old; client = b.client }) at_p at_q
-  one_port_in f p q b (inr new) at_p at_q =
+  one_port_in : (f : Endpoint) (p q : ℕ) (b : HasBegun after f) → Has w.begun b.begun ⊎ (b.begun ≡ began) → IsOwn after f → IsBound w f p → IsBound w f q → p ≡ q
+  one_port_in f p q b (inl old) own at_p at_q =
+      h.one_port f p q (record { begun = b.begun; among = old; client = b.client }) (own_then f own) at_p at_q
+  one_port_in f p q b (inr new) own at_p at_q =
       let same : f ≡ e = sym b.client ∙ ap (λ (x : Begun). x.client) new in
-      unbound p (subst (λ (x : Endpoint). IsBound w x p) same at_p)
-
-  once_in : TakesOnce after
-  once_in i j t u at_i at_j same =
-      either (stranger-lasts w after grows t.peer) (λ is. is) (h.once i j t u at_i at_j same)
+      unbound (subst (IsOwn after) same own) p (subst (λ (x : Endpoint). IsBound w x p) same at_p)
 
   pub begins-holds : Holds after
   begins-holds =
@@ -141,10 +138,10 @@ module _ (w : World) (h : Holds w) (e : Endpoint) (operation : Operation) (away 
         net = λ d has. ⊎_elim (λ old. honest-lasts w after grows d (h.net d old)) (λ new. subst (IsHonest after) (sym new) new_honest) (Has-push w.net request d has);
         apart = h.apart;
         live = λ port t is. live-lasts w after grows port t (h.live port t is);
-        untaken = λ port t is running u has same b. stranger-lasts w after grows t.peer (h.untaken port t is running u has same (before t.peer port b));
+        untaken = λ port t is running own u has same b. h.untaken port t is running (own_then t.peer own) u has same (before t.peer port b);
         clients = λ f c is. faithful f c (found f c is);
-        bound = λ f c is port b. bound_in f c (found f c is) port (before f port b);
-        one_port = λ f p q b at_p at_q. one_port_in f p q b (Has-push w.begun began b.begun b.among) (before f p at_p) (before f q at_q);
+        bound = λ f c is own port b. bound_in f c (found f c is) own port (before f port b);
+        one_port = λ f p q b own at_p at_q. one_port_in f p q b (Has-push w.begun began b.begun b.among) own (before f p at_p) (before f q at_q);
         begun = λ b has.
             ⊎_elim
             (λ old. record { away = (h.begun b old).away; counted = (h.begun b old).counted })
@@ -152,8 +149,8 @@ module _ (w : World) (h : Holds w) (e : Endpoint) (operation : Operation) (away 
             (Has-push w.begun began b has);
         strays = h.strays;
         opened = λ o has. opening-lasts w after grows o (h.opened o has);
-        taken = λ t has. is_taken-lasts w after grows t (h.taken t has);
-        once = once_in;
+        taken = λ t has other. is_taken-lasts w after grows t (h.taken t has other);
+        once = λ i j t u at_i at_j same other own. h.once i j t u at_i at_j same other (own_then t.peer own);
         sent = λ x has. sent-lasts w after grows x (h.sent x has);
         got = λ g has. got-lasts w after grows g (h.got g has);
         best = h.best;

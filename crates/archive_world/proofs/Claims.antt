@@ -1,5 +1,6 @@
 -- What holds for each datagram of the network, for each transfer and for each client. All of it is about lists that
--- only grow, so it lasts.
+-- only grow, so it lasts; and so does what holds of an endpoint whose ports are its own, since what is own later was own
+-- before.
 use Rattle.std.proofs.Common.{◌≡◌, ◌≢◌, ◌⊎◌, ℕ, ◌≤◌, List, length, take, None, Some, Result, Ok, Err}
 use Rattle.tftp_packet.specs.declared.endpoint.Endpoint.{Endpoint}
 use Rattle.tftp_packet.specs.declared.packet_fault.PacketFault.{PacketFault}
@@ -16,7 +17,7 @@ use Rattle.archive_table.specs.Server as table
 use Rattle.archive_client.specs.Client.{Operation, put, get, Phase, Client, IsOperation}
 use Rattle.archive_client.specs.Client as client
 use Rattle.archive_world.specs.World.{Datagram, Begun, Asked, to_write, to_read, Opening, Got, World, server_endpoint}
-use Rattle.archive_world.specs.Headline.{IsBestOver, files_of}
+use Rattle.archive_world.specs.Headline.{IsBestOver, files_of, IsOwn}
 use Rattle.archive_world.proofs.Places.{Has, Extends}
 
 -- ---- what has happened
@@ -103,7 +104,7 @@ pub record AcksPut (w : World) (target : Endpoint) (n : ℕ) : Type 0 where
 
 pub record ServerAcks (w : World) (source target : Endpoint) (n : ℕ) : Type 0 where
   pub ours : source.host ≡ server_endpoint.host
-  pub whom : IsStranger w target ⊎ AcksPut w target n
+  pub whom : IsOwn w target → AcksPut w target n
 
 abbrev pub Says : World → (source target : Endpoint) → Packet → Type 0
 Says w source target (read name mode) = AsksToRead w source name
@@ -156,7 +157,7 @@ pub record IsReceivingAt (w : World) (e : Endpoint) (port : ℕ) (r : Receiver) 
   pub bounds : IsReceiver r
   pub count : ℕ
   pub opened : HasOpened w e port to_write count
-  pub whose : IsStranger w e ⊎ ReceivesPut w e r
+  pub whose : IsOwn w e → ReceivesPut w e r
 
 abbrev pub IsLiveEnd : World → Endpoint → (port : ℕ) → End → Type 0
 IsLiveEnd w e port (table.sending s) = IsServing w e port s
@@ -173,7 +174,7 @@ IsRunning (table.receiving r) = r.state ≡ recv.Running
 -- as long as blocks are missing, no file was taken from a peer that has sent to this port
 abbrev pub IsUntaken : World → (port : ℕ) → Transfer → Type 0
 IsUntaken w port t =
-    IsRunning t.end → (u : Taken) → Has w.taken u → u.peer ≡ t.peer → IsBound w t.peer port → IsStranger w t.peer
+    IsRunning t.end → IsOwn w t.peer → (u : Taken) → Has w.taken u → u.peer ≡ t.peer → IsBound w t.peer port → ⊥
 
 -- ---- a client
 
@@ -186,14 +187,18 @@ pub record IsPutting (w : World) (e : Endpoint) (s : Sender) : Type 0 where
   pub began : HasPut w e s.file
   pub bounds : IsSender s
 
+-- what was received is of the collection that is served at the port
+pub record IsServed (w : World) (e : Endpoint) (port : ℕ) (kind : Ruleset) (r : Receiver) : Type 0 where
+  pub file : List ℕ
+  pub serves : Serves w e port kind file
+  pub holds : HoldsFirst file r
+
 pub record IsGetting (w : World) (e : Endpoint) (port : ℕ) (r : Receiver) : Type 0 where
   pub kind : Ruleset
   pub count : ℕ
   pub began : HasGet w e kind count
-  pub file : List ℕ
-  pub serves : Serves w e port kind file
-  pub holds : HoldsFirst file r
   pub bounds : IsReceiver r
+  pub served : IsOwn w e → IsServed w e port kind r
 
 abbrev pub IsPursuing : World → Endpoint → Phase → Type 0
 IsPursuing w e (client.asking operation misses) = IsAskingFor w e operation
@@ -223,25 +228,30 @@ pub record IsOpening (w : World) (o : Opening) : Type 0 where
   pub counted : o.taken ≤ length w.taken
   pub whose : IsStranger w o.peer ⊎ IsAskedBy w o o.asked
 
-pub record IsTakenFrom (w : World) (t : Taken) : Type 0 where
-  pub began : HasPut w t.peer t.file
+-- the put of a file that was taken, whose client has sent to the port where it was taken
+pub record IsTakenFrom (w : World) (e : Endpoint) (file : List ℕ) (port : ℕ) : Type 0 where
+  pub began : HasPut w e file
+  pub bound : IsBound w e port
+
+pub record IsTaken (w : World) (t : Taken) : Type 0 where
   pub port : ℕ
   pub count : ℕ
   pub opened : HasOpened w t.peer port to_write count
-  pub bound : IsBound w t.peer port
-
-pub record IsTaken (w : World) (t : Taken) : Type 0 where
-  pub whose : IsStranger w t.peer ⊎ IsTakenFrom w t
+  pub whose : IsOwn w t.peer → IsTakenFrom w t.peer t.file port
 
 pub record IsSent (w : World) (e : Endpoint) : Type 0 where
   pub file : List ℕ
   pub began : HasPut w e file
-  pub is_taken : HasTaken w e file
+  pub is_taken : IsOwn w e → HasTaken w e file
+
+-- the collection that a get has fetched, from where it was served, and no earlier than the get began
+pub record IsFetched (w : World) (g : Got) (kind : Ruleset) (count : ℕ) : Type 0 where
+  pub port : ℕ
+  pub serves : Serves w g.client port kind g.file
+  pub since : count ≤ serves.count
 
 pub record IsGot (w : World) (g : Got) : Type 0 where
   pub kind : Ruleset
   pub count : ℕ
   pub began : HasGet w g.client kind count
-  pub port : ℕ
-  pub serves : Serves w g.client port kind g.file
-  pub since : count ≤ serves.count
+  pub whose : IsOwn w g.client → IsFetched w g kind count

@@ -7,12 +7,13 @@ use Rattle.tftp_packet.specs.Decode.{decode_bytes}
 use Rattle.archive_table.specs.Server.{Taken, Transfer, transfer_at, is_same}
 use Rattle.archive_client.specs.Client.{Client}
 use Rattle.archive_world.specs.World.{Datagram, World, Got, server_endpoint, datagram_of, net_with, client_at}
+use Rattle.archive_world.specs.Headline.{IsOwn}
 use Rattle.archive_world.proofs.Places.{Has, Extends-same, Has-push}
 use Rattle.archive_world.proofs.Keyed.{NewOrOld, lookup-set, lookup-written}
 use Rattle.archive_world.proofs.Endpoints.{endpoint_is, exact_endpoint}
-use Rattle.archive_world.proofs.Claims.{GrowsTo, HasBegun, IsStranger, IsHonest, Binds, IsBound, IsUntaken, IsRunning, IsFaithful, MayBind, IsTakenFrom, IsSent, IsGot}
-use Rattle.archive_world.proofs.Lasting.{either, honest-lasts, live-lasts, stranger-lasts, faithful-lasts, opening-lasts, is_taken-lasts, sent-lasts, got-lasts}
-use Rattle.archive_world.proofs.Invariant.{TakesOnce, Holds}
+use Rattle.archive_world.proofs.Claims.{GrowsTo, HasBegun, IsHonest, Binds, IsBound, IsUntaken, IsRunning, IsFaithful, MayBind, IsSent, IsGot}
+use Rattle.archive_world.proofs.Lasting.{either, honest-lasts, live-lasts, faithful-lasts, opening-lasts, is_taken-lasts, sent-lasts, got-lasts}
+use Rattle.archive_world.proofs.Invariant.{Holds}
 use Rattle.archive_world.proofs.Sending.{net-extends}
 
 -- the world after a step of the client at an endpoint, by what it sends
@@ -125,23 +126,23 @@ module _ (w : World) (h : Holds w) (e : Endpoint) (was next : Client) (out : Opt
   client_in f c (inr old) = h.clients f c old
 
   -- it was bound before
-  old_bound : (f : Endpoint) (c : Client) → NewOrOld is_same exact_endpoint w.clients e next f c → (port : ℕ) → IsBound w f port → MayBind c.phase port
-  old_bound f c (inl new) port b =
+  old_bound : (f : Endpoint) (c : Client) → NewOrOld is_same exact_endpoint w.clients e next f c → IsOwn w f → (port : ℕ) → IsBound w f port → MayBind c.phase port
+  old_bound f c (inl new) own port b =
       let at_e : IsBound w e port = subst (λ (x : Endpoint). IsBound w x port) new.0 b in
-      subst (λ (x : Client). MayBind x.phase port) (sym new.1) (a.still port (h.bound e was a.is port at_e))
-  old_bound f c (inr old) port b = h.bound f c old port b
+      subst (λ (x : Client). MayBind x.phase port) (sym new.1) (a.still port (h.bound e was a.is (subst (IsOwn w) new.0 own) port at_e))
+  old_bound f c (inr old) own port b = h.bound f c old own port b
 
-  bound_in : (f : Endpoint) (c : Client) → client_at f after ≡ Some c → (port : ℕ) → IsBound after f port → MayBind c.phase port
-  bound_in f c is port b =
+  bound_in : (f : Endpoint) (c : Client) → client_at f after ≡ Some c → IsOwn w f → (port : ℕ) → IsBound after f port → MayBind c.phase port
+  bound_in f c is own port b =
       ⊎_elim
-      (old_bound f c (lookup-set is_same exact_endpoint w.clients e next f c is) port)
+      (old_bound f c (lookup-set is_same exact_endpoint w.clients e next f c is) own port)
       (λ (new : NewBound f port). subst (λ (x : Client). MayBind x.phase port) (sym (found_next f c is new.by)) (binding_of f port new).0)
       (split f port b)
 
   -- a port to which the client was bound is the one to which it is bound now
-  agrees : (f : Endpoint) (p q : ℕ) → IsBound w f p → NewBound f q → p ≡ q
-  agrees f p q old new =
-      (binding_of f q new).1 p (h.bound e was a.is p (subst (λ (x : Endpoint). IsBound w x p) new.by old))
+  agrees : (f : Endpoint) → IsOwn w f → (p q : ℕ) → IsBound w f p → NewBound f q → p ≡ q
+  agrees f own p q old new =
+      (binding_of f q new).1 p (h.bound e was a.is (subst (IsOwn w) new.by own) p (subst (λ (x : Endpoint). IsBound w x p) new.by old))
 
   one_target : (f : Endpoint) (p q : ℕ) → NewBound f p → NewBound f q → p ≡ q
   one_target f p q b c =
@@ -150,29 +151,25 @@ module _ (w : World) (h : Holds w) (e : Endpoint) (was next : Client) (out : Opt
       let to : record { host = server_endpoint.host; port = p } ≡ record { host = server_endpoint.host; port = q } = sym b.to ∙ ap (λ (o : Out). o.to) same ∙ c.to in
       ap (λ (x : Endpoint). x.port) to
 
-  one_port_in : (f : Endpoint) (p q : ℕ) → HasBegun w f → (IsBound w f p ⊎ NewBound f p) → (IsBound w f q ⊎ NewBound f q) → p ≡ q
-  one_port_in f p q begun (inl b) (inl c) = h.one_port f p q begun b c
-  one_port_in f p q begun (inl b) (inr c) = agrees f p q b c
-  one_port_in f p q begun (inr b) (inl c) = sym (agrees f q p c b)
-  one_port_in f p q begun (inr b) (inr c) = one_target f p q b c
+  one_port_in : (f : Endpoint) (p q : ℕ) → HasBegun w f → IsOwn w f → (IsBound w f p ⊎ NewBound f p) → (IsBound w f q ⊎ NewBound f q) → p ≡ q
+  one_port_in f p q begun own (inl b) (inl c) = h.one_port f p q begun own b c
+  one_port_in f p q begun own (inl b) (inr c) = agrees f own p q b c
+  one_port_in f p q begun own (inr b) (inl c) = sym (agrees f own q p c b)
+  one_port_in f p q begun own (inr b) (inr c) = one_target f p q b c
 
   -- ---- the server's transfers
 
-  untaken_new : (port : ℕ) (t : Transfer) → transfer_at port w.server ≡ Some t → IsRunning t.end → (u : Taken) → Has w.taken u → u.peer ≡ t.peer → NewBound t.peer port → (IsStranger w u.peer ⊎ IsTakenFrom w u) → IsStranger w t.peer
-  untaken_new port t is running u has same new (inl stranger) = subst (IsStranger w) same stranger
-  untaken_new port t is running u has same new (inr from) =
-      let there : IsBound w t.peer from.port = subst (λ (x : Endpoint). IsBound w x from.port) same from.bound in
-      let one = agrees t.peer from.port port there new in
-      h.untaken port t is running u has same (subst (λ (p : ℕ). IsBound w t.peer p) one there)
+  untaken_new : (port : ℕ) (t : Transfer) → transfer_at port w.server ≡ Some t → IsRunning t.end → IsOwn w t.peer → (u : Taken) → Has w.taken u → u.peer ≡ t.peer → NewBound t.peer port → ⊥
+  untaken_new port t is running own u has same new =
+      let from = h.taken u has (λ ours. (h.live port t is).away (ap (λ (x : Endpoint). x.host) (sym same) ∙ ours)) in
+      let bound = (from.whose (subst (IsOwn w) (sym same) own)).bound in
+      let there : IsBound w t.peer from.port = subst (λ (x : Endpoint). IsBound w x from.port) same bound in
+      let one = agrees t.peer own from.port port there new in
+      h.untaken port t is running own u has same (subst (λ (p : ℕ). IsBound w t.peer p) one there)
 
   untaken_in : (port : ℕ) (t : Transfer) → transfer_at port w.server ≡ Some t → IsUntaken after port t
-  untaken_in port t is running u has same b =
-      stranger-lasts w after grows t.peer
-      (⊎_elim (h.untaken port t is running u has same) (λ (new : NewBound t.peer port). untaken_new port t is running u has same new (h.taken u has).whose) (split t.peer port b))
-
-  once_in : TakesOnce after
-  once_in i j t u at_i at_j same =
-      either (stranger-lasts w after grows t.peer) (λ is. is) (h.once i j t u at_i at_j same)
+  untaken_in port t is running own u has same b =
+      ⊎_elim (h.untaken port t is running own u has same) (untaken_new port t is running own u has same) (split t.peer port b)
 
   pub acted-holds : Holds after
   acted-holds =
@@ -183,13 +180,13 @@ module _ (w : World) (h : Holds w) (e : Endpoint) (was next : Client) (out : Opt
         untaken = untaken_in;
         clients = λ f c is. faithful-lasts w after grows f c (client_in f c (lookup-set is_same exact_endpoint w.clients e next f c is));
         bound = bound_in;
-        one_port = λ f p q begun b c.
-            one_port_in f p q (record { begun = begun.begun; among = begun.among; client = begun.client }) (split f p b) (split f q c);
+        one_port = λ f p q begun own b c.
+            one_port_in f p q (record { begun = begun.begun; among = begun.among; client = begun.client }) own (split f p b) (split f q c);
         begun = λ b has. record { away = (h.begun b has).away; counted = (h.begun b has).counted };
         strays = h.strays;
         opened = λ o has. opening-lasts w after grows o (h.opened o has);
-        taken = λ t has. is_taken-lasts w after grows t (h.taken t has);
-        once = once_in;
+        taken = λ t has other. is_taken-lasts w after grows t (h.taken t has other);
+        once = h.once;
         sent = λ x has. sent-lasts w after grows x (⊎_elim (h.sent x) (λ now. now) (a.sents x has));
         got = λ g has. got-lasts w after grows g (⊎_elim (h.got g) (λ now. now) (a.gots g has));
         best = h.best;

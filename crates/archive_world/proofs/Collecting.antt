@@ -7,9 +7,9 @@ use Rattle.tws_file.specs.Text.{Record, IsRecord}
 use Rattle.tws_best.specs.Best.{Entry, IsEntry, Collected, IsCollected, IsCollectionOf, IsSolutionIn, solved_by, solutions_of}
 use Rattle.tws_best.proofs.Members.{all_at, all_from}
 use Rattle.tws_best.proofs.Taking.{solved_entries}
-use Rattle.archive_table.specs.Server.{Maps, Taken, Grant, IsMerged}
+use Rattle.archive_table.specs.Server.{Maps, Taken, Grant, IsMerged, empty_maps}
 use Rattle.archive_world.specs.World.{World, Step, start, happens, run_from, HasMerged, AllMerged}
-use Rattle.archive_world.proofs.Invariant.{AreBest, start-holds}
+use Rattle.archive_world.proofs.Invariant.{AreBest, none-over, start_from-best}
 use Rattle.archive_world.proofs.Merging.{best-taken}
 use Rattle.archive_world.proofs.Remaining.{StepTakes, step-takes}
 
@@ -47,7 +47,7 @@ pub step-best : (w : World) (s : Step) → HasMerged s w → AreBest w.taken w.s
 step-best w s merged best = step_by w (happens s w) s.grant merged (step-takes w s) best
 
 pub start-best : AreBest start.taken start.server.maps
-start-best = start-holds.best
+start-best = start_from-best [] empty_maps none-over
 
 pub run_from-best : (steps : List Step) (w : World) → AllMerged steps w → AreBest w.taken w.server.maps → AreBest (run_from steps w).taken (run_from steps w).server.maps
 run_from-best [] w merged best = best

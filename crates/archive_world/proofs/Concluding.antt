@@ -1,83 +1,137 @@
--- The headline follows from the invariant if no port is reused.
-use Rattle.std.proofs.Common.{◌≡◌, ◌⊎◌, ℕ, List, Contains, refl, subst, inl, inr, ⊎_elim}
+-- The headline of each client follows from the invariant, and with it the headline if no port is reused.
+use Rattle.std.proofs.Common.{◌≡◌, ◌≢◌, ◌⊎◌, ℕ, List, [], Contains, Some, slice_get, refl, ap, sym, ◌∙◌, subst, inl, inr}
 use Rattle.tftp_packet.specs.declared.endpoint.Endpoint.{Endpoint}
-use Rattle.archive_table.specs.Server.{Taken}
+use Rattle.archive_table.specs.Server.{Maps, Taken, empty_maps}
 use Rattle.archive_client.specs.Client.{put}
-use Rattle.archive_world.specs.World.{Begun, Got, World, Step, start, run, AllMerged}
-use Rattle.archive_world.specs.Headline.{HasOwnPorts, HasOperation, IsStrayFrom, TakenOnce, SentOnce, IsFinishedGet, Headline}
+use Rattle.archive_world.specs.World.{Begun, to_write, Got, World, Step, server_endpoint, start_from, start, run_from, run, AllMerged}
+use Rattle.archive_world.specs.Headline.{IsOwn, HasOwnPorts, HasOperation, AreOver, IsStrayFrom, TakenOnce, SentOnce, IsFinishedGet, ClientHeadline, ClientsHeadline, Headline}
 use Rattle.archive_world.proofs.Places.{Has-contains, Has-from_contains}
-use Rattle.archive_world.proofs.Claims.{HasBegun, HasPut, IsStranger, IsTakenFrom, IsSent, IsGot}
-use Rattle.archive_world.proofs.Owning.{no_stranger, put_begun}
-use Rattle.archive_world.proofs.Invariant.{Holds}
-use Rattle.archive_world.proofs.Happening.{run-holds}
+use Rattle.archive_world.proofs.Claims.{HasBegun, HasPut, IsStranger, IsAskedBy, IsTaken, IsSent, IsGot}
+use Rattle.archive_world.proofs.Owning.{own-each, put_begun, get_begun}
+use Rattle.archive_world.proofs.ServerMoves.{begun_away}
+use Rattle.archive_world.proofs.Invariant.{Holds, none-over, start_from-holds}
+use Rattle.archive_world.proofs.Happening.{run_from-holds}
+use Rattle.archive_world.proofs.Strangers.{AreFromOthers, run-from_others}
 
-module _ (w : World) (h : Holds w) (own : HasOwnPorts w) where
-  has_begun : (e : Endpoint) → HasOperation w.begun e → HasBegun w e
-  has_begun e c = record { begun = c.0; among = Has-from_contains w.begun c.0 c.1; client = c.2 }
+module _ (w : World) (h : Holds w) where
+  begun_there : (e : Endpoint) → HasBegun w e → HasOperation w.begun e
+  begun_there e b = (b.begun, Has-contains w.begun b.begun b.among, b.client)
 
-  abbrev PutBy : Endpoint → List ℕ → Type 0
-  PutBy e file = (b : Begun) × Contains w.begun b × (b.client ≡ e) × (b.operation ≡ put file)
+  -- ---- whatever ports are reused
 
-  put_by : (e : Endpoint) (file : List ℕ) → HasPut w e file → PutBy e file
-  put_by e file p = (record { client = e; operation = put file; taken = p.count }, Has-contains w.begun _ p.among, refl, refl)
+  known : (t : Taken) (i : IsTaken w t) → IsStranger w t.peer ⊎ IsAskedBy w (record { peer = t.peer; port = i.port; asked = to_write; taken = i.count }) to_write → HasOperation w.begun t.peer ⊎ IsStrayFrom w.strays t.peer
+  known t i (inl stranger) = inr (stranger.datagram, Has-contains w.strays _ stranger.among, stranger.source)
+  known t i (inr asked) = inl (begun_there t.peer (put_begun w t.peer asked.0 asked.1))
 
-  unchanged : (t : Taken) → HasOperation w.begun t.peer → IsStranger w t.peer ⊎ IsTakenFrom w t → PutBy t.peer t.file
-  unchanged t c (inl stranger) = no_stranger w own t.peer (has_begun t.peer c) stranger
-  unchanged t c (inr from) = put_by t.peer t.file from.began
+  taken_known : (t : Taken) → IsTaken w t → HasOperation w.begun t.peer ⊎ IsStrayFrom w.strays t.peer
+  taken_known t i = known t i (h.opened _ i.opened.among).whose
 
-  known : (t : Taken) → IsStranger w t.peer ⊎ IsTakenFrom w t → HasOperation w.begun t.peer ⊎ IsStrayFrom w.strays t.peer
-  known t (inl stranger) = inr (stranger.datagram, Has-contains w.strays _ stranger.among, stranger.source)
-  known t (inr from) =
-      let by = put_by t.peer t.file from.began in
-      inl (by.0, by.1, by.2)
+  -- ---- a client whose ports are its own
+
+  module _ (e : Endpoint) (operation : HasOperation w.begun e) (own : IsOwn w e) where
+    -- it is not on the server's host
+    away : (x : Endpoint) → x ≡ e → x.host ≢ server_endpoint.host
+    away x same =
+        let begun : HasBegun w e = record { begun = operation.0; among = Has-from_contains w.begun operation.0 operation.1; client = operation.2 } in
+        λ ours. begun_away w h e begun (ap (λ (y : Endpoint). y.host) (sym same) ∙ ours)
+
+    abbrev PutBy : List ℕ → Type 0
+    PutBy file = (b : Begun) × Contains w.begun b × (b.client ≡ e) × (b.operation ≡ put file)
+
+    put_by : (file : List ℕ) → HasPut w e file → PutBy file
+    put_by file p = (record { client = e; operation = put file; taken = p.count }, Has-contains w.begun _ p.among, refl, refl)
+
+    unchanged : (t : Taken) → IsTaken w t → t.peer ≡ e → PutBy t.file
+    unchanged t i same =
+        let from = i.whose (subst (IsOwn w) (sym same) own) in
+        put_by t.file (subst (λ (x : Endpoint). HasPut w x t.file) same from.began)
+
+    once : (i j : ℕ) (t u : Taken) → slice_get w.taken i ≡ Some t → slice_get w.taken j ≡ Some u → t.peer ≡ e → u.peer ≡ e → i ≡ j
+    once i j t u at_i at_j first second =
+        h.once i j t u at_i at_j (first ∙ sym second) (away t.peer first) (subst (IsOwn w) (sym first) own)
+
+    sent_once : IsSent w e → SentOnce w.begun w.taken e
+    sent_once s =
+        let there = s.is_taken own in
+        record {
+          file = s.file;
+          began = put_by s.file s.began;
+          place = there.among.place;
+          is_taken = there.among.is;
+          only = λ i t at_i same. once i there.among.place t _ at_i there.among.is same refl;
+        }
+
+    finished : (g : Got) → IsGot w g → g.client ≡ e → IsFinishedGet w.begun w.taken w.opened g
+    finished g is same =
+        let f = is.whose (subst (IsOwn w) (sym same) own) in
+        record {
+          kind = is.kind;
+          began = _;
+          has_begun = Has-contains w.begun _ is.began.among;
+          by = refl;
+          operation = refl;
+          opening = _;
+          was_opened = Has-contains w.opened _ f.serves.opened.among;
+          peer = refl;
+          asked = refl;
+          since = f.since;
+          counted = f.serves.is_text.within;
+          best = f.serves.is_text.best;
+        }
+
+    client : ClientHeadline w e
+    client =
+        record {
+          unchanged = λ t among same. unchanged t (h.taken t (Has-from_contains w.taken t among) (away t.peer same)) same;
+          once = once;
+          sent = λ among. sent_once (h.sent e (Has-from_contains w.sent e among));
+          got = λ g among same. finished g (h.got g (Has-from_contains w.got g among)) same;
+        }
+
+  pub clients : ClientsHeadline w
+  clients =
+      record {
+        taken = λ t among other. taken_known t (h.taken t (Has-from_contains w.taken t among) other);
+        sent = λ e among. let s = h.sent e (Has-from_contains w.sent e among) in begun_there e (put_begun w e s.file s.began);
+        got = λ g among.
+            let is = h.got g (Has-from_contains w.got g among) in
+            begun_there g.client (get_begun w g.client is.kind is.count is.began);
+        lynx = (w.server.maps.lynx, h.best.lynx, refl);
+        ms = (w.server.maps.ms, h.best.ms, refl);
+        client = client;
+      }
+
+-- ---- if no port is reused, and the server had nothing at first
+
+module _ (w : World) (all : ClientsHeadline w) (others : AreFromOthers w.taken) (own : HasOwnPorts w) where
+  each : (e : Endpoint) → HasOperation w.begun e → ClientHeadline w e
+  each e operation = all.client e operation (own-each w own e operation)
 
   taken_once : TakenOnce w.begun w.taken w.strays
   taken_once =
       record {
-        known = λ t among. known t (h.taken t (Has-from_contains w.taken t among)).whose;
-        unchanged = λ t among c. unchanged t c (h.taken t (Has-from_contains w.taken t among)).whose;
-        once = λ i j t u at_i at_j c same. ⊎_elim (no_stranger w own t.peer (has_begun t.peer c)) (λ is. is) (h.once i j t u at_i at_j same);
-      }
-
-  sent_once : (e : Endpoint) → IsSent w e → SentOnce w.begun w.taken e
-  sent_once e s =
-      let begun = put_begun w e s.file s.began in
-      record {
-        file = s.file;
-        began = put_by e s.file s.began;
-        place = s.is_taken.among.place;
-        is_taken = s.is_taken.among.is;
-        only = λ i t at_i same.
-            ⊎_elim (λ (stranger : IsStranger w t.peer). no_stranger w own e begun (subst (IsStranger w) same stranger)) (λ is. is)
-            (h.once i s.is_taken.among.place t _ at_i s.is_taken.among.is same);
-      }
-
-  finished : (g : Got) → IsGot w g → IsFinishedGet w.begun w.taken w.opened g
-  finished g is =
-      record {
-        kind = is.kind;
-        began = _;
-        has_begun = Has-contains w.begun _ is.began.among;
-        by = refl;
-        operation = refl;
-        opening = _;
-        was_opened = Has-contains w.opened _ is.serves.opened.among;
-        peer = refl;
-        asked = refl;
-        since = is.since;
-        counted = is.serves.is_text.within;
-        best = is.serves.is_text.best;
+        known = λ t among. all.taken t among (others t (Has-from_contains w.taken t among));
+        unchanged = λ t among operation. (each t.peer operation).unchanged t among refl;
+        once = λ i j t u at_i at_j operation same. (each t.peer operation).once i j t u at_i at_j refl (sym same);
       }
 
   pub headline : Headline w
   headline =
       record {
         taken = taken_once;
-        sent = λ e among. sent_once e (h.sent e (Has-from_contains w.sent e among));
-        lynx = (w.server.maps.lynx, h.best.lynx, refl);
-        ms = (w.server.maps.ms, h.best.ms, refl);
-        got = λ g among. finished g (h.got g (Has-from_contains w.got g among));
+        sent = λ e among. (each e (all.sent e among)).sent among;
+        lynx = all.lynx;
+        ms = all.ms;
+        got = λ g among. (each g.client (all.got g among)).got g among refl;
       }
 
+pub run_from-clients : (texts : List (List ℕ)) (maps : Maps) → AreOver texts maps → (steps : List Step) → AllMerged steps (start_from texts maps) → ClientsHeadline (run_from steps (start_from texts maps))
+run_from-clients texts maps over steps merged =
+    let w = start_from texts maps in
+    clients (run_from steps w) (run_from-holds steps w (start_from-holds texts maps over) merged)
+
+pub run-clients : (steps : List Step) → AllMerged steps start → ClientsHeadline (run steps)
+run-clients steps merged = run_from-clients [] empty_maps none-over steps merged
+
 pub run-headline : (steps : List Step) → HasOwnPorts (run steps) → AllMerged steps start → Headline (run steps)
-run-headline steps own merged = headline (run steps) (run-holds steps own merged) own
+run-headline steps own merged = headline (run steps) (run-clients steps merged) (run-from_others steps merged) own

@@ -32,7 +32,7 @@ module _ (w : World) (b : Begun) where
   strays_old false true d has = has
   strays_old false false d has = has
 
-  event_now : (event : Event) (grant : Grant) (maps : Maps) → Has (event_happens event grant maps w).begun b → OldOrNow w event b
+  pub event_now : (event : Event) (grant : Grant) (maps : Maps) → Has (event_happens event grant maps w).begun b → OldOrNow w event b
   event_now (begin e operation) grant maps has = begins_now (e.host == server_endpoint.host) (is_too_long operation) e operation has
   event_now (deliver index spare) grant maps has = inl (subst (λ (l : List Begun). Has l b) (delivers-same w (slice_get w.net index) spare grant maps).begun has)
   event_now (client_times_out e) grant maps has = inl (subst (λ (l : List Begun). Has l b) (waits-same w (client_at e w) e).begun has)

@@ -1,27 +1,29 @@
 -- What was counted as sent before a get began is in what it has fetched.
-use Rattle.std.proofs.Common.{◌≡◌, ◌⊎◌, ℕ, ◌<◌, ◌≤◌, Bool, true, false, ◌==◌, List, ◌∷◌, ◌++◌, length, take, refl, ap, sym, subst, inl, inr, arith}
+use Rattle.std.proofs.Common.{◌≡◌, ◌⊎◌, ℕ, ◌<◌, ◌≤◌, Bool, true, false, ◌==◌, List, [], ◌∷◌, ◌++◌, length, take, refl, ap, sym, subst, inl, inr, arith}
 use Rattle.std.proofs.lemmas.Bool.{eqb-true}
 use Rattle.tftp_packet.specs.declared.endpoint.Endpoint.{Endpoint}
 use Rattle.tws_file.specs.declared.«ruleset».Ruleset.{Ruleset}
 use Rattle.tws_file.specs.declared.«ruleset».Ruleset.TheVariants.{Lynx}
+use Rattle.archive_table.specs.Server.{Maps, empty_maps}
 use Rattle.archive_client.specs.Client.{Operation, put, get}
-use Rattle.archive_world.specs.World.{Begun, Event, begin, Got, World, Step, server_endpoint, begins_unless, event_happens, happens, run_from, run, start, AllMerged}
-use Rattle.archive_world.specs.Headline.{HasOwnPorts, IsBestOver, files_of, IsFetchedWith, FetchesSent}
+use Rattle.archive_world.specs.World.{Begun, Event, begin, Got, World, Step, server_endpoint, begins_unless, event_happens, happens, start_from, run_from, run, start, AllMerged}
+use Rattle.archive_world.specs.Headline.{IsOwn, AreOver, HasOwnPorts, IsBestOver, files_of, IsFetchedWith, FetchesOwnSent, FetchesSent}
 use Rattle.archive_world.proofs.Places.{Has, Has-last, Has-extends, Has-contains, Has-from_contains, at-extends, at-take, before_last}
 use Rattle.archive_world.proofs.Claims.{GrowsTo, HasGet}
 use Rattle.archive_world.proofs.Lasting.{either}
-use Rattle.archive_world.proofs.Owning.{get_begun, one_operation, own-before}
-use Rattle.archive_world.proofs.Invariant.{Holds}
+use Rattle.archive_world.proofs.Owning.{get_begun, one_operation, own-each, none_reused-before}
+use Rattle.archive_world.proofs.Invariant.{Holds, none-over, start_from-holds}
 use Rattle.archive_world.proofs.ServerMoves.{begun_away}
 use Rattle.archive_world.proofs.Growing.{run-grows}
-use Rattle.archive_world.proofs.Happening.{run-append, merged-first, run-holds}
+use Rattle.archive_world.proofs.Happening.{run-append, merged-first, run_from-holds}
+use Rattle.archive_world.proofs.Concluding.{run-clients}
 
 -- the get was counted when it began
 begins_counted : (w : World) (ours : Bool) (e : Endpoint) (kind : Ruleset) → (e.host == server_endpoint.host) ≡ ours → (e.host ≡ server_endpoint.host) ⊎ Has (begins_unless ours false e (get kind) w).begun (record { client = e; operation = get kind; taken = length w.taken })
 begins_counted w true e kind at = inl (eqb-true _ _ at)
 begins_counted w false e kind at = inr (Has-last w.begun _)
 
-begin_counted : (w : World) (s : Step) (e : Endpoint) (kind : Ruleset) → s.event ≡ begin e (get kind) → (e.host ≡ server_endpoint.host) ⊎ Has (happens s w).begun (record { client = e; operation = get kind; taken = length w.taken })
+pub begin_counted : (w : World) (s : Step) (e : Endpoint) (kind : Ruleset) → s.event ≡ begin e (get kind) → (e.host ≡ server_endpoint.host) ⊎ Has (happens s w).begun (record { client = e; operation = get kind; taken = length w.taken })
 begin_counted w s e kind is =
     subst (λ (event : Event). (e.host ≡ server_endpoint.host) ⊎ Has (event_happens event s.grant s.maps w).begun (record { client = e; operation = get kind; taken = length w.taken })) (sym is)
     (begins_counted w (e.host == server_endpoint.host) e kind refl)
@@ -31,48 +33,64 @@ rules_of (put file) = Lynx
 rules_of (get kind) = kind
 
 -- the worlds before the begin, and at the end
-module _ (w v : World) (h : Holds w) (k : Holds v) (own : HasOwnPorts v) (g : GrowsTo w v) where
+module _ (w v : World) (h : Holds w) (k : Holds v) (g : GrowsTo w v) (e : Endpoint) (own : IsOwn v e) where
   -- the count of the get is that at its begin
-  counted : (e : Endpoint) (kind other : Ruleset) (m : ℕ) → (e.host ≡ server_endpoint.host) ⊎ Has v.begun (record { client = e; operation = get kind; taken = length w.taken }) → HasGet v e other m → length w.taken ≡ m
-  counted e kind other m (inl ours) began = absurd (begun_away v k e (get_begun v e other m began) ours)
-  counted e kind other m (inr has) began =
-      ap (λ (b : Begun). b.taken) (one_operation v own _ (record { client = e; operation = get other; taken = m }) has began.among refl)
+  pub counted : (kind other : Ruleset) (m : ℕ) → (e.host ≡ server_endpoint.host) ⊎ Has v.begun (record { client = e; operation = get kind; taken = length w.taken }) → HasGet v e other m → length w.taken ≡ m
+  counted kind other m (inl ours) began = absurd (begun_away v k e (get_begun v e other m began) ours)
+  counted kind other m (inr has) began =
+      ap (λ (b : Begun). b.taken) (one_operation v e own _ (record { client = e; operation = get other; taken = m }) has began.among refl refl)
 
   -- and its ruleset is the one that it began with
-  same_rules : (e : Endpoint) (kind other : Ruleset) (m : ℕ) → (e.host ≡ server_endpoint.host) ⊎ Has v.begun (record { client = e; operation = get kind; taken = length w.taken }) → HasGet v e other m → kind ≡ other
-  same_rules e kind other m (inl ours) began = absurd (begun_away v k e (get_begun v e other m began) ours)
-  same_rules e kind other m (inr has) began =
-      ap (λ (b : Begun). rules_of b.operation) (one_operation v own _ (record { client = e; operation = get other; taken = m }) has began.among refl)
+  same_rules : (kind other : Ruleset) (m : ℕ) → (e.host ≡ server_endpoint.host) ⊎ Has v.begun (record { client = e; operation = get kind; taken = length w.taken }) → HasGet v e other m → kind ≡ other
+  same_rules kind other m (inl ours) began = absurd (begun_away v k e (get_begun v e other m began) ours)
+  same_rules kind other m (inr has) began =
+      ap (λ (b : Begun). rules_of b.operation) (one_operation v e own _ (record { client = e; operation = get other; taken = m }) has began.among refl refl)
 
-  fetched : (e : Endpoint) (kind : Ruleset) → (e.host ≡ server_endpoint.host) ⊎ Has v.begun (record { client = e; operation = get kind; taken = length w.taken }) → (x : Endpoint) → Has w.sent x → (got : Got) → Has v.got got → got.client ≡ e → IsFetchedWith kind v.taken x got
-  fetched e kind began x has got has_got same =
+  fetched : (kind : Ruleset) → (e.host ≡ server_endpoint.host) ⊎ Has v.begun (record { client = e; operation = get kind; taken = length w.taken }) → (x : Endpoint) → Has w.sent x → IsOwn w x → (got : Got) → Has v.got got → got.client ≡ e → IsFetchedWith kind v.taken x got
+  fetched kind began x has own_then got has_got same =
       let is = k.got got has_got in
+      let f = is.whose (subst (IsOwn v) (sym same) own) in
       let sent = h.sent x has in
-      let place = sent.is_taken.among.place in
+      let there = sent.is_taken own_then in
+      let place = there.among.place in
       let by : HasGet v e is.kind is.count = subst (λ (f : Endpoint). HasGet v f is.kind is.count) same is.began in
-      let count : length w.taken ≡ is.count = counted e kind is.kind is.count began by in
-      let early : place < length w.taken = before_last w.taken place _ sent.is_taken.among.is in
-      let since : is.count ≤ is.serves.count = is.since in
-      let within : place < is.serves.count = omega arith in
-      let still = at-extends w.taken v.taken g.taken place _ sent.is_taken.among.is in
-      let there : Has (take is.serves.count v.taken) (record { peer = x; file = sent.file }) = record { place = place; is = at-take is.serves.count v.taken place _ within still } in
+      let count : length w.taken ≡ is.count = counted kind is.kind is.count began by in
+      let early : place < length w.taken = before_last w.taken place _ there.among.is in
+      let since : is.count ≤ f.serves.count = f.since in
+      let within : place < f.serves.count = omega arith in
+      let still = at-extends w.taken v.taken g.taken place _ there.among.is in
+      let among : Has (take f.serves.count v.taken) (record { peer = x; file = sent.file }) = record { place = place; is = at-take f.serves.count v.taken place _ within still } in
       record {
-        count = is.serves.count;
-        best = subst (λ (r : Ruleset). IsBestOver r (files_of (take is.serves.count v.taken)) got.file) (sym (same_rules e kind is.kind is.count began by)) is.serves.is_text.best;
+        count = f.serves.count;
+        best = subst (λ (r : Ruleset). IsBestOver r (files_of (take f.serves.count v.taken)) got.file) (sym (same_rules kind is.kind is.count began by)) f.serves.is_text.best;
         file = sent.file;
-        among = Has-contains (take is.serves.count v.taken) _ there;
+        among = Has-contains (take f.serves.count v.taken) _ among;
       }
 
+pub fetches-own_sent : (texts : List (List ℕ)) (maps : Maps) → AreOver texts maps → (before after : List Step) (s : Step) → AllMerged (before ++ s ∷ after) (start_from texts maps) → FetchesOwnSent (start_from texts maps) before after s
+fetches-own_sent texts maps over before after s merged e kind is own x has own_then got has_got same =
+    let first = start_from texts maps in
+    let w = run_from before first in
+    let v = run_from (before ++ s ∷ after) first in
+    let end : v ≡ run_from after (happens s w) = run-append before (s ∷ after) first in
+    let grows : GrowsTo w v = subst (GrowsTo w) (sym end) (run-grows (s ∷ after) w) in
+    let at_first = start_from-holds texts maps over in
+    let h = run_from-holds before first at_first (merged-first before (s ∷ after) first merged) in
+    let k = run_from-holds (before ++ s ∷ after) first at_first merged in
+    let now = begin_counted w s e kind is in
+    let more : GrowsTo (happens s w) v = subst (GrowsTo (happens s w)) (sym end) (run-grows after (happens s w)) in
+    let began = either (λ ours. ours) (Has-extends (happens s w).begun v.begun (record { client = e; operation = get kind; taken = length w.taken }) more.begun) now in
+    fetched w v h k grows e own kind began x (Has-from_contains w.sent x has) own_then got (Has-from_contains v.got got has_got) same
+
+-- The sender and the getter have begun operations, so if no port is reused theirs are their own.
 pub fetches-sent : (before after : List Step) (s : Step) → HasOwnPorts (run (before ++ s ∷ after)) → AllMerged (before ++ s ∷ after) start → FetchesSent before after s
 fetches-sent before after s own merged e kind is x has got has_got same =
     let w = run before in
     let v = run (before ++ s ∷ after) in
     let end : v ≡ run_from after (happens s w) = run-append before (s ∷ after) start in
     let grows : GrowsTo w v = subst (GrowsTo w) (sym end) (run-grows (s ∷ after) w) in
-    let own_then = own-before w v grows own in
-    let h = run-holds before own_then (merged-first before (s ∷ after) start merged) in
-    let k = run-holds (before ++ s ∷ after) own merged in
-    let now = begin_counted w s e kind is in
-    let more : GrowsTo (happens s w) v = subst (GrowsTo (happens s w)) (sym end) (run-grows after (happens s w)) in
-    let began = either (λ ours. ours) (Has-extends (happens s w).begun v.begun (record { client = e; operation = get kind; taken = length w.taken }) more.begun) now in
-    fetched w v h k own grows e kind began x (Has-from_contains w.sent x has) got (Has-from_contains v.got got has_got) same
+    let all = run-clients (before ++ s ∷ after) merged in
+    let first = run-clients before (merged-first before (s ∷ after) start merged) in
+    let getter = subst (IsOwn v) same (own-each v own got.client (all.got got has_got)) in
+    let sender = own-each w (none_reused-before w v grows own) x (first.sent x has) in
+    fetches-own_sent [] empty_maps none-over before after s merged e kind is getter x has sender got has_got same

@@ -17,9 +17,9 @@ use Rattle.archive_client.specs.declared.cause.Cause.TheVariants as cause
 use Rattle.archive_client.specs.declared.state.State.TheVariants as state
 use Rattle.archive_client.specs.Client.{get, Phase, asking, receiving, failed, Client, in_phase, out_to, sends_to, moves, get_took, get_answered, get_refused, get_waited, get_waits, get_stays, cause_of, recv_state, phase_state}
 use Rattle.archive_world.specs.World.{Datagram, World, to_read, server_endpoint, newly_got, after_client, client_at}
-use Rattle.archive_world.specs.Headline.{HasOwnPorts}
+use Rattle.archive_world.specs.Headline.{IsOwn}
 use Rattle.archive_world.proofs.Places.{Has}
-use Rattle.archive_world.proofs.Claims.{HasGet, IsStranger, PutsBlock, Serves, ServesBlock, Fetches, Says, IsAskingFor, IsGetting, IsAskedBy, MayBind, IsGot}
+use Rattle.archive_world.proofs.Claims.{HasGet, IsStranger, PutsBlock, Serves, ServesBlock, Fetches, Says, IsAskingFor, IsServed, IsGetting, IsAskedBy, MayBind, IsFetched, IsGot}
 use Rattle.archive_world.proofs.Owning.{no_stranger, put_begun, get_begun, one_get}
 use Rattle.archive_world.proofs.Invariant.{Holds}
 use Rattle.archive_world.proofs.ServerMoves.{begun_away}
@@ -58,32 +58,47 @@ take_in_file recv.Over r f given = given
 same_file : (r : Receiver) (f file : List ℕ) → r.file ≡ Some f → r.file ≡ Some file → file ≡ f
 same_file r f file is also = cc
 
-module _ (w : World) (h : Holds w) (own : HasOwnPorts w) (e : Endpoint) where
-  since_by : (kind other : Ruleset) (count : ℕ) (port : ℕ) (file : List ℕ) → HasGet w e kind count → (s : Serves w e port other file) → IsStranger w e ⊎ IsAskedBy w (record { peer = e; port = port; asked = to_read other; taken = s.count }) (to_read other) → (other ≡ kind) × (count ≤ s.count)
-  since_by kind other count port file began s (inl stranger) =
-      no_stranger w own e (get_begun w e kind count began) stranger
-  since_by kind other count port file began s (inr asked) =
-      let one = one_get w own e kind other count asked.0 began asked.1 in
+module _ (w : World) (h : Holds w) (e : Endpoint) where
+  since_by : IsOwn w e → (kind other : Ruleset) (count : ℕ) (port : ℕ) (file : List ℕ) → HasGet w e kind count → (s : Serves w e port other file) → IsStranger w e ⊎ IsAskedBy w (record { peer = e; port = port; asked = to_read other; taken = s.count }) (to_read other) → (other ≡ kind) × (count ≤ s.count)
+  since_by own kind other count port file began s (inl stranger) = no_stranger w e own stranger
+  since_by own kind other count port file began s (inr asked) =
+      let one = one_get w e own kind other count asked.0 began asked.1 in
       (sym one.0, subst (λ (m : ℕ). m ≤ s.count) (sym one.1) asked.2)
 
-  served_since : (kind other : Ruleset) (count : ℕ) (port : ℕ) (file : List ℕ) → HasGet w e kind count → (s : Serves w e port other file) → (other ≡ kind) × (count ≤ s.count)
-  served_since kind other count port file began s =
-      since_by kind other count port file began s (h.opened _ s.opened.among).whose
+  served_since : IsOwn w e → (kind other : Ruleset) (count : ℕ) (port : ℕ) (file : List ℕ) → HasGet w e kind count → (s : Serves w e port other file) → (other ≡ kind) × (count ≤ s.count)
+  served_since own kind other count port file began s =
+      since_by own kind other count port file began s (h.opened _ s.opened.among).whose
+
+  -- what it has, once it has ended, is what is served
+  is_fetched : (port : ℕ) (r : Receiver) (g : IsGetting w e port r) → IsEnded r.state → (f : List ℕ) → r.file ≡ Some f → IsOwn w e → IsFetched w (record { client = e; file = f }) g.kind g.count
+  is_fetched port r g ended f given own =
+      let s = g.served own in
+      let same = same_file r f s.file given (ended-whole s.file r s.holds g.bounds ended).1 in
+      let since = (served_since own g.kind g.kind g.count port s.file g.began s.serves).1 in
+      let fetched : IsFetched w (record { client = e; file = s.file }) g.kind g.count = record { port = port; serves = s.serves; since = since } in
+      subst (λ (file : List ℕ). IsFetched w (record { client = e; file = file }) g.kind g.count) same fetched
 
   -- a get that has ended has its file
   pub is_got : (port : ℕ) (r : Receiver) → IsGetting w e port r → (s : _) → newly_got s (recv_state r.state) ≡ true → (f : List ℕ) → (receiver_take r).file ≡ Some f → IsGot w (record { client = e; file = f })
   is_got port r g s new f given =
       let both = newly_got-from s (recv_state r.state) new in
-      let whole = (ended-whole g.file r g.holds g.bounds (got_ended r.state both.1)).1 in
-      let same = same_file r f g.file (take_in_file r.state r f given) whole in
-      let since = (served_since g.kind g.kind g.count port g.file g.began g.serves).1 in
-      let got : IsGot w (record { client = e; file = g.file }) = record { kind = g.kind; count = g.count; began = g.began; port = port; serves = g.serves; since = since } in
-      subst (λ (file : List ℕ). IsGot w (record { client = e; file = file })) same got
+      record {
+        kind = g.kind;
+        count = g.count;
+        began = g.began;
+        whose = is_fetched port r g (got_ended r.state both.1) f (take_in_file r.state r f given);
+      }
 
-  -- it goes on with another receiver of the same file
-  getting_on : (port : ℕ) (r next : Receiver) (g : IsGetting w e port r) → HoldsFirst g.file next → IsReceiver next → IsGetting w e port next
+  -- it goes on with another receiver, which holds more of the same file
+  getting_on : (port : ℕ) (r next : Receiver) (g : IsGetting w e port r) → ((own : IsOwn w e) → HoldsFirst (g.served own).file next) → IsReceiver next → IsGetting w e port next
   getting_on port r next g holds bounds =
-      record { kind = g.kind; count = g.count; began = g.began; file = g.file; serves = g.serves; holds = holds; bounds = bounds }
+      record {
+        kind = g.kind;
+        count = g.count;
+        began = g.began;
+        bounds = bounds;
+        served = λ own. record { file = (g.served own).file; serves = (g.served own).serves; holds = holds own };
+      }
 
   module _ (c : Client) (is : client_at e w ≡ Some c) where
     -- ---- it is bound, or binds now
@@ -112,13 +127,13 @@ module _ (w : World) (h : Holds w) (own : HasOwnPorts w) (e : Endpoint) where
           })
 
       -- a DATA arrives
-      module _ (r : Receiver) (g : IsGetting w e port r) (verdict : Verdict) (n : ℕ) (body : List ℕ) (short : length body ≤ BLOCK_SIZE) (is_block : body ≡ block_of g.file n) where
+      module _ (r : Receiver) (g : IsGetting w e port r) (verdict : Verdict) (n : ℕ) (body : List ℕ) (short : length body ≤ BLOCK_SIZE) (is_block : (own : IsOwn w e) → body ≡ block_of (g.served own).file n) where
         abbrev came : DataAnswer
         came = receiver_data verdict n body r
 
         getting_after : IsGetting w e port came.receiver
         getting_after =
-            getting_on port r came.receiver g (receiver_data-holds g.file r g.holds verdict n body is_block) ((receiver_data-keeps verdict n body r short).fits g.bounds)
+            getting_on port r came.receiver g (λ own. receiver_data-holds (g.served own).file r (g.served own).holds verdict n body (is_block own)) ((receiver_data-keeps verdict n body r short).fits g.bounds)
 
         took_in : (result : Result (Option Packet) RecvFault) → came.result ≡ result → Holds (after_client e c (get_took port came.receiver result c) w)
         took_in (Ok out) at =
@@ -137,7 +152,7 @@ module _ (w : World) (h : Holds w) (own : HasOwnPorts w) (e : Endpoint) where
       module _ (r : Receiver) (g : IsGetting w e port r) where
         getting_waited : IsGetting w e port (receiver_timeout r).receiver
         getting_waited =
-            getting_on port r (receiver_timeout r).receiver g (receiver_timeout-holds g.file r g.holds) ((receiver_timeout-keeps r).fits g.bounds)
+            getting_on port r (receiver_timeout r).receiver g (λ own. receiver_timeout-holds (g.served own).file r (g.served own).holds) ((receiver_timeout-keeps r).fits g.bounds)
 
         waits_on : Holds (after_client e c (get_stays port (receiver_timeout r) c) w)
         waits_on =
@@ -163,21 +178,19 @@ module _ (w : World) (h : Holds w) (own : HasOwnPorts w) (e : Endpoint) where
       getting_first : (other : Ruleset) (file : List ℕ) → Serves w e port other file → IsGetting w e port receiver_start
       getting_first other file serves =
           let began : HasGet w e kind there.count = record { among = there.among } in
-          let same = (served_since kind other there.count port file began serves).0 in
+          let here = λ (own : IsOwn w e). subst (λ (k : Ruleset). Serves w e port k file) (served_since own kind other there.count port file began serves).0 serves in
           record {
             kind = kind;
             count = there.count;
             began = began;
-            file = file;
-            serves = subst (λ (k : Ruleset). Serves w e port k file) same serves;
-            holds = refl;
             bounds = IsReceiver-start;
+            served = λ own. record { file = file; serves = here own; holds = refl };
           }
 
       pub get_answered-holds : (other : Ruleset) (file : List ℕ) → Serves w e port other file → body ≡ block_of file n → (first : Bool) → Holds (after_client e c (get_answered first verdict port n body c) w)
       unfolding getting_first
       get_answered-holds other file serves is_block true =
-          took-holds port unbound receiver_start (getting_first other file serves) verdict n body short is_block
+          took-holds port unbound receiver_start (getting_first other file serves) verdict n body short (λ own. is_block)
       get_answered-holds other file serves is_block false = stays-holds w h e c is
 
     -- ---- it is refused

@@ -1,5 +1,4 @@
--- Every event only adds to the lists of a world, so if no port is reused at the end of a run, none is at any earlier
--- moment.
+-- Every event only adds to the lists of a world.
 use Rattle.std.proofs.Common.{ℕ, Bool, true, false, ◌==◌, List, [], ◌∷◌, slice_get, Option, None, Some}
 use Rattle.archive_table.specs.Server.{Maps, Grant, Transfer, Taken, memory_of, transfer_at, server_request, server_datagram, server_timeout}
 use Rattle.archive_table.specs.Server as table
@@ -7,11 +6,9 @@ use Rattle.archive_client.specs.Client.{Operation, Client, client_datagram, clie
 use Rattle.archive_client.specs.Client as client
 use Rattle.tftp_packet.specs.declared.endpoint.Endpoint.{Endpoint}
 use Rattle.archive_world.specs.World.{Datagram, Opening, Asked, World, Event, begin, deliver, client_times_out, server_times_out, stray, restart, Step, server_endpoint, client_at, has_begun, opened_with, taken_with, after_request, after_transfer, after_client, begins, begins_unless, asked_of, request_comes, server_hears, client_hears, arrives, delivers, client_waits, strays_in, strays_unless, restarts, event_happens, happens, run_from}
-use Rattle.archive_world.specs.Headline.{HasOwnPorts}
 use Rattle.archive_world.proofs.Places.{Extends, Extends-on, Extends-same, Extends-push}
 use Rattle.archive_world.proofs.Claims.{GrowsTo}
 use Rattle.archive_world.proofs.Lasting.{GrowsTo-same}
-use Rattle.archive_world.proofs.Owning.{own-before}
 use Rattle.archive_world.proofs.Sending.{net-extends}
 
 opened_extends : (opened : Bool) (o : Opening) (os : List Opening) → Extends os (opened_with opened o os)
@@ -139,11 +136,6 @@ grows-on u v w first next =
       opened = Extends-on u.opened v.opened w.opened first.opened next.opened;
       strays = Extends-on u.strays v.strays w.strays first.strays next.strays;
     }
-
--- no port is reused at the end, so none was before
-pub run-own : (steps : List Step) (w : World) → HasOwnPorts (run_from steps w) → HasOwnPorts w
-run-own [] w own = own
-run-own (s ∷ steps) w own = own-before w (happens s w) (step-grows w s) (run-own steps (happens s w) own)
 
 pub run-grows : (steps : List Step) (w : World) → GrowsTo w (run_from steps w)
 run-grows [] w = GrowsTo-same w

@@ -1,5 +1,5 @@
 -- A datagram arrives at a port of the server other than the request port.
-use Rattle.std.proofs.Common.{◌≡◌, ◌⊎◌, ℕ, Bool, true, false, List, Option, None, Some, Result, Ok, Err, refl, ap, sym, ◌∙◌, subst, inl, inr, ⊎_elim}
+use Rattle.std.proofs.Common.{◌≡◌, ℕ, Bool, true, false, List, Option, None, Some, Result, Ok, Err, refl, ap, sym, ◌∙◌, subst, ⊎_elim}
 use Rattle.tftp_packet.specs.declared.endpoint.Endpoint.{Endpoint}
 use Rattle.tftp_packet.specs.declared.packet_fault.PacketFault.{PacketFault}
 use Rattle.tftp_packet.specs.declared.refusal.Refusal.TheVariants.{UnknownTransfer}
@@ -10,16 +10,17 @@ use Rattle.tftp_packet.proofs.Sent.{data_size}
 use Rattle.tftp_ends.specs.Heard.{heard_packet, heard_from_peer, heard_from_other}
 use Rattle.archive_table.specs.Server.{Maps, Grant, End, Transfer, sending, receiving, transfer_at, out_from, is_same, heard_decoded, transfer_heard, data_at, ack_at, datagram_at, server_datagram}
 use Rattle.archive_world.specs.World.{Datagram, World, server_endpoint, after_transfer}
-use Rattle.archive_world.specs.Headline.{HasOwnPorts}
+use Rattle.archive_world.specs.Headline.{IsOwn}
 use Rattle.archive_world.proofs.Places.{Has}
 use Rattle.archive_world.proofs.Endpoints.{endpoint_is, exact_endpoint}
 use Rattle.archive_world.proofs.Claims.{IsStranger, PutsBlock, Binds, IsBound, IsLiveEnd}
+use Rattle.archive_world.proofs.Owning.{no_stranger}
 use Rattle.archive_world.proofs.Invariant.{Holds}
 use Rattle.archive_world.proofs.Sending.{from_port, honest_refusal, replies-holds, closes-holds}
 use Rattle.archive_world.proofs.Acking.{ack-holds}
 use Rattle.archive_world.proofs.Receiving.{Joined, data-holds}
 
-module _ (w : World) (h : Holds w) (own : HasOwnPorts w) (d : Datagram) (among : Has w.net d) (ours : d.target.host ≡ server_endpoint.host) (grant : Grant) (maps : Maps) (t : Transfer) (is : transfer_at d.target.port w.server ≡ Some t) where
+module _ (w : World) (h : Holds w) (d : Datagram) (among : Has w.net d) (ours : d.target.host ≡ server_endpoint.host) (grant : Grant) (maps : Maps) (t : Transfer) (is : transfer_at d.target.port w.server ≡ Some t) where
   abbrev port : ℕ
   port = d.target.port
 
@@ -34,14 +35,14 @@ module _ (w : World) (h : Holds w) (own : HasOwnPorts w) (d : Datagram) (among :
         binds = subst Binds (sym reads) binds;
       }
 
-  -- a DATA from the peer is a stranger's, or a block of its put
-  block_heard : d.source ≡ t.peer → (n : ℕ) (body : List ℕ) → decode_bytes d.bytes ≡ Ok (data_block n body) → IsStranger w t.peer ⊎ PutsBlock w t.peer n body
-  block_heard same n body reads =
+  -- a DATA from the peer is a block of its put
+  block_heard : d.source ≡ t.peer → (n : ℕ) (body : List ℕ) → decode_bytes d.bytes ≡ Ok (data_block n body) → IsOwn w t.peer → PutsBlock w t.peer n body
+  block_heard same n body reads own =
       ⊎_elim
-      (λ stranger. inl (subst (IsStranger w) same stranger))
+      (λ stranger. no_stranger w t.peer own (subst (IsStranger w) same stranger))
       (λ says.
       ⊎_elim
-      (λ puts. inr (subst (λ (e : Endpoint). PutsBlock w e n body) same puts))
+      (λ puts. subst (λ (e : Endpoint). PutsBlock w e n body) same puts)
       (λ serves. absurd ((h.live port t is).away (ap (λ (e : Endpoint). e.host) (sym same) ∙ serves.ours)))
       (says (data_block n body) reads))
       (h.net d among).says
@@ -49,7 +50,7 @@ module _ (w : World) (h : Holds w) (own : HasOwnPorts w) (d : Datagram) (among :
   data_heard : d.source ≡ t.peer → (n : ℕ) (body : List ℕ) → decode_bytes d.bytes ≡ Ok (data_block n body) → (end : End) → t.end ≡ end → IsLiveEnd w t.peer port end → Joined w (data_at end grant maps port t.peer n body w.server) → Holds (after_transfer (data_at end grant maps port t.peer n body w.server) w)
   data_heard same n body reads (sending s) end there joined = h
   data_heard same n body reads (receiving r) end there joined =
-      data-holds w h own port t is r end there n body (data_size d.bytes n body reads) grant maps (bound same (data_block n body) reads tt) (block_heard same n body reads) joined
+      data-holds w h port t is r end there n body (data_size d.bytes n body reads) grant maps (bound same (data_block n body) reads tt) (block_heard same n body reads) joined
 
   ack_heard : (n : ℕ) → (end : End) → IsLiveEnd w t.peer port end → Holds (after_transfer (ack_at end port t.peer n w.server) w)
   ack_heard n (sending s) there = ack-holds w h port t is n s there
@@ -81,10 +82,10 @@ module _ (w : World) (h : Holds w) (own : HasOwnPorts w) (d : Datagram) (among :
   decoded_heard (Ok p) reads joined = packet_heard p reads (is_same d.source t.peer) refl joined
   decoded_heard (Err e) reads joined = h
 
-module _ (w : World) (h : Holds w) (own : HasOwnPorts w) (d : Datagram) (among : Has w.net d) (ours : d.target.host ≡ server_endpoint.host) (grant : Grant) (maps : Maps) where
+module _ (w : World) (h : Holds w) (d : Datagram) (among : Has w.net d) (ours : d.target.host ≡ server_endpoint.host) (grant : Grant) (maps : Maps) where
   found_heard : (found : Option Transfer) → transfer_at d.target.port w.server ≡ found → Joined w (datagram_at found grant maps d.target.port d.source d.bytes w.server) → Holds (after_transfer (datagram_at found grant maps d.target.port d.source d.bytes w.server) w)
   found_heard None is joined = h
-  found_heard (Some t) is joined = decoded_heard w h own d among ours grant maps t is (decode_bytes d.bytes) refl joined
+  found_heard (Some t) is joined = decoded_heard w h d among ours grant maps t is (decode_bytes d.bytes) refl joined
 
   pub datagram-holds : Joined w (server_datagram grant maps d.target.port d.source d.bytes w.server) → Holds (after_transfer (server_datagram grant maps d.target.port d.source d.bytes w.server) w)
   datagram-holds joined = found_heard (transfer_at d.target.port w.server) refl joined

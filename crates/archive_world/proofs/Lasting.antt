@@ -11,9 +11,10 @@ use Rattle.archive_table.specs.Server as table
 use Rattle.archive_client.specs.Client.{Phase, Client}
 use Rattle.archive_client.specs.Client as client
 use Rattle.archive_world.specs.World.{Datagram, Asked, to_write, to_read, Opening, Got, World}
-use Rattle.archive_world.specs.Headline.{IsBestOver, files_of}
+use Rattle.archive_world.specs.Headline.{IsOwn, IsBestOver, files_of}
 use Rattle.archive_world.proofs.Places.{Extends, Has-extends, Extends-same, length-extends, take-extends}
-use Rattle.archive_world.proofs.Claims.{GrowsTo, HasBegun, HasPut, HasGet, IsStranger, HasOpened, HasTaken, IsTextOf, Serves, PutsBlock, ServesBlock, Fetches, AcksPut, ServerAcks, Says, IsHonest, IsBound, HasCome, ReceivesPut, IsLiveEnd, IsLive, IsPursuing, IsFaithful, IsAskedBy, IsOpening, IsTakenFrom, IsTaken, IsSent, IsGot}
+use Rattle.archive_world.proofs.Claims.{GrowsTo, HasBegun, HasPut, HasGet, IsStranger, HasOpened, HasTaken, IsTextOf, Serves, PutsBlock, ServesBlock, Fetches, AcksPut, ServerAcks, Says, IsHonest, IsBound, HasCome, ReceivesPut, IsLiveEnd, IsLive, IsServed, IsPursuing, IsFaithful, IsAskedBy, IsOpening, IsTakenFrom, IsTaken, IsSent, IsFetched, IsGot}
+use Rattle.archive_world.proofs.Owning.{own-before}
 
 pub either : {A B C D : Type 0} → (A → C) → (B → D) → A ⊎ B → C ⊎ D
 either f g (inl a) = inl (f a)
@@ -37,6 +38,10 @@ GrowsTo-same w =
     }
 
 module _ (w v : World) (g : GrowsTo w v) where
+  -- what holds of an endpoint as long as its ports are its own
+  pub own-lasts : {A B : Type 0} (e : Endpoint) → (A → B) → (IsOwn w e → A) → IsOwn v e → B
+  own-lasts e lasts claim own = lasts (claim (own-before w v g e own))
+
   pub begun-lasts : (e : Endpoint) → HasBegun w e → HasBegun v e
   begun-lasts e h = record { begun = h.begun; among = Has-extends w.begun v.begun h.begun g.begun h.among; client = h.client }
 
@@ -91,7 +96,7 @@ module _ (w v : World) (g : GrowsTo w v) where
 
   server_acks_lasts : (source target : Endpoint) (n : ℕ) → ServerAcks w source target n → ServerAcks v source target n
   server_acks_lasts source target n h =
-      record { ours = h.ours; whom = either (stranger-lasts target) (acks_lasts target n) h.whom }
+      record { ours = h.ours; whom = own-lasts target (acks_lasts target n) h.whom }
 
   pub says-lasts : (source target : Endpoint) (p : Packet) → Says w source target p → Says v source target p
   says-lasts source target (read name mode) h =
@@ -138,13 +143,17 @@ module _ (w v : World) (g : GrowsTo w v) where
         bounds = h.bounds;
         count = h.count;
         opened = opened-lasts e port to_write h.count h.opened;
-        whose = either (stranger-lasts e) (receives-lasts e r) h.whose;
+        whose = own-lasts e (receives-lasts e r) h.whose;
       }
 
   pub live-lasts : (port : ℕ) (t : Transfer) → IsLive w port t → IsLive v port t
   live-lasts port t h = record { away = h.away; end = end-lasts t.peer port t.end h.end }
 
   -- ---- a client
+
+  served_lasts : (e : Endpoint) (port : ℕ) (kind : Ruleset) (r : Receiver) → IsServed w e port kind r → IsServed v e port kind r
+  served_lasts e port kind r h =
+      record { file = h.file; serves = serves-lasts e port kind h.file h.serves; holds = h.holds }
 
   pub pursuing-lasts : (e : Endpoint) (phase : Phase) → IsPursuing w e phase → IsPursuing v e phase
   pursuing-lasts e (client.asking operation misses) h =
@@ -155,10 +164,8 @@ module _ (w v : World) (g : GrowsTo w v) where
         kind = h.kind;
         count = h.count;
         began = get-lasts e h.kind h.count h.began;
-        file = h.file;
-        serves = serves-lasts e port h.kind h.file h.serves;
-        holds = h.holds;
         bounds = h.bounds;
+        served = own-lasts e (served_lasts e port h.kind r) h.served;
       }
   pursuing-lasts e (client.failed why) h = tt
 
@@ -178,30 +185,36 @@ module _ (w v : World) (g : GrowsTo w v) where
         whose = either (stranger-lasts o.peer) (asked_lasts o o.asked) h.whose;
       }
 
-  pub taken_from-lasts : (t : Taken) → IsTakenFrom w t → IsTakenFrom v t
-  taken_from-lasts t h =
+  pub taken_from-lasts : (e : Endpoint) (file : List ℕ) (port : ℕ) → IsTakenFrom w e file port → IsTakenFrom v e file port
+  taken_from-lasts e file port h = record { began = put-lasts e file h.began; bound = bound-lasts e port h.bound }
+
+  pub is_taken-lasts : (t : Taken) → IsTaken w t → IsTaken v t
+  is_taken-lasts t h =
       record {
-        began = put-lasts t.peer t.file h.began;
         port = h.port;
         count = h.count;
         opened = opened-lasts t.peer h.port to_write h.count h.opened;
-        bound = bound-lasts t.peer h.port h.bound;
+        whose = own-lasts t.peer (taken_from-lasts t.peer t.file h.port) h.whose;
       }
 
-  pub is_taken-lasts : (t : Taken) → IsTaken w t → IsTaken v t
-  is_taken-lasts t h = record { whose = either (stranger-lasts t.peer) (taken_from-lasts t) h.whose }
-
   pub sent-lasts : (e : Endpoint) → IsSent w e → IsSent v e
-  sent-lasts e h = record { file = h.file; began = put-lasts e h.file h.began; is_taken = taken-lasts e h.file h.is_taken }
+  sent-lasts e h =
+      record {
+        file = h.file;
+        began = put-lasts e h.file h.began;
+        is_taken = own-lasts e (taken-lasts e h.file) h.is_taken;
+      }
+
+  fetched_lasts : (got : Got) (kind : Ruleset) (count : ℕ) → IsFetched w got kind count → IsFetched v got kind count
+  unfolding serves-lasts
+  fetched_lasts got kind count h =
+      record { port = h.port; serves = serves-lasts got.client h.port kind got.file h.serves; since = h.since }
 
   pub got-lasts : (got : Got) → IsGot w got → IsGot v got
-  unfolding serves-lasts
   got-lasts got h =
       record {
         kind = h.kind;
         count = h.count;
         began = get-lasts got.client h.kind h.count h.began;
-        port = h.port;
-        serves = serves-lasts got.client h.port h.kind got.file h.serves;
-        since = h.since;
+        whose = own-lasts got.client (fetched_lasts got h.kind h.count) h.whose;
       }

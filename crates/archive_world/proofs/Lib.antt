@@ -25,6 +25,7 @@ pub mod Beginning
 pub mod Straying
 pub mod Growing
 pub mod Happening
+pub mod Strangers
 pub mod Concluding
 pub mod Tracing
 pub mod Sampling
@@ -42,6 +43,14 @@ pub mod Lists
 pub mod OwnTest
 pub mod SampleFiles
 pub mod SamplePremises
+pub mod OwnEndpoints
+pub mod SampleReuse
+pub mod Enduring
+pub mod Folders
+pub mod Costs
+pub mod Freeing
+pub mod Effects
+pub mod RealTime
 pub mod Searches
 pub mod Steps
 pub mod Firsts

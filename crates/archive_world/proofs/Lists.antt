@@ -80,7 +80,7 @@ event_list w v restart grant before takes merged was is = (before, λ kind. refl
 
 -- ---- a run
 
-list_from : (steps : List Step) (w : World) (before : List Keeping) → AllMerged steps w → AreBest w.taken w.server.maps → (last : List Keeping) × RunKeeps steps w before last
+pub list_from : (steps : List Step) (w : World) (before : List Keeping) → AllMerged steps w → AreBest w.taken w.server.maps → (last : List Keeping) × RunKeeps steps w before last
 list_from [] w before merged best = (before, refl)
 list_from (s ∷ steps) w before merged best =
     let now = step-best w s merged.0 best in

@@ -16,17 +16,17 @@ use Rattle.archive_world.proofs.Invariant.{AreBest}
 joins : (kind : Ruleset) (texts : List (List ℕ)) (text : List ℕ) (f : File) (old new : Collected) → IsCollectionOf kind texts old → IsText text f → IsJoined f old new → IsCollectionOf kind (texts ++ text ∷ []) new
 joins kind texts text f old new best is joined = one_more_text kind texts text f old new best is joined.kind joined.best
 
-stays : (kind : Ruleset) (texts : List (List ℕ)) (text : List ℕ) (f : File) (old new : Collected) → IsCollectionOf kind texts old → IsText text f → solutions_of old.ruleset (f ∷ []) ≡ [] → new ≡ old → IsCollectionOf kind (texts ++ text ∷ []) new
+pub stays : (kind : Ruleset) (texts : List (List ℕ)) (text : List ℕ) (f : File) (old new : Collected) → IsCollectionOf kind texts old → IsText text f → solutions_of old.ruleset (f ∷ []) ≡ [] → new ≡ old → IsCollectionOf kind (texts ++ text ∷ []) new
 stays kind texts text f old new best is none same =
     let all : old.entries ++ solutions_of old.ruleset (f ∷ []) ≡ old.entries = ap (λ (es : List Entry). old.entries ++ es) none ∙ append-nil old.entries in
     let kept : IsBestOf (Contains (old.entries ++ solutions_of old.ruleset (f ∷ []))) old.entries = subst (λ (es : List Entry). IsBestOf (Contains es) old.entries) (sym all) (own_best old.entries best.best.rising) in
     subst (λ (c : Collected). IsCollectionOf kind (texts ++ text ∷ []) c) (sym same) (one_more_text kind texts text f old old best is refl kept)
 
-other_lynx : (f : File) (c : Collected) → c.ruleset ≡ Lynx → f.ruleset ≡ Ms → solutions_of c.ruleset (f ∷ []) ≡ []
+pub other_lynx : (f : File) (c : Collected) → c.ruleset ≡ Lynx → f.ruleset ≡ Ms → solutions_of c.ruleset (f ∷ []) ≡ []
 other_lynx f c kind other =
     ap (λ (r : Ruleset). solutions_of r (f ∷ [])) kind ∙ ap (λ (r : Ruleset). solved_by Lynx r f.records ++ []) other
 
-other_ms : (f : File) (c : Collected) → c.ruleset ≡ Ms → f.ruleset ≡ Lynx → solutions_of c.ruleset (f ∷ []) ≡ []
+pub other_ms : (f : File) (c : Collected) → c.ruleset ≡ Ms → f.ruleset ≡ Lynx → solutions_of c.ruleset (f ∷ []) ≡ []
 other_ms f c kind other =
     ap (λ (r : Ruleset). solutions_of r (f ∷ [])) kind ∙ ap (λ (r : Ruleset). solved_by Ms r f.records ++ []) other
 

@@ -16,12 +16,12 @@ use Rattle.tws_best.specs.Best.{collection_text}
 use Rattle.archive_table.specs.Server.{End, Taken, Transfer, sending, at_port, with_live, transfer_at, map_of, out_from, refuses}
 use Rattle.tws_file.specs.Names.{kind_named}
 use Rattle.archive_world.specs.World.{Datagram, World, Opening, Asked, to_write, to_read, server_endpoint, after_request}
-use Rattle.archive_world.specs.Headline.{HasOwnPorts, IsBestOver, files_of}
+use Rattle.archive_world.specs.Headline.{IsOwn, IsBestOver, files_of}
 use Rattle.archive_world.proofs.Places.{Has, Has-last, Has-push, at-extends, at-last, before_last, Extends-same, Extends-push}
 use Rattle.archive_world.proofs.Keyed.{NewOrOld, lookup-insert_entry, apart-insert_entry}
-use Rattle.archive_world.proofs.Claims.{GrowsTo, HasBegun, HasGet, HasOpened, IsStranger, IsTextOf, Serves, ServesBlock, AsksToRead, AsksToWrite, IsHonest, IsBound, IsLiveEnd, IsLive, IsUntaken, IsAskedBy, IsOpening, IsTakenFrom}
+use Rattle.archive_world.proofs.Claims.{GrowsTo, HasBegun, HasGet, HasOpened, IsStranger, IsTextOf, Serves, ServesBlock, AsksToRead, AsksToWrite, IsHonest, IsBound, IsLiveEnd, IsLive, IsUntaken, IsAskedBy, IsOpening, IsTaken}
 use Rattle.archive_world.proofs.Lasting.{either, stranger-lasts, get-lasts, live-lasts}
-use Rattle.archive_world.proofs.Owning.{put_begun, get_begun}
+use Rattle.archive_world.proofs.Owning.{own-before, put_begun, get_begun}
 use Rattle.archive_world.proofs.Invariant.{exact_port, same_port, TakesOnce, Holds}
 use Rattle.archive_world.proofs.ServerMoves.{served, begun_away, bound_before, served-holds}
 use Rattle.archive_world.proofs.Sending.{from_port, honest_packet, honest_refusal, replies-holds}
@@ -62,7 +62,7 @@ module _ (w : World) (h : Holds w) (spare : ℕ) (free : transfer_at spare w.ser
       pub honest : IsHonest opened (record { source = from_port spare; target = from; bytes = first })
       pub whose : IsStranger opened from ⊎ IsAskedBy opened opening asked
 
-    module _ (own : HasOwnPorts opened) (f : IsFine) where
+    module _ (f : IsFine) where
       from_us : (d : Datagram) → Has sends d → Has w.net d ⊎ ((d.source.host ≡ server_endpoint.host) × IsHonest opened d)
       from_us d has =
           either (λ old. old) (λ is. (ap (λ (x : Datagram). x.source.host) is, subst (IsHonest opened) (sym is) f.honest)) (Has-push w.net _ d has)
@@ -77,35 +77,39 @@ module _ (w : World) (h : Holds w) (spare : ℕ) (free : transfer_at spare w.ser
           subst (λ (x : Transfer). IsLive opened q x) (sym new.1) (subst (λ (p : ℕ). IsLive opened p transfer) (sym new.0) here)
 
       -- no transfer was opened there for this peer before
-      never_opened : {P : Type 0} (asked_then : Asked) (count : ℕ) → HasOpened w from spare asked_then count → P
-      never_opened asked_then count o =
+      never_opened : {P : Type 0} (asked_then : Asked) (count : ℕ) → HasOpened w from spare asked_then count → IsOwn opened from → P
+      never_opened asked_then count o own =
           let place = o.among.place in
           let still = at-extends w.opened (w.opened ++ opening ∷ []) (Extends-push w.opened opening) place _ o.among.is in
           let first_then : place < length w.opened = before_last w.opened place _ o.among.is in
-          let same : place ≡ length w.opened = own.openings place (length w.opened) _ opening still (at-last w.opened opening) refl refl in
+          let same : place ≡ length w.opened = own.openings place (length w.opened) _ opening still (at-last w.opened opening) refl refl refl in
           absurd (omega arith)
 
-      taken_before : (u : Taken) → u.peer ≡ from → IsBound w from spare → IsStranger w u.peer ⊎ IsTakenFrom w u → IsStranger opened from
-      taken_before u same bound (inl stranger) = subst (IsStranger opened) same (stranger-lasts w opened grows u.peer stranger)
-      taken_before u same bound (inr t) =
-          let at_port_then : IsBound w from t.port = subst (λ (e : Endpoint). IsBound w e t.port) same t.bound in
-          let begun : HasBegun w from = subst (HasBegun w) same (put_begun w u.peer u.file t.began) in
-          let one = h.one_port from t.port spare begun at_port_then bound in
+      taken_before : (u : Taken) → u.peer ≡ from → IsBound w from spare → IsTaken w u → IsOwn opened from → ⊥
+      taken_before u same bound t own =
+          let own_then = own-before w opened grows from own in
+          let by = t.whose (subst (IsOwn w) (sym same) own_then) in
+          let at_port_then : IsBound w from t.port = subst (λ (e : Endpoint). IsBound w e t.port) same by.bound in
+          let begun : HasBegun w from = subst (HasBegun w) same (put_begun w u.peer u.file by.began) in
+          let one = h.one_port from t.port spare begun own_then at_port_then bound in
           let o = subst (λ (p : ℕ). HasOpened w from p to_write t.count) one (subst (λ (e : Endpoint). HasOpened w e t.port to_write t.count) same t.opened) in
-          never_opened to_write t.count o
+          never_opened to_write t.count o own
 
       untaken_new : IsUntaken opened spare transfer
-      untaken_new running u has same bound = taken_before u same (before from spare f.away bound) (h.taken u has).whose
+      untaken_new running own u has same bound =
+          let other = λ (ours : u.peer.host ≡ server_endpoint.host). f.away (ap (λ (x : Endpoint). x.host) (sym same) ∙ ours) in
+          taken_before u same (before from spare f.away bound) (h.taken u has other) own
 
       untaken_in : (q : ℕ) (u : Transfer) → NewOrOld at_port exact_port w.server.live spare transfer q u → IsUntaken opened q u
       untaken_in q u (inr old) =
-          λ running v has same bound. stranger-lasts w opened grows u.peer (h.untaken q u old running v has same (before u.peer q (h.live q u old).away bound))
+          λ running own v has same bound.
+          h.untaken q u old running (own-before w opened grows u.peer own) v has same (before u.peer q (h.live q u old).away bound)
       untaken_in q u (inl new) =
           subst (λ (x : Transfer). IsUntaken opened q x) (sym new.1) (subst (λ (p : ℕ). IsUntaken opened p transfer) (sym new.0) untaken_new)
 
       once_in : TakesOnce opened
-      once_in i j t u at_i at_j same =
-          either (stranger-lasts w opened grows t.peer) (λ e. e) (h.once i j t u at_i at_j same)
+      once_in i j t u at_i at_j same other own =
+          h.once i j t u at_i at_j same other (own-before w opened grows t.peer own)
 
       new_opening : IsOpening opened opening
       new_opening = record { counted = le_refl (length w.taken); whose = f.whose }

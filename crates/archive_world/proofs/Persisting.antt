@@ -39,41 +39,41 @@ alike_kept maps before after alike kept =
       ms = subst (λ (o : Option (List ℕ)). IsTextAt Ms o maps.ms) (sym (alike Ms)) kept.ms;
     }
 
-event_kept : (w : World) (event : Event) (grant : Grant) (maps : Maps) (before after : List Keeping) → StepTakes grant w (event_happens event grant maps w) → AreOwnRules (event_happens event grant maps w).server.maps → EventKeeps event grant w (event_happens event grant maps w) before after → HasKept before w.server.maps → HasKept after (event_happens event grant maps w).server.maps
-event_kept w (begin e operation) grant maps before after takes rules log kept =
+pub event-kept : (w : World) (event : Event) (grant : Grant) (maps : Maps) (before after : List Keeping) → StepTakes grant w (event_happens event grant maps w) → AreOwnRules (event_happens event grant maps w).server.maps → EventKeeps event grant w (event_happens event grant maps w) before after → HasKept before w.server.maps → HasKept after (event_happens event grant maps w).server.maps
+event-kept w (begin e operation) grant maps before after takes rules log kept =
     same_list w.server.maps _ before after (begins_remain w (e.host == server_endpoint.host) (is_too_long operation) e operation).1 log kept
-event_kept w (deliver index spare) grant maps before after takes rules keeps kept =
+event-kept w (deliver index spare) grant maps before after takes rules keeps kept =
     let v = event_happens (deliver index spare) grant maps w in
     delivery_kept grant _ w.server.maps v.server.maps before after (granted_or w v grant takes) rules keeps kept
-event_kept w (client_times_out e) grant maps before after takes rules log kept =
+event-kept w (client_times_out e) grant maps before after takes rules log kept =
     same_list w.server.maps _ before after (waits_remain w (client_at e w) e).1 log kept
-event_kept w (server_times_out port) grant maps before after takes rules log kept =
+event-kept w (server_times_out port) grant maps before after takes rules log kept =
     same_list w.server.maps _ before after (timeout_leaves (transfer_at port w.server) port w.server).1 log kept
-event_kept w (stray d) grant maps before after takes rules log kept =
+event-kept w (stray d) grant maps before after takes rules log kept =
     same_list w.server.maps _ before after (strays_remain w (d.source.host == server_endpoint.host) (has_begun d.source w.begun) d).1 log kept
-event_kept w restart grant maps before after takes rules alike kept = alike_kept w.server.maps before after alike kept
+event-kept w restart grant maps before after takes rules alike kept = alike_kept w.server.maps before after alike kept
 
 -- ---- a run
 
-run_from-kept : (steps : List Step) (w : World) (before last : List Keeping) → AllMerged steps w → AreBest w.taken w.server.maps → RunKeeps steps w before last → HasKept before w.server.maps → HasKept last (run_from steps w).server.maps
+pub run_from-kept : (steps : List Step) (w : World) (before last : List Keeping) → AllMerged steps w → AreBest w.taken w.server.maps → RunKeeps steps w before last → HasKept before w.server.maps → HasKept last (run_from steps w).server.maps
 run_from-kept [] w before last merged best log kept = subst (λ (l : List Keeping). HasKept l w.server.maps) (sym log) kept
 run_from-kept (s ∷ steps) w before last merged best keeps kept =
     let v = happens s w in
     let after = keeps.0 in
     let now = step-best w s merged.0 best in
     run_from-kept steps v after last merged.1 now keeps.2
-    (event_kept w s.event s.grant s.maps before after (step-takes w s) (own-rules v.taken v.server.maps now) keeps.1 kept)
+    (event-kept w s.event s.grant s.maps before after (step-takes w s) (own-rules v.taken v.server.maps now) keeps.1 kept)
 
-maps_are : (lynx ms : Collected) (maps : Maps) → lynx ≡ maps.lynx → ms ≡ maps.ms → maps ≡ record { lynx = lynx; ms = ms }
-maps_are lynx ms maps first second =
+pub maps-are : (lynx ms : Collected) (maps : Maps) → lynx ≡ maps.lynx → ms ≡ maps.ms → maps ≡ record { lynx = lynx; ms = ms }
+maps-are lynx ms maps first second =
     let make : Collected → Collected → Maps = λ x y. record { lynx = x; ms = y } in
     let whole : make maps.lynx maps.ms ≡ make lynx ms = cc in
     whole
 
-loads-from : (w : World) (log : List Keeping) → AreBest w.taken w.server.maps → HasKept log w.server.maps → RestartsFrom log w
+pub loads-from : (w : World) (log : List Keeping) → AreBest w.taken w.server.maps → HasKept log w.server.maps → RestartsFrom log w
 loads-from w log best kept lynx ms from_lynx from_ms =
     let loaded = loads-the_same log w.server.maps kept (best-collected Lynx _ w.server.maps.lynx best.lynx) (best-collected Ms _ w.server.maps.ms best.ms) lynx ms from_lynx from_ms in
-    ap (λ (m : Maps). loaded_server w.server.request m.lynx m.ms) (maps_are lynx ms w.server.maps loaded.0 loaded.1)
+    ap (λ (m : Maps). loaded_server w.server.request m.lynx m.ms) (maps-are lynx ms w.server.maps loaded.0 loaded.1)
 
 pub run-kept : (steps : List Step) (log : List Keeping) → AllMerged steps start → RunKeeps steps start [] log → HasKept log (run steps).server.maps × RestartsFrom log (run steps)
 run-kept steps log merged keeps =

@@ -12,10 +12,10 @@ use Rattle.archive_client.specs.declared.cause.Cause.TheVariants as cause
 use Rattle.archive_client.specs.declared.state.State.TheVariants as state
 use Rattle.archive_client.specs.Client.{put, Phase, asking, sending, Client, in_phase, out_to, sends_to, put_answered, put_sent, put_waited, put_waits, send_state, phase_state}
 use Rattle.archive_world.specs.World.{Datagram, World, server_endpoint, newly_sent, after_client, client_at}
-use Rattle.archive_world.specs.Headline.{HasOwnPorts}
+use Rattle.archive_world.specs.Headline.{IsOwn}
 use Rattle.archive_world.proofs.Places.{Has}
-use Rattle.archive_world.proofs.Claims.{HasBegun, HasPut, HasTaken, IsStranger, PutsBlock, Fetches, ServerAcks, AcksPut, Says, IsAskingFor, IsPutting, MayBind, IsSent}
-use Rattle.archive_world.proofs.Owning.{no_stranger, get_begun, one_put}
+use Rattle.archive_world.proofs.Claims.{HasPut, HasTaken, IsStranger, PutsBlock, Fetches, ServerAcks, AcksPut, Says, IsAskingFor, IsPutting, MayBind, IsSent}
+use Rattle.archive_world.proofs.Owning.{get_begun, one_put}
 use Rattle.archive_world.proofs.Invariant.{Holds}
 use Rattle.archive_world.proofs.ServerMoves.{begun_away}
 use Rattle.archive_world.proofs.ClientMoves.{SendsHonestly, BindsTo}
@@ -28,11 +28,11 @@ pub server_says : (w : World) → Holds w → (d : Datagram) → Has w.net d →
 server_says w h d among ours p reads =
     ⊎_elim (λ (s : IsStranger w d.source). absurd (h.strays s.datagram s.among (ap (λ (x : Endpoint). x.host) s.source ∙ ours))) (λ says. says p reads) (h.net d among).says
 
-pub acked_by : (w : World) → Holds w → HasOwnPorts w → (d : Datagram) → Has w.net d → d.source.host ≡ server_endpoint.host → HasBegun w d.target → (n : ℕ) → decode_bytes d.bytes ≡ Ok (ack n) → AcksPut w d.target n
-acked_by w h own d among ours begun n reads =
+pub acked_by : (w : World) → Holds w → (d : Datagram) → Has w.net d → d.source.host ≡ server_endpoint.host → (n : ℕ) → decode_bytes d.bytes ≡ Ok (ack n) → IsOwn w d.target → AcksPut w d.target n
+acked_by w h d among ours n reads own =
     ⊎_elim
     (λ (f : Fetches w d.source). absurd (begun_away w h d.source (get_begun w d.source f.kind f.count f.began) ours))
-    (λ (a : ServerAcks w d.source d.target n). ⊎_elim (no_stranger w own d.target begun) (λ acks. acks) a.whom)
+    (λ (a : ServerAcks w d.source d.target n). a.whom own)
     (server_says w h d among ours (ack n) reads)
 
 -- ---- states of a sender
@@ -94,9 +94,9 @@ module _ (w : World) (h : Holds w) (e : Endpoint) (c : Client) (is : client_at e
     block_binds next None = tt
     block_binds next (Some p) = binds_there w h e c is peer p (in_phase (sending peer next) c) (λ q same. same) bound_there
 
-    -- it is newly finished only once the server has taken the file
+    -- it is newly finished only once the server has taken the file, if the ports are its own
     abbrev pub Finishes : SendAnswer → Type 0
-    Finishes a = a.sender.state ≡ send.Finished → (s.state ≡ send.Finished) ⊎ HasTaken w e s.file
+    Finishes a = a.sender.state ≡ send.Finished → (s.state ≡ send.Finished) ⊎ (IsOwn w e → HasTaken w e s.file)
 
     was_running : s.state ≡ send.Finished → phase_state c.phase ≡ state.Running → state.Sent ≡ state.Running
     was_running finished running =
@@ -107,7 +107,7 @@ module _ (w : World) (h : Holds w) (e : Endpoint) (c : Client) (is : client_at e
         let both = newly_sent-from (phase_state c.phase) (send_state a.sender.state) new in
         ⊎_elim
         (λ (was : s.state ≡ send.Finished). let apart : state.Sent ≡ state.Running = was_running was both.0 in absurd cc)
-        (λ (taken : HasTaken w e s.file). record { file = s.file; began = there.began; is_taken = taken })
+        (λ (taken : IsOwn w e → HasTaken w e s.file). record { file = s.file; began = there.began; is_taken = taken })
         (finishes (sent_finished a.sender.state both.1))
 
     pub sent-holds : (a : SendAnswer) → KeepsSender s a → Finishes a → Holds (after_client e c (put_sent peer a c) w)
@@ -123,10 +123,9 @@ module _ (w : World) (h : Holds w) (e : Endpoint) (c : Client) (is : client_at e
         })
 
     -- an ACK arrives
-    pub acked-holds : HasOwnPorts w → (n : ℕ) → AcksPut w e n → Holds (after_client e c (put_sent peer (sender_ack n s) c) w)
-    acked-holds own n acks =
-        let same = one_put w own e acks.file s.file acks.began there.began in
-        let last = λ (by : (n ≡ s.current) × (n ≡ block_count s.file)). subst (HasTaken w e) same (acks.is_taken (by.1 ∙ ap block_count (sym same))) in
+    pub acked-holds : (n : ℕ) → (IsOwn w e → AcksPut w e n) → Holds (after_client e c (put_sent peer (sender_ack n s) c) w)
+    acked-holds n said =
+        let last = λ (by : (n ≡ s.current) × (n ≡ block_count s.file)) (own : IsOwn w e). let acks = said own in let same = one_put w e own acks.file s.file acks.began there.began in subst (HasTaken w e) same (acks.is_taken (by.1 ∙ ap block_count (sym same))) in
         sent-holds (sender_ack n s) (sender_ack-keeps n s) (λ finished. ⊎_elim (λ was. inl was) (λ by. inr (last by)) (sender_ack-finishes n s finished))
 
     -- a time-out

@@ -1,5 +1,5 @@
 -- A DATA arrives at a receiver of the server.
-use Rattle.std.proofs.Common.{◌≡◌, ◌⊎◌, ℕ, ◌≤◌, List, length, Option, None, Some, IfSome, Result, Ok, Err, refl, ap, sym, ◌∙◌, subst, inl, inr}
+use Rattle.std.proofs.Common.{◌≡◌, ℕ, ◌≤◌, List, length, Option, None, Some, IfSome, Result, Ok, Err, refl, ap, sym, ◌∙◌, subst}
 use Rattle.tftp_packet.specs.declared.sizes.TheConstants.{BLOCK_SIZE}
 use Rattle.tftp_packet.specs.declared.refusal.Refusal.TheVariants.{OutOfMemory, NotKept}
 use Rattle.tftp_packet.specs.Packet.{Packet, ack}
@@ -10,23 +10,23 @@ use Rattle.tftp_ends.specs.Ends.{Receiver, DataAnswer, TakeAnswer, receiver_data
 use Rattle.tftp_ends.proofs.Steps.{ReadsBack, KeepsReceiver, receiver_data-keeps, receiver_take-keeps, acks-reads_back}
 use Rattle.archive_table.specs.Server.{Maps, Grant, all, no_memory, unkept, memory_of, Taken, Transfer, Answer, receiving, transfer_at, sends_from, refusal_dgram, file_come, file_asked, block_answered, data_at, IsMerged}
 use Rattle.archive_world.specs.World.{World, server_endpoint, after_transfer, to_write}
-use Rattle.archive_world.specs.Headline.{HasOwnPorts}
+use Rattle.archive_world.specs.Headline.{IsOwn}
 use Rattle.archive_world.proofs.Places.{Has, Has-last, Extends-same, Extends-push}
-use Rattle.archive_world.proofs.Claims.{GrowsTo, HasPut, HasTaken, IsStranger, PutsBlock, AcksPut, HasCome, ReceivesPut, IsReceivingAt, IsRunning, IsBound}
-use Rattle.archive_world.proofs.Lasting.{either, stranger-lasts, put-lasts, opened-lasts}
+use Rattle.archive_world.proofs.Claims.{GrowsTo, HasPut, HasTaken, PutsBlock, AcksPut, HasCome, ReceivesPut, IsReceivingAt, IsRunning, IsBound, IsTakenFrom}
+use Rattle.archive_world.proofs.Lasting.{put-lasts, opened-lasts}
 use Rattle.archive_world.proofs.Owning.{one_put}
 use Rattle.archive_world.proofs.Invariant.{Holds}
 use Rattle.archive_world.proofs.Sending.{from_port, honest_refusal, net-extends, sends_packet, goes_on-holds, closes-holds}
 use Rattle.archive_world.proofs.Acking.{acks-put, ack_says}
 use Rattle.archive_world.proofs.Merging.{best-taken}
-use Rattle.archive_world.proofs.Taking.{TakesFrom, Taking, taken_of, world_taken, takes-holds}
+use Rattle.archive_world.proofs.Taking.{Taking, taken_of, world_taken, takes-holds}
 use Rattle.archive_world.proofs.Coming.{HoldsOrTaken, data-come, data-running, take-state, take-count, take-stops, take-gone, none-come, some-come}
 
 -- if a file is taken, it has made the collections
 abbrev pub Joined : World → Answer → Type 0
 Joined w a = (u : Taken) → a.told.taken ≡ Some u → IsMerged u.file w.server.maps a.server.maps
 
-module _ (w : World) (h : Holds w) (own : HasOwnPorts w) (port : ℕ) (t : Transfer) (is : transfer_at port w.server ≡ Some t) (r : Receiver) (end : t.end ≡ receiving r) (there : IsReceivingAt w t.peer port r) (n : ℕ) (body : List ℕ) (short : length body ≤ BLOCK_SIZE) (grant : Grant) where
+module _ (w : World) (h : Holds w) (port : ℕ) (t : Transfer) (is : transfer_at port w.server ≡ Some t) (r : Receiver) (end : t.end ≡ receiving r) (there : IsReceivingAt w t.peer port r) (n : ℕ) (body : List ℕ) (short : length body ≤ BLOCK_SIZE) (grant : Grant) where
   -- the receiver's answer, and what is then taken out of it
   abbrev came : DataAnswer
   came = receiver_data (memory_of grant) n body r
@@ -66,10 +66,10 @@ module _ (w : World) (h : Holds w) (own : HasOwnPorts w) (port : ℕ) (t : Trans
   onward running =
       subst IsRunning (sym end) (data-running (memory_of grant) n body r (sym (take-state came.receiver) ∙ running))
 
-  goes_on : (whose : IsStranger w t.peer ⊎ ReceivesPut w t.peer took.receiver) → (out : Option Packet) → came.result ≡ Ok out → Holds (after_transfer (file_asked None grant w.server.maps port t.peer took.receiver (dgram_of out) w.server) w)
+  goes_on : (whose : IsOwn w t.peer → ReceivesPut w t.peer took.receiver) → (out : Option Packet) → came.result ≡ Ok out → Holds (after_transfer (file_asked None grant w.server.maps port t.peer took.receiver (dgram_of out) w.server) w)
   goes_on whose out e =
       let next : IsReceivingAt w t.peer port took.receiver = record { bounds = took_bounds; count = there.count; opened = there.opened; whose = whose } in
-      let says = ack_says w port t.peer out took.receiver.count (acked out e) (either (λ s. s) acks_of whose) in
+      let says = ack_says w port t.peer out took.receiver.count (acked out e) (λ own. acks_of (whose own)) in
       goes_on-holds w h port t (receiving took.receiver) (dgram_of out) is next onward (sends_packet w port t.peer out (reads_back out e) says)
 
   -- ---- a file is handed out
@@ -117,32 +117,33 @@ module _ (w : World) (h : Holds w) (own : HasOwnPorts w) (port : ℕ) (t : Trans
     acks_taken : IsGiven → AcksPut after t.peer took.receiver.count
     acks_taken g = record { file = file; began = put-lasts w after grows t.peer file g.began; is_taken = λ last. has_taken }
 
-    takes_from : IsBound w t.peer port → IsGiven → TakesFrom w t.peer file port
-    takes_from bound g = record { began = g.began; count = there.count; opened = there.opened; bound = bound }
+    takes_from : IsBound w t.peer port → IsGiven → IsTakenFrom w t.peer file port
+    takes_from bound g = record { began = g.began; bound = bound }
 
-    fresh_from : IsBound w t.peer port → IsStranger w t.peer ⊎ IsGiven → (u : Taken) → Has w.taken u → u.peer ≡ t.peer → IsStranger w t.peer
-    fresh_from bound (inl stranger) u has same = stranger
-    fresh_from bound (inr g) u has same = h.untaken port t is (subst IsRunning (sym end) g.running) u has same bound
+    fresh_from : IsBound w t.peer port → (IsOwn w t.peer → IsGiven) → IsOwn w t.peer → (u : Taken) → Has w.taken u → u.peer ≡ t.peer → ⊥
+    fresh_from bound whose own u has same =
+        h.untaken port t is (subst IsRunning (sym end) (whose own).running) own u has same bound
 
-    taking : IsBound w t.peer port → IsMerged file w.server.maps maps → IsStranger w t.peer ⊎ IsGiven → Taking w maps port t file took.receiver (sends_from port t.peer (dgram_of out))
+    taking : IsBound w t.peer port → IsMerged file w.server.maps maps → (IsOwn w t.peer → IsGiven) → Taking w maps port t file took.receiver (sends_from port t.peer (dgram_of out))
     taking bound merged whose =
-        let acks = either (stranger-lasts w after grows t.peer) acks_taken whose in
         record {
           is = is;
           there = record {
             bounds = took_bounds;
             count = there.count;
             opened = opened-lasts w after grows t.peer port to_write there.count there.opened;
-            whose = either (stranger-lasts w after grows t.peer) receives whose;
+            whose = λ own. receives (whose own);
           };
           stopped = take-stops came.receiver file given;
-          honest = sends_packet after port t.peer out (reads_back out e) (ack_says after port t.peer out took.receiver.count (acked out e) acks);
-          whose = either (λ s. s) (takes_from bound) whose;
+          honest = sends_packet after port t.peer out (reads_back out e) (ack_says after port t.peer out took.receiver.count (acked out e) (λ own. acks_taken (whose own)));
+          count = there.count;
+          opened = there.opened;
+          whose = λ own. takes_from bound (whose own);
           fresh = fresh_from bound whose;
           best = best-taken w.taken (taken_of t file) w.server.maps maps h.best merged;
         }
 
-    file_grant : (g : Grant) → IsBound w t.peer port → IsStranger w t.peer ⊎ IsGiven → Joined w (file_come g maps port t.peer file took.receiver (dgram_of out) w.server) → Holds (after_transfer (file_come g maps port t.peer file took.receiver (dgram_of out) w.server) w)
+    file_grant : (g : Grant) → IsBound w t.peer port → (IsOwn w t.peer → IsGiven) → Joined w (file_come g maps port t.peer file took.receiver (dgram_of out) w.server) → Holds (after_transfer (file_come g maps port t.peer file took.receiver (dgram_of out) w.server) w)
     file_grant all bound whose joined =
         takes-holds w h maps port t file took.receiver (sends_from port t.peer (dgram_of out)) (taking bound (joined (taken_of t file) refl) whose)
     file_grant no_memory bound whose joined =
@@ -152,28 +153,22 @@ module _ (w : World) (h : Holds w) (own : HasOwnPorts w) (port : ℕ) (t : Trans
 
   -- ---- the step
 
-  -- what arrives is from the peer: a stranger's, or a block of its put
-  module _ (maps : Maps) (bound : IsBound w t.peer port) (heard : IsStranger w t.peer ⊎ PutsBlock w t.peer n body) where
-    held_by : PutsBlock w t.peer n body → (p : ReceivesPut w t.peer r) → HoldsOrTaken w t.peer p.file r came.receiver
-    held_by puts p =
-        let same = one_put w own t.peer puts.file p.file puts.began p.began in
-        data-come w t.peer p.file r (memory_of grant) n body (puts.is_block ∙ ap (λ (f : List ℕ). block_of f n) same) p.come
-
+  -- what arrives is from the peer, a block of its put
+  module _ (maps : Maps) (bound : IsBound w t.peer port) (heard : IsOwn w t.peer → PutsBlock w t.peer n body) where
     abbrev Held : Type 0
     Held = (p : ReceivesPut w t.peer r) × HoldsOrTaken w t.peer p.file r came.receiver
 
-    held_from : IsStranger w t.peer ⊎ ReceivesPut w t.peer r → IsStranger w t.peer ⊎ PutsBlock w t.peer n body → IsStranger w t.peer ⊎ Held
-    held_from (inl stranger) heard = inl stranger
-    held_from (inr p) (inl stranger) = inl stranger
-    held_from (inr p) (inr puts) = inr (p, held_by puts p)
-
-    held : IsStranger w t.peer ⊎ Held
-    held = held_from there.whose heard
+    held : IsOwn w t.peer → Held
+    held own =
+        let p = there.whose own in
+        let puts = heard own in
+        let same = one_put w t.peer own puts.file p.file puts.began p.began in
+        (p, data-come w t.peer p.file r (memory_of grant) n body (puts.is_block ∙ ap (λ (f : List ℕ). block_of f n) same) p.come)
 
     file_found : (found : Option (List ℕ)) → took.file ≡ found → (out : Option Packet) → came.result ≡ Ok out → Joined w (file_asked found grant maps port t.peer took.receiver (dgram_of out) w.server) → Holds (after_transfer (file_asked found grant maps port t.peer took.receiver (dgram_of out) w.server) w)
-    file_found None none out e joined = goes_on (either (λ s. s) (λ (x : Held). put_goes_on x.0 x.1 none) held) out e
+    file_found None none out e joined = goes_on (λ own. let x = held own in put_goes_on x.0 x.1 none) out e
     file_found (Some file) given out e joined =
-        file_grant file given maps out e grant bound (either (λ s. s) (λ (x : Held). given_put file given maps out e x.0 x.1) held) joined
+        file_grant file given maps out e grant bound (λ own. let x = held own in given_put file given maps out e x.0 x.1) joined
 
     block_in : (result : Result (Option Packet) RecvFault) → came.result ≡ result → Joined w (block_answered (answer_of result) grant maps port t.peer came.receiver w.server) → Holds (after_transfer (block_answered (answer_of result) grant maps port t.peer came.receiver w.server) w)
     block_in (Ok out) e joined = file_found took.file refl out e joined

@@ -111,7 +111,7 @@ data_takes (receiving r) grant port peer n body s =
     let a = receiver_data (memory_of grant) n body r in
     block_takes (answer_of a.result) grant port peer a.receiver s
 
-ack_leaves : (end : End) (port : ℕ) (peer : Endpoint) (n : ℕ) (s : Server) → Leaves (ack_at end port peer n s) s
+pub ack_leaves : (end : End) (port : ℕ) (peer : Endpoint) (n : ℕ) (s : Server) → Leaves (ack_at end port peer n s) s
 ack_leaves (sending e) port peer n s = sender_leaves (sender_ack n e).sender.state port peer (sender_ack n e) s
 ack_leaves (receiving r) port peer n s = (refl, refl)
 

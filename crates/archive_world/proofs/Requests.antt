@@ -1,5 +1,5 @@
 -- What the server does with each request: it refuses it, or opens a transfer.
-use Rattle.std.proofs.Common.{◌≡◌, ◌⊎◌, ℕ, ◌≤◌, Bool, true, false, List, length, Option, None, Some, Result, Ok, Err, refl, inr, arith}
+use Rattle.std.proofs.Common.{◌≡◌, ◌⊎◌, ℕ, ◌≤◌, Bool, true, false, List, length, Option, None, Some, Result, Ok, Err, refl, inr, ⊎_elim, arith}
 use Rattle.std.proofs.lemmas.Bool.{ltb-false}
 use Rattle.tftp_packet.specs.declared.packet_fault.PacketFault.{PacketFault}
 use Rattle.tftp_packet.specs.declared.refusal.Refusal.TheVariants.{OctetOnly, NoSuchFile, ServerBusy, CollectionTooLong, OutOfMemory}
@@ -13,10 +13,11 @@ use Rattle.tws_best.specs.Best.{collection_text}
 use Rattle.archive_table.specs.Server.{sending, receiving, transfer_at, map_of, has_place, read_opens, read_fits, read_placed, read_named, read_asked, write_opens, write_placed, write_asked, request_packet, request_decoded, server_request, has_long_text}
 use Rattle.tws_file.specs.Names.{kind_named}
 use Rattle.archive_world.specs.World.{Datagram, World, to_write, to_read, after_request, asked_named, asked_packet, asked_decoded, asked_of}
-use Rattle.archive_world.specs.Headline.{HasOwnPorts}
+use Rattle.archive_world.specs.Headline.{IsOwn}
 use Rattle.archive_world.proofs.Places.{Has, Has-last}
 use Rattle.archive_world.proofs.Claims.{IsStranger, AsksToRead, AsksToWrite, AcksPut, ServerAcks, ReceivesPut}
 use Rattle.archive_world.proofs.Lasting.{either, stranger-lasts, put-lasts}
+use Rattle.archive_world.proofs.Owning.{own-before, no_stranger}
 use Rattle.archive_world.proofs.Invariant.{Holds}
 use Rattle.archive_world.proofs.Sending.{from_port, honest_packet}
 use Rattle.archive_world.proofs.Openings.{opened, grows, IsFine, opened-holds, reads, writes, writer_away, refuses-holds, read_fine}
@@ -24,30 +25,30 @@ use Rattle.archive_world.proofs.Openings.{opened, grows, IsFine, opened-holds, r
 module _ (w : World) (h : Holds w) (d : Datagram) (among : Has w.net d) (spare : ℕ) (free : transfer_at spare w.server ≡ None) where
   -- ---- a request to read
 
-  read_memory : (verdict : Verdict) (kind : Ruleset) (name : List ℕ) → kind_named name ≡ Some kind → IsStranger w d.source ⊎ AsksToRead w d.source name → length (collection_text (map_of kind w.server.maps)) ≤ MAX_FILE → HasOwnPorts (after_request d.source spare (to_read kind) (read_opens verdict spare d.source (map_of kind w.server.maps) w.server) w) → Holds (after_request d.source spare (to_read kind) (read_opens verdict spare d.source (map_of kind w.server.maps) w.server) w)
-  read_memory granted kind name is whose short own =
+  read_memory : (verdict : Verdict) (kind : Ruleset) (name : List ℕ) → kind_named name ≡ Some kind → IsStranger w d.source ⊎ AsksToRead w d.source name → length (collection_text (map_of kind w.server.maps)) ≤ MAX_FILE → Holds (after_request d.source spare (to_read kind) (read_opens verdict spare d.source (map_of kind w.server.maps) w.server) w)
+  read_memory granted kind name is whose short =
       let file = collection_text (map_of kind w.server.maps) in
-      opened-holds w h spare free d.source (to_read kind) (sending (sender_start file)) (encode (data_packet file 1)) own
+      opened-holds w h spare free d.source (to_read kind) (sending (sender_start file)) (encode (data_packet file 1))
       (read_fine w h d among granted spare free kind short name is whose)
-  read_memory refused kind name is whose short own = refuses-holds w h d among spare (to_read kind) OutOfMemory
+  read_memory refused kind name is whose short = refuses-holds w h d among spare (to_read kind) OutOfMemory
 
-  read_size : (long : Bool) → (verdict : Verdict) (kind : Ruleset) (name : List ℕ) → kind_named name ≡ Some kind → IsStranger w d.source ⊎ AsksToRead w d.source name → has_long_text (map_of kind w.server.maps) ≡ long → HasOwnPorts (after_request d.source spare (to_read kind) (read_fits long verdict spare d.source (map_of kind w.server.maps) w.server) w) → Holds (after_request d.source spare (to_read kind) (read_fits long verdict spare d.source (map_of kind w.server.maps) w.server) w)
-  read_size true verdict kind name is whose size own = refuses-holds w h d among spare (to_read kind) CollectionTooLong
-  read_size false verdict kind name is whose size own =
-      read_memory verdict kind name is whose (ltb-false MAX_FILE (length (collection_text (map_of kind w.server.maps))) size) own
+  read_size : (long : Bool) → (verdict : Verdict) (kind : Ruleset) (name : List ℕ) → kind_named name ≡ Some kind → IsStranger w d.source ⊎ AsksToRead w d.source name → has_long_text (map_of kind w.server.maps) ≡ long → Holds (after_request d.source spare (to_read kind) (read_fits long verdict spare d.source (map_of kind w.server.maps) w.server) w)
+  read_size true verdict kind name is whose size = refuses-holds w h d among spare (to_read kind) CollectionTooLong
+  read_size false verdict kind name is whose size =
+      read_memory verdict kind name is whose (ltb-false MAX_FILE (length (collection_text (map_of kind w.server.maps))) size)
 
-  read_place : (place : Bool) → (verdict : Verdict) (kind : Ruleset) (name : List ℕ) → kind_named name ≡ Some kind → IsStranger w d.source ⊎ AsksToRead w d.source name → HasOwnPorts (after_request d.source spare (to_read kind) (read_placed place verdict spare d.source (map_of kind w.server.maps) w.server) w) → Holds (after_request d.source spare (to_read kind) (read_placed place verdict spare d.source (map_of kind w.server.maps) w.server) w)
-  read_place true verdict kind name is whose own =
-      read_size (has_long_text (map_of kind w.server.maps)) verdict kind name is whose refl own
-  read_place false verdict kind name is whose own = refuses-holds w h d among spare (to_read kind) ServerBusy
+  read_place : (place : Bool) → (verdict : Verdict) (kind : Ruleset) (name : List ℕ) → kind_named name ≡ Some kind → IsStranger w d.source ⊎ AsksToRead w d.source name → Holds (after_request d.source spare (to_read kind) (read_placed place verdict spare d.source (map_of kind w.server.maps) w.server) w)
+  read_place true verdict kind name is whose =
+      read_size (has_long_text (map_of kind w.server.maps)) verdict kind name is whose refl
+  read_place false verdict kind name is whose = refuses-holds w h d among spare (to_read kind) ServerBusy
 
-  read_name : (found : Option Ruleset) → (verdict : Verdict) (name : List ℕ) → kind_named name ≡ found → IsStranger w d.source ⊎ AsksToRead w d.source name → HasOwnPorts (after_request d.source spare (asked_named found) (read_named found verdict spare d.source w.server) w) → Holds (after_request d.source spare (asked_named found) (read_named found verdict spare d.source w.server) w)
-  read_name (Some kind) verdict name is whose own = read_place (has_place w.server) verdict kind name is whose own
-  read_name None verdict name is whose own = refuses-holds w h d among spare to_write NoSuchFile
+  read_name : (found : Option Ruleset) → (verdict : Verdict) (name : List ℕ) → kind_named name ≡ found → IsStranger w d.source ⊎ AsksToRead w d.source name → Holds (after_request d.source spare (asked_named found) (read_named found verdict spare d.source w.server) w)
+  read_name (Some kind) verdict name is whose = read_place (has_place w.server) verdict kind name is whose
+  read_name None verdict name is whose = refuses-holds w h d among spare to_write NoSuchFile
 
-  read_mode : (octet : Bool) → (verdict : Verdict) (name : List ℕ) → IsStranger w d.source ⊎ AsksToRead w d.source name → HasOwnPorts (after_request d.source spare (asked_named (kind_named name)) (read_asked octet verdict spare d.source name w.server) w) → Holds (after_request d.source spare (asked_named (kind_named name)) (read_asked octet verdict spare d.source name w.server) w)
-  read_mode true verdict name whose own = read_name (kind_named name) verdict name refl whose own
-  read_mode false verdict name whose own = refuses-holds w h d among spare (asked_named (kind_named name)) OctetOnly
+  read_mode : (octet : Bool) → (verdict : Verdict) (name : List ℕ) → IsStranger w d.source ⊎ AsksToRead w d.source name → Holds (after_request d.source spare (asked_named (kind_named name)) (read_asked octet verdict spare d.source name w.server) w)
+  read_mode true verdict name whose = read_name (kind_named name) verdict name refl whose
+  read_mode false verdict name whose = refuses-holds w h d among spare (asked_named (kind_named name)) OctetOnly
 
   -- ---- a request to write
 
@@ -64,48 +65,52 @@ module _ (w : World) (h : Holds w) (d : Datagram) (among : Has w.net d) (spare :
       let g = grows w h spare free d.source to_write (receiving receiver_start) (encode (ack 0)) in
       record { file = asks.file; began = put-lasts w writing g d.source asks.file asks.began; come = refl }
 
+  own_asks : IsStranger w d.source ⊎ AsksToWrite w d.source → IsOwn writing d.source → AsksToWrite w d.source
+  own_asks whose own =
+      let g = grows w h spare free d.source to_write (receiving receiver_start) (encode (ack 0)) in
+      ⊎_elim (no_stranger w d.source (own-before w writing g d.source own)) (λ asks. asks) whose
+
   write_fine : IsStranger w d.source ⊎ AsksToWrite w d.source → IsFine w h spare free d.source to_write (receiving receiver_start) (encode (ack 0))
   write_fine whose =
       let g = grows w h spare free d.source to_write (receiving receiver_start) (encode (ack 0)) in
-      let strange = stranger-lasts w writing g d.source in
-      let acks : ServerAcks writing (from_port spare) d.source 0 = record { ours = refl; whom = either strange none_acked whose } in
+      let acks : ServerAcks writing (from_port spare) d.source 0 = record { ours = refl; whom = λ own. none_acked (own_asks whose own) } in
       record {
         away = writer_away w h d among whose;
         live = record {
           bounds = IsReceiver-start;
           count = length w.taken;
           opened = record { among = Has-last w.opened _ };
-          whose = either strange none_come whose;
+          whose = λ own. none_come (own_asks whose own);
         };
         honest = honest_packet writing (from_port spare) d.source (ack 0) (ack-reads_back 0 (omega arith)).decoded (inr acks);
-        whose = either strange (λ (asks : AsksToWrite w d.source). (asks.file, put-lasts w writing g d.source asks.file asks.began)) whose;
+        whose = either (stranger-lasts w writing g d.source) (λ (asks : AsksToWrite w d.source). (asks.file, put-lasts w writing g d.source asks.file asks.began)) whose;
       }
 
-  write_memory : (verdict : Verdict) → IsStranger w d.source ⊎ AsksToWrite w d.source → HasOwnPorts (after_request d.source spare to_write (write_opens verdict spare d.source w.server) w) → Holds (after_request d.source spare to_write (write_opens verdict spare d.source w.server) w)
-  write_memory granted whose own =
-      opened-holds w h spare free d.source to_write (receiving receiver_start) (encode (ack 0)) own (write_fine whose)
-  write_memory refused whose own = refuses-holds w h d among spare to_write OutOfMemory
+  write_memory : (verdict : Verdict) → IsStranger w d.source ⊎ AsksToWrite w d.source → Holds (after_request d.source spare to_write (write_opens verdict spare d.source w.server) w)
+  write_memory granted whose =
+      opened-holds w h spare free d.source to_write (receiving receiver_start) (encode (ack 0)) (write_fine whose)
+  write_memory refused whose = refuses-holds w h d among spare to_write OutOfMemory
 
-  write_place : (place : Bool) → (verdict : Verdict) → IsStranger w d.source ⊎ AsksToWrite w d.source → HasOwnPorts (after_request d.source spare to_write (write_placed place verdict spare d.source w.server) w) → Holds (after_request d.source spare to_write (write_placed place verdict spare d.source w.server) w)
-  write_place true verdict whose own = write_memory verdict whose own
-  write_place false verdict whose own = refuses-holds w h d among spare to_write ServerBusy
+  write_place : (place : Bool) → (verdict : Verdict) → IsStranger w d.source ⊎ AsksToWrite w d.source → Holds (after_request d.source spare to_write (write_placed place verdict spare d.source w.server) w)
+  write_place true verdict whose = write_memory verdict whose
+  write_place false verdict whose = refuses-holds w h d among spare to_write ServerBusy
 
-  write_mode : (octet : Bool) → (verdict : Verdict) → IsStranger w d.source ⊎ AsksToWrite w d.source → HasOwnPorts (after_request d.source spare to_write (write_asked octet verdict spare d.source w.server) w) → Holds (after_request d.source spare to_write (write_asked octet verdict spare d.source w.server) w)
-  write_mode true verdict whose own = write_place (has_place w.server) verdict whose own
-  write_mode false verdict whose own = refuses-holds w h d among spare to_write OctetOnly
+  write_mode : (octet : Bool) → (verdict : Verdict) → IsStranger w d.source ⊎ AsksToWrite w d.source → Holds (after_request d.source spare to_write (write_asked octet verdict spare d.source w.server) w)
+  write_mode true verdict whose = write_place (has_place w.server) verdict whose
+  write_mode false verdict whose = refuses-holds w h d among spare to_write OctetOnly
 
   -- ---- a datagram
 
-  packet_asks : (verdict : Verdict) (p : Packet) → decode_bytes d.bytes ≡ Ok p → HasOwnPorts (after_request d.source spare (asked_packet p) (request_packet verdict spare d.source p w.server) w) → Holds (after_request d.source spare (asked_packet p) (request_packet verdict spare d.source p w.server) w)
-  packet_asks verdict (read name mode) is own = read_mode (is_octet mode) verdict name (reads w h d among name mode is) own
-  packet_asks verdict (write name mode) is own = write_mode (is_octet mode) verdict (writes w h d among name mode is) own
-  packet_asks verdict (data_block n body) is own = h
-  packet_asks verdict (ack n) is own = h
-  packet_asks verdict (error code words) is own = h
+  packet_asks : (verdict : Verdict) (p : Packet) → decode_bytes d.bytes ≡ Ok p → Holds (after_request d.source spare (asked_packet p) (request_packet verdict spare d.source p w.server) w)
+  packet_asks verdict (read name mode) is = read_mode (is_octet mode) verdict name (reads w h d among name mode is)
+  packet_asks verdict (write name mode) is = write_mode (is_octet mode) verdict (writes w h d among name mode is)
+  packet_asks verdict (data_block n body) is = h
+  packet_asks verdict (ack n) is = h
+  packet_asks verdict (error code words) is = h
 
-  decoded_asks : (verdict : Verdict) (decoded : Result Packet PacketFault) → decode_bytes d.bytes ≡ decoded → HasOwnPorts (after_request d.source spare (asked_decoded decoded) (request_decoded verdict spare d.source decoded w.server) w) → Holds (after_request d.source spare (asked_decoded decoded) (request_decoded verdict spare d.source decoded w.server) w)
-  decoded_asks verdict (Ok p) is own = packet_asks verdict p is own
-  decoded_asks verdict (Err e) is own = h
+  decoded_asks : (verdict : Verdict) (decoded : Result Packet PacketFault) → decode_bytes d.bytes ≡ decoded → Holds (after_request d.source spare (asked_decoded decoded) (request_decoded verdict spare d.source decoded w.server) w)
+  decoded_asks verdict (Ok p) is = packet_asks verdict p is
+  decoded_asks verdict (Err e) is = h
 
-  pub request-holds : (verdict : Verdict) → HasOwnPorts (after_request d.source spare (asked_of d.bytes) (server_request verdict spare d.source d.bytes w.server) w) → Holds (after_request d.source spare (asked_of d.bytes) (server_request verdict spare d.source d.bytes w.server) w)
-  request-holds verdict own = decoded_asks verdict (decode_bytes d.bytes) refl own
+  pub request-holds : (verdict : Verdict) → Holds (after_request d.source spare (asked_of d.bytes) (server_request verdict spare d.source d.bytes w.server) w)
+  request-holds verdict = decoded_asks verdict (decode_bytes d.bytes) refl

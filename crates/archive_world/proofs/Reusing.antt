@@ -13,7 +13,7 @@ use Rattle.archive_world.proofs.Endpoints.{exact_endpoint, same_endpoint}
 
 -- ---- a test of any member
 
-abbrev any_of : {A : Type 0} → (A → Bool) → List A → Bool
+abbrev pub any_of : {A : Type 0} → (A → Bool) → List A → Bool
 any_of test [] = false
 any_of test (x ∷ xs) = cond (test x) true (any_of test xs)
 
@@ -38,26 +38,26 @@ module _ {A : Type 0} (test : A → Bool) where
   fails_by a xs true is none rest = absurd (none is)
   fails_by a xs false is none rest = rest
 
-  all_fail : (xs : List A) → ((i : ℕ) (x : A) → slice_get xs i ≡ Some x → test x ≡ true → ⊥) → any_of test xs ≡ false
+  pub all_fail : (xs : List A) → ((i : ℕ) (x : A) → slice_get xs i ≡ Some x → test x ≡ true → ⊥) → any_of test xs ≡ false
   all_fail [] none = refl
   all_fail (a ∷ xs) none = fails_by a xs (test a) refl (none zero a refl) (all_fail xs (λ i x is. none (suc i) x is))
 
-begun_any : (e : Endpoint) (bs : List Begun) → has_begun e bs ≡ any_of (λ (b : Begun). is_same e b.client) bs
+pub begun_any : (e : Endpoint) (bs : List Begun) → has_begun e bs ≡ any_of (λ (b : Begun). is_same e b.client) bs
 begun_any e [] = refl
 begun_any e (b ∷ bs) = ap (cond (is_same e b.client) true) (begun_any e bs)
 
-strayed_any : (e : Endpoint) (ds : List Datagram) → has_strayed e ds ≡ any_of (λ (d : Datagram). is_same e d.source) ds
+pub strayed_any : (e : Endpoint) (ds : List Datagram) → has_strayed e ds ≡ any_of (λ (d : Datagram). is_same e d.source) ds
 strayed_any e [] = refl
 strayed_any e (d ∷ ds) = ap (cond (is_same e d.source) true) (strayed_any e ds)
 
-opened_any : (e : Endpoint) (port : ℕ) (os : List Opening) → was_opened e port os ≡ any_of (is_opening_at e port) os
+pub opened_any : (e : Endpoint) (port : ℕ) (os : List Opening) → was_opened e port os ≡ any_of (is_opening_at e port) os
 opened_any e port [] = refl
 opened_any e port (o ∷ os) = ap (cond (is_opening_at e port o) true) (opened_any e port os)
 
 true_false : {P : Type 0} (b : Bool) → b ≡ true → b ≡ false → P
 true_false b yes_it never = let both : true ≡ false = sym yes_it ∙ never in absurd cc
 
-same_by : (a b : Endpoint) → a ≡ b → is_same a b ≡ true
+pub same_by : (a b : Endpoint) → a ≡ b → is_same a b ≡ true
 same_by a b e = ap (λ (x : Endpoint). is_same a x) (sym e) ∙ same_endpoint a
 
 -- ---- what the tests say
@@ -67,7 +67,7 @@ begun_none e bs i b none is same =
     true_false (is_same e b.client) (same_by e b.client same)
     (none_at (λ (x : Begun). is_same e x.client) bs i b (sym (begun_any e bs) ∙ none) is)
 
-strayed_none : (e : Endpoint) (ds : List Datagram) (i : ℕ) (d : Datagram) → has_strayed e ds ≡ false → slice_get ds i ≡ Some d → e ≡ d.source → ⊥
+pub strayed_none : (e : Endpoint) (ds : List Datagram) (i : ℕ) (d : Datagram) → has_strayed e ds ≡ false → slice_get ds i ≡ Some d → e ≡ d.source → ⊥
 strayed_none e ds i d none is same =
     true_false (is_same e d.source) (same_by e d.source same)
     (none_at (λ (x : Datagram). is_same e x.source) ds i d (sym (strayed_any e ds) ∙ none) is)

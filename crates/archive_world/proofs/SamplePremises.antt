@@ -11,7 +11,7 @@ use Rattle.archive_world.proofs.Totality.{not_more, one_last}
 use Rattle.archive_world.proofs.OwnTest.{own-by}
 use Rattle.archive_world.proofs.SampleFiles.{hundred-first, ninety-first, ninety-better, hundred-worse}
 
-abbrev hundred : Taken
+abbrev pub hundred : Taken
 hundred = record { peer = sample_client 1; file = sample_file 100 }
 
 abbrev ninety : Taken
@@ -21,7 +21,7 @@ abbrev strange : Taken
 strange = record { peer = stranger; file = sample_file 90 }
 
 -- this file was taken after these
-taken_by : {old new : Maps} (before : List Taken) (is t : Taken) → IsMerged is.file old new → before ++ is ∷ [] ≡ before ++ t ∷ [] → IsMerged t.file old new
+pub taken_by : {old new : Maps} (before : List Taken) (is t : Taken) → IsMerged is.file old new → before ++ is ∷ [] ≡ before ++ t ∷ [] → IsMerged t.file old new
 taken_by {old} {new} before is t merged e = subst (λ (u : Taken). IsMerged u.file old new) (one_last before is t e) merged
 
 crossed_get-own : HasOwnPorts (run crossed_get)
@@ -156,7 +156,7 @@ restart_between-merged = (
 pub restart_between-meets : HasOwnPorts (run restart_between) × AllMerged restart_between start
 restart_between-meets = (restart_between-own, restart_between-merged)
 
-not_next : {P : Type 0} (i : ℕ) → i ≡ suc i → P
+pub not_next : {P : Type 0} (i : ℕ) → i ≡ suc i → P
 not_next i e = absurd (omega arith)
 
 pub opened_again-breaks : HasOwnPorts (run opened_again) → ⊥

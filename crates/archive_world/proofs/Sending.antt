@@ -15,8 +15,8 @@ use Rattle.archive_world.specs.World.{Datagram, World, server_endpoint, datagram
 use Rattle.archive_world.proofs.Places.{Has, Extends, Extends-same, Extends-push, Has-push}
 use Rattle.archive_world.proofs.Keyed.{IsApart, NewOrOld, lookup-set, lookup-remove, apart-set, apart-remove}
 use Rattle.archive_world.proofs.Claims.{GrowsTo, Says, IsHonest, IsLiveEnd, IsLive, IsRunning, IsUntaken}
-use Rattle.archive_world.proofs.Lasting.{either, honest-lasts, live-lasts, stranger-lasts}
-use Rattle.archive_world.proofs.Invariant.{exact_port, TakesOnce, Holds}
+use Rattle.archive_world.proofs.Lasting.{either, honest-lasts, live-lasts}
+use Rattle.archive_world.proofs.Invariant.{exact_port, Holds}
 use Rattle.archive_world.proofs.ServerMoves.{served, bound_before, served-holds}
 
 -- ---- what is sent is honest
@@ -79,15 +79,11 @@ module _ (w : World) (h : Holds w) where
       }
 
   untaken_after : (live : List (ℕ × Transfer)) (out : Option Out) → SendsHonest w out → (port : ℕ) (t : Transfer) → t.peer.host ≢ server_endpoint.host → IsUntaken w port t → IsUntaken (moved live out) port t
-  untaken_after live out honest port t away untaken running u among same bound =
+  untaken_after live out honest port t away untaken running own u among same bound =
       let g = moved_grows live out in
       let from_us : (d : Datagram) → Has (net_with server_endpoint.host w.net out) d → Has w.net d ⊎ (d.source.host ≡ server_endpoint.host) = λ d has. either (λ old. old) (λ ours. ours.0) (net_honest w (moved live out) g out honest d has) in
       let before = bound_before w h (net_with server_endpoint.host w.net out) (with_live live w.server) w.taken w.opened from_us t.peer port away bound in
-      stranger-lasts w (moved live out) g t.peer (untaken running u among same before)
-
-  once_after : (live : List (ℕ × Transfer)) (out : Option Out) → TakesOnce (moved live out)
-  once_after live out i j t u at_i at_j same =
-      either (stranger-lasts w (moved live out) (moved_grows live out) t.peer) (λ e. e) (h.once i j t u at_i at_j same)
+      untaken running own u among same before
 
   -- each of these transfers is as the invariant says
   pub moved-holds : (live : List (ℕ × Transfer)) (out : Option Out) → SendsHonest w out → IsApart at_port exact_port live → ((port : ℕ) (t : Transfer) → lookup (at_port port) live ≡ Some t → IsLive w port t × IsUntaken w port t) → Holds (moved live out)
@@ -104,7 +100,7 @@ module _ (w : World) (h : Holds w) where
         untaken = λ port t is. untaken_after live out honest port t (fits port t is).0.away (fits port t is).1;
         openings = λ o has. inl has;
         files = λ t has. inl has;
-        once = once_after live out;
+        once = h.once;
         best = h.best;
       })
 

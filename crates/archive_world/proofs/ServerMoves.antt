@@ -9,7 +9,7 @@ use Rattle.archive_world.proofs.Places.{Has, Extends, Extends-same, length-exten
 use Rattle.archive_world.proofs.Keyed.{IsApart}
 use Rattle.archive_world.proofs.Claims.{GrowsTo, HasBegun, IsHonest, IsBound, IsLive, IsUntaken, IsPursuing, MayBind, IsOpening, IsTaken}
 use Rattle.archive_world.proofs.Lasting.{either, honest-lasts, faithful-lasts, opening-lasts, is_taken-lasts, sent-lasts, got-lasts}
-use Rattle.archive_world.proofs.Owning.{put_begun, get_begun}
+use Rattle.archive_world.proofs.Owning.{own-before, put_begun, get_begun}
 use Rattle.archive_world.proofs.Invariant.{exact_port, AreBest, TakesOnce, Holds}
 
 -- the world after a step of the server
@@ -83,15 +83,16 @@ module _ (w : World) (h : Holds w) (net : List Datagram) (server : Server) (take
         live = s.live;
         untaken = s.untaken;
         clients = λ e c is. faithful-lasts w after g e c (h.clients e c is);
-        bound = λ e c is port b. bound_in e c.phase port (before e port) (h.clients e c is).phase (h.bound e c is port) b;
-        one_port = λ e p q begun b c.
+        bound = λ e c is own port b.
+            bound_in e c.phase port (before e port) (h.clients e c is).phase (h.bound e c is (own-before w after g e own) port) b;
+        one_port = λ e p q begun own b c.
             let was : HasBegun w e = record { begun = begun.begun; among = begun.among; client = begun.client } in
             let away = begun_away w h e was in
-            h.one_port e p q was (before e p away b) (before e q away c);
+            h.one_port e p q was (own-before w after g e own) (before e p away b) (before e q away c);
         begun = λ b has. record { away = (h.begun b has).away; counted = le_trans (h.begun b has).counted (length-extends w.taken taken s.more_taken) };
         strays = h.strays;
         opened = λ o has. ⊎_elim (λ old. opening-lasts w after g o (h.opened o old)) (λ now. now) (s.openings o has);
-        taken = λ t has. ⊎_elim (λ old. is_taken-lasts w after g t (h.taken t old)) (λ now. now) (s.files t has);
+        taken = λ t has other. ⊎_elim (λ old. is_taken-lasts w after g t (h.taken t old other)) (λ now. now) (s.files t has);
         once = s.once;
         sent = λ e has. sent-lasts w after g e (h.sent e has);
         got = λ got has. got-lasts w after g got (h.got got has);

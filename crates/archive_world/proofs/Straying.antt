@@ -2,22 +2,20 @@
 use Rattle.std.proofs.Common.{◌≡◌, ◌≢◌, ◌⊎◌, ℕ, [], refl, ap, sym, ◌∙◌, subst, inl, ⊎_elim}
 use Rattle.tftp_packet.specs.declared.endpoint.Endpoint.{Endpoint}
 use Rattle.archive_table.specs.Server.{Server}
-use Rattle.archive_client.specs.Client.{Phase, Client}
-use Rattle.archive_client.specs.Client as client
 use Rattle.archive_world.specs.World.{Datagram, World, server_endpoint, strays_in, restarts}
-use Rattle.archive_world.specs.Headline.{HasOwnPorts}
+use Rattle.archive_world.specs.Headline.{IsOwn}
 use Rattle.archive_world.proofs.Places.{Has-last, Has-push}
-use Rattle.archive_world.proofs.Claims.{GrowsTo, HasBegun, IsStranger, IsHonest, IsBound, IsPursuing, MayBind}
-use Rattle.archive_world.proofs.Lasting.{either, honest-lasts, live-lasts, stranger-lasts, faithful-lasts, opening-lasts, is_taken-lasts, sent-lasts, got-lasts, begun-lasts}
+use Rattle.archive_world.proofs.Claims.{GrowsTo, IsStranger, IsHonest, IsBound}
+use Rattle.archive_world.proofs.Lasting.{honest-lasts, live-lasts, faithful-lasts, opening-lasts, is_taken-lasts, sent-lasts, got-lasts}
 use Rattle.archive_world.proofs.Growing.{strays-grow, restarts-grow}
-use Rattle.archive_world.proofs.Owning.{no_stranger, put_begun, get_begun}
-use Rattle.archive_world.proofs.Invariant.{TakesOnce, Holds}
+use Rattle.archive_world.proofs.Owning.{own-before, no_stranger}
+use Rattle.archive_world.proofs.Invariant.{Holds}
 use Rattle.archive_world.proofs.ServerMoves.{served-holds}
 use Rattle.archive_world.proofs.Beginning.{BindsBy, bound_split}
 
 -- ---- a stray
 
-module _ (w : World) (h : Holds w) (d : Datagram) (away : d.source.host ≢ server_endpoint.host) (own : HasOwnPorts (strays_in d w)) where
+module _ (w : World) (h : Holds w) (d : Datagram) (away : d.source.host ≢ server_endpoint.host) where
   abbrev after : World
   after = strays_in d w
 
@@ -36,23 +34,13 @@ module _ (w : World) (h : Holds w) (d : Datagram) (away : d.source.host ≢ serv
   strange : (f : Endpoint) (port : ℕ) → BindsBy d f port → IsStranger after f
   strange f port new = subst (IsStranger after) new.source stranger
 
-  -- an endpoint with an operation is not a stranger's
-  before : (f : Endpoint) (port : ℕ) → HasBegun after f → IsBound after f port → IsBound w f port
-  before f port begun b =
-      ⊎_elim (λ old. old) (λ (new : BindsBy d f port). no_stranger after own f begun (strange f port new)) (split f port b)
+  own_then : (f : Endpoint) → IsOwn after f → IsOwn w f
+  own_then f own = own-before w after grows f own
 
-  bound_in : (f : Endpoint) (phase : Phase) (port : ℕ) → IsPursuing w f phase → (IsBound w f port → MayBind phase port) → IsBound after f port → MayBind phase port
-  bound_in f (client.asking operation misses) port p may b =
-      may (before f port (begun-lasts w after grows f (record { begun = _; among = p.among; client = refl })) b)
-  bound_in f (client.sending peer s) port p may b =
-      may (before f port (begun-lasts w after grows f (put_begun w f s.file p.began)) b)
-  bound_in f (client.receiving peer r) port p may b =
-      may (before f port (begun-lasts w after grows f (get_begun w f p.kind p.count p.began)) b)
-  bound_in f (client.failed why) port p may b = tt
-
-  once_in : TakesOnce after
-  once_in i j t u at_i at_j same =
-      either (stranger-lasts w after grows t.peer) (λ is. is) (h.once i j t u at_i at_j same)
+  -- an endpoint whose ports are its own is not the stranger's
+  before : (f : Endpoint) (port : ℕ) → IsOwn after f → IsBound after f port → IsBound w f port
+  before f port own b =
+      ⊎_elim (λ old. old) (λ (new : BindsBy d f port). no_stranger after f own (strange f port new)) (split f port b)
 
   pub strays-holds : Holds after
   strays-holds =
@@ -60,18 +48,18 @@ module _ (w : World) (h : Holds w) (d : Datagram) (away : d.source.host ≢ serv
         net = λ x has. ⊎_elim (λ old. honest-lasts w after grows x (h.net x old)) (λ new. subst (IsHonest after) (sym new) new_honest) (Has-push w.net d x has);
         apart = h.apart;
         live = λ port t is. live-lasts w after grows port t (h.live port t is);
-        untaken = λ port t is running u has same b.
-            ⊎_elim (λ old. stranger-lasts w after grows t.peer (h.untaken port t is running u has same old)) (strange t.peer port) (split t.peer port b);
+        untaken = λ port t is running own u has same b.
+            h.untaken port t is running (own_then t.peer own) u has same (before t.peer port own b);
         clients = λ f c is. faithful-lasts w after grows f c (h.clients f c is);
-        bound = λ f c is port b. bound_in f c.phase port (h.clients f c is).phase (h.bound f c is port) b;
-        one_port = λ f p q b at_p at_q.
-            h.one_port f p q (record { begun = b.begun; among = b.among; client = b.client }) (before f p b at_p) (before f q b at_q);
+        bound = λ f c is own port b. h.bound f c is (own_then f own) port (before f port own b);
+        one_port = λ f p q b own at_p at_q.
+            h.one_port f p q (record { begun = b.begun; among = b.among; client = b.client }) (own_then f own) (before f p own at_p) (before f q own at_q);
         begun = λ b has. record { away = (h.begun b has).away; counted = (h.begun b has).counted };
         strays = λ x has.
             ⊎_elim (h.strays x) (λ (new : x ≡ d) ours. away (ap (λ (y : Datagram). y.source.host) (sym new) ∙ ours)) (Has-push w.strays d x has);
         opened = λ o has. opening-lasts w after grows o (h.opened o has);
-        taken = λ t has. is_taken-lasts w after grows t (h.taken t has);
-        once = once_in;
+        taken = λ t has other. is_taken-lasts w after grows t (h.taken t has other);
+        once = λ i j t u at_i at_j same other own. h.once i j t u at_i at_j same other (own_then t.peer own);
         sent = λ x has. sent-lasts w after grows x (h.sent x has);
         got = λ g has. got-lasts w after grows g (h.got g has);
         best = h.best;
@@ -96,6 +84,6 @@ restarts-holds w h =
       untaken = λ port t is. absurd cc;
       openings = λ o has. inl has;
       files = λ t has. inl has;
-      once = λ i j t u at_i at_j same. either (stranger-lasts w (restarts w) g t.peer) (λ is. is) (h.once i j t u at_i at_j same);
+      once = h.once;
       best = h.best;
     })

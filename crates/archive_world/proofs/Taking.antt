@@ -7,21 +7,15 @@ use Rattle.tftp_ends.specs.declared.recv_state.RecvState.TheVariants as recv
 use Rattle.tftp_ends.specs.Ends.{Receiver}
 use Rattle.archive_table.specs.Server.{Server, Maps, Taken, Transfer, receiving, at_port, transfer_at}
 use Rattle.archive_world.specs.World.{Datagram, World, server_endpoint, net_with, to_write}
+use Rattle.archive_world.specs.Headline.{IsOwn}
 use Rattle.archive_world.proofs.Places.{Has, Extends-same, Extends-push, Has-push, OldOrLast, at-push}
 use Rattle.archive_world.proofs.Keyed.{NewOrOld, lookup-set, lookup-written, apart-set}
-use Rattle.archive_world.proofs.Claims.{GrowsTo, HasPut, HasOpened, IsStranger, IsBound, IsReceivingAt, IsLive, IsRunning, IsUntaken, IsTaken, IsTakenFrom}
-use Rattle.archive_world.proofs.Lasting.{either, live-lasts, stranger-lasts, taken_from-lasts}
+use Rattle.archive_world.proofs.Claims.{GrowsTo, HasOpened, IsBound, IsReceivingAt, IsLive, IsRunning, IsUntaken, IsTaken, IsTakenFrom}
+use Rattle.archive_world.proofs.Lasting.{either, live-lasts, opened-lasts, taken_from-lasts}
 use Rattle.archive_world.proofs.Owning.{put_begun}
 use Rattle.archive_world.proofs.Invariant.{exact_port, AreBest, Holds}
 use Rattle.archive_world.proofs.ServerMoves.{served, bound_before, served-holds}
 use Rattle.archive_world.proofs.Sending.{SendsHonest, net-extends, net_from_server}
-
--- a put's file may be taken at this port
-pub record TakesFrom (w : World) (e : Endpoint) (file : List ℕ) (port : ℕ) : Type 0 where
-  pub began : HasPut w e file
-  pub count : ℕ
-  pub opened : HasOpened w e port to_write count
-  pub bound : IsBound w e port
 
 abbrev pub with_end : Transfer → Receiver → Transfer
 with_end t next = record { peer = t.peer; end = receiving next }
@@ -44,8 +38,11 @@ pub record Taking (w : World) (maps : Maps) (port : ℕ) (t : Transfer) (file : 
   pub there : IsReceivingAt (world_taken maps port t file next out w) t.peer port next
   pub stopped : next.state ≢ recv.Running
   pub honest : SendsHonest (world_taken maps port t file next out w) out
-  pub whose : IsStranger w t.peer ⊎ TakesFrom w t.peer file port
-  pub fresh : (u : Taken) → Has w.taken u → u.peer ≡ t.peer → IsStranger w t.peer
+  pub count : ℕ
+  pub opened : HasOpened w t.peer port to_write count
+  pub whose : IsOwn w t.peer → IsTakenFrom w t.peer file port
+  -- no file was taken from the peer before
+  pub fresh : IsOwn w t.peer → (u : Taken) → Has w.taken u → u.peer ≡ t.peer → ⊥
   pub best : AreBest (w.taken ++ taken_of t file ∷ []) maps
 
 module _ (w : World) (h : Holds w) (maps : Maps) (port : ℕ) (t : Transfer) (file : List ℕ) (next : Receiver) (out : Option Out) (k : Taking w maps port t file next out) where
@@ -90,45 +87,44 @@ module _ (w : World) (h : Holds w) (maps : Maps) (port : ℕ) (t : Transfer) (fi
       not_new u (same_some u (with_end t next) (sym here ∙ found)) running
 
   -- the file is from the peer of another running transfer
-  new_untaken : (q : ℕ) (u : Transfer) → lookup (at_port q) (set_value (at_port port) w.server.live (with_end t next)) ≡ Some u → IsRunning u.end → t.peer ≡ u.peer → IsBound w u.peer q → IsStranger w t.peer ⊎ TakesFrom w t.peer file port → IsStranger after u.peer
-  new_untaken q u e running same bound (inl stranger) =
-      subst (IsStranger after) same (stranger-lasts w after grows t.peer stranger)
-  new_untaken q u e running same bound (inr from) =
+  new_untaken : (q : ℕ) (u : Transfer) → lookup (at_port q) (set_value (at_port port) w.server.live (with_end t next)) ≡ Some u → IsRunning u.end → t.peer ≡ u.peer → IsBound w u.peer q → IsOwn w t.peer → ⊥
+  new_untaken q u e running same bound own =
+      let from = k.whose own in
       let here : IsBound w t.peer q = subst (λ (x : Endpoint). IsBound w x q) (sym same) bound in
-      let one = h.one_port t.peer q port (put_begun w t.peer file from.began) here from.bound in
+      let one = h.one_port t.peer q port (put_begun w t.peer file from.began) own here from.bound in
       at_this q u e one running
 
   untaken_in : (q : ℕ) (u : Transfer) → lookup (at_port q) (set_value (at_port port) w.server.live (with_end t next)) ≡ Some u → NewOrOld at_port exact_port w.server.live port (with_end t next) q u → IsUntaken after q u
-  untaken_in q u e (inl new) running v has same bound = not_new u new.1 running
-  untaken_in q u e (inr old) running v has same bound =
+  untaken_in q u e (inl new) running own v has same bound = not_new u new.1 running
+  untaken_in q u e (inr old) running own v has same bound =
       let was = before u.peer q (h.live q u old).away bound in
       ⊎_elim
-      (λ there. stranger-lasts w after grows u.peer (h.untaken q u old running v there same was))
-      (λ (is : v ≡ taken_of t file). new_untaken q u e running (sym (ap (λ (x : Taken). x.peer) is) ∙ same) was k.whose)
+      (λ there. h.untaken q u old running own v there same was)
+      (λ (is : v ≡ taken_of t file).
+      let peers : t.peer ≡ u.peer = sym (ap (λ (x : Taken). x.peer) is) ∙ same in
+      new_untaken q u e running peers was (subst (IsOwn w) (sym peers) own))
       (Has-push w.taken (taken_of t file) v has)
 
   -- ---- the files taken
 
-  abbrev StrangeOrSame : (i j : ℕ) → Endpoint → Type 0
-  StrangeOrSame i j e = IsStranger after e ⊎ (i ≡ j)
-
-  once_in : (i j : ℕ) (a b : Taken) → OldOrLast w.taken (taken_of t file) i a → OldOrLast w.taken (taken_of t file) j b → a.peer ≡ b.peer → StrangeOrSame i j a.peer
-  once_in i j a b (inl at_i) (inl at_j) same =
-      either (stranger-lasts w after grows a.peer) (λ e. e) (h.once i j a b at_i at_j same)
-  once_in i j a b (inl at_i) (inr last) same =
+  once_in : (i j : ℕ) (a b : Taken) → OldOrLast w.taken (taken_of t file) i a → OldOrLast w.taken (taken_of t file) j b → a.peer ≡ b.peer → a.peer.host ≢ server_endpoint.host → IsOwn w a.peer → i ≡ j
+  once_in i j a b (inl at_i) (inl at_j) same other own = h.once i j a b at_i at_j same other own
+  once_in i j a b (inl at_i) (inr last) same other own =
       let peers : a.peer ≡ t.peer = same ∙ ap (λ (x : Taken). x.peer) last.1 in
-      let strange = k.fresh a (record { place = i; is = at_i }) peers in
-      inl (subst (IsStranger after) (sym peers) (stranger-lasts w after grows t.peer strange))
-  once_in i j a b (inr last) (inl at_j) same =
+      absurd (k.fresh (subst (IsOwn w) peers own) a (record { place = i; is = at_i }) peers)
+  once_in i j a b (inr last) (inl at_j) same other own =
       let mine : a.peer ≡ t.peer = ap (λ (x : Taken). x.peer) last.1 in
-      let strange = k.fresh b (record { place = j; is = at_j }) (sym same ∙ mine) in
-      inl (subst (IsStranger after) (sym mine) (stranger-lasts w after grows t.peer strange))
-  once_in i j a b (inr last) (inr also) same = inr (last.0 ∙ sym also.0)
+      absurd (k.fresh (subst (IsOwn w) mine own) b (record { place = j; is = at_j }) (sym same ∙ mine))
+  once_in i j a b (inr last) (inr also) same other own = last.0 ∙ sym also.0
 
   new_taken : IsTaken after (taken_of t file)
   new_taken =
-      let from = λ (f : TakesFrom w t.peer file port). let was : IsTakenFrom w (taken_of t file) = record { began = f.began; port = port; count = f.count; opened = f.opened; bound = f.bound } in taken_from-lasts w after grows (taken_of t file) was in
-      record { whose = either (stranger-lasts w after grows t.peer) from k.whose }
+      record {
+        port = port;
+        count = k.count;
+        opened = opened-lasts w after grows t.peer port to_write k.count k.opened;
+        whose = λ own. taken_from-lasts w after grows t.peer file port (k.whose own);
+      }
 
   pub takes-holds : Holds (world_taken maps port t file next out w)
   takes-holds =
@@ -143,6 +139,6 @@ module _ (w : World) (h : Holds w) (maps : Maps) (port : ℕ) (t : Transfer) (fi
         untaken = λ q u e. untaken_in q u e (lookup-set at_port exact_port w.server.live port (with_end t next) q u e);
         openings = λ o has. inl has;
         files = λ u has. either (λ old. old) (λ is. subst (IsTaken after) (sym is) new_taken) (Has-push w.taken (taken_of t file) u has);
-        once = λ i j a b at_i at_j same. once_in i j a b (at-push w.taken (taken_of t file) i a at_i) (at-push w.taken (taken_of t file) j b at_j) same;
+        once = λ i j a b at_i at_j. once_in i j a b (at-push w.taken (taken_of t file) i a at_i) (at-push w.taken (taken_of t file) j b at_j);
         best = k.best;
       })

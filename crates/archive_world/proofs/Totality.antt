@@ -86,7 +86,7 @@ one_after w grant v m n (inr takes) best first second =
 
 -- ---- a run
 
-total_from : (asked : List (Event × Grant)) (w : World) → (steps : List Step) × (asked_by steps ≡ asked) × AllMerged steps w
+pub total_from : (asked : List (Event × Grant)) (w : World) → (steps : List Step) × (asked_by steps ≡ asked) × AllMerged steps w
 total_from [] w = ([], refl, tt)
 total_from (a ∷ asked) w =
     let maps = maps_for w a.1 (λ m. event_happens a.0 a.1 m w) (event-takes w a.0 a.1) in
@@ -110,7 +110,7 @@ first_pair e f g h xs ys same =
     let pair : make e g ≡ make f h = cc in
     (ap (λ (p : Event × Grant). p.0) pair, ap (λ (p : Event × Grant). p.1) pair, rest)
 
-one_from : (xs ys : List Step) (w : World) → asked_by xs ≡ asked_by ys → AllMerged xs w → AllMerged ys w → AreBest w.taken w.server.maps → run_from xs w ≡ run_from ys w
+pub one_from : (xs ys : List Step) (w : World) → asked_by xs ≡ asked_by ys → AllMerged xs w → AllMerged ys w → AreBest w.taken w.server.maps → run_from xs w ≡ run_from ys w
 one_from [] [] w same first second best = refl
 one_from [] (y ∷ ys) w same first second best = absurd cc
 one_from (x ∷ xs) [] w same first second best = absurd cc

@@ -6,13 +6,15 @@ use Rattle.std.specs.Str.{bytes_eq}
 use Rattle.std.proofs.lemmas.Bool.{eqb-true, ne_eqb}
 use Rattle.std.proofs.lemmas.Slice.Eq.{bytes_eq-Decides}
 use Rattle.tftp_packet.specs.declared.endpoint.Endpoint.{Endpoint}
-use Rattle.archive_table.specs.Server.{Maps, Grant, Taken, IsMerged, Transfer, is_same, transfer_at}
+use Rattle.archive_table.specs.Server.{Maps, Grant, Taken, IsMerged, Transfer, is_same, transfer_at, empty_maps}
 use Rattle.archive_client.specs.Client.{Operation, is_too_long}
-use Rattle.archive_world.specs.World.{Datagram, deliver, stray, Step, World, server_endpoint, has_begun, begins, begins_unless, request_comes, server_hears, arrives, delivers, strays_in, strays_unless, event_happens, happens, run_from, run, start, IsFree, MayDeliver, AllMayHappen, AllMerged}
+use Rattle.archive_world.specs.World.{Datagram, deliver, stray, Step, World, server_endpoint, has_begun, begins, begins_unless, request_comes, server_hears, arrives, delivers, strays_in, strays_unless, event_happens, happens, run_from, run, start_from, start, IsFree, MayDeliver, AllMayHappen, AllMerged}
 use Rattle.archive_world.specs.Traces.{Deed, starts, hears, client_waits_long, server_waits_long, loads, Member, is_same_datagram, place_after, place_of, named_in, server_comes, comes, after_deed, trace_from, delivery, events_of, steps_with, member_steps, trace_steps, AllDeedsMerged}
-use Rattle.archive_world.specs.Headline.{HasOwnPorts, Headline}
+use Rattle.archive_world.specs.Headline.{AreOver, HasOwnPorts, ClientsHeadline, Headline}
 use Rattle.archive_world.proofs.Happening.{run-append}
-use Rattle.archive_world.proofs.Concluding.{run-headline}
+use Rattle.archive_world.proofs.Concluding.{run_from-clients, headline}
+use Rattle.archive_world.proofs.Invariant.{none-over}
+use Rattle.archive_world.proofs.Strangers.{AreFromOthers, run-from_others}
 use Rattle.archive_world.proofs.Places.{at-last}
 use Rattle.archive_world.proofs.Endpoints.{endpoint_is, exact_endpoint}
 
@@ -159,8 +161,12 @@ trace_merged (m ∷ members) w may merged =
     merged_append steps (trace_steps members (run_from steps w)) w (deed_merged w m.deed m.grant m.maps parts.0 merged.0)
     (trace_merged members (run_from steps w) parts.1 rest)
 
+pub trace-clients : (texts : List (List ℕ)) (maps : Maps) → AreOver texts maps → (members : List Member) → AllMayHappen (trace_steps members (start_from texts maps)) (start_from texts maps) → AllDeedsMerged members (start_from texts maps) → ClientsHeadline (trace_from members (start_from texts maps))
+trace-clients texts maps over members may merged =
+    let w = start_from texts maps in
+    subst ClientsHeadline (trace-makes members w may) (run_from-clients texts maps over (trace_steps members w) (trace_merged members w may merged))
+
 pub trace-headline : (members : List Member) → AllMayHappen (trace_steps members start) start → HasOwnPorts (trace_from members start) → AllDeedsMerged members start → Headline (trace_from members start)
 trace-headline members may own merged =
-    let makes : run (trace_steps members start) ≡ trace_from members start = trace-makes members start may in
-    subst Headline makes
-    (run-headline (trace_steps members start) (subst HasOwnPorts (sym makes) own) (trace_merged members start may merged))
+    let others = subst (λ (w : World). AreFromOthers w.taken) (trace-makes members start may) (run-from_others (trace_steps members start) (trace_merged members start may merged)) in
+    headline (trace_from members start) (trace-clients [] empty_maps none-over members may merged) others own

@@ -1,13 +1,13 @@
 -- What holds for every run, about the operations that began, the files that were taken, sent and fetched, and the
 -- collections.
-use Rattle.std.specs.Prelude.{◌≡◌, ◌⊎◌, ℕ, ◌≤◌, List, [], ◌∷◌, ◌++◌, map, take, length, slice_get, Contains, Some}
+use Rattle.std.specs.Prelude.{◌≡◌, ◌≢◌, ◌⊎◌, ℕ, ◌≤◌, List, [], ◌∷◌, ◌++◌, map, take, length, slice_get, Contains, Some}
 use Rattle.tftp_packet.specs.declared.endpoint.Endpoint.{Endpoint}
 use Rattle.tws_file.specs.declared.«ruleset».Ruleset.{Ruleset}
 use Rattle.tws_file.specs.declared.«ruleset».Ruleset.TheVariants.{Lynx, Ms}
 use Rattle.tws_best.specs.Best.{Collected, IsCollectionOf, collection_text}
-use Rattle.archive_table.specs.Server.{Taken}
+use Rattle.archive_table.specs.Server.{Maps, Taken}
 use Rattle.archive_client.specs.Client.{put, get}
-use Rattle.archive_world.specs.World.{Datagram, Begun, begin, stray, Step, run, Opening, to_read, Got, World}
+use Rattle.archive_world.specs.World.{Datagram, Begun, begin, stray, Step, run_from, run, Opening, to_read, Got, World, server_endpoint}
 
 -- ---- own ports: no port is reused
 
@@ -15,7 +15,17 @@ use Rattle.archive_world.specs.World.{Datagram, Begun, begin, stray, Step, run, 
 abbrev pub HasOperation : List Begun → Endpoint → Type 0
 HasOperation begun e = (b : Begun) × Contains begun b × (b.client ≡ e)
 
--- No pair of endpoints serves two transfers, and no stranger takes the endpoint of an operation.
+-- The ports of one endpoint are its own: at most one operation has begun there, no port of the server was opened for it
+-- twice, and no stranger has sent from it.
+pub record OwnsPorts (begun : List Begun) (opened : List Opening) (strays : List Datagram) (e : Endpoint) : Type 0 where
+  pub operations : (i j : ℕ) (b c : Begun) → slice_get begun i ≡ Some b → slice_get begun j ≡ Some c → b.client ≡ e → c.client ≡ e → i ≡ j
+  pub openings : (i j : ℕ) (o p : Opening) → slice_get opened i ≡ Some o → slice_get opened j ≡ Some p → o.peer ≡ e → p.peer ≡ e → o.port ≡ p.port → i ≡ j
+  pub stranger : (d : Datagram) → Contains strays d → d.source ≡ e → ⊥
+
+abbrev pub IsOwn : World → Endpoint → Type 0
+IsOwn w e = OwnsPorts w.begun w.opened w.strays e
+
+-- The same of all at once: no pair of endpoints serves two transfers, and no stranger takes the endpoint of an operation.
 pub record OwnPorts (begun : List Begun) (opened : List Opening) (strays : List Datagram) : Type 0 where
   -- no two operations begin at one endpoint
   pub operations : (i j : ℕ) (b c : Begun) → slice_get begun i ≡ Some b → slice_get begun j ≡ Some c → b.client ≡ c.client → i ≡ j
@@ -75,6 +85,33 @@ pub record IsFinishedGet (begun : List Begun) (taken : List Taken) (opened : Lis
   pub counted : opening.taken ≤ length taken
   pub best : IsBestOver kind (files_of (take opening.taken taken)) g.file
 
+-- What holds for the client of one endpoint: whatever was taken from there is the file of the put there, and it was taken
+-- once; if the client counts it as sent, it was taken; and what the client has fetched is the collection at one of its
+-- own requests.
+pub record ClientHeadline (w : World) (e : Endpoint) : Type 0 where
+  pub unchanged : (t : Taken) → Contains w.taken t → t.peer ≡ e →
+      (b : Begun) × Contains w.begun b × (b.client ≡ e) × (b.operation ≡ put t.file)
+  pub once : (i j : ℕ) (t u : Taken) → slice_get w.taken i ≡ Some t → slice_get w.taken j ≡ Some u → t.peer ≡ e → u.peer ≡ e → i ≡ j
+  pub sent : Contains w.sent e → SentOnce w.begun w.taken e
+  pub got : (g : Got) → Contains w.got g → g.client ≡ e → IsFinishedGet w.begun w.taken w.opened g
+
+-- What holds whatever the network does and whoever reuses a port: each file taken is from the endpoint of an operation
+-- or of a stranger, if it is not a text that the server had at first; whoever counts a file as sent, or has fetched one,
+-- has begun an operation; each collection is the best over the files taken; and each client whose ports are its own has
+-- the headline, whatever others do.
+pub record ClientsHeadline (w : World) : Type 0 where
+  pub taken : (t : Taken) → Contains w.taken t → t.peer.host ≢ server_endpoint.host → HasOperation w.begun t.peer ⊎ IsStrayFrom w.strays t.peer
+  pub sent : (e : Endpoint) → Contains w.sent e → HasOperation w.begun e
+  pub got : (g : Got) → Contains w.got g → HasOperation w.begun g.client
+  pub lynx : IsBestOver Lynx (files_of w.taken) (collection_text w.server.maps.lynx)
+  pub ms : IsBestOver Ms (files_of w.taken) (collection_text w.server.maps.ms)
+  pub client : (e : Endpoint) → HasOperation w.begun e → IsOwn w e → ClientHeadline w e
+
+-- The collections of a server are the best over these texts.
+pub record AreOver (texts : List (List ℕ)) (maps : Maps) : Type 0 where
+  pub lynx : IsCollectionOf Lynx texts maps.lynx
+  pub ms : IsCollectionOf Ms texts maps.ms
+
 -- Whatever the network does: a put's file is taken at most once and unchanged, and exactly once if its client counts it
 -- as sent. The collections are the best over the files taken. A finished get is the collection at one of its own
 -- requests.
@@ -93,7 +130,13 @@ pub record IsFetchedWith (kind : Ruleset) (taken : List Taken) (sent : Endpoint)
   pub file : List ℕ
   pub among : Contains (take count taken) (record { peer = sent; file = file })
 
--- What was counted as sent before a get began is in what it has fetched.
+-- What was counted as sent before a get began is in what it has fetched, if the ports of the get's endpoint are its own at
+-- the end, and those of the sender's when the get began.
+abbrev pub FetchesOwnSent : World → (before after : List Step) → Step → Type 0
+FetchesOwnSent w before after s =
+    (e : Endpoint) (kind : Ruleset) → s.event ≡ begin e (get kind) → IsOwn (run_from (before ++ s ∷ after) w) e → (x : Endpoint) → Contains (run_from before w).sent x → IsOwn (run_from before w) x → (g : Got) → Contains (run_from (before ++ s ∷ after) w).got g → g.client ≡ e → IsFetchedWith kind (run_from (before ++ s ∷ after) w).taken x g
+
+-- the same if no port is reused, from a server that has nothing at first
 abbrev pub FetchesSent : (before after : List Step) → Step → Type 0
 FetchesSent before after s =
     (e : Endpoint) (kind : Ruleset) → s.event ≡ begin e (get kind) → (x : Endpoint) → Contains (run before).sent x → (g : Got) → Contains (run (before ++ s ∷ after)).got g → g.client ≡ e → IsFetchedWith kind (run (before ++ s ∷ after)).taken x g

@@ -9,3 +9,6 @@ pub mod View
 pub mod Inside
 pub mod Replays
 pub mod Exits
+pub mod Durable
+pub mod Effects
+pub mod Freeing

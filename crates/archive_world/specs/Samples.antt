@@ -1,11 +1,13 @@
 -- Some runs, event by event. Each datagram is named by its place in the network.
-use Rattle.std.specs.Prelude.{ℕ, ◌+◌, List, [], ◌∷◌, ◌++◌, length}
+use Rattle.std.specs.Prelude.{◌≡◌, ℕ, ◌+◌, List, [], ◌∷◌, ◌++◌, length}
 use Rattle.tftp_packet.specs.declared.endpoint.Endpoint.{Endpoint}
 use Rattle.tws_file.specs.declared.«ruleset».Ruleset.TheVariants.{Lynx, Ms}
 use Rattle.tws_best.specs.Best.{Entry, collection_text}
 use Rattle.archive_table.specs.Server.{Maps, Taken, all, empty_maps}
 use Rattle.archive_client.specs.Client.{put, get}
-use Rattle.archive_world.specs.World.{Event, begin, deliver, client_times_out, server_times_out, stray, restart, Step, World, Asked, to_write, to_read, Opening, Got, server_endpoint}
+use Rattle.archive_world.specs.World.{Event, begin, deliver, client_times_out, server_times_out, stray, restart, Step, World, Asked, to_write, to_read, Opening, Got, server_endpoint, start, run, AllMerged}
+use Rattle.archive_world.specs.Headline.{ClientHeadline}
+use Rattle.archive_world.specs.Reuse.{OwnTests, own_tests}
 
 -- ---- a file of one solution
 
@@ -78,17 +80,20 @@ unanswered =
     (begin (sample_client 1) (put (sample_file 100)) ∷ client_times_out (sample_client 1) ∷ client_times_out (sample_client 1)
     ∷ client_times_out (sample_client 1) ∷ client_times_out (sample_client 1) ∷ client_times_out (sample_client 1) ∷ [])
 
-abbrev pub from_stranger : (port : ℕ) → List ℕ → Event
-from_stranger port bytes =
-    stray (record { source = stranger; target = record { host = server_endpoint.host; port = port }; bytes = bytes })
+-- a stray from this endpoint to a port of the server
+abbrev pub stray_by : Endpoint → (port : ℕ) → List ℕ → Event
+stray_by source port bytes =
+    stray (record { source = source; target = record { host = server_endpoint.host; port = port }; bytes = bytes })
+
+abbrev pub write_request : List ℕ
+write_request = 0 ∷ 2 ∷ 0x61 ∷ 0 ∷ 0x6F ∷ 0x63 ∷ 0x74 ∷ 0x65 ∷ 0x74 ∷ 0 ∷ []
 
 -- A stranger acknowledges a block in the put's transfer, which is refused, and then puts another file.
 abbrev pub strange_put : List Step
 strange_put =
     steps_of 90
-    (begin (sample_client 1) (put (sample_file 100)) ∷ deliver 0 4000 ∷ from_stranger 4000 (0 ∷ 4 ∷ 0 ∷ 1 ∷ []) ∷ deliver 2 0
-    ∷ from_stranger 6969 (0 ∷ 2 ∷ 0x61 ∷ 0 ∷ 0x6F ∷ 0x63 ∷ 0x74 ∷ 0x65 ∷ 0x74 ∷ 0 ∷ []) ∷ deliver 4 4001
-    ∷ from_stranger 4001 (0 ∷ 3 ∷ 0 ∷ 1 ∷ sample_file 90) ∷ deliver 6 0 ∷ deliver 1 0 ∷ deliver 8 0 ∷ deliver 9 0 ∷ [])
+    (begin (sample_client 1) (put (sample_file 100)) ∷ deliver 0 4000 ∷ stray_by stranger 4000 (0 ∷ 4 ∷ 0 ∷ 1 ∷ []) ∷ deliver 2 0
+    ∷ stray_by stranger 6969 write_request ∷ deliver 4 4001 ∷ stray_by stranger 4001 (0 ∷ 3 ∷ 0 ∷ 1 ∷ sample_file 90) ∷ deliver 6 0 ∷ deliver 1 0 ∷ deliver 8 0 ∷ deliver 9 0 ∷ [])
 
 -- The server restarts between a put and a get.
 abbrev pub restart_between : List Step
@@ -105,8 +110,7 @@ abbrev pub empty_get : List Step
 empty_get = plain_steps (begin (sample_client 1) (get Ms) ∷ deliver 0 4000 ∷ deliver 1 0 ∷ deliver 2 0 ∷ [])
 
 abbrev pub stray_from : Endpoint → Event
-stray_from source =
-    stray (record { source = source; target = record { host = server_endpoint.host; port = 4000 }; bytes = 0 ∷ 4 ∷ 0 ∷ 1 ∷ [] })
+stray_from source = stray_by source 4000 (0 ∷ 4 ∷ 0 ∷ 1 ∷ [])
 
 -- The strays that may not happen change nothing: one from the endpoint of an operation, one from the server's host.
 abbrev pub barred_strays : List Step
@@ -118,6 +122,37 @@ barred_strays =
 -- The request arrives again after a restart, and finds the same port free.
 abbrev pub opened_again : List Step
 opened_again = plain_steps (begin (sample_client 1) (put []) ∷ deliver 0 4000 ∷ restart ∷ deliver 0 4000 ∷ [])
+
+-- Two operations begin at one endpoint, while a client at another one puts its file.
+abbrev pub reused_elsewhere : List Step
+reused_elsewhere =
+    steps_of 100
+    (begin (sample_client 2) (put []) ∷ begin (sample_client 2) (put []) ∷ begin (sample_client 1) (put (sample_file 100)) ∷ deliver 2 4000
+    ∷ deliver 3 0 ∷ deliver 4 0 ∷ deliver 5 0 ∷ [])
+
+-- The same file is put twice from one endpoint.
+abbrev pub begun_twice : List Event
+begun_twice =
+    begin (sample_client 1) (put []) ∷ deliver 0 4000 ∷ deliver 1 0 ∷ deliver 2 0 ∷ begin (sample_client 1) (put []) ∷ deliver 4 4001
+    ∷ deliver 5 0 ∷ deliver 6 0 ∷ []
+
+-- After a restart the request arrives again and finds the same port free, and then the file does.
+abbrev pub opened_twice : List Event
+opened_twice =
+    begin (sample_client 1) (put []) ∷ deliver 0 4000 ∷ deliver 1 0 ∷ deliver 2 0 ∷ restart ∷ deliver 0 4000 ∷ deliver 2 0 ∷ []
+
+-- A stranger puts a file from the endpoint at which a get begins.
+abbrev pub strayed_there : List Event
+strayed_there =
+    stray_by (sample_client 1) 6969 write_request ∷ deliver 0 4000 ∷ stray_by (sample_client 1) 4000 (0 ∷ 3 ∷ 0 ∷ 1 ∷ []) ∷ deliver 2 0
+    ∷ begin (sample_client 1) (get Lynx) ∷ []
+
+-- In the run of these events the collections are as the server's contract says, the tests of own ports say this of the
+-- client, and the headline does not hold of it.
+pub record FailsBy (events : List Event) (tests : OwnTests) : Type 0 where
+  pub merged : AllMerged (plain_steps events) start
+  pub tested : own_tests (sample_client 1) (run (plain_steps events)) ≡ tests
+  pub fails : ClientHeadline (run (plain_steps events)) (sample_client 1) → ⊥
 
 -- ---- the outcome of a run, in short
 

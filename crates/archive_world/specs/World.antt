@@ -8,7 +8,7 @@ use Rattle.tftp_packet.specs.declared.packet_fault.PacketFault.{PacketFault}
 use Rattle.tftp_packet.specs.Packet.{Packet, read, write, data_block, ack, error}
 use Rattle.tftp_packet.specs.Decode.{decode_bytes}
 use Rattle.tws_file.specs.declared.«ruleset».Ruleset.{Ruleset}
-use Rattle.archive_table.specs.Server.{Server, Maps, empty_server, Transfer, Taken, Grant, memory_of, is_same, transfer_at, server_request, server_datagram, server_timeout, IsMerged}
+use Rattle.archive_table.specs.Server.{Server, Maps, empty_maps, Transfer, Taken, Grant, memory_of, is_same, transfer_at, server_request, server_datagram, server_timeout, IsMerged}
 use Rattle.tws_file.specs.Names.{kind_named}
 use Rattle.archive_table.specs.Server as table
 use Rattle.archive_client.specs.declared.state.State.{State}
@@ -95,20 +95,29 @@ pub record Step : Type 0 where
 abbrev pub server_endpoint : Endpoint
 server_endpoint = record { host = 1; port = 6969 }
 
--- nothing was sent, and the server has nothing
-abbrev pub start : World
-start =
+-- a text that the server had at first, as if it had taken it from itself
+abbrev pub given : (text : List ℕ) → Taken
+given text = record { peer = server_endpoint; file = text }
+
+-- Nothing was sent, and the server has these collections. They are the best over these texts, which count as the first
+-- files taken: those of its folder, or none.
+abbrev pub start_from : (texts : List (List ℕ)) → Maps → World
+start_from texts maps =
     record {
       net = [];
-      server = empty_server server_endpoint.port;
+      server = record { request = server_endpoint.port; maps = maps; live = [] };
       clients = [];
       begun = [];
-      taken = [];
+      taken = map given texts;
       sent = [];
       got = [];
       opened = [];
       strays = [];
     }
+
+-- nothing was sent, and the server has nothing
+abbrev pub start : World
+start = start_from [] empty_maps
 
 -- ---- clients by their endpoints
 

@@ -1,24 +1,31 @@
 //! What holds for every run. These functions do nothing: each contract is a theorem.
 
-ghost use Rattle.std.specs.Prelude.{◌≡◌, List, [], ◌∷◌, ◌++◌, Contains, Option};
-ghost use Rattle.archive_world.specs.Samples.{request_twice, late_ack, crossed_get, unanswered, strange_put, restart_between, empty_put, empty_get, barred_strays, opened_again, summary_of, sample_opening, one_put_summary, no_file_summary, crossed_get_summary, strange_put_summary, restart_summary, empty_put_summary, empty_get_summary};
+ghost use Rattle.std.specs.Prelude.{◌≡◌, ℕ, ◌≤◌, true, false, List, length, [], ◌∷◌, ◌++◌, Contains, Option};
+ghost use Rattle.archive_world.specs.Samples.{request_twice, late_ack, crossed_get, unanswered, strange_put, restart_between, empty_put, empty_get, barred_strays, opened_again, reused_elsewhere, begun_twice, opened_twice, strayed_there, FailsBy, sample_client, summary_of, sample_opening, one_put_summary, no_file_summary, crossed_get_summary, strange_put_summary, restart_summary, empty_put_summary, empty_get_summary};
 ghost use Rattle.tftp_packet.specs.declared.endpoint.Endpoint.{Endpoint};
 ghost use Rattle.archive_client.specs.Client.{Operation};
-ghost use Rattle.archive_world.specs.Reuse.{BeginKeepsOwn, OpeningKeepsOwn, StrayKeepsOwn};
-ghost use Rattle.archive_world.specs.World.{Begun, Datagram, Opening, to_write, World, Event, Step, happens, start, run, server_endpoint, AllMerged, asked_by, AllMayHappen};
+ghost use Rattle.archive_world.specs.Reuse.{BeginKeepsOwn, OpeningKeepsOwn, StrayKeepsOwn, IsOwnByTests};
+ghost use Rattle.archive_world.specs.World.{Begun, Datagram, Got, Opening, to_write, World, Event, Step, happens, start, start_from, run, run_from, server_endpoint, AllMerged, asked_by, AllMayHappen};
 ghost use Rattle.archive_table.specs.Server.{Grant, Maps, Taken, empty_maps};
+ghost use Rattle.tws_file.specs.declared.«ruleset».Ruleset.TheVariants.{Lynx, Ms};
+ghost use Rattle.tws_best.specs.Best.{Collected, IsCollected, collection_text};
 ghost use Rattle.archive_table.specs.Keeper.{Keeping};
 ghost use Rattle.archive_world.specs.Restarts.{HasKept, StepStaysKept, LoadsTheSame, FailsOutside, RunKeeps, RestartsFrom};
+ghost use Rattle.archive_world.specs.Effects.{TakesEffect, ReadsAtOnce, FetchesNoLess, FetchesNone};
+ghost use Rattle.archive_world.specs.Freeing.{IsFreed};
+ghost use Rattle.archive_world.specs.Durable.{AreNoWorse, LoadsPromised, CutsShort};
 ghost use Rattle.archive_world.specs.Traces.{Member, trace_from, trace_steps, AllDeedsMerged};
-ghost use Rattle.archive_world.specs.Headline.{HasOwnPorts, Headline, FetchesSent, BeganBy, StraysBy};
+ghost use Rattle.archive_world.specs.Headline.{IsOwn, AreOver, HasOwnPorts, HasOperation, ClientsHeadline, Headline, FetchesOwnSent, FetchesSent, BeganBy, StraysBy};
 
 /// For every list of begins, deliveries of any datagram ever sent, losses, time-outs, strangers' datagrams and
-/// restarts, whatever memory is refused and whatever is not kept: if no two operations begin at one endpoint, no pair
-/// of endpoints serves two transfers and no stranger has the endpoint of an operation, a put's file is taken at most
-/// once and unchanged, and exactly once if its client counts it as sent; each collection is the best over the files
-/// taken; and a finished get is the collection at one of its own requests. If a step takes a file, the collections
-/// after it are those that the server's contract says.
+/// restarts, whatever memory is refused and whatever is not kept: each collection is the best over the files taken. And
+/// for each client whose ports are its own, so that no other operation begins at its endpoint, no port of the server is
+/// opened for it twice and no stranger sends from there: a put's file is taken at most once and unchanged, and exactly
+/// once if its client counts it as sent; and a finished get is the collection at one of its own requests. If a step
+/// takes a file, the collections after it are those that the server's contract says.
 pub fn network_law()
+    ensures clients { (steps : List Step) → AllMerged steps start → ClientsHeadline (run steps) }
+    // So if no port is reused, all of this holds of every client.
     ensures headline { (steps : List Step) → HasOwnPorts (run steps) → AllMerged steps start → Headline (run steps) }
     // Every operation that has begun is that of an event, with the number of files that were taken before that event.
     ensures began { (steps : List Step) (b : Begun) → Contains (run steps).begun b → BeganBy steps b }
@@ -26,10 +33,48 @@ pub fn network_law()
     ensures strays { (steps : List Step) (d : Datagram) → Contains (run steps).strays d → StraysBy steps d }
     // So a put that was counted as sent before a get began is in what that get has fetched.
     ensures since { (before after : List Step) (s : Step) → HasOwnPorts (run (before ++ s ∷ after)) → AllMerged (before ++ s ∷ after) start → FetchesSent before after s }
+    // No step sends more than one datagram.
+    ensures cost { (steps : List Step) → length (run steps).net ≤ length steps }
     // For all events and grants there are collections as the server's contract says, and the world after them is
     // unique.
     ensures total { (asked : List (Event × Grant)) → (steps : List Step) × (asked_by steps ≡ asked) × AllMerged steps start }
     ensures one { (first second : List Step) → asked_by first ≡ asked_by second → AllMerged first start → AllMerged second start → run first ≡ run second }
+{}
+
+/// The operations of the clients whose ports are their own are in one order, whatever others do: each put that is counted
+/// as sent takes effect at one step of the run, which takes its file, and each get that has fetched at one step, at which
+/// what it fetched is the server's collection; and that step comes after the begin of the operation and, as each beginning
+/// of a run is a run, before its end. So with what ends before something else begins: what was sent is fetched
+/// (`since`), a later get has fetched no less, and an earlier one has nothing of a later put.
+pub fn effects_law()
+    ensures puts { (texts : List (List ℕ)) (maps : Maps) → AreOver texts maps → (steps : List Step) → AllMerged steps (start_from texts maps) → (e : Endpoint) → IsOwn (run_from steps (start_from texts maps)) e → Contains (run_from steps (start_from texts maps)).sent e → TakesEffect (start_from texts maps) steps e }
+    ensures gets { (texts : List (List ℕ)) (maps : Maps) → AreOver texts maps → (steps : List Step) → AllMerged steps (start_from texts maps) → (g : Got) → IsOwn (run_from steps (start_from texts maps)) g.client → Contains (run_from steps (start_from texts maps)).got g → ReadsAtOnce (start_from texts maps) steps g }
+    ensures since { (texts : List (List ℕ)) (maps : Maps) → AreOver texts maps → (before after : List Step) (s : Step) → AllMerged (before ++ s ∷ after) (start_from texts maps) → FetchesOwnSent (start_from texts maps) before after s }
+    ensures no_less { (texts : List (List ℕ)) (maps : Maps) → AreOver texts maps → (before after : List Step) (s : Step) → AllMerged (before ++ s ∷ after) (start_from texts maps) → FetchesNoLess (start_from texts maps) before after s }
+    ensures none { (texts : List (List ℕ)) (maps : Maps) → AreOver texts maps → (before after : List Step) (s : Step) → AllMerged (before ++ s ∷ after) (start_from texts maps) → FetchesNone (start_from texts maps) before after s }
+{}
+
+/// A run may start from a server that has collections, as a real one has those of its folder. They are the best over
+/// some texts, such as their own two, which count as the first files taken; an empty server is the case of no texts.
+/// From there too the headline holds of each client whose ports are its own; the collections never get worse, so that
+/// later, at each key, they have a body, and none of higher rank; and a keeper that has the first collections has, after
+/// each step, what the server has. So what a load gives holds all that was promised by then, and also if the step that
+/// comes next is cut short.
+pub fn folder_law()
+    ensures empty { AreOver [] empty_maps }
+    ensures own { (lynx ms : Collected) → IsCollected lynx → IsCollected ms → lynx.«ruleset» ≡ Lynx → ms.«ruleset» ≡ Ms → AreOver (collection_text lynx ∷ collection_text ms ∷ []) (record { lynx = lynx; ms = ms }) }
+    ensures clients { (texts : List (List ℕ)) (maps : Maps) → AreOver texts maps → (steps : List Step) → AllMerged steps (start_from texts maps) → ClientsHeadline (run_from steps (start_from texts maps)) }
+    // Also from there, for all events and grants, there are collections as the server's contract says, and lists of what a
+    // keeper has; and the world after them is unique.
+    ensures total { (texts : List (List ℕ)) (maps : Maps) (asked : List (Event × Grant)) → (steps : List Step) × (asked_by steps ≡ asked) × AllMerged steps (start_from texts maps) }
+    ensures one { (texts : List (List ℕ)) (maps : Maps) → AreOver texts maps → (first second : List Step) → asked_by first ≡ asked_by second → AllMerged first (start_from texts maps) → AllMerged second (start_from texts maps) → run_from first (start_from texts maps) ≡ run_from second (start_from texts maps) }
+    ensures list { (texts : List (List ℕ)) (maps : Maps) → AreOver texts maps → (steps : List Step) (first : List Keeping) → AllMerged steps (start_from texts maps) → (last : List Keeping) × RunKeeps steps (start_from texts maps) first last }
+    ensures no_worse { (texts : List (List ℕ)) (maps : Maps) → AreOver texts maps → (before after : List Step) → AllMerged (before ++ after) (start_from texts maps) → AreNoWorse (run_from before (start_from texts maps)).server.maps (run_from (before ++ after) (start_from texts maps)).server.maps }
+    ensures restarts { (texts : List (List ℕ)) (maps : Maps) → AreOver texts maps → (first : List Keeping) → HasKept first maps → (steps : List Step) (last : List Keeping) → AllMerged steps (start_from texts maps) → RunKeeps steps (start_from texts maps) first last → HasKept last (run_from steps (start_from texts maps)).server.maps × RestartsFrom last (run_from steps (start_from texts maps)) }
+    ensures promised { (texts : List (List ℕ)) (maps : Maps) → AreOver texts maps → (first : List Keeping) → HasKept first maps → (steps : List Step) (last : List Keeping) → AllMerged steps (start_from texts maps) → RunKeeps steps (start_from texts maps) first last → LoadsPromised (start_from texts maps) steps last }
+    ensures cut { (texts : List (List ℕ)) (maps : Maps) → AreOver texts maps → (first : List Keeping) → HasKept first maps → (steps : List Step) (s : Step) (before last : List Keeping) → AllMerged (steps ++ s ∷ []) (start_from texts maps) → RunKeeps steps (start_from texts maps) first before → CutsShort (start_from texts maps) steps s before last → LoadsPromised (start_from texts maps) steps last }
+    // No transfer stays for ever: whatever has happened, time-outs alone free every port.
+    ensures freed { (texts : List (List ℕ)) (maps : Maps) → AreOver texts maps → (steps : List Step) → AllMerged steps (start_from texts maps) → IsFreed (run_from steps (start_from texts maps)) }
 {}
 
 /// The values of the server's host and its request port, which the definitions refer to by name.
@@ -40,9 +85,10 @@ pub fn server_values()
 
 /// For every trace, which names the datagrams that arrive: if each event that it makes may happen, so that each
 /// datagram that it names was sent before or is a stranger's, the run of these events, with what the trace was granted,
-/// does exactly the trace's deeds. So the headline holds for every such trace in which no port is reused.
+/// does exactly the trace's deeds. So the headline holds for every client of such a trace whose ports are its own.
 pub fn trace_law()
     ensures run { (members : List Member) → AllMayHappen (trace_steps members start) start → run (trace_steps members start) ≡ trace_from members start }
+    ensures clients { (texts : List (List ℕ)) (maps : Maps) → AreOver texts maps → (members : List Member) → AllMayHappen (trace_steps members (start_from texts maps)) (start_from texts maps) → AllDeedsMerged members (start_from texts maps) → ClientsHeadline (trace_from members (start_from texts maps)) }
     ensures headline { (members : List Member) → AllMayHappen (trace_steps members start) start → HasOwnPorts (trace_from members start) → AllDeedsMerged members start → Headline (trace_from members start) }
 {}
 
@@ -66,6 +112,13 @@ pub fn sample_runs()
     ensures premises { HasOwnPorts (run empty_put) × AllMerged empty_put start }
     // A second opening for one peer at one port, as a restart allows, reuses the port.
     ensures opened_again { HasOwnPorts (run opened_again) → ⊥ }
+    // Another client that reuses its endpoint changes nothing for this one.
+    ensures reused_elsewhere { summary_of (run reused_elsewhere) ≡ one_put_summary 6 (sample_opening 1 4000 to_write 0 ∷ []) }
+    ensures reused_premises { (HasOwnPorts (run reused_elsewhere) → ⊥) × IsOwn (run reused_elsewhere) (sample_client 1) × AllMerged reused_elsewhere start }
+    // In each of these runs one part of own ports alone is missing, and the headline of the client fails.
+    ensures begun_twice { FailsBy begun_twice (record { once = false; apart = true; unstrayed = true }) }
+    ensures opened_twice { FailsBy opened_twice (record { once = true; apart = false; unstrayed = true }) }
+    ensures strayed_there { FailsBy strayed_there (record { once = true; apart = true; unstrayed = false }) }
 {}
 
 /// The tests for the reuse of a port: a begin reuses none if neither an operation nor a stranger has been at its
@@ -77,6 +130,12 @@ pub fn own_ports()
     ensures stray { (w : World) → HasOwnPorts w → (d : Datagram) → StrayKeepsOwn w d }
     // Once a port was reused, it stays reused.
     ensures before { (w : World) (s : Step) → HasOwnPorts (happens s w) → HasOwnPorts w }
+    // The ports of one endpoint are its own exactly if the tests say so. They are so at the start; once they are not,
+    // they stay so; and if no port is reused, those of each endpoint with an operation are its own.
+    ensures tests { (w : World) (e : Endpoint) → IsOwnByTests w e }
+    ensures own_start { (e : Endpoint) → IsOwn start e }
+    ensures own_before { (w : World) (s : Step) (e : Endpoint) → IsOwn (happens s w) e → IsOwn w e }
+    ensures each { (w : World) → HasOwnPorts w → (e : Endpoint) → HasOperation w.begun e → IsOwn w e }
 {}
 
 /// After each step a keeper has what the server has, and that is what a table loads from it: so a restart does not

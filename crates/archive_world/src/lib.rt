@@ -3,8 +3,9 @@
 //! holds.
 //!
 //! Read `specs/World.antt` first: what a world is, and what each event does to it. `specs/Headline.antt` has the
-//! premise on ports and what holds for every run. `Traces` has runs as their ends tell them, `Reuse` the tests for the
-//! reuse of a port, `Restarts` why a restart does not change the collections, `Outcomes` the outcome of a run,
+//! premise on ports and what holds for every run. `Effects` has the order in which operations take effect, `Durable`
+//! what is never lost, `Freeing` how a full server gets free, `Traces` runs as their ends tell them, `Reuse` the tests
+//! for the reuse of a port, `Restarts` why a restart does not change the collections, `Outcomes` the outcome of a run,
 //! `Replays` what a replay of events guarantees, and `Samples` some runs. README.md shows how `replay` is called.
 #![tactic(auto)]
 
@@ -35,7 +36,10 @@ pub use asked::Asked;
 pub use datagram::Datagram;
 pub use event::Event;
 pub use got_file::GotFile;
-pub use laws::{network_law, own_ports, restart_law, sample_runs, server_values, trace_law};
+pub use laws::{
+    effects_law, folder_law, network_law, own_ports, restart_law, sample_runs, server_values,
+    trace_law,
+};
 pub use op::Op;
 pub use op_kind::OpKind;
 pub use opening::Opening;

@@ -1,4 +1,4 @@
-use Rattle.archive_running.proofs.Running.{run-mirrors, run-happens, run-merged, run-headline, run-sent, run-fetched}
+use Rattle.archive_running.proofs.Running.{run-mirrors, run-happens, run-merged, run-clients, run-headline, run-sent, run-fetched}
 use Rattle.archive_running.proofs.Sampling.{sends, fetches}
 use Rattle.archive_running.proofs.laws.running_law.Goals as goal
 
@@ -11,6 +11,9 @@ returns-clause-happens c = run-happens
 pub returns-clause-merged : goal.returns-clause-merged
 returns-clause-merged c = run-merged
 
+pub returns-clause-clients : goal.returns-clause-clients
+returns-clause-clients c = run-clients
+
 pub returns-clause-headline : goal.returns-clause-headline
 returns-clause-headline c = run-headline
 
@@ -18,8 +21,8 @@ pub returns-clause-sent : goal.returns-clause-sent
 returns-clause-sent c = run-sent
 
 pub returns-clause-fetched : goal.returns-clause-fetched
-returns-clause-fetched c = λ a members reaches own e c len written now is writes.
-    run-fetched a members reaches own e c len written now is writes
+returns-clause-fetched c = λ texts maps over a members reaches e own c len written now is writes.
+    run-fetched texts maps over a members reaches e own c len written now is writes
 
 pub returns-clause-sends : goal.returns-clause-sends
 returns-clause-sends c = sends

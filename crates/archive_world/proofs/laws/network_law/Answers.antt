@@ -1,9 +1,13 @@
 use Rattle.archive_world.proofs.Counting.{began-by}
+use Rattle.archive_world.proofs.Costs.{run-sends}
 use Rattle.archive_world.proofs.Entering.{strays-by}
-use Rattle.archive_world.proofs.Concluding.{run-headline}
+use Rattle.archive_world.proofs.Concluding.{run-clients, run-headline}
 use Rattle.archive_world.proofs.Fetching.{fetches-sent}
 use Rattle.archive_world.proofs.Totality.{run-total, run-one}
 use Rattle.archive_world.proofs.laws.network_law.Goals as goal
+
+pub returns-clause-clients : goal.returns-clause-clients
+returns-clause-clients c = run-clients
 
 pub returns-clause-headline : goal.returns-clause-headline
 returns-clause-headline c = run-headline
@@ -13,6 +17,9 @@ returns-clause-since c = fetches-sent
 
 pub returns-clause-began : goal.returns-clause-began
 returns-clause-began c = began-by
+
+pub returns-clause-cost : goal.returns-clause-cost
+returns-clause-cost c = run-sends
 
 pub returns-clause-total : goal.returns-clause-total
 returns-clause-total c = run-total

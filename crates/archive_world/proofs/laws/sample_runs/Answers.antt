@@ -1,6 +1,7 @@
 use Rattle.archive_world.proofs.Sampling.{request_twice-comes, late_ack-comes, crossed_get-comes, unanswered-comes, strange_put-comes, restart_between-comes, empty_put-comes, empty_get-comes, barred_strays-comes}
 use Rattle.archive_world.proofs.Premises.{empty_put-own, empty_put-merged}
 use Rattle.archive_world.proofs.SamplePremises.{crossed_get-meets, strange_put-meets, restart_between-meets, opened_again-breaks}
+use Rattle.archive_world.proofs.SampleReuse.{reused_elsewhere-comes, reused_elsewhere-meets, begun_twice-fails, opened_twice-fails, strayed_there-fails}
 use Rattle.archive_world.proofs.laws.sample_runs.Goals as goal
 
 pub returns-clause-twice : goal.returns-clause-twice
@@ -44,3 +45,18 @@ returns-clause-premises c = (empty_put-own, empty_put-merged)
 
 pub returns-clause-opened_again : goal.returns-clause-opened_again
 returns-clause-opened_again c = opened_again-breaks
+
+pub returns-clause-reused_elsewhere : goal.returns-clause-reused_elsewhere
+returns-clause-reused_elsewhere c = reused_elsewhere-comes
+
+pub returns-clause-reused_premises : goal.returns-clause-reused_premises
+returns-clause-reused_premises c = reused_elsewhere-meets
+
+pub returns-clause-begun_twice : goal.returns-clause-begun_twice
+returns-clause-begun_twice c = begun_twice-fails
+
+pub returns-clause-opened_twice : goal.returns-clause-opened_twice
+returns-clause-opened_twice c = opened_twice-fails
+
+pub returns-clause-strayed_there : goal.returns-clause-strayed_there
+returns-clause-strayed_there c = strayed_there-fails
