@@ -5,7 +5,7 @@ use Rattle.byte_output.specs.Bytes.{IsBytes}
 use Rattle.tftp_packet.specs.declared.endpoint.Endpoint.{Endpoint}
 use Rattle.tftp_packet.specs.declared.packet_fault.PacketFault.{PacketFault}
 use Rattle.tftp_packet.specs.declared.sizes.TheConstants.{BLOCK_SIZE}
-use Rattle.tftp_packet.specs.Packet.{Packet, read, write, data_block, ack, error, HasFields}
+use Rattle.tftp_packet.specs.Packet.{Packet, read, write, data_block, ack, error, HasPacketFields}
 use Rattle.tftp_packet.specs.Decode.{decode_bytes}
 use Rattle.tftp_packet.proofs.Packets.{decoded_packet}
 use Rattle.tftp_ends.specs.declared.limits.TheConstants.{MISSES, DALLY}
@@ -16,40 +16,40 @@ use Rattle.tftp_ends.specs.declared.recv_state.RecvState.TheVariants as recv
 use Rattle.tftp_ends.specs.declared.recv_fault.RecvFault.{RecvFault}
 use Rattle.tftp_ends.specs.Ends.{Verdict, granted, refused, Sender, SendAnswer, sender_goes_on, sender_acked, sender_ack_in, sender_timeout, IsSender, Receiver, RecvAnswer, receiver_start, receiver_appends, state_after, receiver_takes, receiver_next, receiver_again, is_past, is_last_come, receiver_running, receiver_data_in, receiver_data, receiver_missed, receiver_dallied, receiver_timeout_in, receiver_timeout, IsReceiver}
 use Rattle.tftp_ends.proofs.Steps.{sender_ack-keeps, sender_timeout-keeps, IsSender-start, receiver_data-keeps, receiver_timeout-keeps, IsReceiver-start}
-use Rattle.tftp_ends.specs.Heard.{Heard, nothing, stray, refusal, acked, block, heard_from_peer, heard_from_other, heard_packet}
+use Rattle.tftp_ends.specs.Input.{Input, nothing, stray, refusal, acked, block, input_from_peer, input_from_other, input_of_packet}
 use Rattle.archive_client.proofs.Machine.{client_at}
-use Rattle.archive_client.specs.Client.{Operation, put, get, Phase, asking, sending, receiving, failed, Client, IsOperation, IsPhase, IsClient, is_over, heard_decoded, heard_at, heard, phase_peer, client_heard, client_unless_over, client_datagram, client_timeout, asks_again, put_answered, put_waited, get_took, get_answered, get_refused, get_waited, heard_at_port}
-use Rattle.archive_client.specs.View.{IsHeard}
+use Rattle.archive_client.specs.Client.{Operation, put, get, Phase, asking, sending, receiving, failed, Client, IsOperation, IsPhase, IsClient, is_over, client_input_decoded, client_input_at, client_input, phase_peer, client_by_input, client_unless_over, client_datagram, client_timeout, asks_again, put_answered, put_waited, get_took, get_answered, get_refused, get_waited, client_input_at_port}
+use Rattle.archive_client.specs.View.{IsInput}
 
 -- ---- the body of a received block is no longer than a block
 
-from_peer-short : (p : Packet) → HasFields p → IsHeard (heard_from_peer p)
+from_peer-short : (p : Packet) → HasPacketFields p → IsInput (input_from_peer p)
 from_peer-short (read name mode) fields = tt
 from_peer-short (write name mode) fields = tt
 from_peer-short (data_block n body) fields = fields.1
 from_peer-short (ack n) fields = tt
 from_peer-short (error code text) fields = tt
 
-from_other-short : (p : Packet) → IsHeard (heard_from_other p)
+from_other-short : (p : Packet) → IsInput (input_from_other p)
 from_other-short (read name mode) = tt
 from_other-short (write name mode) = tt
 from_other-short (data_block n body) = tt
 from_other-short (ack n) = tt
 from_other-short (error code text) = tt
 
-packet-short : (same : Bool) (p : Packet) → HasFields p → IsHeard (heard_packet same p)
+packet-short : (same : Bool) (p : Packet) → HasPacketFields p → IsInput (input_of_packet same p)
 packet-short true p fields = from_peer-short p fields
 packet-short false p fields = from_other-short p
 
-at_port-short : (peer : Option ℕ) (port : ℕ) (p : Packet) → HasFields p → IsHeard (heard_at_port peer port p)
+at_port-short : (peer : Option ℕ) (port : ℕ) (p : Packet) → HasPacketFields p → IsInput (client_input_at_port peer port p)
 at_port-short None port p fields = from_peer-short p fields
 at_port-short (Some peer) port p fields = packet-short (port == peer) p fields
 
-decoded-short : (peer : Option ℕ) (port : ℕ) (bytes : List ℕ) (answer : Result Packet PacketFault) → IsBytes bytes → decode_bytes bytes ≡ answer → IsHeard (heard_decoded peer port answer)
+decoded-short : (peer : Option ℕ) (port : ℕ) (bytes : List ℕ) (answer : Result Packet PacketFault) → IsBytes bytes → decode_bytes bytes ≡ answer → IsInput (client_input_decoded peer port answer)
 decoded-short peer port bytes (Ok p) is e = at_port-short peer port p (decoded_packet bytes p is e).fields
 decoded-short peer port bytes (Err fault) is e = tt
 
-at-short : (ours : Bool) (peer : Option ℕ) (port : ℕ) (bytes : List ℕ) → IsBytes bytes → IsHeard (heard_at ours peer port bytes)
+at-short : (ours : Bool) (peer : Option ℕ) (port : ℕ) (bytes : List ℕ) → IsBytes bytes → IsInput (client_input_at ours peer port bytes)
 at-short true peer port bytes is = decoded-short peer port bytes (decode_bytes bytes) is refl
 at-short false peer port bytes is = tt
 
@@ -141,31 +141,31 @@ refused-fits recv.Complete code c is = is
 refused-fits recv.TimedOut code c is = is
 refused-fits recv.Over code c is = is
 
-heard-fits : (own : ℕ) (server : Endpoint) (phase : Phase) (h : Heard) (verdict : Verdict) (port : ℕ) → IsHeard h → IsPhase phase → IsPhase (client_heard h verdict port (client_at own server phase)).client.phase
-heard-fits own server phase nothing verdict port short is = is
-heard-fits own server phase stray verdict port short is = is
-heard-fits own server (asking operation misses) (refusal code) verdict port short is = tt
-heard-fits own server (sending peer s) (refusal code) verdict port short is = tt
-heard-fits own server (receiving peer r) (refusal code) verdict port short is = refused-fits r.state code (client_at own server (receiving peer r)) is
-heard-fits own server (failed why) (refusal code) verdict port short is = tt
-heard-fits own server (asking (put file) misses) (acked n) verdict port short is = answered-fits (n == 0) port own server file misses is
-heard-fits own server (asking (get kind) misses) (acked n) verdict port short is = is
-heard-fits own server (sending peer s) (acked n) verdict port short is =
+input-fits : (own : ℕ) (server : Endpoint) (phase : Phase) (h : Input) (verdict : Verdict) (port : ℕ) → IsInput h → IsPhase phase → IsPhase (client_by_input h verdict port (client_at own server phase)).client.phase
+input-fits own server phase nothing verdict port short is = is
+input-fits own server phase stray verdict port short is = is
+input-fits own server (asking operation misses) (refusal code) verdict port short is = tt
+input-fits own server (sending peer s) (refusal code) verdict port short is = tt
+input-fits own server (receiving peer r) (refusal code) verdict port short is = refused-fits r.state code (client_at own server (receiving peer r)) is
+input-fits own server (failed why) (refusal code) verdict port short is = tt
+input-fits own server (asking (put file) misses) (acked n) verdict port short is = answered-fits (n == 0) port own server file misses is
+input-fits own server (asking (get rules) misses) (acked n) verdict port short is = is
+input-fits own server (sending peer s) (acked n) verdict port short is =
     record { bounds = (sender_ack-keeps n s).fits is.bounds; alive = ack-alive s.state n s is.alive }
-heard-fits own server (receiving peer r) (acked n) verdict port short is = is
-heard-fits own server (failed why) (acked n) verdict port short is = tt
-heard-fits own server (asking (put file) misses) (block n body) verdict port short is = is
-heard-fits own server (asking (get kind) misses) (block n body) verdict port short is =
-    first-fits (n == 1) verdict port n body (client_at own server (asking (get kind) misses)) short is
-heard-fits own server (sending peer s) (block n body) verdict port short is = is
-heard-fits own server (receiving peer r) (block n body) verdict port short is =
+input-fits own server (receiving peer r) (acked n) verdict port short is = is
+input-fits own server (failed why) (acked n) verdict port short is = tt
+input-fits own server (asking (put file) misses) (block n body) verdict port short is = is
+input-fits own server (asking (get rules) misses) (block n body) verdict port short is =
+    first-fits (n == 1) verdict port n body (client_at own server (asking (get rules) misses)) short is
+input-fits own server (sending peer s) (block n body) verdict port short is = is
+input-fits own server (receiving peer r) (block n body) verdict port short is =
     took-fits peer verdict n body r (client_at own server (receiving peer r)) _ short is.bounds (record { file = is.whole; alive = is.alive })
-heard-fits own server (failed why) (block n body) verdict port short is = tt
+input-fits own server (failed why) (block n body) verdict port short is = tt
 
 unless-fits : (over : Bool) (verdict : Verdict) (from : Endpoint) (bytes : List ℕ) (c : Client) → IsBytes bytes → IsPhase c.phase → IsPhase (client_unless_over over verdict from bytes c).client.phase
 unless-fits true verdict from bytes c are is = is
 unless-fits false verdict from bytes c are is =
-    heard-fits c.port c.server c.phase (heard c.server.host (phase_peer c.phase) from bytes) verdict from.port
+    input-fits c.port c.server c.phase (client_input c.server.host (phase_peer c.phase) from bytes) verdict from.port
     (at-short (from.host == c.server.host) (phase_peer c.phase) from.port bytes are) is
 
 pub datagram-fits : (verdict : Verdict) (from : Endpoint) (bytes : List ℕ) (c : Client) → IsBytes bytes → IsClient c → IsClient (client_datagram verdict from bytes c).client

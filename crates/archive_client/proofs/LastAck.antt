@@ -14,10 +14,10 @@ use Rattle.tftp_ends.specs.declared.recv_state.RecvState.TheVariants as recv
 use Rattle.tftp_ends.specs.declared.recv_fault.RecvFault.{RecvFault}
 use Rattle.tftp_ends.specs.Ends.{Verdict, Sender, SendAnswer, sender_timeout, Receiver, RecvAnswer, receiver_start, receiver_data, receiver_timeout}
 use Rattle.tftp_ends.proofs.Steps.{sender_ack-finishes, sender_timeout-finishes}
-use Rattle.tftp_ends.specs.Heard.{Heard, nothing, stray, refusal, acked, block, heard_from_peer, heard_from_other, heard_packet}
+use Rattle.tftp_ends.specs.Input.{Input, nothing, stray, refusal, acked, block, input_from_peer, input_from_other, input_of_packet}
 use Rattle.archive_client.specs.declared.state.State.TheVariants.{Sent}
 use Rattle.archive_client.proofs.Machine.{client_at}
-use Rattle.archive_client.specs.Client.{Operation, put, get, Phase, asking, sending, receiving, failed, Client, IsLastAck, state_of, phase_state, send_state, recv_state, is_over, heard_decoded, heard_at, heard, phase_peer, client_heard, client_unless_over, client_datagram, client_timeout, asks_again, put_answered, put_waited, get_took, get_answered, get_refused, get_waited}
+use Rattle.archive_client.specs.Client.{Operation, put, get, Phase, asking, sending, receiving, failed, Client, IsLastAck, state_of, phase_state, send_state, recv_state, is_over, client_input_decoded, client_input_at, client_input, phase_peer, client_by_input, client_unless_over, client_datagram, client_timeout, asks_again, put_answered, put_waited, get_took, get_answered, get_refused, get_waited}
 
 -- ---- when a file counts as sent
 
@@ -39,30 +39,30 @@ record IsAckOf (peer n : ℕ) (from : Endpoint) (bytes : List ℕ) : Type 0 wher
   from_peer : from.port ≡ peer
   is_ack : decode_bytes bytes ≡ Ok (ack n)
 
-from_peer-acked : (p : Packet) (n : ℕ) → heard_from_peer p ≡ acked n → p ≡ ack n
+from_peer-acked : (p : Packet) (n : ℕ) → input_from_peer p ≡ acked n → p ≡ ack n
 from_peer-acked (read name mode) n e = cc
 from_peer-acked (write name mode) n e = cc
 from_peer-acked (data_block m body) n e = cc
 from_peer-acked (ack m) n e = cc
 from_peer-acked (error code text) n e = cc
 
-from_other-acked : (p : Packet) (n : ℕ) → heard_from_other p ≢ acked n
+from_other-acked : (p : Packet) (n : ℕ) → input_from_other p ≢ acked n
 from_other-acked (read name mode) n = λ e. cc
 from_other-acked (write name mode) n = λ e. cc
 from_other-acked (data_block m body) n = λ e. cc
 from_other-acked (ack m) n = λ e. cc
 from_other-acked (error code text) n = λ e. cc
 
-packet-acked : (same : Bool) (peer n : ℕ) (from : Endpoint) (bytes : List ℕ) (p : Packet) → (from.port == peer) ≡ same → decode_bytes bytes ≡ Ok p → heard_packet same p ≡ acked n → IsAckOf peer n from bytes
+packet-acked : (same : Bool) (peer n : ℕ) (from : Endpoint) (bytes : List ℕ) (p : Packet) → (from.port == peer) ≡ same → decode_bytes bytes ≡ Ok p → input_of_packet same p ≡ acked n → IsAckOf peer n from bytes
 packet-acked true peer n from bytes p is_same is e =
     record { from_peer = eqb-true _ _ is_same; is_ack = is ∙ ap (λ (q : Packet). Ok q) (from_peer-acked p n e) }
 packet-acked false peer n from bytes p is_same is e = absurd (from_other-acked p n e)
 
-decoded-acked : (peer n : ℕ) (from : Endpoint) (bytes : List ℕ) (answer : Result Packet PacketFault) → decode_bytes bytes ≡ answer → heard_decoded (Some peer) from.port answer ≡ acked n → IsAckOf peer n from bytes
+decoded-acked : (peer n : ℕ) (from : Endpoint) (bytes : List ℕ) (answer : Result Packet PacketFault) → decode_bytes bytes ≡ answer → client_input_decoded (Some peer) from.port answer ≡ acked n → IsAckOf peer n from bytes
 decoded-acked peer n from bytes (Ok p) is e = packet-acked (from.port == peer) peer n from bytes p refl is e
 decoded-acked peer n from bytes (Err fault) is e = cc
 
-at-acked : (ours : Bool) (peer n : ℕ) (from : Endpoint) (bytes : List ℕ) → heard_at ours (Some peer) from.port bytes ≡ acked n → IsAckOf peer n from bytes
+at-acked : (ours : Bool) (peer n : ℕ) (from : Endpoint) (bytes : List ℕ) → client_input_at ours (Some peer) from.port bytes ≡ acked n → IsAckOf peer n from bytes
 at-acked true peer n from bytes e = decoded-acked peer n from bytes (decode_bytes bytes) refl e
 at-acked false peer n from bytes e = cc
 
@@ -91,34 +91,34 @@ refused-unsent recv.Over code c unsent = unsent
 finished-by : (n : ℕ) (s : Sender) → send_state s.state ≢ Sent → (s.state ≡ send.Finished) ⊎ ((n ≡ s.current) × (n ≡ block_count s.file)) → n ≡ block_count s.file
 finished-by n s unsent = λ by. elim by [ inl was ↦ absurd (unsent (ap (λ (x : SendState). send_state x) was)) | inr now ↦ now.1 ]
 
-heard-last : (own : ℕ) (server : Endpoint) (phase : Phase) (h : Heard) (verdict : Verdict) (from : Endpoint) (bytes : List ℕ) → heard server.host (phase_peer phase) from bytes ≡ h → phase_state phase ≢ Sent → state_of (client_heard h verdict from.port (client_at own server phase)).client ≡ Sent → IsLastAck phase from bytes
-heard-last own server phase nothing verdict from bytes is unsent sent = absurd (unsent sent)
-heard-last own server phase stray verdict from bytes is unsent sent = absurd (unsent sent)
-heard-last own server (asking operation misses) (refusal code) verdict from bytes is unsent sent = absurd cc
-heard-last own server (sending peer s) (refusal code) verdict from bytes is unsent sent = absurd cc
-heard-last own server (receiving peer r) (refusal code) verdict from bytes is unsent sent =
+input-last : (own : ℕ) (server : Endpoint) (phase : Phase) (h : Input) (verdict : Verdict) (from : Endpoint) (bytes : List ℕ) → client_input server.host (phase_peer phase) from bytes ≡ h → phase_state phase ≢ Sent → state_of (client_by_input h verdict from.port (client_at own server phase)).client ≡ Sent → IsLastAck phase from bytes
+input-last own server phase nothing verdict from bytes is unsent sent = absurd (unsent sent)
+input-last own server phase stray verdict from bytes is unsent sent = absurd (unsent sent)
+input-last own server (asking operation misses) (refusal code) verdict from bytes is unsent sent = absurd cc
+input-last own server (sending peer s) (refusal code) verdict from bytes is unsent sent = absurd cc
+input-last own server (receiving peer r) (refusal code) verdict from bytes is unsent sent =
     absurd (refused-unsent r.state code (client_at own server (receiving peer r)) unsent sent)
-heard-last own server (failed why) (refusal code) verdict from bytes is unsent sent = absurd cc
-heard-last own server (asking (put file) misses) (acked n) verdict from bytes is unsent sent =
+input-last own server (failed why) (refusal code) verdict from bytes is unsent sent = absurd cc
+input-last own server (asking (put file) misses) (acked n) verdict from bytes is unsent sent =
     absurd (answered-unsent (n == 0) from.port own server file misses sent)
-heard-last own server (asking (get kind) misses) (acked n) verdict from bytes is unsent sent = absurd cc
-heard-last own server (sending peer s) (acked n) verdict from bytes is unsent sent =
+input-last own server (asking (get rules) misses) (acked n) verdict from bytes is unsent sent = absurd cc
+input-last own server (sending peer s) (acked n) verdict from bytes is unsent sent =
     let from_it : IsAckOf peer n from bytes = at-acked (from.host == server.host) peer n from bytes is in
     let last : n ≡ block_count s.file = finished-by n s unsent (sender_ack-finishes n s (send-finished _ sent)) in
     (from_it.from_peer, from_it.is_ack ∙ ap (λ (k : ℕ). Ok (ack k)) last)
-heard-last own server (receiving peer r) (acked n) verdict from bytes is unsent sent = absurd (unsent sent)
-heard-last own server (failed why) (acked n) verdict from bytes is unsent sent = absurd cc
-heard-last own server (asking (put file) misses) (block n body) verdict from bytes is unsent sent = absurd cc
-heard-last own server (asking (get kind) misses) (block n body) verdict from bytes is unsent sent =
-    absurd (first-unsent (n == 1) verdict from.port n body (client_at own server (asking (get kind) misses)) unsent sent)
-heard-last own server (sending peer s) (block n body) verdict from bytes is unsent sent = absurd (unsent sent)
-heard-last own server (receiving peer r) (block n body) verdict from bytes is unsent sent =
+input-last own server (receiving peer r) (acked n) verdict from bytes is unsent sent = absurd (unsent sent)
+input-last own server (failed why) (acked n) verdict from bytes is unsent sent = absurd cc
+input-last own server (asking (put file) misses) (block n body) verdict from bytes is unsent sent = absurd cc
+input-last own server (asking (get rules) misses) (block n body) verdict from bytes is unsent sent =
+    absurd (first-unsent (n == 1) verdict from.port n body (client_at own server (asking (get rules) misses)) unsent sent)
+input-last own server (sending peer s) (block n body) verdict from bytes is unsent sent = absurd (unsent sent)
+input-last own server (receiving peer r) (block n body) verdict from bytes is unsent sent =
     absurd (took-unsent peer (receiver_data verdict n body r).receiver (receiver_data verdict n body r).result (client_at own server (receiving peer r)) sent)
-heard-last own server (failed why) (block n body) verdict from bytes is unsent sent = absurd cc
+input-last own server (failed why) (block n body) verdict from bytes is unsent sent = absurd cc
 
 unless-last : (over : Bool) (verdict : Verdict) (from : Endpoint) (bytes : List ℕ) (c : Client) → state_of c ≢ Sent → state_of (client_unless_over over verdict from bytes c).client ≡ Sent → IsLastAck c.phase from bytes
 unless-last true verdict from bytes c unsent sent = absurd (unsent sent)
-unless-last false verdict from bytes c unsent sent = heard-last c.port c.server c.phase _ verdict from bytes refl unsent sent
+unless-last false verdict from bytes c unsent sent = input-last c.port c.server c.phase _ verdict from bytes refl unsent sent
 
 pub datagram-last : (verdict : Verdict) (from : Endpoint) (bytes : List ℕ) (c : Client) → state_of c ≢ Sent → state_of (client_datagram verdict from bytes c).client ≡ Sent → IsLastAck c.phase from bytes
 datagram-last verdict from bytes c unsent sent = unless-last (is_over c) verdict from bytes c unsent sent

@@ -9,8 +9,8 @@ use Rattle.tftp_ends.specs.declared.recv_state.RecvState.{RecvState}
 use Rattle.tftp_ends.specs.declared.recv_state.RecvState.TheVariants as recv
 use Rattle.tftp_ends.specs.declared.recv_fault.RecvFault.{RecvFault}
 use Rattle.tftp_ends.specs.Ends.{Verdict, Sender, SendAnswer, Receiver, RecvAnswer, sender_timeout, receiver_data, receiver_timeout}
-use Rattle.tftp_ends.specs.Heard.{Heard, nothing, stray, refusal, acked, block}
-use Rattle.archive_client.specs.Client.{Phase, asking, sending, receiving, failed, Client, IsClient, IsPhase, IsBoundTo, IsBoundToStill, is_over, is_phase_over, is_send_over, is_recv_over, stays, heard, heard_at, phase_peer, client_heard, client_unless_over, client_datagram, client_timeout, phase_waits, get_took, get_refused, put_waited, get_waited}
+use Rattle.tftp_ends.specs.Input.{Input, nothing, stray, refusal, acked, block}
+use Rattle.archive_client.specs.Client.{Phase, asking, sending, receiving, failed, Client, IsClient, IsPhase, IsBoundTo, IsBoundToStill, is_over, is_phase_over, is_send_over, is_recv_over, client_stays, client_input, client_input_at, phase_peer, client_by_input, client_unless_over, client_datagram, client_timeout, phase_waits, get_took, get_refused, put_waited, get_waited}
 
 -- a client with these parts
 abbrev pub client_at : (port : ℕ) → Endpoint → Phase → Client
@@ -18,43 +18,43 @@ client_at port server phase = record { port = port; server = server; phase = pha
 
 -- ---- once it is over
 
-pub over-datagram : (verdict : Verdict) (from : Endpoint) (bytes : List ℕ) (c : Client) → is_over c ≡ true → client_datagram verdict from bytes c ≡ stays c
+pub over-datagram : (verdict : Verdict) (from : Endpoint) (bytes : List ℕ) (c : Client) → is_over c ≡ true → client_datagram verdict from bytes c ≡ client_stays c
 over-datagram verdict from bytes c over = ap (λ (b : Bool). client_unless_over b verdict from bytes c) over
 
 sender-over : (port : ℕ) (server : Endpoint) (peer : ℕ) (file : List ℕ) (current misses : ℕ) (state : SendState) → state ≢ send.TimedOut → is_send_over state ≡ true →
     let s : Sender = record { file = file; current = current; misses = misses; state = state } in
-    client_timeout (client_at port server (sending peer s)) ≡ stays (client_at port server (sending peer s))
+    client_timeout (client_at port server (sending peer s)) ≡ client_stays (client_at port server (sending peer s))
 sender-over port server peer file current misses send.Running alive over = cc
 sender-over port server peer file current misses send.Finished alive over = refl
 sender-over port server peer file current misses send.TimedOut alive over = absurd (alive refl)
 
 receiver-over : (port : ℕ) (server : Endpoint) (peer : ℕ) (count : ℕ) (file : Option (List ℕ)) (misses : ℕ) (state : RecvState) → state ≢ recv.TimedOut → is_recv_over state ≡ true →
     let r : Receiver = record { count = count; file = file; misses = misses; state = state } in
-    client_timeout (client_at port server (receiving peer r)) ≡ stays (client_at port server (receiving peer r))
+    client_timeout (client_at port server (receiving peer r)) ≡ client_stays (client_at port server (receiving peer r))
 receiver-over port server peer count file misses recv.Running alive over = cc
 receiver-over port server peer count file misses recv.Complete alive over = cc
 receiver-over port server peer count file misses recv.TimedOut alive over = absurd (alive refl)
 receiver-over port server peer count file misses recv.Over alive over = refl
 
-phase-over : (port : ℕ) (server : Endpoint) (phase : Phase) → IsPhase phase → is_phase_over phase ≡ true → client_timeout (client_at port server phase) ≡ stays (client_at port server phase)
+phase-over : (port : ℕ) (server : Endpoint) (phase : Phase) → IsPhase phase → is_phase_over phase ≡ true → client_timeout (client_at port server phase) ≡ client_stays (client_at port server phase)
 phase-over port server (asking operation misses) is over = cc
 phase-over port server (sending peer s) is over = sender-over port server peer s.file s.current s.misses s.state is.alive over
 phase-over port server (receiving peer r) is over = receiver-over port server peer r.count r.file r.misses r.state is.alive over
 phase-over port server (failed why) is over = refl
 
-pub over-timeout : (c : Client) → IsClient c → is_over c ≡ true → client_timeout c ≡ stays c
+pub over-timeout : (c : Client) → IsClient c → is_over c ≡ true → client_timeout c ≡ client_stays c
 over-timeout c is over = phase-over c.port c.server c.phase is.phase over
 
 -- ---- another host
 
-hears-nothing : (over : Bool) (verdict : Verdict) (from : Endpoint) (bytes : List ℕ) (c : Client) → heard c.server.host (phase_peer c.phase) from bytes ≡ nothing → client_unless_over over verdict from bytes c ≡ stays c
-hears-nothing true verdict from bytes c is_nothing = refl
-hears-nothing false verdict from bytes c is_nothing = ap (λ (h : Heard). client_heard h verdict from.port c) is_nothing
+inputs-nothing : (over : Bool) (verdict : Verdict) (from : Endpoint) (bytes : List ℕ) (c : Client) → client_input c.server.host (phase_peer c.phase) from bytes ≡ nothing → client_unless_over over verdict from bytes c ≡ client_stays c
+inputs-nothing true verdict from bytes c is_nothing = refl
+inputs-nothing false verdict from bytes c is_nothing = ap (λ (h : Input). client_by_input h verdict from.port c) is_nothing
 
-pub other-host : (verdict : Verdict) (from : Endpoint) (bytes : List ℕ) (c : Client) → from.host ≢ c.server.host → client_datagram verdict from bytes c ≡ stays c
+pub other-host : (verdict : Verdict) (from : Endpoint) (bytes : List ℕ) (c : Client) → from.host ≢ c.server.host → client_datagram verdict from bytes c ≡ client_stays c
 other-host verdict from bytes c other =
-    hears-nothing (is_over c) verdict from bytes c
-    (ap (λ (b : Bool). heard_at b (phase_peer c.phase) from.port bytes) (ne_eqb from.host c.server.host other))
+    inputs-nothing (is_over c) verdict from bytes c
+    (ap (λ (b : Bool). client_input_at b (phase_peer c.phase) from.port bytes) (ne_eqb from.host c.server.host other))
 
 -- ---- one port
 
@@ -74,27 +74,27 @@ refused-still port recv.Complete code c bound = bound
 refused-still port recv.TimedOut code c bound = bound
 refused-still port recv.Over code c bound = bound
 
-heard-still : (port : ℕ) (own : ℕ) (server : Endpoint) (phase : Phase) (h : Heard) (verdict : Verdict) (from : ℕ) → IsBoundTo port phase → IsBoundToStill port (client_heard h verdict from (client_at own server phase)).client.phase
-heard-still port own server phase nothing verdict from bound = bound-still port phase bound
-heard-still port own server phase stray verdict from bound = bound-still port phase bound
-heard-still port own server (asking operation misses) (refusal code) verdict from bound = tt
-heard-still port own server (sending peer s) (refusal code) verdict from bound = tt
-heard-still port own server (receiving peer r) (refusal code) verdict from bound = refused-still port r.state code (client_at own server (receiving peer r)) bound
-heard-still port own server (failed why) (refusal code) verdict from bound = tt
-heard-still port own server (asking operation misses) (acked n) verdict from bound = absurd bound
-heard-still port own server (sending peer s) (acked n) verdict from bound = bound
-heard-still port own server (receiving peer r) (acked n) verdict from bound = bound
-heard-still port own server (failed why) (acked n) verdict from bound = tt
-heard-still port own server (asking operation misses) (block n body) verdict from bound = absurd bound
-heard-still port own server (sending peer s) (block n body) verdict from bound = bound
-heard-still port own server (receiving peer r) (block n body) verdict from bound =
+input-still : (port : ℕ) (own : ℕ) (server : Endpoint) (phase : Phase) (h : Input) (verdict : Verdict) (from : ℕ) → IsBoundTo port phase → IsBoundToStill port (client_by_input h verdict from (client_at own server phase)).client.phase
+input-still port own server phase nothing verdict from bound = bound-still port phase bound
+input-still port own server phase stray verdict from bound = bound-still port phase bound
+input-still port own server (asking operation misses) (refusal code) verdict from bound = tt
+input-still port own server (sending peer s) (refusal code) verdict from bound = tt
+input-still port own server (receiving peer r) (refusal code) verdict from bound = refused-still port r.state code (client_at own server (receiving peer r)) bound
+input-still port own server (failed why) (refusal code) verdict from bound = tt
+input-still port own server (asking operation misses) (acked n) verdict from bound = absurd bound
+input-still port own server (sending peer s) (acked n) verdict from bound = bound
+input-still port own server (receiving peer r) (acked n) verdict from bound = bound
+input-still port own server (failed why) (acked n) verdict from bound = tt
+input-still port own server (asking operation misses) (block n body) verdict from bound = absurd bound
+input-still port own server (sending peer s) (block n body) verdict from bound = bound
+input-still port own server (receiving peer r) (block n body) verdict from bound =
     took-still port peer (receiver_data verdict n body r).receiver (receiver_data verdict n body r).result (client_at own server (receiving peer r)) bound
-heard-still port own server (failed why) (block n body) verdict from bound = tt
+input-still port own server (failed why) (block n body) verdict from bound = tt
 
 unless-still : (over : Bool) (verdict : Verdict) (from : Endpoint) (bytes : List ℕ) (c : Client) (port : ℕ) → IsBoundTo port c.phase → IsBoundToStill port (client_unless_over over verdict from bytes c).client.phase
 unless-still true verdict from bytes c port bound = bound-still port c.phase bound
 unless-still false verdict from bytes c port bound =
-    heard-still port c.port c.server c.phase (heard c.server.host (phase_peer c.phase) from bytes) verdict from.port bound
+    input-still port c.port c.server c.phase (client_input c.server.host (phase_peer c.phase) from bytes) verdict from.port bound
 
 pub datagram-still : (verdict : Verdict) (from : Endpoint) (bytes : List ℕ) (c : Client) (port : ℕ) → IsBoundTo port c.phase → IsBoundToStill port (client_datagram verdict from bytes c).client.phase
 datagram-still verdict from bytes c port bound = unless-still (is_over c) verdict from bytes c port bound

@@ -2,12 +2,12 @@
 
 ghost use Rattle.std.specs.Prelude.{◌≡◌, ◌≢◌, ◌≤◌, length, Some, None, false, IsOk, IfOk, ◌↔◌, option_copied};
 ghost use Rattle.tftp_packet.specs.Refusal.{refusal_packet};
-ghost use Rattle.archive_client.specs.Client.{get, failed, in_phase, out_to, cause_of, client_start, request_out, client_datagram, client_timeout, verdict_after, state_of, is_over, phase_peer, data_heard, file_of, phase_file, IsClient};
+ghost use Rattle.archive_client.specs.Client.{get, failed, in_phase, out_to, cause_of, client_start, request_out, client_datagram, client_timeout, verdict_after, state_of, is_over, phase_peer, data_received, file_or_client, phase_file, IsClient};
 ghost use Rattle.tftp_ends.specs.Ends.{refusal_of};
 
 use crate::cause::Cause;
-use crate::heard::Heard;
-use crate::line::Line;
+use crate::input::Input;
+use crate::link::Link;
 use crate::phase::Phase;
 use crate::state::State;
 use std::alloc::{Allocator, Global};
@@ -25,7 +25,7 @@ use tws_file::Ruleset;
 pub struct Get<A: Allocator + Copy = Global> {
     #[derive_where(skip(Debug))]
     alloc: A,
-    line: Line,
+    link: Link,
     phase: Phase<Ruleset, Receiver<A>>,
 }
 
@@ -42,24 +42,24 @@ impl<A: Allocator + Copy> Model for Get<A> {
 }
 
 impl<A: Allocator + Copy> Get<A> {
-    /// Returns a client at `port` of this host that asks the server for the collection of `kind`, and its request for
-    /// the caller to send: RRQ of RFC 1350 section 5. `server` is the server's host and request port. Received blocks
-    /// are kept in memory of `alloc`.
-    pub fn start(alloc: A, port: u16, server: Endpoint, kind: Ruleset) -> (Self, Out)
-        ensures client { result.0 ≡ client_start port server (get kind) }
-        ensures sent { result.1 ≡ request_out (get kind) result.0 }
+    /// Returns a client at `port` of this host that asks the server for the collection of `ruleset`, and its request
+    /// for the caller to send: RRQ of RFC 1350 section 5. `server` is the server's host and request port. Received
+    /// blocks are kept in memory of `alloc`.
+    pub fn start(alloc: A, port: u16, server: Endpoint, ruleset: Ruleset) -> (Self, Out)
+        ensures client { result.0 ≡ client_start port server (get «ruleset») }
+        ensures sent { result.1 ≡ request_out (get «ruleset») result.0 }
         ensures fits { IsClient result.0 }
     {
-        let line = Line { port, server };
+        let link = Link { port, server };
         let get = Get {
             alloc,
-            line,
+            link,
             phase: Phase::Asking {
-                wanted: kind,
+                wanted: ruleset,
                 misses: 0,
             },
         };
-        (get, line.out(server.port, encode_read(kind.file_name())))
+        (get, link.out(server.port, encode_read(ruleset.file_name())))
     }
 
     // Handles a refused block: the client fails, and sends the server an ERROR with the reason.
@@ -68,7 +68,7 @@ impl<A: Allocator + Copy> Get<A> {
         ensures sent { result ≡ Some (out_to port (refusal_packet (refusal_of fault)) self.old) }
     {
         self.phase = Phase::Failed(Cause::of(fault));
-        Some(self.line.out(port, fault.refusal().dgram()))
+        Some(self.link.out(port, fault.refusal().dgram()))
     }
 
     // Handles block 1 while unbound: binds to its port and takes the block.
@@ -76,15 +76,15 @@ impl<A: Allocator + Copy> Get<A> {
         requires short { length body.now ≤ BLOCK_SIZE }
         requires asking { phase_peer self.old.phase ≡ None }
         requires running { is_over self.old ≡ false }
-        ensures client { self.new ≡ (data_heard self.old.phase (verdict_after self.new) port 1 body.now self.old).client }
-        ensures sent { result ≡ (data_heard self.old.phase (verdict_after self.new) port 1 body.now self.old).out }
+        ensures client { self.new ≡ (data_received self.old.phase (verdict_after self.new) port 1 body.now self.old).client }
+        ensures sent { result ≡ (data_received self.old.phase (verdict_after self.new) port 1 body.now self.old).out }
         ensures fits { IsClient self.new }
     {
         let mut end = Receiver::new(self.alloc);
         match end.on_data(1, body) {
             Ok(ack) => {
                 self.phase = Phase::Bound { peer: port, end };
-                Some(self.line.out(port, ack?))
+                Some(self.link.out(port, ack?))
             }
             Err(fault) => self.refuse(port, fault),
         }
@@ -94,8 +94,8 @@ impl<A: Allocator + Copy> Get<A> {
     fn on_data(&mut self, port: u16, n: u16, body: &[u8]) -> Option<Out>
         requires short { length body.now ≤ BLOCK_SIZE }
         requires running { is_over self.old ≡ false }
-        ensures client { self.new ≡ (data_heard self.old.phase (verdict_after self.new) port n body.now self.old).client }
-        ensures sent { result ≡ (data_heard self.old.phase (verdict_after self.new) port n body.now self.old).out }
+        ensures client { self.new ≡ (data_received self.old.phase (verdict_after self.new) port n body.now self.old).client }
+        ensures sent { result ≡ (data_received self.old.phase (verdict_after self.new) port n body.now self.old).out }
         ensures fits { IsClient self.new }
     {
         match &mut self.phase {
@@ -103,7 +103,7 @@ impl<A: Allocator + Copy> Get<A> {
             Phase::Bound { peer, end } => {
                 let peer = *peer;
                 match end.on_data(n, body) {
-                    Ok(ack) => Some(self.line.out(peer, ack?)),
+                    Ok(ack) => Some(self.link.out(peer, ack?)),
                     Err(fault) => self.refuse(peer, fault),
                 }
             }
@@ -128,16 +128,16 @@ impl<A: Allocator + Copy> Get<A> {
         if self.over() {
             return None;
         }
-        match self.line.hear(self.phase.peer(), from, bytes) {
-            Heard::Stray => Some(self.line.out(from.port, Refusal::UnknownTransfer.dgram())),
-            Heard::Refusal(code) => {
+        match self.link.input(self.phase.peer(), from, bytes) {
+            Input::Stray => Some(self.link.out(from.port, Refusal::UnknownTransfer.dgram())),
+            Input::Refusal(code) => {
                 if self.state() == State::Running {
                     self.phase = Phase::Failed(Cause::Refused(code));
                 }
                 None
             }
-            Heard::Data { n, body } => self.on_data(from.port, n, body),
-            Heard::Nothing | Heard::Ack(_) => None,
+            Input::Data { n, body } => self.on_data(from.port, n, body),
+            Input::Nothing | Input::Ack(_) => None,
         }
     }
 
@@ -154,13 +154,13 @@ impl<A: Allocator + Copy> Get<A> {
                 if *misses + 1 < MISSES {
                     *misses += 1;
                     let request = encode_read(wanted.file_name());
-                    return Some(self.line.out(self.line.server.port, request));
+                    return Some(self.link.out(self.link.server.port, request));
                 }
             }
             Phase::Bound { peer, end } => {
                 let ack = end.on_timeout();
                 if end.state() != RecvState::TimedOut {
-                    return Some(self.line.out(*peer, ack?));
+                    return Some(self.link.out(*peer, ack?));
                 }
             }
             Phase::Failed(_) => return None,
@@ -217,20 +217,20 @@ impl<A: Allocator + Copy> Get<A> {
     ///
     /// Returns the client unchanged, exactly if its state is not `Got`.
     pub fn into_file(self) -> Result<Received<A>, Self>
-        ensures file { result ≡ file_of self }
+        ensures file { result ≡ file_or_client self }
         ensures whole { IsOk result ↔ (state_of self ≡ State.Got) }
         // It is no longer than a file may be.
         ensures size { IfOk result (λ f. length f ≤ MAX_FILE) }
     {
-        let Get { alloc, line, phase } = self;
+        let Get { alloc, link, phase } = self;
         let Phase::Bound { peer, mut end } = phase else {
-            return Err(Get { alloc, line, phase });
+            return Err(Get { alloc, link, phase });
         };
         match end.take_file() {
             Some(file) => Ok(file),
             None => Err(Get {
                 alloc,
-                line,
+                link,
                 phase: Phase::Bound { peer, end },
             }),
         }

@@ -5,19 +5,19 @@ ghost use Rattle.tftp_packet.specs.declared.endpoint.Endpoint.{Endpoint};
 ghost use Rattle.tftp_ends.specs.Ends.{Verdict};
 ghost use Rattle.byte_output.specs.Bytes.{IsBytes};
 ghost use Rattle.archive_client.specs.declared.state.State.TheVariants.{Sent};
-ghost use Rattle.archive_client.specs.Client.{Operation, Client, IsOperation, IsClient, client_start, IsBoundTo, IsBoundToStill, IsLastAck, state_of, is_over, stays, client_datagram, client_timeout};
+ghost use Rattle.archive_client.specs.Client.{Operation, Client, IsOperation, IsClient, client_start, IsBoundTo, IsBoundToStill, IsLastAck, state_of, is_over, client_stays, client_datagram, client_timeout};
 
 /// Once a client is over, and so once it has failed, no datagram and no time-out changes it or makes it send.
 pub fn over_client()
     ensures datagram { (verdict : Verdict) (from : Endpoint) (bytes : List ℕ) (c : Client) →
-        is_over c ≡ true → client_datagram verdict from bytes c ≡ stays c }
-    ensures timeout { (c : Client) → IsClient c → is_over c ≡ true → client_timeout c ≡ stays c }
+        is_over c ≡ true → client_datagram verdict from bytes c ≡ client_stays c }
+    ensures timeout { (c : Client) → IsClient c → is_over c ≡ true → client_timeout c ≡ client_stays c }
 {}
 
 /// A datagram from a host other than the server's changes nothing and is not answered.
 pub fn other_host()
     ensures { (verdict : Verdict) (from : Endpoint) (bytes : List ℕ) (c : Client) →
-        from.host ≢ c.server.host → client_datagram verdict from bytes c ≡ stays c }
+        from.host ≢ c.server.host → client_datagram verdict from bytes c ≡ client_stays c }
 {}
 
 /// A client binds to only one port: once it is bound, it stays bound to that port until it fails.

@@ -4,15 +4,15 @@
 //!
 //! Read `specs/Client.antt` first: what a client is, and what each datagram and each time-out does to it.
 //!
-//! `put` and `get` are the two clients; they share a client's port and server (`line`), what a datagram is to it
-//! (`heard`), and how far it is (`phase`).
+//! `put` and `get` are the two clients; they share a client's port and server (`link`), what a datagram is to it
+//! (`input`), and how far it is (`phase`).
 #![tactic(auto)]
 
 mod cause;
 mod get;
-mod heard;
+mod input;
 mod laws;
-mod line;
+mod link;
 mod phase;
 mod put;
 mod state;

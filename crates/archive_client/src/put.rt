@@ -2,11 +2,11 @@
 
 ghost use Rattle.std.specs.Prelude.{◌≡◌, ◌≢◌, ◌<◌, ◌≤◌, length, IfOk, IfErr, false};
 ghost use Rattle.tftp_ends.specs.Ends.{granted};
-ghost use Rattle.archive_client.specs.Client.{put, client_start, request_out, client_datagram, client_timeout, state_of, is_over, phase_peer, ack_heard, IsClient};
+ghost use Rattle.archive_client.specs.Client.{put, client_start, request_out, client_datagram, client_timeout, state_of, is_over, phase_peer, ack_received, IsClient};
 
 use crate::cause::Cause;
-use crate::heard::Heard;
-use crate::line::Line;
+use crate::input::Input;
+use crate::link::Link;
 use crate::phase::Phase;
 use crate::state::State;
 use crate::too_long::TooLong;
@@ -24,7 +24,7 @@ use tws_file::upload_file_name;
 #[derive(Drop)]
 #[derive_where(Debug)]
 pub struct Put<A: Allocator + Copy = Global> {
-    line: Line,
+    link: Link,
     phase: Phase<Owned<A>, Sender<Owned<A>>>,
 }
 
@@ -58,23 +58,23 @@ impl<A: Allocator + Copy> Put<A> {
         if file.len() as u64 > MAX_FILE {
             return Err(TooLong { file });
         }
-        let line = Line { port, server };
+        let link = Link { port, server };
         let put = Put {
-            line,
+            link,
             phase: Phase::Asking {
                 wanted: Owned::of(file),
                 misses: 0,
             },
         };
-        Ok((put, line.out(server.port, encode_write(upload_file_name()))))
+        Ok((put, link.out(server.port, encode_write(upload_file_name()))))
     }
 
     // Handles the ACK of the request: binds to its port and sends the first block.
     fn bind(&mut self, port: u16) -> Option<Out>
         requires asking { phase_peer self.old.phase ≡ None }
         requires running { is_over self.old ≡ false }
-        ensures client { self.new ≡ (ack_heard self.old.phase port 0 self.old).client }
-        ensures sent { result ≡ (ack_heard self.old.phase port 0 self.old).out }
+        ensures client { self.new ≡ (ack_received self.old.phase port 0 self.old).client }
+        ensures sent { result ≡ (ack_received self.old.phase port 0 self.old).out }
         ensures fits { IsClient self.new }
     {
         let Phase::Asking { wanted, .. } = mem::replace(
@@ -85,20 +85,20 @@ impl<A: Allocator + Copy> Put<A> {
         };
         let (end, data) = Sender::start(wanted);
         self.phase = Phase::Bound { peer: port, end };
-        Some(self.line.out(port, data))
+        Some(self.link.out(port, data))
     }
 
     // Handles an ACK for this client, received from `port`.
     fn on_ack(&mut self, port: u16, n: u16) -> Option<Out>
-        ensures client { self.new ≡ (ack_heard self.old.phase port n self.old).client }
-        ensures sent { result ≡ (ack_heard self.old.phase port n self.old).out }
+        ensures client { self.new ≡ (ack_received self.old.phase port n self.old).client }
+        ensures sent { result ≡ (ack_received self.old.phase port n self.old).out }
         ensures fits { IsClient self.new }
     {
         match &mut self.phase {
             Phase::Asking { .. } if n == 0 => self.bind(port),
             Phase::Bound { peer, end } => {
                 let data = end.on_ack(n)?;
-                Some(self.line.out(*peer, data))
+                Some(self.link.out(*peer, data))
             }
             Phase::Asking { .. } | Phase::Failed(_) => None,
         }
@@ -119,14 +119,14 @@ impl<A: Allocator + Copy> Put<A> {
         if self.over() {
             return None;
         }
-        match self.line.hear(self.phase.peer(), from, bytes) {
-            Heard::Stray => Some(self.line.out(from.port, Refusal::UnknownTransfer.dgram())),
-            Heard::Refusal(code) => {
+        match self.link.input(self.phase.peer(), from, bytes) {
+            Input::Stray => Some(self.link.out(from.port, Refusal::UnknownTransfer.dgram())),
+            Input::Refusal(code) => {
                 self.phase = Phase::Failed(Cause::Refused(code));
                 None
             }
-            Heard::Ack(n) => self.on_ack(from.port, n),
-            Heard::Nothing | Heard::Data { .. } => None,
+            Input::Ack(n) => self.on_ack(from.port, n),
+            Input::Nothing | Input::Data { .. } => None,
         }
     }
 
@@ -143,15 +143,15 @@ impl<A: Allocator + Copy> Put<A> {
                 if *misses + 1 < MISSES {
                     *misses += 1;
                     return Some(
-                        self.line
-                            .out(self.line.server.port, encode_write(upload_file_name())),
+                        self.link
+                            .out(self.link.server.port, encode_write(upload_file_name())),
                     );
                 }
             }
             Phase::Bound { peer, end } => {
                 let data = end.on_timeout();
                 if end.state() != SendState::TimedOut {
-                    return Some(self.line.out(*peer, data?));
+                    return Some(self.link.out(*peer, data?));
                 }
             }
             Phase::Failed(_) => return None,

@@ -97,5 +97,5 @@ module _ {D : Type 0} (reads : D → Texts) (holds : D → Files) (leaves : D �
     left = λ left h. settled_is mid to text (λ r is. written.now r (moved r is)) (λ t is. written.held t (held t is)) left (settled to left h);
   }
 
-pub kept_is_no_draft : (kind : Ruleset) → Kept kind ≢ Draft kind
-kept_is_no_draft kind is = cc
+pub kept_is_no_draft : (rules : Ruleset) → Kept rules ≢ Draft rules
+kept_is_no_draft rules is = cc

@@ -96,16 +96,16 @@ impl<F: Folder> Keeper for FolderKeeper<F> {
 
     fn keep<A: Allocator>(
         &mut self,
-        kind: Ruleset,
+        ruleset: Ruleset,
         collection: &Collection<A>,
     ) -> Result<(), KeepFault>
         // From then on a crash leaves the new collection and nothing else.
-        ensures kept { F.has_model ≡ true → OnOk result (HasOnly (F.reads self.new.folder) (F.holds self.new.folder) (F.leaves self.new.folder) (FileName.Kept kind) (collection_text collection.now)) }
+        ensures kept { F.has_model ≡ true → OnOk result (HasOnly (F.reads self.new.folder) (F.holds self.new.folder) (F.leaves self.new.folder) (FileName.Kept «ruleset») (collection_text collection.now)) }
         // A crash at any moment of the call leaves what was possible before, or the new collection.
-        ensures any_moment { F.has_model ≡ true → Replaces F.reads F.leaves F.moment F.left_since self.old.folder self.new.folder (FileName.Kept kind) (collection_text collection.now) }
+        ensures any_moment { F.has_model ≡ true → Replaces F.reads F.leaves F.moment F.left_since self.old.folder self.new.folder (FileName.Kept «ruleset») (collection_text collection.now) }
         // If the keeper is still usable, nothing was kept.
-        ensures not_kept { F.has_model ≡ true → OnErr result (self.new.is_usable ≡ true → Stays F.reads F.holds F.leaves F.moment F.left_since self.old.folder self.new.folder (FileName.Kept kind)) }
-        ensures others { F.has_model ≡ true → (other : FileName) → other ≢ FileName.Kept kind → other ≢ FileName.Draft kind → Stays F.reads F.holds F.leaves F.moment F.left_since self.old.folder self.new.folder other }
+        ensures not_kept { F.has_model ≡ true → OnErr result (self.new.is_usable ≡ true → Stays F.reads F.holds F.leaves F.moment F.left_since self.old.folder self.new.folder (FileName.Kept «ruleset»)) }
+        ensures others { F.has_model ≡ true → (other : FileName) → other ≢ FileName.Kept «ruleset» → other ≢ FileName.Draft «ruleset» → Stays F.reads F.holds F.leaves F.moment F.left_since self.old.folder self.new.folder other }
         ensures usable { OnOk result (self.old.is_usable ≡ true) }
         ensures still_usable { OnOk result (self.new.is_usable ≡ true) }
         // Once it is unknown whether a collection was kept, nothing is kept any more.
@@ -121,7 +121,7 @@ impl<F: Folder> Keeper for FolderKeeper<F> {
             self.count_failure(KeepFault::Device);
             return Err(KeepFault::Device);
         }
-        match replace(&mut self.folder, kind, collection) {
+        match replace(&mut self.folder, ruleset, collection) {
             Ok(()) => Ok(()),
             Err(fault) => Err(self.note(fault)),
         }
@@ -130,10 +130,10 @@ impl<F: Folder> Keeper for FolderKeeper<F> {
     fn load<A: Allocator>(
         &mut self,
         alloc: A,
-        kind: Ruleset,
+        ruleset: Ruleset,
     ) -> Result<Option<Vec<u8, A>>, KeepFault>
         // What a read of the collection's file may give, so `None` only if there may be no file.
-        ensures found { F.has_model ≡ true → IfOk result (λ found. F.reads self.old.folder (FileName.Kept kind) (texts_of found)) }
+        ensures found { F.has_model ≡ true → IfOk result (λ found. F.reads self.old.folder (FileName.Kept «ruleset») (texts_of found)) }
         ensures all { F.has_model ≡ true → (other : FileName) → Stays F.reads F.holds F.leaves F.moment F.left_since self.old.folder self.new.folder other }
         ensures usable { self.new.is_usable ≡ self.old.is_usable }
         // It does not give up by itself.
@@ -141,7 +141,7 @@ impl<F: Folder> Keeper for FolderKeeper<F> {
         ensures more { self.old.failures ≤ self.new.failures }
         ensures failed { result ≡ Err KeepFault.Device → FailsAt self.old.failures self.new.failures }
     {
-        match self.folder.read(alloc, FileName::Kept(kind)) {
+        match self.folder.read(alloc, FileName::Kept(ruleset)) {
             Ok(found) => Ok(found),
             Err(fault) => {
                 self.count_failure(fault);

@@ -75,26 +75,26 @@ fn publish<F: Folder>(folder: &mut F, from: FileName, to: FileName) -> Result<()
 /// `NotKept` if a call before the rename fails, `Unknown` if the rename or the last sync fails.
 pub fn replace<F: Folder, A: Allocator>(
     folder: &mut F,
-    kind: Ruleset,
+    ruleset: Ruleset,
     collection: &Collection<A>,
 ) -> Result<(), FolderFault>
     // From then on a crash leaves the new collection and nothing else.
-    ensures kept { F.has_model ≡ true → OnOk result (HasOnly (F.reads folder.new) (F.holds folder.new) (F.leaves folder.new) (FileName.Kept kind) (collection_text collection.now)) }
+    ensures kept { F.has_model ≡ true → OnOk result (HasOnly (F.reads folder.new) (F.holds folder.new) (F.leaves folder.new) (FileName.Kept «ruleset») (collection_text collection.now)) }
     // A crash at any moment of the call leaves what was possible before, or the new collection.
-    ensures any_moment { F.has_model ≡ true → Replaces F.reads F.leaves F.moment F.left_since folder.old folder.new (FileName.Kept kind) (collection_text collection.now) }
-    ensures not_kept { F.has_model ≡ true → (fault : KeepFault) → result ≡ Err (FolderFault.NotKept fault) → Stays F.reads F.holds F.leaves F.moment F.left_since folder.old folder.new (FileName.Kept kind) }
+    ensures any_moment { F.has_model ≡ true → Replaces F.reads F.leaves F.moment F.left_since folder.old folder.new (FileName.Kept «ruleset») (collection_text collection.now) }
+    ensures not_kept { F.has_model ≡ true → (fault : KeepFault) → result ≡ Err (FolderFault.NotKept fault) → Stays F.reads F.holds F.leaves F.moment F.left_since folder.old folder.new (FileName.Kept «ruleset») }
     // The draft is removed again, unless that fails too.
-    ensures cleared { F.has_model ≡ true → (fault : KeepFault) → result ≡ Err (FolderFault.NotKept fault) → IsCleared (F.reads folder.old) (F.reads folder.new) (FileName.Draft kind) (F.faults folder.old) (F.faults folder.new) }
-    ensures others { F.has_model ≡ true → (other : FileName) → other ≢ FileName.Kept kind → other ≢ FileName.Draft kind → Stays F.reads F.holds F.leaves F.moment F.left_since folder.old folder.new other }
+    ensures cleared { F.has_model ≡ true → (fault : KeepFault) → result ≡ Err (FolderFault.NotKept fault) → IsCleared (F.reads folder.old) (F.reads folder.new) (FileName.Draft «ruleset») (F.faults folder.old) (F.faults folder.new) }
+    ensures others { F.has_model ≡ true → (other : FileName) → other ≢ FileName.Kept «ruleset» → other ≢ FileName.Draft «ruleset» → Stays F.reads F.holds F.leaves F.moment F.left_since folder.old folder.new other }
     ensures more { F.faults folder.old ≤ F.faults folder.new }
     ensures fault { OnErr result (Rises (F.faults folder.old) (F.faults folder.new)) }
 {
-    let draft = FileName::Draft(kind);
+    let draft = FileName::Draft(ruleset);
     match write_draft(folder, draft, collection) {
         Ok(()) => {}
         Err(fault) => return Err(FolderFault::NotKept(fault)),
     }
-    match publish(folder, draft, FileName::Kept(kind)) {
+    match publish(folder, draft, FileName::Kept(ruleset)) {
         Ok(()) => Ok(()),
         Err(_) => Err(FolderFault::Unknown),
     }

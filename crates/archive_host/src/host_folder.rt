@@ -46,7 +46,7 @@ pub struct HostFolder<R: Files<File = File> + AllocGlobal + Copy> {
 // The file that a file replaces or is.
 fn kept(name: FileName) -> FileName {
     match name {
-        FileName::Kept(kind) | FileName::Draft(kind) => FileName::Kept(kind),
+        FileName::Kept(ruleset) | FileName::Draft(ruleset) => FileName::Kept(ruleset),
     }
 }
 

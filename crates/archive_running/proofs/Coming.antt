@@ -7,18 +7,18 @@ use Rattle.std.proofs.lemmas.Slice.Eq.{bytes_eq-Decides}
 use Rattle.tftp_packet.specs.declared.endpoint.Endpoint.{Endpoint}
 use Rattle.tftp_packet.specs.Decode.{decode_bytes}
 use Rattle.tftp_ends.specs.Ends.{Verdict, granted, refused}
-use Rattle.archive_table.specs.Server.{Server, Maps, Grant, Taken, Answer, Merges, IsMerged, memory_of, is_same, transfer_at, server_request, server_datagram, server_timeout, empty_maps}
+use Rattle.archive_table.specs.Table.{Table, Maps, Grant, Taken, TableAnswer, Merges, IsMerged, memory_verdict, is_same, transfer_at, table_request, table_datagram, table_timeout, empty_maps}
 use Rattle.archive_table.specs.Keeper.{Keeping}
 use Rattle.archive_client.specs.Client.{Operation, Client, client_datagram, client_timeout, is_too_long}
 use Rattle.archive_client.specs.Client as client
-use Rattle.archive_world.specs.World.{Datagram, World, server_endpoint, has_begun, asked_of, taken_with, after_request, after_transfer, after_client, client_hears, client_waits, begins, restarts, strays_in, AllMayHappen, MayDeliver, IsFree}
-use Rattle.archive_world.specs.Traces.{Member, server_waits_long, client_waits_long, starts, loads, is_same_datagram, place_after, place_of, named_in, server_comes, comes, after_deed, delivery, steps_with, member_steps, trace_from, DeedMerged}
+use Rattle.archive_world.specs.World.{Datagram, World, server_endpoint, has_begun, asked_of, taken_with, after_request, after_transfer, after_client, client_receives, client_waits, begins, restarts, strays_in, AllMayHappen, MayDeliver, IsFree}
+use Rattle.archive_world.specs.Traces.{Member, server_waits_long, client_waits_long, starts, loads, is_same_datagram, position_after, position_of, named_in, server_comes, comes, after_deed, delivery, steps_with, member_steps, trace_from, DeedMerged}
 use Rattle.archive_world.proofs.Places.{Has, at-last}
 use Rattle.archive_world.proofs.Endpoints.{same_endpoint}
 use Rattle.archive_world.proofs.Remaining.{timeout_leaves, decoded_leaves}
 use Rattle.archive_world.proofs.Totality.{not_more, one_last}
 use Rattle.archive_world.proofs.Tracing.{found_at, strays_fits}
-use Rattle.archive_running.specs.Members.{arrival, grant_for, hearing, does}
+use Rattle.archive_running.specs.Members.{arrival, grant_for, reception, does}
 use Rattle.archive_running.specs.Archive.{Archive, IsStrangers, after_restart}
 use Rattle.archive_running.proofs.Fitting.{AllFit}
 use Rattle.archive_running.proofs.Ports.{request-apart, datagram-apart, timeout-apart}
@@ -38,14 +38,14 @@ same_datagram d =
     ∙ ap (λ (b : Bool). b && bytes_eq d.bytes d.bytes) (same_endpoint d.target)
     ∙ (bytes_eq-Decides d.bytes d.bytes).1 refl
 
-placed : (d : Datagram) (net : List Datagram) (i : ℕ) → slice_get net i ≡ Some d → is_some (place_of d net) ≡ true
+placed : (d : Datagram) (net : List Datagram) (i : ℕ) → slice_get net i ≡ Some d → is_some (position_of d net) ≡ true
 placed d [] i e = absurd cc
 placed d (x ∷ net) zero e =
     let same : x ≡ d = cc in
-    ap (λ (b : Bool). is_some (place_after b (place_of d net))) (ap (λ y. is_same_datagram y d) same ∙ same_datagram d)
-placed d (x ∷ net) (suc i) e = by (is_same_datagram x d) (place_of d net) (placed d net i e)
+    ap (λ (b : Bool). is_some (position_after b (position_of d net))) (ap (λ y. is_same_datagram y d) same ∙ same_datagram d)
+placed d (x ∷ net) (suc i) e = by (is_same_datagram x d) (position_of d net) (placed d net i e)
   where
-    by : (first : Bool) (later : Option ℕ) → is_some later ≡ true → is_some (place_after first later) ≡ true
+    by : (first : Bool) (later : Option ℕ) → is_some later ≡ true → is_some (position_after first later) ≡ true
     by true later h = refl
     by false (Some n) h = refl
     by false None h = h
@@ -54,16 +54,16 @@ abbrev pub IsBrought : Datagram → Archive → Type 0
 IsBrought d a = Has a.net d ⊎ IsStrangers d a
 
 module _ (a : Archive) (w : World) (h : Shows a w) where
-  strangers : (d : Datagram) → place_of d w.net ≡ None → IsBrought d a → IsStrangers d a
+  strangers : (d : Datagram) → position_of d w.net ≡ None → IsBrought d a → IsStrangers d a
   strangers d none (inl old) =
       let has = h.net d old in
-      absurd (true≢false (sym (placed d w.net has.place has.is) ∙ ap is_some none))
+      absurd (true≢false (sym (placed d w.net has.position has.is) ∙ ap is_some none))
   strangers d none (inr stranger) = stranger
 
-  may_hear : (d : Datagram) (spare : ℕ) (grant : Grant) (maps : Maps) → IsBrought d a → (d.target ≡ record { host = server_endpoint.host; port = w.server.request } → IsFree spare w) → (place : Option ℕ) → place_of d w.net ≡ place → AllMayHappen (steps_with grant maps (delivery place d spare w.net)) w
-  may_hear d spare grant maps brought free (Some n) is =
+  may_handle : (d : Datagram) (spare : ℕ) (grant : Grant) (maps : Maps) → IsBrought d a → (d.target ≡ record { host = server_endpoint.host; port = w.server.request } → IsFree spare w) → (position : Option ℕ) → position_of d w.net ≡ position → AllMayHappen (steps_with grant maps (delivery position d spare w.net)) w
+  may_handle d spare grant maps brought free (Some n) is =
       (record { datagram = d; is = found_at d w.net n is; spare_is = free }, tt)
-  may_hear d spare grant maps brought free None is =
+  may_handle d spare grant maps brought free None is =
       let stranger = strangers d is brought in
       let unbegun : has_begun d.source w.begun ≡ false = h.known d.source ∙ ap is_some stranger.unbegun in
       let entered = strays_fits w d stranger.away unbegun in
@@ -76,28 +76,28 @@ module _ (a : Archive) (w : World) (h : Shows a w) where
 
   -- ---- the server
 
-  named_taken : (place : Option ℕ) (d : Datagram) → (named_in place d w).taken ≡ w.taken
+  named_taken : (position : Option ℕ) (d : Datagram) → (named_in position d w).taken ≡ w.taken
   named_taken (Some n) d = refl
   named_taken None d = refl
 
-  merged_by : (told : Option Taken) (ts : List Taken) (old new : Maps) → Merges told old new → (t : Taken) → taken_with told ts ≡ ts ++ t ∷ [] → IsMerged t.file old new
+  merged_by : (took : Option Taken) (ts : List Taken) (old new : Maps) → Merges took old new → (t : Taken) → taken_with took ts ≡ ts ++ t ∷ [] → IsMerged t.file old new
   merged_by None ts old new merges t e = not_more ts t e
   merged_by (Some u) ts old new merges t e =
       let same : u ≡ t = one_last ts u t e in
       subst (λ (x : Taken). IsMerged x.file old new) same merges
 
   -- for a world that equals the one after the deed
-  deed_merged : (m : Member) (v : World) → after_deed m.deed m.grant m.maps w ≡ v → (told : Option Taken) → v.taken ≡ taken_with told w.taken → Merges told a.server.maps v.server.maps → DeedMerged m w
-  deed_merged m v is told taken merges t e =
-      let made = merged_by told w.taken a.server.maps v.server.maps merges t (sym taken ∙ ap (λ (x : World). x.taken) (sym is) ∙ e) in
+  deed_merged : (m : Member) (v : World) → after_deed m.deed m.grant m.maps w ≡ v → (took : Option Taken) → v.taken ≡ taken_with took w.taken → Merges took a.server.maps v.server.maps → DeedMerged m w
+  deed_merged m v is took taken merges t e =
+      let made = merged_by took w.taken a.server.maps v.server.maps merges t (sym taken ∙ ap (λ (x : World). x.taken) (sym is) ∙ e) in
       let later = subst (λ (x : World). IsMerged t.file a.server.maps x.server.maps) (sym is) made in
-      subst (λ (s : Server). IsMerged t.file s.maps (after_deed m.deed m.grant m.maps w).server.maps) (sym h.server) later
+      subst (λ (s : Table). IsMerged t.file s.maps (after_deed m.deed m.grant m.maps w).server.maps) (sym h.server) later
 
   one_made : (b : Archive) (m : Member) (v : World) → after_deed m.deed m.grant m.maps w ≡ v → AllMayHappen (member_steps m w) w → DeedMerged m w → Shows b v → Makes b (m ∷ []) w
   one_made b m v is may merged shows =
       record { fit = (record { may = may; merged = merged }, tt); shows = subst (Shows b) (sym is) shows }
 
-  memory_is : (v : Verdict) → memory_of (grant_for v) ≡ v
+  memory_is : (v : Verdict) → memory_verdict (grant_for v) ≡ v
   memory_is granted = refl
   memory_is refused = refl
 
@@ -106,89 +106,89 @@ module _ (a : Archive) (w : World) (h : Shows a w) where
     request_d = arrival server_endpoint.host a.server.request from bytes
 
     abbrev request_v : World
-    request_v = named_in (place_of request_d w.net) request_d w
+    request_v = named_in (position_of request_d w.net) request_d w
 
-    abbrev request_x : Answer
-    request_x = server_request verdict spare from bytes a.server
+    abbrev request_x : TableAnswer
+    request_x = table_request verdict spare from bytes a.server
 
     request_is : (v : World) → v.server ≡ a.server → server_comes (a.server.request == v.server.request) spare (grant_for verdict) empty_maps request_d v ≡ after_request from spare (asked_of bytes) request_x v
     request_is v same =
-        ap (λ (s : Server). server_comes (a.server.request == s.request) spare (grant_for verdict) empty_maps request_d v) same
+        ap (λ (s : Table). server_comes (a.server.request == s.request) spare (grant_for verdict) empty_maps request_d v) same
         ∙ ap (λ (b : Bool). server_comes b spare (grant_for verdict) empty_maps request_d v) (eq-eqb a.server.request a.server.request refl)
-        ∙ ap (λ (s : Server). after_request from spare (asked_of bytes) (server_request (memory_of (grant_for verdict)) spare from bytes s) v) same
-        ∙ ap (λ (m : Verdict). after_request from spare (asked_of bytes) (server_request m spare from bytes a.server) v) (memory_is verdict)
+        ∙ ap (λ (s : Table). after_request from spare (asked_of bytes) (table_request (memory_verdict (grant_for verdict)) spare from bytes s) v) same
+        ∙ ap (λ (m : Verdict). after_request from spare (asked_of bytes) (table_request m spare from bytes a.server) v) (memory_is verdict)
 
     is_free : IsFree spare w
     is_free =
         record {
-          other = λ e. other (e ∙ ap (λ (s : Server). s.request) h.server);
-          free = ap (λ (s : Server). transfer_at spare s) h.server ∙ free;
+          other = λ e. other (e ∙ ap (λ (s : Table). s.request) h.server);
+          free = ap (λ (s : Table). transfer_at spare s) h.server ∙ free;
         }
 
-    pub request-makes : IsBrought request_d a → Makes (with_answer request_x.server request_x.told.taken (outs server_endpoint.host request_x.told.out) a) (hearing request_d spare (grant_for verdict) empty_maps ∷ []) w
+    pub request-makes : IsBrought request_d a → Makes (with_answer request_x.server request_x.step.taken (outs server_endpoint.host request_x.step.out) a) (reception request_d spare (grant_for verdict) empty_maps ∷ []) w
     request-makes brought =
-        let place = place_of request_d w.net in
-        let m = hearing request_d spare (grant_for verdict) empty_maps in
-        let shown = shows-named place request_d a w h in
+        let position = position_of request_d w.net in
+        let m = reception request_d spare (grant_for verdict) empty_maps in
+        let shown = shows-named position request_d a w h in
         let after = after_request from spare (asked_of bytes) request_x request_v in
         let is : after_deed m.deed m.grant m.maps w ≡ after = request_is request_v shown.server in
         let leaves = decoded_leaves verdict spare from (decode_bytes bytes) a.server in
         let shows = shows-served a request_v shown request_x (request-apart spare from a.server h.apart other verdict bytes) None _ in
-        one_made _ m after is (may_hear request_d spare m.grant m.maps brought (λ to. is_free) place refl)
-        (deed_merged m after is None (named_taken place request_d) leaves.1)
-        (subst (λ (o : Option Taken). Shows (with_answer request_x.server o (outs server_endpoint.host request_x.told.out) a) after) (sym leaves.0) shows)
+        one_made _ m after is (may_handle request_d spare m.grant m.maps brought (λ to. is_free) position refl)
+        (deed_merged m after is None (named_taken position request_d) leaves.1)
+        (subst (λ (o : Option Taken). Shows (with_answer request_x.server o (outs server_endpoint.host request_x.step.out) a) after) (sym leaves.0) shows)
 
   module _ (port : ℕ) (from : Endpoint) (bytes : List ℕ) (grant : Grant) (maps : Maps) (other : port ≢ a.server.request) where
     abbrev transfer_d : Datagram
     transfer_d = arrival server_endpoint.host port from bytes
 
     abbrev transfer_v : World
-    transfer_v = named_in (place_of transfer_d w.net) transfer_d w
+    transfer_v = named_in (position_of transfer_d w.net) transfer_d w
 
-    abbrev transfer_x : Answer
-    transfer_x = server_datagram grant maps port from bytes a.server
+    abbrev transfer_x : TableAnswer
+    transfer_x = table_datagram grant maps port from bytes a.server
 
     transfer_is : (v : World) → v.server ≡ a.server → server_comes (port == v.server.request) 0 grant maps transfer_d v ≡ after_transfer transfer_x v
     transfer_is v same =
-        ap (λ (s : Server). server_comes (port == s.request) 0 grant maps transfer_d v) same
+        ap (λ (s : Table). server_comes (port == s.request) 0 grant maps transfer_d v) same
         ∙ ap (λ (b : Bool). server_comes b 0 grant maps transfer_d v) (ne_eqb port a.server.request other)
-        ∙ ap (λ (s : Server). after_transfer (server_datagram grant maps port from bytes s) v) same
+        ∙ ap (λ (s : Table). after_transfer (table_datagram grant maps port from bytes s) v) same
 
     not_request : transfer_d.target ≡ record { host = server_endpoint.host; port = w.server.request } → ⊥
-    not_request to = other (ap (λ (e : Endpoint). e.port) to ∙ ap (λ (s : Server). s.request) h.server)
+    not_request to = other (ap (λ (e : Endpoint). e.port) to ∙ ap (λ (s : Table). s.request) h.server)
 
-    taken_more : (place : Option ℕ) → taken_with transfer_x.told.taken (named_in place transfer_d w).taken ≡ taken_with transfer_x.told.taken w.taken
-    taken_more place = ap (taken_with transfer_x.told.taken) (named_taken place transfer_d)
+    taken_more : (position : Option ℕ) → taken_with transfer_x.step.taken (named_in position transfer_d w).taken ≡ taken_with transfer_x.step.taken w.taken
+    taken_more position = ap (taken_with transfer_x.step.taken) (named_taken position transfer_d)
 
-    pub transfer-makes : IsBrought transfer_d a → Merges transfer_x.told.taken a.server.maps transfer_x.server.maps → Makes (with_answer transfer_x.server transfer_x.told.taken (outs server_endpoint.host transfer_x.told.out) a) (hearing transfer_d 0 grant maps ∷ []) w
+    pub transfer-makes : IsBrought transfer_d a → Merges transfer_x.step.taken a.server.maps transfer_x.server.maps → Makes (with_answer transfer_x.server transfer_x.step.taken (outs server_endpoint.host transfer_x.step.out) a) (reception transfer_d 0 grant maps ∷ []) w
     transfer-makes brought merges =
-        let place = place_of transfer_d w.net in
-        let m = hearing transfer_d 0 grant maps in
-        let shown = shows-named place transfer_d a w h in
+        let position = position_of transfer_d w.net in
+        let m = reception transfer_d 0 grant maps in
+        let shown = shows-named position transfer_d a w h in
         let after = after_transfer transfer_x transfer_v in
         let is : after_deed m.deed m.grant m.maps w ≡ after = transfer_is transfer_v shown.server in
-        one_made _ m after is (may_hear transfer_d 0 grant maps brought (λ to. absurd (not_request to)) place refl)
-        (deed_merged m after is transfer_x.told.taken (taken_more place) merges)
-        (shows-served a transfer_v shown transfer_x (datagram-apart port a.server h.apart grant maps from bytes) transfer_x.told.taken _)
+        one_made _ m after is (may_handle transfer_d 0 grant maps brought (λ to. absurd (not_request to)) position refl)
+        (deed_merged m after is transfer_x.step.taken (taken_more position) merges)
+        (shows-served a transfer_v shown transfer_x (datagram-apart port a.server h.apart grant maps from bytes) transfer_x.step.taken _)
 
   pub timeout-makes : (port : ℕ) →
-      let x = server_timeout port a.server in
-      Makes (with_answer x.server None (outs server_endpoint.host x.told.out) a) (does (server_waits_long port) ∷ []) w
+      let x = table_timeout port a.server in
+      Makes (with_answer x.server None (outs server_endpoint.host x.step.out) a) (does (server_waits_long port) ∷ []) w
   timeout-makes port =
-      let x = server_timeout port a.server in
+      let x = table_timeout port a.server in
       let m = does (server_waits_long port) in
       let after = after_transfer x w in
-      let is : after_deed m.deed m.grant m.maps w ≡ after = ap (λ (s : Server). after_transfer (server_timeout port s) w) h.server in
+      let is : after_deed m.deed m.grant m.maps w ≡ after = ap (λ (s : Table). after_transfer (table_timeout port s) w) h.server in
       let leaves = timeout_leaves (transfer_at port a.server) port a.server in
-      let shows = shows-served a w h x (timeout-apart port a.server h.apart) x.told.taken _ in
+      let shows = shows-served a w h x (timeout-apart port a.server h.apart) x.step.taken _ in
       one_made _ m after is (tt, tt)
       (deed_merged m after is None (ap (λ (o : Option Taken). taken_with o w.taken) leaves.0) leaves.1)
-      (subst (λ (o : Option Taken). Shows (with_answer x.server o (outs server_endpoint.host x.told.out) a) after) leaves.0 shows)
+      (subst (λ (o : Option Taken). Shows (with_answer x.server o (outs server_endpoint.host x.step.out) a) after) leaves.0 shows)
 
   pub restart-makes : (kept : Option (List Keeping)) → Makes (after_restart a.server.maps kept a) (does loads ∷ []) w
   restart-makes kept =
       one_made _ (does loads) (restarts w) refl (tt, tt)
-      (deed_merged (does loads) (restarts w) refl None refl (ap (λ (s : Server). s.maps) h.server)) (shows-restart kept a w h)
+      (deed_merged (does loads) (restarts w) refl None refl (ap (λ (s : Table). s.maps) h.server)) (shows-restart kept a w h)
 
   -- ---- a client
 
@@ -196,7 +196,7 @@ module _ (a : Archive) (w : World) (h : Shows a w) where
   begin-makes e operation away short =
       let m = does (starts e operation) in
       one_made _ m (begins e operation w) refl ((away, short), tt)
-      (deed_merged m (begins e operation w) refl None refl (ap (λ (s : Server). s.maps) h.server))
+      (deed_merged m (begins e operation w) refl None refl (ap (λ (s : Table). s.maps) h.server))
       (shows-begin a w h e operation)
 
   module _ (e : Endpoint) (c : Client) (away : e.host ≢ server_endpoint.host) (is : lookup (is_same e) a.clients ≡ Some c) where
@@ -205,29 +205,29 @@ module _ (a : Archive) (w : World) (h : Shows a w) where
       client_d = arrival e.host e.port from bytes
 
       abbrev client_v : World
-      client_v = named_in (place_of client_d w.net) client_d w
+      client_v = named_in (position_of client_d w.net) client_d w
 
-      abbrev client_x : client.Answer
+      abbrev client_x : client.ClientAnswer
       client_x = client_datagram verdict from bytes c
 
       client_is : (v : World) → v.clients ≡ a.clients → comes (e.host == server_endpoint.host) 0 (grant_for verdict) empty_maps client_d v ≡ after_client e c client_x v
       client_is v same =
           ap (λ (b : Bool). comes b 0 (grant_for verdict) empty_maps client_d v) (ne_eqb e.host server_endpoint.host away)
-          ∙ ap (λ (o : Option Client). client_hears o (grant_for verdict) client_d v) (ap (lookup (is_same e)) same ∙ is)
+          ∙ ap (λ (o : Option Client). client_receives o (grant_for verdict) client_d v) (ap (lookup (is_same e)) same ∙ is)
           ∙ ap (λ (m : Verdict). after_client e c (client_datagram m from bytes c) v) (memory_is verdict)
 
       not_server : client_d.target ≡ record { host = server_endpoint.host; port = w.server.request } → ⊥
       not_server to = away (ap (λ (f : Endpoint). f.host) to)
 
-      pub client-makes : IsBrought client_d a → Makes (with_client e client_x.client (outs e.host client_x.out) a) (hearing client_d 0 (grant_for verdict) empty_maps ∷ []) w
+      pub client-makes : IsBrought client_d a → Makes (with_client e client_x.client (outs e.host client_x.out) a) (reception client_d 0 (grant_for verdict) empty_maps ∷ []) w
       client-makes brought =
-          let place = place_of client_d w.net in
-          let m = hearing client_d 0 (grant_for verdict) empty_maps in
-          let shown = shows-named place client_d a w h in
+          let position = position_of client_d w.net in
+          let m = reception client_d 0 (grant_for verdict) empty_maps in
+          let shown = shows-named position client_d a w h in
           let after = after_client e c client_x client_v in
           let made : after_deed m.deed m.grant m.maps w ≡ after = client_is client_v shown.clients in
-          one_made _ m after made (may_hear client_d 0 m.grant m.maps brought (λ to. absurd (not_server to)) place refl)
-          (deed_merged m after made None (named_taken place client_d) (ap (λ (s : Server). s.maps) shown.server))
+          one_made _ m after made (may_handle client_d 0 m.grant m.maps brought (λ to. absurd (not_server to)) position refl)
+          (deed_merged m after made None (named_taken position client_d) (ap (λ (s : Table). s.maps) shown.server))
           (shows-client a client_v shown e c is client_x (datagram-ends verdict from bytes c))
 
     pub waits-makes :
@@ -240,5 +240,5 @@ module _ (a : Archive) (w : World) (h : Shows a w) where
         let made : after_deed m.deed m.grant m.maps w ≡ after = ap (λ (o : Option Client). client_waits o e w) (ap (lookup (is_same e)) h.clients ∙ is) in
         let begun : has_begun e w.begun ≡ true = h.known e ∙ ap is_some is in
         one_made _ m after made (begun, tt)
-        (deed_merged m after made None refl (ap (λ (s : Server). s.maps) h.server))
+        (deed_merged m after made None refl (ap (λ (s : Table). s.maps) h.server))
         (shows-client a w h e c is x (timeout-ends c))

@@ -7,11 +7,11 @@ use Rattle.tftp_ends.specs.declared.recv_state.RecvState.{RecvState}
 use Rattle.tftp_ends.specs.declared.recv_state.RecvState.TheVariants as recv
 use Rattle.tftp_ends.specs.Ends.{Verdict, Sender, Receiver, receiver_take, receiver_again, is_last_come, receiver_dallied}
 use Rattle.tftp_ends.specs.declared.limits.TheConstants.{DALLY}
-use Rattle.tftp_ends.specs.Heard.{Heard, nothing, stray, refusal, acked, block}
+use Rattle.tftp_ends.specs.Input.{Input, nothing, stray, refusal, acked, block}
 use Rattle.archive_client.specs.declared.state.State.{State}
 use Rattle.archive_client.specs.declared.state.State.TheVariants as state
 use Rattle.archive_client.proofs.Machine.{client_at}
-use Rattle.archive_client.specs.Client.{Phase, asking, sending, receiving, failed, Client, state_of, phase_state, recv_state, phase_file, is_phase_over, is_send_over, is_recv_over, is_over, heard, phase_peer, client_heard, client_unless_over, client_datagram, client_timeout, get_waited, get_sent}
+use Rattle.archive_client.specs.Client.{Phase, asking, sending, receiving, failed, Client, state_of, phase_state, recv_state, phase_file, is_phase_over, is_send_over, is_recv_over, is_over, client_input, phase_peer, client_by_input, client_unless_over, client_datagram, client_timeout, get_waited, get_sent}
 use Rattle.archive_world.specs.World.{newly_sent, newly_got}
 
 pub record Ends (c next : Client) : Type 0 where
@@ -53,9 +53,9 @@ again_phase true peer r c = refl
 again_phase false peer r c = refl
 
 -- with the whole file
-complete_phase : (h : Heard) (verdict : Verdict) (from port peer : ℕ) (server : Endpoint) (count misses : ℕ) (file : Option (List ℕ)) →
+complete_phase : (h : Input) (verdict : Verdict) (from port peer : ℕ) (server : Endpoint) (count misses : ℕ) (file : Option (List ℕ)) →
     let r : Receiver = record { count = count; file = file; misses = misses; state = recv.Complete } in
-    (client_heard h verdict from (client_at port server (receiving peer r))).client.phase ≡ receiving peer r
+    (client_by_input h verdict from (client_at port server (receiving peer r))).client.phase ≡ receiving peer r
 complete_phase nothing verdict from port peer server count misses file = refl
 complete_phase stray verdict from port peer server count misses file = refl
 complete_phase (refusal code) verdict from port peer server count misses file = refl
@@ -64,24 +64,24 @@ complete_phase (block n body) verdict from port peer server count misses file =
     let r : Receiver = record { count = count; file = file; misses = misses; state = recv.Complete } in
     again_phase (is_last_come n r) peer r (client_at port server (receiving peer r))
 
-send_heard : (s : Sender) (state : SendState) → s.state ≡ state → is_send_over state ≡ false → state ≡ send.Running
-send_heard s send.Running is over = refl
-send_heard s send.Finished is over = absurd cc
-send_heard s send.TimedOut is over = absurd cc
+send_received : (s : Sender) (state : SendState) → s.state ≡ state → is_send_over state ≡ false → state ≡ send.Running
+send_received s send.Running is over = refl
+send_received s send.Finished is over = absurd cc
+send_received s send.TimedOut is over = absurd cc
 
-receiver_ends : (h : Heard) (verdict : Verdict) (from port peer : ℕ) (server : Endpoint) (count misses : ℕ) (file : Option (List ℕ)) (s : RecvState) → is_recv_over s ≡ false →
+receiver_ends : (h : Input) (verdict : Verdict) (from port peer : ℕ) (server : Endpoint) (count misses : ℕ) (file : Option (List ℕ)) (s : RecvState) → is_recv_over s ≡ false →
     let c = client_at port server (receiving peer (record { count = count; file = file; misses = misses; state = s })) in
-    Ends c (client_heard h verdict from c).client
+    Ends c (client_by_input h verdict from c).client
 receiver_ends h verdict from port peer server count misses file recv.Running over = ends_running _ _ refl
 receiver_ends h verdict from port peer server count misses file recv.Complete over =
     ends_same _ _ (complete_phase h verdict from port peer server count misses file)
 receiver_ends h verdict from port peer server count misses file recv.TimedOut over = absurd cc
 receiver_ends h verdict from port peer server count misses file recv.Over over = absurd cc
 
-phase_ends : (h : Heard) (verdict : Verdict) (from port : ℕ) (server : Endpoint) (phase : Phase) → is_phase_over phase ≡ false → Ends (client_at port server phase) (client_heard h verdict from (client_at port server phase)).client
+phase_ends : (h : Input) (verdict : Verdict) (from port : ℕ) (server : Endpoint) (phase : Phase) → is_phase_over phase ≡ false → Ends (client_at port server phase) (client_by_input h verdict from (client_at port server phase)).client
 phase_ends h verdict from port server (asking operation misses) over = ends_running _ _ refl
 phase_ends h verdict from port server (sending peer s) over =
-    ends_running _ _ (ap (λ (x : SendState). phase_state (sending peer (record { file = s.file; current = s.current; misses = s.misses; state = x }))) (send_heard s s.state refl over))
+    ends_running _ _ (ap (λ (x : SendState). phase_state (sending peer (record { file = s.file; current = s.current; misses = s.misses; state = x }))) (send_received s s.state refl over))
 phase_ends h verdict from port server (receiving peer r) over =
     receiver_ends h verdict from port peer server r.count r.misses r.file r.state over
 phase_ends h verdict from port server (failed why) over = absurd cc
@@ -89,7 +89,7 @@ phase_ends h verdict from port server (failed why) over = absurd cc
 unless_ends : (over : Bool) (verdict : Verdict) (from : Endpoint) (bytes : List ℕ) (c : Client) → is_over c ≡ over → Ends c (client_unless_over over verdict from bytes c).client
 unless_ends true verdict from bytes c is = ends_same c c refl
 unless_ends false verdict from bytes c is =
-    phase_ends (heard c.server.host (phase_peer c.phase) from bytes) verdict from.port c.port c.server c.phase is
+    phase_ends (client_input c.server.host (phase_peer c.phase) from bytes) verdict from.port c.port c.server c.phase is
 
 pub datagram-ends : (verdict : Verdict) (from : Endpoint) (bytes : List ℕ) (c : Client) → Ends c (client_datagram verdict from bytes c).client
 datagram-ends verdict from bytes c = unless_ends (is_over c) verdict from bytes c refl

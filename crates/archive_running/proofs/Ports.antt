@@ -20,43 +20,43 @@ use Rattle.tftp_ends.specs.declared.recv_state.RecvState.{RecvState}
 use Rattle.tftp_ends.specs.declared.recv_state.RecvState.TheVariants as recv
 use Rattle.tftp_ends.specs.declared.recv_fault.RecvFault.{RecvFault}
 use Rattle.tftp_ends.specs.Ends.{Verdict, granted, refused, answer_of, Receiver, SendAnswer, RecvAnswer, receiver_data, receiver_take, receiver_timeout, sender_ack, sender_timeout}
-use Rattle.tftp_ends.specs.Heard.{Heard, nothing, stray, refusal, acked, block}
+use Rattle.tftp_ends.specs.Input.{Input, nothing, stray, refusal, acked, block}
 use Rattle.tws_file.specs.declared.«ruleset».Ruleset.{Ruleset}
 use Rattle.tws_best.specs.Best.{Collected}
-use Rattle.archive_table.specs.Server.{Server, Maps, Transfer, End, sending, receiving, Grant, all, no_memory, unkept, memory_of, map_of, has_place, at_port, with_live, opens_if, read_fits, read_placed, read_named, read_asked, write_placed, write_asked, request_packet, request_decoded, server_request, heard, transfer_at, first_port, port_above, file_come, file_asked, block_answered, data_at, sender_goes_on, ack_at, transfer_heard, datagram_at, server_datagram, receiver_goes_on, waits_at, timeout_at, server_timeout, has_long_text}
-use Rattle.tws_file.specs.Names.{kind_named}
+use Rattle.archive_table.specs.Table.{Table, Maps, Transfer, End, sending, receiving, Grant, all, no_memory, unkept, memory_verdict, map_of, has_slot, at_port, with_live, opens_if, read_fits, read_with_slot, read_named, read_asked, write_with_slot, write_asked, request_by_packet, request_decoded, table_request, transfer_input, transfer_at, first_live, port_above, file_come, file_asked, block_answered, data_at, sending_goes_on, ack_at, transfer_by_input, datagram_at, table_datagram, receiving_goes_on, waits_at, timeout_at, table_timeout, has_long_text}
+use Rattle.tws_file.specs.Names.{ruleset_named}
 
-abbrev pub IsApart : Server → Type 0
+abbrev pub IsApart : Table → Type 0
 IsApart s = All (λ p. p ≢ s.request) (keys_of s.live)
 
-first_kept : (P : ℕ → Type 0) (test : ℕ × Transfer → Bool) (es : List (ℕ × Transfer)) → All P (keys_of es) → (port : ℕ) → first_port (filter test es) ≡ Some port → P port
+first_kept : (P : ℕ → Type 0) (test : ℕ × Transfer → Bool) (es : List (ℕ × Transfer)) → All P (keys_of es) → (port : ℕ) → first_live (filter test es) ≡ Some port → P port
 first_kept P test [] fits port e = absurd cc
 first_kept P test (x ∷ es) fits port e = by (test x) (first_kept P test es (All-tail P _ _ fits) port) e
   where
-    by : (b : Bool) → (first_port (filter test es) ≡ Some port → P port) → first_port (cond b (x ∷ filter test es) (filter test es)) ≡ Some port → P port
+    by : (b : Bool) → (first_live (filter test es) ≡ Some port → P port) → first_live (cond b (x ∷ filter test es) (filter test es)) ≡ Some port → P port
     by true later found = let same : x.0 ≡ port = cc in subst P same (All-head P _ _ fits)
     by false later found = later found
 
-pub above-apart : (last : ℕ) (s : Server) → IsApart s → (port : ℕ) → port_above last s ≡ Some port → port ≢ s.request
+pub above-apart : (last : ℕ) (s : Table) → IsApart s → (port : ℕ) → port_above last s ≡ Some port → port ≢ s.request
 above-apart last s apart port e =
     first_kept (λ p. p ≢ s.request) (λ e. range_contains nat_cmp (Excluded last) Unbounded e.0) s.live apart port e
 
 -- ---- the transfers after a step
 
-set_apart : (port : ℕ) (t : Transfer) (s : Server) → IsApart s → IsApart (with_live (set_value (at_port port) s.live t) s)
+set_apart : (port : ℕ) (t : Transfer) (s : Table) → IsApart s → IsApart (with_live (set_value (at_port port) s.live t) s)
 set_apart port t s apart =
     subst (λ ps. All (λ p. p ≢ s.request) ps) (sym (keys-set_value (at_port port) s.live t)) apart
 
-remove_apart : (port : ℕ) (s : Server) → IsApart s → IsApart (with_live (remove_entry (at_port port) s.live) s)
+remove_apart : (port : ℕ) (s : Table) → IsApart s → IsApart (with_live (remove_entry (at_port port) s.live) s)
 remove_apart port s apart =
     All-map-remove_entry (at_port port) (λ (e : ℕ × Transfer). e.0) (λ p. p ≢ s.request) s.live apart
 
-insert_apart : (port : ℕ) (t : Transfer) (s : Server) → IsApart s → port ≢ s.request → IsApart (with_live (insert_entry nat_cmp s.live port t) s)
+insert_apart : (port : ℕ) (t : Transfer) (s : Table) → IsApart s → port ≢ s.request → IsApart (with_live (insert_entry nat_cmp s.live port t) s)
 insert_apart port t s apart other = All-keys-insert_entry nat_cmp port t (λ p. p ≢ s.request) s.live apart other
 
 -- ---- a request
 
-module _ (spare : ℕ) (from : Endpoint) (s : Server) (apart : IsApart s) (other : spare ≢ s.request) where
+module _ (spare : ℕ) (from : Endpoint) (s : Table) (apart : IsApart s) (other : spare ≢ s.request) where
   opens_apart : (verdict : Verdict) (end : End) (first : List ℕ) → IsApart (opens_if verdict spare from end first s).server
   opens_apart granted end first = insert_apart spare (record { peer = from; end = end }) s apart other
   opens_apart refused end first = apart
@@ -65,27 +65,27 @@ module _ (spare : ℕ) (from : Endpoint) (s : Server) (apart : IsApart s) (other
   fits_apart true verdict c = apart
   fits_apart false verdict c = opens_apart verdict _ _
 
-  read_apart : (place : Bool) (verdict : Verdict) (c : Collected) → IsApart (read_placed place verdict spare from c s).server
+  read_apart : (position : Bool) (verdict : Verdict) (c : Collected) → IsApart (read_with_slot position verdict spare from c s).server
   read_apart true verdict c = fits_apart (has_long_text c) verdict c
   read_apart false verdict c = apart
 
   named_apart : (name : Option Ruleset) (verdict : Verdict) → IsApart (read_named name verdict spare from s).server
-  named_apart (Some kind) verdict = read_apart (has_place s) verdict (map_of kind s.maps)
+  named_apart (Some rules) verdict = read_apart (has_slot s) verdict (map_of rules s.maps)
   named_apart None verdict = apart
 
   asked_apart : (octet : Bool) (verdict : Verdict) (name : List ℕ) → IsApart (read_asked octet verdict spare from name s).server
-  asked_apart true verdict name = named_apart (kind_named name) verdict
+  asked_apart true verdict name = named_apart (ruleset_named name) verdict
   asked_apart false verdict name = apart
 
-  write_apart : (place : Bool) (verdict : Verdict) → IsApart (write_placed place verdict spare from s).server
+  write_apart : (position : Bool) (verdict : Verdict) → IsApart (write_with_slot position verdict spare from s).server
   write_apart true verdict = opens_apart verdict _ _
   write_apart false verdict = apart
 
   octet_apart : (octet : Bool) (verdict : Verdict) → IsApart (write_asked octet verdict spare from s).server
-  octet_apart true verdict = write_apart (has_place s) verdict
+  octet_apart true verdict = write_apart (has_slot s) verdict
   octet_apart false verdict = apart
 
-  packet_apart : (verdict : Verdict) (packet : Packet) → IsApart (request_packet verdict spare from packet s).server
+  packet_apart : (verdict : Verdict) (packet : Packet) → IsApart (request_by_packet verdict spare from packet s).server
   packet_apart verdict (read name mode) = asked_apart (is_octet mode) verdict name
   packet_apart verdict (write name mode) = octet_apart (is_octet mode) verdict
   packet_apart verdict (data_block n body) = apart
@@ -96,19 +96,19 @@ module _ (spare : ℕ) (from : Endpoint) (s : Server) (apart : IsApart s) (other
   decoded_apart verdict (Ok packet) = packet_apart verdict packet
   decoded_apart verdict (Err e) = apart
 
-  pub request-apart : (verdict : Verdict) (bytes : List ℕ) → IsApart (server_request verdict spare from bytes s).server
+  pub request-apart : (verdict : Verdict) (bytes : List ℕ) → IsApart (table_request verdict spare from bytes s).server
   request-apart verdict bytes = decoded_apart verdict (decode_bytes bytes)
 
 -- ---- a datagram and a time-out
 
-module _ (port : ℕ) (s : Server) (apart : IsApart s) where
+module _ (port : ℕ) (s : Table) (apart : IsApart s) where
   module _ (peer : Endpoint) where
-    sender_apart : (state : SendState) (a : SendAnswer) → IsApart (sender_goes_on state port peer a s).server
+    sender_apart : (state : SendState) (a : SendAnswer) → IsApart (sending_goes_on state port peer a s).server
     sender_apart send.Running a = set_apart port _ s apart
     sender_apart send.Finished a = remove_apart port s apart
     sender_apart send.TimedOut a = remove_apart port s apart
 
-    receiver_apart : (state : RecvState) (a : RecvAnswer) → IsApart (receiver_goes_on state port peer a s).server
+    receiver_apart : (state : RecvState) (a : RecvAnswer) → IsApart (receiving_goes_on state port peer a s).server
     receiver_apart recv.Running a = set_apart port _ s apart
     receiver_apart recv.Complete a = set_apart port _ s apart
     receiver_apart recv.TimedOut a = remove_apart port s apart
@@ -134,30 +134,30 @@ module _ (port : ℕ) (s : Server) (apart : IsApart s) where
     data_apart : (end : End) (grant : Grant) (maps : Maps) (n : ℕ) (body : List ℕ) → IsApart (data_at end grant maps port peer n body s).server
     data_apart (sending e) grant maps n body = apart
     data_apart (receiving r) grant maps n body =
-        let a = receiver_data (memory_of grant) n body r in
+        let a = receiver_data (memory_verdict grant) n body r in
         block_apart (answer_of a.result) grant maps a.receiver
 
     ack_apart : (end : End) (n : ℕ) → IsApart (ack_at end port peer n s).server
     ack_apart (sending e) n = sender_apart (sender_ack n e).sender.state (sender_ack n e)
     ack_apart (receiving r) n = apart
 
-  heard_apart : (h : Heard) (grant : Grant) (maps : Maps) (from : Endpoint) (t : Transfer) → IsApart (transfer_heard h grant maps port from t s).server
-  heard_apart nothing grant maps from t = apart
-  heard_apart stray grant maps from t = apart
-  heard_apart (refusal code) grant maps from t = remove_apart port s apart
-  heard_apart (acked n) grant maps from t = ack_apart t.peer t.end n
-  heard_apart (block n body) grant maps from t = data_apart t.peer t.end grant maps n body
+  received_apart : (h : Input) (grant : Grant) (maps : Maps) (from : Endpoint) (t : Transfer) → IsApart (transfer_by_input h grant maps port from t s).server
+  received_apart nothing grant maps from t = apart
+  received_apart stray grant maps from t = apart
+  received_apart (refusal code) grant maps from t = remove_apart port s apart
+  received_apart (acked n) grant maps from t = ack_apart t.peer t.end n
+  received_apart (block n body) grant maps from t = data_apart t.peer t.end grant maps n body
 
   found_apart : (found : Option Transfer) (grant : Grant) (maps : Maps) (from : Endpoint) (bytes : List ℕ) → IsApart (datagram_at found grant maps port from bytes s).server
-  found_apart (Some t) grant maps from bytes = heard_apart (heard t.peer from bytes) grant maps from t
+  found_apart (Some t) grant maps from bytes = received_apart (transfer_input t.peer from bytes) grant maps from t
   found_apart None grant maps from bytes = apart
 
-  pub datagram-apart : (grant : Grant) (maps : Maps) (from : Endpoint) (bytes : List ℕ) → IsApart (server_datagram grant maps port from bytes s).server
+  pub datagram-apart : (grant : Grant) (maps : Maps) (from : Endpoint) (bytes : List ℕ) → IsApart (table_datagram grant maps port from bytes s).server
   datagram-apart grant maps from bytes = found_apart (transfer_at port s) grant maps from bytes
 
   at_apart : (found : Option Transfer) → IsApart (timeout_at found port s).server
   at_apart (Some t) = waits_apart t.peer t.end
   at_apart None = apart
 
-  pub timeout-apart : IsApart (server_timeout port s).server
+  pub timeout-apart : IsApart (table_timeout port s).server
   timeout-apart = at_apart (transfer_at port s)

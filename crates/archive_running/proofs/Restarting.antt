@@ -5,7 +5,7 @@ use Rattle.tftp_packet.specs.Decode.{decode_bytes}
 use Rattle.tftp_ends.specs.Ends.{Verdict}
 use Rattle.tws_file.specs.declared.«ruleset».Ruleset.TheVariants.{Lynx, Ms}
 use Rattle.tws_best.specs.Best.{Collected, IsCollected}
-use Rattle.archive_table.specs.Server.{Server, Maps, Taken, Answer, Grant, all, no_memory, unkept, transfer_at, server_datagram}
+use Rattle.archive_table.specs.Table.{Table, Maps, Taken, TableAnswer, Grant, all, no_memory, unkept, transfer_at, table_datagram}
 use Rattle.archive_table.specs.Keeper.{Keeping, KeepsOne, KeepsMaps, FailsKeepOf, StepKeeps}
 use Rattle.archive_turns.specs.Turn.{Replies, Receipt, datagram, nothing, fault, Answers, Asks, is_usable, request_used, request_spared, request_admitted, request_received, received_asks, transfer_received, KeepsAsked, Walk, walk_on, next_visit, next_asks, IsPass}
 use Rattle.archive_turns.specs.Timers.{timers_after, restart}
@@ -14,38 +14,38 @@ use Rattle.archive_turns.specs.declared.mode.Mode.{Mode}
 use Rattle.archive_turns.specs.declared.next.Next.{Next}
 use Rattle.archive_turns.specs.declared.next.Next.TheVariants as next
 use Rattle.archive_turns.specs.declared.timer.Timer.{Timer}
-use Rattle.archive_world.specs.Restarts.{HasKept, IsTextAt, AreOwnRules}
+use Rattle.archive_world.specs.Restarts.{HasKept, IsTextAt, HaveOwnRuleset}
 use Rattle.archive_world.proofs.Loading.{step-stays_kept, loads-the_same}
 use Rattle.archive_world.proofs.Remaining.{decoded_leaves, timeout_leaves, found_takes}
 use Rattle.archive_running.specs.Archive.{LoadsKept}
 
--- if the keeper tells its list
+-- if the keeper has a log
 abbrev pub KeptIn : Option (List Keeping) → Maps → Type 0
 KeptIn None maps = Unit {0}
 KeptIn (Some log) maps = HasKept log maps
 
--- ---- a keeper that told nothing before tells nothing afterwards
+-- ---- a keeper without a log before has none afterwards
 
-one_untold : (old new : Collected) (now : List Keeping) → KeepsOne old new None (Some now) → ⊥
-one_untold old new now (inl same) = same.1
-one_untold old new now (inr other) = other.1
+one_unreported : (old new : Collected) (now : List Keeping) → KeepsOne old new None (Some now) → ⊥
+one_unreported old new now (inl same) = same.1
+one_unreported old new now (inr other) = other.1
 
-maps_untold : (old new : Maps) (now : List Keeping) → KeepsMaps old new None (Some now) → ⊥
-maps_untold old new now (inl lynx) = one_untold old.lynx new.lynx now lynx.1
-maps_untold old new now (inr ms) = one_untold old.ms new.ms now ms.1
+maps_unreported : (old new : Maps) (now : List Keeping) → KeepsMaps old new None (Some now) → ⊥
+maps_unreported old new now (inl lynx) = one_unreported old.lynx new.lynx now lynx.1
+maps_unreported old new now (inr ms) = one_unreported old.ms new.ms now ms.1
 
 neither : ⊥ ⊎ ⊥ → ⊥
 neither (inl first) = first
 neither (inr second) = second
 
-fails_untold : (old new : Maps) (now : List Keeping) → FailsKeepOf old new None (Some now) → ⊥
-fails_untold old new now (inl lynx) = neither lynx.2
-fails_untold old new now (inr ms) = neither ms.2
+fails_unreported : (old new : Maps) (now : List Keeping) → FailsKeepOf old new None (Some now) → ⊥
+fails_unreported old new now (inl lynx) = neither lynx.2
+fails_unreported old new now (inr ms) = neither ms.2
 
-step_untold : (grant : Grant) (wanted : Option Taken) (old new : Maps) (now : List Keeping) → StepKeeps grant wanted old new None (Some now) → ⊥
-step_untold all wanted old new now keeps = maps_untold old new now keeps
-step_untold no_memory wanted old new now keeps = keeps
-step_untold unkept wanted old new now keeps = fails_untold old keeps.0 now keeps.2
+step_unreported : (grant : Grant) (wanted : Option Taken) (old new : Maps) (now : List Keeping) → StepKeeps grant wanted old new None (Some now) → ⊥
+step_unreported all wanted old new now keeps = maps_unreported old new now keeps
+step_unreported no_memory wanted old new now keeps = keeps
+step_unreported unkept wanted old new now keeps = fails_unreported old keeps.0 now keeps.2
 
 -- ---- a step
 
@@ -54,22 +54,22 @@ abbrev pub IsFine : Option Asks → (old new : Maps) → Type 0
 IsFine (Some a) old new = (a.grant ≡ all) ⊎ (new ≡ old)
 IsFine None old new = new ≡ old
 
-pub asked-kept : (asks : Option Asks) (old new : Maps) (kept now : Option (List Keeping)) → KeepsAsked asks old new kept now → IsFine asks old new → AreOwnRules new → KeptIn kept old → KeptIn now new
+pub asked-kept : (asks : Option Asks) (old new : Maps) (kept now : Option (List Keeping)) → KeepsAsked asks old new kept now → IsFine asks old new → HaveOwnRuleset new → KeptIn kept old → KeptIn now new
 asked-kept None old new kept now keeps same rules has =
     subst (λ (o : Option (List Keeping)). KeptIn o new) (sym keeps) (subst (KeptIn kept) (sym same) has)
 asked-kept (Some a) old new kept None keeps fine rules has = tt
 asked-kept (Some a) old new (Some before) (Some after) keeps fine rules has =
     step-stays_kept a.grant a.wanted old new before after keeps fine rules has
 asked-kept (Some a) old new None (Some after) keeps fine rules has =
-    absurd (step_untold a.grant a.wanted old new after keeps)
+    absurd (step_unreported a.grant a.wanted old new after keeps)
 
 -- ---- a visit
 
-module _ (s : Server) where
-  datagram_fine : (grant : Grant) (maps : Maps) (port : ℕ) (from : Endpoint) (bytes : List ℕ) → (grant ≡ all) ⊎ ((server_datagram grant maps port from bytes s).server.maps ≡ s.maps)
+module _ (s : Table) where
+  datagram_fine : (grant : Grant) (maps : Maps) (port : ℕ) (from : Endpoint) (bytes : List ℕ) → (grant ≡ all) ⊎ ((table_datagram grant maps port from bytes s).server.maps ≡ s.maps)
   datagram_fine grant maps port from bytes =
       ⊎_elim
-      (λ leaves. inr (ap (λ (a : Answer). a.server.maps) (leaves.2 maps) ∙ leaves.1.1))
+      (λ leaves. inr (ap (λ (a : TableAnswer). a.server.maps) (leaves.2 maps) ∙ leaves.1.1))
       (λ takes. inl takes.2)
       (found_takes (transfer_at port s) grant port from bytes s)
 
@@ -110,16 +110,16 @@ walk_maps (e ∷ late) due k =
 -- ---- a turn or a round
 
 -- by what the visit and the time-outs do to the collections
-ends_kept : (asks : Option Asks) (old mid new : Maps) (kept now : Option (List Keeping)) → KeepsAsked asks old mid kept now → IsFine asks old mid → new ≡ mid → AreOwnRules new → KeptIn kept old → KeptIn now new
+ends_kept : (asks : Option Asks) (old mid new : Maps) (kept now : Option (List Keeping)) → KeepsAsked asks old mid kept now → IsFine asks old mid → new ≡ mid → HaveOwnRuleset new → KeptIn kept old → KeptIn now new
 ends_kept asks old mid new kept now keeps fine is rules has =
-    subst (KeptIn now) (sym is) (asked-kept asks old mid kept now keeps fine (subst AreOwnRules is rules) has)
+    subst (KeptIn now) (sym is) (asked-kept asks old mid kept now keeps fine (subst HaveOwnRuleset is rules) has)
 
-pub pass-kept : (mode : Mode) (n : Next) (old new : Server) (timers left : List Timer) (took : Bool) (calls : List Entry) (kept now : Option (List Keeping)) → IsPass mode n old new timers left took calls kept now → AreOwnRules new.maps → KeptIn kept old.maps → KeptIn now new.maps
+pub pass-kept : (mode : Mode) (n : Next) (old new : Table) (timers left : List Timer) (took : Bool) (calls : List Entry) (kept now : Option (List Keeping)) → IsPass mode n old new timers left took calls kept now → HaveOwnRuleset new.maps → KeptIn kept old.maps → KeptIn now new.maps
 pass-kept mode n old new timers left took calls kept now p rules has =
     let v = next_visit n p.answers old in
     ends_kept (next_asks n p.answers old) old.maps v.server.maps new.maps kept now p.keeps
     (visit_fine old n p.answers)
-    (ap (λ (s : Server). s.maps) p.table ∙ walk_maps p.late (restart mode) (record { server = v.server; timers = timers_after mode v.change timers; calls = [] }))
+    (ap (λ (s : Table). s.maps) p.table ∙ walk_maps p.late (restart mode) (record { server = v.server; timers = timers_after mode v.change timers; calls = [] }))
     rules has
 
 -- ---- a restart
@@ -135,10 +135,10 @@ pub restart-same : (before now : Option (List Keeping)) (old new : Maps) → Loa
 restart-same None now old new loads has lynx ms =
     (loads.1, subst (λ (o : Option (List Keeping)). KeptIn o old) (sym loads.0) tt)
 restart-same (Some log) None old new loads has lynx ms = absurd loads
-restart-same (Some log) (Some told) old new loads has lynx ms =
-    let kept : HasKept told old = record {
+restart-same (Some log) (Some reported) old new loads has lynx ms =
+    let kept : HasKept reported old = record {
       lynx = subst (λ (text : Option (List ℕ)). IsTextAt Lynx text old.lynx) (sym (loads.0 Lynx)) has.lynx;
       ms = subst (λ (text : Option (List ℕ)). IsTextAt Ms text old.ms) (sym (loads.0 Ms)) has.ms;
     } in
-    let same = loads-the_same told old kept lynx ms new.lynx new.ms loads.1 loads.2 in
+    let same = loads-the_same reported old kept lynx ms new.lynx new.ms loads.1 loads.2 in
     (both_are new old same.0 same.1, kept)

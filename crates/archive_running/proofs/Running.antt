@@ -6,26 +6,26 @@ use Rattle.std.proofs.lemmas.Map.Steps.{set_value_same}
 use Rattle.tftp_packet.specs.declared.endpoint.Endpoint.{Endpoint}
 use Rattle.tftp_ends.specs.Ends.{Verdict}
 use Rattle.tws_file.specs.declared.«ruleset».Ruleset.TheVariants.{Lynx, Ms}
-use Rattle.archive_table.specs.Server.{Server, Maps, empty_maps, is_same}
+use Rattle.archive_table.specs.Table.{Table, Maps, empty_maps, is_same}
 use Rattle.archive_table.specs.Keeper.{Keeping}
 use Rattle.archive_client.specs.declared.state.State.{State}
 use Rattle.archive_client.specs.declared.state.State.TheVariants as state
-use Rattle.archive_client.specs.Client.{Operation, Client, client_start, client_datagram, client_timeout, state_of, file_of, is_too_long}
+use Rattle.archive_client.specs.Client.{Operation, Client, client_start, client_datagram, client_timeout, state_of, file_or_client, is_too_long}
 use Rattle.archive_turns.specs.declared.limits.TheConstants.{QUIET_TURNS}
 use Rattle.archive_turns.specs.Wire.{Entry}
 use Rattle.archive_turns.specs.Turn.{Replies, Receipt, datagram, nothing, fault}
-use Rattle.archive_turns.specs.Run.{Run, IsRunTurn, run_received, run_waited, begin_sized, begin_opened, put_result, Writes, WritesGot}
+use Rattle.archive_turns.specs.Run.{Run, IsRunTurn, run_received, run_waited, begin_sized, begin_opened, put_result, WritesFetched, WritesGot}
 use Rattle.archive_world.specs.World.{Datagram, World, server_endpoint, start_from, start, run_from, AllMayHappen, AllMerged}
 use Rattle.archive_world.specs.Headline.{IsOwn, AreOver, HasOwnPorts, ClientsHeadline, Headline, SentOnce, IsFinishedGet}
 use Rattle.archive_world.specs.Traces.{Member, starts, loads, trace_from, trace_steps, AllDeedsMerged}
-use Rattle.archive_world.specs.Restarts.{AreOwnRules}
+use Rattle.archive_world.specs.Restarts.{HaveOwnRuleset}
 use Rattle.archive_world.proofs.Places.{Has-contains, Has-from_contains}
 use Rattle.archive_world.proofs.Invariant.{AreBest, none-over, start_from-best}
 use Rattle.archive_world.proofs.Collecting.{best-collected, run_from-best}
-use Rattle.archive_world.proofs.Persisting.{own-rules}
+use Rattle.archive_world.proofs.Persisting.{own-ruleset}
 use Rattle.archive_world.proofs.Tracing.{trace-makes, trace_merged, trace-clients, trace-headline}
-use Rattle.archive_running.specs.Members.{sent_by, come_to, does, received_members, quiet_members, client_members}
-use Rattle.archive_running.specs.Archive.{Archive, idle, IsStrangers, Brings, own_endpoint, after_begin, after_client, after_restart, LoadsKept, Moves, server_turns, server_rounds, server_restarts, client_begins, client_turns, Reaches, told, untold, more, Mirrors, WritesFinished}
+use Rattle.archive_running.specs.Members.{sent_in_calls, come_to, does, received_members, quiet_members, client_members}
+use Rattle.archive_running.specs.Archive.{Archive, idle, IsStrangers, Brings, own_endpoint, after_begin, after_client_turn, after_restart, LoadsKept, Moves, server_turns, server_rounds, server_restarts, client_begins, client_turns, Reaches, reported, unreported, more, Mirrors, WritesFinished}
 use Rattle.archive_running.proofs.Fitting.{all-may, all-merged}
 use Rattle.archive_running.proofs.Showing.{Shows, with_client, shows-mirrors}
 use Rattle.archive_running.proofs.Coming.{Makes, IsBrought, begin-makes, client-makes, waits-makes, restart-makes}
@@ -43,7 +43,7 @@ shows-idle a w e c is h =
 module _ (a : Archive) (w : World) (h : Shows a w) (host : ℕ) (r : Run) (away : host ≢ server_endpoint.host) (is : lookup (is_same (own_endpoint host r)) a.clients ≡ Some r.client) where
   waited_made : (last : Bool) (ok : Bool) →
       let ran = run_waited last r ok in
-      Makes (with_client (own_endpoint host r) ran.run.client (sent_by host ran.calls) a) (quiet_members last host r) w
+      Makes (with_client (own_endpoint host r) ran.run.client (sent_in_calls host ran.calls) a) (quiet_members last host r) w
   waited_made true ok =
       subst (λ (l : List Datagram). Makes (with_client (own_endpoint host r) (client_timeout r.client).client l a) (quiet_members true host r) w)
       (sym (sent-sendings host (client_timeout r.client).out ok))
@@ -52,22 +52,22 @@ module _ (a : Archive) (w : World) (h : Shows a w) (host : ℕ) (r : Run) (away 
 
   received_made : (receipt : Receipt) (verdict : Verdict) (ok : Bool) →
       let ran = run_received receipt verdict ok r in
-      Brought host ran.calls a → Makes (with_client (own_endpoint host r) ran.run.client (sent_by host ran.calls) a) (received_members receipt verdict host r) w
+      Brought host ran.calls a → Makes (with_client (own_endpoint host r) ran.run.client (sent_in_calls host ran.calls) a) (received_members receipt verdict host r) w
   received_made (datagram from bytes) verdict ok brought =
       let x = client_datagram verdict from bytes r.client in
       subst (λ (l : List Datagram). Makes (with_client (own_endpoint host r) x.client l a) (received_members (datagram from bytes) verdict host r) w)
       (sym (sent-sendings host x.out ok))
-      (client-makes a w h (own_endpoint host r) r.client away is from bytes verdict (brought _ (record { place = 0; is = refl })))
+      (client-makes a w h (own_endpoint host r) r.client away is from bytes verdict (brought _ (record { position = 0; is = refl })))
   received_made nothing verdict ok brought = waited_made (nat_le r.left 1) ok
   received_made fault verdict ok brought = waited_made (nat_le r.left 1) ok
 
-  run_made : (new : Run) (calls : List Entry) (t : IsRunTurn r new calls) → Brought host calls a → Makes (after_client host r new calls a) (client_members t.answers host r) w
+  run_made : (new : Run) (calls : List Entry) (t : IsRunTurn r new calls) → Brought host calls a → Makes (after_client_turn host r new calls a) (client_members t.answers host r) w
   run_made new calls t brought =
       let ran = run_received t.answers.receipt t.answers.verdict t.answers.sent r in
       let made = received_made t.answers.receipt t.answers.verdict t.answers.sent (subst (λ (l : List Entry). Brought host l a) t.calls_are brought) in
       let members = client_members t.answers host r in
-      let sent = subst (λ (l : List Entry). Makes (with_client (own_endpoint host r) ran.run.client (sent_by host l) a) members w) (sym t.calls_are) made in
-      subst (λ (x : Run). Makes (with_client (own_endpoint host r) x.client (sent_by host calls) a) members w) (sym t.run) sent
+      let sent = subst (λ (l : List Entry). Makes (with_client (own_endpoint host r) ran.run.client (sent_in_calls host l) a) members w) (sym t.calls_are) made in
+      subst (λ (x : Run). Makes (with_client (own_endpoint host r) x.client (sent_in_calls host calls) a) members w) (sym t.run) sent
 
 -- ---- a begin
 
@@ -122,13 +122,13 @@ module _ (texts : List (List ℕ)) (maps : Maps) (over : AreOver texts maps) whe
       let best = run_from-best steps first (steps_merged a members makes) (start_from-best texts maps over) in
       let made : run_from steps first ≡ trace_from members first = trace-makes members first (all-may members first makes.fit) in
       let traced = subst (λ (w : World). AreBest w.taken w.server.maps) made best in
-      subst (λ (s : Server). AreBest (trace_from members first).taken s.maps) makes.shows.server traced
+      subst (λ (s : Table). AreBest (trace_from members first).taken s.maps) makes.shows.server traced
 
-  rules_of : (a : Archive) (members : List Member) → Makes a members first → AreOwnRules a.server.maps
-  rules_of a members makes = own-rules (trace_from members first).taken a.server.maps (are_best a members makes)
+  rules_of : (a : Archive) (members : List Member) → Makes a members first → HaveOwnRuleset a.server.maps
+  rules_of a members makes = own-ruleset (trace_from members first).taken a.server.maps (are_best a members makes)
 
   -- a move of the server
-  served : (a b : Archive) (members added : List Member) → Made a members → Makes b added (trace_from members first) → (AreOwnRules b.server.maps → KeptIn b.kept b.server.maps) → Made b (members ++ added)
+  served : (a b : Archive) (members added : List Member) → Made a members → Makes b added (trace_from members first) → (HaveOwnRuleset b.server.maps → KeptIn b.kept b.server.maps) → Made b (members ++ added)
   served a b members added before makes kept =
       let whole = makes-then b members added a first before.makes makes in
       record { makes = whole; kept = kept (rules_of b (members ++ added) whole) }
@@ -138,7 +138,7 @@ module _ (texts : List (List ℕ)) (maps : Maps) (over : AreOver texts maps) whe
   asked a b members added before server kept makes =
       record {
         makes = makes-then b members added a first before.makes makes;
-        kept = subst (λ (o : Option (List Keeping)). KeptIn o b.server.maps) (sym kept) (subst (λ (s : Server). KeptIn a.kept s.maps) (sym server) before.kept);
+        kept = subst (λ (o : Option (List Keeping)). KeptIn o b.server.maps) (sym kept) (subst (λ (s : Table). KeptIn a.kept s.maps) (sym server) before.kept);
       }
 
   restarted : (a : Archive) (members : List Member) (maps : Maps) (now : Option (List Keeping)) → LoadsKept a.kept now a.server.maps maps → Made a members → Made (after_restart maps now a) (members ++ does loads ∷ [])
@@ -188,8 +188,8 @@ module _ (texts : List (List ℕ)) (maps : Maps) (over : AreOver texts maps) whe
       }
 
   reached : {a : Archive} {members : List Member} → Reaches texts maps a members → Made a members
-  reached (told log has) = idle_made (Some log) has
-  reached untold = idle_made None tt
+  reached (reported log has) = idle_made (Some log) has
+  reached unreported = idle_made None tt
   reached (more before move) = moved (reached before) move
 
   -- ---- what is promised
@@ -219,7 +219,7 @@ module _ (texts : List (List ℕ)) (maps : Maps) (over : AreOver texts maps) whe
       finished_get : (file : List ℕ) → Contains (trace_from members first).got (record { client = e; file = file }) → IsFinishedGet (trace_from members first).begun (trace_from members first).taken (trace_from members first).opened (record { client = e; file = file })
       finished_get file among = (run-clients.client e (run-clients.got _ among) own).got _ among refl
 
-      written_finished : (file : Result (List ℕ) Client) → file_of c ≡ file → (len : ℕ) (written now : Option (List ℕ)) → lookup (is_same e) a.clients ≡ Some c → Writes file (Ok len) written now → WritesFinished e c len (trace_from members first) written now
+      written_finished : (file : Result (List ℕ) Client) → file_or_client c ≡ file → (len : ℕ) (written now : Option (List ℕ)) → lookup (is_same e) a.clients ≡ Some c → WritesFetched file (Ok len) written now → WritesFinished e c len (trace_from members first) written now
       written_finished (Ok file) given len written now is writes =
           record {
             file = file;
@@ -231,7 +231,7 @@ module _ (texts : List (List ℕ)) (maps : Maps) (over : AreOver texts maps) whe
       written_finished (Err k) given len written now is writes = absurd writes
 
       pub run-fetched : (len : ℕ) (written now : Option (List ℕ)) → lookup (is_same e) a.clients ≡ Some c → WritesGot c (Ok len) written now → WritesFinished e c len (trace_from members first) written now
-      run-fetched len written now is writes = written_finished (file_of c) refl len written now is writes.writes
+      run-fetched len written now is writes = written_finished (file_or_client c) refl len written now is writes.writes
 
 -- a server that has nothing at first
 pub run-headline : (a : Archive) (members : List Member) → Reaches [] empty_maps a members → HasOwnPorts (trace_from members start) → Headline (trace_from members start)

@@ -8,15 +8,15 @@ use Rattle.tftp_ends.specs.Ends.{granted}
 use Rattle.tws_file.specs.declared.«ruleset».Ruleset.TheVariants.{Lynx}
 use Rattle.tws_best.specs.Best.{collection_text}
 use Rattle.archive_table.specs.Keeper.{Keeping}
-use Rattle.archive_table.specs.Server.{Merges, all, port_above, empty_maps}
+use Rattle.archive_table.specs.Table.{Merges, all, port_above, empty_maps}
 use Rattle.archive_table.proofs.Merged.{keeps_all}
 use Rattle.archive_client.specs.declared.state.State.TheVariants as state
-use Rattle.archive_client.specs.Client.{Operation, put, get, client_start, request_out, state_of, file_of}
+use Rattle.archive_client.specs.Client.{Operation, put, get, client_start, request_out, state_of, file_or_client}
 use Rattle.archive_turns.specs.declared.limits.TheConstants.{QUIET_TURNS}
 use Rattle.archive_turns.specs.Wire.{Entry}
 use Rattle.archive_turns.specs.declared.mode.Mode.TheVariants.{Turn}
 use Rattle.archive_turns.specs.Timers.{timers_after, is_quiet, late_ports}
-use Rattle.archive_turns.specs.Turn.{Replies, datagram, Answers, Service, IsTurn, Visited, KeepsAsked, next_asks, next_admits, next_visit, turn_next, walk_after, noted}
+use Rattle.archive_turns.specs.Turn.{Replies, datagram, Answers, Server, IsTurn, Visited, KeepsAsked, next_asks, next_admits, next_visit, turn_next, walk_after, noted}
 use Rattle.archive_turns.specs.Run.{Run, RunAnswers, run_turn, begin_opened}
 use Rattle.archive_world.specs.World.{Datagram, server_endpoint, start}
 use Rattle.archive_world.specs.Traces.{Member, starts, trace_from}
@@ -26,7 +26,7 @@ use Rattle.archive_world.proofs.Places.{Has-contains, Has-from_contains}
 use Rattle.archive_world.proofs.OwnTest.{own-by}
 use Rattle.archive_world.proofs.Premises.{empty_merged}
 use Rattle.archive_running.specs.Members.{come_to, visit_members, late_members, client_members, does}
-use Rattle.archive_running.specs.Archive.{Archive, idle, Brings, server_of, after_server, after_begin, after_client, Moves, server_turns, client_begins, client_turns, told, more, CanReach}
+use Rattle.archive_running.specs.Archive.{Archive, idle, Brings, server_in, after_server, after_begin, after_client_turn, Moves, server_turns, client_begins, client_turns, reported, more, CanReach}
 
 -- ---- one turn
 
@@ -38,17 +38,17 @@ one_there x d (suc i) e = absurd cc
 brings_at : (host : ℕ) (calls : List Entry) (a : Archive) (x : Datagram) (n : ℕ) → come_to host calls ≡ x ∷ [] → slice_get a.net n ≡ Some x → Brings host calls a
 brings_at host calls a x n come at d among =
     let has = Has-from_contains (come_to host calls) d among in
-    let same = one_there x d has.place (ap (λ (l : List Datagram). slice_get l has.place) (sym come) ∙ has.is) in
-    inl (Has-contains a.net d (record { place = n; is = at ∙ ap Some (sym same) }))
+    let same = one_there x d has.position (ap (λ (l : List Datagram). slice_get l has.position) (sym come) ∙ has.is) in
+    inl (Has-contains a.net d (record { position = n; is = at ∙ ap Some (sym same) }))
 
 -- a server that has visited the request port last, and in whose turn no port times out
-abbrev before : Archive → Service
-before a = server_of 0 [] 0 a
+abbrev before : Archive → Server
+before a = server_in 0 [] 0 a
 
 abbrev visited : Archive → Answers → Visited
 visited a answers = next_visit (turn_next (before a)) answers a.server
 
-abbrev after : Archive → Answers → Service
+abbrev after : Archive → Answers → Server
 after a answers =
     record {
       table = (walk_after Turn (visited a answers) [] []).server;
@@ -100,8 +100,8 @@ there = record { host = server_endpoint.host; port = 4000 }
 abbrev done : Replies
 done = record { sent = true; closed = true }
 
-abbrev hears_from : Endpoint → List ℕ → Answers
-hears_from from bytes =
+abbrev receives_from : Endpoint → List ℕ → Answers
+receives_from from bytes =
     record { receipt = datagram from bytes; admitted = true; spare = Some 4000; verdict = granted; grant = all; maps = empty_maps; replies = done }
 
 abbrev answered : List ℕ → RunAnswers
@@ -121,7 +121,7 @@ abbrev begin_members : Operation → List Member
 begin_members operation = does (starts here operation) ∷ []
 
 abbrev request : Operation → Answers
-request operation = hears_from here (request_out operation (asking operation).client).dgram
+request operation = receives_from here (request_out operation (asking operation).client).dgram
 
 abbrev opened : Operation → Archive
 opened operation = turned (begun operation) (request operation)
@@ -135,12 +135,12 @@ opened_members operation =
 abbrev bound : Operation → List ℕ → Run
 bound operation bytes = (run_turn (answered bytes) (asking operation)).run
 
-abbrev heard : Operation → List ℕ → Archive
-heard operation bytes =
-    after_client 2 (asking operation) (bound operation bytes) (run_turn (answered bytes) (asking operation)).calls (opened operation)
+abbrev received : Operation → List ℕ → Archive
+received operation bytes =
+    after_client_turn 2 (asking operation) (bound operation bytes) (run_turn (answered bytes) (asking operation)).calls (opened operation)
 
-abbrev heard_members : Operation → List ℕ → List Member
-heard_members operation bytes =
+abbrev received_members : Operation → List ℕ → List Member
+received_members operation bytes =
     opened_members operation ++ client_members (answered bytes) 2 (asking operation)
 
 -- ---- a put
@@ -155,17 +155,17 @@ abbrev last_ack : List ℕ
 last_ack = encode (ack 1)
 
 abbrev last_block : Answers
-last_block = hears_from here (encode (data_block 1 []))
+last_block = receives_from here (encode (data_block 1 []))
 
 abbrev taken : Archive
-taken = turned (heard empty first_ack) last_block
+taken = turned (received empty first_ack) last_block
 
 abbrev over : Run
 over = (run_turn (answered last_ack) (bound empty first_ack)).run
 
 abbrev acked : Archive
 acked =
-    after_client 2 (bound empty first_ack) over (run_turn (answered last_ack) (bound empty first_ack)).calls taken
+    after_client_turn 2 (bound empty first_ack) over (run_turn (answered last_ack) (bound empty first_ack)).calls taken
 
 begins_put : Moves (idle [] empty_maps nothing_kept) (begun empty) (begin_members empty)
 begins_put = client_begins (idle [] empty_maps nothing_kept) 2 empty (Some 5000) done (asking empty) (λ e. cc) refl
@@ -178,17 +178,17 @@ opens_put =
     server_turns a 0 [] 0 (after a answers) _ (calls_of a answers) nothing_kept (a_turn a answers refl refl refl refl)
     (brings_at server_endpoint.host (calls_of a answers) a _ 0 refl refl)
 
-binds_put : Moves (opened empty) (heard empty first_ack) (client_members (answered first_ack) 2 (asking empty))
+binds_put : Moves (opened empty) (received empty first_ack) (client_members (answered first_ack) 2 (asking empty))
 unfolding encode decode_bytes block_of
 binds_put =
     let calls = (run_turn (answered first_ack) (asking empty)).calls in
     client_turns (opened empty) 2 (asking empty) (bound empty first_ack) calls (record { answers = answered first_ack; run = refl; calls_are = refl }) (λ e. cc) refl
     (brings_at 2 calls (opened empty) _ 1 refl refl)
 
-takes : Moves (heard empty first_ack) taken (server_members (heard empty first_ack) last_block)
+takes : Moves (received empty first_ack) taken (server_members (received empty first_ack) last_block)
 unfolding encode decode_bytes block_of
 takes =
-    let a = heard empty first_ack in
+    let a = received empty first_ack in
     server_turns a 0 [] 0 (after a last_block) _ (calls_of a last_block) nothing_kept
     (a_turn a last_block empty_merged (keeps_all all (Some (record { peer = here; file = [] })) empty_maps empty_maps nothing_kept nothing_kept refl refl refl) refl refl)
     (brings_at server_endpoint.host (calls_of a last_block) a _ 2 refl refl)
@@ -202,7 +202,7 @@ ends_put =
 
 abbrev put_members : List Member
 put_members =
-    heard_members empty first_ack ++ server_members (heard empty first_ack) last_block ++ client_members (answered last_ack) 2 (bound empty first_ack)
+    received_members empty first_ack ++ server_members (received empty first_ack) last_block ++ client_members (answered last_ack) 2 (bound empty first_ack)
 
 put_own : HasOwnPorts (trace_from put_members start)
 unfolding encode decode_bytes block_of
@@ -214,7 +214,7 @@ sends =
     record {
       archive = acked;
       members = put_members;
-      reaches = more (more (more (more (more (told [] start-kept) begins_put) opens_put) binds_put) takes) ends_put;
+      reaches = more (more (more (more (more (reported [] start-kept) begins_put) opens_put) binds_put) takes) ends_put;
       own = put_own;
       endpoint = here;
       client = over.client;
@@ -244,24 +244,24 @@ opens_get =
     server_turns a 0 [] 0 (after a answers) _ (calls_of a answers) nothing_kept (a_turn a answers refl refl refl refl)
     (brings_at server_endpoint.host (calls_of a answers) a _ 0 refl refl)
 
-gets : Moves (opened lynx) (heard lynx whole) (client_members (answered whole) 2 (asking lynx))
+gets : Moves (opened lynx) (received lynx whole) (client_members (answered whole) 2 (asking lynx))
 unfolding encode decode_bytes block_of
 gets =
     let calls = (run_turn (answered whole) (asking lynx)).calls in
     client_turns (opened lynx) 2 (asking lynx) (bound lynx whole) calls (record { answers = answered whole; run = refl; calls_are = refl }) (λ e. cc) refl
     (brings_at 2 calls (opened lynx) _ 1 refl refl)
 
-get_own : HasOwnPorts (trace_from (heard_members lynx whole) start)
+get_own : HasOwnPorts (trace_from (received_members lynx whole) start)
 unfolding encode decode_bytes block_of
-get_own = own-by (trace_from (heard_members lynx whole) start) refl refl refl
+get_own = own-by (trace_from (received_members lynx whole) start) refl refl refl
 
-pub fetches : CanReach (λ c. (file : List ℕ) × (file_of c ≡ Ok file))
+pub fetches : CanReach (λ c. (file : List ℕ) × (file_or_client c ≡ Ok file))
 unfolding encode decode_bytes block_of
 fetches =
     record {
-      archive = heard lynx whole;
-      members = heard_members lynx whole;
-      reaches = more (more (more (told [] start-kept) begins_get) opens_get) gets;
+      archive = received lynx whole;
+      members = received_members lynx whole;
+      reaches = more (more (more (reported [] start-kept) begins_get) opens_get) gets;
       own = get_own;
       endpoint = here;
       client = (bound lynx whole).client;

@@ -5,7 +5,7 @@ use Rattle.std.proofs.lemmas.Grind.{flat_map-append}
 use Rattle.tftp_packet.specs.declared.endpoint.Endpoint.{Endpoint}
 use Rattle.tftp_packet.specs.declared.out.Out.{Out}
 use Rattle.tftp_ends.specs.Ends.{Verdict}
-use Rattle.archive_table.specs.Server.{Server, Transfer, Taken, Merges, transfer_at, port_above, server_timeout, server_request, server_datagram}
+use Rattle.archive_table.specs.Table.{Table, Transfer, Taken, Merges, transfer_at, port_above, table_timeout, table_request, table_datagram}
 use Rattle.archive_table.specs.Keeper.{Keeping}
 use Rattle.archive_turns.specs.declared.mode.Mode.{Mode}
 use Rattle.archive_turns.specs.declared.mode.Mode.TheVariants.{Turn, Round}
@@ -14,13 +14,13 @@ use Rattle.archive_turns.specs.declared.next.Next.TheVariants as next
 use Rattle.archive_turns.specs.declared.timer.Timer.{Timer}
 use Rattle.archive_turns.specs.Timers.{timers_after, restart}
 use Rattle.archive_turns.specs.Wire.{Entry}
-use Rattle.archive_turns.specs.Turn.{Replies, Receipt, datagram, nothing, fault, Answers, Visited, sendings, step_calls, transfer_received, is_usable, request_used, request_spared, request_admitted, request_received, Walk, walk_on, walk_after, next_visit, next_of, port_next, ready_next, turn_next, IsPass, Service, IsTurn, IsRound}
+use Rattle.archive_turns.specs.Turn.{Replies, Receipt, datagram, nothing, fault, Answers, Visited, sendings, step_calls, transfer_received, is_usable, request_used, request_spared, request_admitted, request_received, Walk, walk_on, walk_after, next_visit, next_of, port_next, ready_next, turn_next, IsPass, Server, IsTurn, IsRound}
 use Rattle.archive_world.specs.World.{Datagram, World, server_endpoint, taken_with}
 use Rattle.archive_world.specs.Traces.{Member, server_waits_long, after_deed, trace_from}
 use Rattle.archive_world.proofs.Places.{Has, Has-extends}
 use Rattle.archive_world.proofs.Lasting.{either}
-use Rattle.archive_running.specs.Members.{arrival, sent_in, come_in, sent_by, come_to, does, transfer_members, used_members, spared_members, admitted_members, request_members, visit_members, late_members}
-use Rattle.archive_running.specs.Archive.{Archive, after_server, server_of}
+use Rattle.archive_running.specs.Members.{arrival, sent_in, come_in, sent_in_calls, come_to, does, transfer_members, used_members, spared_members, admitted_members, request_members, visit_members, late_members}
+use Rattle.archive_running.specs.Archive.{Archive, after_server, server_in}
 use Rattle.archive_running.proofs.Fitting.{fit-append, trace-append}
 use Rattle.archive_running.proofs.Ports.{IsApart, above-apart}
 use Rattle.archive_running.proofs.Showing.{Shows, outs, with_answer}
@@ -52,19 +52,19 @@ shows-still a w h =
 
 -- ---- what calls send and receive
 
-sent-calls : (host : ℕ) (closes : Bool) (port : ℕ) (out : Option Out) (replies : Replies) → sent_by host (step_calls closes port out replies) ≡ outs host out
+sent-calls : (host : ℕ) (closes : Bool) (port : ℕ) (out : Option Out) (replies : Replies) → sent_in_calls host (step_calls closes port out replies) ≡ outs host out
 sent-calls host true port None replies = refl
 sent-calls host true port (Some out) replies = refl
 sent-calls host false port None replies = refl
 sent-calls host false port (Some out) replies = refl
 
-pub sent-sendings : (host : ℕ) (out : Option Out) (ok : Bool) → sent_by host (sendings out ok) ≡ outs host out
+pub sent-sendings : (host : ℕ) (out : Option Out) (ok : Bool) → sent_in_calls host (sendings out ok) ≡ outs host out
 sent-sendings host None ok = refl
 sent-sendings host (Some out) ok = refl
 
-sent-more : (net : List Datagram) (host : ℕ) (before after : List Entry) → net ++ sent_by host before ++ sent_by host after ≡ net ++ sent_by host (before ++ after)
+sent-more : (net : List Datagram) (host : ℕ) (before after : List Entry) → net ++ sent_in_calls host before ++ sent_in_calls host after ≡ net ++ sent_in_calls host (before ++ after)
 sent-more net host before after =
-    append_assoc net (sent_by host before) (sent_by host after)
+    append_assoc net (sent_in_calls host before) (sent_in_calls host after)
     ∙ ap (λ (l : List Datagram). net ++ l) (sym (flat_map-append (sent_in host) before after))
 
 -- what calls bring, by places
@@ -78,7 +78,7 @@ brought-first host before after a brought d has =
 -- ---- a visit of the server
 
 -- The request port is no transfer's.
-abbrev IsFit : Next → Server → Type 0
+abbrev IsFit : Next → Table → Type 0
 IsFit next.Request s = Unit {0}
 IsFit (next.Transfer port) s = port ≢ s.request
 IsFit next.Nowhere s = Unit {0}
@@ -87,8 +87,8 @@ module _ (a : Archive) (w : World) (h : Shows a w) where
   abbrev pub VisitMakes : Visited → List Member → Type 0
   VisitMakes v ms = Makes (after_server v.server v.taken v.calls a.kept a) ms w
 
-  by_calls : (s : Server) (told : Option Taken) (calls : List Entry) (sent : List Datagram) (ms : List Member) → sent_by server_endpoint.host calls ≡ sent → Makes (with_answer s told sent a) ms w → Makes (after_server s told calls a.kept a) ms w
-  by_calls s told calls sent ms is makes = subst (λ (l : List Datagram). Makes (with_answer s told l a) ms w) (sym is) makes
+  by_calls : (s : Table) (took : Option Taken) (calls : List Entry) (sent : List Datagram) (ms : List Member) → sent_in_calls server_endpoint.host calls ≡ sent → Makes (with_answer s took sent a) ms w → Makes (after_server s took calls a.kept a) ms w
+  by_calls s took calls sent ms is makes = subst (λ (l : List Datagram). Makes (with_answer s took l a) ms w) (sym is) makes
 
   nothing_made : Makes (with_answer a.server None [] a) [] w
   nothing_made = record { fit = tt; shows = shows-still a w h }
@@ -97,10 +97,10 @@ module _ (a : Archive) (w : World) (h : Shows a w) where
       let v = transfer_received receipt answers port a.server in
       Brought server_endpoint.host v.calls a → Merges v.taken a.server.maps v.server.maps → VisitMakes v (transfer_members receipt answers port)
   transfer_made (datagram from bytes) answers port other brought merges =
-      let x = server_datagram answers.grant answers.maps port from bytes a.server in
+      let x = table_datagram answers.grant answers.maps port from bytes a.server in
       let v = transfer_received (datagram from bytes) answers port a.server in
-      by_calls x.server x.told.taken v.calls (outs server_endpoint.host x.told.out) _ (sent-calls server_endpoint.host x.told.closed port x.told.out answers.replies)
-      (transfer-makes a w h port from bytes answers.grant answers.maps other (brought _ (record { place = 0; is = refl })) merges)
+      by_calls x.server x.step.taken v.calls (outs server_endpoint.host x.step.out) _ (sent-calls server_endpoint.host x.step.closed port x.step.out answers.replies)
+      (transfer-makes a w h port from bytes answers.grant answers.maps other (brought _ (record { position = 0; is = refl })) merges)
   transfer_made nothing answers port other brought merges = nothing_made
   transfer_made fault answers port other brought merges = nothing_made
 
@@ -119,9 +119,9 @@ module _ (a : Archive) (w : World) (h : Shows a w) where
       IsBrought (arrival server_endpoint.host a.server.request from bytes) a → VisitMakes v (used_members usable_is spare verdict from bytes a.server)
   used_made true spare is verdict replies from bytes brought =
       let parts = usable (spare == 0) (spare == a.server.request) (is_some (transfer_at spare a.server)) is in
-      let x = server_request verdict spare from bytes a.server in
+      let x = table_request verdict spare from bytes a.server in
       let v = request_used true spare verdict replies from bytes a.server in
-      by_calls x.server x.told.taken v.calls (outs server_endpoint.host x.told.out) _ (sent-calls server_endpoint.host (not x.told.opened) spare x.told.out replies)
+      by_calls x.server x.step.taken v.calls (outs server_endpoint.host x.step.out) _ (sent-calls server_endpoint.host (not x.step.opened) spare x.step.out replies)
       (request-makes a w h spare from bytes verdict (eqb-false _ _ parts.0) (none_some _ parts.1) brought)
   used_made false spare is verdict replies from bytes brought = nothing_made
 
@@ -143,7 +143,7 @@ module _ (a : Archive) (w : World) (h : Shows a w) where
       let v = request_received receipt answers a.server in
       Brought server_endpoint.host v.calls a → VisitMakes v (request_members receipt answers a.server)
   request_made (datagram from bytes) answers brought =
-      admitted_made answers.admitted answers from bytes (brought _ (record { place = 0; is = refl }))
+      admitted_made answers.admitted answers from bytes (brought _ (record { position = 0; is = refl }))
   request_made nothing answers brought = nothing_made
   request_made fault answers brought = nothing_made
 
@@ -161,12 +161,12 @@ walk_made : (late : List (ℕ × Replies)) (due : ℕ) (k : Walk) (a : Archive) 
     Makes (after_server end.server None end.calls a.kept a) (late_members late) w
 walk_made [] due k a w h = record { fit = tt; shows = h }
 walk_made (e ∷ late) due k a w h =
-    let x = server_timeout e.0 k.server in
-    let calls = step_calls x.told.closed e.0 x.told.out e.1 in
+    let x = table_timeout e.0 k.server in
+    let calls = step_calls x.step.closed e.0 x.step.out e.1 in
     let m = does (server_waits_long e.0) in
     let first = timeout-makes (after_server k.server None k.calls a.kept a) w h e.0 in
-    let net : a.net ++ sent_by server_endpoint.host k.calls ++ outs server_endpoint.host x.told.out ≡ a.net ++ sent_by server_endpoint.host (k.calls ++ calls) =
-    ap (λ (l : List Datagram). a.net ++ sent_by server_endpoint.host k.calls ++ l) (sym (sent-calls server_endpoint.host x.told.closed e.0 x.told.out e.1))
+    let net : a.net ++ sent_in_calls server_endpoint.host k.calls ++ outs server_endpoint.host x.step.out ≡ a.net ++ sent_in_calls server_endpoint.host (k.calls ++ calls) =
+    ap (λ (l : List Datagram). a.net ++ sent_in_calls server_endpoint.host k.calls ++ l) (sym (sent-calls server_endpoint.host x.step.closed e.0 x.step.out e.1))
     ∙ sent-more a.net server_endpoint.host k.calls calls in
     let make : List Datagram → Archive = λ l. record { server = x.server; clients = a.clients; begun = a.begun; taken = a.taken; net = l; kept = a.kept } in
     let shown : Shows (after_server x.server None (k.calls ++ calls) a.kept a) (after_deed m.deed m.grant m.maps w) = subst (λ (l : List Datagram). Shows (make l) (after_deed m.deed m.grant m.maps w)) net first.shows in
@@ -176,17 +176,17 @@ walk_made (e ∷ late) due k a w h =
 -- what follows a visit
 after_visit : (a : Archive) (w : World) (v : Visited) (end : Walk) (ms late : List Member) →
     let visited = after_server v.server v.taken v.calls a.kept a in
-    Makes visited ms w → (Shows visited (trace_from ms w) → Makes (after_server end.server None end.calls visited.kept visited) late (trace_from ms w)) → (s : Server) (calls : List Entry) → s ≡ end.server → sent_by server_endpoint.host calls ≡ sent_by server_endpoint.host (v.calls ++ end.calls) → Makes (after_server s v.taken calls a.kept a) (ms ++ late) w
+    Makes visited ms w → (Shows visited (trace_from ms w) → Makes (after_server end.server None end.calls visited.kept visited) late (trace_from ms w)) → (s : Table) (calls : List Entry) → s ≡ end.server → sent_in_calls server_endpoint.host calls ≡ sent_in_calls server_endpoint.host (v.calls ++ end.calls) → Makes (after_server s v.taken calls a.kept a) (ms ++ late) w
 after_visit a w v end ms late first next s calls server_is calls_are =
     let both = makes-then _ ms late _ w first (next first.shows) in
-    let make : Server → List Datagram → Archive = λ t l. record { server = t; clients = a.clients; begun = a.begun; taken = taken_with v.taken a.taken; net = l; kept = a.kept } in
-    let net : a.net ++ sent_by server_endpoint.host v.calls ++ sent_by server_endpoint.host end.calls ≡ a.net ++ sent_by server_endpoint.host calls = sent-more a.net server_endpoint.host v.calls end.calls ∙ ap (λ (l : List Datagram). a.net ++ l) (sym calls_are) in
+    let make : Table → List Datagram → Archive = λ t l. record { server = t; clients = a.clients; begun = a.begun; taken = taken_with v.taken a.taken; net = l; kept = a.kept } in
+    let net : a.net ++ sent_in_calls server_endpoint.host v.calls ++ sent_in_calls server_endpoint.host end.calls ≡ a.net ++ sent_in_calls server_endpoint.host calls = sent-more a.net server_endpoint.host v.calls end.calls ∙ ap (λ (l : List Datagram). a.net ++ l) (sym calls_are) in
     let sent = subst (λ (l : List Datagram). Makes (make end.server l) (ms ++ late) w) net both in
-    subst (λ (t : Server). Makes (make t (a.net ++ sent_by server_endpoint.host calls)) (ms ++ late) w) (sym server_is) sent
+    subst (λ (t : Table). Makes (make t (a.net ++ sent_in_calls server_endpoint.host calls)) (ms ++ late) w) (sym server_is) sent
 
 -- the keeper's list is not part of it
-keeps-makes : (now : Option (List Keeping)) (s : Server) (told : Option Taken) (calls : List Entry) (a : Archive) (ms : List Member) (w : World) → Makes (after_server s told calls a.kept a) ms w → Makes (after_server s told calls now a) ms w
-keeps-makes now s told calls a ms w made =
+keeps-makes : (now : Option (List Keeping)) (s : Table) (took : Option Taken) (calls : List Entry) (a : Archive) (ms : List Member) (w : World) → Makes (after_server s took calls a.kept a) ms w → Makes (after_server s took calls now a) ms w
+keeps-makes now s took calls a ms w made =
     let h = made.shows in
     record {
       fit = made.fit;
@@ -205,7 +205,7 @@ keeps-makes now s told calls a ms w made =
     }
 
 -- a visit, and the time-outs after it
-pass-makes : (a : Archive) (w : World) (mode : Mode) (n : Next) (new : Server) (timers left : List Timer) (took : Bool) (calls : List Entry) (now : Option (List Keeping)) (p : IsPass mode n a.server new timers left took calls a.kept now) → IsFit n a.server → Shows a w → Brought server_endpoint.host calls a → Makes (after_server new (next_visit n p.answers a.server).taken calls now a) (visit_members n p.answers a.server ++ late_members p.late) w
+pass-makes : (a : Archive) (w : World) (mode : Mode) (n : Next) (new : Table) (timers left : List Timer) (took : Bool) (calls : List Entry) (now : Option (List Keeping)) (p : IsPass mode n a.server new timers left took calls a.kept now) → IsFit n a.server → Shows a w → Brought server_endpoint.host calls a → Makes (after_server new (next_visit n p.answers a.server).taken calls now a) (visit_members n p.answers a.server ++ late_members p.late) w
 pass-makes a w mode n new timers left took calls now p fit h brought =
     let v = next_visit n p.answers a.server in
     let end = walk_after mode v p.late timers in
@@ -215,27 +215,27 @@ pass-makes a w mode n new timers left took calls now p fit h brought =
     (after_visit a w v end _ _
     (visit_made a w h n fit p.answers came p.merges)
     (λ shown. walk_made p.late (restart mode) (record { server = v.server; timers = timers_after mode v.change timers; calls = [] }) visited _ (shows-still visited _ shown))
-    new calls p.table (ap (sent_by server_endpoint.host) p.calls_are))
+    new calls p.table (ap (sent_in_calls server_endpoint.host) p.calls_are))
 
-turn_fits : (last : ℕ) (found : Option ℕ) (s : Server) → port_above last s ≡ found → IsApart s → IsFit (next_of found) s
+turn_fits : (last : ℕ) (found : Option ℕ) (s : Table) → port_above last s ≡ found → IsApart s → IsFit (next_of found) s
 turn_fits last (Some port) s is apart = above-apart last s apart port is
 turn_fits last None s is apart = tt
 
-pub turn-makes : (a : Archive) (w : World) (last : ℕ) (timers : List Timer) (per_host : ℕ) (new : Service) (took : Bool) (calls : List Entry) (now : Option (List Keeping)) (t : IsTurn (server_of last timers per_host a) new took calls a.kept now) → Shows a w → Brought server_endpoint.host calls a →
-    let n = turn_next (server_of last timers per_host a) in
+pub turn-makes : (a : Archive) (w : World) (last : ℕ) (timers : List Timer) (per_host : ℕ) (new : Server) (took : Bool) (calls : List Entry) (now : Option (List Keeping)) (t : IsTurn (server_in last timers per_host a) new took calls a.kept now) → Shows a w → Brought server_endpoint.host calls a →
+    let n = turn_next (server_in last timers per_host a) in
     Makes (after_server new.table (next_visit n t.pass.answers a.server).taken calls now a) (visit_members n t.pass.answers a.server ++ late_members t.pass.late) w
 turn-makes a w last timers per_host new took calls now t h brought =
-    pass-makes a w Turn (turn_next (server_of last timers per_host a)) new.table timers new.timers took calls now t.pass (turn_fits last (port_above last a.server) a.server refl h.apart) h brought
+    pass-makes a w Turn (turn_next (server_in last timers per_host a)) new.table timers new.timers took calls now t.pass (turn_fits last (port_above last a.server) a.server refl h.apart) h brought
 
-port_fits : (is_request : Bool) (port : ℕ) (s : Server) → (port == s.request) ≡ is_request → IsFit (port_next is_request port) s
+port_fits : (is_request : Bool) (port : ℕ) (s : Table) → (port == s.request) ≡ is_request → IsFit (port_next is_request port) s
 port_fits true port s is = tt
 port_fits false port s is = eqb-false _ _ is
 
-ready_fits : (ready : Option ℕ) (s : Server) → IsFit (ready_next ready s) s
+ready_fits : (ready : Option ℕ) (s : Table) → IsFit (ready_next ready s) s
 ready_fits (Some port) s = port_fits (port == s.request) port s refl
 ready_fits None s = tt
 
-pub round-makes : (a : Archive) (w : World) (last : ℕ) (timers : List Timer) (per_host : ℕ) (new : Service) (took : Bool) (calls : List Entry) (now : Option (List Keeping)) (t : IsRound (server_of last timers per_host a) new took calls a.kept now) → Shows a w → Brought server_endpoint.host calls a →
+pub round-makes : (a : Archive) (w : World) (last : ℕ) (timers : List Timer) (per_host : ℕ) (new : Server) (took : Bool) (calls : List Entry) (now : Option (List Keeping)) (t : IsRound (server_in last timers per_host a) new took calls a.kept now) → Shows a w → Brought server_endpoint.host calls a →
     let n = ready_next t.ready a.server in
     Makes (after_server new.table (next_visit n t.pass.answers a.server).taken calls now a) (visit_members n t.pass.answers a.server ++ late_members t.pass.late) w
 round-makes a w last timers per_host new took calls now t h brought =

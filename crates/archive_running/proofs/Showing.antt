@@ -7,11 +7,11 @@ use Rattle.std.proofs.lemmas.Map.{keys-set_value}
 use Rattle.std.proofs.lemmas.Map.Made.{is_some-lookup}
 use Rattle.tftp_packet.specs.declared.endpoint.Endpoint.{Endpoint}
 use Rattle.tftp_packet.specs.declared.out.Out.{Out}
-use Rattle.archive_table.specs.Server.{Server, Taken, is_same}
+use Rattle.archive_table.specs.Table.{Table, Taken, is_same}
 use Rattle.archive_table.specs.Keeper.{Keeping}
-use Rattle.archive_table.specs.Server as table
+use Rattle.archive_table.specs.Table as table
 use Rattle.archive_client.specs.declared.state.State.TheVariants as state
-use Rattle.archive_client.specs.Client.{Operation, Client, request_out, client_start, state_of, phase_file, file_or, file_of}
+use Rattle.archive_client.specs.Client.{Operation, Client, request_out, client_start, state_of, phase_file, file_or, file_or_client}
 use Rattle.archive_client.specs.Client as client
 use Rattle.archive_world.specs.World.{Datagram, Begun, Opening, Got, World, server_endpoint, has_begun, datagram_of, net_with, taken_with, sent_with, got_with, newly_sent, newly_got, after_client, begins, restarts}
 use Rattle.archive_world.specs.Traces.{named_in}
@@ -62,7 +62,7 @@ strayed a w h d x (inl old) =
     either (λ has. has) (λ has. Has-extends w.strays (w.strays ++ d ∷ []) x (Extends-push w.strays d) has) (h.others x old)
 strayed a w h d x (inr is) = inr (subst (Has (w.strays ++ d ∷ [])) (sym is) (Has-last w.strays d))
 
-pub shows-named : (place : Option ℕ) (d : Datagram) (a : Archive) (w : World) → Shows a w → Shows a (named_in place d w)
+pub shows-named : (position : Option ℕ) (d : Datagram) (a : Archive) (w : World) → Shows a w → Shows a (named_in position d w)
 shows-named (Some n) d a w h = h
 shows-named None d a w h =
     record {
@@ -106,26 +106,26 @@ other_out host (Some out) old net strays others d has =
 
 -- ---- the server
 
-abbrev pub with_answer : Server → Option Taken → List Datagram → Archive → Archive
-with_answer s told sent a =
+abbrev pub with_answer : Table → Option Taken → List Datagram → Archive → Archive
+with_answer s took sent a =
     record {
       server = s;
       clients = a.clients;
       begun = a.begun;
-      taken = taken_with told a.taken;
+      taken = taken_with took a.taken;
       net = a.net ++ sent;
       kept = a.kept;
     }
 
-pub shows-served : (a : Archive) (w : World) → Shows a w → (x : table.Answer) → IsApart x.server → (told : Option Taken) (opened : List Opening) → Shows (with_answer x.server told (outs server_endpoint.host x.told.out) a) (served (net_with server_endpoint.host w.net x.told.out) x.server (taken_with told w.taken) opened w)
-shows-served a w h x apart told opened =
+pub shows-served : (a : Archive) (w : World) → Shows a w → (x : table.TableAnswer) → IsApart x.server → (took : Option Taken) (opened : List Opening) → Shows (with_answer x.server took (outs server_endpoint.host x.step.out) a) (served (net_with server_endpoint.host w.net x.step.out) x.server (taken_with took w.taken) opened w)
+shows-served a w h x apart took opened =
     record {
       server = refl;
       clients = h.clients;
       begun = h.begun;
-      taken = ap (taken_with told) h.taken;
-      net = has_out server_endpoint.host x.told.out a.net w.net h.net;
-      others = other_out server_endpoint.host x.told.out a.net w.net w.strays h.others;
+      taken = ap (taken_with took) h.taken;
+      net = has_out server_endpoint.host x.step.out a.net w.net h.net;
+      others = other_out server_endpoint.host x.step.out a.net w.net w.strays h.others;
       sent = h.sent;
       got = h.got;
       known = h.known;
@@ -134,7 +134,7 @@ shows-served a w h x apart told opened =
 
 pub shows-restart : (kept : Option (List Keeping)) (a : Archive) (w : World) → Shows a w → Shows (after_restart a.server.maps kept a) (restarts w)
 shows-restart kept a w h =
-    let emptied : Server → Server = λ s. record { request = s.request; maps = s.maps; live = [] } in
+    let emptied : Table → Table = λ s. record { request = s.request; maps = s.maps; live = [] } in
     record {
       server = ap emptied h.server;
       clients = h.clients;
@@ -181,7 +181,7 @@ got_still true e (Some f) gs g has = Has-extends gs _ g (Extends-push gs _) has
 got_still true e None gs g has = has
 got_still false e file gs g has = has
 
-module _ (a : Archive) (w : World) (h : Shows a w) (e : Endpoint) (c : Client) (is : lookup (is_same e) a.clients ≡ Some c) (x : client.Answer) (ends : Ends c x.client) where
+module _ (a : Archive) (w : World) (h : Shows a w) (e : Endpoint) (c : Client) (is : lookup (is_same e) a.clients ≡ Some c) (x : client.ClientAnswer) (ends : Ends c x.client) where
   abbrev newly_s : Bool
   newly_s = newly_sent (state_of c) (state_of x.client)
 

@@ -1,29 +1,29 @@
--- The running archive: a server and its clients, each over a wire that tells its calls, and the network that joins
--- these wires. Each move is taken at the moment at which its `receive` returns, and one that receives nothing at its
--- first call; so what a move receives was sent by earlier moves.
+-- The running archive: a server and its clients, each over a wire with a ghost log of its calls, and the network that
+-- joins these wires. Each move is taken at the moment at which its `receive` returns, and one that receives nothing at
+-- its first call; so what a move receives was sent by earlier moves.
 use Rattle.std.specs.Prelude.{◌≡◌, ◌≢◌, ◌⊎◌, ℕ, Bool, List, [], ◌∷◌, ◌++◌, map, length, Contains, Option, None, Some, Ok}
 use Rattle.std.specs.Map.{lookup, set_value}
 use Rattle.std.specs.Io.KnownBytes.{Appends}
 use Rattle.tftp_packet.specs.declared.endpoint.Endpoint.{Endpoint}
 use Rattle.tws_file.specs.declared.«ruleset».Ruleset.TheVariants.{Lynx, Ms}
-use Rattle.archive_table.specs.Server.{Server, Maps, Taken, empty_maps, is_same}
+use Rattle.archive_table.specs.Table.{Table, Maps, Taken, empty_maps, is_same}
 use Rattle.archive_table.specs.Keeper.{Keeping, LoadedFrom}
 use Rattle.archive_client.specs.declared.state.State.TheVariants as state
-use Rattle.archive_client.specs.Client.{Client, Operation, state_of, file_of}
+use Rattle.archive_client.specs.Client.{Client, Operation, state_of, file_or_client}
 use Rattle.archive_turns.specs.Wire.{Entry}
 use Rattle.archive_turns.specs.declared.timer.Timer.{Timer}
-use Rattle.archive_turns.specs.Turn.{Replies, Service, IsTurn, IsRound, next_visit, turn_next, ready_next}
+use Rattle.archive_turns.specs.Turn.{Replies, Server, IsTurn, IsRound, next_visit, turn_next, ready_next}
 use Rattle.archive_turns.specs.Run.{Run, begin_opened, IsRunTurn}
 use Rattle.archive_world.specs.World.{Datagram, Begun, World, server_endpoint, given, taken_with, start}
 use Rattle.archive_world.specs.Headline.{HasOwnPorts, IsFinishedGet}
 use Rattle.archive_world.specs.Restarts.{HasKept, AreAlike}
 use Rattle.archive_world.specs.Traces.{starts, loads, Member, trace_from}
-use Rattle.archive_running.specs.Members.{sent_by, come_to, does, visit_members, late_members, client_members}
+use Rattle.archive_running.specs.Members.{sent_in_calls, come_to, does, visit_members, late_members, client_members}
 
 -- ---- what runs
 
 pub record Archive : Type 0 where
-  pub server : Server
+  pub server : Table
   -- each client with its endpoint, the newest first
   pub clients : List (Endpoint × Client)
   -- the operations that have begun, in order, each with how many files had been taken by then
@@ -32,7 +32,7 @@ pub record Archive : Type 0 where
   pub taken : List Taken
   -- all that the wires were given to send, in order
   pub net : List Datagram
-  -- the keeper's list, if it tells it
+  -- the keeper's log, if it has one
   pub kept : Option (List Keeping)
 
 -- a server with these collections, which are the best over these texts, and no client; the texts count as the first files
@@ -61,14 +61,14 @@ Brings host calls a = (d : Datagram) → Contains (come_to host calls) d → Con
 
 -- ---- the archive after a move
 
-abbrev pub after_server : Server → Option Taken → (calls : List Entry) → (kept : Option (List Keeping)) → Archive → Archive
-after_server s told calls kept a =
+abbrev pub after_server : Table → Option Taken → (calls : List Entry) → (kept : Option (List Keeping)) → Archive → Archive
+after_server s took calls kept a =
     record {
       server = s;
       clients = a.clients;
       begun = a.begun;
-      taken = taken_with told a.taken;
-      net = a.net ++ sent_by server_endpoint.host calls;
+      taken = taken_with took a.taken;
+      net = a.net ++ sent_in_calls server_endpoint.host calls;
       kept = kept;
     }
 
@@ -82,18 +82,18 @@ after_begin host operation r calls a =
       clients = (own_endpoint host r, r.client) ∷ a.clients;
       begun = a.begun ++ record { client = own_endpoint host r; operation = operation; taken = length a.taken } ∷ [];
       taken = a.taken;
-      net = a.net ++ sent_by host calls;
+      net = a.net ++ sent_in_calls host calls;
       kept = a.kept;
     }
 
-abbrev pub after_client : (host : ℕ) → (old new : Run) → (calls : List Entry) → Archive → Archive
-after_client host old new calls a =
+abbrev pub after_client_turn : (host : ℕ) → (old new : Run) → (calls : List Entry) → Archive → Archive
+after_client_turn host old new calls a =
     record {
       server = a.server;
       clients = set_value (is_same (own_endpoint host old)) a.clients new.client;
       begun = a.begun;
       taken = a.taken;
-      net = a.net ++ sent_by host calls;
+      net = a.net ++ sent_in_calls host calls;
       kept = a.kept;
     }
 
@@ -109,36 +109,36 @@ after_restart maps kept a =
     }
 
 -- What a restart loads: what the keeper has. This may be a new keeper, which has the same for each ruleset. For a
--- keeper that does not tell its list it is a premise that it has the current collections.
+-- keeper without a log it is a premise that it has the current collections.
 abbrev pub LoadsKept : (before now : Option (List Keeping)) → (old new : Maps) → Type 0
 LoadsKept None now old new = (now ≡ None) × (new ≡ old)
 LoadsKept (Some log) None old new = ⊥
-LoadsKept (Some log) (Some told) old new =
-    AreAlike log told × LoadedFrom Lynx (Some told) new.lynx × LoadedFrom Ms (Some told) new.ms
+LoadsKept (Some log) (Some reported) old new =
+    AreAlike log reported × LoadedFrom Lynx (Some reported) new.lynx × LoadedFrom Ms (Some reported) new.ms
 
 -- ---- how it moves
 
 -- the archive's server, with the port that it visited last, its timers, and how many transfers one host may have
-abbrev pub server_of : (last : ℕ) (timers : List Timer) (per_host : ℕ) → Archive → Service
-server_of last timers per_host a = record { table = a.server; last = last; timers = timers; per_host = per_host }
+abbrev pub server_in : (last : ℕ) (timers : List Timer) (per_host : ℕ) → Archive → Server
+server_in last timers per_host a = record { table = a.server; last = last; timers = timers; per_host = per_host }
 
 -- One move: a turn of the server or of a client, a begin, or a restart; with its members of the trace. A begin that
 -- fails sends nothing and leaves no client, so it is not a move.
 pub data Moves : (old new : Archive) → List Member → Type 0 where
   -- the server makes a turn; the port that it visited last, its timers and its limit may be any
-  server_turns : (a : Archive) (last : ℕ) (timers : List Timer) (per_host : ℕ) (new : Service) (took : Bool) (calls : List Entry) (now : Option (List Keeping)) (t : IsTurn (server_of last timers per_host a) new took calls a.kept now) → Brings server_endpoint.host calls a → Moves a (after_server new.table (next_visit (turn_next (server_of last timers per_host a)) t.pass.answers a.server).taken calls now a) (visit_members (turn_next (server_of last timers per_host a)) t.pass.answers a.server ++ late_members t.pass.late)
+  server_turns : (a : Archive) (last : ℕ) (timers : List Timer) (per_host : ℕ) (new : Server) (took : Bool) (calls : List Entry) (now : Option (List Keeping)) (t : IsTurn (server_in last timers per_host a) new took calls a.kept now) → Brings server_endpoint.host calls a → Moves a (after_server new.table (next_visit (turn_next (server_in last timers per_host a)) t.pass.answers a.server).taken calls now a) (visit_members (turn_next (server_in last timers per_host a)) t.pass.answers a.server ++ late_members t.pass.late)
   -- the server makes a round
-  server_rounds : (a : Archive) (last : ℕ) (timers : List Timer) (per_host : ℕ) (new : Service) (took : Bool) (calls : List Entry) (now : Option (List Keeping)) (t : IsRound (server_of last timers per_host a) new took calls a.kept now) → Brings server_endpoint.host calls a → Moves a (after_server new.table (next_visit (ready_next t.ready a.server) t.pass.answers a.server).taken calls now a) (visit_members (ready_next t.ready a.server) t.pass.answers a.server ++ late_members t.pass.late)
+  server_rounds : (a : Archive) (last : ℕ) (timers : List Timer) (per_host : ℕ) (new : Server) (took : Bool) (calls : List Entry) (now : Option (List Keeping)) (t : IsRound (server_in last timers per_host a) new took calls a.kept now) → Brings server_endpoint.host calls a → Moves a (after_server new.table (next_visit (ready_next t.ready a.server) t.pass.answers a.server).taken calls now a) (visit_members (ready_next t.ready a.server) t.pass.answers a.server ++ late_members t.pass.late)
   server_restarts : (a : Archive) (maps : Maps) (now : Option (List Keeping)) → LoadsKept a.kept now a.server.maps maps → Moves a (after_restart maps now a) (does loads ∷ [])
   -- an operation begins on another host than the server's
   client_begins : (a : Archive) (host : ℕ) (operation : Operation) (port : Option ℕ) (replies : Replies) (r : Run) → host ≢ server_endpoint.host → (begin_opened port server_endpoint operation replies).result ≡ Ok r → Moves a (after_begin host operation r (begin_opened port server_endpoint operation replies).calls a) (does (starts (own_endpoint host r) operation) ∷ [])
-  client_turns : (a : Archive) (host : ℕ) (old new : Run) (calls : List Entry) (t : IsRunTurn old new calls) → host ≢ server_endpoint.host → lookup (is_same (own_endpoint host old)) a.clients ≡ Some old.client → Brings host calls a → Moves a (after_client host old new calls a) (client_members t.answers host old)
+  client_turns : (a : Archive) (host : ℕ) (old new : Run) (calls : List Entry) (t : IsRunTurn old new calls) → host ≢ server_endpoint.host → lookup (is_same (own_endpoint host old)) a.clients ≡ Some old.client → Brings host calls a → Moves a (after_client_turn host old new calls a) (client_members t.answers host old)
 
 -- From a server with these collections the archive reaches this state by one move after another, and these are their
 -- members. At first a keeper that tells its list has these collections.
 pub data Reaches : (texts : List (List ℕ)) → Maps → Archive → List Member → Type 0 where
-  told : {texts : List (List ℕ)} {maps : Maps} (log : List Keeping) → HasKept log maps → Reaches texts maps (idle texts maps (Some log)) []
-  untold : {texts : List (List ℕ)} {maps : Maps} → Reaches texts maps (idle texts maps None) []
+  reported : {texts : List (List ℕ)} {maps : Maps} (log : List Keeping) → HasKept log maps → Reaches texts maps (idle texts maps (Some log)) []
+  unreported : {texts : List (List ℕ)} {maps : Maps} → Reaches texts maps (idle texts maps None) []
   more : {texts : List (List ℕ)} {maps : Maps} {a b : Archive} {members added : List Member} → Reaches texts maps a members → Moves a b added → Reaches texts maps b (members ++ added)
 
 -- ---- what is promised
@@ -153,12 +153,12 @@ pub record Mirrors (a : Archive) (w : World) : Type 0 where
   pub net : (d : Datagram) → Contains a.net d → Contains w.net d
   pub others : (d : Datagram) → Contains w.net d → Contains a.net d ⊎ Contains w.strays d
   pub sent : (e : Endpoint) (c : Client) → lookup (is_same e) a.clients ≡ Some c → state_of c ≡ state.Sent → Contains w.sent e
-  pub got : (e : Endpoint) (c : Client) (file : List ℕ) → lookup (is_same e) a.clients ≡ Some c → file_of c ≡ Ok file → Contains w.got (record { client = e; file = file })
+  pub got : (e : Endpoint) (c : Client) (file : List ℕ) → lookup (is_same e) a.clients ≡ Some c → file_or_client c ≡ Ok file → Contains w.got (record { client = e; file = file })
 
 -- What a get that returned Ok has written: the whole file that its client has got, which is a finished get.
 pub record WritesFinished (e : Endpoint) (c : Client) (len : ℕ) (w : World) (written now : Option (List ℕ)) : Type 0 where
   pub file : List ℕ
-  pub is_got : file_of c ≡ Ok file
+  pub is_got : file_or_client c ≡ Ok file
   pub size : len ≡ length file
   pub appends : Appends written now file
   pub finished : IsFinishedGet w.begun w.taken w.opened (record { client = e; file = file })

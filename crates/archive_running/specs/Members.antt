@@ -1,16 +1,16 @@
 -- What the turns of archive_turns are in the world of archive_world: a datagram that is received and not dropped is a
--- `hears`, and a time-out is a `client_waits_long` or a `server_waits_long`.
+-- `receives`, and a time-out is a `client_waits_long` or a `server_waits_long`.
 use Rattle.std.specs.Prelude.{ℕ, Bool, true, false, nat_le, List, [], ◌∷◌, map, flat_map, Option, None, Some}
 use Rattle.tftp_packet.specs.declared.endpoint.Endpoint.{Endpoint}
 use Rattle.tftp_ends.specs.Ends.{Verdict, granted, refused}
-use Rattle.archive_table.specs.Server.{Server, Maps, Grant, all, no_memory, empty_maps}
+use Rattle.archive_table.specs.Table.{Table, Maps, Grant, all, no_memory, empty_maps}
 use Rattle.archive_turns.specs.declared.next.Next.{Next}
 use Rattle.archive_turns.specs.declared.next.Next.TheVariants as next
 use Rattle.archive_turns.specs.Wire.{Entry, opened, closed, came, quiet, failed, sent, waited}
 use Rattle.archive_turns.specs.Turn.{Replies, Receipt, datagram, nothing, fault, Answers, is_usable}
 use Rattle.archive_turns.specs.Run.{Run, RunAnswers}
 use Rattle.archive_world.specs.World.{Datagram, server_endpoint, datagram_of}
-use Rattle.archive_world.specs.Traces.{Deed, hears, client_waits_long, server_waits_long, Member}
+use Rattle.archive_world.specs.Traces.{Deed, receives, client_waits_long, server_waits_long, Member}
 
 -- ---- what calls of a wire on this host send and receive
 
@@ -37,8 +37,8 @@ come_in host (failed port) = []
 come_in host (sent out ok) = []
 come_in host (waited after until ready now settled) = []
 
-abbrev pub sent_by : (host : ℕ) → List Entry → List Datagram
-sent_by host calls = flat_map (sent_in host) calls
+abbrev pub sent_in_calls : (host : ℕ) → List Entry → List Datagram
+sent_in_calls host calls = flat_map (sent_in host) calls
 
 abbrev pub come_to : (host : ℕ) → List Entry → List Datagram
 come_to host calls = flat_map (come_in host) calls
@@ -49,8 +49,8 @@ come_to host calls = flat_map (come_in host) calls
 abbrev pub does : Deed → Member
 does deed = record { deed = deed; grant = all; maps = empty_maps }
 
-abbrev pub hearing : Datagram → (spare : ℕ) → Grant → Maps → Member
-hearing d spare grant maps = record { deed = hears d spare; grant = grant; maps = maps }
+abbrev pub reception : Datagram → (spare : ℕ) → Grant → Maps → Member
+reception d spare grant maps = record { deed = receives d spare; grant = grant; maps = maps }
 
 abbrev pub grant_for : Verdict → Grant
 grant_for granted = all
@@ -60,31 +60,31 @@ grant_for refused = no_memory
 
 abbrev pub transfer_members : Receipt → Answers → (port : ℕ) → List Member
 transfer_members (datagram from bytes) a port =
-    hearing (arrival server_endpoint.host port from bytes) 0 a.grant a.maps ∷ []
+    reception (arrival server_endpoint.host port from bytes) 0 a.grant a.maps ∷ []
 transfer_members nothing a port = []
 transfer_members fault a port = []
 
 -- A request is dropped if no port could be opened for it, or if the port cannot be used.
-abbrev pub used_members : (usable : Bool) → (spare : ℕ) → Verdict → (from : Endpoint) (bytes : List ℕ) → Server → List Member
+abbrev pub used_members : (usable : Bool) → (spare : ℕ) → Verdict → (from : Endpoint) (bytes : List ℕ) → Table → List Member
 used_members true spare verdict from bytes s =
-    hearing (arrival server_endpoint.host s.request from bytes) spare (grant_for verdict) empty_maps ∷ []
+    reception (arrival server_endpoint.host s.request from bytes) spare (grant_for verdict) empty_maps ∷ []
 used_members false spare verdict from bytes s = []
 
-abbrev pub spared_members : Option ℕ → Verdict → (from : Endpoint) (bytes : List ℕ) → Server → List Member
+abbrev pub spared_members : Option ℕ → Verdict → (from : Endpoint) (bytes : List ℕ) → Table → List Member
 spared_members (Some spare) verdict from bytes s = used_members (is_usable spare s) spare verdict from bytes s
 spared_members None verdict from bytes s = []
 
 -- A datagram that is not let in is dropped too.
-abbrev pub admitted_members : (admitted : Bool) → Answers → (from : Endpoint) (bytes : List ℕ) → Server → List Member
+abbrev pub admitted_members : (admitted : Bool) → Answers → (from : Endpoint) (bytes : List ℕ) → Table → List Member
 admitted_members true a from bytes s = spared_members a.spare a.verdict from bytes s
 admitted_members false a from bytes s = []
 
-abbrev pub request_members : Receipt → Answers → Server → List Member
+abbrev pub request_members : Receipt → Answers → Table → List Member
 request_members (datagram from bytes) a s = admitted_members a.admitted a from bytes s
 request_members nothing a s = []
 request_members fault a s = []
 
-abbrev pub visit_members : Next → Answers → Server → List Member
+abbrev pub visit_members : Next → Answers → Table → List Member
 visit_members next.Request a s = request_members a.receipt a s
 visit_members (next.Transfer port) a s = transfer_members a.receipt a port
 visit_members next.Nowhere a s = []
@@ -102,7 +102,7 @@ quiet_members false host r = []
 
 abbrev pub received_members : Receipt → Verdict → (host : ℕ) → Run → List Member
 received_members (datagram from bytes) verdict host r =
-    hearing (arrival host r.port from bytes) 0 (grant_for verdict) empty_maps ∷ []
+    reception (arrival host r.port from bytes) 0 (grant_for verdict) empty_maps ∷ []
 received_members nothing verdict host r = quiet_members (nat_le r.left 1) host r
 received_members fault verdict host r = quiet_members (nat_le r.left 1) host r
 

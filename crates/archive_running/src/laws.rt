@@ -1,10 +1,10 @@
 //! What holds for the running archive. This function does nothing: its contract is a theorem.
 
 ghost use Rattle.std.specs.Prelude.{◌≡◌, ℕ, List, [], Option, Some, Ok};
-ghost use Rattle.archive_table.specs.Server.{Maps, is_same, empty_maps};
+ghost use Rattle.archive_table.specs.Table.{Maps, is_same, empty_maps};
 ghost use Rattle.std.specs.Map.{lookup};
 ghost use Rattle.tftp_packet.specs.declared.endpoint.Endpoint.{Endpoint};
-ghost use Rattle.archive_client.specs.Client.{Client, state_of, file_of};
+ghost use Rattle.archive_client.specs.Client.{Client, state_of, file_or_client};
 ghost use Rattle.archive_client.specs.declared.state.State.TheVariants.{Sent};
 ghost use Rattle.archive_turns.specs.Run.{put_result, WritesGot};
 ghost use Rattle.archive_world.specs.World.{start_from, start, AllMayHappen, AllMerged};
@@ -30,5 +30,5 @@ pub fn running_law()
     ensures fetched { (texts : List (List ℕ)) (maps : Maps) → AreOver texts maps → (a : Archive) (members : List Member) → Reaches texts maps a members → (e : Endpoint) → IsOwn (trace_from members (start_from texts maps)) e → (c : Client) (len : ℕ) (written now : Option (List ℕ)) → lookup (is_same e) a.clients ≡ Some c → WritesGot c (Ok len) written now → WritesFinished e c len (trace_from members (start_from texts maps)) written now }
     // There are runs in which a client counts its file as sent, and runs in which one has fetched a collection.
     ensures sends { CanReach (λ c. state_of c ≡ Sent) }
-    ensures fetches { CanReach (λ c. (file : List ℕ) × (file_of c ≡ Ok file)) }
+    ensures fetches { CanReach (λ c. (file : List ℕ) × (file_or_client c ≡ Ok file)) }
 {}

@@ -10,7 +10,7 @@ use Rattle.tftp_ends.specs.declared.recv_state.RecvState.{RecvState}
 use Rattle.tftp_ends.specs.declared.recv_state.RecvState.TheVariants.{Running, Complete, TimedOut, Over}
 use Rattle.tftp_ends.specs.Ends.{granted, Receiver, receiver_next, receiver_again, receiver_running, receiver_data_in, receiver_data, receiver_take, receiver_take_in, receiver_appends, is_past, is_last_come, answer_of, IsReceiver, IsEnded}
 use Rattle.tws_file.specs.Reader.{Reading, HasTaken}
-use Rattle.archive_table.specs.Server.{IsReceiving}
+use Rattle.archive_table.specs.Table.{IsReceiving}
 use Rattle.archive_table.specs.Incoming.{HasRead}
 use Rattle.archive_table.proofs.Live.{some_none}
 

@@ -5,20 +5,20 @@ use Rattle.tftp_packet.specs.declared.endpoint.Endpoint.{Endpoint}
 use Rattle.tftp_packet.specs.declared.packet_fault.PacketFault.{PacketFault}
 use Rattle.tftp_packet.specs.Packet.{Packet}
 use Rattle.tftp_packet.specs.Decode.{decode_bytes}
-use Rattle.archive_table.specs.Server.{Grant, Maps, Server, Transfer, stays, transfer_at, transfer_heard, heard_decoded, datagram_at, server_datagram}
+use Rattle.archive_table.specs.Table.{Grant, Maps, Table, Transfer, table_stays, transfer_at, transfer_by_input, transfer_input_decoded, datagram_at, table_datagram}
 use Rattle.archive_table.specs.Steps.{packet_live}
 
-module _ (grant : Grant) (maps : Maps) (port : ℕ) (from : Endpoint) (bytes : List ℕ) (s : Server) where
+module _ (grant : Grant) (maps : Maps) (port : ℕ) (from : Endpoint) (bytes : List ℕ) (s : Table) where
   come_at : (t : Option Transfer) (packet : Packet) → Ok packet ≡ decode_bytes bytes → packet_live t grant maps port from packet s ≡ datagram_at t grant maps port from bytes s
-  come_at (Some t) packet is = ap (λ r. transfer_heard (heard_decoded t.peer from r) grant maps port from t s) is
+  come_at (Some t) packet is = ap (λ r. transfer_by_input (transfer_input_decoded t.peer from r) grant maps port from t s) is
   come_at None packet is = refl
 
-  pub packet_come : (packet : Packet) → Ok packet ≡ decode_bytes bytes → packet_live (transfer_at port s) grant maps port from packet s ≡ server_datagram grant maps port from bytes s
+  pub packet_come : (packet : Packet) → Ok packet ≡ decode_bytes bytes → packet_live (transfer_at port s) grant maps port from packet s ≡ table_datagram grant maps port from bytes s
   packet_come packet is = come_at (transfer_at port s) packet is
 
-  none_at : (t : Option Transfer) (fault : PacketFault) → Err fault ≡ decode_bytes bytes → stays s ≡ datagram_at t grant maps port from bytes s
-  none_at (Some t) fault is = ap (λ r. transfer_heard (heard_decoded t.peer from r) grant maps port from t s) is
+  none_at : (t : Option Transfer) (fault : PacketFault) → Err fault ≡ decode_bytes bytes → table_stays s ≡ datagram_at t grant maps port from bytes s
+  none_at (Some t) fault is = ap (λ r. transfer_by_input (transfer_input_decoded t.peer from r) grant maps port from t s) is
   none_at None fault is = refl
 
-  pub nothing_come : (fault : PacketFault) → Err fault ≡ decode_bytes bytes → stays s ≡ server_datagram grant maps port from bytes s
+  pub nothing_come : (fault : PacketFault) → Err fault ≡ decode_bytes bytes → table_stays s ≡ table_datagram grant maps port from bytes s
   nothing_come fault is = none_at (transfer_at port s) fault is

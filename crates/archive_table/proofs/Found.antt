@@ -4,7 +4,7 @@ use Rattle.std.proofs.Common.{refl, sym, ap, ◌∙◌, inl, inr, subst}
 use Rattle.std.specs.List.{All, filter}
 use Rattle.std.specs.BTreeMap.Range.{entries_between, range_contains}
 use Rattle.std.specs.declared.ops.Bound.{Bound}
-use Rattle.archive_table.specs.Server.{first_port}
+use Rattle.archive_table.specs.Table.{first_live}
 use Rattle.std.specs.declared.cmp.Ordering.{Ordering}
 use Rattle.std.specs.declared.cmp.Ordering.TheVariants.{Less, Equal, Greater}
 use Rattle.std.specs.Ordering.{match_ordering, is_eq, nat_cmp}
@@ -27,11 +27,11 @@ value_or d (Some x) = x
 some_same : {a b : ℕ} → Some a ≡ Some b → a ≡ b
 some_same e = ap (value_or 0) e
 
-held_head : {T : Type 0} (place : ℕ → Option T) (e : ℕ × ℕ) (es : List (ℕ × ℕ)) → All (λ k. IsSome (place k)) (values_of (e ∷ es)) → IsSome (place e.1)
-held_head place e es a = All-head (λ k. IsSome (place k)) e.1 (values_of es) a
+held_head : {T : Type 0} (slot : ℕ → Option T) (e : ℕ × ℕ) (es : List (ℕ × ℕ)) → All (λ k. IsSome (slot k)) (values_of (e ∷ es)) → IsSome (slot e.1)
+held_head slot e es a = All-head (λ k. IsSome (slot k)) e.1 (values_of es) a
 
-held_tail : {T : Type 0} (place : ℕ → Option T) (e : ℕ × ℕ) (es : List (ℕ × ℕ)) → All (λ k. IsSome (place k)) (values_of (e ∷ es)) → All (λ k. IsSome (place k)) (values_of es)
-held_tail place e es a = All-tail (λ k. IsSome (place k)) e.1 (values_of es) a
+held_tail : {T : Type 0} (slot : ℕ → Option T) (e : ℕ × ℕ) (es : List (ℕ × ℕ)) → All (λ k. IsSome (slot k)) (values_of (e ∷ es)) → All (λ k. IsSome (slot k)) (values_of es)
+held_tail slot e es a = All-tail (λ k. IsSome (slot k)) e.1 (values_of es) a
 
 other_head : (key : ℕ) (e : ℕ × ℕ) (es : List (ℕ × ℕ)) → All (λ k. k ≢ key) (values_of (e ∷ es)) → e.1 ≢ key
 other_head key e es a = All-head (λ k. k ≢ key) e.1 (values_of es) a
@@ -40,31 +40,31 @@ other_tail : (key : ℕ) (e : ℕ × ℕ) (es : List (ℕ × ℕ)) → All (λ k
 other_tail key e es a = All-tail (λ k. k ≢ key) e.1 (values_of es) a
 
 abbrev pub then_at : {T : Type 0} → (ℕ → Option T) → Option ℕ → Option T
-then_at place None = None
-then_at place (Some k) = place k
+then_at slot None = None
+then_at slot (Some k) = slot k
 
 -- a port's key leads to the value at the port
-pub lookup_found : {T : Type 0} (place : ℕ → Option T) (test : ℕ → Bool) (es : List (ℕ × ℕ)) → All (λ k. IsSome (place k)) (values_of es) → lookup test (found_at place es) ≡ then_at place (lookup test es)
-lookup_found place test [] a = refl
-lookup_found {T} place test (e ∷ es) a = by (place e.1) refl (held_head place e es a) (lookup_found place test es (held_tail place e es a))
+pub lookup_found : {T : Type 0} (slot : ℕ → Option T) (test : ℕ → Bool) (es : List (ℕ × ℕ)) → All (λ k. IsSome (slot k)) (values_of es) → lookup test (found_at slot es) ≡ then_at slot (lookup test es)
+lookup_found slot test [] a = refl
+lookup_found {T} slot test (e ∷ es) a = by (slot e.1) refl (held_head slot e es a) (lookup_found slot test es (held_tail slot e es a))
   where
-    by : (o : Option T) → place e.1 ≡ o → IsSome o → lookup test (found_at place es) ≡ then_at place (lookup test es) → lookup test (entry_at e.0 (place e.1) (found_at place es)) ≡ then_at place (lookup test (e ∷ es))
+    by : (o : Option T) → slot e.1 ≡ o → IsSome o → lookup test (found_at slot es) ≡ then_at slot (lookup test es) → lookup test (entry_at e.0 (slot e.1) (found_at slot es)) ≡ then_at slot (lookup test (e ∷ es))
     by None is s h = absurd (true≢false (sym s))
-    by (Some x) is s h = ap (λ (o : Option T). lookup test (entry_at e.0 o (found_at place es))) is ∙ elim (cases_Bool (test e.0)) [
-      | inl y ↦ if_true (Some x) _ y ∙ sym is ∙ sym (ap (then_at place) (if_true (Some e.1) (lookup test es) y))
-      | inr n ↦ if_false (Some x) _ n ∙ h ∙ sym (ap (then_at place) (if_false (Some e.1) (lookup test es) n))
+    by (Some x) is s h = ap (λ (o : Option T). lookup test (entry_at e.0 o (found_at slot es))) is ∙ elim (cases_Bool (test e.0)) [
+      | inl y ↦ if_true (Some x) _ y ∙ sym is ∙ sym (ap (then_at slot) (if_true (Some e.1) (lookup test es) y))
+      | inr n ↦ if_false (Some x) _ n ∙ h ∙ sym (ap (then_at slot) (if_false (Some e.1) (lookup test es) n))
     ]
 
 -- as many ports as keys
-pub length_found : {T : Type 0} (place : ℕ → Option T) (es : List (ℕ × ℕ)) → All (λ k. IsSome (place k)) (values_of es) → length (found_at place es) ≡ length es
-length_found place [] a = refl
-length_found {T} place (e ∷ es) a = by (place e.1) (held_head place e es a) (length_found place es (held_tail place e es a))
+pub length_found : {T : Type 0} (slot : ℕ → Option T) (es : List (ℕ × ℕ)) → All (λ k. IsSome (slot k)) (values_of es) → length (found_at slot es) ≡ length es
+length_found slot [] a = refl
+length_found {T} slot (e ∷ es) a = by (slot e.1) (held_head slot e es a) (length_found slot es (held_tail slot e es a))
   where
-    by : (o : Option T) → IsSome o → length (found_at place es) ≡ length es → length (entry_at e.0 o (found_at place es)) ≡ length (e ∷ es)
+    by : (o : Option T) → IsSome o → length (found_at slot es) ≡ length es → length (entry_at e.0 o (found_at slot es)) ≡ length (e ∷ es)
     by None s h = absurd (true≢false (sym s))
     by (Some x) s h = ap suc h
 
--- the places agree except at one key
+-- the slots agree except at one key
 abbrev pub Agree : {T : Type 0} → (old new : ℕ → Option T) → (key : ℕ) → Type 0
 Agree old new key = (other : ℕ) → other ≢ key → new other ≡ old other
 
@@ -101,7 +101,7 @@ found_insert {T} old new port key x (e ∷ es) agree at a held free = by (nat_cm
 pub at_found : (P : ℕ → Type 0) (test : ℕ → Bool) (es : List (ℕ × ℕ)) (key : ℕ) → All P (values_of es) → lookup test es ≡ Some key → P key
 at_found P test es key a h = subst (λ (o : Option ℕ). IfSome o P) h (IfSome-lookup_from_All P test es a)
 
--- a port's place is written
+-- a port's slot is written
 pub found_set : {T : Type 0} (old new : ℕ → Option T) (test : ℕ → Bool) (key : ℕ) (x : T) (es : List (ℕ × ℕ)) → Agree old new key → new key ≡ Some x → AreApart es → All (λ k. IsSome (old k)) (values_of es) → lookup test es ≡ Some key → found_at new es ≡ set_value test (found_at old es) x
 found_set {T} old new test key x [] agree at apart held h = refl
 found_set {T} old new test key x (e ∷ es) agree at apart held h = by (found_set old new test key x es agree at apart.1 (held_tail old e es held)) (old e.1) refl (held_head old e es held)
@@ -124,7 +124,7 @@ found_set {T} old new test key x (e ∷ es) agree at apart held h = by (found_se
           ∙ sym (ap (λ (o : Option T). set_value test (entry_at e.0 o (found_at old es)) x) is)
     ]
 
--- a port and its place are removed
+-- a port and its slot are removed
 pub found_remove : {T : Type 0} (old new : ℕ → Option T) (test : ℕ → Bool) (key : ℕ) (es : List (ℕ × ℕ)) → Agree old new key → AreApart es → All (λ k. IsSome (old k)) (values_of es) → lookup test es ≡ Some key → found_at new (remove_entry test es) ≡ remove_entry test (found_at old es)
 found_remove {T} old new test key [] agree apart held h = refl
 found_remove {T} old new test key (e ∷ es) agree apart held h = by (found_remove old new test key es agree apart.1 (held_tail old e es held)) (old e.1) refl (held_head old e es held)
@@ -171,10 +171,10 @@ apart_remove test (e ∷ es) apart = by (apart_remove test es apart.1) (test e.0
     by again false = (All-map-remove_entry test (λ (x : ℕ × ℕ). x.1) (λ k. k ≢ e.1) es apart.0, again)
 
 -- a key that leads nowhere is not among those that are held
-pub free_key : {T : Type 0} (place : ℕ → Option T) (key : ℕ) (es : List (ℕ × ℕ)) → place key ≡ None → All (λ k. IsSome (place k)) (values_of es) → All (λ k. k ≢ key) (values_of es)
-free_key place key es none held = All-weaker (λ k. IsSome (place k)) (λ k. k ≢ key) (λ k s q. some_is_none (place key) (subst (λ (i : ℕ). IsSome (place i)) q s) none) (values_of es) held
+pub free_key : {T : Type 0} (slot : ℕ → Option T) (key : ℕ) (es : List (ℕ × ℕ)) → slot key ≡ None → All (λ k. IsSome (slot k)) (values_of es) → All (λ k. k ≢ key) (values_of es)
+free_key slot key es none held = All-weaker (λ k. IsSome (slot k)) (λ k. k ≢ key) (λ k s q. some_is_none (slot key) (subst (λ (i : ℕ). IsSome (slot i)) q s) none) (values_of es) held
 
--- what is held stays held when one place is filled
+-- what is held stays held when one slot is filled
 pub held_filled : {T : Type 0} (old new : ℕ → Option T) (key : ℕ) (es : List (ℕ × ℕ)) → Agree old new key → All (λ k. k ≢ key) (values_of es) → All (λ k. IsSome (old k)) (values_of es) → All (λ k. IsSome (new k)) (values_of es)
 held_filled {T} old new key [] agree a held = All-nil (λ k. IsSome (new k))
 held_filled {T} old new key (e ∷ es) agree a held =
@@ -212,18 +212,18 @@ length_removed test key (e ∷ es) is = elim (cases_Bool (test e.0)) [
 
 -- ---- the next port
 
-above_found : {T : Type 0} (place : ℕ → Option T) (test : ℕ → Bool) (es : List (ℕ × ℕ)) → All (λ k. IsSome (place k)) (values_of es) → first_port (filter (λ (e : ℕ × T). test e.0) (found_at place es)) ≡ first_port (filter (λ (e : ℕ × ℕ). test e.0) es)
-above_found place test [] a = refl
-above_found {T} place test (e ∷ es) a = by (place e.1) (held_head place e es a) (above_found place test es (held_tail place e es a))
+above_found : {T : Type 0} (slot : ℕ → Option T) (test : ℕ → Bool) (es : List (ℕ × ℕ)) → All (λ k. IsSome (slot k)) (values_of es) → first_live (filter (λ (e : ℕ × T). test e.0) (found_at slot es)) ≡ first_live (filter (λ (e : ℕ × ℕ). test e.0) es)
+above_found slot test [] a = refl
+above_found {T} slot test (e ∷ es) a = by (slot e.1) (held_head slot e es a) (above_found slot test es (held_tail slot e es a))
   where
-    here : (b : Bool) (x : T) → first_port (filter (λ (e : ℕ × T). test e.0) (found_at place es)) ≡ first_port (filter (λ (e : ℕ × ℕ). test e.0) es) → first_port (cond b ((e.0, x) ∷ filter (λ (e : ℕ × T). test e.0) (found_at place es)) (filter (λ (e : ℕ × T). test e.0) (found_at place es))) ≡ first_port (cond b (e ∷ filter (λ (e : ℕ × ℕ). test e.0) es) (filter (λ (e : ℕ × ℕ). test e.0) es))
+    here : (b : Bool) (x : T) → first_live (filter (λ (e : ℕ × T). test e.0) (found_at slot es)) ≡ first_live (filter (λ (e : ℕ × ℕ). test e.0) es) → first_live (cond b ((e.0, x) ∷ filter (λ (e : ℕ × T). test e.0) (found_at slot es)) (filter (λ (e : ℕ × T). test e.0) (found_at slot es))) ≡ first_live (cond b (e ∷ filter (λ (e : ℕ × ℕ). test e.0) es) (filter (λ (e : ℕ × ℕ). test e.0) es))
     here true x again = refl
     here false x again = again
 
-    by : (o : Option T) → IsSome o → first_port (filter (λ (e : ℕ × T). test e.0) (found_at place es)) ≡ first_port (filter (λ (e : ℕ × ℕ). test e.0) es) → first_port (filter (λ (e : ℕ × T). test e.0) (entry_at e.0 o (found_at place es))) ≡ first_port (filter (λ (e : ℕ × ℕ). test e.0) (e ∷ es))
+    by : (o : Option T) → IsSome o → first_live (filter (λ (e : ℕ × T). test e.0) (found_at slot es)) ≡ first_live (filter (λ (e : ℕ × ℕ). test e.0) es) → first_live (filter (λ (e : ℕ × T). test e.0) (entry_at e.0 o (found_at slot es))) ≡ first_live (filter (λ (e : ℕ × ℕ). test e.0) (e ∷ es))
     by None s again = absurd (true≢false (sym s))
     by (Some x) s again = here (test e.0) x again
 
 -- the first port in a range is that of the first key in it
-pub first_above : {T : Type 0} (place : ℕ → Option T) (lo hi : Bound ℕ) (es : List (ℕ × ℕ)) → All (λ k. IsSome (place k)) (values_of es) → first_port (entries_between nat_cmp lo hi (found_at place es)) ≡ first_port (entries_between nat_cmp lo hi es)
-first_above place lo hi es a = above_found place (range_contains nat_cmp lo hi) es a
+pub first_above : {T : Type 0} (slot : ℕ → Option T) (lo hi : Bound ℕ) (es : List (ℕ × ℕ)) → All (λ k. IsSome (slot k)) (values_of es) → first_live (entries_between nat_cmp lo hi (found_at slot es)) ≡ first_live (entries_between nat_cmp lo hi es)
+first_above slot lo hi es a = above_found slot (range_contains nat_cmp lo hi) es a

@@ -1,4 +1,4 @@
--- Keys and places after each call on the ports.
+-- Keys and slots after each call on the ports.
 use Rattle.std.specs.Prelude.{◌≡◌, ℕ, ◌+◌, Bool, List, Option, None, Some, IsSome}
 use Rattle.std.proofs.Common.{refl, sym, ap, ◌∙◌, subst}
 use Rattle.std.specs.Ordering.{nat_cmp}
@@ -12,11 +12,11 @@ use Rattle.archive_table.specs.Ports.{found_at, AreHeld}
 use Rattle.archive_table.proofs.Found.{some_is_none, then_at, at_found, lookup_found, found_insert, found_set, found_remove, apart_insert, apart_remove, free_key, held_filled, others_left, length_inserted, length_removed}
 
 module _ {T : Type 0} (keys : List (ℕ × ℕ)) (old : Slab T) (h : AreHeld keys old) where
-  -- a port with a key has a place
+  -- a port with a key has a slot
   pub placed : (test : ℕ → Bool) (key : ℕ) → lookup test keys ≡ Some key → IsSome (get old key)
   placed test key is = at_found (λ k. IsSome (get old k)) test keys key h.held is
 
-  -- and that place has the value at the port
+  -- and that slot has the value at the port
   pub placed_at : (test : ℕ → Bool) (key : ℕ) → lookup test keys ≡ Some key → lookup test (found_at (get old) keys) ≡ get old key
   placed_at test key is = lookup_found (get old) test keys h.held ∙ ap (then_at (get old)) is
 
@@ -28,12 +28,12 @@ module _ {T : Type 0} (keys : List (ℕ × ℕ)) (old : Slab T) (h : AreHeld key
       by None is = is
       by (Some k) is = absurd (some_is_none (get old k) (placed test k is) (sym (placed_at test k is) ∙ none))
 
-  -- room reserved for a place changes nothing
+  -- room reserved for a slot changes nothing
   pub held_room : (capacity : ℕ) → AreHeld keys (record old { capacity = capacity })
   held_room capacity = record { held = h.held; apart = h.apart; all = h.all }
 
   module _ (new : Slab T) (key : ℕ) where
-    -- a new port with a new place
+    -- a new port with a new slot
     module _ (port : ℕ) (x : T) (fresh : get old key ≡ None) (up : Updates old new key (Some x)) (free : lookup (is_at (nat_cmp port)) keys ≡ None) where
       pub found_inserted : found_at (get new) (insert_entry nat_cmp keys port key) ≡ insert_entry nat_cmp (found_at (get old) keys) port x
       found_inserted = found_insert (get old) (get new) port key x keys up.others up.changed (free_key (get old) key keys fresh h.held) h.held free
@@ -46,7 +46,7 @@ module _ {T : Type 0} (keys : List (ℕ × ℕ)) (old : Slab T) (h : AreHeld key
             all = omega (arith, more, h.all, length_inserted port key keys free);
           }
 
-    -- a port and its place are removed
+    -- a port and its slot are removed
     module _ (test : ℕ → Bool) (is : lookup test keys ≡ Some key) (up : Updates old new key None) where
       pub found_removed : found_at (get new) (remove_entry test keys) ≡ remove_entry test (found_at (get old) keys)
       found_removed = found_remove (get old) (get new) test key keys up.others h.apart h.held is

@@ -5,7 +5,7 @@ use Rattle.std.specs.Map.{lookup, remove_entry, set_value}
 use Rattle.tftp_packet.specs.declared.endpoint.Endpoint.{Endpoint}
 use Rattle.tftp_packet.specs.declared.refusal.Refusal.TheVariants.{OutOfMemory, NotKept}
 use Rattle.tftp_ends.specs.Ends.{Receiver}
-use Rattle.archive_table.specs.Server.{Grant, all, no_memory, unkept, Maps, Server, Transfer, Answer, receiving, at_port, with_live, file_come, sends_from, refusal_dgram}
+use Rattle.archive_table.specs.Table.{Grant, all, no_memory, unkept, Maps, Table, Transfer, TableAnswer, receiving, at_port, with_live, file_come, sends_from, refusal_dgram}
 use Rattle.archive_table.specs.Steps.{file_done}
 use Rattle.std.proofs.lemmas.Bool.{cases_Bool, true≢false}
 
@@ -33,15 +33,15 @@ set_same {X} test (e ∷ es) v h = elim (cases_Bool (test e.0)) [
   | inr n ↦ if_false _ _ n ∙ ap (λ (l : List (ℕ × X)). e ∷ l) (set_same test es v (sym (if_false _ _ n) ∙ h))
 ]
 
-abbrev closed_with : List (ℕ × Transfer) → (port : ℕ) → Endpoint → Option (List ℕ) → Server → Answer
+abbrev closed_with : List (ℕ × Transfer) → (port : ℕ) → Endpoint → Option (List ℕ) → Table → TableAnswer
 closed_with live port peer out s =
     record {
       server = with_live live s;
-      told = record { out = sends_from port peer out; opened = false; taken = None; closed = true };
+      step = record { out = sends_from port peer out; opened = false; taken = None; closed = true };
     }
 
 -- a whole file at a port whose receiver was written
-pub done_come : (g : Grant) (maps : Maps) (port : ℕ) (peer : Endpoint) (file : List ℕ) (r : Receiver) (out : Option (List ℕ)) (s : Server) → file_done g maps port peer file out (with_live (set_value (at_port port) s.live (record { peer = peer; end = receiving r })) s) ≡ file_come g maps port peer file r out s
+pub done_come : (g : Grant) (maps : Maps) (port : ℕ) (peer : Endpoint) (file : List ℕ) (r : Receiver) (out : Option (List ℕ)) (s : Table) → file_done g maps port peer file out (with_live (set_value (at_port port) s.live (record { peer = peer; end = receiving r })) s) ≡ file_come g maps port peer file r out s
 done_come all maps port peer file r out s = refl
 done_come no_memory maps port peer file r out s = ap (λ (l : List (ℕ × Transfer)). closed_with l port peer (Some (refusal_dgram OutOfMemory)) s) (remove_set (at_port port) s.live (record { peer = peer; end = receiving r }))
 done_come unkept maps port peer file r out s = ap (λ (l : List (ℕ × Transfer)). closed_with l port peer (Some (refusal_dgram NotKept)) s) (remove_set (at_port port) s.live (record { peer = peer; end = receiving r }))

@@ -5,7 +5,7 @@ use Rattle.std.proofs.lemmas.List.{append-nil}
 use Rattle.tws_file.specs.declared.«ruleset».Ruleset.TheVariants.{Lynx, Ms}
 use Rattle.tws_file.specs.declared.file_fault.FileFault.{FileFault}
 use Rattle.tws_file.specs.Text.{File, IsText}
-use Rattle.tws_file.specs.Fault.{HasFault}
+use Rattle.tws_file.specs.Fault.{HasFileFault}
 use Rattle.tws_file.proofs.FileText.{one_file}
 use Rattle.tws_file.proofs.Faults.{text_without_fault}
 use Rattle.tws_best.specs.Best.{Collected}
@@ -13,9 +13,9 @@ use Rattle.tftp_packet.specs.declared.endpoint.Endpoint.{Endpoint}
 use Rattle.tftp_packet.specs.declared.refusal.Refusal.{Refusal}
 use Rattle.tftp_packet.specs.declared.refusal.Refusal.TheVariants.{NotKept, UnknownTransfer}
 use Rattle.tftp_packet.specs.Packet.{encode}
-use Rattle.archive_table.specs.Server.{Maps, Taken, Grant, all, no_memory, unkept, dgram_grant, refusal_dgram, IsJoined, JoinsOwn, IsMerged}
+use Rattle.archive_table.specs.Table.{Maps, Taken, Grant, all, no_memory, unkept, dgram_grant, refusal_dgram, IsFileMerge, MergesIntoOwn, IsMerged}
 use Rattle.tftp_ends.specs.Ends.{refusal_of}
-use Rattle.archive_table.specs.Keeper.{Keeping, Grows, RefusesJoin, RefusesFile, StepKeeps}
+use Rattle.archive_table.specs.Keeper.{Keeping, KeeperGrows, RefusesMerge, RefusesFile, StepKeeps}
 use Rattle.archive_table.proofs.Replies.{memory_grant, past_grant}
 use Rattle.std.proofs.lemmas.Bool.{true≢false}
 use Rattle.tftp_ends.specs.declared.recv_fault.RecvFault.{RecvFault}
@@ -25,23 +25,23 @@ abbrev pub both : Collected → Collected → Maps
 both lynx ms = record { lynx = lynx; ms = ms }
 
 -- the bytes are this file's and no other's
-own_joined : (bytes : List ℕ) (f : File) (old new : Maps) → IsText bytes f → JoinsOwn f.«ruleset» f old new → IsMerged bytes old new
-own_joined bytes f old new t own =
+own_merged : (bytes : List ℕ) (f : File) (old new : Maps) → IsText bytes f → MergesIntoOwn f.«ruleset» f old new → IsMerged bytes old new
+own_merged bytes f old new t own =
     record {
-      readable = λ file s. subst (λ (f : File). JoinsOwn f.«ruleset» f old new) (one_file bytes f file t s) own;
+      readable = λ file s. subst (λ (f : File). MergesIntoOwn f.«ruleset» f old new) (one_file bytes f file t s) own;
       unreadable = λ no. absurd (no f t);
     }
 
-pub lynx_merged : (bytes : List ℕ) (f : File) (lynx new ms : Collected) → IsText bytes f → f.«ruleset» ≡ Lynx → IsJoined f lynx new → IsMerged bytes (both lynx ms) (both new ms)
-lynx_merged bytes f lynx new ms t is joined =
-    own_joined bytes f (both lynx ms) (both new ms) t (subst (λ r. JoinsOwn r f (both lynx ms) (both new ms)) (sym is) (joined, refl))
+pub lynx_merged : (bytes : List ℕ) (f : File) (lynx new ms : Collected) → IsText bytes f → f.«ruleset» ≡ Lynx → IsFileMerge f lynx new → IsMerged bytes (both lynx ms) (both new ms)
+lynx_merged bytes f lynx new ms t is merged =
+    own_merged bytes f (both lynx ms) (both new ms) t (subst (λ r. MergesIntoOwn r f (both lynx ms) (both new ms)) (sym is) (merged, refl))
 
-pub ms_merged : (bytes : List ℕ) (f : File) (lynx ms new : Collected) → IsText bytes f → f.«ruleset» ≡ Ms → IsJoined f ms new → IsMerged bytes (both lynx ms) (both lynx new)
-ms_merged bytes f lynx ms new t is joined =
-    own_joined bytes f (both lynx ms) (both lynx new) t (subst (λ r. JoinsOwn r f (both lynx ms) (both lynx new)) (sym is) (joined, refl))
+pub ms_merged : (bytes : List ℕ) (f : File) (lynx ms new : Collected) → IsText bytes f → f.«ruleset» ≡ Ms → IsFileMerge f ms new → IsMerged bytes (both lynx ms) (both lynx new)
+ms_merged bytes f lynx ms new t is merged =
+    own_merged bytes f (both lynx ms) (both lynx new) t (subst (λ r. MergesIntoOwn r f (both lynx ms) (both lynx new)) (sym is) (merged, refl))
 
 -- bytes with a fault change nothing
-pub unread_merged : (bytes : List ℕ) (e : FileFault) (old : Maps) → HasFault bytes e → IsMerged bytes old old
+pub unread_merged : (bytes : List ℕ) (e : FileFault) (old : Maps) → HasFileFault bytes e → IsMerged bytes old old
 unread_merged bytes e old fault =
     record {
       readable = λ file t. absurd (text_without_fault bytes file e t fault);
@@ -49,13 +49,13 @@ unread_merged bytes e old fault =
     }
 
 module _ (why : Refusal) (bytes : List ℕ) (f : File) (lynx ms : Collected) (t : IsText bytes f) (before after : Option (List Keeping)) where
-  pub lynx_refused : f.«ruleset» ≡ Lynx → RefusesJoin why f lynx before after → RefusesFile why bytes (both lynx ms) before after
+  pub lynx_refused : f.«ruleset» ≡ Lynx → RefusesMerge why f lynx before after → RefusesFile why bytes (both lynx ms) before after
   lynx_refused is (inl h) = inl h
-  lynx_refused is (inr (not, (new, joined, other, fails))) = inr (not, (both new ms, lynx_merged bytes f lynx new ms t is joined, inl (refl, other, fails)))
+  lynx_refused is (inr (not, (new, merged, other, fails))) = inr (not, (both new ms, lynx_merged bytes f lynx new ms t is merged, inl (refl, other, fails)))
 
-  pub ms_refused : f.«ruleset» ≡ Ms → RefusesJoin why f ms before after → RefusesFile why bytes (both lynx ms) before after
+  pub ms_refused : f.«ruleset» ≡ Ms → RefusesMerge why f ms before after → RefusesFile why bytes (both lynx ms) before after
   ms_refused is (inl h) = inl h
-  ms_refused is (inr (not, (new, joined, other, fails))) = inr (not, (both lynx new, ms_merged bytes f lynx ms new t is joined, inr (refl, other, fails)))
+  ms_refused is (inr (not, (new, merged, other, fails))) = inr (not, (both lynx new, ms_merged bytes f lynx ms new t is merged, inr (refl, other, fails)))
 
 -- ---- the step
 
@@ -74,7 +74,7 @@ refused_keeps why peer bytes old new before after (inr (is, h)) =
     subst (λ (g : Grant). StepKeeps g (Some (record { peer = peer; file = bytes })) old new before after) (sym (ap (λ w. dgram_grant (refusal_dgram w)) is ∙ unkept_grant)) h
 
 -- a list that stays grew by nothing
-grows_not : (log : Option (List Keeping)) → Grows log log []
+grows_not : (log : Option (List Keeping)) → KeeperGrows log log []
 grows_not None = refl
 grows_not (Some ks) = sym (append-nil ks)
 

@@ -7,7 +7,7 @@ use Rattle.tftp_ends.specs.declared.recv_fault.RecvFault.{RecvFault}
 use Rattle.tftp_ends.specs.declared.recv_state.RecvState.{RecvState}
 use Rattle.tftp_ends.specs.declared.recv_state.RecvState.TheVariants.{Running, Complete, TimedOut, Over}
 use Rattle.tftp_ends.specs.Ends.{data_packet, Verdict, granted, refused, Receiver, receiver_takes, receiver_next, receiver_again, receiver_running, receiver_data_in, receiver_data, is_past, is_last_come, answer_of}
-use Rattle.archive_table.specs.Server.{all, no_memory, dgram_grant, refusal_dgram, grant_of, sends_from}
+use Rattle.archive_table.specs.Table.{all, no_memory, dgram_grant, refusal_dgram, grant_of, sends_from}
 use Rattle.archive_table.specs.Steps.{reply_grant}
 use Rattle.archive_table.proofs.Blocks.{dgram_or}
 use Rattle.tftp_packet.specs.declared.endpoint.Endpoint.{Endpoint}

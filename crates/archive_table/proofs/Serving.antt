@@ -16,7 +16,7 @@ use Rattle.std.proofs.lemmas.Map.{length-set_value, keys-set_value}
 use Rattle.std.proofs.lemmas.Map.Views.{All-values-insert_entry, All-keys-insert_entry, All-map-remove_entry, All-values-set_value}
 use Rattle.tws_file.specs.declared.«ruleset».Ruleset.TheVariants.{Lynx, Ms}
 use Rattle.archive_table.specs.declared.limits.TheConstants.{LIVE}
-use Rattle.archive_table.specs.Server.{Server, Transfer, IsEnd, AreRising, IsServer, at_port, transfer_at, with_live, has_place}
+use Rattle.archive_table.specs.Table.{Table, Transfer, IsEnd, AreRising, IsTable, at_port, transfer_at, with_live, has_slot}
 use Rattle.archive_table.proofs.Live.{if_true, if_false, some_none}
 
 -- less, equal or greater
@@ -65,7 +65,7 @@ module _ {T : Type 0} where
       by true h = omega arith
       by false h = omega (arith, h)
 
-pub set_fits : (port : ℕ) (t : Transfer) (s : Server) → IsServer s → IsEnd t.end → IsServer (with_live (set_value (at_port port) s.live t) s)
+pub set_fits : (port : ℕ) (t : Transfer) (s : Table) → IsTable s → IsEnd t.end → IsTable (with_live (set_value (at_port port) s.live t) s)
 set_fits port t s h end =
     record {
       lynx = h.lynx;
@@ -76,7 +76,7 @@ set_fits port t s h end =
       ends = All-values-set_value (at_port port) (λ t. IsEnd t.end) s.live t h.ends end;
     }
 
-pub remove_fits : (port : ℕ) (s : Server) → IsServer s → IsServer (with_live (remove_entry (at_port port) s.live) s)
+pub remove_fits : (port : ℕ) (s : Table) → IsTable s → IsTable (with_live (remove_entry (at_port port) s.live) s)
 remove_fits port s h =
     record {
       lynx = h.lynx;
@@ -87,26 +87,26 @@ remove_fits port s h =
       ends = All-map-remove_entry (at_port port) (λ (e : ℕ × Transfer). e.1) (λ t. IsEnd t.end) s.live h.ends;
     }
 
-pub insert_fits : (port : ℕ) (t : Transfer) (s : Server) → IsServer s → IsEnd t.end → port ≢ s.request → transfer_at port s ≡ None → has_place s ≡ true → IsServer (with_live (insert_entry nat_cmp s.live port t) s)
-insert_fits port t s h end other free place =
+pub insert_fits : (port : ℕ) (t : Transfer) (s : Table) → IsTable s → IsEnd t.end → port ≢ s.request → transfer_at port s ≡ None → has_slot s ≡ true → IsTable (with_live (insert_entry nat_cmp s.live port t) s)
+insert_fits port t s h end other free slot =
     record {
       lynx = h.lynx;
       ms = h.ms;
-      few = omega (arith, length_insert port t s.live, ltb-true (length s.live) LIVE place);
+      few = omega (arith, length_insert port t s.live, ltb-true (length s.live) LIVE slot);
       ordered = rising_insert port t s.live h.ordered free;
       apart = All-keys-insert_entry nat_cmp port t (λ p. p ≢ s.request) s.live h.apart other;
       ends = All-values-insert_entry nat_cmp port t (λ t. IsEnd t.end) s.live h.ends end;
     }
 
 -- the same for ports that equal those
-pub removed_fits : (port : ℕ) (live : List (ℕ × Transfer)) (s : Server) → IsServer s → live ≡ remove_entry (at_port port) s.live → IsServer (with_live live s)
-removed_fits port live s h is = subst (λ l. IsServer (with_live l s)) (sym is) (remove_fits port s h)
+pub removed_fits : (port : ℕ) (live : List (ℕ × Transfer)) (s : Table) → IsTable s → live ≡ remove_entry (at_port port) s.live → IsTable (with_live live s)
+removed_fits port live s h is = subst (λ l. IsTable (with_live l s)) (sym is) (remove_fits port s h)
 
-pub inserted_fits : (port : ℕ) (live : List (ℕ × Transfer)) (t : Transfer) (s : Server) → IsServer s → live ≡ insert_entry nat_cmp s.live port t → IsEnd t.end → port ≢ s.request → transfer_at port s ≡ None → has_place s ≡ true → IsServer (with_live live s)
-inserted_fits port live t s h is end other free place = subst (λ l. IsServer (with_live l s)) (sym is) (insert_fits port t s h end other free place)
+pub inserted_fits : (port : ℕ) (live : List (ℕ × Transfer)) (t : Transfer) (s : Table) → IsTable s → live ≡ insert_entry nat_cmp s.live port t → IsEnd t.end → port ≢ s.request → transfer_at port s ≡ None → has_slot s ≡ true → IsTable (with_live live s)
+inserted_fits port live t s h is end other free slot = subst (λ l. IsTable (with_live l s)) (sym is) (insert_fits port t s h end other free slot)
 
 -- if no port is live
-pub none_fits : (s : Server) → s.maps.lynx.«ruleset» ≡ Lynx → s.maps.ms.«ruleset» ≡ Ms → s.live ≡ [] → IsServer s
+pub none_fits : (s : Table) → s.maps.lynx.«ruleset» ≡ Lynx → s.maps.ms.«ruleset» ≡ Ms → s.live ≡ [] → IsTable s
 none_fits s lynx ms none =
     record {
       lynx = lynx;

@@ -3,7 +3,7 @@ use Rattle.std.specs.Prelude.{◌≡◌, ℕ, List, Option, IfSome, Result, Ok, 
 use Rattle.tftp_ends.specs.Ends.{Receiver, DataAnswer, receiver_take}
 use Rattle.tws_file.specs.Reader.{Reading, HasTaken}
 use Rattle.archive_table.specs.declared.incoming.Incoming.TheInside.{Inside}
-use Rattle.archive_table.specs.Server.{IsReceiving}
+use Rattle.archive_table.specs.Table.{IsReceiving}
 
 abbrev pub incoming_of : {A : Type 0} → Inside A → Receiver
 incoming_of i = i.receiver
@@ -24,6 +24,6 @@ receiver_after a = (receiver_take a.receiver).receiver
 abbrev pub file_after : DataAnswer → Option (List ℕ)
 file_after a = (receiver_take a.receiver).file
 
-abbrev pub sent_by : {S W E : Type 0} → Result (S × W) E → Result S E
-sent_by (Ok r) = Ok r.0
-sent_by (Err e) = Err e
+abbrev pub first_of_two : {S W E : Type 0} → Result (S × W) E → Result S E
+first_of_two (Ok r) = Ok r.0
+first_of_two (Err e) = Err e

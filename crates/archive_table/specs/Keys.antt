@@ -4,7 +4,7 @@ use Rattle.std.specs.Map.{lookup}
 use Rattle.archive_table.specs.declared.keys.TheConstants.{CACHE_SIZE}
 use Rattle.archive_table.specs.declared.keys.CachedPort.{CachedPort}
 use Rattle.archive_table.specs.declared.keys.Keys.TheInside.{Inside}
-use Rattle.archive_table.specs.Server.{at_port}
+use Rattle.archive_table.specs.Table.{at_port}
 
 abbrev pub entries_in : {A : Type 0} → Inside A → List (ℕ × ℕ)
 entries_in k = k.map.entries

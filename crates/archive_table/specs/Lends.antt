@@ -3,7 +3,7 @@ use Rattle.std.specs.Prelude.{ℕ, List, Option}
 use Rattle.std.specs.Borrow.{LendsIf, Fml, RattleType, MutBor}
 use Rattle.std.specs.declared.alloc.Allocator.{Ghosts}
 use Rattle.std.specs.Map.{set_value}
-use Rattle.archive_table.specs.Server.{at_port}
+use Rattle.archive_table.specs.Table.{at_port}
 use Rattle.archive_table.specs.contracts.ports.Ports.{the_row}
 
 module _ (T A : RattleType) (alloc : Ghosts A.Denot) (p : MutBor (List (ℕ × T.Denot))) (port : ℕ) where

@@ -1,5 +1,5 @@
 pub mod Published
-pub mod Server
+pub mod Table
 pub mod Steps
 pub mod Keeper
 pub mod Incoming

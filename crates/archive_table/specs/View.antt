@@ -8,7 +8,7 @@ use Rattle.archive_table.specs.declared.end.End as held
 use Rattle.archive_table.specs.declared.end.End.TheVariants as ends
 use Rattle.archive_table.specs.declared.transfer.Transfer.TheInside as transferring
 use Rattle.archive_table.specs.declared.table.Table.TheInside as tables
-use Rattle.archive_table.specs.Server.{End, sending, receiving, Transfer, Server, Taken, Told}
+use Rattle.archive_table.specs.Table.{End, sending, receiving, Transfer, Table, Taken, Step}
 use Rattle.tftp_ends.specs.Ends.{Sender, Receiver}
 
 abbrev pub keeping_of : {A : Type 0} → keepings.Inside A → Keeping
@@ -17,8 +17,8 @@ keeping_of k = record { «ruleset» = k.ruleset; text = k.text.items; ok = k.ok 
 abbrev pub taken_of : {A : Type 0} → taking.Inside A → Taken
 taken_of t = record { peer = t.peer; file = t.file }
 
-abbrev pub told_of : {A : Type 0} → stepping.Inside A → Told
-told_of s = record { out = s.out; opened = s.opened; taken = s.taken; closed = s.closed }
+abbrev pub step_of : {A : Type 0} → stepping.Inside A → Step
+step_of s = record { out = s.out; opened = s.opened; taken = s.taken; closed = s.closed }
 
 abbrev pub end_of : held.End Sender Receiver → End
 end_of (ends.Sending s) = sending s
@@ -27,5 +27,5 @@ end_of (ends.Receiving r) = receiving r
 abbrev pub transfer_of : {A : Type 0} → transferring.Inside A → Transfer
 transfer_of t = record { peer = t.peer; end = end_of t.end }
 
-abbrev pub server_of : {A : Type 0} → tables.Inside A → Server
-server_of t = record { request = t.request; maps = record { lynx = t.lynx; ms = t.ms }; live = t.live }
+abbrev pub table_of : {A : Type 0} → tables.Inside A → Table
+table_of t = record { request = t.request; maps = record { lynx = t.lynx; ms = t.ms }; live = t.live }

@@ -2,10 +2,10 @@
 
 ghost use Rattle.std.specs.Prelude.{◌≡◌, ◌+◌, ◌≤◌, ◌==◌, ◌++◌, ℕ, List, length, OnOk, IfOk, IfErr, IfSome};
 ghost use Rattle.std.specs.Option.{option_map};
-ghost use Rattle.tws_file.specs.Reader.{HasRoom, HasTaken, IsAnswer};
+ghost use Rattle.tws_file.specs.Reader.{HasRoomFor, HasTaken, IsAnswer};
 ghost use Rattle.tftp_ends.specs.Ends.{granted, verdict_of, answer_of, dgram_of, receiver_start, receiver_data, receiver_take, receiver_timeout, IsReceiver};
-ghost use Rattle.archive_table.specs.Server.{is_complete as complete_state, IsReceiving};
-ghost use Rattle.archive_table.specs.Incoming.{HasRead, receiver_after, file_after, sent_by};
+ghost use Rattle.archive_table.specs.Table.{is_complete as complete_state, IsReceiving};
+ghost use Rattle.archive_table.specs.Incoming.{HasRead, receiver_after, file_after, first_of_two};
 
 use std::alloc::Allocator;
 use std::marker::Model;
@@ -52,7 +52,7 @@ fn is_next(pushed: u16, n: u16) -> bool
 
 // Reads a block. A fault of the file's bytes has no effect before the file is whole.
 fn read_block<A: Allocator + Copy>(reader: &mut Reader<A>, body: &[u8]) -> Result<(), RecvFault>
-    requires { HasRoom reader.old body.now }
+    requires { HasRoomFor reader.old body.now }
     ensures taken { OnOk result ((bytes : List ℕ) → HasTaken reader.old bytes → HasTaken reader.new (bytes ++ body.now)) }
     ensures fault { IfErr result (λ e. e ≡ RecvFault.Memory) }
 {
@@ -131,7 +131,7 @@ impl<A: Allocator + Copy> Incoming<A> {
     ) -> Result<(Option<Dgram>, Option<Whole<A>>), RecvFault>
         requires short { length body.now ≤ 512 }
         ensures receiver { OnOk result (self.new ≡ receiver_after (receiver_data granted n body.now self.old)) }
-        ensures sent { sent_by result ≡ answer_of (receiver_data (verdict_of result) n body.now self.old).result }
+        ensures sent { first_of_two result ≡ answer_of (receiver_data (verdict_of result) n body.now self.old).result }
         ensures file { IfOk result (λ r. option_map (λ w. w.file) r.1 ≡ file_after (receiver_data granted n body.now self.old)) }
         ensures read { IfOk result (λ r. IfSome r.1 (λ w. IsAnswer w.file w.read)) }
         ensures fits { IsReceiving self.new }

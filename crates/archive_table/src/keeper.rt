@@ -1,6 +1,6 @@
 ghost use Rattle.std.specs.Prelude.{◌≡◌, ◌≤◌, ℕ, List, Option, Err, IfOk};
 ghost use Rattle.tws_best.specs.Best.{collection_text};
-ghost use Rattle.archive_table.specs.Keeper.{Keeping, Grows, Loads, FailsAt, kept_by, texts_of};
+ghost use Rattle.archive_table.specs.Keeper.{Keeping, KeeperGrows, Loads, FailsAt, kept_by, texts_of};
 
 use crate::keep_fault::KeepFault;
 use std::alloc::Allocator;
@@ -9,7 +9,7 @@ use tws_file::Ruleset;
 
 /// Keeps the collections, so that a server finds them again after a restart.
 pub trait Keeper {
-    /// What it was given to keep, in order, if this keeper tells it. One that tells it always does.
+    /// What it was given to keep, in order, if this keeper has a ghost log. One that has it always does.
     ghost log: { Self → Option (List Keeping) };
 
     /// The number of calls of the device that failed so far, saturating at the greatest u64.
@@ -20,13 +20,13 @@ pub trait Keeper {
     /// # Errors
     ///
     /// `Device` only if `failures` rose in this call or is the greatest u64; `Memory` if an allocation was refused. If
-    /// the list is told, what can be loaded does not change.
+    /// there is a log, what can be loaded does not change.
     fn keep<A: Allocator>(
         &mut self,
-        kind: Ruleset,
+        ruleset: Ruleset,
         collection: &Collection<A>,
     ) -> Result<(), KeepFault>
-        ensures log { Grows (log self.old) (log self.new) (kept_by result kind (collection_text collection.now)) }
+        ensures log { KeeperGrows (log self.old) (log self.new) (kept_by result «ruleset» (collection_text collection.now)) }
         ensures more { failed self.old ≤ failed self.new }
         ensures failed { result ≡ Err KeepFault.Device → FailsAt (failed self.old) (failed self.new) };
 
@@ -38,10 +38,10 @@ pub trait Keeper {
     fn load<A: Allocator>(
         &mut self,
         alloc: A,
-        kind: Ruleset,
+        ruleset: Ruleset,
     ) -> Result<Option<Vec<u8, A>>, KeepFault>
         ensures log { log self.new ≡ log self.old }
-        ensures text { IfOk result (λ text. Loads kind (log self.old) (texts_of text)) }
+        ensures text { IfOk result (λ text. Loads «ruleset» (log self.old) (texts_of text)) }
         ensures more { failed self.old ≤ failed self.new }
         ensures failed { result ≡ Err KeepFault.Device → FailsAt (failed self.old) (failed self.new) };
 

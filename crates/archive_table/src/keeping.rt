@@ -1,9 +1,9 @@
-//! A file that was received whole joins the collection of its ruleset, which is kept if the file changed it.
+//! A file that was received whole is merged into the collection of its ruleset, which is kept if the file changed it.
 
 ghost use Rattle.std.specs.Prelude.{◌≡◌, ◌≢◌, ◌⊎◌, ℕ, List, Err, OnOk, OnErr, IfErr};
 ghost use Rattle.tws_file.specs.Reader.{IsAnswer};
-ghost use Rattle.archive_table.specs.Server.{IsJoined, IsMerged};
-ghost use Rattle.archive_table.specs.Keeper.{KeepsOne, KeepsMaps, RefusesJoin, RefusesFile};
+ghost use Rattle.archive_table.specs.Table.{IsFileMerge, IsMerged};
+ghost use Rattle.archive_table.specs.Keeper.{KeepsOne, KeepsMaps, RefusesMerge, RefusesFile};
 
 use crate::keeper::Keeper;
 use crate::published::Published;
@@ -12,17 +12,17 @@ use tftp_packet::Refusal;
 use tws_file::{FileFault, Ruleset, TwsFile};
 
 // Merges a file into the collection of its ruleset, which is kept if that changed it. On error it does not change.
-fn join<A: Allocator + Copy, K: Keeper>(
+fn merge_into<A: Allocator + Copy, K: Keeper>(
     published: &mut Published<A>,
     keeper: &mut K,
     file: &TwsFile<A>,
 ) -> Result<(), Refusal>
-    ensures joined { OnOk result (IsJoined file.now published.old published.new) }
+    ensures merged { OnOk result (IsFileMerge file.now published.old published.new) }
     ensures unchanged { OnErr result (published.new ≡ published.old) }
     ensures rules { published.new.ruleset ≡ published.old.ruleset }
     ensures refusal { IfErr result (λ e. (e ≡ Refusal.OutOfMemory) ⊎ (e ≡ Refusal.NotKept)) }
     ensures kept { OnOk result (KeepsOne published.old published.new (K.log keeper.old) (K.log keeper.new)) }
-    ensures unkept { IfErr result (λ e. RefusesJoin e file.now published.old (K.log keeper.old) (K.log keeper.new)) }
+    ensures unkept { IfErr result (λ e. RefusesMerge e file.now published.old (K.log keeper.old) (K.log keeper.new)) }
     ensures untouched { result ≢ Err Refusal.NotKept → published.new ≡ published.old → keeper.new ≡ keeper.old }
 {
     let Ok(mut copy) = published.collection().copy() else {
@@ -59,8 +59,8 @@ pub(crate) fn merge_file<A: Allocator + Copy, K: Keeper>(
 {
     match read {
         Ok(file) => match file.ruleset {
-            Ruleset::Lynx => join(lynx, keeper, file),
-            Ruleset::Ms => join(ms, keeper, file),
+            Ruleset::Lynx => merge_into(lynx, keeper, file),
+            Ruleset::Ms => merge_into(ms, keeper, file),
         },
         Err(_) => Ok(()),
     }

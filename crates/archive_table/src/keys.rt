@@ -6,7 +6,7 @@ ghost use Rattle.std.specs.BTreeMap.{insert_entry};
 ghost use Rattle.std.specs.Ordering.{nat_cmp};
 ghost use Rattle.std.specs.BTreeMap.Range.{entries_between};
 ghost use Rattle.std.specs.declared.ops.Bound.TheVariants.{Excluded, Unbounded};
-ghost use Rattle.archive_table.specs.Server.{at_port, first_port};
+ghost use Rattle.archive_table.specs.Table.{at_port, first_live};
 
 use std::alloc::{AllocError, Allocator};
 use std::collections::BTreeMap;
@@ -110,7 +110,7 @@ impl<A: Allocator + Copy> Keys<A> {
 
     /// The least port above `after`.
     pub(crate) fn above(&self, after: u16) -> Option<u16>
-        ensures { result ≡ first_port (entries_between nat_cmp (Excluded after) Unbounded self.now) }
+        ensures { result ≡ first_live (entries_between nat_cmp (Excluded after) Unbounded self.now) }
     {
         let mut above = self.map.range((Bound::Excluded(after), Bound::Unbounded));
         match above.next() {

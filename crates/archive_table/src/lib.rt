@@ -1,7 +1,7 @@
 //! The server's table: each call takes one datagram or one time-out, changes the state, and returns at most one
 //! datagram to send.
 //!
-//! Read `specs/Server.antt` first: what a server is, and what each call does to it. README.md shows how the crate is
+//! Read `specs/Table.antt` first: what a server is, and what each call does to it. README.md shows how the crate is
 //! called.
 #![tactic(auto)]
 

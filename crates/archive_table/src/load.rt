@@ -14,18 +14,18 @@ use tws_file::{FileFault, Ruleset, read_file};
 fn read_collection<A: Allocator + Copy>(
     alloc: A,
     bytes: &[u8],
-    kind: Ruleset,
+    ruleset: Ruleset,
 ) -> Result<Collection<A>, LoadFault>
-    ensures loaded { IfOk result (λ c. IsLoaded kind (Some bytes.now) c) }
-    ensures rules { IfOk result (λ c. c.ruleset ≡ kind) }
-    ensures fault { IfErr result (λ e. IsMisread kind bytes.now e) }
+    ensures loaded { IfOk result (λ c. IsLoaded «ruleset» (Some bytes.now) c) }
+    ensures rules { IfOk result (λ c. c.ruleset ≡ «ruleset») }
+    ensures fault { IfErr result (λ e. IsMisread «ruleset» bytes.now e) }
 {
     let file = match read_file(alloc, bytes) {
         Ok(file) => file,
         Err(FileFault::Memory) => return Err(LoadFault::Memory),
         Err(fault) => return Err(LoadFault::Unreadable(fault)),
     };
-    if file.ruleset == kind {
+    if file.ruleset == ruleset {
         match Collection::load(alloc, &file) {
             Ok(collection) => Ok(collection),
             Err(_) => Err(LoadFault::Memory),
@@ -39,21 +39,21 @@ fn read_collection<A: Allocator + Copy>(
 pub(crate) fn load_collection<A: Allocator + Copy, K: Keeper>(
     alloc: A,
     keeper: &mut K,
-    kind: Ruleset,
+    ruleset: Ruleset,
 ) -> Result<Collection<A>, LoadFault>
     ensures log { K.log keeper.new ≡ K.log keeper.old }
-    ensures loaded { IfOk result (λ c. LoadedFrom kind (K.log keeper.old) c) }
-    ensures rules { IfOk result (λ c. c.ruleset ≡ kind) }
-    ensures fault { IfErr result (λ e. FailsToLoad kind (K.log keeper.old) e) }
+    ensures loaded { IfOk result (λ c. LoadedFrom «ruleset» (K.log keeper.old) c) }
+    ensures rules { IfOk result (λ c. c.ruleset ≡ «ruleset») }
+    ensures fault { IfErr result (λ e. FailsToLoad «ruleset» (K.log keeper.old) e) }
     ensures more { K.failed keeper.old ≤ K.failed keeper.new }
     ensures failed { result ≡ Err (LoadFault.Keep KeepFault.Device) → FailsAt (K.failed keeper.old) (K.failed keeper.new) }
 {
-    let text = match keeper.load(alloc, kind) {
+    let text = match keeper.load(alloc, ruleset) {
         Ok(text) => text,
         Err(fault) => return Err(LoadFault::Keep(fault)),
     };
     match text {
-        None => Ok(Collection::new(alloc, kind)),
-        Some(bytes) => read_collection(alloc, bytes.as_slice(), kind),
+        None => Ok(Collection::new(alloc, ruleset)),
+        Some(bytes) => read_collection(alloc, bytes.as_slice(), ruleset),
     }
 }

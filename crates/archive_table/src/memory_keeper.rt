@@ -1,7 +1,7 @@
 ghost use Rattle.std.specs.Prelude.{◌≡◌, ◌≢◌, ◌++◌, ◌-◌, ◌==◌, ◌&&◌, ◌≤◌, [], true, false, None, Some, Err, OnOk, IfOk, length, drop};
 ghost use Rattle.std.specs.Option.{option_map};
 ghost use Rattle.tws_best.specs.Best.{collection_text};
-ghost use Rattle.archive_table.specs.Keeper.{FailsAt, given, kept_by, last_kept, same_kind, texts_of};
+ghost use Rattle.archive_table.specs.Keeper.{FailsAt, given, kept_by, last_kept, same_ruleset, texts_of};
 
 use crate::keep_fault::KeepFault;
 use crate::keeper::Keeper;
@@ -10,7 +10,7 @@ use std::alloc::{AllocError, Allocator, Global};
 use tws_best::Collection;
 use tws_file::Ruleset;
 
-/// A keeper that keeps in memory and tells what it was given, for tests. It can be made to fail once.
+/// A keeper that keeps in memory, with a ghost log of what it was given, for tests. It can be made to fail once.
 #[derive(Drop)]
 pub struct MemoryKeeper<A: Allocator + Copy = Global> {
     alloc: A,
@@ -21,22 +21,22 @@ pub struct MemoryKeeper<A: Allocator + Copy = Global> {
 }
 
 // Whether this entry is for this ruleset and was kept.
-fn is_kept<A: Allocator>(one: &Kept<A>, kind: Ruleset) -> bool
-    ensures { result ≡ (same_kind kind one.now.ruleset && one.now.ok) }
+fn is_kept<A: Allocator>(one: &Kept<A>, ruleset: Ruleset) -> bool
+    ensures { result ≡ (same_ruleset «ruleset» one.now.ruleset && one.now.ok) }
 {
-    one.ruleset == kind && one.ok
+    one.ruleset == ruleset && one.ok
 }
 
 // The text of the last entry of this ruleset that was kept.
 #[tactic(auto, using(crate::proofs::Lasts::last_at))]
-fn last_of<A: Allocator>(kept: &[Kept<A>], kind: Ruleset) -> Option<&[u8]>
-    ensures { option_map (λ t. t.now) result ≡ last_kept kind kept.now }
+fn last_of<A: Allocator>(kept: &[Kept<A>], ruleset: Ruleset) -> Option<&[u8]>
+    ensures { option_map (λ t. t.now) result ≡ last_kept «ruleset» kept.now }
 {
     let mut i = kept.len();
     while i > 0 {
         i -= 1;
         let one = &kept[i];
-        if is_kept(one, kind) {
+        if is_kept(one, ruleset) {
             return Some(one.text.as_slice());
         }
     }
@@ -79,8 +79,8 @@ impl<A: Allocator + Copy> MemoryKeeper<A> {
     }
 
     // Adds a text, if there is one.
-    fn add(&mut self, kind: Ruleset, text: Option<Vec<u8, A>>) -> Result<(), AllocError>
-        ensures kept { OnOk result (self.new.kept.items ≡ self.old.kept.items ++ given kind (texts_of text)) }
+    fn add(&mut self, ruleset: Ruleset, text: Option<Vec<u8, A>>) -> Result<(), AllocError>
+        ensures kept { OnOk result (self.new.kept.items ≡ self.old.kept.items ++ given «ruleset» (texts_of text)) }
         ensures fails { self.new.fails_in ≡ self.old.fails_in }
         ensures failures { self.new.failures ≡ self.old.failures }
     {
@@ -88,7 +88,7 @@ impl<A: Allocator + Copy> MemoryKeeper<A> {
             return Ok(());
         };
         match self.kept.push(Kept {
-            ruleset: kind,
+            ruleset,
             text,
             ok: true,
         }) {
@@ -138,10 +138,10 @@ impl<A: Allocator + Copy> Keeper for MemoryKeeper<A> {
 
     fn keep<B: Allocator>(
         &mut self,
-        kind: Ruleset,
+        ruleset: Ruleset,
         collection: &Collection<B>,
     ) -> Result<(), KeepFault>
-        ensures log { self.new.kept.items ≡ self.old.kept.items ++ kept_by result kind (collection_text collection.now) }
+        ensures log { self.new.kept.items ≡ self.old.kept.items ++ kept_by result «ruleset» (collection_text collection.now) }
         ensures more { self.old.failures ≤ self.new.failures }
         ensures failed { result ≡ Err KeepFault.Device → FailsAt self.old.failures self.new.failures }
         ensures count { self.new.fails_in ≡ self.old.fails_in - 1 }
@@ -155,7 +155,7 @@ impl<A: Allocator + Copy> Keeper for MemoryKeeper<A> {
             return Err(KeepFault::Memory);
         };
         let one = Kept {
-            ruleset: kind,
+            ruleset,
             text,
             ok: !fails,
         };
@@ -172,10 +172,10 @@ impl<A: Allocator + Copy> Keeper for MemoryKeeper<A> {
     fn load<B: Allocator>(
         &mut self,
         alloc: B,
-        kind: Ruleset,
+        ruleset: Ruleset,
     ) -> Result<Option<Vec<u8, B>>, KeepFault>
         ensures log { self.new.kept ≡ self.old.kept }
-        ensures text { IfOk result (λ text. texts_of text ≡ last_kept kind self.old.kept.items) }
+        ensures text { IfOk result (λ text. texts_of text ≡ last_kept «ruleset» self.old.kept.items) }
         ensures more { self.old.failures ≤ self.new.failures }
         ensures failed { result ≡ Err KeepFault.Device → FailsAt self.old.failures self.new.failures }
         ensures count { self.new.fails_in ≡ self.old.fails_in - 1 }
@@ -186,7 +186,7 @@ impl<A: Allocator + Copy> Keeper for MemoryKeeper<A> {
         if self.count_call() {
             return Err(KeepFault::Device);
         }
-        let Some(text) = last_of(self.kept.as_slice(), kind) else {
+        let Some(text) = last_of(self.kept.as_slice(), ruleset) else {
             return Ok(None);
         };
         let mut copy = Vec::new(alloc);

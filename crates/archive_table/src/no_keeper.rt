@@ -6,7 +6,7 @@ use std::alloc::Allocator;
 use tws_best::Collection;
 use tws_file::Ruleset;
 
-/// A keeper that keeps nothing, loads nothing and tells nothing, for a server without a folder.
+/// A keeper that keeps nothing, loads nothing and has no ghost log, for a server without a folder.
 #[derive(Clone, Copy, Debug)]
 pub struct NoKeeper;
 

@@ -7,18 +7,18 @@ ghost use Rattle.std.specs.BTreeMap.{insert_entry};
 ghost use Rattle.std.specs.Ordering.{nat_cmp};
 ghost use Rattle.std.specs.BTreeMap.Range.{entries_between};
 ghost use Rattle.std.specs.declared.ops.Bound.TheVariants.{Excluded, Unbounded};
-ghost use Rattle.archive_table.specs.Server.{at_port, first_port};
+ghost use Rattle.archive_table.specs.Table.{at_port, first_live};
 
 use crate::keys::Keys;
 use slab::Slab;
 use std::alloc::{AllocError, Allocator};
 use std::marker::Model;
 
-/// The value at each live port: the port leads to a key, and the key to a place in a slab.
+/// The value at each live port: the port leads to a key, and the key to a slot of a slab.
 #[derive(Drop)]
 pub(crate) struct Ports<T, A: Allocator + Copy> {
     keys: Keys<A>,
-    places: Slab<T, A>,
+    slots: Slab<T, A>,
 }
 
 impl<T, A: Allocator + Copy> Model for Ports<T, A> {
@@ -28,9 +28,9 @@ impl<T, A: Allocator + Copy> Model for Ports<T, A> {
 
     ghost Value = { List (ℕ × T) };
 
-    ghost view = { λ p. found_at (get p.places) p.keys };
+    ghost view = { λ p. found_at (get p.slots) p.keys };
 
-    ghost invariant = { λ p. AreHeld p.keys p.places };
+    ghost invariant = { λ p. AreHeld p.keys p.slots };
 }
 
 impl<T: Drop, A: Allocator + Copy> Ports<T, A> {
@@ -43,7 +43,7 @@ impl<T: Drop, A: Allocator + Copy> Ports<T, A> {
     {
         Ports {
             keys: Keys::new(alloc),
-            places: Slab::new(alloc),
+            slots: Slab::new(alloc),
         }
     }
 
@@ -68,7 +68,7 @@ impl<T: Drop, A: Allocator + Copy> Ports<T, A> {
         ensures { option_copied result ≡ lookup (at_port port) self.now }
     {
         let key = self.keys.get(port)?;
-        self.places.get(key)
+        self.slots.get(key)
     }
 
     /// Puts `value` at a port that is not live. On error nothing changes.
@@ -78,10 +78,10 @@ impl<T: Drop, A: Allocator + Copy> Ports<T, A> {
         ensures inserted { OnOk result (self.new ≡ insert_entry nat_cmp self.old port value) }
         ensures unchanged { OnErr result (self.new ≡ self.old) }
     {
-        self.places.reserve(1)?;
-        let key = self.places.vacant_key();
+        self.slots.reserve(1)?;
+        let key = self.slots.vacant_key();
         self.keys.insert(port, key)?;
-        self.places.insert_reserved(value);
+        self.slots.insert_reserved(value);
         Ok(())
     }
 
@@ -92,13 +92,13 @@ impl<T: Drop, A: Allocator + Copy> Ports<T, A> {
         ensures value { option_copied_mut result ≡ lookup (at_port port) self.old }
     {
         let key = self.keys.get(port)?;
-        Some(&mut self.places[key])
+        Some(&mut self.slots[key])
     }
 
     /// The least live port above `after`.
     #[tactic(auto, using(crate::proofs::Found::first_above))]
     pub(crate) fn above(&self, after: u16) -> Option<u16>
-        ensures { result ≡ first_port (entries_between nat_cmp (Excluded after) Unbounded self.now) }
+        ensures { result ≡ first_live (entries_between nat_cmp (Excluded after) Unbounded self.now) }
     {
         self.keys.above(after)
     }
@@ -108,7 +108,7 @@ impl<T: Drop, A: Allocator + Copy> Ports<T, A> {
         ensures { self.new ≡ remove_entry (at_port port) self.old }
     {
         if let Some(key) = self.keys.remove(port) {
-            self.places.remove(key);
+            self.slots.remove(key);
         }
     }
 }

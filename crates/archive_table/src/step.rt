@@ -1,7 +1,7 @@
 ghost use Rattle.std.specs.Prelude.{◌≡◌, false, None, Some};
 ghost use Rattle.tftp_packet.specs.Refusal.{refusal_packet};
 ghost use Rattle.tftp_packet.specs.declared.refusal.Refusal.TheVariants.{UnknownTransfer};
-ghost use Rattle.archive_table.specs.Server.{nothing_told, sends_from, out_from, grant_of, all};
+ghost use Rattle.archive_table.specs.Table.{empty_step, sends_from, out_from, grant_of, all};
 
 use crate::taken::Taken;
 use std::alloc::{Allocator, Global};
@@ -23,19 +23,19 @@ pub struct Step<A: Allocator = Global> {
 }
 
 impl<A: Allocator> Model for Step<A> {
-    ghost use Rattle.archive_table.specs.Server.{Told};
+    ghost use Rattle.archive_table.specs.Table.{Step as Stepped};
 
-    ghost Value = { Told };
+    ghost Value = { Stepped };
 
-    ghost use Rattle.archive_table.specs.View.{told_of};
+    ghost use Rattle.archive_table.specs.View.{step_of};
 
-    ghost view = { told_of };
+    ghost view = { step_of };
 }
 
 impl<A: Allocator> Step<A> {
     // The empty step.
     pub(crate) fn nothing() -> Self
-        ensures { result ≡ nothing_told }
+        ensures { result ≡ empty_step }
     {
         Step {
             out: None,
@@ -63,8 +63,8 @@ impl<A: Allocator> Step<A> {
     // 4.
     #[tactic(auto, using(crate::proofs::Merged::stray_grant))]
     pub(crate) fn answer_stranger(&mut self, port: u16, from: Endpoint)
-        requires new { self.old ≡ nothing_told }
-        ensures told { self.new ≡ record { out = Some (out_from port from (refusal_packet UnknownTransfer)); opened = false; taken = None; closed = false } }
+        requires new { self.old ≡ empty_step }
+        ensures step { self.new ≡ record { out = Some (out_from port from (refusal_packet UnknownTransfer)); opened = false; taken = None; closed = false } }
         ensures grant { grant_of self.new.out ≡ all }
     {
         self.set_out(port, from, Some(Refusal::UnknownTransfer.dgram()));

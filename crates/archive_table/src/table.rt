@@ -1,7 +1,7 @@
 //! The table of a server.
 
 ghost use Rattle.std.specs.Prelude.{◌≡◌, ◌≢◌, ◌<◌, ◌≤◌, ◌^◌, None, Some, Err, IfOk, IfErr, true, length, is_some};
-ghost use Rattle.archive_table.specs.Server.{empty_server, is_dallying as dallies_at, nothing_told, peer_at, refuses, opens_if, request_verdict, server_request, server_timeout, transfer_at, has_place, read_asked, read_placed, write_asked, map_of, port_above, IsEnd, IsServer, server_datagram, grant_of, all, unkept, Merges};
+ghost use Rattle.archive_table.specs.Table.{empty_table, is_dallying as dallies_at, empty_step, peer_at, refuses, opens_if, request_verdict, table_request, table_timeout, transfer_at, has_slot, read_asked, read_with_slot, write_asked, map_of, port_above, IsEnd, IsTable, table_datagram, grant_of, all, unkept, Merges};
 ghost use Rattle.tftp_packet.specs.Packet.{is_octet as octet_mode};
 ghost use Rattle.tws_best.specs.Best.{collection_text};
 ghost use Rattle.tws_best.specs.Frozen.{frozen_text};
@@ -40,22 +40,22 @@ pub struct Table<A: Allocator + Copy = Global> {
 }
 
 impl<A: Allocator + Copy> Model for Table<A> {
-    ghost use Rattle.archive_table.specs.Server.{Server, IsServer};
+    ghost use Rattle.archive_table.specs.Table.{Table as Plain, IsTable};
 
-    ghost Value = { Server };
+    ghost Value = { Plain };
 
-    ghost use Rattle.archive_table.specs.View.{server_of};
+    ghost use Rattle.archive_table.specs.View.{table_of};
 
-    ghost view = { server_of };
+    ghost view = { table_of };
 
-    ghost invariant = { λ t. IsServer (server_of t) };
+    ghost invariant = { λ t. IsTable (table_of t) };
 }
 
 impl<A: Allocator + Copy> Table<A> {
     /// Returns a server with this request port, empty collections and no transfer. Does not allocate.
     pub fn new(alloc: A, request: u16) -> Self
-        ensures server { result ≡ empty_server request }
-        ensures fits { IsServer result }
+        ensures server { result ≡ empty_table request }
+        ensures fits { IsTable result }
     {
         Table {
             alloc,
@@ -78,7 +78,7 @@ impl<A: Allocator + Copy> Table<A> {
         ensures fault { IfErr result (TableFails (K.log keeper.old)) }
         ensures log { K.log keeper.new ≡ K.log keeper.old }
         ensures failed { result ≡ Err (LoadFault.Keep KeepFault.Device) → FailsAt (K.failed keeper.old) (K.failed keeper.new) }
-        ensures fits { IfOk result IsServer }
+        ensures fits { IfOk result IsTable }
     {
         let lynx = load_collection(alloc, keeper, Ruleset::Lynx)?;
         let ms = load_collection(alloc, keeper, Ruleset::Ms)?;
@@ -93,8 +93,8 @@ impl<A: Allocator + Copy> Table<A> {
 
     // Refuses a request, from the request port.
     fn refuse(&self, from: Endpoint, why: Refusal) -> Step<A>
-        ensures told { result ≡ (refuses why from self.now).told }
-        ensures fits { IsServer self.now }
+        ensures step { result ≡ (refuses why from self.now).step }
+        ensures fits { IsTable self.now }
     {
         let mut step = Step::nothing();
         step.set_out(self.request, from, Some(why.dgram()));
@@ -110,13 +110,13 @@ impl<A: Allocator + Copy> Table<A> {
         end: End<Sender<Rc<Snapshot<A>, A>>, Incoming<A>>,
         first: Dgram,
     ) -> Step<A>
-        requires place { has_place self.old ≡ true }
+        requires slot { has_slot self.old ≡ true }
         requires end { IsEnd (end_of end) }
         requires other { spare ≢ self.old.request }
         requires free { transfer_at spare self.old ≡ None }
         ensures server { self.new ≡ (opens_if (request_verdict result.opened) spare from (end_of end) first self.old).server }
-        ensures told { result ≡ (opens_if (request_verdict result.opened) spare from (end_of end) first self.old).told }
-        ensures fits { IsServer self.new }
+        ensures step { result ≡ (opens_if (request_verdict result.opened) spare from (end_of end) first self.old).step }
+        ensures fits { IsTable self.new }
     {
         match self.live.insert(spare, Transfer { peer: from, end }) {
             Ok(_) => Step {
@@ -138,13 +138,13 @@ impl<A: Allocator + Copy> Table<A> {
         requires other { spare ≢ self.old.request }
         requires free { transfer_at spare self.old ≡ None }
         ensures server { self.new ≡ (write_asked (octet_mode mode.now) (request_verdict result.opened) spare from self.old).server }
-        ensures told { result ≡ (write_asked (octet_mode mode.now) (request_verdict result.opened) spare from self.old).told }
-        ensures fits { IsServer self.new }
+        ensures step { result ≡ (write_asked (octet_mode mode.now) (request_verdict result.opened) spare from self.old).step }
+        ensures fits { IsTable self.new }
     {
         if !is_octet(mode) {
             return self.refuse(from, Refusal::OctetOnly);
         }
-        if !self.has_place() {
+        if !self.has_slot() {
             return self.refuse(from, Refusal::ServerBusy);
         }
         let incoming = Incoming::new(self.alloc);
@@ -156,33 +156,33 @@ impl<A: Allocator + Copy> Table<A> {
         requires other { spare ≢ self.old.request }
         requires free { transfer_at spare self.old ≡ None }
         ensures server { self.new ≡ (read_asked (octet_mode mode.now) (request_verdict result.opened) spare from name.now self.old).server }
-        ensures told { result ≡ (read_asked (octet_mode mode.now) (request_verdict result.opened) spare from name.now self.old).told }
-        ensures fits { IsServer self.new }
+        ensures step { result ≡ (read_asked (octet_mode mode.now) (request_verdict result.opened) spare from name.now self.old).step }
+        ensures fits { IsTable self.new }
     {
         if !is_octet(mode) {
             return self.refuse(from, Refusal::OctetOnly);
         }
         match Ruleset::from_file_name(name) {
-            Some(kind) => self.on_named(spare, from, kind),
+            Some(ruleset) => self.on_named(spare, from, ruleset),
             None => self.refuse(from, Refusal::NoSuchFile),
         }
     }
 
     // Handles a request to read the collection of a ruleset.
-    fn on_named(&mut self, spare: u16, from: Endpoint, kind: Ruleset) -> Step<A>
+    fn on_named(&mut self, spare: u16, from: Endpoint, ruleset: Ruleset) -> Step<A>
         requires other { spare ≢ self.old.request }
         requires free { transfer_at spare self.old ≡ None }
-        ensures server { self.new ≡ (read_placed (has_place self.old) (request_verdict result.opened) spare from (map_of kind self.old.maps) self.old).server }
-        ensures told { result ≡ (read_placed (has_place self.old) (request_verdict result.opened) spare from (map_of kind self.old.maps) self.old).told }
-        ensures fits { IsServer self.new }
+        ensures server { self.new ≡ (read_with_slot (has_slot self.old) (request_verdict result.opened) spare from (map_of «ruleset» self.old.maps) self.old).server }
+        ensures step { result ≡ (read_with_slot (has_slot self.old) (request_verdict result.opened) spare from (map_of «ruleset» self.old.maps) self.old).step }
+        ensures fits { IsTable self.new }
     {
-        if !self.has_place() {
+        if !self.has_slot() {
             return self.refuse(from, Refusal::ServerBusy);
         }
-        if self.text_len(kind) > u128::from(MAX_FILE) {
+        if self.text_len(ruleset) > u128::from(MAX_FILE) {
             return self.refuse(from, Refusal::CollectionTooLong);
         }
-        let Ok(snapshot) = self.snapshot(kind) else {
+        let Ok(snapshot) = self.snapshot(ruleset) else {
             return self.refuse(from, Refusal::OutOfMemory);
         };
         let (sender, first) = Sender::start(snapshot);
@@ -190,22 +190,22 @@ impl<A: Allocator + Copy> Table<A> {
     }
 
     // The length of a collection's text in bytes.
-    fn text_len(&self, kind: Ruleset) -> u128
-        ensures { result ≡ length (collection_text (map_of kind self.now.maps)) }
+    fn text_len(&self, ruleset: Ruleset) -> u128
+        ensures { result ≡ length (collection_text (map_of «ruleset» self.now.maps)) }
     {
-        match kind {
+        match ruleset {
             Ruleset::Lynx => self.lynx.text_len(),
             Ruleset::Ms => self.ms.text_len(),
         }
     }
 
     // The snapshot of a collection's text.
-    fn snapshot(&mut self, kind: Ruleset) -> Result<Rc<Snapshot<A>, A>, AllocError>
-        requires { length (collection_text (map_of kind self.old.maps)) < 2 ^ 64 }
+    fn snapshot(&mut self, ruleset: Ruleset) -> Result<Rc<Snapshot<A>, A>, AllocError>
+        requires { length (collection_text (map_of «ruleset» self.old.maps)) < 2 ^ 64 }
         ensures same { self.new ≡ self.old }
-        ensures text { IfOk result (λ s. frozen_text s.value ≡ collection_text (map_of kind self.old.maps)) }
+        ensures text { IfOk result (λ s. frozen_text s.value ≡ collection_text (map_of «ruleset» self.old.maps)) }
     {
-        match kind {
+        match ruleset {
             Ruleset::Lynx => self.lynx.snapshot(self.alloc),
             Ruleset::Ms => self.ms.snapshot(self.alloc),
         }
@@ -224,10 +224,10 @@ impl<A: Allocator + Copy> Table<A> {
     pub fn on_request(&mut self, spare: u16, from: Endpoint, bytes: &[u8]) -> Step<A>
         requires other { spare ≢ self.old.request }
         requires free { transfer_at spare self.old ≡ None }
-        ensures server { self.new ≡ (server_request (request_verdict result.opened) spare from bytes.now self.old).server }
-        ensures told { result ≡ (server_request (request_verdict result.opened) spare from bytes.now self.old).told }
+        ensures server { self.new ≡ (table_request (request_verdict result.opened) spare from bytes.now self.old).server }
+        ensures step { result ≡ (table_request (request_verdict result.opened) spare from bytes.now self.old).step }
         ensures request { self.new.request ≡ self.old.request }
-        ensures fits { IsServer self.new }
+        ensures fits { IsTable self.new }
     {
         match decode(bytes) {
             Ok(Packet::Read { name, mode }) => self.on_read(spare, from, name, mode),
@@ -237,16 +237,16 @@ impl<A: Allocator + Copy> Table<A> {
     }
 
     // Whether one more transfer can be opened.
-    fn has_place(&self) -> bool
-        ensures { result ≡ has_place self.now }
+    fn has_slot(&self) -> bool
+        ensures { result ≡ has_slot self.now }
     {
         self.live.len() < LIVE
     }
 
     // Handles any other datagram at the request port. The field is read because only then is the invariant known here.
     fn ignore(&self) -> Step<A>
-        ensures told { result ≡ nothing_told }
-        ensures fits { IsServer self.now }
+        ensures step { result ≡ empty_step }
+        ensures fits { IsTable self.now }
     {
         let _request = self.request;
         Step::nothing()
@@ -257,11 +257,11 @@ impl<A: Allocator + Copy> Table<A> {
     ///
     /// From a source other than the peer an ERROR has no effect, and any other packet is answered with ERROR 5, RFC
     /// 1350 section 4, and changes nothing. An ERROR from the peer closes the transfer. An ACK goes to a sender, a DATA
-    /// to a receiver. When a DATA completes a file, its solutions join the collection of its ruleset, which is kept if
-    /// that changed it, before the DATA is acknowledged; then the file is taken. Bytes that are not a solution file are
-    /// taken and change nothing. A block that makes the file too long, an allocation that is refused, or a collection
-    /// that is not kept closes the transfer with an ERROR, and no collection changes. At a port that is not live the
-    /// step is empty.
+    /// to a receiver. When a DATA completes a file, its solutions are merged into the collection of its ruleset, which
+    /// is kept if that changed it, before the DATA is acknowledged; then the file is taken. Bytes that are not a
+    /// solution file are taken and change nothing. A block that makes the file too long, an allocation that is refused,
+    /// or a collection that is not kept closes the transfer with an ERROR, and no collection changes. At a port that is
+    /// not live the step is empty.
     #[tactic(auto, using(crate::proofs::SamePort::datagram_same))]
     pub fn on_datagram<K: Keeper>(
         &mut self,
@@ -270,27 +270,27 @@ impl<A: Allocator + Copy> Table<A> {
         from: Endpoint,
         bytes: &[u8],
     ) -> Step<A>
-        ensures server { self.new ≡ (server_datagram (grant_of result.out) self.new.maps port from bytes.now self.old).server }
-        ensures told { result ≡ (server_datagram (grant_of result.out) self.new.maps port from bytes.now self.old).told }
+        ensures server { self.new ≡ (table_datagram (grant_of result.out) self.new.maps port from bytes.now self.old).server }
+        ensures step { result ≡ (table_datagram (grant_of result.out) self.new.maps port from bytes.now self.old).step }
         ensures merges { Merges result.taken self.old.maps self.new.maps }
         ensures request { self.new.request ≡ self.old.request }
-        ensures keeps { StepKeeps (grant_of result.out) (server_datagram all self.old.maps port from bytes.now self.old).told.taken self.old.maps self.new.maps (K.log keeper.old) (K.log keeper.new) }
+        ensures keeps { StepKeeps (grant_of result.out) (table_datagram all self.old.maps port from bytes.now self.old).step.taken self.old.maps self.new.maps (K.log keeper.old) (K.log keeper.new) }
         // The keeper is called only for a collection that changes, or that would change if it were kept.
         ensures untouched { grant_of result.out ≢ unkept → self.new.maps ≡ self.old.maps → keeper.new ≡ keeper.old }
-        ensures fits { IsServer self.new }
+        ensures fits { IsTable self.new }
     {
         let mut step = Step::nothing();
-        self.hear(keeper, port, from, bytes, &mut step);
+        self.handle(keeper, port, from, bytes, &mut step);
         step
     }
 
     // Handles a time-out at a port. The step is written in place, like that of a datagram.
     #[tactic(auto, using(crate::proofs::Live::remove_set, crate::proofs::Live::set_same))]
     fn time_out(&mut self, port: u16, step: &mut Step<A>)
-        requires new { step.old ≡ nothing_told }
-        ensures server { self.new ≡ (server_timeout port self.old).server }
-        ensures told { step.new ≡ (server_timeout port self.old).told }
-        ensures fits { IsServer self.new }
+        requires new { step.old ≡ empty_step }
+        ensures server { self.new ≡ (table_timeout port self.old).server }
+        ensures step { step.new ≡ (table_timeout port self.old).step }
+        ensures fits { IsTable self.new }
     {
         let Some(transfer) = self.live.get_mut(port) else {
             return;
@@ -319,10 +319,10 @@ impl<A: Allocator + Copy> Table<A> {
     /// port that is not live the step is empty.
     #[tactic(auto, using(crate::proofs::SamePort::timeout_same))]
     pub fn on_timeout(&mut self, port: u16) -> Step<A>
-        ensures server { self.new ≡ (server_timeout port self.old).server }
-        ensures told { result ≡ (server_timeout port self.old).told }
+        ensures server { self.new ≡ (table_timeout port self.old).server }
+        ensures step { result ≡ (table_timeout port self.old).step }
         ensures request { self.new.request ≡ self.old.request }
-        ensures fits { IsServer self.new }
+        ensures fits { IsTable self.new }
     {
         let mut step = Step::nothing();
         self.time_out(port, &mut step);
@@ -330,10 +330,10 @@ impl<A: Allocator + Copy> Table<A> {
     }
 
     /// The collection of a ruleset.
-    pub fn collection(&self, kind: Ruleset) -> &Collection<A>
-        ensures { result.now ≡ map_of kind self.now.maps }
+    pub fn collection(&self, ruleset: Ruleset) -> &Collection<A>
+        ensures { result.now ≡ map_of «ruleset» self.now.maps }
     {
-        match kind {
+        match ruleset {
             Ruleset::Lynx => self.lynx.collection(),
             Ruleset::Ms => self.ms.collection(),
         }

@@ -14,7 +14,7 @@ pub struct Taken<A: Allocator = Global> {
 }
 
 impl<A: Allocator> Model for Taken<A> {
-    ghost use Rattle.archive_table.specs.Server.{Taken as Took};
+    ghost use Rattle.archive_table.specs.Table.{Taken as Took};
 
     ghost Value = { Took };
 

@@ -1,7 +1,7 @@
 //! One transfer at the server.
 
 ghost use Rattle.std.specs.Prelude.{◌≡◌};
-ghost use Rattle.archive_table.specs.Server.{is_done, is_same};
+ghost use Rattle.archive_table.specs.Table.{is_done, is_same};
 
 use crate::end::End;
 use crate::incoming::Incoming;
@@ -20,7 +20,7 @@ pub(crate) struct Transfer<A: Allocator + Copy> {
 }
 
 impl<A: Allocator + Copy> Model for Transfer<A> {
-    ghost use Rattle.archive_table.specs.Server.{Transfer as Transferring};
+    ghost use Rattle.archive_table.specs.Table.{Transfer as Transferring};
 
     ghost Value = { Transferring };
 

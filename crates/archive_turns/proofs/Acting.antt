@@ -14,13 +14,13 @@ pub acts_keep : (log : Option (List Entry)) (closes : Bool) (port : ℕ) → clo
 acts_keep log true port e = cc
 acts_keep log false port e = record { replies = record { sent = true; closed = true }; log = grows_none log }
 
-pub sends_some : {before after : Option (List Entry)} (told : Option Out) (out : Out) (ok : Bool) → told ≡ Some out → Grows before after (sent out ok ∷ []) → SendsOut told before after
-sends_some {before} {after} told out ok e grows =
+pub sends_some : {before after : Option (List Entry)} (reply : Option Out) (out : Out) (ok : Bool) → reply ≡ Some out → Grows before after (sent out ok ∷ []) → SendsOut reply before after
+sends_some {before} {after} reply out ok e grows =
     let here : SendsOut (Some out) before after = record { ok = ok; log = grows } in
     subst (λ (o : Option Out). SendsOut o before after) (sym e) here
 
-pub sends_none : (log : Option (List Entry)) (told : Option Out) → told ≡ None → SendsOut told log log
-sends_none log told e =
+pub sends_none : (log : Option (List Entry)) (reply : Option Out) → reply ≡ None → SendsOut reply log log
+sends_none log reply e =
     let here : SendsOut None log log = record { ok = true; log = grows_none log } in
     subst (λ (o : Option Out). SendsOut o log log) (sym e) here
 

@@ -11,7 +11,7 @@ same_grown (Some k) log e = let same : k ≡ log = cc in sym same ∙ sym (appen
 
 -- a log that does not change
 pub grows_none : (log : Option (List Entry)) → Grows log log []
-grows_none log = record { told = same_grown log }
+grows_none log = record { reported = same_grown log }
 
 joined_grown : (a b : Option (List Entry)) (log xs ys : List Entry) → ((m : List Entry) → b ≡ Some m → IsGrown a m xs) → IsGrown b log ys → IsGrown a log (xs ++ ys)
 joined_grown a None log xs ys first then = absurd then
@@ -20,7 +20,7 @@ joined_grown (Some k) (Some m) log xs ys first then = then ∙ ap (λ (l : List 
 
 -- two growths, one after the other
 pub grows_join : {a b c : Option (List Entry)} {xs ys : List Entry} → Grows a b xs → Grows b c ys → Grows a c (xs ++ ys)
-grows_join {a} {b} {c} {xs} {ys} first then = record { told = λ log e. joined_grown a b log xs ys first.told (then.told log e) }
+grows_join {a} {b} {c} {xs} {ys} first then = record { reported = λ log e. joined_grown a b log xs ys first.reported (then.reported log e) }
 
 -- the entry that `receive` logs, by its result
 pub grows_come : {before after : Option (List Entry)} (port : ℕ) (buffer : List ℕ) (got : Option (ℕ × Endpoint)) (count : ℕ) (from : Endpoint) → got ≡ Some (count, from) → Grows before after (received port (Ok got) buffer ∷ []) → Grows before after (came port from (take count buffer) ∷ [])

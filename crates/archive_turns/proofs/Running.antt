@@ -13,7 +13,7 @@ use Rattle.archive_turns.specs.declared.run_fault.RunFault.{RunFault}
 use Rattle.archive_turns.specs.declared.run_fault.RunFault.TheVariants as fails
 use Rattle.archive_turns.specs.Wire.{Entry, opened, closed, came, quiet, failed, sent, Grows}
 use Rattle.archive_turns.specs.Turn.{Replies, datagram, nothing, fault}
-use Rattle.archive_turns.specs.Run.{Run, Begun, Begins, begin_sized, begin_started, run_heard, run_quiet, run_received, MakesRan, MakesRunTurn, none, more, MakesSome}
+use Rattle.archive_turns.specs.Run.{Run, RunBegun, Begins, begin_sized, begin_started, run_datagram, run_quiet, run_received, MakesRan, MakesRunTurn, none, more, MakesSome}
 use Rattle.archive_turns.proofs.Log.{grows_none, grows_join}
 
 abbrev replies : (send_done close_done : Bool) → Replies
@@ -38,8 +38,8 @@ begin_made {before} {mid} {after} server operation port c out ok short c-is out-
     record {
       port = Some port;
       replies = replies ok true;
-      result_is = ap (λ (x : Client). ok_run (run_at x port)) c-is ∙ ap (λ (b : Begun). b.result) used;
-      log = subst (λ (b : Begun). Grows before after b.calls) used (grows_join first goes);
+      result_is = ap (λ (x : Client). ok_run (run_at x port)) c-is ∙ ap (λ (b : RunBegun). b.result) used;
+      log = subst (λ (b : RunBegun). Grows before after b.calls) used (grows_join first goes);
     }
 
 pub begin_long : {before mid after : Option (List Entry)} (server : Endpoint) (operation : Operation) (port : ℕ) (ok : Bool) → is_too_long operation ≡ true → Grows before mid (opened (Some port) ∷ []) → Grows mid after (closed port ok ∷ []) → Begins server operation (Err (fails.Transfer cause.TooLong)) before after
@@ -48,8 +48,8 @@ begin_long {before} {mid} {after} server operation port ok long first then =
     record {
       port = Some port;
       replies = replies true ok;
-      result_is = ap (λ (b : Begun). b.result) used;
-      log = subst (λ (b : Begun). Grows before after b.calls) used (grows_join first then);
+      result_is = ap (λ (b : RunBegun). b.result) used;
+      log = subst (λ (b : RunBegun). Grows before after b.calls) used (grows_join first then);
     }
 
 pub short_put : (file : List ℕ) → length file ≤ MAX_FILE → is_too_long (put file) ≡ false
@@ -63,8 +63,8 @@ long_put file long = lt-ltb MAX_FILE (length file) long
 
 -- ---- a turn
 
-pub turn_heard : {before mid after : Option (List Entry)} (from : Endpoint) (bytes : List ℕ) (verdict : Verdict) (port : ℕ) (old new : Run) → port ≡ old.port → Grows before mid (came port from bytes ∷ []) → MakesRan (λ ok. run_heard from bytes verdict old ok) new mid after → MakesRunTurn old new before after
-turn_heard {before} {mid} {after} from bytes verdict port old new e first ran =
+pub turn_received : {before mid after : Option (List Entry)} (from : Endpoint) (bytes : List ℕ) (verdict : Verdict) (port : ℕ) (old new : Run) → port ≡ old.port → Grows before mid (came port from bytes ∷ []) → MakesRan (λ ok. run_datagram from bytes verdict old ok) new mid after → MakesRunTurn old new before after
+turn_received {before} {mid} {after} from bytes verdict port old new e first ran =
     let here : Grows before mid (came old.port from bytes ∷ []) = subst (λ (p : ℕ). Grows before mid (came p from bytes ∷ [])) e first in
     record {
       calls = (run_received (datagram from bytes) verdict ran.ok old).calls;

@@ -60,15 +60,15 @@ memory_of w =
     }
 
 -- the log, as long as it has an entry for each call
-abbrev pub told_by : (telling : Bool) → List Entry → Option (List Entry)
-told_by true log = Some log
-told_by false log = None
+abbrev pub reported_by : (telling : Bool) → List Entry → Option (List Entry)
+reported_by true log = Some log
+reported_by false log = None
 
 -- ---- what a call does to it
 
 -- a datagram arrives
-abbrev pub arrives : (port : ℕ) (from : Endpoint) (bytes : List ℕ) → Memory → Memory
-arrives port from bytes w =
+abbrev pub arrives_at : (port : ℕ) (from : Endpoint) (bytes : List ℕ) → Memory → Memory
+arrives_at port from bytes w =
     record w { inbox = w.inbox ++ record { port = port; from = from; bytes = bytes } ∷ [] }
 
 -- one call fewer is left until the one that fails
@@ -79,13 +79,13 @@ counts_call w = record w { fails_in = w.fails_in - 1 }
 abbrev pub rises : Memory → Memory
 rises w = record w { failures = min (w.failures + 1) (2 ^ 64 - 1) }
 
--- an entry joins the log if there is memory for it; otherwise the log is no longer told
+-- an entry is added to the log if there is memory for it; otherwise there is no log any more
 abbrev pub notes : (done : Bool) → Entry → Memory → Memory
 notes true entry w = record w { log = w.log ++ entry ∷ [] }
 notes false entry w = record w { telling = false }
 
 abbrev pub log_of : Memory → Option (List Entry)
-log_of w = told_by w.telling w.log
+log_of w = reported_by w.telling w.log
 
 -- what logging a call leaves unchanged
 pub record SameButLog (old new : Memory) : Type 0 where
@@ -97,13 +97,13 @@ pub record SameButLog (old new : Memory) : Type 0 where
 
 -- ---- `open`
 
-abbrev pub first_port : List ℕ → Option ℕ
-first_port [] = None
-first_port (port ∷ ports) = Some port
+abbrev pub first_in : List ℕ → Option ℕ
+first_in [] = None
+first_in (port ∷ ports) = Some port
 
 -- the port that it returns: the first, unless this call is to fail
 abbrev pub port_taken : Memory → Option ℕ
-port_taken w = if w.fails_in == 1 then None else first_port w.opens
+port_taken w = if w.fails_in == 1 then None else first_in w.opens
 
 abbrev pub takes_port : Memory → Memory
 takes_port w = record w { opens = if w.fails_in == 1 then w.opens else drop 1 w.opens; fails_in = w.fails_in - 1 }

@@ -1,7 +1,7 @@
 -- What private functions do: parts of a turn or round.
 use Rattle.std.specs.Prelude.{◌≡◌, ℕ, Bool, List, map, Option, is_some}
 use Rattle.tftp_packet.specs.declared.out.Out.{Out}
-use Rattle.archive_table.specs.Server.{Server, Merges}
+use Rattle.archive_table.specs.Table.{Table, Merges}
 use Rattle.archive_table.specs.Keeper.{Keeping}
 use Rattle.archive_turns.specs.declared.change.Change.{Change}
 use Rattle.archive_turns.specs.declared.mode.Mode.{Mode}
@@ -11,7 +11,7 @@ use Rattle.archive_turns.specs.Wire.{Entry, Grows}
 use Rattle.archive_turns.specs.Turn.{Replies, Receipt, Answers, Visited, Asks, KeepsAsked, IsPass, sendings, step_calls, walk}
 
 -- A visit does what its definition says for some answers, and the log has grown by its calls.
-pub record IsVisit (visit : Answers → Visited) (asks : Answers → Option Asks) (lets_in : Receipt → Bool) (old new : Server) (taken : Bool) (change : Change) (before after : Option (List Entry)) (kept now : Option (List Keeping)) : Type 0 where
+pub record IsVisit (visit : Answers → Visited) (asks : Answers → Option Asks) (lets_in : Receipt → Bool) (old new : Table) (taken : Bool) (change : Change) (before after : Option (List Entry)) (kept now : Option (List Keeping)) : Type 0 where
   pub answers : Answers
   pub admitted : answers.admitted ≡ lets_in answers.receipt
   pub server : new ≡ (visit answers).server
@@ -22,7 +22,7 @@ pub record IsVisit (visit : Answers → Visited) (asks : Answers → Option Asks
   pub keeps : KeepsAsked (asks answers) old.maps new.maps kept now
 
 -- the same for a time-out
-pub record IsTimeout (visit : Replies → Visited) (new : Server) (change : Change) (before after : Option (List Entry)) : Type 0 where
+pub record IsTimeout (visit : Replies → Visited) (new : Table) (change : Change) (before after : Option (List Entry)) : Type 0 where
   pub replies : Replies
   pub server : new ≡ (visit replies).server
   pub change_is : change ≡ (visit replies).change
@@ -39,7 +39,7 @@ pub record Acts (closes : Bool) (port : ℕ) (out : Option Out) (before after : 
   pub log : Grows before after (step_calls closes port out replies)
 
 -- the state after the time-outs of these ports
-pub record Walks (ports : List ℕ) (due : ℕ) (old new : Server) (timers left : List Timer) (before after : Option (List Entry)) : Type 0 where
+pub record Walks (ports : List ℕ) (due : ℕ) (old new : Table) (timers left : List Timer) (before after : Option (List Entry)) : Type 0 where
   pub late : List (ℕ × Replies)
   pub late_are : map (λ e. e.0) late ≡ ports
   pub server : new ≡ (walk due old timers late).server
@@ -47,7 +47,7 @@ pub record Walks (ports : List ℕ) (due : ℕ) (old new : Server) (timers left 
   pub log : Grows before after (walk due old timers late).calls
 
 -- the state after a visit and the time-outs after it
-pub record Passes (mode : Mode) (next : Next) (old new : Server) (timers left : List Timer) (taken : Bool) (before after : Option (List Entry)) (kept now : Option (List Keeping)) : Type 0 where
+pub record Passes (mode : Mode) (next : Next) (old new : Table) (timers left : List Timer) (taken : Bool) (before after : Option (List Entry)) (kept now : Option (List Keeping)) : Type 0 where
   pub calls : List Entry
   pub pass : IsPass mode next old new timers left taken calls kept now
   pub log : Grows before after calls

@@ -10,7 +10,7 @@ use Rattle.archive_client.specs.declared.cause.Cause.{Cause}
 use Rattle.archive_client.specs.declared.cause.Cause.TheVariants as cause
 use Rattle.archive_client.specs.declared.state.State.{State}
 use Rattle.archive_client.specs.declared.state.State.TheVariants as state
-use Rattle.archive_client.specs.Client.{Client, Operation, put, get, is_too_long, Answer, client_start, request_out, client_datagram, client_timeout, state_of, is_over, file_of}
+use Rattle.archive_client.specs.Client.{Client, Operation, put, get, is_too_long, ClientAnswer, client_start, request_out, client_datagram, client_timeout, state_of, is_over, file_or_client}
 use Rattle.archive_turns.specs.declared.limits.TheConstants.{QUIET_TURNS}
 use Rattle.archive_turns.specs.declared.run_fault.RunFault.{RunFault}
 use Rattle.archive_turns.specs.declared.run_fault.RunFault.TheVariants as fails
@@ -25,17 +25,17 @@ pub record Run : Type 0 where
   pub left : ℕ
 
 -- the result of a begin or of a turn, and the calls of the wire
-pub record Begun : Type 0 where
+pub record RunBegun : Type 0 where
   pub result : Result Run RunFault
   pub calls : List Entry
 
-pub record Ran : Type 0 where
+pub record RunTurn : Type 0 where
   pub run : Run
   pub calls : List Entry
 
 -- ---- the begin
 
-abbrev pub begin_started : Client → Operation → (port : ℕ) → (ok : Bool) → Begun
+abbrev pub begin_started : Client → Operation → (port : ℕ) → (ok : Bool) → RunBegun
 begin_started c operation port ok =
     record {
       result = Ok (record { client = c; port = port; left = QUIET_TURNS });
@@ -43,7 +43,7 @@ begin_started c operation port ok =
     }
 
 -- The port of a file that is too long is closed again.
-abbrev pub begin_sized : (long : Bool) → Endpoint → Operation → (port : ℕ) → Replies → Begun
+abbrev pub begin_sized : (long : Bool) → Endpoint → Operation → (port : ℕ) → Replies → RunBegun
 begin_sized true server operation port replies =
     record {
       result = Err (fails.Transfer cause.TooLong);
@@ -52,7 +52,7 @@ begin_sized true server operation port replies =
 begin_sized false server operation port replies =
     begin_started (client_start port server operation) operation port replies.sent
 
-abbrev pub begin_opened : (port : Option ℕ) → Endpoint → Operation → Replies → Begun
+abbrev pub begin_opened : (port : Option ℕ) → Endpoint → Operation → Replies → RunBegun
 begin_opened (Some port) server operation replies = begin_sized (is_too_long operation) server operation port replies
 begin_opened None server operation replies = record { result = Err fails.Socket; calls = opened None ∷ [] }
 
@@ -78,36 +78,36 @@ abbrev pub left_after : Option Out → ℕ → ℕ
 left_after (Some out) left = QUIET_TURNS
 left_after None left = left
 
-abbrev pub run_stepped : (port left : ℕ) → Answer → (ok : Bool) → Ran
+abbrev pub run_stepped : (port left : ℕ) → ClientAnswer → (ok : Bool) → RunTurn
 run_stepped port left a ok =
     record { run = record { client = a.client; port = port; left = left_after a.out left }; calls = sendings a.out ok }
 
-abbrev pub run_timed_out : (port : ℕ) → Answer → (ok : Bool) → Ran
+abbrev pub run_timed_out : (port : ℕ) → ClientAnswer → (ok : Bool) → RunTurn
 run_timed_out port a ok =
     record { run = record { client = a.client; port = port; left = QUIET_TURNS }; calls = sendings a.out ok }
 
-abbrev pub run_waited : (last : Bool) → Run → (ok : Bool) → Ran
+abbrev pub run_waited : (last : Bool) → Run → (ok : Bool) → RunTurn
 run_waited true r ok = run_timed_out r.port (client_timeout r.client) ok
 run_waited false r ok = record { run = record { client = r.client; port = r.port; left = r.left - 1 }; calls = [] }
 
 -- a quiet turn: the last one left is a time-out
-abbrev pub run_quiet : Run → (ok : Bool) → Ran
+abbrev pub run_quiet : Run → (ok : Bool) → RunTurn
 run_quiet r ok = run_waited (nat_le r.left 1) r ok
 
 -- a call before the others
-abbrev pub run_after : Entry → Ran → Ran
+abbrev pub run_after : Entry → RunTurn → RunTurn
 run_after call ran = record { run = ran.run; calls = call ∷ ran.calls }
 
-abbrev pub run_heard : (from : Endpoint) (bytes : List ℕ) → Verdict → Run → (ok : Bool) → Ran
-run_heard from bytes verdict r ok = run_stepped r.port r.left (client_datagram verdict from bytes r.client) ok
+abbrev pub run_datagram : (from : Endpoint) (bytes : List ℕ) → Verdict → Run → (ok : Bool) → RunTurn
+run_datagram from bytes verdict r ok = run_stepped r.port r.left (client_datagram verdict from bytes r.client) ok
 
-abbrev pub run_received : Receipt → Verdict → (ok : Bool) → Run → Ran
+abbrev pub run_received : Receipt → Verdict → (ok : Bool) → Run → RunTurn
 run_received (datagram from bytes) verdict ok r =
-    run_after (came r.port from bytes) (run_heard from bytes verdict r ok)
+    run_after (came r.port from bytes) (run_datagram from bytes verdict r ok)
 run_received nothing verdict ok r = run_after (quiet r.port) (run_quiet r ok)
 run_received fault verdict ok r = run_after (failed r.port) (run_quiet r ok)
 
-abbrev pub run_turn : RunAnswers → Run → Ran
+abbrev pub run_turn : RunAnswers → Run → RunTurn
 run_turn a r = run_received a.receipt a.verdict a.sent r
 
 pub record IsRunTurn (old new : Run) (calls : List Entry) : Type 0 where
@@ -122,13 +122,13 @@ pub record MakesRunTurn (old new : Run) (before after : Option (List Entry)) : T
   pub log : Grows before after calls
 
 -- the state after the part of a turn that follows `receive`
-pub record MakesRan (ran : (ok : Bool) → Ran) (new : Run) (before after : Option (List Entry)) : Type 0 where
+pub record MakesRan (ran : (ok : Bool) → RunTurn) (new : Run) (before after : Option (List Entry)) : Type 0 where
   pub ok : Bool
   pub run : new ≡ (ran ok).run
   pub log : Grows before after (ran ok).calls
 
 -- a client's step, for some verdict
-pub record ClientSteps (step : Verdict → Answer) (new : Client) (out : Option Out) : Type 0 where
+pub record ClientSteps (step : Verdict → ClientAnswer) (new : Client) (out : Option Out) : Type 0 where
   pub verdict : Verdict
   pub client : new ≡ (step verdict).client
   pub out_is : out ≡ (step verdict).out
@@ -136,7 +136,7 @@ pub record ClientSteps (step : Verdict → Answer) (new : Client) (out : Option 
 -- a datagram was received, and its step was made
 pub record Takes (from : Endpoint) (bytes : List ℕ) (old new : Run) (before after : Option (List Entry)) : Type 0 where
   pub verdict : Verdict
-  pub ran : MakesRan (λ ok. run_heard from bytes verdict old ok) new before after
+  pub ran : MakesRan (λ ok. run_datagram from bytes verdict old ok) new before after
 
 -- turns one after another, as long as the client is not over
 pub data Runs : (turns : ℕ) (old new : Run) (calls : List Entry) → Type 0 where
@@ -157,35 +157,35 @@ pub record MakesRunTurns (turns : ℕ) (old new : Run) (before after : Option (L
 
 -- ---- the end of a run
 
-abbrev pub fault_of : Cause → RunFault
-fault_of (cause.Refused code) = fails.Transfer (cause.Refused code)
-fault_of cause.TimedOut = fails.Transfer cause.TimedOut
-fault_of cause.TooLong = fails.Transfer cause.TooLong
-fault_of cause.Memory = fails.Memory
+abbrev pub run_fault_of : Cause → RunFault
+run_fault_of (cause.Refused code) = fails.Transfer (cause.Refused code)
+run_fault_of cause.TimedOut = fails.Transfer cause.TimedOut
+run_fault_of cause.TooLong = fails.Transfer cause.TooLong
+run_fault_of cause.Memory = fails.Memory
 
 -- A client that still runs when its turns are used up counts as timed out.
 abbrev pub unfinished : State → RunFault
 unfinished state.Running = fails.Transfer cause.TimedOut
 unfinished state.Sent = fails.Transfer cause.TimedOut
 unfinished state.Got = fails.Transfer cause.TimedOut
-unfinished (state.Failed why) = fault_of why
+unfinished (state.Failed why) = run_fault_of why
 
 -- a put succeeds exactly if its client ended `Sent`
 abbrev pub put_result : State → (len : ℕ) → Result ℕ RunFault
 put_result state.Running len = Err (unfinished state.Running)
 put_result state.Sent len = Ok len
 put_result state.Got len = Err (unfinished state.Got)
-put_result (state.Failed why) len = Err (fault_of why)
+put_result (state.Failed why) len = Err (run_fault_of why)
 
 -- What a get writes, and what it returns: the file if its client has got it, and otherwise nothing.
-abbrev pub Writes : Result (List ℕ) Client → Result ℕ RunFault → (written now : Option (List ℕ)) → Type 0
-Writes (Ok file) (Ok len) written now = (len ≡ length file) × Appends written now file
-Writes (Ok file) (Err e) written now = (e ≡ fails.Write) × AppendsPrefix written now file
-Writes (Err c) (Ok len) written now = ⊥
-Writes (Err c) (Err e) written now = (e ≡ unfinished (state_of c)) × (now ≡ written)
+abbrev pub WritesFetched : Result (List ℕ) Client → Result ℕ RunFault → (written now : Option (List ℕ)) → Type 0
+WritesFetched (Ok file) (Ok len) written now = (len ≡ length file) × Appends written now file
+WritesFetched (Ok file) (Err e) written now = (e ≡ fails.Write) × AppendsPrefix written now file
+WritesFetched (Err c) (Ok len) written now = ⊥
+WritesFetched (Err c) (Err e) written now = (e ≡ unfinished (state_of c)) × (now ≡ written)
 
 pub record WritesGot (c : Client) (result : Result ℕ RunFault) (written now : Option (List ℕ)) : Type 0 where
-  pub writes : Writes (file_of c) result written now
+  pub writes : WritesFetched (file_or_client c) result written now
 
 -- the turns of a put that has begun, and its result
 pub record EndsPut (run : Run) (turns len : ℕ) (result : Result ℕ RunFault) (before after : Option (List Entry)) : Type 0 where
@@ -216,10 +216,10 @@ pub record RunsPut (server : Endpoint) (file : List ℕ) (turns : ℕ) (result :
   pub ends : PutAfter begun turns (length file) result mid after
 
 -- a whole get
-pub record RunsGet (server : Endpoint) (kind : Ruleset) (turns : ℕ) (result : Result ℕ RunFault) (before after : Option (List Entry)) (written now : Option (List ℕ)) : Type 0 where
+pub record RunsGet (server : Endpoint) (rules : Ruleset) (turns : ℕ) (result : Result ℕ RunFault) (before after : Option (List Entry)) (written now : Option (List ℕ)) : Type 0 where
   pub begun : Result Run RunFault
   pub mid : Option (List Entry)
-  pub begins : Begins server (get kind) begun before mid
+  pub begins : Begins server (get rules) begun before mid
   pub ends : GetAfter begun turns result mid after written now
 
 -- in the middle of a run

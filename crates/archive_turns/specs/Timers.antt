@@ -1,7 +1,7 @@
 -- When each live port times out: a list of timers, one for each live port, in the order of the ports.
 use Rattle.std.specs.Prelude.{◌≡◌, ℕ, ◌+◌, ◌-◌, ◌^◌, ◌==◌, ◌<◌, ◌&&◌, ◌||◌, not, nat_lt, nat_le, min, Bool, true, false, List, [], ◌∷◌, map, fold, filter, length, Option, None, Some, if◌then◌else◌}
 use Rattle.archive_table.specs.declared.limits.TheConstants.{LIVE}
-use Rattle.archive_table.specs.Server.{Server, IsServer, has_place, is_dallying}
+use Rattle.archive_table.specs.Table.{Table, IsTable, has_slot, is_dallying}
 use Rattle.archive_turns.specs.declared.change.Change.{Change}
 use Rattle.archive_turns.specs.declared.change.Change.TheVariants.{Quiet, Nothing, Opened, Sent, Answered, Closed}
 use Rattle.archive_turns.specs.declared.mode.Mode.{Mode}
@@ -12,12 +12,12 @@ use Rattle.archive_turns.specs.declared.timer.Timer.{Timer}
 abbrev pub ports_of : List Timer → List ℕ
 ports_of timers = map (λ t. t.port) timers
 
-abbrev pub live_ports : Server → List ℕ
+abbrev pub live_ports : Table → List ℕ
 live_ports s = map (λ e. e.0) s.live
 
 -- the invariant of a server and its timers: each live port has one, in the order of the ports
-pub record Tracks (server : Server) (timers : List Timer) : Type 0 where
-  pub fits : IsServer server
+pub record Tracks (server : Table) (timers : List Timer) : Type 0 where
+  pub fits : IsTable server
   pub tracks : ports_of timers ≡ live_ports server
 
 -- inserts a new timer at its place
@@ -120,16 +120,16 @@ due_by Turn false = None
 due_by (Round now settled per_host) quiet = settled
 
 -- Where all places are taken, a transfer that only waits for a repeated last block gives way.
-abbrev pub gives_way : Mode → (port : ℕ) → Server → Bool
+abbrev pub gives_way : Mode → (port : ℕ) → Table → Bool
 gives_way Turn port s = false
-gives_way (Round now settled per_host) port s = not (has_place s) && is_dallying port s
+gives_way (Round now settled per_host) port s = not (has_slot s) && is_dallying port s
 
 abbrev pub is_due : Option ℕ → Timer → Bool
 is_due (Some now) t = nat_le t.due now
 is_due None t = false
 
 -- the ports that time out after a visit: those that are due, and those that give way
-abbrev pub late_ports : Mode → (quiet : Bool) → List Timer → Server → List ℕ
+abbrev pub late_ports : Mode → (quiet : Bool) → List Timer → Table → List ℕ
 late_ports mode quiet timers s = ports_of (filter (λ t. is_due (due_by mode quiet) t || gives_way mode t.port s) timers)
 
 -- ---- how long the wire waits

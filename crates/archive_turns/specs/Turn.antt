@@ -7,7 +7,7 @@ use Rattle.tftp_packet.specs.declared.packet_fault.PacketFault.{PacketFault}
 use Rattle.tftp_packet.specs.Packet.{Packet, read, write, data_block, ack, error}
 use Rattle.tftp_packet.specs.Decode.{decode_bytes}
 use Rattle.tftp_ends.specs.Ends.{Verdict}
-use Rattle.archive_table.specs.Server.{Server, Maps, Taken, Answer, Grant, all, Merges, transfer_at, peer_at, is_same, port_above, server_request, server_datagram, server_timeout}
+use Rattle.archive_table.specs.Table.{Table, Maps, Taken, TableAnswer, Grant, all, Merges, transfer_at, peer_at, is_same, port_above, table_request, table_datagram, table_timeout}
 use Rattle.archive_table.specs.Keeper.{Keeping, StepKeeps}
 use Rattle.archive_turns.specs.declared.change.Change.{Change}
 use Rattle.archive_turns.specs.declared.change.Change.TheVariants.{Quiet, Nothing, Opened, Sent, Answered, Closed}
@@ -64,7 +64,7 @@ step_calls closes port out replies = sendings out replies.sent ++ closings close
 
 -- the result of a visit or a time-out
 pub record Visited : Type 0 where
-  pub server : Server
+  pub server : Table
   pub taken : Option Taken
   pub change : Change
   pub calls : List Entry
@@ -81,36 +81,36 @@ transfer_change true out to_peer port = Closed port
 transfer_change false (Some out) to_peer port = sent_change to_peer port
 transfer_change false None to_peer port = Nothing
 
-abbrev pub transfer_stepped : (port : ℕ) → (to_peer : Bool) → Replies → (before : List Entry) → Answer → Visited
+abbrev pub transfer_stepped : (port : ℕ) → (to_peer : Bool) → Replies → (before : List Entry) → TableAnswer → Visited
 transfer_stepped port to_peer replies before a =
     record {
       server = a.server;
-      taken = a.told.taken;
-      change = transfer_change a.told.closed a.told.out to_peer port;
-      calls = before ++ step_calls a.told.closed port a.told.out replies;
+      taken = a.step.taken;
+      change = transfer_change a.step.closed a.step.out to_peer port;
+      calls = before ++ step_calls a.step.closed port a.step.out replies;
     }
 
 -- nothing was received
-abbrev pub quiet_visit : Entry → Server → Visited
+abbrev pub quiet_visit : Entry → Table → Visited
 quiet_visit call s = record { server = s; taken = None; change = Quiet; calls = call ∷ [] }
 
 -- whether this endpoint is the peer of the transfer at a port
-abbrev pub is_peer : (from : Endpoint) → (port : ℕ) → Server → Bool
+abbrev pub is_peer : (from : Endpoint) → (port : ℕ) → Table → Bool
 is_peer from port s = unwrap_or (option_map (is_same from) (peer_at port s)) false
 
-abbrev pub transfer_received : Receipt → Answers → (port : ℕ) → Server → Visited
+abbrev pub transfer_received : Receipt → Answers → (port : ℕ) → Table → Visited
 transfer_received (datagram from bytes) a port s =
-    transfer_stepped port (is_peer from port s) a.replies (came port from bytes ∷ []) (server_datagram a.grant a.maps port from bytes s)
+    transfer_stepped port (is_peer from port s) a.replies (came port from bytes ∷ []) (table_datagram a.grant a.maps port from bytes s)
 transfer_received nothing a port s = quiet_visit (quiet port) s
 transfer_received fault a port s = quiet_visit (failed port) s
 
 -- a visit to a transfer's port: a datagram received there is a step
-abbrev pub transfer_visit : Answers → (port : ℕ) → Server → Visited
+abbrev pub transfer_visit : Answers → (port : ℕ) → Table → Visited
 transfer_visit a port s = transfer_received a.receipt a port s
 
 -- a time-out at a transfer's port
-abbrev pub timeout_visit : Replies → (port : ℕ) → Server → Visited
-timeout_visit replies port s = transfer_stepped port true replies [] (server_timeout port s)
+abbrev pub timeout_visit : Replies → (port : ℕ) → Table → Visited
+timeout_visit replies port s = transfer_stepped port true replies [] (table_timeout port s)
 
 -- ---- the request port
 
@@ -119,29 +119,29 @@ request_change true spare = Opened spare
 request_change false spare = Nothing
 
 -- the spare port is closed again unless a transfer was opened on it
-abbrev pub request_stepped : (spare : ℕ) → Replies → (before : List Entry) → Answer → Visited
+abbrev pub request_stepped : (spare : ℕ) → Replies → (before : List Entry) → TableAnswer → Visited
 request_stepped spare replies before a =
     record {
       server = a.server;
-      taken = a.told.taken;
-      change = request_change a.told.opened spare;
-      calls = before ++ step_calls (not a.told.opened) spare a.told.out replies;
+      taken = a.step.taken;
+      change = request_change a.step.opened spare;
+      calls = before ++ step_calls (not a.step.opened) spare a.step.out replies;
     }
 
 -- the datagram is lost
-abbrev pub lost_visit : List Entry → Server → Visited
+abbrev pub lost_visit : List Entry → Table → Visited
 lost_visit calls s = record { server = s; taken = None; change = Nothing; calls = calls }
 
 -- whether a transfer can be opened on a port
-abbrev pub is_usable : (spare : ℕ) → Server → Bool
+abbrev pub is_usable : (spare : ℕ) → Table → Bool
 is_usable spare s = not (spare == 0) && not (spare == s.request) && not (is_some (transfer_at spare s))
 
-abbrev pub request_used : (usable : Bool) → (spare : ℕ) → Verdict → Replies → (from : Endpoint) (bytes : List ℕ) → Server → Visited
+abbrev pub request_used : (usable : Bool) → (spare : ℕ) → Verdict → Replies → (from : Endpoint) (bytes : List ℕ) → Table → Visited
 request_used true spare verdict replies from bytes s =
-    request_stepped spare replies (opened (Some spare) ∷ []) (server_request verdict spare from bytes s)
+    request_stepped spare replies (opened (Some spare) ∷ []) (table_request verdict spare from bytes s)
 request_used false spare verdict replies from bytes s = lost_visit (opened (Some spare) ∷ []) s
 
-abbrev pub request_spared : Option ℕ → Verdict → Replies → (from : Endpoint) (bytes : List ℕ) → Server → Visited
+abbrev pub request_spared : Option ℕ → Verdict → Replies → (from : Endpoint) (bytes : List ℕ) → Table → Visited
 request_spared (Some spare) verdict replies from bytes s =
     request_used (is_usable spare s) spare verdict replies from bytes s
 request_spared None verdict replies from bytes s = lost_visit (opened None ∷ []) s
@@ -151,18 +151,18 @@ abbrev pub preceded : Entry → Visited → Visited
 preceded call v = record { server = v.server; taken = v.taken; change = v.change; calls = call ∷ v.calls }
 
 -- A datagram that is not let in is lost.
-abbrev pub request_admitted : (admitted : Bool) → Answers → (from : Endpoint) (bytes : List ℕ) → Server → Visited
+abbrev pub request_admitted : (admitted : Bool) → Answers → (from : Endpoint) (bytes : List ℕ) → Table → Visited
 request_admitted true a from bytes s = request_spared a.spare a.verdict a.replies from bytes s
 request_admitted false a from bytes s = lost_visit [] s
 
-abbrev pub request_received : Receipt → Answers → Server → Visited
+abbrev pub request_received : Receipt → Answers → Table → Visited
 request_received (datagram from bytes) a s =
     preceded (came s.request from bytes) (request_admitted a.admitted a from bytes s)
 request_received nothing a s = quiet_visit (quiet s.request) s
 request_received fault a s = quiet_visit (failed s.request) s
 
 -- a visit to the request port: a spare port is opened for a datagram received there, which is then a step
-abbrev pub request_visit : Answers → Server → Visited
+abbrev pub request_visit : Answers → Table → Visited
 request_visit a s = request_received a.receipt a s
 
 -- ---- the keeper
@@ -172,16 +172,16 @@ pub record Asks : Type 0 where
   pub grant : Grant
   pub wanted : Option Taken
 
-abbrev pub received_asks : Receipt → Grant → (port : ℕ) → Server → Option Asks
+abbrev pub received_asks : Receipt → Grant → (port : ℕ) → Table → Option Asks
 received_asks (datagram from bytes) grant port s =
-    Some (record { grant = grant; wanted = (server_datagram all s.maps port from bytes s).told.taken })
+    Some (record { grant = grant; wanted = (table_datagram all s.maps port from bytes s).step.taken })
 received_asks nothing grant port s = None
 received_asks fault grant port s = None
 
-abbrev pub transfer_asks : Answers → (port : ℕ) → Server → Option Asks
+abbrev pub transfer_asks : Answers → (port : ℕ) → Table → Option Asks
 transfer_asks a port s = received_asks a.receipt a.grant port s
 
--- what the keeper's list gains, if the keeper tells it
+-- what is added to the keeper's log, if there is one
 abbrev pub KeepsAsked : Option Asks → Maps → Maps → (kept now : Option (List Keeping)) → Type 0
 KeepsAsked (Some a) old new kept now = StepKeeps a.grant a.wanted old new kept now
 KeepsAsked None old new kept now = now ≡ kept
@@ -190,7 +190,7 @@ KeepsAsked None old new kept now = now ≡ kept
 
 -- the table and the timers so far, and the calls that were made
 pub record Walk : Type 0 where
-  pub server : Server
+  pub server : Table
   pub timers : List Timer
   pub calls : List Entry
 
@@ -202,17 +202,17 @@ abbrev pub walk_on : (due : ℕ) → Walk → ℕ × Replies → Walk
 walk_on due w e = walk_timeout e.0 due w (timeout_visit e.1 e.0 w.server)
 
 -- Each of these ports times out, in this order. Its timer restarts unless the port is closed.
-abbrev pub walk : (due : ℕ) → Server → List Timer → List (ℕ × Replies) → Walk
+abbrev pub walk : (due : ℕ) → Table → List Timer → List (ℕ × Replies) → Walk
 walk due s timers late = fold (walk_on due) (record { server = s; timers = timers; calls = [] }) late
 
 -- ---- a visit and the time-outs after it
 
-abbrev pub next_visit : Next → Answers → Server → Visited
+abbrev pub next_visit : Next → Answers → Table → Visited
 next_visit next.Request a s = request_visit a s
 next_visit (next.Transfer port) a s = transfer_visit a port s
 next_visit next.Nowhere a s = lost_visit [] s
 
-abbrev pub next_asks : Next → Answers → Server → Option Asks
+abbrev pub next_asks : Next → Answers → Table → Option Asks
 next_asks next.Request a s = None
 next_asks (next.Transfer port) a s = transfer_asks a port s
 next_asks next.Nowhere a s = None
@@ -232,7 +232,7 @@ is_from host None = false
 is_from host (Some peer) = peer.host == host
 
 -- how many transfers are with a host
-abbrev pub count_from : (host : ℕ) → List Timer → Server → ℕ
+abbrev pub count_from : (host : ℕ) → List Timer → Table → ℕ
 count_from host timers s = count_by (λ t. is_from host (peer_at t.port s)) timers
 
 abbrev pub asks_for : Result Packet PacketFault → Bool
@@ -244,14 +244,14 @@ asks_for (Ok (error code text)) = false
 asks_for (Err e) = false
 
 -- A round lets in only requests, and only from a host that has fewer transfers than it may have.
-abbrev pub admits : Mode → List Timer → Receipt → Server → Bool
+abbrev pub admits : Mode → List Timer → Receipt → Table → Bool
 admits Turn timers receipt s = true
 admits (Round now settled per_host) timers (datagram from bytes) s =
     asks_for (decode_bytes bytes) && (is_loopback from.host || nat_lt (count_from from.host timers s) per_host)
 admits (Round now settled per_host) timers nothing s = true
 admits (Round now settled per_host) timers fault s = true
 
-abbrev pub next_admits : Mode → Next → List Timer → Receipt → Server → Bool
+abbrev pub next_admits : Mode → Next → List Timer → Receipt → Table → Bool
 next_admits mode next.Request timers receipt s = admits mode timers receipt s
 next_admits mode (next.Transfer port) timers receipt s = true
 next_admits mode next.Nowhere timers receipt s = true
@@ -260,7 +260,7 @@ next_admits mode next.Nowhere timers receipt s = true
 
 -- What a server does once it knows what it visits next: the visit, and the time-outs after it. `late` has the results of
 -- the calls after each time-out.
-pub record IsPass (mode : Mode) (next : Next) (old new : Server) (timers left : List Timer) (taken : Bool) (calls : List Entry) (kept now : Option (List Keeping)) : Type 0 where
+pub record IsPass (mode : Mode) (next : Next) (old new : Table) (timers left : List Timer) (taken : Bool) (calls : List Entry) (kept now : Option (List Keeping)) : Type 0 where
   pub answers : Answers
   pub admitted : answers.admitted ≡ next_admits mode next timers answers.receipt old
   pub late : List (ℕ × Replies)
@@ -275,8 +275,8 @@ pub record IsPass (mode : Mode) (next : Next) (old new : Server) (timers left : 
 
 -- ---- a turn and a round
 
-pub record Service : Type 0 where
-  pub table : Server
+pub record Server : Type 0 where
+  pub table : Table
   -- the port visited last, initially 0
   pub last : ℕ
   -- for each live port how many quiet turns are left until it times out, or the time at which it does
@@ -285,7 +285,7 @@ pub record Service : Type 0 where
   pub per_host : ℕ
 
 -- a server with this table, before its first turn or round
-abbrev pub fresh_server : (per_host : ℕ) → Server → Service
+abbrev pub fresh_server : (per_host : ℕ) → Table → Server
 fresh_server per_host table = record { table = table; last = 0; timers = []; per_host = per_host }
 
 abbrev pub next_of : Option ℕ → Next
@@ -298,11 +298,11 @@ noted (Some port) = port
 noted None = 0
 
 -- A turn visits the least live port above the last one, or the request port if there is none.
-abbrev pub turn_next : Service → Next
+abbrev pub turn_next : Server → Next
 turn_next s = next_of (port_above s.last s.table)
 
 -- One turn of the server that counts its quiet turns.
-pub record IsTurn (old new : Service) (taken : Bool) (calls : List Entry) (kept now : Option (List Keeping)) : Type 0 where
+pub record IsTurn (old new : Server) (taken : Bool) (calls : List Entry) (kept now : Option (List Keeping)) : Type 0 where
   pub pass : IsPass Turn (turn_next old) old.table new.table old.timers new.timers taken calls kept now
   pub last : new.last ≡ noted (port_above old.last old.table)
   pub per_host : new.per_host ≡ old.per_host
@@ -312,7 +312,7 @@ port_next true port = next.Request
 port_next false port = next.Transfer port
 
 -- A round visits the port that is ready, if one is.
-abbrev pub ready_next : Option ℕ → Server → Next
+abbrev pub ready_next : Option ℕ → Table → Next
 ready_next (Some port) s = port_next (port == s.request) port
 ready_next None s = next.Nowhere
 
@@ -323,7 +323,7 @@ noted_or last None = last
 -- One round: a wait, a visit to the ready port, and the time-outs of the ports that were due when all that had arrived was
 -- handed out. Its time is that of the wire's clock, in milliseconds. The wait asks for the next port above the last one,
 -- so that none starves if the wire returns that port.
-pub record IsRound (old new : Service) (taken : Bool) (calls : List Entry) (kept now : Option (List Keeping)) : Type 0 where
+pub record IsRound (old new : Server) (taken : Bool) (calls : List Entry) (kept now : Option (List Keeping)) : Type 0 where
   pub ready : Option ℕ
   pub time : ℕ
   pub settled : Option ℕ
@@ -336,20 +336,20 @@ pub record IsRound (old new : Service) (taken : Bool) (calls : List Entry) (kept
 -- ---- one after another
 
 -- what is known of the server and its keeper before and after, of the calls, and of whether a file was taken
-abbrev pub Step : Type 1
-Step = Service → Service → Bool → List Entry → Option (List Keeping) → Option (List Keeping) → Type 0
+abbrev pub Pass : Type 1
+Pass = Server → Server → Bool → List Entry → Option (List Keeping) → Option (List Keeping) → Type 0
 
 -- a turn or round was made, and the log has grown by its calls
-pub record Makes (Is : Step) (old new : Service) (taken : Bool) (before after : Option (List Entry)) (kept now : Option (List Keeping)) : Type 0 where
+pub record MakesPass (Is : Pass) (old new : Server) (taken : Bool) (before after : Option (List Entry)) (kept now : Option (List Keeping)) : Type 0 where
   pub calls : List Entry
   pub made : Is old new taken calls kept now
   pub log : Grows before after calls
 
-abbrev pub MakesTurn : (old new : Service) (taken : Bool) (before after : Option (List Entry)) (kept now : Option (List Keeping)) → Type 0
-MakesTurn old new taken before after kept now = Makes IsTurn old new taken before after kept now
+abbrev pub MakesTurn : (old new : Server) (taken : Bool) (before after : Option (List Entry)) (kept now : Option (List Keeping)) → Type 0
+MakesTurn old new taken before after kept now = MakesPass IsTurn old new taken before after kept now
 
-abbrev pub MakesRound : (old new : Service) (taken : Bool) (before after : Option (List Entry)) (kept now : Option (List Keeping)) → Type 0
-MakesRound old new taken before after kept now = Makes IsRound old new taken before after kept now
+abbrev pub MakesRound : (old new : Server) (taken : Bool) (before after : Option (List Entry)) (kept now : Option (List Keeping)) → Type 0
+MakesRound old new taken before after kept now = MakesPass IsRound old new taken before after kept now
 
 -- one more file, if one was taken
 abbrev pub count_if : (took : Bool) → ℕ → ℕ
@@ -357,18 +357,18 @@ count_if true taken = taken + 1
 count_if false taken = taken
 
 -- turns or rounds one after another: how many of them took a file, and their calls
-pub data Serves (Is : Step) : (count : ℕ) (old new : Service) (taken : ℕ) (calls : List Entry) (kept now : Option (List Keeping)) → Type 0 where
-  none : (s : Service) (kept : Option (List Keeping)) → Serves Is 0 s s 0 [] kept kept
-  more : {count : ℕ} {old mid new : Service} {taken : ℕ} {calls added : List Entry} {kept between now : Option (List Keeping)} (took : Bool) → Serves Is count old mid taken calls kept between → Is mid new took added between now → Serves Is (count + 1) old new (count_if took taken) (calls ++ added) kept now
+pub data ServesTurns (Is : Pass) : (count : ℕ) (old new : Server) (taken : ℕ) (calls : List Entry) (kept now : Option (List Keeping)) → Type 0 where
+  none : (s : Server) (kept : Option (List Keeping)) → ServesTurns Is 0 s s 0 [] kept kept
+  more : {count : ℕ} {old mid new : Server} {taken : ℕ} {calls added : List Entry} {kept between now : Option (List Keeping)} (took : Bool) → ServesTurns Is count old mid taken calls kept between → Is mid new took added between now → ServesTurns Is (count + 1) old new (count_if took taken) (calls ++ added) kept now
 
 -- so many of them were made, of which `taken` took a file
-pub record MakesMany (Is : Step) (count : ℕ) (old new : Service) (taken : ℕ) (before after : Option (List Entry)) (kept now : Option (List Keeping)) : Type 0 where
+pub record MakesMany (Is : Pass) (count : ℕ) (old new : Server) (taken : ℕ) (before after : Option (List Entry)) (kept now : Option (List Keeping)) : Type 0 where
   pub calls : List Entry
-  pub served : Serves Is count old new taken calls kept now
+  pub served : ServesTurns Is count old new taken calls kept now
   pub log : Grows before after calls
 
-abbrev pub MakesTurns : (turns : ℕ) (old new : Service) (taken : ℕ) (before after : Option (List Entry)) (kept now : Option (List Keeping)) → Type 0
+abbrev pub MakesTurns : (turns : ℕ) (old new : Server) (taken : ℕ) (before after : Option (List Entry)) (kept now : Option (List Keeping)) → Type 0
 MakesTurns turns old new taken before after kept now = MakesMany IsTurn turns old new taken before after kept now
 
-abbrev pub MakesRounds : (rounds : ℕ) (old new : Service) (taken : ℕ) (before after : Option (List Entry)) (kept now : Option (List Keeping)) → Type 0
+abbrev pub MakesRounds : (rounds : ℕ) (old new : Server) (taken : ℕ) (before after : Option (List Entry)) (kept now : Option (List Keeping)) → Type 0
 MakesRounds rounds old new taken before after kept now = MakesMany IsRound rounds old new taken before after kept now

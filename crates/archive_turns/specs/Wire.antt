@@ -43,7 +43,7 @@ abbrev pub IsGrown : (old : Option (List Entry)) → (new added : List Entry) �
 IsGrown None new added = ⊥
 IsGrown (Some old) new added = new ≡ old ++ added
 
--- If the log is told afterwards, it was told before and has grown by these entries. So a wire that has stopped telling
--- its log never tells it again.
+-- If there is a log afterwards, there was one before, and it has grown by these entries. So a wire that has lost
+-- its log never has one again.
 pub record Grows (old new : Option (List Entry)) (added : List Entry) : Type 0 where
-  pub told : (log : List Entry) → new ≡ Some log → IsGrown old log added
+  pub reported : (log : List Entry) → new ≡ Some log → IsGrown old log added

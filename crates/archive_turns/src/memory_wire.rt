@@ -1,10 +1,10 @@
-//! A wire in memory, for tests: it delivers what was put into it, and tells its log.
+//! A wire in memory, for tests: it delivers what was put into it, and has a ghost log.
 
 ghost use Rattle.std.specs.Prelude.{◌≡◌, ◌≢◌, ◌==◌, ◌≤◌, [], ◌∷◌, length, map, drop, true, Some, OnOk, OnErr, IfOk, IfErr, IfSome, is_ok, if◌then◌else◌};
 ghost use Rattle.std.specs.List.{position};
 ghost use Rattle.std.specs.Option.{option_map};
 ghost use Rattle.archive_table.specs.Keeper.{FailsAt};
-ghost use Rattle.archive_turns.specs.Noted.{entry_of, entries_of, waiting_of, arrives, counts_call, rises, notes, log_of, SameButLog, first_port, port_taken, takes_port, first_to, without_first, receipt, takes_arrival, lesser, next_ready, settled_by, time_after};
+ghost use Rattle.archive_turns.specs.Noted.{entry_of, entries_of, waiting_of, arrives_at, counts_call, rises, notes, log_of, SameButLog, first_in, port_taken, takes_port, first_to, without_first, receipt, takes_arrival, lesser, next_ready, settled_by, time_after};
 ghost use Rattle.archive_turns.specs.Wire.{Grows, opened, closed, sent, port_opened, was_done, came, received, quiet, failed, waited};
 
 use crate::arrival::Arrival;
@@ -70,7 +70,7 @@ impl<A: Allocator + Copy> MemoryWire<A> {
         bytes: &[u8],
     ) -> Result<(), AllocError>
         requires { length bytes.now ≤ RECEIVE_SIZE }
-        ensures ok { OnOk result (self.new ≡ arrives port from bytes.now self.old) }
+        ensures ok { OnOk result (self.new ≡ arrives_at port from bytes.now self.old) }
         ensures err { OnErr result (self.new ≡ self.old) }
     {
         let bytes = Bytes::of(Vec::from_slice(alloc, bytes)?);
@@ -117,7 +117,7 @@ impl<A: Allocator + Copy> MemoryWire<A> {
 
 // Takes the next port to be opened from the list.
 fn take_next<A: Allocator>(opens: &mut Vec<u16, A>) -> Option<u16>
-    ensures port { result ≡ first_port opens.old.items }
+    ensures port { result ≡ first_in opens.old.items }
     ensures left { opens.new.items ≡ drop 1 opens.old.items }
 {
     if opens.is_empty() {
@@ -166,7 +166,7 @@ impl<A: Allocator> MemoryWire<A> {
         }
     }
 
-    // Logs a call. Returns false, and stops telling, if there is no memory for the entry.
+    // Logs a call. Returns false, and has no log from then on, if there is no memory for the entry.
     fn note(&mut self, entry: Entry<A>) -> bool
         ensures { self.new ≡ notes result (entry_of entry) self.old }
     {
@@ -181,7 +181,7 @@ impl<A: Allocator> MemoryWire<A> {
     fn give_none(&mut self, port: u16) -> Result<Option<(usize, Endpoint)>, WireFault>
         ensures log { Grows (log_of self.old) (log_of self.new) ((if is_ok result then quiet port else failed port) ∷ []) }
         ensures none { IfOk result (λ got. got ≡ None) }
-        ensures told { self.new.telling ≡ true → is_ok result ≡ true }
+        ensures reported { self.new.telling ≡ true → is_ok result ≡ true }
         ensures left { SameButLog self.old self.new }
         ensures steady { OnOk result (self.new.failures ≡ self.old.failures) }
         ensures fault { IfErr result (λ e. e ≡ WireFault.Receive) }
@@ -203,7 +203,7 @@ impl<A: Allocator> MemoryWire<A> {
     ) -> Result<Option<(usize, Endpoint)>, WireFault>
         ensures log { Grows (log_of self.old) (log_of self.new) (received port result buffer.new ∷ []) }
         ensures given { OnOk result (received port result buffer.new ≡ came port arrival.from arrival.bytes) }
-        ensures told { self.new.telling ≡ true → is_ok result ≡ true }
+        ensures reported { self.new.telling ≡ true → is_ok result ≡ true }
         ensures left { SameButLog self.old self.new }
         ensures steady { OnOk result (self.new.failures ≡ self.old.failures) }
         ensures count { IfOk result (λ got. IfSome got (λ g. g.0 ≤ RECEIVE_SIZE)) }
@@ -231,7 +231,7 @@ impl<A: Allocator> Wire for MemoryWire<A> {
     fn open(&mut self) -> Result<u16, WireFault>
         ensures log { Grows (log_of self.old) (log_of self.new) (opened (port_opened result) ∷ []) }
         ensures port { IfOk result (λ port. port_taken self.old ≡ Some port) }
-        ensures told { self.new.telling ≡ true → port_opened result ≡ port_taken self.old }
+        ensures reported { self.new.telling ≡ true → port_opened result ≡ port_taken self.old }
         ensures left { SameButLog (takes_port self.old) self.new }
         ensures fault { IfErr result (λ e. e ≡ WireFault.Open) }
         ensures failed { OnErr result (FailsAt self.old.failures self.new.failures) }
@@ -254,7 +254,7 @@ impl<A: Allocator> Wire for MemoryWire<A> {
     fn close(&mut self, port: u16) -> Result<(), WireFault>
         ensures log { Grows (log_of self.old) (log_of self.new) (closed port (was_done result) ∷ []) }
         ensures done { OnOk result (self.old.fails_in ≢ 1) }
-        ensures told { self.new.telling ≡ true → self.old.fails_in ≢ 1 → is_ok result ≡ true }
+        ensures reported { self.new.telling ≡ true → self.old.fails_in ≢ 1 → is_ok result ≡ true }
         ensures left { SameButLog (counts_call self.old) self.new }
         ensures fault { IfErr result (λ e. e ≡ WireFault.Close) }
         ensures failed { OnErr result (FailsAt self.old.failures self.new.failures) }
@@ -275,7 +275,7 @@ impl<A: Allocator> Wire for MemoryWire<A> {
     ) -> Result<Option<(usize, Endpoint)>, WireFault>
         ensures log { Grows (log_of self.old) (log_of self.new) (received port result buffer.new ∷ []) }
         ensures given { OnOk result (received port result buffer.new ≡ receipt port self.old) }
-        ensures told { self.new.telling ≡ true → received port result buffer.new ≡ receipt port self.old }
+        ensures reported { self.new.telling ≡ true → received port result buffer.new ≡ receipt port self.old }
         ensures left { SameButLog (takes_arrival port self.old) self.new }
         ensures count { IfOk result (λ got. IfSome got (λ g. g.0 ≤ RECEIVE_SIZE)) }
         ensures fault { IfErr result (λ e. e ≡ WireFault.Receive) }
@@ -296,7 +296,7 @@ impl<A: Allocator> Wire for MemoryWire<A> {
     fn send(&mut self, out: &Out) -> Result<(), WireFault>
         ensures log { Grows (log_of self.old) (log_of self.new) (sent out.now (was_done result) ∷ []) }
         ensures done { OnOk result (self.old.fails_in ≢ 1) }
-        ensures told { self.new.telling ≡ true → self.old.fails_in ≢ 1 → is_ok result ≡ true }
+        ensures reported { self.new.telling ≡ true → self.old.fails_in ≢ 1 → is_ok result ≡ true }
         ensures left { SameButLog (counts_call self.old) self.new }
         ensures fault { IfErr result (λ e. e ≡ WireFault.Send) }
         ensures failed { OnErr result (FailsAt self.old.failures self.new.failures) }

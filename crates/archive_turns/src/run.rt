@@ -2,7 +2,7 @@
 
 ghost use Rattle.std.specs.Prelude.{◌≡◌};
 ghost use Rattle.archive_client.specs.Client.{get as getting, put as putting};
-ghost use Rattle.archive_turns.specs.Run.{Begins, MakesRan, MakesRunTurn, MakesRunTurns, Takes, run_heard, run_quiet, left_after};
+ghost use Rattle.archive_turns.specs.Run.{Begins, MakesRan, MakesRunTurn, MakesRunTurns, Takes, run_datagram, run_quiet, left_after};
 
 use crate::limits::QUIET_TURNS;
 use crate::run_client::RunClient;

@@ -1,7 +1,7 @@
 //! Whole runs of clients.
 
 ghost use Rattle.std.specs.Prelude.{◌≡◌};
-ghost use Rattle.archive_turns.specs.Run.{RunsPut, RunsGet, EndsPut, EndsGet, WritesGot, put_result, fault_of, unfinished};
+ghost use Rattle.archive_turns.specs.Run.{RunsPut, RunsGet, EndsPut, EndsGet, WritesGot, put_result, run_fault_of, unfinished};
 
 use crate::run::{GetRun, PutRun};
 use crate::run_fault::RunFault;
@@ -14,7 +14,7 @@ use tws_file::Ruleset;
 
 // The fault of a run whose client failed with this cause.
 fn fault(why: Cause) -> RunFault
-    ensures { result ≡ fault_of why }
+    ensures { result ≡ run_fault_of why }
 {
     match why {
         Cause::Memory => RunFault::Memory,
@@ -81,13 +81,13 @@ pub fn run_get<A: Allocator + Copy, W: Wire, O: Write>(
     alloc: A,
     wire: &mut W,
     server: Endpoint,
-    kind: Ruleset,
+    ruleset: Ruleset,
     turns: u64,
     out: &mut O,
 ) -> Result<u64, RunFault>
-    ensures { RunsGet server kind turns result (W.log wire.old) (W.log wire.new) (O.contents out.old) (O.contents out.new) }
+    ensures { RunsGet server «ruleset» turns result (W.log wire.old) (W.log wire.new) (O.contents out.old) (O.contents out.new) }
 {
-    match GetRun::begin(alloc, wire, server, kind) {
+    match GetRun::begin(alloc, wire, server, ruleset) {
         Ok(run) => end_get(wire, run, turns, out),
         Err(fault) => Err(fault),
     }

@@ -1,7 +1,7 @@
 //! The server over a wire: turns that count, and rounds that wait for ready ports.
 
 ghost use Rattle.std.specs.Prelude.{◌≡◌, Err, IfOk, IfErr, ◌==◌, []};
-ghost use Rattle.archive_table.specs.Server.{empty_server, IsServer, port_above};
+ghost use Rattle.archive_table.specs.Table.{empty_table, IsTable, port_above};
 ghost use Rattle.archive_table.specs.Keeper.{HasLoaded, TableFails, FailsAt};
 ghost use Rattle.archive_turns.specs.Timers.{Tracks};
 ghost use Rattle.archive_turns.specs.Parts.{IsVisit, Passes};
@@ -29,13 +29,13 @@ pub struct Server<A: Allocator + Copy = Global> {
 
 impl<A: Allocator + Copy> Model for Server<A> {
     ghost use Rattle.archive_turns.specs.Timers.{Tracks};
-    ghost use Rattle.archive_turns.specs.Turn.{Service};
+    ghost use Rattle.archive_turns.specs.Turn.{Server as Serving};
 
-    ghost Value = { Service };
+    ghost Value = { Serving };
 
-    ghost use Rattle.archive_turns.specs.View.{service_of};
+    ghost use Rattle.archive_turns.specs.View.{server_of};
 
-    ghost view = { service_of };
+    ghost view = { server_of };
 
     ghost invariant = { λ s. Tracks s.table s.timers };
 }
@@ -70,7 +70,7 @@ fn visit<A: Allocator + Copy, W: Wire, K: Keeper>(
     next: Next,
 ) -> Visit
     ensures visit { IsVisit (λ a. next_visit next a table.old) (λ a. next_asks next a table.old) (λ r. next_admits mode next timers.now r table.old) table.old table.new result.taken result.change (W.log wire.old) (W.log wire.new) (K.log keeper.old) (K.log keeper.new) }
-    ensures fits { IsServer table.old → IsServer table.new }
+    ensures fits { IsTable table.old → IsTable table.new }
 {
     match next {
         Next::Request => visit_request(table, wire, timers, mode),
@@ -122,7 +122,7 @@ impl<A: Allocator + Copy> Server<A> {
     /// Returns a server with this request port, empty collections and no transfer, which has visited no port yet. Does
     /// not allocate.
     pub fn new(alloc: A, request: u16) -> Self
-        ensures { result ≡ fresh_server LIVE (empty_server request) }
+        ensures { result ≡ fresh_server LIVE (empty_table request) }
     {
         Self::of(Table::new(alloc, request))
     }
@@ -149,7 +149,7 @@ impl<A: Allocator + Copy> Server<A> {
     // A server with this table, before its first turn or round.
     fn of(table: Table<A>) -> Self
         requires idle { table.live ≡ [] }
-        requires fits { IsServer table }
+        requires fits { IsTable table }
         ensures { result ≡ fresh_server LIVE table }
     {
         Server {

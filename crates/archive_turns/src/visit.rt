@@ -2,7 +2,7 @@
 
 ghost use Rattle.std.specs.Prelude.{◌≡◌, ◌≢◌, ◌||◌, nat_lt, not, is_some, true, None, Some};
 ghost use Rattle.tftp_packet.specs.Decode.{decode_bytes};
-ghost use Rattle.archive_table.specs.Server.{IsServer, transfer_at};
+ghost use Rattle.archive_table.specs.Table.{IsTable, transfer_at};
 ghost use Rattle.archive_turns.specs.Timers.{ports_of, live_ports, is_quiet, late_ports, restart, Tracks};
 ghost use Rattle.archive_turns.specs.Parts.{IsVisit, IsTimeout, Acts, SendsOut, Walks};
 ghost use Rattle.archive_turns.specs.Turn.{transfer_visit, transfer_asks, timeout_visit, request_visit, request_spared, request_change, transfer_change, datagram, admits, asks_for, count_from, is_loopback, is_peer as peer_is, is_usable as usable_at};
@@ -111,7 +111,7 @@ pub(crate) fn visit_transfer<A: Allocator + Copy, W: Wire, K: Keeper>(
     port: u16,
 ) -> Visit
     ensures visit { IsVisit (λ a. transfer_visit a port table.old) (λ a. transfer_asks a port table.old) (λ r. true) table.old table.new result.taken result.change (W.log wire.old) (W.log wire.new) (K.log keeper.old) (K.log keeper.new) }
-    ensures fits { IsServer table.old → IsServer table.new }
+    ensures fits { IsTable table.old → IsTable table.new }
 {
     let mut buffer = [0; RECEIVE_SIZE];
     match wire.receive(port, &mut buffer) {
@@ -132,7 +132,7 @@ pub(crate) fn time_out<A: Allocator + Copy, W: Wire>(
     port: u16,
 ) -> Change
     ensures timeout { IsTimeout (λ r. timeout_visit r port table.old) table.new result (W.log wire.old) (W.log wire.new) }
-    ensures fits { IsServer table.new }
+    ensures fits { IsTable table.new }
 {
     let step = table.on_timeout(port);
     end_step(wire, port, true, &step).change
@@ -214,7 +214,7 @@ pub(crate) fn visit_request<A: Allocator + Copy, W: Wire>(
     mode: Mode,
 ) -> Visit
     ensures visit { IsVisit (λ a. request_visit a table.old) (λ a. None) (λ r. admits mode timers.now r table.old) table.old table.new result.taken result.change (W.log wire.old) (W.log wire.new) None None }
-    ensures fits { IsServer table.old → IsServer table.new }
+    ensures fits { IsTable table.old → IsTable table.new }
 {
     let mut buffer = [0; RECEIVE_SIZE];
     match wire.receive(table.request(), &mut buffer) {
@@ -238,7 +238,7 @@ fn answer_request<A: Allocator + Copy, W: Wire>(
     bytes: &[u8],
 ) -> Visit
     ensures visit { IsVisit (λ a. request_spared a.spare a.verdict a.replies from bytes.now table.old) (λ a. None) (λ r. true) table.old table.new result.taken result.change (W.log wire.old) (W.log wire.new) None None }
-    ensures fits { IsServer table.old → IsServer table.new }
+    ensures fits { IsTable table.old → IsTable table.new }
 {
     match wire.open() {
         Ok(spare) if is_usable(table, spare) => {
@@ -259,7 +259,7 @@ pub(crate) fn time_out_late<A: Allocator + Copy, W: Wire>(
     mode: Mode,
     change: Change,
 )
-    requires fits { IsServer table.old }
+    requires fits { IsTable table.old }
     requires tracks { ports_of timers.old ≡ live_ports table.old }
     ensures walks { Walks (late_ports mode (is_quiet change) timers.old table.old) (restart mode) table.old table.new timers.old timers.new (W.log wire.old) (W.log wire.new) }
     ensures keeps { Tracks table.new timers.new }

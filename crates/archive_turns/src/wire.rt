@@ -11,7 +11,7 @@ pub const RECEIVE_SIZE: usize = MAX_DATAGRAM + 1;
 
 /// Sends and receives datagrams: UDP ports on this host.
 pub trait Wire {
-    /// An entry for each call, in order, if this wire tells its calls. Once it stops telling them, it never starts
+    /// An entry for each call, in order, if this wire has a ghost log. Once it has none, it never has one
     /// again.
     ghost log: { Self → Option (List Entry) };
 

@@ -11,7 +11,7 @@ use Rattle.tftp_ends.specs.declared.recv_state.RecvState.TheVariants as recv
 use Rattle.tftp_ends.specs.Ends.{Sender, SendAnswer, data_packet, dgram_of, sender_ack, sender_timeout, Receiver, RecvAnswer, receiver_missed, receiver_dallied, receiver_timeout_in, receiver_timeout, IsEnded, HoldsFirst, IsReceiver}
 use Rattle.tftp_ends.proofs.Steps.{KeepsSender, sender_ack-keeps, sender_timeout-keeps, sends-reads_back, receiver_timeout-keeps, acks-reads_back}
 use Rattle.tftp_ends.proofs.Holding.{last-ended, receiver_timeout-same}
-use Rattle.archive_table.specs.Server.{End, Transfer, sending, receiving, transfer_at, sends_from, sender_goes_on, sender_answered, ack_at, receiver_goes_on, receiver_answered, waits_at, timeout_at, server_timeout}
+use Rattle.archive_table.specs.Table.{End, Transfer, sending, receiving, transfer_at, sends_from, sending_goes_on, sender_answered, ack_at, receiving_goes_on, receiver_answered, waits_at, timeout_at, table_timeout}
 use Rattle.archive_world.specs.World.{World, after_transfer}
 use Rattle.archive_world.specs.Headline.{IsOwn}
 use Rattle.archive_world.proofs.Claims.{HasPut, HasTaken, Serves, ServesBlock, AcksPut, ServerAcks, Says, IsServing, HasCome, ReceivesPut, IsReceivingAt, IsLiveEnd, IsRunning}
@@ -24,19 +24,19 @@ use Rattle.archive_world.proofs.Sending.{SendsHonest, from_port, sends_packet, g
 block_says : (w : World) (port : ℕ) (peer : Endpoint) (s : Sender) → IsServing w peer port s → (out : Option Packet) (n : ℕ) → IfSome out (λ p. p ≡ data_packet s.file n) → IfSome out (Says w (from_port port) peer)
 block_says w port peer s serving None n sends = tt
 block_says w port peer s serving (Some p) n sends =
-    let served : ServesBlock w (from_port port) peer n (block_of s.file n) = record { ours = refl; kind = serving.kind; file = s.file; serves = serving.serves; is_block = refl } in
+    let served : ServesBlock w (from_port port) peer n (block_of s.file n) = record { ours = refl; rules = serving.rules; file = s.file; serves = serving.serves; is_block = refl } in
     subst (Says w (from_port port) peer) (sym sends) (inr served)
 
 pub serving-after : (w : World) (port : ℕ) (peer : Endpoint) (s : Sender) (a : SendAnswer) → IsServing w peer port s → KeepsSender s a → IsServing w peer port a.sender
 serving-after w port peer s a serving k =
     record {
-      kind = serving.kind;
-      serves = subst (λ (file : List ℕ). Serves w peer port serving.kind file) (sym k.file) serving.serves;
+      rules = serving.rules;
+      serves = subst (λ (file : List ℕ). Serves w peer port serving.rules file) (sym k.file) serving.serves;
       bounds = k.fits serving.bounds;
     }
 
 module _ (w : World) (h : Holds w) (port : ℕ) (t : Transfer) (is : transfer_at port w.server ≡ Some t) where
-  sender_in : (state : SendState) (s : Sender) (a : SendAnswer) → IsServing w t.peer port s → KeepsSender s a → Holds (after_transfer (sender_goes_on state port t.peer a w.server) w)
+  sender_in : (state : SendState) (s : Sender) (a : SendAnswer) → IsServing w t.peer port s → KeepsSender s a → Holds (after_transfer (sending_goes_on state port t.peer a w.server) w)
   sender_in send.Running s a serving k =
       goes_on-holds w h port t (sending a.sender) (dgram_of a.out) is (serving-after w port t.peer s a serving k) (λ running. absurd running)
       (sends_packet w port t.peer a.out (sends-reads_back s a k serving.bounds) (block_says w port t.peer s serving a.out a.sender.current k.sends))
@@ -155,7 +155,7 @@ module _ (w : World) (h : Holds w) (port : ℕ) (t : Transfer) (is : transfer_at
   onward : IsRunning (receiving waited.receiver) → IsRunning t.end
   onward running = subst IsRunning (sym end) (timeout_in_running r r.state refl running)
 
-  receiver_in : (state : RecvState) → waited.receiver.state ≡ state → Holds (after_transfer (receiver_goes_on state port t.peer waited w.server) w)
+  receiver_in : (state : RecvState) → waited.receiver.state ≡ state → Holds (after_transfer (receiving_goes_on state port t.peer waited w.server) w)
   receiver_in recv.Running e =
       goes_on-holds w h port t (receiving waited.receiver) (dgram_of waited.out) is (waited_there (subst GoesOn (sym e) tt))
       onward waited_sends
@@ -179,5 +179,5 @@ port_waits : (w : World) (h : Holds w) (port : ℕ) (found : Option Transfer) �
 port_waits w h port None is = h
 port_waits w h port (Some t) is = end_waits w h port t is t.end refl (h.live port t is).end
 
-pub timeout-holds : (w : World) → Holds w → (port : ℕ) → Holds (after_transfer (server_timeout port w.server) w)
+pub timeout-holds : (w : World) → Holds w → (port : ℕ) → Holds (after_transfer (table_timeout port w.server) w)
 timeout-holds w h port = port_waits w h port (transfer_at port w.server) refl

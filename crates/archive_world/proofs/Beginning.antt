@@ -6,8 +6,8 @@ use Rattle.tftp_packet.specs.declared.packet_fault.PacketFault.{PacketFault}
 use Rattle.tftp_packet.specs.Packet.{Packet, read, write, data_block, ack, error, encode}
 use Rattle.tftp_packet.specs.Decode.{decode_bytes}
 use Rattle.tftp_ends.specs.declared.limits.TheConstants.{MAX_FILE}
-use Rattle.archive_table.specs.Server.{is_same}
-use Rattle.archive_client.specs.Client.{Operation, put, get, Client, IsOperation, client_start, request_packet, is_too_long}
+use Rattle.archive_table.specs.Table.{is_same}
+use Rattle.archive_client.specs.Client.{Operation, put, get, Client, IsOperation, client_start, operation_request, is_too_long}
 use Rattle.archive_world.specs.World.{Datagram, Begun, World, server_endpoint, client_at, begins}
 use Rattle.archive_world.specs.Headline.{IsOwn}
 use Rattle.archive_world.proofs.Places.{Has, Has-last, Has-push, Extends-push, at-extends, at-last, before_last}
@@ -39,7 +39,7 @@ bound_split w v d net f port b =
 -- the file is not too long
 pub may_begin : (operation : Operation) → is_too_long operation ≡ false → IsOperation operation
 may_begin (put file) short = ltb-false MAX_FILE (length file) short
-may_begin (get kind) short = tt
+may_begin (get rules) short = tt
 
 module _ (w : World) (h : Holds w) (e : Endpoint) (operation : Operation) (away : e.host ≢ server_endpoint.host) (may : IsOperation operation) where
   abbrev after : World
@@ -49,7 +49,7 @@ module _ (w : World) (h : Holds w) (e : Endpoint) (operation : Operation) (away 
   began = record { client = e; operation = operation; taken = length w.taken }
 
   abbrev request : Datagram
-  request = record { source = e; target = server_endpoint; bytes = encode (request_packet operation) }
+  request = record { source = e; target = server_endpoint; bytes = encode (operation_request operation) }
 
   grows : GrowsTo w after
   grows = begins-grow w e operation
@@ -59,7 +59,7 @@ module _ (w : World) (h : Holds w) (e : Endpoint) (operation : Operation) (away 
 
   new_honest : IsHonest after request
   new_honest =
-      honest_packet after e server_endpoint (request_packet operation) (request_fields operation) (request_says after e server_endpoint operation asking)
+      honest_packet after e server_endpoint (operation_request operation) (request_fields operation) (request_says after e server_endpoint operation asking)
 
   own_then : (f : Endpoint) → IsOwn after f → IsOwn w f
   own_then f own = own-before w after grows f own
@@ -67,10 +67,10 @@ module _ (w : World) (h : Holds w) (e : Endpoint) (operation : Operation) (away 
   -- no operation began there before, if its ports are its own
   not_before : {P : Type 0} → IsOwn after e → HasBegun w e → P
   not_before own b =
-      let place = b.among.place in
-      let still = at-extends w.begun (w.begun ++ began ∷ []) (Extends-push w.begun began) place b.begun b.among.is in
-      let earlier : place < length w.begun = before_last w.begun place b.begun b.among.is in
-      let same : place ≡ length w.begun = own.operations place (length w.begun) b.begun began still (at-last w.begun began) b.client refl in
+      let position = b.among.position in
+      let still = at-extends w.begun (w.begun ++ began ∷ []) (Extends-push w.begun began) position b.begun b.among.is in
+      let earlier : position < length w.begun = before_last w.begun position b.begun b.among.is in
+      let same : position ≡ length w.begun = own.operations position (length w.begun) b.begun began still (at-last w.begun began) b.client refl in
       absurd (omega arith)
 
   -- nothing from there binds
@@ -80,7 +80,7 @@ module _ (w : World) (h : Holds w) (e : Endpoint) (operation : Operation) (away 
   unsaid own target (data_block n body) binds says =
       ⊎_elim (λ (s : PutsBlock w e n body). not_before own (put_begun w e s.file s.began)) (λ (s : ServesBlock w e target n body). absurd (away s.ours)) says
   unsaid own target (ack n) binds says =
-      ⊎_elim (λ (s : Fetches w e). not_before own (get_begun w e s.kind s.count s.began)) (λ (s : ServerAcks w e target n). absurd (away s.ours)) says
+      ⊎_elim (λ (s : Fetches w e). not_before own (get_begun w e s.rules s.count s.began)) (λ (s : ServerAcks w e target n). absurd (away s.ours)) says
   unsaid own target (error code text) binds says = absurd binds
 
   unread : {P : Type 0} → IsOwn after e → (d : Datagram) (answer : Result Packet PacketFault) → decode_bytes d.bytes ≡ answer → Binds answer → ((p : Packet) → decode_bytes d.bytes ≡ Ok p → Says w e d.target p) → P

@@ -11,7 +11,7 @@ use Rattle.tftp_packet.proofs.Sent.{sent_refusal}
 use Rattle.archive_client.specs.declared.cause.Cause.{Cause}
 use Rattle.archive_client.specs.declared.state.State.{State}
 use Rattle.archive_client.specs.declared.state.State.TheVariants as state
-use Rattle.archive_client.specs.Client.{Phase, failed, Client, in_phase, out_to, stays, moves, fails, phase_state, phase_file}
+use Rattle.archive_client.specs.Client.{Phase, failed, Client, in_phase, out_to, client_stays, moves, fails, phase_state, phase_file}
 use Rattle.archive_world.specs.World.{World, Got, newly_sent, newly_got, sent_with, got_with, after_client, client_at}
 use Rattle.archive_world.proofs.Places.{Has, Has-push}
 use Rattle.archive_world.proofs.Endpoints.{endpoint_is}
@@ -105,7 +105,7 @@ module _ (w : World) (h : Holds w) (e : Endpoint) (c : Client) (is : client_at e
         gots = got_by w e newly_g (phase_file phase) k.gets;
       })
 
-  pub stays-holds : Holds (after_client e c (stays c) w)
+  pub stays-holds : Holds (after_client e c (client_stays c) w)
   stays-holds =
       moves-holds c.phase None
       (record {

@@ -11,9 +11,9 @@ use Rattle.tftp_ends.specs.declared.recv_state.RecvState.{RecvState}
 use Rattle.tftp_ends.specs.declared.recv_state.RecvState.TheVariants as recv
 use Rattle.tftp_ends.specs.Ends.{Sender, IsSender, Receiver, IsReceiver, HoldsFirst}
 use Rattle.tws_file.specs.declared.«ruleset».Ruleset.{Ruleset}
-use Rattle.archive_table.specs.Server.{Taken, End, Transfer}
-use Rattle.tws_file.specs.Names.{kind_named}
-use Rattle.archive_table.specs.Server as table
+use Rattle.archive_table.specs.Table.{Taken, End, Transfer}
+use Rattle.tws_file.specs.Names.{ruleset_named}
+use Rattle.archive_table.specs.Table as table
 use Rattle.archive_client.specs.Client.{Operation, put, get, Phase, Client, IsOperation}
 use Rattle.archive_client.specs.Client as client
 use Rattle.archive_world.specs.World.{Datagram, Begun, Asked, to_write, to_read, Opening, Got, World, server_endpoint}
@@ -39,8 +39,8 @@ pub record HasPut (w : World) (e : Endpoint) (file : List ℕ) : Type 0 where
   pub count : ℕ
   pub among : Has w.begun (record { client = e; operation = put file; taken = count })
 
-pub record HasGet (w : World) (e : Endpoint) (kind : Ruleset) (count : ℕ) : Type 0 where
-  pub among : Has w.begun (record { client = e; operation = get kind; taken = count })
+pub record HasGet (w : World) (e : Endpoint) (rules : Ruleset) (count : ℕ) : Type 0 where
+  pub among : Has w.begun (record { client = e; operation = get rules; taken = count })
 
 pub record IsStranger (w : World) (e : Endpoint) : Type 0 where
   pub datagram : Datagram
@@ -54,23 +54,23 @@ pub record HasTaken (w : World) (e : Endpoint) (file : List ℕ) : Type 0 where
   pub among : Has w.taken (record { peer = e; file = file })
 
 -- the text is the collection over the first `count` files
-pub record IsTextOf (taken : List Taken) (count : ℕ) (kind : Ruleset) (text : List ℕ) : Type 0 where
+pub record IsTextOf (taken : List Taken) (count : ℕ) (rules : Ruleset) (text : List ℕ) : Type 0 where
   pub within : count ≤ length taken
-  pub best : IsBestOver kind (files_of (take count taken)) text
+  pub best : IsBestOver rules (files_of (take count taken)) text
 
 -- a transfer of this collection was opened at this port
-pub record Serves (w : World) (e : Endpoint) (port : ℕ) (kind : Ruleset) (text : List ℕ) : Type 0 where
+pub record Serves (w : World) (e : Endpoint) (port : ℕ) (rules : Ruleset) (text : List ℕ) : Type 0 where
   pub count : ℕ
-  pub opened : HasOpened w e port (to_read kind) count
-  pub is_text : IsTextOf w.taken count kind text
+  pub opened : HasOpened w e port (to_read rules) count
+  pub is_text : IsTextOf w.taken count rules text
 
 -- ---- a datagram
 
 pub record AsksToRead (w : World) (source : Endpoint) (name : List ℕ) : Type 0 where
-  pub kind : Ruleset
-  pub named : kind_named name ≡ Some kind
+  pub rules : Ruleset
+  pub named : ruleset_named name ≡ Some rules
   pub count : ℕ
-  pub began : HasGet w source kind count
+  pub began : HasGet w source rules count
 
 pub record AsksToWrite (w : World) (source : Endpoint) : Type 0 where
   pub file : List ℕ
@@ -85,16 +85,16 @@ pub record PutsBlock (w : World) (source : Endpoint) (n : ℕ) (body : List ℕ)
 -- the server sends a block of a collection
 pub record ServesBlock (w : World) (source target : Endpoint) (n : ℕ) (body : List ℕ) : Type 0 where
   pub ours : source.host ≡ server_endpoint.host
-  pub kind : Ruleset
+  pub rules : Ruleset
   pub file : List ℕ
-  pub serves : Serves w target source.port kind file
+  pub serves : Serves w target source.port rules file
   pub is_block : body ≡ block_of file n
 
 -- a client acknowledges a block that it fetches
 pub record Fetches (w : World) (source : Endpoint) : Type 0 where
-  pub kind : Ruleset
+  pub rules : Ruleset
   pub count : ℕ
-  pub began : HasGet w source kind count
+  pub began : HasGet w source rules count
 
 -- the server acknowledges a block of a put, the last one only once it has taken the file
 pub record AcksPut (w : World) (target : Endpoint) (n : ℕ) : Type 0 where
@@ -136,8 +136,8 @@ pub record IsBound (w : World) (e : Endpoint) (port : ℕ) : Type 0 where
 -- ---- a transfer
 
 pub record IsServing (w : World) (e : Endpoint) (port : ℕ) (s : Sender) : Type 0 where
-  pub kind : Ruleset
-  pub serves : Serves w e port kind s.file
+  pub rules : Ruleset
+  pub serves : Serves w e port rules s.file
   pub bounds : IsSender s
 
 -- what was received of a put's file, by the receiver's state: a receiver that has had the whole file has none, since it
@@ -188,17 +188,17 @@ pub record IsPutting (w : World) (e : Endpoint) (s : Sender) : Type 0 where
   pub bounds : IsSender s
 
 -- what was received is of the collection that is served at the port
-pub record IsServed (w : World) (e : Endpoint) (port : ℕ) (kind : Ruleset) (r : Receiver) : Type 0 where
+pub record IsServed (w : World) (e : Endpoint) (port : ℕ) (rules : Ruleset) (r : Receiver) : Type 0 where
   pub file : List ℕ
-  pub serves : Serves w e port kind file
+  pub serves : Serves w e port rules file
   pub holds : HoldsFirst file r
 
 pub record IsGetting (w : World) (e : Endpoint) (port : ℕ) (r : Receiver) : Type 0 where
-  pub kind : Ruleset
+  pub rules : Ruleset
   pub count : ℕ
-  pub began : HasGet w e kind count
+  pub began : HasGet w e rules count
   pub bounds : IsReceiver r
-  pub served : IsOwn w e → IsServed w e port kind r
+  pub served : IsOwn w e → IsServed w e port rules r
 
 abbrev pub IsPursuing : World → Endpoint → Phase → Type 0
 IsPursuing w e (client.asking operation misses) = IsAskingFor w e operation
@@ -222,7 +222,7 @@ MayBind (client.failed why) port = Unit {0}
 
 abbrev pub IsAskedBy : World → Opening → Asked → Type 0
 IsAskedBy w o to_write = (file : List ℕ) × HasPut w o.peer file
-IsAskedBy w o (to_read kind) = (count : ℕ) × HasGet w o.peer kind count × (count ≤ o.taken)
+IsAskedBy w o (to_read rules) = (count : ℕ) × HasGet w o.peer rules count × (count ≤ o.taken)
 
 pub record IsOpening (w : World) (o : Opening) : Type 0 where
   pub counted : o.taken ≤ length w.taken
@@ -245,13 +245,13 @@ pub record IsSent (w : World) (e : Endpoint) : Type 0 where
   pub is_taken : IsOwn w e → HasTaken w e file
 
 -- the collection that a get has fetched, from where it was served, and no earlier than the get began
-pub record IsFetched (w : World) (g : Got) (kind : Ruleset) (count : ℕ) : Type 0 where
+pub record IsFetched (w : World) (g : Got) (rules : Ruleset) (count : ℕ) : Type 0 where
   pub port : ℕ
-  pub serves : Serves w g.client port kind g.file
+  pub serves : Serves w g.client port rules g.file
   pub since : count ≤ serves.count
 
 pub record IsGot (w : World) (g : Got) : Type 0 where
-  pub kind : Ruleset
+  pub rules : Ruleset
   pub count : ℕ
-  pub began : HasGet w g.client kind count
-  pub whose : IsOwn w g.client → IsFetched w g kind count
+  pub began : HasGet w g.client rules count
+  pub whose : IsOwn w g.client → IsFetched w g rules count

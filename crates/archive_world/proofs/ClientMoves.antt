@@ -4,7 +4,7 @@ use Rattle.std.specs.Map.{lookup, set_value}
 use Rattle.tftp_packet.specs.declared.endpoint.Endpoint.{Endpoint}
 use Rattle.tftp_packet.specs.declared.out.Out.{Out}
 use Rattle.tftp_packet.specs.Decode.{decode_bytes}
-use Rattle.archive_table.specs.Server.{Taken, Transfer, transfer_at, is_same}
+use Rattle.archive_table.specs.Table.{Taken, Transfer, transfer_at, is_same}
 use Rattle.archive_client.specs.Client.{Client}
 use Rattle.archive_world.specs.World.{Datagram, World, Got, server_endpoint, datagram_of, net_with, client_at}
 use Rattle.archive_world.specs.Headline.{IsOwn}

@@ -7,15 +7,15 @@ use Rattle.tftp_packet.specs.declared.endpoint.Endpoint.{Endpoint}
 use Rattle.tftp_packet.specs.declared.out.Out.{Out}
 use Rattle.archive_client.specs.declared.state.State.{State}
 use Rattle.tftp_ends.specs.Ends.{Verdict, granted, refused}
-use Rattle.archive_table.specs.Server.{Grant, all, no_memory, memory_of, is_same}
+use Rattle.archive_table.specs.Table.{Grant, all, no_memory, memory_verdict, is_same}
 use Rattle.archive_client.specs.Client.{Client, phase_file, state_of, client_datagram, client_timeout}
 use Rattle.archive_client.specs.Client as client
-use Rattle.archive_world.specs.World.{World, Got, newly_got, newly_sent, got_with, sent_with, net_with, after_client, client_at, client_waits, client_hears, Datagram}
-use Rattle.archive_world.specs.Inside.{IsFirst, Answers, answered_by, newly_fetched}
+use Rattle.archive_world.specs.World.{World, Got, newly_got, newly_sent, got_with, sent_with, net_with, after_client, client_at, client_waits, client_receives, Datagram}
+use Rattle.archive_world.specs.Inside.{IsFirst, StepsClient, answered_by, newly_fetched}
 use Rattle.archive_world.proofs.Firsts.{first_lookup, first_set}
 
 -- what a client's step returned, in terms of the client after it
-pub answers_at : (step : Client → client.Answer) (e : Endpoint) (xs : List (Endpoint × Client)) (i : ℕ) (entry : Endpoint × Client) (here : Endpoint) (before after : Client) (was : State) (sent : Bool) (file : Option (List ℕ)) (out : Option Out) → IsFirst (is_same e) i xs → (here, before) ≡ get_or xs i entry → after ≡ (step before).client → was ≡ state_of before → sent ≡ newly_sent was (state_of after) → file ≡ newly_fetched (newly_got was (state_of after)) (phase_file after.phase) → out ≡ (step before).out → Answers step e xs (slice_set xs i (here, after)) sent file out
+pub answers_at : (step : Client → client.ClientAnswer) (e : Endpoint) (xs : List (Endpoint × Client)) (i : ℕ) (entry : Endpoint × Client) (here : Endpoint) (before after : Client) (was : State) (sent : Bool) (file : Option (List ℕ)) (out : Option Out) → IsFirst (is_same e) i xs → (here, before) ≡ get_or xs i entry → after ≡ (step before).client → was ≡ state_of before → sent ≡ newly_sent was (state_of after) → file ≡ newly_fetched (newly_got was (state_of after)) (phase_file after.phase) → out ≡ (step before).out → StepsClient step e xs (slice_set xs i (here, after)) sent file out
 answers_at step e xs i entry here before after was sent file out first whole after-is was-is sent-is file-is out-is =
     record {
       client = before;
@@ -33,20 +33,20 @@ answers_at step e xs i entry here before after was sent file out first whole aft
     }
 
 -- the same for a datagram, which was delivered unchanged
-pub hears_at : (verdict : Verdict) (heard d : Datagram) → heard ≡ d → (xs : List (Endpoint × Client)) (i : ℕ) (entry : Endpoint × Client) (here : Endpoint) (before after : Client) (was : State) (sent : Bool) (file : Option (List ℕ)) (out told : Option Out) → IsFirst (is_same d.target) i xs → (here, before) ≡ get_or xs i entry → after ≡ (client_datagram verdict heard.source heard.bytes before).client → was ≡ state_of before → sent ≡ newly_sent was (state_of after) → file ≡ newly_fetched (newly_got was (state_of after)) (phase_file after.phase) → out ≡ told → told ≡ (client_datagram verdict heard.source heard.bytes before).out → (v : Verdict) × Answers (client_datagram v d.source d.bytes) d.target xs (slice_set xs i (here, after)) sent file out
-hears_at verdict heard d is-heard xs i entry here before after was sent file out told first whole after-is was-is sent-is file-is out-is told-is =
-    let step : Datagram → client.Answer = λ x. client_datagram verdict x.source x.bytes before in (
+pub receives_at : (verdict : Verdict) (received d : Datagram) → received ≡ d → (xs : List (Endpoint × Client)) (i : ℕ) (entry : Endpoint × Client) (here : Endpoint) (before after : Client) (was : State) (sent : Bool) (file : Option (List ℕ)) (out answered : Option Out) → IsFirst (is_same d.target) i xs → (here, before) ≡ get_or xs i entry → after ≡ (client_datagram verdict received.source received.bytes before).client → was ≡ state_of before → sent ≡ newly_sent was (state_of after) → file ≡ newly_fetched (newly_got was (state_of after)) (phase_file after.phase) → out ≡ answered → answered ≡ (client_datagram verdict received.source received.bytes before).out → (v : Verdict) × StepsClient (client_datagram v d.source d.bytes) d.target xs (slice_set xs i (here, after)) sent file out
+receives_at verdict received d is-received xs i entry here before after was sent file out answered first whole after-is was-is sent-is file-is out-is answered-is =
+    let step : Datagram → client.ClientAnswer = λ x. client_datagram verdict x.source x.bytes before in (
       verdict,
       answers_at (client_datagram verdict d.source d.bytes) d.target xs i entry here before after was sent file out first whole
-          (after-is ∙ ap (λ (x : Datagram). (step x).client) is-heard)
+          (after-is ∙ ap (λ (x : Datagram). (step x).client) is-received)
           was-is sent-is file-is
-          (out-is ∙ told-is ∙ ap (λ (x : Datagram). (step x).out) is-heard),
+          (out-is ∙ answered-is ∙ ap (λ (x : Datagram). (step x).out) is-received),
     )
 
 -- joins three facts about a result, if it is `Ok`
-pub told_all : {T E : Type 0} (r : Result T E) (P Q R S : T → Type 0) → ((t : T) → P t → Q t → R t → S t) → IfOk r P → IfOk r Q → IfOk r R → IfOk r S
-told_all (Ok t) P Q R S joins p q r = joins t p q r
-told_all (Err e) P Q R S joins p q r = tt
+pub all_of_ok : {T E : Type 0} (r : Result T E) (P Q R S : T → Type 0) → ((t : T) → P t → Q t → R t → S t) → IfOk r P → IfOk r Q → IfOk r R → IfOk r S
+all_of_ok (Ok t) P Q R S merging p q r = merging t p q r
+all_of_ok (Err e) P Q R S merging p q r = tt
 
 -- ---- the clients of a machine
 
@@ -55,7 +55,7 @@ fetched_alike true e file gs = refl
 fetched_alike false e file gs = refl
 
 -- a machine's world after a client's answer
-answered_alike : (step : Client → client.Answer) (e : Endpoint) (w : World) (after : List (Endpoint × Client)) (sent : Bool) (file : Option (List ℕ)) (out : Option Out) → (is : Answers step e w.clients after sent file out) → answered_by e after sent file out w ≡ after_client e is.client (step is.client) w
+answered_alike : (step : Client → client.ClientAnswer) (e : Endpoint) (w : World) (after : List (Endpoint × Client)) (sent : Bool) (file : Option (List ℕ)) (out : Option Out) → (is : StepsClient step e w.clients after sent file out) → answered_by e after sent file out w ≡ after_client e is.client (step is.client) w
 answered_alike step e w after sent file out is =
     let next : Client = (step is.client).client in
     ap (λ (l : List (Endpoint × Client)). answered_by e l sent file out w) is.written
@@ -65,9 +65,9 @@ answered_alike step e w after sent file out is =
     ∙ ap (λ (gs : List Got). record { net = net_with e.host w.net (step is.client).out; server = w.server; clients = set_value (is_same e) w.clients next; begun = w.begun; taken = w.taken; sent = sent_with (newly_sent (state_of is.client) (state_of next)) e w.sent; got = gs; opened = w.opened; strays = w.strays })
     (fetched_alike (newly_got (state_of is.client) (state_of next)) e (phase_file next.phase) w.got)
 
-pub waited : (e : Endpoint) (w seen new : World) → seen ≡ w → (before after : List (Endpoint × Client)) (sent : Bool) (file : Option (List ℕ)) (out : Option Out) → before ≡ seen.clients → Answers client_timeout e before after sent file out → new ≡ answered_by e after sent file out seen → new ≡ client_waits (client_at e w) e w
-waited e w seen new is-seen before after sent file out same told new-is =
-    let is = subst (λ (l : List (Endpoint × Client)). Answers client_timeout e l after sent file out) same told in
+pub waited : (e : Endpoint) (w seen new : World) → seen ≡ w → (before after : List (Endpoint × Client)) (sent : Bool) (file : Option (List ℕ)) (out : Option Out) → before ≡ seen.clients → StepsClient client_timeout e before after sent file out → new ≡ answered_by e after sent file out seen → new ≡ client_waits (client_at e w) e w
+waited e w seen new is-seen before after sent file out same answered new-is =
+    let is = subst (λ (l : List (Endpoint × Client)). StepsClient client_timeout e l after sent file out) same answered in
     new-is
     ∙ answered_alike client_timeout e seen after sent file out is
     ∙ ap (λ (o : Option Client). client_waits o e seen) (sym is.there)
@@ -85,28 +85,28 @@ abbrev pub grant_with : Verdict → Grant
 grant_with granted = all
 grant_with refused = no_memory
 
-memory_with : (v : Verdict) → memory_of (grant_with v) ≡ v
+memory_with : (v : Verdict) → memory_verdict (grant_with v) ≡ v
 memory_with granted = refl
 memory_with refused = refl
 
-pub heard : (d : Datagram) (e : Endpoint) (w seen new : World) → e ≡ d.target → seen ≡ w → (before after : List (Endpoint × Client)) (sent : Bool) (file : Option (List ℕ)) (out : Option Out) → before ≡ seen.clients → (verdict : Verdict) × Answers (client_datagram verdict d.source d.bytes) d.target before after sent file out → new ≡ answered_by e after sent file out seen → (grant : Grant) × (new ≡ client_hears (client_at d.target w) grant d w)
-heard d e w seen new is-there is-seen before after sent file out same answers new-is =
-    let is = subst (λ (l : List (Endpoint × Client)). (verdict : Verdict) × Answers (client_datagram verdict d.source d.bytes) d.target l after sent file out) same answers in (
+pub received : (d : Datagram) (e : Endpoint) (w seen new : World) → e ≡ d.target → seen ≡ w → (before after : List (Endpoint × Client)) (sent : Bool) (file : Option (List ℕ)) (out : Option Out) → before ≡ seen.clients → (verdict : Verdict) × StepsClient (client_datagram verdict d.source d.bytes) d.target before after sent file out → new ≡ answered_by e after sent file out seen → (grant : Grant) × (new ≡ client_receives (client_at d.target w) grant d w)
+received d e w seen new is-there is-seen before after sent file out same answers new-is =
+    let is = subst (λ (l : List (Endpoint × Client)). (verdict : Verdict) × StepsClient (client_datagram verdict d.source d.bytes) d.target l after sent file out) same answers in (
       grant_with is.0,
       new-is
           ∙ ap (λ (x : Endpoint). answered_by x after sent file out seen) is-there
           ∙ answered_alike (client_datagram is.0 d.source d.bytes) d.target seen after sent file out is.1
           ∙ ap (λ (v : Verdict). after_client d.target is.1.client (client_datagram v d.source d.bytes is.1.client) seen) (sym (memory_with is.0))
-          ∙ ap (λ (o : Option Client). client_hears o (grant_with is.0) d seen) (sym is.1.there)
-          ∙ ap (λ (v : World). client_hears (client_at d.target v) (grant_with is.0) d v) is-seen,
+          ∙ ap (λ (o : Option Client). client_receives o (grant_with is.0) d seen) (sym is.1.there)
+          ∙ ap (λ (v : World). client_receives (client_at d.target v) (grant_with is.0) d v) is-seen,
     )
 
-pub heard_none : (d : Datagram) (e : Endpoint) (w seen : World) → e ≡ d.target → seen ≡ w → (before : List (Endpoint × Client)) → before ≡ seen.clients → lookup (is_same e) before ≡ None → (grant : Grant) × (w ≡ client_hears (client_at d.target w) grant d w)
-heard_none d e w seen is-there is-seen before same nobody =
+pub received_none : (d : Datagram) (e : Endpoint) (w seen : World) → e ≡ d.target → seen ≡ w → (before : List (Endpoint × Client)) → before ≡ seen.clients → lookup (is_same e) before ≡ None → (grant : Grant) × (w ≡ client_receives (client_at d.target w) grant d w)
+received_none d e w seen is-there is-seen before same nobody =
     let none = subst (λ (l : List (Endpoint × Client)). lookup (is_same e) l ≡ None) same nobody in (
       all,
       sym is-seen
-          ∙ ap (λ (o : Option Client). client_hears o all d seen) (sym none)
-          ∙ ap (λ (x : Endpoint). client_hears (client_at x seen) all d seen) is-there
-          ∙ ap (λ (v : World). client_hears (client_at d.target v) all d v) is-seen,
+          ∙ ap (λ (o : Option Client). client_receives o all d seen) (sym none)
+          ∙ ap (λ (x : Endpoint). client_receives (client_at x seen) all d seen) is-there
+          ∙ ap (λ (v : World). client_receives (client_at d.target v) all d v) is-seen,
     )

@@ -1,9 +1,9 @@
 -- The headline of each client follows from the invariant, and with it the headline if no port is reused.
 use Rattle.std.proofs.Common.{◌≡◌, ◌≢◌, ◌⊎◌, ℕ, List, [], Contains, Some, slice_get, refl, ap, sym, ◌∙◌, subst, inl, inr}
 use Rattle.tftp_packet.specs.declared.endpoint.Endpoint.{Endpoint}
-use Rattle.archive_table.specs.Server.{Maps, Taken, empty_maps}
+use Rattle.archive_table.specs.Table.{Maps, Taken, empty_maps}
 use Rattle.archive_client.specs.Client.{put}
-use Rattle.archive_world.specs.World.{Begun, to_write, Got, World, Step, server_endpoint, start_from, start, run_from, run, AllMerged}
+use Rattle.archive_world.specs.World.{Begun, to_write, Got, World, WorldStep, server_endpoint, start_from, start, run_from, run, AllMerged}
 use Rattle.archive_world.specs.Headline.{IsOwn, HasOwnPorts, HasOperation, AreOver, IsStrayFrom, TakenOnce, SentOnce, IsFinishedGet, ClientHeadline, ClientsHeadline, Headline}
 use Rattle.archive_world.proofs.Places.{Has-contains, Has-from_contains}
 use Rattle.archive_world.proofs.Claims.{HasBegun, HasPut, IsStranger, IsAskedBy, IsTaken, IsSent, IsGot}
@@ -56,16 +56,16 @@ module _ (w : World) (h : Holds w) where
         record {
           file = s.file;
           began = put_by s.file s.began;
-          place = there.among.place;
+          position = there.among.position;
           is_taken = there.among.is;
-          only = λ i t at_i same. once i there.among.place t _ at_i there.among.is same refl;
+          only = λ i t at_i same. once i there.among.position t _ at_i there.among.is same refl;
         }
 
     finished : (g : Got) → IsGot w g → g.client ≡ e → IsFinishedGet w.begun w.taken w.opened g
     finished g is same =
         let f = is.whose (subst (IsOwn w) (sym same) own) in
         record {
-          kind = is.kind;
+          rules = is.rules;
           began = _;
           has_begun = Has-contains w.begun _ is.began.among;
           by = refl;
@@ -95,7 +95,7 @@ module _ (w : World) (h : Holds w) where
         sent = λ e among. let s = h.sent e (Has-from_contains w.sent e among) in begun_there e (put_begun w e s.file s.began);
         got = λ g among.
             let is = h.got g (Has-from_contains w.got g among) in
-            begun_there g.client (get_begun w g.client is.kind is.count is.began);
+            begun_there g.client (get_begun w g.client is.rules is.count is.began);
         lynx = (w.server.maps.lynx, h.best.lynx, refl);
         ms = (w.server.maps.ms, h.best.ms, refl);
         client = client;
@@ -125,13 +125,13 @@ module _ (w : World) (all : ClientsHeadline w) (others : AreFromOthers w.taken) 
         got = λ g among. (each g.client (all.got g among)).got g among refl;
       }
 
-pub run_from-clients : (texts : List (List ℕ)) (maps : Maps) → AreOver texts maps → (steps : List Step) → AllMerged steps (start_from texts maps) → ClientsHeadline (run_from steps (start_from texts maps))
+pub run_from-clients : (texts : List (List ℕ)) (maps : Maps) → AreOver texts maps → (steps : List WorldStep) → AllMerged steps (start_from texts maps) → ClientsHeadline (run_from steps (start_from texts maps))
 run_from-clients texts maps over steps merged =
     let w = start_from texts maps in
     clients (run_from steps w) (run_from-holds steps w (start_from-holds texts maps over) merged)
 
-pub run-clients : (steps : List Step) → AllMerged steps start → ClientsHeadline (run steps)
+pub run-clients : (steps : List WorldStep) → AllMerged steps start → ClientsHeadline (run steps)
 run-clients steps merged = run_from-clients [] empty_maps none-over steps merged
 
-pub run-headline : (steps : List Step) → HasOwnPorts (run steps) → AllMerged steps start → Headline (run steps)
+pub run-headline : (steps : List WorldStep) → HasOwnPorts (run steps) → AllMerged steps start → Headline (run steps)
 run-headline steps own merged = headline (run steps) (run-clients steps merged) (run-from_others steps merged) own

@@ -2,9 +2,9 @@
 use Rattle.std.proofs.Common.{ℕ, suc, ◌+◌, ◌≤◌, Bool, true, false, ◌==◌, List, [], ◌∷◌, ◌++◌, length, slice_get, Option, None, Some, arith, length-append}
 use Rattle.tftp_packet.specs.declared.endpoint.Endpoint.{Endpoint}
 use Rattle.tftp_packet.specs.declared.out.Out.{Out}
-use Rattle.archive_table.specs.Server.{Maps, Grant, Transfer, memory_of, transfer_at, server_request, server_datagram, server_timeout}
+use Rattle.archive_table.specs.Table.{Maps, Grant, Transfer, memory_verdict, transfer_at, table_request, table_datagram, table_timeout}
 use Rattle.archive_client.specs.Client.{Operation, Client, client_datagram, client_timeout, is_too_long}
-use Rattle.archive_world.specs.World.{Datagram, Event, begin, deliver, client_times_out, server_times_out, stray, restart, Step, World, server_endpoint, datagram_of, net_with, client_at, has_begun, begins_unless, request_comes, server_hears, client_hears, arrives, delivers, client_waits, strays_unless, event_happens, happens, run_from, run, start}
+use Rattle.archive_world.specs.World.{Datagram, Event, begin, deliver, client_times_out, server_times_out, stray, restart, WorldStep, World, server_endpoint, datagram_of, net_with, client_at, has_begun, begins_unless, request_comes, server_receives, client_receives, arrives, delivers, client_waits, strays_unless, event_happens, happens, run_from, run, start}
 
 one_more : {A : Type 0} (xs : List A) (x : A) → length (xs ++ x ∷ []) ≤ suc (length xs)
 one_more xs x = omega (arith, length-append xs (x ∷ []))
@@ -26,20 +26,20 @@ module _ (w : World) where
   request_one true live spare grant d = same_length w.net
   request_one false (Some t) spare grant d = same_length w.net
   request_one false None spare grant d =
-      sends_one server_endpoint.host w.net (server_request (memory_of grant) spare d.source d.bytes w.server).told.out
+      sends_one server_endpoint.host w.net (table_request (memory_verdict grant) spare d.source d.bytes w.server).step.out
 
-  server_one : (request : Bool) (spare : ℕ) (grant : Grant) (maps : Maps) (d : Datagram) → length (server_hears request spare grant maps d w).net ≤ suc (length w.net)
+  server_one : (request : Bool) (spare : ℕ) (grant : Grant) (maps : Maps) (d : Datagram) → length (server_receives request spare grant maps d w).net ≤ suc (length w.net)
   server_one true spare grant maps d = request_one (spare == w.server.request) (transfer_at spare w.server) spare grant d
   server_one false spare grant maps d =
-      sends_one server_endpoint.host w.net (server_datagram grant maps d.target.port d.source d.bytes w.server).told.out
+      sends_one server_endpoint.host w.net (table_datagram grant maps d.target.port d.source d.bytes w.server).step.out
 
-  hears_one : (found : Option Client) (grant : Grant) (d : Datagram) → length (client_hears found grant d w).net ≤ suc (length w.net)
-  hears_one None grant d = same_length w.net
-  hears_one (Some c) grant d = sends_one d.target.host w.net (client_datagram (memory_of grant) d.source d.bytes c).out
+  receives_one : (found : Option Client) (grant : Grant) (d : Datagram) → length (client_receives found grant d w).net ≤ suc (length w.net)
+  receives_one None grant d = same_length w.net
+  receives_one (Some c) grant d = sends_one d.target.host w.net (client_datagram (memory_verdict grant) d.source d.bytes c).out
 
   arrives_one : (ours : Bool) (spare : ℕ) (grant : Grant) (maps : Maps) (d : Datagram) → length (arrives ours spare grant maps d w).net ≤ suc (length w.net)
   arrives_one true spare grant maps d = server_one (d.target.port == w.server.request) spare grant maps d
-  arrives_one false spare grant maps d = hears_one (client_at d.target w) grant d
+  arrives_one false spare grant maps d = receives_one (client_at d.target w) grant d
 
   delivers_one : (found : Option Datagram) (spare : ℕ) (grant : Grant) (maps : Maps) → length (delivers found spare grant maps w).net ≤ suc (length w.net)
   delivers_one None spare grant maps = same_length w.net
@@ -58,18 +58,18 @@ module _ (w : World) where
   event_one (begin e operation) grant maps = begins_one (e.host == server_endpoint.host) (is_too_long operation) e operation
   event_one (deliver index spare) grant maps = delivers_one (slice_get w.net index) spare grant maps
   event_one (client_times_out e) grant maps = waits_one (client_at e w) e
-  event_one (server_times_out port) grant maps = sends_one server_endpoint.host w.net (server_timeout port w.server).told.out
+  event_one (server_times_out port) grant maps = sends_one server_endpoint.host w.net (table_timeout port w.server).step.out
   event_one (stray d) grant maps = strays_one (d.source.host == server_endpoint.host) (has_begun d.source w.begun) d
   event_one restart grant maps = same_length w.net
 
-run_from-sends : (steps : List Step) (w : World) → length (run_from steps w).net ≤ length w.net + length steps
+run_from-sends : (steps : List WorldStep) (w : World) → length (run_from steps w).net ≤ length w.net + length steps
 run_from-sends [] w = omega arith
 run_from-sends (s ∷ steps) w =
     let now = event_one w s.event s.grant s.maps in
     let rest = run_from-sends steps (happens s w) in
     omega (arith, now, rest)
 
-pub run-sends : (steps : List Step) → length (run steps).net ≤ length steps
+pub run-sends : (steps : List WorldStep) → length (run steps).net ≤ length steps
 run-sends steps =
     let all : length (run_from steps start).net ≤ 0 + length steps = run_from-sends steps start in
     omega arith

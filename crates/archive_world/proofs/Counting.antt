@@ -1,9 +1,9 @@
 -- Every operation that has begun is that of an event.
 use Rattle.std.proofs.Common.{◌≡◌, ◌⊎◌, Bool, true, false, ◌==◌, List, [], ◌∷◌, ◌++◌, length, slice_get, Contains, None, Some, refl, ap, sym, subst, inl, inr}
-use Rattle.archive_table.specs.Server.{Maps, Grant}
+use Rattle.archive_table.specs.Table.{Maps, Grant}
 use Rattle.archive_client.specs.Client.{Operation, is_too_long}
 use Rattle.tftp_packet.specs.declared.endpoint.Endpoint.{Endpoint}
-use Rattle.archive_world.specs.World.{Datagram, Begun, Event, begin, deliver, client_times_out, server_times_out, stray, restart, World, Step, server_endpoint, client_at, has_begun, begins_unless, strays_unless, event_happens, happens, run_from, run, start}
+use Rattle.archive_world.specs.World.{Datagram, Begun, Event, begin, deliver, client_times_out, server_times_out, stray, restart, World, WorldStep, server_endpoint, client_at, has_begun, begins_unless, strays_unless, event_happens, happens, run_from, run, start}
 use Rattle.archive_world.specs.Headline.{BeganBy}
 use Rattle.archive_world.proofs.Places.{Has, Has-push, Has-from_contains}
 use Rattle.archive_world.proofs.Unlisted.{delivers-same, waits-same}
@@ -41,20 +41,20 @@ module _ (w : World) (b : Begun) where
   event_now restart grant maps has = inl has
 
 -- it had begun before the run, or begins in it
-pub record BeginsIn (steps : List Step) (w : World) (b : Begun) : Type 0 where
-  pub before : List Step
-  pub step : Step
-  pub after : List Step
+pub record BeginsIn (steps : List WorldStep) (w : World) (b : Begun) : Type 0 where
+  pub before : List WorldStep
+  pub step : WorldStep
+  pub after : List WorldStep
   pub split : steps ≡ before ++ step ∷ after
   pub event : step.event ≡ begin b.client b.operation
   pub counted : b.taken ≡ length (run_from before w).taken
 
-begins_first : (s : Step) (steps : List Step) (w : World) (b : Begun) → OldOrNow w s.event b → Has w.begun b ⊎ BeginsIn (s ∷ steps) w b
+begins_first : (s : WorldStep) (steps : List WorldStep) (w : World) (b : Begun) → OldOrNow w s.event b → Has w.begun b ⊎ BeginsIn (s ∷ steps) w b
 begins_first s steps w b (inl old) = inl old
 begins_first s steps w b (inr now) =
     inr (record { before = []; step = s; after = steps; split = refl; event = now.0; counted = now.1 })
 
-begins_later : (s : Step) (steps : List Step) (w : World) (b : Begun) → Has (happens s w).begun b ⊎ BeginsIn steps (happens s w) b → Has w.begun b ⊎ BeginsIn (s ∷ steps) w b
+begins_later : (s : WorldStep) (steps : List WorldStep) (w : World) (b : Begun) → Has (happens s w).begun b ⊎ BeginsIn steps (happens s w) b → Has w.begun b ⊎ BeginsIn (s ∷ steps) w b
 begins_later s steps w b (inl old) = begins_first s steps w b (event_now w b s.event s.grant s.maps old)
 begins_later s steps w b (inr later) =
     inr
@@ -62,20 +62,20 @@ begins_later s steps w b (inr later) =
       before = s ∷ later.before;
       step = later.step;
       after = later.after;
-      split = ap (λ (l : List Step). s ∷ l) later.split;
+      split = ap (λ (l : List WorldStep). s ∷ l) later.split;
       event = later.event;
       counted = later.counted;
     })
 
-begins_in : (steps : List Step) (w : World) (b : Begun) → Has (run_from steps w).begun b → Has w.begun b ⊎ BeginsIn steps w b
+begins_in : (steps : List WorldStep) (w : World) (b : Begun) → Has (run_from steps w).begun b → Has w.begun b ⊎ BeginsIn steps w b
 begins_in [] w b has = inl has
 begins_in (s ∷ steps) w b has = begins_later s steps w b (begins_in steps (happens s w) b has)
 
-none_begun : (steps : List Step) (b : Begun) → Has start.begun b ⊎ BeginsIn steps start b → BeganBy steps b
+none_begun : (steps : List WorldStep) (b : Begun) → Has start.begun b ⊎ BeginsIn steps start b → BeganBy steps b
 none_begun steps b (inl old) = let is : None ≡ Some b = old.is in absurd cc
 none_begun steps b (inr now) =
     record { before = now.before; step = now.step; after = now.after; split = now.split; event = now.event; counted = now.counted }
 
-pub began-by : (steps : List Step) (b : Begun) → Contains (run steps).begun b → BeganBy steps b
+pub began-by : (steps : List WorldStep) (b : Begun) → Contains (run steps).begun b → BeganBy steps b
 began-by steps b among =
     none_begun steps b (begins_in steps start b (Has-from_contains (run steps).begun b among))

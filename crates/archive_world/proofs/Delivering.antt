@@ -4,20 +4,20 @@ use Rattle.std.proofs.Common.{refl, ap, sym, ◌∙◌, subst, inl, inr}
 use Rattle.std.proofs.lemmas.Bool.{eq-eqb, ne_eqb, true≢false}
 use Rattle.tftp_packet.specs.declared.endpoint.Endpoint.{Endpoint}
 use Rattle.archive_client.specs.Client.{Client}
-use Rattle.archive_table.specs.Server.{Maps, Taken, Grant, all, no_memory, unkept, memory_of, IsMerged, Merges, request_verdict, server_request, server_datagram, server_timeout, transfer_at, empty_maps}
-use Rattle.archive_table.specs.Server as table
+use Rattle.archive_table.specs.Table.{Maps, Taken, Grant, all, no_memory, unkept, memory_verdict, IsMerged, Merges, request_verdict, table_request, table_datagram, table_timeout, transfer_at, empty_maps}
+use Rattle.archive_table.specs.Table as table
 use Rattle.tftp_ends.specs.Ends.{Verdict, granted}
 use Rattle.tws_file.specs.declared.«ruleset».Ruleset.{Ruleset}
 use Rattle.archive_table.specs.Keeper.{Keeping, KeepsOne, KeepsMaps, FailsKeep, FailsKeepOf, RefusesKeep, StepKeeps}
 use Rattle.archive_table.proofs.SamePort.{request_same, datagram_same}
 use Rattle.archive_world.specs.declared.event_fault.EventFault.{EventFault}
 use Rattle.archive_world.specs.declared.event_fault.EventFault.TheVariants as fault
-use Rattle.archive_world.specs.World.{deliver, World, Datagram, Opening, server_endpoint, client_at, client_hears, opened_with, taken_with, asked_of, after_request, event_happens, HasMerged, IsFree, MayDeliver}
+use Rattle.archive_world.specs.World.{deliver, World, Datagram, Opening, server_endpoint, client_at, client_receives, opened_with, taken_with, asked_of, after_request, event_happens, HasMerged, IsFree, MayDeliver}
 use Rattle.archive_world.specs.Headline.{OwnPorts, HasOwnPorts}
 use Rattle.archive_world.specs.Reuse.{was_opened}
 use Rattle.archive_world.specs.Restarts.{EventKeeps, wanted_at, wanted_of, wanted_by}
 use Rattle.archive_world.specs.Traces.{server_comes, comes}
-use Rattle.archive_world.specs.Inside.{HearsAtPort}
+use Rattle.archive_world.specs.Inside.{ReceivesAtPort}
 use Rattle.tws_best.specs.Best.{Collected}
 use Rattle.archive_world.specs.Replays.{IsDue, Makes, Reuses}
 use Rattle.archive_world.specs.Exits.{Comes}
@@ -28,7 +28,7 @@ use Rattle.archive_world.proofs.Totality.{not_more, one_last}
 use Rattle.archive_world.proofs.Exiting.{no_restart, remain-merged}
 use Rattle.archive_world.proofs.Tracing.{delivers_fits}
 
--- ---- a keeper that told its list still tells it
+-- ---- a keeper that had a log still has it
 
 some_none : (before : List Keeping) → Some before ≡ None → ⊥
 some_none before e = cc
@@ -41,22 +41,22 @@ none_maps : (old new : Maps) (before : List Keeping) → KeepsMaps old new (Some
 none_maps old new before (inl lynx) = none_one old.lynx new.lynx before lynx.1
 none_maps old new before (inr ms) = none_one old.ms new.ms before ms.1
 
-none_fails : (kind : Ruleset) (new : Collected) (before : List Keeping) → FailsKeep kind new (Some before) None → ⊥
-none_fails kind new before (inl none) = some_none before none
-none_fails kind new before (inr failed) = some_none before failed
+none_fails : (rules : Ruleset) (new : Collected) (before : List Keeping) → FailsKeep rules new (Some before) None → ⊥
+none_fails rules new before (inl none) = some_none before none
+none_fails rules new before (inr failed) = some_none before failed
 
 none_fails_of : (old new : Maps) (before : List Keeping) → FailsKeepOf old new (Some before) None → ⊥
 none_fails_of old new before (inl lynx) = none_fails new.lynx.ruleset new.lynx before lynx.2
 none_fails_of old new before (inr ms) = none_fails new.ms.ruleset new.ms before ms.2
 
-none_tells : (grant : Grant) (wanted : Option Taken) (old new : Maps) (before : List Keeping) → StepKeeps grant wanted old new (Some before) None → ⊥
-none_tells all wanted old new before keeps = none_maps old new before keeps
-none_tells no_memory wanted old new before keeps = some_none before keeps
-none_tells unkept wanted old new before keeps = none_fails_of old keeps.0 before keeps.2
+none_reports : (grant : Grant) (wanted : Option Taken) (old new : Maps) (before : List Keeping) → StepKeeps grant wanted old new (Some before) None → ⊥
+none_reports all wanted old new before keeps = none_maps old new before keeps
+none_reports no_memory wanted old new before keeps = some_none before keeps
+none_reports unkept wanted old new before keeps = none_fails_of old keeps.0 before keeps.2
 
-told_after : (grant : Grant) (wanted : Option Taken) (old new : Maps) (before : List Keeping) (now : Option (List Keeping)) → StepKeeps grant wanted old new (Some before) now → (after : List Keeping) × (now ≡ Some after)
-told_after grant wanted old new before None keeps = absurd (none_tells grant wanted old new before keeps)
-told_after grant wanted old new before (Some after) keeps = (after, refl)
+reported_after : (grant : Grant) (wanted : Option Taken) (old new : Maps) (before : List Keeping) (now : Option (List Keeping)) → StepKeeps grant wanted old new (Some before) now → (after : List Keeping) × (now ≡ Some after)
+reported_after grant wanted old new before None keeps = absurd (none_reports grant wanted old new before keeps)
+reported_after grant wanted old new before (Some after) keeps = (after, refl)
 
 -- ---- a keep that was refused
 
@@ -87,7 +87,7 @@ abbrev request_grant : (opened : Bool) → Grant
 request_grant true = all
 request_grant false = no_memory
 
-request_memory : (opened : Bool) → memory_of (request_grant opened) ≡ request_verdict opened
+request_memory : (opened : Bool) → memory_verdict (request_grant opened) ≡ request_verdict opened
 request_memory true = refl
 request_memory false = refl
 
@@ -117,37 +117,37 @@ module _ (w v : World) (d : Datagram) (index spare : ℕ) (there : slice_get w.n
     away_due grant = λ is t wants.
         absurd (none_some t (sym (wanted_here false (ne_eqb d.target.host server_endpoint.host away)) ∙ wants))
 
-    heard_as : (grant : Grant) → event_happens (deliver index spare) grant empty_maps w ≡ client_hears (client_at d.target w) grant d w
-    heard_as grant = delivered grant empty_maps away_may false (ne_eqb d.target.host server_endpoint.host away)
+    received_as : (grant : Grant) → event_happens (deliver index spare) grant empty_maps w ≡ client_receives (client_at d.target w) grant d w
+    received_as grant = delivered grant empty_maps away_may false (ne_eqb d.target.host server_endpoint.host away)
 
-    heard_own : (found : Option Client) (grant : Grant) → HasOwnPorts w → HasOwnPorts (client_hears found grant d w)
-    heard_own None grant own = own
-    heard_own (Some c) grant own =
+    received_own : (found : Option Client) (grant : Grant) → HasOwnPorts w → HasOwnPorts (client_receives found grant d w)
+    received_own None grant own = own
+    received_own (Some c) grant own =
         record { operations = own.operations; openings = own.openings; strangers = own.strangers }
 
-    heard_request : (found : Option Client) (grant : Grant) → (client_hears found grant d w).server.request ≡ w.server.request
-    heard_request None grant = refl
-    heard_request (Some c) grant = refl
+    received_request : (found : Option Client) (grant : Grant) → (client_receives found grant d w).server.request ≡ w.server.request
+    received_request None grant = refl
+    received_request (Some c) grant = refl
 
-    heard_makes : (grant : Grant) → v ≡ client_hears (client_at d.target w) grant d w → (keeper : Option (List Keeping)) → Makes (deliver index spare) keeper keeper w v
-    heard_makes grant is keeper =
+    received_makes : (grant : Grant) → v ≡ client_receives (client_at d.target w) grant d w → (keeper : Option (List Keeping)) → Makes (deliver index spare) keeper keeper w v
+    received_makes grant is keeper =
         let remain = client_remains w (client_at d.target w) grant d in
         record {
           grant = grant;
           maps = empty_maps;
-          is = is ∙ sym (heard_as grant);
+          is = is ∙ sym (received_as grant);
           may = away_may;
-          own = λ own. subst HasOwnPorts (sym is) (heard_own (client_at d.target w) grant own);
-          merged = remain-merged w (event_happens (deliver index spare) grant empty_maps w) (subst (Remain w) (sym (heard_as grant)) remain);
+          own = λ own. subst HasOwnPorts (sym is) (received_own (client_at d.target w) grant own);
+          merged = remain-merged w (event_happens (deliver index spare) grant empty_maps w) (subst (Remain w) (sym (received_as grant)) remain);
           due = away_due grant;
-          keeps = λ before tells. (before, tells, inl (ap (λ (x : World). x.server.maps) is ∙ remain.1, refl));
+          keeps = λ before reports. (before, reports, inl (ap (λ (x : World). x.server.maps) is ∙ remain.1, refl));
           stays = λ is. refl;
         }
 
-    pub hear-comes : (told : Option (List Keeping)) → (grant : Grant) × (v ≡ client_hears (client_at d.target w) grant d w) → Comes (Ok tt) (deliver index spare) told told w v
-    hear-comes told heard = (
-      ap (λ (x : World). x.server.request) heard.1 ∙ heard_request (client_at d.target w) heard.0,
-      λ ready. heard_makes heard.0 heard.1 told,
+    pub receive-comes : (reported : Option (List Keeping)) → (grant : Grant) × (v ≡ client_receives (client_at d.target w) grant d w) → Comes (Ok tt) (deliver index spare) reported reported w v
+    receive-comes reported received = (
+      ap (λ (x : World). x.server.request) received.1 ∙ received_request (client_at d.target w) received.0,
+      λ ready. received_makes received.0 received.1 reported,
     )
 
   -- ---- to the server
@@ -170,8 +170,8 @@ module _ (w v : World) (d : Datagram) (index spare : ℕ) (there : slice_get w.n
           let same : may.datagram ≡ d = cc in
           may.spare_is (ap (λ (x : Datagram). x.target) same ∙ endpoint_is d.target server_endpoint.host w.server.request ours at)
 
-      abbrev answered : Verdict → table.Answer
-      answered verdict = server_request verdict spare d.source d.bytes w.server
+      abbrev answered : Verdict → table.TableAnswer
+      answered verdict = table_request verdict spare d.source d.bytes w.server
 
       abbrev asked : Verdict → World
       asked verdict = after_request d.source spare (asked_of d.bytes) (answered verdict) w
@@ -179,7 +179,7 @@ module _ (w v : World) (d : Datagram) (index spare : ℕ) (there : slice_get w.n
       abbrev opening : Opening
       opening = record { peer = d.source; port = spare; asked = asked_of d.bytes; taken = length w.taken }
 
-      asked_as : (grant : Grant) → IsFree spare w → event_happens (deliver index spare) grant empty_maps w ≡ asked (memory_of grant)
+      asked_as : (grant : Grant) → IsFree spare w → event_happens (deliver index spare) grant empty_maps w ≡ asked (memory_verdict grant)
       asked_as grant free = came_as grant empty_maps (free_may free) true (eq-eqb d.target.port w.server.request at)
 
       asked_due : (grant : Grant) → IsDue (deliver index spare) grant w
@@ -196,35 +196,35 @@ module _ (w v : World) (d : Datagram) (index spare : ℕ) (there : slice_get w.n
       own_opened true none own = (opening-keeps_own w own opening).1 (none refl)
       own_opened false none own = own
 
-      asked_own : (opened : Bool) → opened ≡ (answered (request_verdict opened)).told.opened → (opened ≡ true → was_opened d.source spare w.opened ≡ false) → HasOwnPorts w → HasOwnPorts (asked (request_verdict opened))
-      asked_own opened told none own =
-          let ports : OwnPorts w.begun (opened_with (answered (request_verdict opened)).told.opened opening w.opened) w.strays = subst (λ (b : Bool). OwnPorts w.begun (opened_with b opening w.opened) w.strays) told (own_opened opened none own) in
+      asked_own : (opened : Bool) → opened ≡ (answered (request_verdict opened)).step.opened → (opened ≡ true → was_opened d.source spare w.opened ≡ false) → HasOwnPorts w → HasOwnPorts (asked (request_verdict opened))
+      asked_own opened reported none own =
+          let ports : OwnPorts w.begun (opened_with (answered (request_verdict opened)).step.opened opening w.opened) w.strays = subst (λ (b : Bool). OwnPorts w.begun (opened_with b opening w.opened) w.strays) reported (own_opened opened none own) in
           record { operations = ports.operations; openings = ports.openings; strangers = ports.strangers }
 
-      asked_makes : (opened : Bool) → v ≡ asked (request_verdict opened) → IsFree spare w → opened ≡ (answered (request_verdict opened)).told.opened → (opened ≡ true → was_opened d.source spare w.opened ≡ false) → (keeper : Option (List Keeping)) → Makes (deliver index spare) keeper keeper w v
-      asked_makes opened is free told none keeper =
+      asked_makes : (opened : Bool) → v ≡ asked (request_verdict opened) → IsFree spare w → opened ≡ (answered (request_verdict opened)).step.opened → (opened ≡ true → was_opened d.source spare w.opened ≡ false) → (keeper : Option (List Keeping)) → Makes (deliver index spare) keeper keeper w v
+      asked_makes opened is free reported none keeper =
           let grant = request_grant opened in
           record {
             grant = grant;
             maps = empty_maps;
             is = is ∙ ap asked (sym (request_memory opened)) ∙ sym (asked_as grant free);
             may = free_may free;
-            own = λ own. subst HasOwnPorts (sym is) (asked_own opened told none own);
+            own = λ own. subst HasOwnPorts (sym is) (asked_own opened reported none own);
             merged = asked_merged grant free;
             due = asked_due grant;
-            keeps = λ before tells. (before, tells, inl (ap (λ (x : World). x.server.maps) (is ∙ ap asked (sym (request_memory opened))) ∙ (request_remains w false None spare grant d).1, refl));
+            keeps = λ before reports. (before, reports, inl (ap (λ (x : World). x.server.maps) (is ∙ ap asked (sym (request_memory opened))) ∙ (request_remains w false None spare grant d).1, refl));
             stays = λ is. refl;
           }
 
-      reused_by : HasOwnPorts w → IsFree spare w → was_opened d.source spare w.opened ≡ true → (answered granted).told.opened ≡ true → HasOwnPorts (event_happens (deliver index spare) all empty_maps w) → ⊥
+      reused_by : HasOwnPorts w → IsFree spare w → was_opened d.source spare w.opened ≡ true → (answered granted).step.opened ≡ true → HasOwnPorts (event_happens (deliver index spare) all empty_maps w) → ⊥
       reused_by own free used opens later =
           let ports : HasOwnPorts (asked granted) = subst HasOwnPorts (asked_as all free) later in
-          let also : OwnPorts w.begun (opened_with (answered granted).told.opened opening w.opened) w.strays = record { operations = ports.operations; openings = ports.openings; strangers = ports.strangers } in
+          let also : OwnPorts w.begun (opened_with (answered granted).step.opened opening w.opened) w.strays = record { operations = ports.operations; openings = ports.openings; strangers = ports.strangers } in
           let new : OwnPorts w.begun (w.opened ++ opening ∷ []) w.strays = subst (λ (b : Bool). OwnPorts w.begun (opened_with b opening w.opened) w.strays) opens also in
           let none : was_opened d.source spare w.opened ≡ false = (opening-keeps_own w own opening).0 new in
           true≢false (sym used ∙ none)
 
-      asked_reuses : IsFree spare w → was_opened d.source spare w.opened ≡ true → (answered granted).told.opened ≡ true → HasOwnPorts w → Reuses (deliver index spare) w
+      asked_reuses : IsFree spare w → was_opened d.source spare w.opened ≡ true → (answered granted).step.opened ≡ true → HasOwnPorts w → Reuses (deliver index spare) w
       asked_reuses free used opens own =
           record {
             may = free_may free;
@@ -234,22 +234,22 @@ module _ (w v : World) (d : Datagram) (index spare : ℕ) (there : slice_get w.n
             reused = reused_by own free used opens;
           }
 
-      pub ask-comes : (r : Result Bool EventFault) (opened : Bool) (told : Option (List Keeping)) → v ≡ asked (request_verdict opened) → IsFree spare w → opened ≡ (answered (request_verdict opened)).told.opened → r ≡ Ok opened → (r ≡ Ok true → was_opened d.source spare w.opened ≡ false) → Comes (Ok tt) (deliver index spare) told told w v
-      ask-comes r opened told is free opens ok none = (
+      pub ask-comes : (r : Result Bool EventFault) (opened : Bool) (reported : Option (List Keeping)) → v ≡ asked (request_verdict opened) → IsFree spare w → opened ≡ (answered (request_verdict opened)).step.opened → r ≡ Ok opened → (r ≡ Ok true → was_opened d.source spare w.opened ≡ false) → Comes (Ok tt) (deliver index spare) reported reported w v
+      ask-comes r opened reported is free opens ok none = (
         ap (λ (x : World). x.server.request) is ∙ request_same (request_verdict opened) spare d.source d.bytes w.server,
-        λ ready. asked_makes opened is free opens (λ e. none (ok ∙ ap (λ (b : Bool). Ok b) e)) told,
+        λ ready. asked_makes opened is free opens (λ e. none (ok ∙ ap (λ (b : Bool). Ok b) e)) reported,
       )
 
-      pub ask-fails : (r : Result Bool EventFault) (f : EventFault) (told : Option (List Keeping)) → r ≡ Err f → (r ≡ Err fault.Bad → IsFree spare w → ⊥) → (r ≡ Err fault.Reused → IsFree spare w) → (r ≡ Err fault.Reused → was_opened d.source spare w.opened ≡ true) → r ≢ Err fault.NotLoaded → (r ≡ Err fault.Reused → (answered granted).told.opened ≡ true) → Comes (Err f) (deliver index spare) told told w v
-      ask-fails r fault.Bad told is bad reused used loads opens = (refl, λ may. bad is (may_free may))
-      ask-fails r fault.Reused told is bad reused used loads opens =
+      pub ask-fails : (r : Result Bool EventFault) (f : EventFault) (reported : Option (List Keeping)) → r ≡ Err f → (r ≡ Err fault.Bad → IsFree spare w → ⊥) → (r ≡ Err fault.Reused → IsFree spare w) → (r ≡ Err fault.Reused → was_opened d.source spare w.opened ≡ true) → r ≢ Err fault.NotLoaded → (r ≡ Err fault.Reused → (answered granted).step.opened ≡ true) → Comes (Err f) (deliver index spare) reported reported w v
+      ask-fails r fault.Bad reported is bad reused used loads opens = (refl, λ may. bad is (may_free may))
+      ask-fails r fault.Reused reported is bad reused used loads opens =
           (refl, λ own. asked_reuses (reused is) (used is) (opens is) own)
-      ask-fails r fault.NotLoaded told is bad reused used loads opens = absurd (loads is)
-      ask-fails r fault.Memory told is bad reused used loads opens = (no_restart (deliver index spare) refl, inl refl)
+      ask-fails r fault.NotLoaded reported is bad reused used loads opens = absurd (loads is)
+      ask-fails r fault.Memory reported is bad reused used loads opens = (no_restart (deliver index spare) refl, inl refl)
 
     -- ---- to another port
 
-    module _ (other : d.target.port ≢ w.server.request) (old new : Option (List Keeping)) (u : World) (h : HearsAtPort d old new w u) where
+    module _ (other : d.target.port ≢ w.server.request) (old new : Option (List Keeping)) (u : World) (h : ReceivesAtPort d old new w u) where
       other_may : MayDeliver index spare w
       other_may = may_deliver (λ to. absurd (other (ap (λ (e : Endpoint). e.port) to)))
 
@@ -269,7 +269,7 @@ module _ (w v : World) (d : Datagram) (index spare : ℕ) (there : slice_get w.n
           (λ t e. taken_merged w.taken t _ w.server.maps u.server.maps h.merges (sym (ap (λ (x : World). x.taken) h.is) ∙ e))
 
       abbrev wanted : Option Taken
-      wanted = (server_datagram all w.server.maps d.target.port d.source d.bytes w.server).told.taken
+      wanted = (table_datagram all w.server.maps d.target.port d.source d.bytes w.server).step.taken
 
       stepped_wanted : wanted_by (slice_get w.net index) w ≡ wanted
       stepped_wanted =
@@ -284,7 +284,7 @@ module _ (w v : World) (d : Datagram) (index spare : ℕ) (there : slice_get w.n
 
       now_keeps : (before : List Keeping) → old ≡ Some before → (after : List Keeping) × (new ≡ Some after) × EventKeeps (deliver index spare) h.grant w u before after
       now_keeps before is =
-          let now = told_after h.grant wanted w.server.maps u.server.maps before new (subst (λ (o : Option (List Keeping)). StepKeeps h.grant wanted w.server.maps u.server.maps o new) is h.keeps) in
+          let now = reported_after h.grant wanted w.server.maps u.server.maps before new (subst (λ (o : Option (List Keeping)). StepKeeps h.grant wanted w.server.maps u.server.maps o new) is h.keeps) in
           (now.0, now.1, inr (stepped_keeps before now.0 is now.1))
 
       stepped_due : IsDue (deliver index spare) h.grant w

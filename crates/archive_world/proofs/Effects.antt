@@ -3,9 +3,9 @@ use Rattle.std.proofs.Common.{◌≡◌, ◌≢◌, ◌⊎◌, ℕ, ◌<◌, ◌
 use Rattle.tftp_packet.specs.declared.endpoint.Endpoint.{Endpoint}
 use Rattle.tws_file.specs.declared.«ruleset».Ruleset.{Ruleset}
 use Rattle.tws_best.specs.Best.{collection_text}
-use Rattle.archive_table.specs.Server.{Maps, Taken, Transfer, Grant, memory_of, transfer_at, server_request, IsMerged, map_of}
+use Rattle.archive_table.specs.Table.{Maps, Taken, Transfer, Grant, memory_verdict, transfer_at, table_request, IsMerged, map_of}
 use Rattle.archive_client.specs.Client.{Operation, put, get, Client, is_too_long}
-use Rattle.archive_world.specs.World.{Datagram, Begun, Opening, to_read, Event, begin, deliver, client_times_out, server_times_out, stray, restart, Got, World, Step, server_endpoint, client_at, has_begun, opened_with, asked_of, begins_unless, request_comes, server_hears, client_hears, arrives, delivers, client_waits, strays_unless, event_happens, happens, start_from, run_from, HasMerged, AllMerged}
+use Rattle.archive_world.specs.World.{Datagram, Begun, Opening, to_read, Event, begin, deliver, client_times_out, server_times_out, stray, restart, Got, World, WorldStep, server_endpoint, client_at, has_begun, opened_with, asked_of, begins_unless, request_comes, server_receives, client_receives, arrives, delivers, client_waits, strays_unless, event_happens, happens, start_from, run_from, HasMerged, AllMerged}
 use Rattle.archive_world.specs.Headline.{IsOwn, AreOver, IsBestOver, files_of}
 use Rattle.archive_world.specs.Effects.{HasBegunWith, PutsAt, GetsAt, TakesEffect, ReadsAtOnce, IsFetchedOver, FetchesNoLess, FetchesNone}
 use Rattle.archive_world.proofs.Places.{Has, Extends, Has-last, Has-extends, Has-contains, Has-from_contains, OldOrLast, at-push, at-last, at-extends, before_last, take-extends}
@@ -23,32 +23,32 @@ use Rattle.archive_world.proofs.Totality.{not_more}
 -- ---- the step that took a file
 
 -- the file at this place was taken by a step of the run
-record TakesIn (steps : List Step) (w : World) (place : ℕ) (t : Taken) : Type 0 where
-  before : List Step
-  step : Step
-  after : List Step
+record TakesIn (steps : List WorldStep) (w : World) (position : ℕ) (t : Taken) : Type 0 where
+  before : List WorldStep
+  step : WorldStep
+  after : List WorldStep
   split : steps ≡ before ++ step ∷ after
-  at : length (run_from before w).taken ≡ place
+  at : length (run_from before w).taken ≡ position
   takes : (happens step (run_from before w)).taken ≡ (run_from before w).taken ++ t ∷ []
 
-taken_now : (s : Step) (steps : List Step) (w : World) (i : ℕ) (t u : Taken) → (happens s w).taken ≡ w.taken ++ u ∷ [] → OldOrLast w.taken u i t → (slice_get w.taken i ≡ Some t) ⊎ TakesIn (s ∷ steps) w i t
+taken_now : (s : WorldStep) (steps : List WorldStep) (w : World) (i : ℕ) (t u : Taken) → (happens s w).taken ≡ w.taken ++ u ∷ [] → OldOrLast w.taken u i t → (slice_get w.taken i ≡ Some t) ⊎ TakesIn (s ∷ steps) w i t
 taken_now s steps w i t u takes (inl old) = inl old
 taken_now s steps w i t u takes (inr last) =
     inr (record { before = []; step = s; after = steps; split = refl; at = sym last.0; takes = subst (λ (x : Taken). (happens s w).taken ≡ w.taken ++ x ∷ []) (sym last.1) takes })
 
-taken_first : (s : Step) (steps : List Step) (w : World) (i : ℕ) (t : Taken) → slice_get (happens s w).taken i ≡ Some t → (slice_get w.taken i ≡ Some t) ⊎ TakesIn (s ∷ steps) w i t
+taken_first : (s : WorldStep) (steps : List WorldStep) (w : World) (i : ℕ) (t : Taken) → slice_get (happens s w).taken i ≡ Some t → (slice_get w.taken i ≡ Some t) ⊎ TakesIn (s ∷ steps) w i t
 taken_first s steps w i t is =
     ⊎_elim
     (λ remain. inl (subst (λ (ts : List Taken). slice_get ts i ≡ Some t) remain.0 is))
     (λ takes. taken_now s steps w i t takes.0 takes.1 (at-push w.taken takes.0 i t (subst (λ (ts : List Taken). slice_get ts i ≡ Some t) takes.1 is)))
     (step-takes w s)
 
-taken_later : (s : Step) (steps : List Step) (w : World) (i : ℕ) (t : Taken) → (slice_get (happens s w).taken i ≡ Some t) ⊎ TakesIn steps (happens s w) i t → (slice_get w.taken i ≡ Some t) ⊎ TakesIn (s ∷ steps) w i t
+taken_later : (s : WorldStep) (steps : List WorldStep) (w : World) (i : ℕ) (t : Taken) → (slice_get (happens s w).taken i ≡ Some t) ⊎ TakesIn steps (happens s w) i t → (slice_get w.taken i ≡ Some t) ⊎ TakesIn (s ∷ steps) w i t
 taken_later s steps w i t (inl old) = taken_first s steps w i t old
 taken_later s steps w i t (inr k) =
-    inr (record { before = s ∷ k.before; step = k.step; after = k.after; split = ap (λ (l : List Step). s ∷ l) k.split; at = k.at; takes = k.takes })
+    inr (record { before = s ∷ k.before; step = k.step; after = k.after; split = ap (λ (l : List WorldStep). s ∷ l) k.split; at = k.at; takes = k.takes })
 
-taken_in : (steps : List Step) (w : World) (i : ℕ) (t : Taken) → slice_get (run_from steps w).taken i ≡ Some t → (slice_get w.taken i ≡ Some t) ⊎ TakesIn steps w i t
+taken_in : (steps : List WorldStep) (w : World) (i : ℕ) (t : Taken) → slice_get (run_from steps w).taken i ≡ Some t → (slice_get w.taken i ≡ Some t) ⊎ TakesIn steps w i t
 taken_in [] w i t is = inl is
 taken_in (s ∷ steps) w i t is = taken_later s steps w i t (taken_in steps (happens s w) i t is)
 
@@ -59,7 +59,7 @@ abbrev Opens : (w v : World) → Type 0
 Opens w v = (v.opened ≡ w.opened) ⊎ ((o : Opening) × (v.opened ≡ w.opened ++ o ∷ []) × (o.taken ≡ length w.taken))
 
 module _ (w : World) where
-  opens_if : (told : Bool) (o : Opening) → o.taken ≡ length w.taken → (opened_with told o w.opened ≡ w.opened) ⊎ ((x : Opening) × (opened_with told o w.opened ≡ w.opened ++ x ∷ []) × (x.taken ≡ length w.taken))
+  opens_if : (reported : Bool) (o : Opening) → o.taken ≡ length w.taken → (opened_with reported o w.opened ≡ w.opened) ⊎ ((x : Opening) × (opened_with reported o w.opened ≡ w.opened ++ x ∷ []) × (x.taken ≡ length w.taken))
   opens_if true o counted = inr (o, refl, counted)
   opens_if false o counted = inl refl
 
@@ -72,19 +72,19 @@ module _ (w : World) where
   request_opens true live spare grant d = inl refl
   request_opens false (Some t) spare grant d = inl refl
   request_opens false None spare grant d =
-      opens_if (server_request (memory_of grant) spare d.source d.bytes w.server).told.opened (record { peer = d.source; port = spare; asked = asked_of d.bytes; taken = length w.taken }) refl
+      opens_if (table_request (memory_verdict grant) spare d.source d.bytes w.server).step.opened (record { peer = d.source; port = spare; asked = asked_of d.bytes; taken = length w.taken }) refl
 
-  server_opens : (request : Bool) (spare : ℕ) (grant : Grant) (maps : Maps) (d : Datagram) → Opens w (server_hears request spare grant maps d w)
+  server_opens : (request : Bool) (spare : ℕ) (grant : Grant) (maps : Maps) (d : Datagram) → Opens w (server_receives request spare grant maps d w)
   server_opens true spare grant maps d = request_opens (spare == w.server.request) (transfer_at spare w.server) spare grant d
   server_opens false spare grant maps d = inl refl
 
-  hears_opens : (found : Option Client) (grant : Grant) (d : Datagram) → (client_hears found grant d w).opened ≡ w.opened
-  hears_opens None grant d = refl
-  hears_opens (Some c) grant d = refl
+  receives_opens : (found : Option Client) (grant : Grant) (d : Datagram) → (client_receives found grant d w).opened ≡ w.opened
+  receives_opens None grant d = refl
+  receives_opens (Some c) grant d = refl
 
   arrives_opens : (ours : Bool) (spare : ℕ) (grant : Grant) (maps : Maps) (d : Datagram) → Opens w (arrives ours spare grant maps d w)
   arrives_opens true spare grant maps d = server_opens (d.target.port == w.server.request) spare grant maps d
-  arrives_opens false spare grant maps d = inl (hears_opens (client_at d.target w) grant d)
+  arrives_opens false spare grant maps d = inl (receives_opens (client_at d.target w) grant d)
 
   delivers_opens : (found : Option Datagram) (spare : ℕ) (grant : Grant) (maps : Maps) → Opens w (delivers found spare grant maps w)
   delivers_opens None spare grant maps = inl refl
@@ -107,16 +107,16 @@ module _ (w : World) where
   event_opens (stray d) grant maps = inl (strays_opens (d.source.host == server_endpoint.host) (has_begun d.source w.begun) d)
   event_opens restart grant maps = inl refl
 
-record OpensIn (steps : List Step) (w : World) (o : Opening) : Type 0 where
-  before : List Step
-  step : Step
-  after : List Step
+record OpensIn (steps : List WorldStep) (w : World) (o : Opening) : Type 0 where
+  before : List WorldStep
+  step : WorldStep
+  after : List WorldStep
   split : steps ≡ before ++ step ∷ after
   counted : o.taken ≡ length (run_from before w).taken
   opens : (happens step (run_from before w)).opened ≡ (run_from before w).opened ++ o ∷ []
 
-opened_now : (s : Step) (steps : List Step) (w : World) (i : ℕ) (o p : Opening) → (happens s w).opened ≡ w.opened ++ p ∷ [] → p.taken ≡ length w.taken → OldOrLast w.opened p i o → Has w.opened o ⊎ OpensIn (s ∷ steps) w o
-opened_now s steps w i o p opens counted (inl old) = inl (record { place = i; is = old })
+opened_now : (s : WorldStep) (steps : List WorldStep) (w : World) (i : ℕ) (o p : Opening) → (happens s w).opened ≡ w.opened ++ p ∷ [] → p.taken ≡ length w.taken → OldOrLast w.opened p i o → Has w.opened o ⊎ OpensIn (s ∷ steps) w o
+opened_now s steps w i o p opens counted (inl old) = inl (record { position = i; is = old })
 opened_now s steps w i o p opens counted (inr last) =
     inr
     (record {
@@ -128,30 +128,30 @@ opened_now s steps w i o p opens counted (inr last) =
       opens = subst (λ (x : Opening). (happens s w).opened ≡ w.opened ++ x ∷ []) (sym last.1) opens;
     })
 
-opened_first : (s : Step) (steps : List Step) (w : World) (o : Opening) → Has (happens s w).opened o → Has w.opened o ⊎ OpensIn (s ∷ steps) w o
+opened_first : (s : WorldStep) (steps : List WorldStep) (w : World) (o : Opening) → Has (happens s w).opened o → Has w.opened o ⊎ OpensIn (s ∷ steps) w o
 opened_first s steps w o h =
     ⊎_elim
     (λ same. inl (subst (λ (os : List Opening). Has os o) same h))
-    (λ new. opened_now s steps w h.place o new.0 new.1 new.2 (at-push w.opened new.0 h.place o (subst (λ (os : List Opening). slice_get os h.place ≡ Some o) new.1 h.is)))
+    (λ new. opened_now s steps w h.position o new.0 new.1 new.2 (at-push w.opened new.0 h.position o (subst (λ (os : List Opening). slice_get os h.position ≡ Some o) new.1 h.is)))
     (event_opens w s.event s.grant s.maps)
 
-opened_later : (s : Step) (steps : List Step) (w : World) (o : Opening) → Has (happens s w).opened o ⊎ OpensIn steps (happens s w) o → Has w.opened o ⊎ OpensIn (s ∷ steps) w o
+opened_later : (s : WorldStep) (steps : List WorldStep) (w : World) (o : Opening) → Has (happens s w).opened o ⊎ OpensIn steps (happens s w) o → Has w.opened o ⊎ OpensIn (s ∷ steps) w o
 opened_later s steps w o (inl old) = opened_first s steps w o old
 opened_later s steps w o (inr k) =
-    inr (record { before = s ∷ k.before; step = k.step; after = k.after; split = ap (λ (l : List Step). s ∷ l) k.split; counted = k.counted; opens = k.opens })
+    inr (record { before = s ∷ k.before; step = k.step; after = k.after; split = ap (λ (l : List WorldStep). s ∷ l) k.split; counted = k.counted; opens = k.opens })
 
-opened_in : (steps : List Step) (w : World) (o : Opening) → Has (run_from steps w).opened o → Has w.opened o ⊎ OpensIn steps w o
+opened_in : (steps : List WorldStep) (w : World) (o : Opening) → Has (run_from steps w).opened o → Has w.opened o ⊎ OpensIn steps w o
 opened_in [] w o h = inl h
 opened_in (s ∷ steps) w o h = opened_later s steps w o (opened_in steps (happens s w) o h)
 
 -- ---- what had begun before
 
-begin_takes : (w : World) (s : Step) (e : Endpoint) (operation : Operation) → s.event ≡ begin e operation → (happens s w).taken ≡ w.taken
+begin_takes : (w : World) (s : WorldStep) (e : Endpoint) (operation : Operation) → s.event ≡ begin e operation → (happens s w).taken ≡ w.taken
 begin_takes w s e operation is =
     ap (λ (event : Event). (event_happens event s.grant s.maps w).taken) is
     ∙ (begins_remain w (e.host == server_endpoint.host) (is_too_long operation) e operation).0
 
-begin_opens : (w : World) (s : Step) (e : Endpoint) (operation : Operation) → s.event ≡ begin e operation → (happens s w).opened ≡ w.opened
+begin_opens : (w : World) (s : WorldStep) (e : Endpoint) (operation : Operation) → s.event ≡ begin e operation → (happens s w).opened ≡ w.opened
 begin_opens w s e operation is =
     ap (λ (event : Event). (event_happens event s.grant s.maps w).opened) is
     ∙ begins_opens w (e.host == server_endpoint.host) (is_too_long operation) e operation
@@ -159,7 +159,7 @@ begin_opens w s e operation is =
 one_more : {A P : Type 0} (xs : List A) (x : A) → xs ≡ xs ++ x ∷ [] → P
 one_more xs x e = let more = ap length e ∙ length-append xs (x ∷ []) in absurd (omega arith)
 
-module _ (w : World) (s : Step) (b : Begun) (has : Has (happens s w).begun b) where
+module _ (w : World) (s : WorldStep) (b : Begun) (has : Has (happens s w).begun b) where
   -- a step that takes a file begins nothing
   begun_if_taken : (t : Taken) → (happens s w).taken ≡ w.taken ++ t ∷ [] → Has w.begun b
   begun_if_taken t takes =
@@ -176,7 +176,7 @@ module _ (w : World) (s : Step) (b : Begun) (has : Has (happens s w).begun b) wh
 
 -- ---- a run that is split
 
-module _ (w : World) (h : Holds w) (steps : List Step) (merged : AllMerged steps w) (before : List Step) (step : Step) (after : List Step) (split : steps ≡ before ++ step ∷ after) where
+module _ (w : World) (h : Holds w) (steps : List WorldStep) (merged : AllMerged steps w) (before : List WorldStep) (step : WorldStep) (after : List WorldStep) (split : steps ≡ before ++ step ∷ after) where
   abbrev first : World
   first = run_from before w
 
@@ -184,7 +184,7 @@ module _ (w : World) (h : Holds w) (steps : List Step) (merged : AllMerged steps
   next = happens step first
 
   parts_merged : AllMerged (before ++ step ∷ after) w
-  parts_merged = subst (λ (l : List Step). AllMerged l w) split merged
+  parts_merged = subst (λ (l : List WorldStep). AllMerged l w) split merged
 
   first_holds : Holds first
   first_holds = run_from-holds before w h (merged-first before (step ∷ after) w parts_merged)
@@ -196,7 +196,7 @@ module _ (w : World) (h : Holds w) (steps : List Step) (merged : AllMerged steps
   next_holds = step-holds first step first_holds step_merged
 
   end_is : run_from steps w ≡ run_from after next
-  end_is = ap (λ (l : List Step). run_from l w) split ∙ run-append before (step ∷ after) w
+  end_is = ap (λ (l : List WorldStep). run_from l w) split ∙ run-append before (step ∷ after) w
 
   next_grows : GrowsTo next (run_from steps w)
   next_grows = subst (GrowsTo next) (sym end_is) (run-grows after next)
@@ -219,16 +219,16 @@ module _ (w : World) (h : Holds w) (steps : List Step) (merged : AllMerged steps
 
       put_began : HasBegunWith first e (put file)
       put_began =
-          let from = (next_holds.taken _ (record { place = length first.taken; is = last_taken }) away).whose own_next in
+          let from = (next_holds.taken _ (record { position = length first.taken; is = last_taken }) away).whose own_next in
           let has = begun_if_taken first step _ from.began.among _ takes in
           (record { client = e; operation = put file; taken = from.began.count }, Has-contains first.begun _ has, refl, refl)
 
       unsent_first : Contains first.sent e → ⊥
       unsent_first among =
           let there = ((first_holds.sent e (Has-from_contains first.sent e among)).is_taken own_first).among in
-          let early : there.place < length first.taken = before_last first.taken there.place _ there.is in
-          let still = at-extends first.taken next.taken (step-grows first step).taken there.place _ there.is in
-          let same : there.place ≡ length first.taken = next_holds.once there.place (length first.taken) _ _ still last_taken refl away own_next in
+          let early : there.position < length first.taken = before_last first.taken there.position _ there.is in
+          let still = at-extends first.taken next.taken (step-grows first step).taken there.position _ there.is in
+          let same : there.position ≡ length first.taken = next_holds.once there.position (length first.taken) _ _ still last_taken refl away own_next in
           omega arith
 
       puts_at : PutsAt first step e file
@@ -242,37 +242,37 @@ module _ (w : World) (h : Holds w) (steps : List Step) (merged : AllMerged steps
 
   -- ---- a get
 
-  module _ (e : Endpoint) (own : IsOwn (run_from steps w) e) (kind : Ruleset) (port count : ℕ) (opens : next.opened ≡ first.opened ++ record { peer = e; port = port; asked = to_read kind; taken = count } ∷ []) (counted : count ≡ length first.taken) where
+  module _ (e : Endpoint) (own : IsOwn (run_from steps w) e) (rules : Ruleset) (port count : ℕ) (opens : next.opened ≡ first.opened ++ record { peer = e; port = port; asked = to_read rules; taken = count } ∷ []) (counted : count ≡ length first.taken) where
     abbrev opening : Opening
-    opening = record { peer = e; port = port; asked = to_read kind; taken = count }
+    opening = record { peer = e; port = port; asked = to_read rules; taken = count }
 
-    asked_by : IsStranger next e ⊎ IsAskedBy next opening (to_read kind) → HasBegunWith first e (get kind)
+    asked_by : IsStranger next e ⊎ IsAskedBy next opening (to_read rules) → HasBegunWith first e (get rules)
     asked_by (inl stranger) = no_stranger next e (own_next e own) stranger
     asked_by (inr asked) =
         let has = begun_if_opened first step _ asked.1.among _ opens in
-        (record { client = e; operation = get kind; taken = asked.0 }, Has-contains first.begun _ has, refl, refl)
+        (record { client = e; operation = get rules; taken = asked.0 }, Has-contains first.begun _ has, refl, refl)
 
     opened_last : Has next.opened opening
     opened_last = subst (λ (os : List Opening). Has os opening) (sym opens) (Has-last first.opened opening)
 
-    text_then : (file : List ℕ) → IsBestOver kind (files_of (take count (run_from steps w).taken)) file → file ≡ collection_text (map_of kind first.server.maps)
+    text_then : (file : List ℕ) → IsBestOver rules (files_of (take count (run_from steps w).taken)) file → file ≡ collection_text (map_of rules first.server.maps)
     text_then file best =
         let prefix : take count (run_from steps w).taken ≡ first.taken = ap (λ (n : ℕ). take n (run_from steps w).taken) counted ∙ take-extends first.taken (run_from steps w).taken (length first.taken) first_grows.taken (le_refl (length first.taken)) ∙ take_all (length first.taken) first.taken (le_refl (length first.taken)) in
-        let over = subst (λ (ts : List Taken). IsBestOver kind (files_of ts) file) prefix best in
-        one_text kind (files_of first.taken) file (collection_text (map_of kind first.server.maps)) over (map_of kind first.server.maps, best_at first.taken first.server.maps kind first_holds.best, refl)
+        let over = subst (λ (ts : List Taken). IsBestOver rules (files_of ts) file) prefix best in
+        one_text rules (files_of first.taken) file (collection_text (map_of rules first.server.maps)) over (map_of rules first.server.maps, best_at first.taken first.server.maps rules first_holds.best, refl)
 
-    gets_at : (file : List ℕ) → IsBestOver kind (files_of (take count (run_from steps w).taken)) file → GetsAt first step e kind file
+    gets_at : (file : List ℕ) → IsBestOver rules (files_of (take count (run_from steps w).taken)) file → GetsAt first step e rules file
     gets_at file best =
         record {
           began = asked_by (next_holds.opened opening opened_last).whose;
           port = port;
-          opens = subst (λ (n : ℕ). next.opened ≡ first.opened ++ record { peer = e; port = port; asked = to_read kind; taken = n } ∷ []) counted opens;
+          opens = subst (λ (n : ℕ). next.opened ≡ first.opened ++ record { peer = e; port = port; asked = to_read rules; taken = n } ∷ []) counted opens;
           file_is = text_then file best;
         }
 
 -- ---- the operations of a run
 
-module _ (texts : List (List ℕ)) (maps : Maps) (over : AreOver texts maps) (steps : List Step) (merged : AllMerged steps (start_from texts maps)) where
+module _ (texts : List (List ℕ)) (maps : Maps) (over : AreOver texts maps) (steps : List WorldStep) (merged : AllMerged steps (start_from texts maps)) where
   abbrev first_world : World
   first_world = start_from texts maps
 
@@ -285,9 +285,9 @@ module _ (texts : List (List ℕ)) (maps : Maps) (over : AreOver texts maps) (st
   at_last : Holds last_world
   at_last = run_from-holds steps first_world at_first merged
 
-  put_split : (e : Endpoint) → IsOwn last_world e → e.host ≢ server_endpoint.host → (place : ℕ) (file : List ℕ) → (slice_get first_world.taken place ≡ Some (record { peer = e; file = file })) ⊎ TakesIn steps first_world place (record { peer = e; file = file }) → TakesEffect first_world steps e
-  put_split e own away place file (inl old) = absurd (away (given-at texts place _ old))
-  put_split e own away place file (inr k) =
+  put_split : (e : Endpoint) → IsOwn last_world e → e.host ≢ server_endpoint.host → (position : ℕ) (file : List ℕ) → (slice_get first_world.taken position ≡ Some (record { peer = e; file = file })) ⊎ TakesIn steps first_world position (record { peer = e; file = file }) → TakesEffect first_world steps e
+  put_split e own away position file (inl old) = absurd (away (given-at texts position _ old))
+  put_split e own away position file (inr k) =
       record {
         file = file;
         before = k.before;
@@ -302,22 +302,22 @@ module _ (texts : List (List ℕ)) (maps : Maps) (over : AreOver texts maps) (st
       let s = at_last.sent e (Has-from_contains last_world.sent e among) in
       let there = (s.is_taken own).among in
       let away = begun_away last_world at_last e (put_begun last_world e s.file s.began) in
-      put_split e own away there.place s.file (taken_in steps first_world there.place _ there.is)
+      put_split e own away there.position s.file (taken_in steps first_world there.position _ there.is)
 
-  get_split : (g : Got) → IsOwn last_world g.client → (kind : Ruleset) (port count : ℕ) → IsBestOver kind (files_of (take count last_world.taken)) g.file → Has first_world.opened (record { peer = g.client; port = port; asked = to_read kind; taken = count }) ⊎ OpensIn steps first_world (record { peer = g.client; port = port; asked = to_read kind; taken = count }) → ReadsAtOnce first_world steps g
-  get_split g own kind port count best (inl old) = let is = old.is in absurd cc
-  get_split g own kind port count best (inr k) =
+  get_split : (g : Got) → IsOwn last_world g.client → (rules : Ruleset) (port count : ℕ) → IsBestOver rules (files_of (take count last_world.taken)) g.file → Has first_world.opened (record { peer = g.client; port = port; asked = to_read rules; taken = count }) ⊎ OpensIn steps first_world (record { peer = g.client; port = port; asked = to_read rules; taken = count }) → ReadsAtOnce first_world steps g
+  get_split g own rules port count best (inl old) = let is = old.is in absurd cc
+  get_split g own rules port count best (inr k) =
       record {
-        kind = kind;
+        rules = rules;
         before = k.before;
         step = k.step;
         after = k.after;
         split = k.split;
-        at = gets_at first_world at_first steps merged k.before k.step k.after k.split g.client own kind port count k.opens k.counted g.file best;
+        at = gets_at first_world at_first steps merged k.before k.step k.after k.split g.client own rules port count k.opens k.counted g.file best;
       }
 
   pub gets-at : (g : Got) → IsOwn last_world g.client → Contains last_world.got g → ReadsAtOnce first_world steps g
   gets-at g own among =
       let is = at_last.got g (Has-from_contains last_world.got g among) in
       let f = is.whose own in
-      get_split g own is.kind f.port f.serves.count f.serves.is_text.best (opened_in steps first_world _ f.serves.opened.among)
+      get_split g own is.rules f.port f.serves.count f.serves.is_text.best (opened_in steps first_world _ f.serves.opened.among)

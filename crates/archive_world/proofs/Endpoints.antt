@@ -2,7 +2,7 @@
 use Rattle.std.proofs.Common.{◌≡◌, ℕ, Bool, true, ◌==◌, ◌&&◌, refl, ap, ◌∙◌}
 use Rattle.std.proofs.lemmas.Bool.{and_parts, eqb-true, eq-eqb}
 use Rattle.tftp_packet.specs.declared.endpoint.Endpoint.{Endpoint}
-use Rattle.archive_table.specs.Server.{is_same}
+use Rattle.archive_table.specs.Table.{is_same}
 
 pub endpoint_is : (e : Endpoint) (host port : ℕ) → e.host ≡ host → e.port ≡ port → e ≡ record { host = host; port = port }
 endpoint_is e host port same_host same_port =

@@ -8,15 +8,15 @@ use Rattle.tws_file.specs.declared.«ruleset».Ruleset.{Ruleset}
 use Rattle.tws_file.specs.declared.«ruleset».Ruleset.TheVariants.{Lynx, Ms}
 use Rattle.tws_file.specs.Text.{File, IsText}
 use Rattle.tws_file.proofs.FileText.{one_file}
-use Rattle.tws_best.specs.Best.{Entry, Collected, IsCollected, HasBody, IsCollectionOf, IsSolutionIn, collection_text, solved_by, solutions_of}
+use Rattle.tws_best.specs.Best.{KeyedBody, Collected, IsCollected, HasBody, IsCollectionOf, IsSolutionIn, collection_text, solved_by, solutions_of}
 use Rattle.tws_best.specs.Steps.{IsHeld}
 use Rattle.tws_best.proofs.Bests.{held_by_best}
 use Rattle.tws_best.proofs.Members.{Contains-none}
 use Rattle.tws_best.proofs.Texts.{file_from, is_text, file_solves, file_rules}
-use Rattle.archive_table.specs.Server.{Maps, Taken, map_of}
+use Rattle.archive_table.specs.Table.{Maps, Taken, map_of}
 use Rattle.archive_table.specs.Keeper.{Keeping}
 use Rattle.archive_client.specs.Client.{Operation, put}
-use Rattle.archive_world.specs.World.{Begun, Got, Step, World, start_from, run_from, happens, AllMerged}
+use Rattle.archive_world.specs.World.{Begun, Got, WorldStep, World, start_from, run_from, happens, AllMerged}
 use Rattle.archive_world.specs.Headline.{IsOwn, AreOver, IsBestOver, files_of}
 use Rattle.archive_world.specs.Restarts.{HasKept, RunKeeps, RestartsFrom}
 use Rattle.archive_world.specs.Durable.{HasNoWorse, AreNoWorse, HoldsFile, HoldsPromised, LoadsPromised, CutsShort}
@@ -28,24 +28,24 @@ use Rattle.archive_world.proofs.Growing.{run-grows, step-grows}
 use Rattle.archive_world.proofs.Remaining.{step-takes}
 use Rattle.archive_world.proofs.Happening.{run-append, merged-first, merged-rest, step-holds, run_from-holds}
 use Rattle.archive_world.proofs.Loading.{loads-the_same}
-use Rattle.archive_world.proofs.Persisting.{own-rules, event-kept, maps-are, run_from-kept, loads-from}
+use Rattle.archive_world.proofs.Persisting.{own-ruleset, event-kept, maps-are, run_from-kept, loads-from}
 
 -- ---- one collection
 
-pub best_at : (taken : List Taken) (maps : Maps) (kind : Ruleset) → AreBest taken maps → IsCollectionOf kind (files_of taken) (map_of kind maps)
+pub best_at : (taken : List Taken) (maps : Maps) (rules : Ruleset) → AreBest taken maps → IsCollectionOf rules (files_of taken) (map_of rules maps)
 best_at taken maps Lynx best = best.lynx
 best_at taken maps Ms best = best.ms
 
 -- a solution of a text among the files has a body that is no worse
-solution_held : (taken : List Taken) (maps : Maps) (kind : Ruleset) (e : Entry) → AreBest taken maps → IsSolutionIn kind (files_of taken) e → HasNoWorse (map_of kind maps) e
-solution_held taken maps kind e best member =
-    let c = map_of kind maps in
-    let h : IsHeld (Contains c.entries) e = held_by_best (IsSolutionIn kind (files_of taken)) c.entries (best_at taken maps kind best).best e member in
+solution_held : (taken : List Taken) (maps : Maps) (rules : Ruleset) (e : KeyedBody) → AreBest taken maps → IsSolutionIn rules (files_of taken) e → HasNoWorse (map_of rules maps) e
+solution_held taken maps rules e best member =
+    let c = map_of rules maps in
+    let h : IsHeld (Contains c.entries) e = held_by_best (IsSolutionIn rules (files_of taken)) c.entries (best_at taken maps rules best).best e member in
     record { body = h.holder.body; has = subst (λ (k : Key). HasBody c.entries k h.holder.body) h.same h.member; no_worse = h.no_worse }
 
 -- a solution among the first files is one among all
-solution_later : (old new : List Taken) (kind : Ruleset) (e : Entry) → Extends old new → IsSolutionIn kind (files_of old) e → IsSolutionIn kind (files_of new) e
-solution_later old new kind e more s =
+solution_later : (old new : List Taken) (rules : Ruleset) (e : KeyedBody) → Extends old new → IsSolutionIn rules (files_of old) e → IsSolutionIn rules (files_of new) e
+solution_later old new rules e more s =
     let all : files_of new ≡ files_of old ++ files_of more.rest = ap files_of more.is ∙ map-append (λ (t : Taken). t.file) old more.rest in
     record {
       text = s.text;
@@ -61,16 +61,16 @@ at_files (u ∷ ts) zero t is = let same : u ≡ t = cc in ap (λ (x : Taken). S
 at_files (u ∷ ts) (suc i) t is = at_files ts i t is
 
 file_among : (ts : List Taken) (t : Taken) → Has ts t → Contains (files_of ts) t.file
-file_among ts t has = Has-contains (files_of ts) t.file (record { place = has.place; is = at_files ts has.place t has.is })
+file_among ts t has = Has-contains (files_of ts) t.file (record { position = has.position; is = at_files ts has.position t has.is })
 
 file_held : (taken : List Taken) (maps : Maps) → AreBest taken maps → (t : Taken) → Has taken t → HoldsFile maps t.file
-file_held taken maps best t has f is kind e present =
-    solution_held taken maps kind e best (record { text = t.file; among = file_among taken t has; file = f; is_text = is; present = present })
+file_held taken maps best t has f is rules e present =
+    solution_held taken maps rules e best (record { text = t.file; among = file_among taken t has; file = f; is_text = is; present = present })
 
 -- ---- a collection that was fetched
 
 -- a file of one ruleset has no solutions of the other
-own_entries : (kind rules : Ruleset) (f : File) (e : Entry) → f.ruleset ≡ rules → Contains (solutions_of kind (f ∷ [])) e → kind ≡ rules
+own_entries : (rules rules-is : Ruleset) (f : File) (e : KeyedBody) → f.ruleset ≡ rules-is → Contains (solutions_of rules (f ∷ [])) e → rules ≡ rules-is
 own_entries Lynx Lynx f e is present = refl
 own_entries Ms Ms f e is present = refl
 own_entries Lynx Ms f e is present =
@@ -79,22 +79,22 @@ own_entries Ms Lynx f e is present =
     absurd (Contains-none e (subst (λ (r : Ruleset). Contains (solved_by Ms r f.records ++ []) e) is present))
 
 -- the solutions of a collection's text are its entries
-entry_of_text : (c : Collected) (fits : IsCollected c) (f : File) → IsText (collection_text c) f → (kind : Ruleset) (e : Entry) → Contains (solutions_of kind (f ∷ [])) e → (kind ≡ c.ruleset) × Contains c.entries e
-entry_of_text c fits f is kind e present =
+entry_of_text : (c : Collected) (fits : IsCollected c) (f : File) → IsText (collection_text c) f → (rules : Ruleset) (e : KeyedBody) → Contains (solutions_of rules (f ∷ [])) e → (rules ≡ c.ruleset) × Contains c.entries e
+entry_of_text c fits f is rules e present =
     let one : f ≡ file_from c fits = one_file (collection_text c) f (file_from c fits) is (is_text c fits) in
-    let there : Contains (solutions_of kind (file_from c fits ∷ [])) e = subst (λ (g : File). Contains (solutions_of kind (g ∷ [])) e) one present in
-    let same : kind ≡ c.ruleset = own_entries kind c.ruleset (file_from c fits) e (file_rules c fits) there in
+    let there : Contains (solutions_of rules (file_from c fits ∷ [])) e = subst (λ (g : File). Contains (solutions_of rules (g ∷ [])) e) one present in
+    let same : rules ≡ c.ruleset = own_entries rules c.ruleset (file_from c fits) e (file_rules c fits) there in
     let own : Contains (solutions_of c.ruleset (file_from c fits ∷ [])) e = subst (λ (r : Ruleset). Contains (solutions_of r (file_from c fits ∷ [])) e) same there in
-    (same, subst (λ (es : List Entry). Contains es e) (file_solves c fits) own)
+    (same, subst (λ (es : List KeyedBody). Contains es e) (file_solves c fits) own)
 
-text_held : (first taken : List Taken) (maps : Maps) (kind : Ruleset) (text : List ℕ) → AreBest taken maps → IsBestOver kind (files_of first) text → Extends first taken → HoldsFile maps text
-text_held first taken maps kind text best over more f is rules e present =
+text_held : (first taken : List Taken) (maps : Maps) (rules : Ruleset) (text : List ℕ) → AreBest taken maps → IsBestOver rules (files_of first) text → Extends first taken → HoldsFile maps text
+text_held first taken maps rules text best over more f is rules-is e present =
     let c = over.0 in
-    let fits = best-collected kind (files_of first) c over.1 in
-    let there = entry_of_text c fits f (subst (λ (x : List ℕ). IsText x f) over.2 is) rules e present in
-    let same : kind ≡ rules = sym over.1.kind_is ∙ sym there.0 in
-    let member : IsSolutionIn rules (files_of first) e = subst (λ (r : Ruleset). IsSolutionIn r (files_of first) e) same (over.1.best.best e there.1).member in
-    solution_held taken maps rules e best (solution_later first taken rules e more member)
+    let fits = best-collected rules (files_of first) c over.1 in
+    let there = entry_of_text c fits f (subst (λ (x : List ℕ). IsText x f) over.2 is) rules-is e present in
+    let same : rules ≡ rules = sym over.1.ruleset_is ∙ sym there.0 in
+    let member : IsSolutionIn rules-is (files_of first) e = subst (λ (r : Ruleset). IsSolutionIn r (files_of first) e) same (over.1.best.best e there.1).member in
+    solution_held taken maps rules-is e best (solution_later first taken rules-is e more member)
 
 pub first_extends : (n : ℕ) (ts : List Taken) → Extends (take n ts) ts
 first_extends n ts = record { rest = drop n ts; is = sym (take-append-drop n ts) }
@@ -103,9 +103,9 @@ first_extends n ts = record { rest = drop n ts; is = sym (take-append-drop n ts)
 
 module _ (w : World) (h : Holds w) (taken : List Taken) (maps : Maps) (more : Extends w.taken taken) (best : AreBest taken maps) where
   pub none-worse : AreNoWorse w.server.maps maps
-  none-worse kind e has =
-      let member = ((best_at w.taken w.server.maps kind h.best).best.best e has).member in
-      solution_held taken maps kind e best (solution_later w.taken taken kind e more member)
+  none-worse rules e has =
+      let member = ((best_at w.taken w.server.maps rules h.best).best.best e has).member in
+      solution_held taken maps rules e best (solution_later w.taken taken rules e more member)
 
   taken_held : (t : Taken) → Has w.taken t → HoldsFile maps t.file
   taken_held t has = file_held taken maps best t (Has-extends w.taken taken t more has)
@@ -126,7 +126,7 @@ module _ (w : World) (h : Holds w) (taken : List Taken) (maps : Maps) (more : Ex
       let is = h.got g (Has-from_contains w.got g among) in
       let s = (is.whose own).serves in
       let first = take s.count w.taken in
-      text_held first taken maps is.kind g.file best s.is_text.best (Extends-on first w.taken taken (first_extends s.count w.taken) more)
+      text_held first taken maps is.rules g.file best s.is_text.best (Extends-on first w.taken taken (first_extends s.count w.taken) more)
 
   pub holds-promised : HoldsPromised w maps
   holds-promised =
@@ -139,7 +139,7 @@ module _ (w : World) (h : Holds w) (taken : List Taken) (maps : Maps) (more : Ex
 -- ---- a run
 
 -- what a later world has kept holds what an earlier one has promised
-loads_later : (w : World) (steps : List Step) (v : World) (log : List Keeping) → Holds (run_from steps w) → Extends (run_from steps w).taken v.taken → AreBest v.taken v.server.maps → HasKept log v.server.maps → LoadsPromised w steps log
+loads_later : (w : World) (steps : List WorldStep) (v : World) (log : List Keeping) → Holds (run_from steps w) → Extends (run_from steps w).taken v.taken → AreBest v.taken v.server.maps → HasKept log v.server.maps → LoadsPromised w steps log
 loads_later w steps v log h more best kept lynx ms from_lynx from_ms =
     let same = loads-the_same log v.server.maps kept (best-collected Lynx _ v.server.maps.lynx best.lynx) (best-collected Ms _ v.server.maps.ms best.ms) lynx ms from_lynx from_ms in
     subst (HoldsPromised (run_from steps w)) (maps-are lynx ms v.server.maps same.0 same.1) (holds-promised (run_from steps w) h v.taken v.server.maps more best)
@@ -151,7 +151,7 @@ module _ (texts : List (List ℕ)) (maps : Maps) (over : AreOver texts maps) whe
   at_first : Holds first
   at_first = start_from-holds texts maps over
 
-  pub never-worse : (before after : List Step) → AllMerged (before ++ after) first → AreNoWorse (run_from before first).server.maps (run_from (before ++ after) first).server.maps
+  pub never-worse : (before after : List WorldStep) → AllMerged (before ++ after) first → AreNoWorse (run_from before first).server.maps (run_from (before ++ after) first).server.maps
   never-worse before after merged =
       let w = run_from before first in
       let v = run_from (before ++ after) first in
@@ -160,21 +160,21 @@ module _ (texts : List (List ℕ)) (maps : Maps) (over : AreOver texts maps) whe
       none-worse w h v.taken v.server.maps more (run_from-holds (before ++ after) first at_first merged).best
 
   module _ (log : List Keeping) (kept : HasKept log maps) where
-    has_kept : (steps : List Step) (last : List Keeping) → AllMerged steps first → RunKeeps steps first log last → HasKept last (run_from steps first).server.maps
+    has_kept : (steps : List WorldStep) (last : List Keeping) → AllMerged steps first → RunKeeps steps first log last → HasKept last (run_from steps first).server.maps
     has_kept steps last merged keeps = run_from-kept steps first log last merged at_first.best keeps kept
 
-    pub run_from-restarts : (steps : List Step) (last : List Keeping) → AllMerged steps first → RunKeeps steps first log last → HasKept last (run_from steps first).server.maps × RestartsFrom last (run_from steps first)
+    pub run_from-restarts : (steps : List WorldStep) (last : List Keeping) → AllMerged steps first → RunKeeps steps first log last → HasKept last (run_from steps first).server.maps × RestartsFrom last (run_from steps first)
     run_from-restarts steps last merged keeps =
         let now = has_kept steps last merged keeps in
         (now, loads-from (run_from steps first) last (run_from-holds steps first at_first merged).best now)
 
-    pub loads-promised : (steps : List Step) (last : List Keeping) → AllMerged steps first → RunKeeps steps first log last → LoadsPromised first steps last
+    pub loads-promised : (steps : List WorldStep) (last : List Keeping) → AllMerged steps first → RunKeeps steps first log last → LoadsPromised first steps last
     loads-promised steps last merged keeps =
         let w = run_from steps first in
         let h = run_from-holds steps first at_first merged in
         loads_later first steps w last h (Extends-same w.taken) h.best (has_kept steps last merged keeps)
 
-    pub cut-promised : (steps : List Step) (s : Step) (before last : List Keeping) → AllMerged (steps ++ s ∷ []) first → RunKeeps steps first log before → CutsShort first steps s before last → LoadsPromised first steps last
+    pub cut-promised : (steps : List WorldStep) (s : WorldStep) (before last : List Keeping) → AllMerged (steps ++ s ∷ []) first → RunKeeps steps first log before → CutsShort first steps s before last → LoadsPromised first steps last
     cut-promised steps s before last merged keeps (after, by, inl early) =
         subst (LoadsPromised first steps) (sym early) (loads-promised steps before (merged-first steps (s ∷ []) first merged) keeps)
     cut-promised steps s before last merged keeps (after, by, inr late) =
@@ -183,5 +183,5 @@ module _ (texts : List (List ℕ)) (maps : Maps) (over : AreOver texts maps) whe
         let early = merged-first steps (s ∷ []) first merged in
         let h = run_from-holds steps first at_first early in
         let best = (step-holds w s h (merged-rest steps (s ∷ []) first merged).0).best in
-        let now = event-kept w s.event s.grant s.maps before after (step-takes w s) (own-rules v.taken v.server.maps best) by (has_kept steps before early keeps) in
+        let now = event-kept w s.event s.grant s.maps before after (step-takes w s) (own-ruleset v.taken v.server.maps best) by (has_kept steps before early keeps) in
         subst (LoadsPromised first steps) (sym late) (loads_later first steps v after h (step-grows w s).taken best now)

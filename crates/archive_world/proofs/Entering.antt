@@ -1,9 +1,9 @@
 -- The strays are those of the events.
 use Rattle.std.proofs.Common.{◌≡◌, ◌⊎◌, Bool, true, false, ◌==◌, List, [], ◌∷◌, slice_get, Contains, None, Some, ap, sym, subst, inl, inr}
-use Rattle.archive_table.specs.Server.{Maps, Grant}
+use Rattle.archive_table.specs.Table.{Maps, Grant}
 use Rattle.archive_client.specs.Client.{Operation, is_too_long}
 use Rattle.tftp_packet.specs.declared.endpoint.Endpoint.{Endpoint}
-use Rattle.archive_world.specs.World.{Datagram, Event, begin, deliver, client_times_out, server_times_out, stray, restart, World, Step, server_endpoint, client_at, has_begun, begins_unless, strays_unless, event_happens, happens, run_from, run, start}
+use Rattle.archive_world.specs.World.{Datagram, Event, begin, deliver, client_times_out, server_times_out, stray, restart, World, WorldStep, server_endpoint, client_at, has_begun, begins_unless, strays_unless, event_happens, happens, run_from, run, start}
 use Rattle.archive_world.specs.Headline.{StraysBy}
 use Rattle.archive_world.proofs.Places.{Has, Has-push, Has-from_contains}
 use Rattle.archive_world.proofs.Unlisted.{delivers-same, waits-same}
@@ -32,21 +32,21 @@ module _ (w : World) (x : Datagram) where
   event_now (stray d) grant maps has = strays_now (d.source.host == server_endpoint.host) (has_begun d.source w.begun) d has
   event_now restart grant maps has = inl has
 
-first_strays : (s : Step) (steps : List Step) (w : World) (x : Datagram) → Has w.strays x ⊎ (s.event ≡ stray x) → Has w.strays x ⊎ StraysBy (s ∷ steps) x
+first_strays : (s : WorldStep) (steps : List WorldStep) (w : World) (x : Datagram) → Has w.strays x ⊎ (s.event ≡ stray x) → Has w.strays x ⊎ StraysBy (s ∷ steps) x
 first_strays s steps w x (inl old) = inl old
 first_strays s steps w x (inr now) = inr (inl now)
 
-later_strays : (s : Step) (steps : List Step) (w : World) (x : Datagram) → Has (happens s w).strays x ⊎ StraysBy steps x → Has w.strays x ⊎ StraysBy (s ∷ steps) x
+later_strays : (s : WorldStep) (steps : List WorldStep) (w : World) (x : Datagram) → Has (happens s w).strays x ⊎ StraysBy steps x → Has w.strays x ⊎ StraysBy (s ∷ steps) x
 later_strays s steps w x (inl old) = first_strays s steps w x (event_now w x s.event s.grant s.maps old)
 later_strays s steps w x (inr later) = inr (inr later)
 
-strays_in_run : (steps : List Step) (w : World) (x : Datagram) → Has (run_from steps w).strays x → Has w.strays x ⊎ StraysBy steps x
+strays_in_run : (steps : List WorldStep) (w : World) (x : Datagram) → Has (run_from steps w).strays x → Has w.strays x ⊎ StraysBy steps x
 strays_in_run [] w x has = inl has
 strays_in_run (s ∷ steps) w x has = later_strays s steps w x (strays_in_run steps (happens s w) x has)
 
-none_strayed : (steps : List Step) (x : Datagram) → Has start.strays x ⊎ StraysBy steps x → StraysBy steps x
+none_strayed : (steps : List WorldStep) (x : Datagram) → Has start.strays x ⊎ StraysBy steps x → StraysBy steps x
 none_strayed steps x (inl old) = let is : None ≡ Some x = old.is in absurd cc
 none_strayed steps x (inr now) = now
 
-pub strays-by : (steps : List Step) (x : Datagram) → Contains (run steps).strays x → StraysBy steps x
+pub strays-by : (steps : List WorldStep) (x : Datagram) → Contains (run steps).strays x → StraysBy steps x
 strays-by steps x among = none_strayed steps x (strays_in_run steps start x (Has-from_contains (run steps).strays x among))

@@ -4,7 +4,7 @@ use Rattle.std.proofs.Common.{refl, ap, sym, ◌∙◌, subst, inl}
 use Rattle.std.proofs.lemmas.Bool.{true≢false}
 use Rattle.tftp_packet.specs.declared.endpoint.Endpoint.{Endpoint}
 use Rattle.archive_client.specs.Client.{Operation, Client, is_too_long}
-use Rattle.archive_table.specs.Server.{Taken, all, IsMerged, transfer_at, empty_maps}
+use Rattle.archive_table.specs.Table.{Taken, all, IsMerged, transfer_at, empty_maps}
 use Rattle.archive_table.specs.Keeper.{Keeping}
 use Rattle.archive_table.proofs.SamePort.{timeout_same}
 use Rattle.archive_world.specs.declared.event_fault.EventFault.{EventFault}
@@ -55,8 +55,8 @@ module _ (w v : World) (e : Endpoint) (operation : Operation) where
   begun_request false true = refl
   begun_request false false = refl
 
-  begun_makes : v ≡ begun → MayHappen (begin e operation) w → IsUnused e w → (told : Option (List Keeping)) → Makes (begin e operation) told told w v
-  begun_makes is may unused told =
+  begun_makes : v ≡ begun → MayHappen (begin e operation) w → IsUnused e w → (reported : Option (List Keeping)) → Makes (begin e operation) reported reported w v
+  begun_makes is may unused reported =
       record {
         grant = all;
         maps = empty_maps;
@@ -65,17 +65,17 @@ module _ (w v : World) (e : Endpoint) (operation : Operation) where
         own = λ own. subst HasOwnPorts (sym (is ∙ begins_fits w e operation may.0 may.1)) ((begin-keeps_own w own e operation).1 unused);
         merged = begun_merged;
         due = tt;
-        keeps = λ before tells. (before, tells, refl);
+        keeps = λ before reports. (before, reports, refl);
         stays = λ is. refl;
       }
 
-  pub begin-comes : (r : Result (Unit {0}) EventFault) (told : Option (List Keeping)) → OnOk r (v ≡ begun) → OnOk r (MayHappen (begin e operation) w) → OnOk r (IsUnused e w) → (r ≡ Err fault.Bad → MayHappen (begin e operation) w → ⊥) → (r ≡ Err fault.Reused → MayHappen (begin e operation) w) → (r ≡ Err fault.Reused → IsUnused e w → ⊥) → r ≢ Err fault.NotLoaded → Comes r (begin e operation) told told w v
-  begin-comes (Ok done) told is may unused bad reused used loads = (
+  pub begin-comes : (r : Result (Unit {0}) EventFault) (reported : Option (List Keeping)) → OnOk r (v ≡ begun) → OnOk r (MayHappen (begin e operation) w) → OnOk r (IsUnused e w) → (r ≡ Err fault.Bad → MayHappen (begin e operation) w → ⊥) → (r ≡ Err fault.Reused → MayHappen (begin e operation) w) → (r ≡ Err fault.Reused → IsUnused e w → ⊥) → r ≢ Err fault.NotLoaded → Comes r (begin e operation) reported reported w v
+  begin-comes (Ok done) reported is may unused bad reused used loads = (
     ap (λ (x : World). x.server.request) is ∙ begun_request (e.host == server_endpoint.host) (is_too_long operation),
-    λ ready. begun_makes is may unused told,
+    λ ready. begun_makes is may unused reported,
   )
-  begin-comes (Err fault.Bad) told is may unused bad reused used loads = (refl, bad refl)
-  begin-comes (Err fault.Reused) told is may unused bad reused used loads = (
+  begin-comes (Err fault.Bad) reported is may unused bad reused used loads = (refl, bad refl)
+  begin-comes (Err fault.Reused) reported is may unused bad reused used loads = (
     refl,
     λ own. record {
       may = reused refl;
@@ -85,8 +85,8 @@ module _ (w v : World) (e : Endpoint) (operation : Operation) where
       reused = λ later. used refl (begun_own (reused refl) own later);
     },
   )
-  begin-comes (Err fault.NotLoaded) told is may unused bad reused used loads = absurd (loads refl)
-  begin-comes (Err fault.Memory) told is may unused bad reused used loads = (no_restart (begin e operation) refl, inl refl)
+  begin-comes (Err fault.NotLoaded) reported is may unused bad reused used loads = absurd (loads refl)
+  begin-comes (Err fault.Memory) reported is may unused bad reused used loads = (no_restart (begin e operation) refl, inl refl)
 
 -- ---- a stray
 
@@ -99,8 +99,8 @@ module _ (w v : World) (d : Datagram) where
   strayed_request false true = refl
   strayed_request false false = refl
 
-  strayed_makes : v ≡ strayed → MayHappen (stray d) w → (told : Option (List Keeping)) → Makes (stray d) told told w v
-  strayed_makes is may told =
+  strayed_makes : v ≡ strayed → MayHappen (stray d) w → (reported : Option (List Keeping)) → Makes (stray d) reported reported w v
+  strayed_makes is may reported =
       record {
         grant = all;
         maps = empty_maps;
@@ -109,19 +109,19 @@ module _ (w v : World) (d : Datagram) where
         own = λ own. subst HasOwnPorts (sym (is ∙ strays_fits w d may.0 may.1)) ((stray-keeps_own w own d).1 may.1);
         merged = remain-merged w strayed (strays_remain w (d.source.host == server_endpoint.host) (has_begun d.source w.begun) d);
         due = tt;
-        keeps = λ before tells. (before, tells, refl);
+        keeps = λ before reports. (before, reports, refl);
         stays = λ is. refl;
       }
 
-  pub stray-comes : (r : Result (Unit {0}) EventFault) (told : Option (List Keeping)) → OnOk r (v ≡ strayed) → OnOk r (MayHappen (stray d) w) → (r ≡ Err fault.Bad → MayHappen (stray d) w → ⊥) → r ≢ Err fault.Reused → r ≢ Err fault.NotLoaded → Comes r (stray d) told told w v
-  stray-comes (Ok done) told is may bad own loads = (
+  pub stray-comes : (r : Result (Unit {0}) EventFault) (reported : Option (List Keeping)) → OnOk r (v ≡ strayed) → OnOk r (MayHappen (stray d) w) → (r ≡ Err fault.Bad → MayHappen (stray d) w → ⊥) → r ≢ Err fault.Reused → r ≢ Err fault.NotLoaded → Comes r (stray d) reported reported w v
+  stray-comes (Ok done) reported is may bad own loads = (
     ap (λ (x : World). x.server.request) is ∙ strayed_request (d.source.host == server_endpoint.host) (has_begun d.source w.begun),
-    λ ready. strayed_makes is may told,
+    λ ready. strayed_makes is may reported,
   )
-  stray-comes (Err fault.Bad) told is may bad own loads = (refl, bad refl)
-  stray-comes (Err fault.Reused) told is may bad own loads = absurd (own refl)
-  stray-comes (Err fault.NotLoaded) told is may bad own loads = absurd (loads refl)
-  stray-comes (Err fault.Memory) told is may bad own loads = (no_restart (stray d) refl, inl refl)
+  stray-comes (Err fault.Bad) reported is may bad own loads = (refl, bad refl)
+  stray-comes (Err fault.Reused) reported is may bad own loads = absurd (own refl)
+  stray-comes (Err fault.NotLoaded) reported is may bad own loads = absurd (loads refl)
+  stray-comes (Err fault.Memory) reported is may bad own loads = (no_restart (stray d) refl, inl refl)
 
 -- ---- time-outs
 
@@ -138,8 +138,8 @@ module _ (w v : World) (e : Endpoint) where
   waited_own (Some c) own =
       record { operations = own.operations; openings = own.openings; strangers = own.strangers }
 
-  waited_makes : v ≡ waited → MayHappen (client_times_out e) w → (told : Option (List Keeping)) → Makes (client_times_out e) told told w v
-  waited_makes is may told =
+  waited_makes : v ≡ waited → MayHappen (client_times_out e) w → (reported : Option (List Keeping)) → Makes (client_times_out e) reported reported w v
+  waited_makes is may reported =
       record {
         grant = all;
         maps = empty_maps;
@@ -148,19 +148,19 @@ module _ (w v : World) (e : Endpoint) where
         own = λ own. subst HasOwnPorts (sym is) (waited_own (client_at e w) own);
         merged = remain-merged w waited (waits_remain w (client_at e w) e);
         due = tt;
-        keeps = λ before tells. (before, tells, refl);
+        keeps = λ before reports. (before, reports, refl);
         stays = λ is. refl;
       }
 
-  pub wait-comes : (r : Result (Unit {0}) EventFault) (told : Option (List Keeping)) → OnOk r (v ≡ waited) → OnOk r (MayHappen (client_times_out e) w) → (r ≡ Err fault.Bad → MayHappen (client_times_out e) w → ⊥) → r ≢ Err fault.Reused → r ≢ Err fault.NotLoaded → Comes r (client_times_out e) told told w v
-  wait-comes (Ok done) told is may bad own loads = (
+  pub wait-comes : (r : Result (Unit {0}) EventFault) (reported : Option (List Keeping)) → OnOk r (v ≡ waited) → OnOk r (MayHappen (client_times_out e) w) → (r ≡ Err fault.Bad → MayHappen (client_times_out e) w → ⊥) → r ≢ Err fault.Reused → r ≢ Err fault.NotLoaded → Comes r (client_times_out e) reported reported w v
+  wait-comes (Ok done) reported is may bad own loads = (
     ap (λ (x : World). x.server.request) is ∙ waited_request (client_at e w),
-    λ ready. waited_makes is may told,
+    λ ready. waited_makes is may reported,
   )
-  wait-comes (Err fault.Bad) told is may bad own loads = (refl, bad refl)
-  wait-comes (Err fault.Reused) told is may bad own loads = absurd (own refl)
-  wait-comes (Err fault.NotLoaded) told is may bad own loads = absurd (loads refl)
-  wait-comes (Err fault.Memory) told is may bad own loads = (no_restart (client_times_out e) refl, inl refl)
+  wait-comes (Err fault.Bad) reported is may bad own loads = (refl, bad refl)
+  wait-comes (Err fault.Reused) reported is may bad own loads = absurd (own refl)
+  wait-comes (Err fault.NotLoaded) reported is may bad own loads = absurd (loads refl)
+  wait-comes (Err fault.Memory) reported is may bad own loads = (no_restart (client_times_out e) refl, inl refl)
 
 module _ (w v : World) (port : ℕ) where
   abbrev timed : World
@@ -169,8 +169,8 @@ module _ (w v : World) (port : ℕ) where
   timed_taken : timed.taken ≡ w.taken
   timed_taken = ap (λ (o : Option Taken). taken_with o w.taken) (timeout_leaves (transfer_at port w.server) port w.server).0
 
-  timed_makes : v ≡ timed → (told : Option (List Keeping)) → Makes (server_times_out port) told told w v
-  timed_makes is told =
+  timed_makes : v ≡ timed → (reported : Option (List Keeping)) → Makes (server_times_out port) reported reported w v
+  timed_makes is reported =
       record {
         grant = all;
         maps = empty_maps;
@@ -179,24 +179,24 @@ module _ (w v : World) (port : ℕ) where
         own = λ own. subst HasOwnPorts (sym is) (record { operations = own.operations; openings = own.openings; strangers = own.strangers });
         merged = remain-merged w timed (timed_taken, (timeout_leaves (transfer_at port w.server) port w.server).1);
         due = tt;
-        keeps = λ before tells. (before, tells, refl);
+        keeps = λ before reports. (before, reports, refl);
         stays = λ is. refl;
       }
 
-  pub time-comes : (r : Result (Unit {0}) EventFault) (told : Option (List Keeping)) → OnOk r (v ≡ timed) → IfErr r (λ f. f ≡ fault.Memory) → Comes r (server_times_out port) told told w v
-  time-comes (Ok done) told is memory = (
+  pub time-comes : (r : Result (Unit {0}) EventFault) (reported : Option (List Keeping)) → OnOk r (v ≡ timed) → IfErr r (λ f. f ≡ fault.Memory) → Comes r (server_times_out port) reported reported w v
+  time-comes (Ok done) reported is memory = (
     ap (λ (x : World). x.server.request) is ∙ timeout_same port w.server,
-    λ ready. timed_makes is told,
+    λ ready. timed_makes is reported,
   )
-  time-comes (Err fault.Bad) told is memory = absurd cc
-  time-comes (Err fault.Reused) told is memory = absurd cc
-  time-comes (Err fault.NotLoaded) told is memory = absurd cc
-  time-comes (Err fault.Memory) told is memory = (no_restart (server_times_out port) refl, inl refl)
+  time-comes (Err fault.Bad) reported is memory = absurd cc
+  time-comes (Err fault.Reused) reported is memory = absurd cc
+  time-comes (Err fault.NotLoaded) reported is memory = absurd cc
+  time-comes (Err fault.Memory) reported is memory = (no_restart (server_times_out port) refl, inl refl)
 
 -- ---- a restart
 
-module _ (w v : World) (told now : Option (List Keeping)) (same : now ≡ told) where
-  restart_makes : v ≡ restarts w → Makes restart told now w v
+module _ (w v : World) (reported now : Option (List Keeping)) (same : now ≡ reported) where
+  restart_makes : v ≡ restarts w → Makes restart reported now w v
   restart_makes is =
       record {
         grant = all;
@@ -206,15 +206,15 @@ module _ (w v : World) (told now : Option (List Keeping)) (same : now ≡ told) 
         own = λ own. subst HasOwnPorts (sym is) (record { operations = own.operations; openings = own.openings; strangers = own.strangers });
         merged = remain-merged w (restarts w) (refl, refl);
         due = tt;
-        keeps = λ before tells. (before, same ∙ tells, λ kind. refl);
+        keeps = λ before reports. (before, same ∙ reports, λ rules. refl);
         stays = λ is. same;
       }
 
-  pub restart-comes : v.server.request ≡ w.server.request → ((log : List Keeping) → told ≡ Some log → HasKept log w.server.maps → IsCollected w.server.maps.lynx → IsCollected w.server.maps.ms → v ≡ restarts w) → Comes (Ok tt) restart told now w v
+  pub restart-comes : v.server.request ≡ w.server.request → ((log : List Keeping) → reported ≡ Some log → HasKept log w.server.maps → IsCollected w.server.maps.lynx → IsCollected w.server.maps.ms → v ≡ restarts w) → Comes (Ok tt) restart reported now w v
   restart-comes request made = (
     request,
     λ ready. let has = ready refl in
-        restart_makes (made has.log has.tells has.kept has.lynx has.ms),
+        restart_makes (made has.log has.reports has.kept has.lynx has.ms),
   )
 
 -- the same for an event that equals this one

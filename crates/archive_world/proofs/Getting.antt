@@ -59,31 +59,31 @@ same_file : (r : Receiver) (f file : List ℕ) → r.file ≡ Some f → r.file 
 same_file r f file is also = cc
 
 module _ (w : World) (h : Holds w) (e : Endpoint) where
-  since_by : IsOwn w e → (kind other : Ruleset) (count : ℕ) (port : ℕ) (file : List ℕ) → HasGet w e kind count → (s : Serves w e port other file) → IsStranger w e ⊎ IsAskedBy w (record { peer = e; port = port; asked = to_read other; taken = s.count }) (to_read other) → (other ≡ kind) × (count ≤ s.count)
-  since_by own kind other count port file began s (inl stranger) = no_stranger w e own stranger
-  since_by own kind other count port file began s (inr asked) =
-      let one = one_get w e own kind other count asked.0 began asked.1 in
+  since_by : IsOwn w e → (rules other : Ruleset) (count : ℕ) (port : ℕ) (file : List ℕ) → HasGet w e rules count → (s : Serves w e port other file) → IsStranger w e ⊎ IsAskedBy w (record { peer = e; port = port; asked = to_read other; taken = s.count }) (to_read other) → (other ≡ rules) × (count ≤ s.count)
+  since_by own rules other count port file began s (inl stranger) = no_stranger w e own stranger
+  since_by own rules other count port file began s (inr asked) =
+      let one = one_get w e own rules other count asked.0 began asked.1 in
       (sym one.0, subst (λ (m : ℕ). m ≤ s.count) (sym one.1) asked.2)
 
-  served_since : IsOwn w e → (kind other : Ruleset) (count : ℕ) (port : ℕ) (file : List ℕ) → HasGet w e kind count → (s : Serves w e port other file) → (other ≡ kind) × (count ≤ s.count)
-  served_since own kind other count port file began s =
-      since_by own kind other count port file began s (h.opened _ s.opened.among).whose
+  served_since : IsOwn w e → (rules other : Ruleset) (count : ℕ) (port : ℕ) (file : List ℕ) → HasGet w e rules count → (s : Serves w e port other file) → (other ≡ rules) × (count ≤ s.count)
+  served_since own rules other count port file began s =
+      since_by own rules other count port file began s (h.opened _ s.opened.among).whose
 
   -- what it has, once it has ended, is what is served
-  is_fetched : (port : ℕ) (r : Receiver) (g : IsGetting w e port r) → IsEnded r.state → (f : List ℕ) → r.file ≡ Some f → IsOwn w e → IsFetched w (record { client = e; file = f }) g.kind g.count
+  is_fetched : (port : ℕ) (r : Receiver) (g : IsGetting w e port r) → IsEnded r.state → (f : List ℕ) → r.file ≡ Some f → IsOwn w e → IsFetched w (record { client = e; file = f }) g.rules g.count
   is_fetched port r g ended f given own =
       let s = g.served own in
       let same = same_file r f s.file given (ended-whole s.file r s.holds g.bounds ended).1 in
-      let since = (served_since own g.kind g.kind g.count port s.file g.began s.serves).1 in
-      let fetched : IsFetched w (record { client = e; file = s.file }) g.kind g.count = record { port = port; serves = s.serves; since = since } in
-      subst (λ (file : List ℕ). IsFetched w (record { client = e; file = file }) g.kind g.count) same fetched
+      let since = (served_since own g.rules g.rules g.count port s.file g.began s.serves).1 in
+      let fetched : IsFetched w (record { client = e; file = s.file }) g.rules g.count = record { port = port; serves = s.serves; since = since } in
+      subst (λ (file : List ℕ). IsFetched w (record { client = e; file = file }) g.rules g.count) same fetched
 
   -- a get that has ended has its file
   pub is_got : (port : ℕ) (r : Receiver) → IsGetting w e port r → (s : _) → newly_got s (recv_state r.state) ≡ true → (f : List ℕ) → (receiver_take r).file ≡ Some f → IsGot w (record { client = e; file = f })
   is_got port r g s new f given =
       let both = newly_got-from s (recv_state r.state) new in
       record {
-        kind = g.kind;
+        rules = g.rules;
         count = g.count;
         began = g.began;
         whose = is_fetched port r g (got_ended r.state both.1) f (take_in_file r.state r f given);
@@ -93,7 +93,7 @@ module _ (w : World) (h : Holds w) (e : Endpoint) where
   getting_on : (port : ℕ) (r next : Receiver) (g : IsGetting w e port r) → ((own : IsOwn w e) → HoldsFirst (g.served own).file next) → IsReceiver next → IsGetting w e port next
   getting_on port r next g holds bounds =
       record {
-        kind = g.kind;
+        rules = g.rules;
         count = g.count;
         began = g.began;
         bounds = bounds;
@@ -104,10 +104,10 @@ module _ (w : World) (h : Holds w) (e : Endpoint) where
     -- ---- it is bound, or binds now
 
     module _ (port : ℕ) (was : (q : ℕ) → MayBind c.phase q → q ≡ port) where
-      ack_sends : (kind : Ruleset) (count : ℕ) → HasGet w e kind count → (out : Option Packet) (n : ℕ) → IfSome out ReadsBack → IfSome out (λ p. p ≡ ack n) → IfSome (sends_to port out c) (SendsHonestly w e)
-      ack_sends kind count began None n back sends = tt
-      ack_sends kind count began (Some p) n back sends =
-          let fetches : Fetches w e = record { kind = kind; count = count; began = began } in
+      ack_sends : (rules : Ruleset) (count : ℕ) → HasGet w e rules count → (out : Option Packet) (n : ℕ) → IfSome out ReadsBack → IfSome out (λ p. p ≡ ack n) → IfSome (sends_to port out c) (SendsHonestly w e)
+      ack_sends rules count began None n back sends = tt
+      ack_sends rules count began (Some p) n back sends =
+          let fetches : Fetches w e = record { rules = rules; count = count; began = began } in
           sends_it w h e c is port p back.decoded (subst (Says w e (record { host = c.server.host; port = port })) (sym sends) (inl fetches))
 
       ack_binds : (next : Receiver) → (out : Option Packet) → IfSome (sends_to port out c) (BindsTo c (in_phase (receiving port next) c))
@@ -119,7 +119,7 @@ module _ (w : World) (h : Holds w) (e : Endpoint) where
           moves-holds w h e c is (receiving port next) (sends_to port out c)
           (record {
             pursuing = g;
-            sending = ack_sends g.kind g.count g.began out next.count back sends;
+            sending = ack_sends g.rules g.count g.began out next.count back sends;
             binding = ack_binds next out;
             still = was;
             sends = λ new. never_sent (phase_state c.phase) (recv_state next.state) (not_sent next.state) new;
@@ -171,16 +171,16 @@ module _ (w : World) (h : Holds w) (e : Endpoint) where
 
     -- ---- it binds
 
-    module _ (kind : Ruleset) (misses : ℕ) (at : c.phase ≡ asking (get kind) misses) (there : IsAskingFor w e (get kind)) (verdict : Verdict) (port n : ℕ) (body : List ℕ) (short : length body ≤ BLOCK_SIZE) where
+    module _ (rules : Ruleset) (misses : ℕ) (at : c.phase ≡ asking (get rules) misses) (there : IsAskingFor w e (get rules)) (verdict : Verdict) (port n : ℕ) (body : List ℕ) (short : length body ≤ BLOCK_SIZE) where
       unbound : (q : ℕ) → MayBind c.phase q → q ≡ port
       unbound q m = absurd (subst (λ (x : Phase). MayBind x q) at m)
 
       getting_first : (other : Ruleset) (file : List ℕ) → Serves w e port other file → IsGetting w e port receiver_start
       getting_first other file serves =
-          let began : HasGet w e kind there.count = record { among = there.among } in
-          let here = λ (own : IsOwn w e). subst (λ (k : Ruleset). Serves w e port k file) (served_since own kind other there.count port file began serves).0 serves in
+          let began : HasGet w e rules there.count = record { among = there.among } in
+          let here = λ (own : IsOwn w e). subst (λ (k : Ruleset). Serves w e port k file) (served_since own rules other there.count port file began serves).0 serves in
           record {
-            kind = kind;
+            rules = rules;
             count = there.count;
             began = began;
             bounds = IsReceiver-start;

@@ -1,11 +1,11 @@
 -- Every event only adds to the lists of a world.
 use Rattle.std.proofs.Common.{ℕ, Bool, true, false, ◌==◌, List, [], ◌∷◌, slice_get, Option, None, Some}
-use Rattle.archive_table.specs.Server.{Maps, Grant, Transfer, Taken, memory_of, transfer_at, server_request, server_datagram, server_timeout}
-use Rattle.archive_table.specs.Server as table
+use Rattle.archive_table.specs.Table.{Maps, Grant, Transfer, Taken, memory_verdict, transfer_at, table_request, table_datagram, table_timeout}
+use Rattle.archive_table.specs.Table as table
 use Rattle.archive_client.specs.Client.{Operation, Client, client_datagram, client_timeout, is_too_long}
 use Rattle.archive_client.specs.Client as client
 use Rattle.tftp_packet.specs.declared.endpoint.Endpoint.{Endpoint}
-use Rattle.archive_world.specs.World.{Datagram, Opening, Asked, World, Event, begin, deliver, client_times_out, server_times_out, stray, restart, Step, server_endpoint, client_at, has_begun, opened_with, taken_with, after_request, after_transfer, after_client, begins, begins_unless, asked_of, request_comes, server_hears, client_hears, arrives, delivers, client_waits, strays_in, strays_unless, restarts, event_happens, happens, run_from}
+use Rattle.archive_world.specs.World.{Datagram, Opening, Asked, World, Event, begin, deliver, client_times_out, server_times_out, stray, restart, WorldStep, server_endpoint, client_at, has_begun, opened_with, taken_with, after_request, after_transfer, after_client, begins, begins_unless, asked_of, request_comes, server_receives, client_receives, arrives, delivers, client_waits, strays_in, strays_unless, restarts, event_happens, happens, run_from}
 use Rattle.archive_world.proofs.Places.{Extends, Extends-on, Extends-same, Extends-push}
 use Rattle.archive_world.proofs.Claims.{GrowsTo}
 use Rattle.archive_world.proofs.Lasting.{GrowsTo-same}
@@ -19,27 +19,27 @@ taken_extends : (taken : Option Taken) (ts : List Taken) → Extends ts (taken_w
 taken_extends None ts = Extends-same ts
 taken_extends (Some t) ts = Extends-push ts t
 
-request_grows : (w : World) (peer : Endpoint) (port : ℕ) (asked : Asked) (a : table.Answer) → GrowsTo w (after_request peer port asked a w)
+request_grows : (w : World) (peer : Endpoint) (port : ℕ) (asked : Asked) (a : table.TableAnswer) → GrowsTo w (after_request peer port asked a w)
 request_grows w peer port asked a =
     record {
-      net = net-extends server_endpoint.host w.net a.told.out;
+      net = net-extends server_endpoint.host w.net a.step.out;
       begun = Extends-same w.begun;
       taken = Extends-same w.taken;
-      opened = opened_extends a.told.opened _ w.opened;
+      opened = opened_extends a.step.opened _ w.opened;
       strays = Extends-same w.strays;
     }
 
-transfer_grows : (w : World) (a : table.Answer) → GrowsTo w (after_transfer a w)
+transfer_grows : (w : World) (a : table.TableAnswer) → GrowsTo w (after_transfer a w)
 transfer_grows w a =
     record {
-      net = net-extends server_endpoint.host w.net a.told.out;
+      net = net-extends server_endpoint.host w.net a.step.out;
       begun = Extends-same w.begun;
-      taken = taken_extends a.told.taken w.taken;
+      taken = taken_extends a.step.taken w.taken;
       opened = Extends-same w.opened;
       strays = Extends-same w.strays;
     }
 
-client_grows : (w : World) (e : Endpoint) (c : Client) (a : client.Answer) → GrowsTo w (after_client e c a w)
+client_grows : (w : World) (e : Endpoint) (c : Client) (a : client.ClientAnswer) → GrowsTo w (after_client e c a w)
 client_grows w e c a =
     record {
       net = net-extends e.host w.net a.out;
@@ -83,20 +83,20 @@ comes_grows : (w : World) (used : Bool) (live : Option Transfer) (spare : ℕ) (
 comes_grows w true live spare grant d = GrowsTo-same w
 comes_grows w false (Some t) spare grant d = GrowsTo-same w
 comes_grows w false None spare grant d =
-    request_grows w d.source spare (asked_of d.bytes) (server_request (memory_of grant) spare d.source d.bytes w.server)
+    request_grows w d.source spare (asked_of d.bytes) (table_request (memory_verdict grant) spare d.source d.bytes w.server)
 
-server_grows : (w : World) (request : Bool) (spare : ℕ) (grant : Grant) (maps : Maps) (d : Datagram) → GrowsTo w (server_hears request spare grant maps d w)
+server_grows : (w : World) (request : Bool) (spare : ℕ) (grant : Grant) (maps : Maps) (d : Datagram) → GrowsTo w (server_receives request spare grant maps d w)
 server_grows w true spare grant maps d = comes_grows w (spare == w.server.request) (transfer_at spare w.server) spare grant d
 server_grows w false spare grant maps d =
-    transfer_grows w (server_datagram grant maps d.target.port d.source d.bytes w.server)
+    transfer_grows w (table_datagram grant maps d.target.port d.source d.bytes w.server)
 
-hears_grows : (w : World) (found : Option Client) (grant : Grant) (d : Datagram) → GrowsTo w (client_hears found grant d w)
-hears_grows w None grant d = GrowsTo-same w
-hears_grows w (Some c) grant d = client_grows w d.target c (client_datagram (memory_of grant) d.source d.bytes c)
+receives_grows : (w : World) (found : Option Client) (grant : Grant) (d : Datagram) → GrowsTo w (client_receives found grant d w)
+receives_grows w None grant d = GrowsTo-same w
+receives_grows w (Some c) grant d = client_grows w d.target c (client_datagram (memory_verdict grant) d.source d.bytes c)
 
 arrives_grows : (w : World) (ours : Bool) (spare : ℕ) (grant : Grant) (maps : Maps) (d : Datagram) → GrowsTo w (arrives ours spare grant maps d w)
 arrives_grows w true spare grant maps d = server_grows w (d.target.port == w.server.request) spare grant maps d
-arrives_grows w false spare grant maps d = hears_grows w (client_at d.target w) grant d
+arrives_grows w false spare grant maps d = receives_grows w (client_at d.target w) grant d
 
 delivers_grows : (w : World) (found : Option Datagram) (spare : ℕ) (grant : Grant) (maps : Maps) → GrowsTo w (delivers found spare grant maps w)
 delivers_grows w None spare grant maps = GrowsTo-same w
@@ -120,11 +120,11 @@ event_grows : (w : World) (event : Event) (grant : Grant) (maps : Maps) → Grow
 event_grows w (begin e operation) grant maps = begins_grows w (e.host == server_endpoint.host) (is_too_long operation) e operation
 event_grows w (deliver index spare) grant maps = delivers_grows w (slice_get w.net index) spare grant maps
 event_grows w (client_times_out e) grant maps = waits_grows w (client_at e w) e
-event_grows w (server_times_out port) grant maps = transfer_grows w (server_timeout port w.server)
+event_grows w (server_times_out port) grant maps = transfer_grows w (table_timeout port w.server)
 event_grows w (stray d) grant maps = strays_grows w (d.source.host == server_endpoint.host) (has_begun d.source w.begun) d
 event_grows w restart grant maps = restarts-grow w
 
-pub step-grows : (w : World) (s : Step) → GrowsTo w (happens s w)
+pub step-grows : (w : World) (s : WorldStep) → GrowsTo w (happens s w)
 step-grows w s = event_grows w s.event s.grant s.maps
 
 grows-on : (u v w : World) → GrowsTo u v → GrowsTo v w → GrowsTo u w
@@ -137,6 +137,6 @@ grows-on u v w first next =
       strays = Extends-on u.strays v.strays w.strays first.strays next.strays;
     }
 
-pub run-grows : (steps : List Step) (w : World) → GrowsTo w (run_from steps w)
+pub run-grows : (steps : List WorldStep) (w : World) → GrowsTo w (run_from steps w)
 run-grows [] w = GrowsTo-same w
 run-grows (s ∷ steps) w = grows-on w (happens s w) (run_from steps (happens s w)) (step-grows w s) (run-grows steps (happens s w))

@@ -6,7 +6,7 @@ use Rattle.std.proofs.lemmas.Map.Lookups.{exact_unsigned}
 use Rattle.tftp_packet.specs.declared.endpoint.Endpoint.{Endpoint}
 use Rattle.tws_file.specs.declared.«ruleset».Ruleset.TheVariants.{Lynx, Ms}
 use Rattle.tws_best.proofs.Sets.{no_texts}
-use Rattle.archive_table.specs.Server.{Maps, Taken, Transfer, at_port, transfer_at, empty_maps}
+use Rattle.archive_table.specs.Table.{Maps, Taken, Transfer, at_port, transfer_at, empty_maps}
 use Rattle.archive_client.specs.Client.{Client}
 use Rattle.archive_world.specs.World.{Datagram, Begun, Opening, Got, World, given, start_from, client_at, server_endpoint}
 use Rattle.archive_world.specs.Headline.{IsOwn, AreOver, files_of}
@@ -92,7 +92,7 @@ start_from-holds texts maps over =
       begun = λ b h. none_at b h;
       strays = λ d h. none_at d h;
       opened = λ o h. none_at o h;
-      taken = λ t h away. absurd (away (given-at texts h.place t h.is));
+      taken = λ t h away. absurd (away (given-at texts h.position t h.is));
       once = λ i j t u at_i at_j same away. absurd (away (given-at texts i t at_i));
       sent = λ e h. none_at e h;
       got = λ g h. none_at g h;

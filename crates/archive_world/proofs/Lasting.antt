@@ -6,8 +6,8 @@ use Rattle.tftp_ends.specs.declared.recv_state.RecvState.{RecvState}
 use Rattle.tftp_ends.specs.declared.recv_state.RecvState.TheVariants as recv
 use Rattle.tftp_ends.specs.Ends.{Receiver}
 use Rattle.tws_file.specs.declared.«ruleset».Ruleset.{Ruleset}
-use Rattle.archive_table.specs.Server.{Taken, End, Transfer}
-use Rattle.archive_table.specs.Server as table
+use Rattle.archive_table.specs.Table.{Taken, End, Transfer}
+use Rattle.archive_table.specs.Table as table
 use Rattle.archive_client.specs.Client.{Phase, Client}
 use Rattle.archive_client.specs.Client as client
 use Rattle.archive_world.specs.World.{Datagram, Asked, to_write, to_read, Opening, Got, World}
@@ -20,11 +20,11 @@ pub either : {A B C D : Type 0} → (A → C) → (B → D) → A ⊎ B → C �
 either f g (inl a) = inl (f a)
 either f g (inr b) = inr (g b)
 
-pub text-grown : (old new : List Taken) (count : ℕ) (kind : Ruleset) (text : List ℕ) → Extends old new → IsTextOf old count kind text → IsTextOf new count kind text
-text-grown old new count kind text more t =
+pub text-grown : (old new : List Taken) (count : ℕ) (rules : Ruleset) (text : List ℕ) → Extends old new → IsTextOf old count rules text → IsTextOf new count rules text
+text-grown old new count rules text more t =
     record {
       within = le_trans t.within (length-extends old new more);
-      best = subst (λ (ts : List Taken). IsBestOver kind (files_of ts) text) (sym (take-extends old new count more t.within)) t.best;
+      best = subst (λ (ts : List Taken). IsBestOver rules (files_of ts) text) (sym (take-extends old new count more t.within)) t.best;
     }
 
 pub GrowsTo-same : (w : World) → GrowsTo w w
@@ -48,8 +48,8 @@ module _ (w v : World) (g : GrowsTo w v) where
   pub put-lasts : (e : Endpoint) (file : List ℕ) → HasPut w e file → HasPut v e file
   put-lasts e file h = record { count = h.count; among = Has-extends w.begun v.begun _ g.begun h.among }
 
-  pub get-lasts : (e : Endpoint) (kind : Ruleset) (count : ℕ) → HasGet w e kind count → HasGet v e kind count
-  get-lasts e kind count h = record { among = Has-extends w.begun v.begun _ g.begun h.among }
+  pub get-lasts : (e : Endpoint) (rules : Ruleset) (count : ℕ) → HasGet w e rules count → HasGet v e rules count
+  get-lasts e rules count h = record { among = Has-extends w.begun v.begun _ g.begun h.among }
 
   pub stranger-lasts : (e : Endpoint) → IsStranger w e → IsStranger v e
   stranger-lasts e h = record { datagram = h.datagram; among = Has-extends w.strays v.strays h.datagram g.strays h.among; source = h.source }
@@ -60,12 +60,12 @@ module _ (w v : World) (g : GrowsTo w v) where
   pub taken-lasts : (e : Endpoint) (file : List ℕ) → HasTaken w e file → HasTaken v e file
   taken-lasts e file h = record { among = Has-extends w.taken v.taken _ g.taken h.among }
 
-  pub serves-lasts : (e : Endpoint) (port : ℕ) (kind : Ruleset) (text : List ℕ) → Serves w e port kind text → Serves v e port kind text
-  serves-lasts e port kind text h =
+  pub serves-lasts : (e : Endpoint) (port : ℕ) (rules : Ruleset) (text : List ℕ) → Serves w e port rules text → Serves v e port rules text
+  serves-lasts e port rules text h =
       record {
         count = h.count;
-        opened = opened-lasts e port (to_read kind) h.count h.opened;
-        is_text = text-grown w.taken v.taken h.count kind text g.taken h.is_text;
+        opened = opened-lasts e port (to_read rules) h.count h.opened;
+        is_text = text-grown w.taken v.taken h.count rules text g.taken h.is_text;
       }
 
   -- ---- a datagram
@@ -77,14 +77,14 @@ module _ (w v : World) (g : GrowsTo w v) where
   serves_block_lasts source target n body h =
       record {
         ours = h.ours;
-        kind = h.kind;
+        rules = h.rules;
         file = h.file;
-        serves = serves-lasts target source.port h.kind h.file h.serves;
+        serves = serves-lasts target source.port h.rules h.file h.serves;
         is_block = h.is_block;
       }
 
   fetches_lasts : (source : Endpoint) → Fetches w source → Fetches v source
-  fetches_lasts source h = record { kind = h.kind; count = h.count; began = get-lasts source h.kind h.count h.began }
+  fetches_lasts source h = record { rules = h.rules; count = h.count; began = get-lasts source h.rules h.count h.began }
 
   acks_lasts : (target : Endpoint) (n : ℕ) → AcksPut w target n → AcksPut v target n
   acks_lasts target n h =
@@ -100,7 +100,7 @@ module _ (w v : World) (g : GrowsTo w v) where
 
   pub says-lasts : (source target : Endpoint) (p : Packet) → Says w source target p → Says v source target p
   says-lasts source target (read name mode) h =
-      record { kind = h.kind; named = h.named; count = h.count; began = get-lasts source h.kind h.count h.began }
+      record { rules = h.rules; named = h.named; count = h.count; began = get-lasts source h.rules h.count h.began }
   says-lasts source target (write name mode) h = record { file = h.file; began = put-lasts source h.file h.began }
   says-lasts source target (data_block n body) h =
       either (puts_lasts source n body) (serves_block_lasts source target n body) h
@@ -137,7 +137,7 @@ module _ (w v : World) (g : GrowsTo w v) where
 
   pub end-lasts : (e : Endpoint) (port : ℕ) (end : End) → IsLiveEnd w e port end → IsLiveEnd v e port end
   end-lasts e port (table.sending s) h =
-      record { kind = h.kind; serves = serves-lasts e port h.kind s.file h.serves; bounds = h.bounds }
+      record { rules = h.rules; serves = serves-lasts e port h.rules s.file h.serves; bounds = h.bounds }
   end-lasts e port (table.receiving r) h =
       record {
         bounds = h.bounds;
@@ -151,9 +151,9 @@ module _ (w v : World) (g : GrowsTo w v) where
 
   -- ---- a client
 
-  served_lasts : (e : Endpoint) (port : ℕ) (kind : Ruleset) (r : Receiver) → IsServed w e port kind r → IsServed v e port kind r
-  served_lasts e port kind r h =
-      record { file = h.file; serves = serves-lasts e port kind h.file h.serves; holds = h.holds }
+  served_lasts : (e : Endpoint) (port : ℕ) (rules : Ruleset) (r : Receiver) → IsServed w e port rules r → IsServed v e port rules r
+  served_lasts e port rules r h =
+      record { file = h.file; serves = serves-lasts e port rules h.file h.serves; holds = h.holds }
 
   pub pursuing-lasts : (e : Endpoint) (phase : Phase) → IsPursuing w e phase → IsPursuing v e phase
   pursuing-lasts e (client.asking operation misses) h =
@@ -161,11 +161,11 @@ module _ (w v : World) (g : GrowsTo w v) where
   pursuing-lasts e (client.sending port s) h = record { began = put-lasts e s.file h.began; bounds = h.bounds }
   pursuing-lasts e (client.receiving port r) h =
       record {
-        kind = h.kind;
+        rules = h.rules;
         count = h.count;
-        began = get-lasts e h.kind h.count h.began;
+        began = get-lasts e h.rules h.count h.began;
         bounds = h.bounds;
-        served = own-lasts e (served_lasts e port h.kind r) h.served;
+        served = own-lasts e (served_lasts e port h.rules r) h.served;
       }
   pursuing-lasts e (client.failed why) h = tt
 
@@ -176,7 +176,7 @@ module _ (w v : World) (g : GrowsTo w v) where
 
   asked_lasts : (o : Opening) (asked : Asked) → IsAskedBy w o asked → IsAskedBy v o asked
   asked_lasts o to_write h = (h.0, put-lasts o.peer h.0 h.1)
-  asked_lasts o (to_read kind) h = (h.0, get-lasts o.peer kind h.0 h.1, h.2)
+  asked_lasts o (to_read rules) h = (h.0, get-lasts o.peer rules h.0 h.1, h.2)
 
   pub opening-lasts : (o : Opening) → IsOpening w o → IsOpening v o
   opening-lasts o h =
@@ -205,16 +205,16 @@ module _ (w v : World) (g : GrowsTo w v) where
         is_taken = own-lasts e (taken-lasts e h.file) h.is_taken;
       }
 
-  fetched_lasts : (got : Got) (kind : Ruleset) (count : ℕ) → IsFetched w got kind count → IsFetched v got kind count
+  fetched_lasts : (got : Got) (rules : Ruleset) (count : ℕ) → IsFetched w got rules count → IsFetched v got rules count
   unfolding serves-lasts
-  fetched_lasts got kind count h =
-      record { port = h.port; serves = serves-lasts got.client h.port kind got.file h.serves; since = h.since }
+  fetched_lasts got rules count h =
+      record { port = h.port; serves = serves-lasts got.client h.port rules got.file h.serves; since = h.since }
 
   pub got-lasts : (got : Got) → IsGot w got → IsGot v got
   got-lasts got h =
       record {
-        kind = h.kind;
+        rules = h.rules;
         count = h.count;
-        began = get-lasts got.client h.kind h.count h.began;
-        whose = own-lasts got.client (fetched_lasts got h.kind h.count) h.whose;
+        began = get-lasts got.client h.rules h.count h.began;
+        whose = own-lasts got.client (fetched_lasts got h.rules h.count) h.whose;
       }

@@ -13,7 +13,7 @@ pub mod Taking
 pub mod Coming
 pub mod Receiving
 pub mod Endpoints
-pub mod Hearing
+pub mod Handling
 pub mod Openings
 pub mod Requests
 pub mod ClientMoves

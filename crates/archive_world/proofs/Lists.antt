@@ -7,9 +7,9 @@ use Rattle.tws_file.specs.declared.«ruleset».Ruleset.TheVariants.{Lynx, Ms}
 use Rattle.tws_file.specs.Text.{File, IsReadable}
 use Rattle.tws_best.specs.Best.{Collected, IsCollected, IsCollectionOf, collection_text}
 use Rattle.tws_best.proofs.Sets.{own_collection, one_collection}
-use Rattle.archive_table.specs.Server.{Maps, Taken, Grant, JoinsOwn, IsMerged}
+use Rattle.archive_table.specs.Table.{Maps, Taken, Grant, MergesIntoOwn, IsMerged}
 use Rattle.archive_table.specs.Keeper.{Keeping, keeping, KeepsOne, KeepsMaps, StepKeeps}
-use Rattle.archive_world.specs.World.{Event, begin, deliver, client_times_out, server_times_out, stray, restart, World, Step, start, happens, AllMerged}
+use Rattle.archive_world.specs.World.{Event, begin, deliver, client_times_out, server_times_out, stray, restart, World, WorldStep, start, happens, AllMerged}
 use Rattle.archive_world.specs.Restarts.{DeliveryKeeps, EventKeeps, RunKeeps}
 use Rattle.archive_world.proofs.Readability.{readable_or_not}
 use Rattle.archive_world.proofs.Invariant.{AreBest}
@@ -40,19 +40,19 @@ one_by old new before (inl same) = (before, inl (same, sym (append-nil before)))
 one_by old new before (inr other) =
     (before ++ keeping new.ruleset (collection_text new) true ∷ [], inr (other, refl))
 
-one_list : (kind : Ruleset) (first second : List (List ℕ)) (old new : Collected) (before : List Keeping) → IsCollectionOf kind first old → IsCollectionOf kind second new → (after : List Keeping) × KeepsOne old new (Some before) (Some after)
-one_list kind first second old new before was is =
+one_list : (rules : Ruleset) (first second : List (List ℕ)) (old new : Collected) (before : List Keeping) → IsCollectionOf rules first old → IsCollectionOf rules second new → (after : List Keeping) × KeepsOne old new (Some before) (Some after)
+one_list rules first second old new before was is =
     one_by old new before
-    (same_or new old (best-collected kind second new is) (best-collected kind first old was) (is.kind_is ∙ sym was.kind_is) (bytes_eq (collection_text new) (collection_text old)) refl)
+    (same_or new old (best-collected rules second new is) (best-collected rules first old was) (is.ruleset_is ∙ sym was.ruleset_is) (bytes_eq (collection_text new) (collection_text old)) refl)
 
 module _ (few more : List Taken) (old new : Maps) (before : List Keeping) (was : AreBest few old) (is : AreBest more new) where
-  own_list : (kind : Ruleset) (file : File) → JoinsOwn kind file old new → (after : List Keeping) × KeepsMaps old new (Some before) (Some after)
-  own_list Lynx file joins =
+  own_list : (rules : Ruleset) (file : File) → MergesIntoOwn rules file old new → (after : List Keeping) × KeepsMaps old new (Some before) (Some after)
+  own_list Lynx file merging =
       let lynx = one_list Lynx _ _ old.lynx new.lynx before was.lynx is.lynx in
-      (lynx.0, inl (joins.1, lynx.1))
-  own_list Ms file joins =
+      (lynx.0, inl (merging.1, lynx.1))
+  own_list Ms file merging =
       let ms = one_list Ms _ _ old.ms new.ms before was.ms is.ms in
-      (ms.0, inr (joins.1, ms.1))
+      (ms.0, inr (merging.1, ms.1))
 
   stay_list : new ≡ old → (after : List Keeping) × KeepsMaps old new (Some before) (Some after)
   stay_list same =
@@ -76,11 +76,11 @@ event_list w v (deliver index spare) grant before takes merged was is = delivery
 event_list w v (client_times_out e) grant before takes merged was is = (before, refl)
 event_list w v (server_times_out port) grant before takes merged was is = (before, refl)
 event_list w v (stray d) grant before takes merged was is = (before, refl)
-event_list w v restart grant before takes merged was is = (before, λ kind. refl)
+event_list w v restart grant before takes merged was is = (before, λ rules. refl)
 
 -- ---- a run
 
-pub list_from : (steps : List Step) (w : World) (before : List Keeping) → AllMerged steps w → AreBest w.taken w.server.maps → (last : List Keeping) × RunKeeps steps w before last
+pub list_from : (steps : List WorldStep) (w : World) (before : List Keeping) → AllMerged steps w → AreBest w.taken w.server.maps → (last : List Keeping) × RunKeeps steps w before last
 list_from [] w before merged best = (before, refl)
 list_from (s ∷ steps) w before merged best =
     let now = step-best w s merged.0 best in
@@ -88,5 +88,5 @@ list_from (s ∷ steps) w before merged best =
     let rest = list_from steps (happens s w) list.0 merged.1 now in
     (rest.0, (list.0, list.1, rest.1))
 
-pub run-list : (steps : List Step) → AllMerged steps start → (log : List Keeping) × RunKeeps steps start [] log
+pub run-list : (steps : List WorldStep) → AllMerged steps start → (log : List Keeping) × RunKeeps steps start [] log
 run-list steps merged = list_from steps start [] merged start-best

@@ -7,66 +7,66 @@ use Rattle.tws_file.proofs.Faults.{text_without_fault}
 use Rattle.tws_file.proofs.FileText.{one_file}
 use Rattle.tws_best.specs.Best.{Collected, IsCollected, collection_text}
 use Rattle.tws_best.proofs.Texts.{file_from, is_text, file_rules, read_back}
-use Rattle.archive_table.specs.Server.{Maps, Taken, Grant, all, no_memory, unkept, empty_maps}
-use Rattle.archive_table.specs.Keeper.{Keeping, keeping, same_kind, later_or, last_kept, IsLoaded, LoadedFrom, KeepsOne, KeepsMaps, RefusesKeep, FailsKeep, FailsKeepOf, IsMisread, FailsToLoad}
+use Rattle.archive_table.specs.Table.{Maps, Taken, Grant, all, no_memory, unkept, empty_maps}
+use Rattle.archive_table.specs.Keeper.{Keeping, keeping, same_ruleset, later_or, last_kept, IsLoaded, LoadedFrom, KeepsOne, KeepsMaps, RefusesKeep, FailsKeep, FailsKeepOf, IsMisread, FailsToLoad}
 use Rattle.archive_table.specs.declared.load_fault.LoadFault.{LoadFault}
 use Rattle.archive_table.specs.declared.load_fault.LoadFault.TheVariants.{Keep, Unreadable, WrongRuleset}
 use Rattle.archive_table.specs.declared.load_fault.LoadFault.TheVariants as load
-use Rattle.archive_world.specs.Restarts.{IsTextAt, HasKept, AreOwnRules, StepStaysKept, LoadsTheSame, IsOutside, FailsOutside}
+use Rattle.archive_world.specs.Restarts.{IsTextAt, HasKept, HaveOwnRuleset, StepStaysKept, LoadsTheSame, IsOutside, FailsOutside}
 
 -- ---- one more in the list
 
 -- of this ruleset, and kept
-last_own : (kind : Ruleset) (log : List Keeping) (k : Keeping) → same_kind kind k.«ruleset» ≡ true → k.ok ≡ true → last_kept kind (log ++ k ∷ []) ≡ Some k.text
-last_own kind [] k own ok =
+last_own : (rules : Ruleset) (log : List Keeping) (k : Keeping) → same_ruleset rules k.«ruleset» ≡ true → k.ok ≡ true → last_kept rules (log ++ k ∷ []) ≡ Some k.text
+last_own rules [] k own ok =
     ap (λ (b : Bool). later_or None b k.ok k.text) own ∙ ap (λ (b : Bool). later_or None true b k.text) ok
-last_own kind (x ∷ log) k own ok =
-    ap (λ (o : Option (List ℕ)). later_or o (same_kind kind x.«ruleset») x.ok x.text) (last_own kind log k own ok)
+last_own rules (x ∷ log) k own ok =
+    ap (λ (o : Option (List ℕ)). later_or o (same_ruleset rules x.«ruleset») x.ok x.text) (last_own rules log k own ok)
 
 -- of the other ruleset
-last_other : (kind : Ruleset) (log : List Keeping) (k : Keeping) → same_kind kind k.«ruleset» ≡ false → last_kept kind (log ++ k ∷ []) ≡ last_kept kind log
-last_other kind [] k other = ap (λ (b : Bool). later_or None b k.ok k.text) other
-last_other kind (x ∷ log) k other =
-    ap (λ (o : Option (List ℕ)). later_or o (same_kind kind x.«ruleset») x.ok x.text) (last_other kind log k other)
+last_other : (rules : Ruleset) (log : List Keeping) (k : Keeping) → same_ruleset rules k.«ruleset» ≡ false → last_kept rules (log ++ k ∷ []) ≡ last_kept rules log
+last_other rules [] k other = ap (λ (b : Bool). later_or None b k.ok k.text) other
+last_other rules (x ∷ log) k other =
+    ap (λ (o : Option (List ℕ)). later_or o (same_ruleset rules x.«ruleset») x.ok x.text) (last_other rules log k other)
 
-same : (kind : Ruleset) → same_kind kind kind ≡ true
+same : (rules : Ruleset) → same_ruleset rules rules ≡ true
 same Lynx = refl
 same Ms = refl
 
 -- ---- a step
 
 -- the list after it, if nothing was added
-unchanged : (kind : Ruleset) (before after : List Keeping) (c : Collected) → after ≡ before ++ [] → IsTextAt kind (last_kept kind before) c → IsTextAt kind (last_kept kind after) c
-unchanged kind before after c grows kept =
-    subst (λ (l : List Keeping). IsTextAt kind (last_kept kind l) c) (sym (grows ∙ append-nil before)) kept
+unchanged : (rules : Ruleset) (before after : List Keeping) (c : Collected) → after ≡ before ++ [] → IsTextAt rules (last_kept rules before) c → IsTextAt rules (last_kept rules after) c
+unchanged rules before after c grows kept =
+    subst (λ (l : List Keeping). IsTextAt rules (last_kept rules l) c) (sym (grows ∙ append-nil before)) kept
 
 -- a collection of this ruleset was kept, or had not changed
-kept_own : (kind : Ruleset) (before after : List Keeping) (old new : Collected) → new.ruleset ≡ kind → KeepsOne old new (Some before) (Some after) → IsTextAt kind (last_kept kind before) old → IsTextAt kind (last_kept kind after) new
-kept_own kind before after old new rules (inl stayed) kept =
-    unchanged kind before after new stayed.1 (subst (IsTextAt kind (last_kept kind before)) (sym stayed.0) kept)
-kept_own kind before after old new rules (inr changed) kept =
+kept_own : (rules : Ruleset) (before after : List Keeping) (old new : Collected) → new.ruleset ≡ rules → KeepsOne old new (Some before) (Some after) → IsTextAt rules (last_kept rules before) old → IsTextAt rules (last_kept rules after) new
+kept_own rules before after old new rules-is (inl stayed) kept =
+    unchanged rules before after new stayed.1 (subst (IsTextAt rules (last_kept rules before)) (sym stayed.0) kept)
+kept_own rules before after old new rules-is (inr changed) kept =
     let k = keeping new.ruleset (collection_text new) true in
-    let own : same_kind kind new.ruleset ≡ true = ap (same_kind kind) rules ∙ same kind in
-    let last : last_kept kind after ≡ Some (collection_text new) = ap (last_kept kind) changed.1 ∙ last_own kind before k own refl in
-    subst (λ (o : Option (List ℕ)). IsTextAt kind o new) (sym last) refl
+    let own : same_ruleset rules new.ruleset ≡ true = ap (same_ruleset rules) rules-is ∙ same rules in
+    let last : last_kept rules after ≡ Some (collection_text new) = ap (last_kept rules) changed.1 ∙ last_own rules before k own refl in
+    subst (λ (o : Option (List ℕ)). IsTextAt rules o new) (sym last) refl
 
 -- the collection of the other ruleset still has its text
-kept_other : (kind : Ruleset) (before after : List Keeping) (old new c : Collected) → same_kind kind new.ruleset ≡ false → KeepsOne old new (Some before) (Some after) → IsTextAt kind (last_kept kind before) c → IsTextAt kind (last_kept kind after) c
-kept_other kind before after old new c other (inl stayed) kept = unchanged kind before after c stayed.1 kept
-kept_other kind before after old new c other (inr changed) kept =
+kept_other : (rules : Ruleset) (before after : List Keeping) (old new c : Collected) → same_ruleset rules new.ruleset ≡ false → KeepsOne old new (Some before) (Some after) → IsTextAt rules (last_kept rules before) c → IsTextAt rules (last_kept rules after) c
+kept_other rules before after old new c other (inl stayed) kept = unchanged rules before after c stayed.1 kept
+kept_other rules before after old new c other (inr changed) kept =
     let k = keeping new.ruleset (collection_text new) true in
-    let last : last_kept kind after ≡ last_kept kind before = ap (last_kept kind) changed.1 ∙ last_other kind before k other in
-    subst (λ (o : Option (List ℕ)). IsTextAt kind o c) (sym last) kept
+    let last : last_kept rules after ≡ last_kept rules before = ap (last_kept rules) changed.1 ∙ last_other rules before k other in
+    subst (λ (o : Option (List ℕ)). IsTextAt rules o c) (sym last) kept
 
-maps_kept : (old new : Maps) (before after : List Keeping) → AreOwnRules new → KeepsMaps old new (Some before) (Some after) → HasKept before old → HasKept after new
+maps_kept : (old new : Maps) (before after : List Keeping) → HaveOwnRuleset new → KeepsMaps old new (Some before) (Some after) → HasKept before old → HasKept after new
 maps_kept old new before after rules (inl lynx) kept =
     record {
       lynx = kept_own Lynx before after old.lynx new.lynx rules.lynx lynx.1 kept.lynx;
-      ms = subst (IsTextAt Ms (last_kept Ms after)) (sym lynx.0) (kept_other Ms before after old.lynx new.lynx old.ms (ap (same_kind Ms) rules.lynx) lynx.1 kept.ms);
+      ms = subst (IsTextAt Ms (last_kept Ms after)) (sym lynx.0) (kept_other Ms before after old.lynx new.lynx old.ms (ap (same_ruleset Ms) rules.lynx) lynx.1 kept.ms);
     }
 maps_kept old new before after rules (inr ms) kept =
     record {
-      lynx = subst (IsTextAt Lynx (last_kept Lynx after)) (sym ms.0) (kept_other Lynx before after old.ms new.ms old.lynx (ap (same_kind Lynx) rules.ms) ms.1 kept.lynx);
+      lynx = subst (IsTextAt Lynx (last_kept Lynx after)) (sym ms.0) (kept_other Lynx before after old.ms new.ms old.lynx (ap (same_ruleset Lynx) rules.ms) ms.1 kept.lynx);
       ms = kept_own Ms before after old.ms new.ms rules.ms ms.1 kept.ms;
     }
 
@@ -76,21 +76,21 @@ none_later : (own : Bool) (text : List ℕ) → later_or None own false text ≡
 none_later true text = refl
 none_later false text = refl
 
-last_failed : (kind : Ruleset) (log : List Keeping) (k : Keeping) → k.ok ≡ false → last_kept kind (log ++ k ∷ []) ≡ last_kept kind log
-last_failed kind [] k failed =
-    ap (λ (b : Bool). later_or None (same_kind kind k.«ruleset») b k.text) failed ∙ none_later (same_kind kind k.«ruleset») k.text
-last_failed kind (x ∷ log) k failed =
-    ap (λ (o : Option (List ℕ)). later_or o (same_kind kind x.«ruleset») x.ok x.text) (last_failed kind log k failed)
+last_failed : (rules : Ruleset) (log : List Keeping) (k : Keeping) → k.ok ≡ false → last_kept rules (log ++ k ∷ []) ≡ last_kept rules log
+last_failed rules [] k failed =
+    ap (λ (b : Bool). later_or None (same_ruleset rules k.«ruleset») b k.text) failed ∙ none_later (same_ruleset rules k.«ruleset») k.text
+last_failed rules (x ∷ log) k failed =
+    ap (λ (o : Option (List ℕ)). later_or o (same_ruleset rules x.«ruleset») x.ok x.text) (last_failed rules log k failed)
 
 none_added : (maps : Maps) (before after : List Keeping) → after ≡ before ++ [] → HasKept before maps → HasKept after maps
 none_added maps before after grows kept =
     record { lynx = unchanged Lynx before after maps.lynx grows kept.lynx; ms = unchanged Ms before after maps.ms grows kept.ms }
 
-failed_one : (maps : Maps) (before after : List Keeping) (kind : Ruleset) (new : Collected) → FailsKeep kind new (Some before) (Some after) → HasKept before maps → HasKept after maps
-failed_one maps before after rules new (inl none) kept = none_added maps before after none kept
-failed_one maps before after rules new (inr failed) kept =
-    let k = keeping rules (collection_text new) false in
-    let last : (kind : Ruleset) → last_kept kind before ≡ last_kept kind after = λ kind. sym (ap (last_kept kind) failed ∙ last_failed kind before k refl) in
+failed_one : (maps : Maps) (before after : List Keeping) (rules : Ruleset) (new : Collected) → FailsKeep rules new (Some before) (Some after) → HasKept before maps → HasKept after maps
+failed_one maps before after rules-is new (inl none) kept = none_added maps before after none kept
+failed_one maps before after rules-is new (inr failed) kept =
+    let k = keeping rules-is (collection_text new) false in
+    let last : (rules : Ruleset) → last_kept rules before ≡ last_kept rules after = λ rules. sym (ap (last_kept rules) failed ∙ last_failed rules before k refl) in
     record {
       lynx = subst (λ (o : Option (List ℕ)). IsTextAt Lynx o maps.lynx) (last Lynx) kept.lynx;
       ms = subst (λ (o : Option (List ℕ)). IsTextAt Ms o maps.ms) (last Ms) kept.ms;
@@ -117,14 +117,14 @@ step-stays_kept unkept wanted old new before after keeps either_way rules kept =
 
 -- ---- a load
 
-loaded_by : (kind : Ruleset) (text : Option (List ℕ)) (now loaded : Collected) → IsTextAt kind text now → IsCollected now → IsLoaded kind text loaded → loaded ≡ now
-loaded_by kind None now loaded has fits is = is ∙ sym has
-loaded_by kind (Some text) now loaded has fits is =
+loaded_by : (rules : Ruleset) (text : Option (List ℕ)) (now loaded : Collected) → IsTextAt rules text now → IsCollected now → IsLoaded rules text loaded → loaded ≡ now
+loaded_by rules None now loaded has fits is = is ∙ sym has
+loaded_by rules (Some text) now loaded has fits is =
     read_back now loaded is.0 fits (subst (λ (bytes : List ℕ). IsText bytes is.0) has is.1) (is.3 ∙ sym is.2) is.4
 
-loaded_from : (kind : Ruleset) (log : List Keeping) (now loaded : Collected) → IsTextAt kind (last_kept kind log) now → IsCollected now → LoadedFrom kind (Some log) loaded → loaded ≡ now
-loaded_from kind log now loaded has fits from =
-    loaded_by kind from.0 now loaded (subst (λ (o : Option (List ℕ)). IsTextAt kind o now) (sym from.1) has) fits from.2
+loaded_from : (rules : Ruleset) (log : List Keeping) (now loaded : Collected) → IsTextAt rules (last_kept rules log) now → IsCollected now → LoadedFrom rules (Some log) loaded → loaded ≡ now
+loaded_from rules log now loaded has fits from =
+    loaded_by rules from.0 now loaded (subst (λ (o : Option (List ℕ)). IsTextAt rules o now) (sym from.1) has) fits from.2
 
 pub loads-the_same : (log : List Keeping) (maps : Maps) → LoadsTheSame log maps
 loads-the_same log maps kept fits_lynx fits_ms lynx ms from_lynx from_ms =
@@ -133,24 +133,24 @@ loads-the_same log maps kept fits_lynx fits_ms lynx ms from_lynx from_ms =
 -- ---- a load that fails
 
 -- a kept text is that of a collection, so it is the text of a file of its ruleset
-read_fails : (kind : Ruleset) (bytes : List ℕ) (now : Collected) (fault : LoadFault) → bytes ≡ collection_text now → IsCollected now → now.ruleset ≡ kind → IsMisread kind bytes fault → IsOutside fault
-read_fails kind bytes now (Keep e) text fits rules misread = tt
-read_fails kind bytes now (Unreadable e) text fits rules misread =
+read_fails : (rules : Ruleset) (bytes : List ℕ) (now : Collected) (fault : LoadFault) → bytes ≡ collection_text now → IsCollected now → now.ruleset ≡ rules → IsMisread rules bytes fault → IsOutside fault
+read_fails rules bytes now (Keep e) text fits rules-is misread = tt
+read_fails rules bytes now (Unreadable e) text fits rules-is misread =
     text_without_fault bytes (file_from now fits) e (subst (λ (b : List ℕ). IsText b (file_from now fits)) (sym text) (is_text now fits)) misread
-read_fails kind bytes now WrongRuleset text fits rules misread =
+read_fails rules bytes now WrongRuleset text fits rules-is misread =
     let whole : IsText bytes (file_from now fits) = subst (λ (b : List ℕ). IsText b (file_from now fits)) (sym text) (is_text now fits) in
-    misread.2 (ap (λ (f : File). f.ruleset) (one_file bytes misread.0 (file_from now fits) misread.1 whole) ∙ file_rules now fits ∙ rules)
-read_fails kind bytes now load.Memory text fits rules misread = tt
+    misread.2 (ap (λ (f : File). f.ruleset) (one_file bytes misread.0 (file_from now fits) misread.1 whole) ∙ file_rules now fits ∙ rules-is)
+read_fails rules bytes now load.Memory text fits rules-is misread = tt
 
-fails_from : (kind : Ruleset) (log : List Keeping) (now : Collected) (fault : LoadFault) → IsTextAt kind (last_kept kind log) now → IsCollected now → now.ruleset ≡ kind → FailsToLoad kind (Some log) fault → IsOutside fault
-fails_from kind log now (Keep e) has fits rules fails = tt
-fails_from kind log now (Unreadable e) has fits rules fails =
-    read_fails kind fails.0 now (Unreadable e) (subst (λ (o : Option (List ℕ)). IsTextAt kind o now) (sym fails.1) has) fits rules fails.2
-fails_from kind log now WrongRuleset has fits rules fails =
-    read_fails kind fails.0 now WrongRuleset (subst (λ (o : Option (List ℕ)). IsTextAt kind o now) (sym fails.1) has) fits rules fails.2
-fails_from kind log now load.Memory has fits rules fails = tt
+fails_from : (rules : Ruleset) (log : List Keeping) (now : Collected) (fault : LoadFault) → IsTextAt rules (last_kept rules log) now → IsCollected now → now.ruleset ≡ rules → FailsToLoad rules (Some log) fault → IsOutside fault
+fails_from rules log now (Keep e) has fits rules-is fails = tt
+fails_from rules log now (Unreadable e) has fits rules-is fails =
+    read_fails rules fails.0 now (Unreadable e) (subst (λ (o : Option (List ℕ)). IsTextAt rules o now) (sym fails.1) has) fits rules-is fails.2
+fails_from rules log now WrongRuleset has fits rules-is fails =
+    read_fails rules fails.0 now WrongRuleset (subst (λ (o : Option (List ℕ)). IsTextAt rules o now) (sym fails.1) has) fits rules-is fails.2
+fails_from rules log now load.Memory has fits rules-is fails = tt
 
-pub fails-outside : (log : List Keeping) (maps : Maps) → AreOwnRules maps → HasKept log maps → IsCollected maps.lynx → IsCollected maps.ms → FailsOutside log
+pub fails-outside : (log : List Keeping) (maps : Maps) → HaveOwnRuleset maps → HasKept log maps → IsCollected maps.lynx → IsCollected maps.ms → FailsOutside log
 fails-outside log maps rules kept fits_lynx fits_ms fault (inl lynx) =
     fails_from Lynx log maps.lynx fault kept.lynx fits_lynx rules.lynx lynx
 fails-outside log maps rules kept fits_lynx fits_ms fault (inr ms) =

@@ -4,44 +4,44 @@ use Rattle.std.proofs.lemmas.List.{map-append}
 use Rattle.tws_file.specs.declared.«ruleset».Ruleset.{Ruleset}
 use Rattle.tws_file.specs.declared.«ruleset».Ruleset.TheVariants.{Lynx, Ms}
 use Rattle.tws_file.specs.Text.{File, IsText, IsReadable}
-use Rattle.tws_best.specs.Best.{Entry, Collected, IsCollectionOf, IsBestOf, solutions_of, solved_by}
+use Rattle.tws_best.specs.Best.{KeyedBody, Collected, IsCollectionOf, IsBestOf, solutions_of, solved_by}
 use Rattle.tws_best.proofs.Bests.{own_best}
 use Rattle.tws_best.proofs.Sets.{one_more_text, one_more_unreadable}
-use Rattle.archive_table.specs.Server.{Maps, Taken, IsJoined, JoinsOwn, IsMerged}
+use Rattle.archive_table.specs.Table.{Maps, Taken, IsFileMerge, MergesIntoOwn, IsMerged}
 use Rattle.archive_world.specs.Headline.{files_of}
 use Rattle.archive_world.proofs.Readability.{readable_or_not}
 use Rattle.archive_world.proofs.Invariant.{AreBest}
 
--- a file of this ruleset joins its collection
-joins : (kind : Ruleset) (texts : List (List ℕ)) (text : List ℕ) (f : File) (old new : Collected) → IsCollectionOf kind texts old → IsText text f → IsJoined f old new → IsCollectionOf kind (texts ++ text ∷ []) new
-joins kind texts text f old new best is joined = one_more_text kind texts text f old new best is joined.kind joined.best
+-- a file of this ruleset is merged into its collection
+merging : (rules : Ruleset) (texts : List (List ℕ)) (text : List ℕ) (f : File) (old new : Collected) → IsCollectionOf rules texts old → IsText text f → IsFileMerge f old new → IsCollectionOf rules (texts ++ text ∷ []) new
+merging rules texts text f old new best is joined = one_more_text rules texts text f old new best is joined.rules joined.best
 
-pub stays : (kind : Ruleset) (texts : List (List ℕ)) (text : List ℕ) (f : File) (old new : Collected) → IsCollectionOf kind texts old → IsText text f → solutions_of old.ruleset (f ∷ []) ≡ [] → new ≡ old → IsCollectionOf kind (texts ++ text ∷ []) new
-stays kind texts text f old new best is none same =
-    let all : old.entries ++ solutions_of old.ruleset (f ∷ []) ≡ old.entries = ap (λ (es : List Entry). old.entries ++ es) none ∙ append-nil old.entries in
-    let kept : IsBestOf (Contains (old.entries ++ solutions_of old.ruleset (f ∷ []))) old.entries = subst (λ (es : List Entry). IsBestOf (Contains es) old.entries) (sym all) (own_best old.entries best.best.rising) in
-    subst (λ (c : Collected). IsCollectionOf kind (texts ++ text ∷ []) c) (sym same) (one_more_text kind texts text f old old best is refl kept)
+pub stays : (rules : Ruleset) (texts : List (List ℕ)) (text : List ℕ) (f : File) (old new : Collected) → IsCollectionOf rules texts old → IsText text f → solutions_of old.ruleset (f ∷ []) ≡ [] → new ≡ old → IsCollectionOf rules (texts ++ text ∷ []) new
+stays rules texts text f old new best is none same =
+    let all : old.entries ++ solutions_of old.ruleset (f ∷ []) ≡ old.entries = ap (λ (es : List KeyedBody). old.entries ++ es) none ∙ append-nil old.entries in
+    let kept : IsBestOf (Contains (old.entries ++ solutions_of old.ruleset (f ∷ []))) old.entries = subst (λ (es : List KeyedBody). IsBestOf (Contains es) old.entries) (sym all) (own_best old.entries best.best.rising) in
+    subst (λ (c : Collected). IsCollectionOf rules (texts ++ text ∷ []) c) (sym same) (one_more_text rules texts text f old old best is refl kept)
 
 pub other_lynx : (f : File) (c : Collected) → c.ruleset ≡ Lynx → f.ruleset ≡ Ms → solutions_of c.ruleset (f ∷ []) ≡ []
-other_lynx f c kind other =
-    ap (λ (r : Ruleset). solutions_of r (f ∷ [])) kind ∙ ap (λ (r : Ruleset). solved_by Lynx r f.records ++ []) other
+other_lynx f c rules other =
+    ap (λ (r : Ruleset). solutions_of r (f ∷ [])) rules ∙ ap (λ (r : Ruleset). solved_by Lynx r f.records ++ []) other
 
 pub other_ms : (f : File) (c : Collected) → c.ruleset ≡ Ms → f.ruleset ≡ Lynx → solutions_of c.ruleset (f ∷ []) ≡ []
-other_ms f c kind other =
-    ap (λ (r : Ruleset). solutions_of r (f ∷ [])) kind ∙ ap (λ (r : Ruleset). solved_by Ms r f.records ++ []) other
+other_ms f c rules other =
+    ap (λ (r : Ruleset). solutions_of r (f ∷ [])) rules ∙ ap (λ (r : Ruleset). solved_by Ms r f.records ++ []) other
 
 module _ (texts : List (List ℕ)) (text : List ℕ) (old new : Maps) (lynx : IsCollectionOf Lynx texts old.lynx) (ms : IsCollectionOf Ms texts old.ms) where
   abbrev Both : Type 0
   Both = IsCollectionOf Lynx (texts ++ text ∷ []) new.lynx × IsCollectionOf Ms (texts ++ text ∷ []) new.ms
 
-  file_joins : (f : File) → IsText text f → (kind : Ruleset) → f.ruleset ≡ kind → JoinsOwn kind f old new → Both
-  file_joins f is Lynx kind own =
-      (joins Lynx texts text f old.lynx new.lynx lynx is own.0, stays Ms texts text f old.ms new.ms ms is (other_ms f old.ms ms.kind_is kind) own.1)
-  file_joins f is Ms kind own =
-      (stays Lynx texts text f old.lynx new.lynx lynx is (other_lynx f old.lynx lynx.kind_is kind) own.1, joins Ms texts text f old.ms new.ms ms is own.0)
+  file_merges : (f : File) → IsText text f → (rules : Ruleset) → f.ruleset ≡ rules → MergesIntoOwn rules f old new → Both
+  file_merges f is Lynx rules own =
+      (merging Lynx texts text f old.lynx new.lynx lynx is own.0, stays Ms texts text f old.ms new.ms ms is (other_ms f old.ms ms.ruleset_is rules) own.1)
+  file_merges f is Ms rules own =
+      (stays Lynx texts text f old.lynx new.lynx lynx is (other_lynx f old.lynx lynx.ruleset_is rules) own.1, merging Ms texts text f old.ms new.ms ms is own.0)
 
   merged_by : IsMerged text old new → IsReadable text ⊎ (IsReadable text → ⊥) → Both
-  merged_by merged (inl readable) = file_joins readable.0 readable.1 readable.0.ruleset refl (merged.readable readable.0 readable.1)
+  merged_by merged (inl readable) = file_merges readable.0 readable.1 readable.0.ruleset refl (merged.readable readable.0 readable.1)
   merged_by merged (inr never) =
       let same : new ≡ old = merged.unreadable (λ f is. never (f, is)) in
       subst (λ (m : Maps). IsCollectionOf Lynx (texts ++ text ∷ []) m.lynx × IsCollectionOf Ms (texts ++ text ∷ []) m.ms) (sym same)

@@ -13,8 +13,8 @@ use Rattle.tftp_ends.proofs.Steps.{IsSender-start, start-reads_back}
 use Rattle.tws_file.specs.declared.«ruleset».Ruleset.{Ruleset}
 use Rattle.tws_file.specs.declared.«ruleset».Ruleset.TheVariants.{Lynx, Ms}
 use Rattle.tws_best.specs.Best.{collection_text}
-use Rattle.archive_table.specs.Server.{End, Taken, Transfer, sending, at_port, with_live, transfer_at, map_of, out_from, refuses}
-use Rattle.tws_file.specs.Names.{kind_named}
+use Rattle.archive_table.specs.Table.{End, Taken, Transfer, sending, at_port, with_live, transfer_at, map_of, out_from, refuses}
+use Rattle.tws_file.specs.Names.{ruleset_named}
 use Rattle.archive_world.specs.World.{Datagram, World, Opening, Asked, to_write, to_read, server_endpoint, after_request}
 use Rattle.archive_world.specs.Headline.{IsOwn, IsBestOver, files_of}
 use Rattle.archive_world.proofs.Places.{Has, Has-last, Has-push, at-extends, at-last, before_last, Extends-same, Extends-push}
@@ -79,10 +79,10 @@ module _ (w : World) (h : Holds w) (spare : ℕ) (free : transfer_at spare w.ser
       -- no transfer was opened there for this peer before
       never_opened : {P : Type 0} (asked_then : Asked) (count : ℕ) → HasOpened w from spare asked_then count → IsOwn opened from → P
       never_opened asked_then count o own =
-          let place = o.among.place in
-          let still = at-extends w.opened (w.opened ++ opening ∷ []) (Extends-push w.opened opening) place _ o.among.is in
-          let first_then : place < length w.opened = before_last w.opened place _ o.among.is in
-          let same : place ≡ length w.opened = own.openings place (length w.opened) _ opening still (at-last w.opened opening) refl refl refl in
+          let position = o.among.position in
+          let still = at-extends w.opened (w.opened ++ opening ∷ []) (Extends-push w.opened opening) position _ o.among.is in
+          let first_then : position < length w.opened = before_last w.opened position _ o.among.is in
+          let same : position ≡ length w.opened = own.openings position (length w.opened) _ opening still (at-last w.opened opening) refl refl refl in
           absurd (omega arith)
 
       taken_before : (u : Taken) → u.peer ≡ from → IsBound w from spare → IsTaken w u → IsOwn opened from → ⊥
@@ -146,7 +146,7 @@ module _ (w : World) (h : Holds w) (d : Datagram) (among : Has w.net d) where
 
   reader_away : (name : List ℕ) → IsStranger w d.source ⊎ AsksToRead w d.source name → d.source.host ≢ server_endpoint.host
   reader_away name (inl stranger) = stranger_away d.source stranger
-  reader_away name (inr asks) = begun_away w h d.source (get_begun w d.source asks.kind asks.count asks.began)
+  reader_away name (inr asks) = begun_away w h d.source (get_begun w d.source asks.rules asks.count asks.began)
 
   pub writer_away : IsStranger w d.source ⊎ AsksToWrite w d.source → d.source.host ≢ server_endpoint.host
   writer_away (inl stranger) = stranger_away d.source stranger
@@ -163,49 +163,49 @@ module _ (w : World) (h : Holds w) (d : Datagram) (among : Has w.net d) where
     all_files : (taken : List Taken) → take (length taken) taken ≡ taken
     all_files taken = take_all (length taken) taken (le_refl (length taken))
 
-    best_of : (kind : Ruleset) → IsBestOver kind (files_of w.taken) (collection_text (map_of kind w.server.maps))
+    best_of : (rules : Ruleset) → IsBestOver rules (files_of w.taken) (collection_text (map_of rules w.server.maps))
     best_of Lynx = (w.server.maps.lynx, h.best.lynx, refl)
     best_of Ms = (w.server.maps.ms, h.best.ms, refl)
 
-    is_text : (kind : Ruleset) → IsTextOf w.taken (length w.taken) kind (collection_text (map_of kind w.server.maps))
-    is_text kind =
+    is_text : (rules : Ruleset) → IsTextOf w.taken (length w.taken) rules (collection_text (map_of rules w.server.maps))
+    is_text rules =
         record {
           within = le_refl (length w.taken);
-          best = subst (λ (ts : List Taken). IsBestOver kind (files_of ts) (collection_text (map_of kind w.server.maps))) (sym (all_files w.taken)) (best_of kind);
+          best = subst (λ (ts : List Taken). IsBestOver rules (files_of ts) (collection_text (map_of rules w.server.maps))) (sym (all_files w.taken)) (best_of rules);
         }
 
-    same_kind : (name : List ℕ) (kind other : Ruleset) → kind_named name ≡ Some kind → kind_named name ≡ Some other → other ≡ kind
-    same_kind name kind other is also = cc
+    same_ruleset : (name : List ℕ) (rules other : Ruleset) → ruleset_named name ≡ Some rules → ruleset_named name ≡ Some other → other ≡ rules
+    same_ruleset name rules other is also = cc
 
-    module _ (kind : Ruleset) (short : length (collection_text (map_of kind w.server.maps)) ≤ MAX_FILE) where
+    module _ (rules : Ruleset) (short : length (collection_text (map_of rules w.server.maps)) ≤ MAX_FILE) where
       abbrev pub text : List ℕ
-      text = collection_text (map_of kind w.server.maps)
+      text = collection_text (map_of rules w.server.maps)
 
       abbrev pub reading : World
-      reading = opened w h spare free d.source (to_read kind) (sending (sender_start text)) (encode (data_packet text 1))
+      reading = opened w h spare free d.source (to_read rules) (sending (sender_start text)) (encode (data_packet text 1))
 
-      has_opened : HasOpened reading d.source spare (to_read kind) (length w.taken)
+      has_opened : HasOpened reading d.source spare (to_read rules) (length w.taken)
       has_opened = record { among = Has-last w.opened _ }
 
-      serves : Serves reading d.source spare kind text
-      serves = record { count = length w.taken; opened = has_opened; is_text = is_text kind }
+      serves : Serves reading d.source spare rules text
+      serves = record { count = length w.taken; opened = has_opened; is_text = is_text rules }
 
       serves_first : ServesBlock reading (from_port spare) d.source 1 (block_of text 1)
-      serves_first = record { ours = refl; kind = kind; file = text; serves = serves; is_block = refl }
+      serves_first = record { ours = refl; rules = rules; file = text; serves = serves; is_block = refl }
 
-      asked_by : (name : List ℕ) → kind_named name ≡ Some kind → AsksToRead w d.source name → IsAskedBy reading (opening w h spare free d.source (to_read kind)) (to_read kind)
+      asked_by : (name : List ℕ) → ruleset_named name ≡ Some rules → AsksToRead w d.source name → IsAskedBy reading (opening w h spare free d.source (to_read rules)) (to_read rules)
       asked_by name is asks =
-          let same = same_kind name kind asks.kind is asks.named in
-          let get_it : HasGet w d.source kind asks.count = subst (λ (k : Ruleset). HasGet w d.source k asks.count) same asks.began in
+          let same = same_ruleset name rules asks.rules is asks.named in
+          let get_it : HasGet w d.source rules asks.count = subst (λ (k : Ruleset). HasGet w d.source k asks.count) same asks.began in
           let counted : asks.count ≤ length w.taken = (h.begun _ asks.began.among).counted in
-          (asks.count, get-lasts w reading (grows w h spare free d.source (to_read kind) (sending (sender_start text)) (encode (data_packet text 1))) d.source kind asks.count get_it, counted)
+          (asks.count, get-lasts w reading (grows w h spare free d.source (to_read rules) (sending (sender_start text)) (encode (data_packet text 1))) d.source rules asks.count get_it, counted)
 
-      pub read_fine : (name : List ℕ) → kind_named name ≡ Some kind → IsStranger w d.source ⊎ AsksToRead w d.source name → IsFine w h spare free d.source (to_read kind) (sending (sender_start text)) (encode (data_packet text 1))
+      pub read_fine : (name : List ℕ) → ruleset_named name ≡ Some rules → IsStranger w d.source ⊎ AsksToRead w d.source name → IsFine w h spare free d.source (to_read rules) (sending (sender_start text)) (encode (data_packet text 1))
       read_fine name is whose =
-          let g = grows w h spare free d.source (to_read kind) (sending (sender_start text)) (encode (data_packet text 1)) in
+          let g = grows w h spare free d.source (to_read rules) (sending (sender_start text)) (encode (data_packet text 1)) in
           record {
             away = reader_away name whose;
-            live = record { kind = kind; serves = serves; bounds = IsSender-start text short };
+            live = record { rules = rules; serves = serves; bounds = IsSender-start text short };
             honest = honest_packet reading (from_port spare) d.source (data_packet text 1) (start-reads_back text short).decoded (inr serves_first);
             whose = either (stranger-lasts w reading g d.source) (asked_by name is) whose;
           }

@@ -2,7 +2,7 @@
 use Rattle.std.proofs.Common.{◌≡◌, ℕ, zero, suc, Bool, true, false, ◌==◌, ◌&&◌, not, cond, List, [], ◌∷◌, slice_get, Contains, Some, refl, ap, sym, ◌∙◌}
 use Rattle.std.proofs.lemmas.Bool.{and_parts, eqb-true}
 use Rattle.tftp_packet.specs.declared.endpoint.Endpoint.{Endpoint}
-use Rattle.archive_table.specs.Server.{is_same}
+use Rattle.archive_table.specs.Table.{is_same}
 use Rattle.archive_world.specs.World.{Datagram, Begun, Opening, World, start, has_begun}
 use Rattle.archive_world.specs.Headline.{IsOwn}
 use Rattle.archive_world.specs.Reuse.{has_strayed, was_opened, is_opening_at, begins_once, opens_apart, OwnTests, own_tests, IsOwnByTests}
@@ -123,7 +123,7 @@ module _ (e : Endpoint) where
 
   strays_if_none : (ds : List Datagram) → ((d : Datagram) → Contains ds d → d.source ≡ e → ⊥) → has_strayed e ds ≡ false
   strays_if_none ds none =
-      strayed_any e ds ∙ all_fail (λ (x : Datagram). is_same e x.source) ds (λ i d at_i found. none d (Has-contains ds d (record { place = i; is = at_i })) (sym (exact_endpoint e d.source found)))
+      strayed_any e ds ∙ all_fail (λ (x : Datagram). is_same e x.source) ds (λ i d at_i found. none d (Has-contains ds d (record { position = i; is = at_i })) (sym (exact_endpoint e d.source found)))
 
 -- ---- a world
 
@@ -145,7 +145,7 @@ own-if w e test =
       openings = one_opening e w.opened (ap (λ (t : OwnTests). t.apart) test);
       stranger = λ d among is.
           let has = Has-from_contains w.strays d among in
-          strayed_none e w.strays has.place d (fails (has_strayed e w.strays) (ap (λ (t : OwnTests). t.unstrayed) test)) has.is (sym is);
+          strayed_none e w.strays has.position d (fails (has_strayed e w.strays) (ap (λ (t : OwnTests). t.unstrayed) test)) has.is (sym is);
     }
 
 pub own-by_tests : (w : World) (e : Endpoint) → IsOwnByTests w e

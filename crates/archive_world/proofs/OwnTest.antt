@@ -68,7 +68,7 @@ unbegun_at (a ∷ ds) begun test (suc i) d is =
 no_operation : (begun : List Begun) (d : Datagram) → has_begun d.source begun ≡ false → HasOperation begun d.source → ⊥
 no_operation begun d none c =
     let has = Has-from_contains begun c.0 c.1 in
-    begun_none d.source begun has.place c.0 none has.is (sym c.2)
+    begun_none d.source begun has.position c.0 none has.is (sym c.2)
 
 -- ---- a world
 
@@ -79,5 +79,5 @@ own-by w begun opened strays =
       openings = one_opening w.opened opened;
       strangers = λ d among c.
           let has = Has-from_contains w.strays d among in
-          no_operation w.begun d (unbegun_at w.strays w.begun strays has.place d has.is) c;
+          no_operation w.begun d (unbegun_at w.strays w.begun strays has.position d has.is) c;
     }

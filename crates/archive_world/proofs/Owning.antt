@@ -14,9 +14,9 @@ pub put_begun : (w : World) (e : Endpoint) (file : List ℕ) → HasPut w e file
 put_begun w e file h =
     record { begun = record { client = e; operation = put file; taken = h.count }; among = h.among; client = refl }
 
-pub get_begun : (w : World) (e : Endpoint) (kind : Ruleset) (count : ℕ) → HasGet w e kind count → HasBegun w e
-get_begun w e kind count h =
-    record { begun = record { client = e; operation = get kind; taken = count }; among = h.among; client = refl }
+pub get_begun : (w : World) (e : Endpoint) (rules : Ruleset) (count : ℕ) → HasGet w e rules count → HasBegun w e
+get_begun w e rules count h =
+    record { begun = record { client = e; operation = get rules; taken = count }; among = h.among; client = refl }
 
 -- what is own was so at any moment before
 pub own-before : (w v : World) → GrowsTo w v → (e : Endpoint) → IsOwn v e → IsOwn w e
@@ -50,16 +50,16 @@ none_reused-before w v g own =
 same_put : (file other : List ℕ) → put file ≡ put other → file ≡ other
 same_put file other e = cc
 
-same_get : (kind other : Ruleset) → get kind ≡ get other → kind ≡ other
-same_get kind other e = cc
+same_get : (rules other : Ruleset) → get rules ≡ get other → rules ≡ other
+same_get rules other e = cc
 
-same_read : (kind other : Ruleset) → to_read kind ≡ to_read other → kind ≡ other
-same_read kind other e = cc
+same_read : (rules other : Ruleset) → to_read rules ≡ to_read other → rules ≡ other
+same_read rules other e = cc
 
 -- the best over the same files has one text
-pub one_text : (kind : Ruleset) (files : List (List ℕ)) (text other : List ℕ) → IsBestOver kind files text → IsBestOver kind files other → text ≡ other
-one_text kind files text other h k =
-    h.2 ∙ ap (λ (c : Collected). collection_text c) (one_collection kind files h.0 k.0 h.1 k.1) ∙ sym k.2
+pub one_text : (rules : Ruleset) (files : List (List ℕ)) (text other : List ℕ) → IsBestOver rules files text → IsBestOver rules files other → text ≡ other
+one_text rules files text other h k =
+    h.2 ∙ ap (λ (c : Collected). collection_text c) (one_collection rules files h.0 k.0 h.1 k.1) ∙ sym k.2
 
 module _ (w : World) (e : Endpoint) (own : IsOwn w e) where
   pub no_stranger : {P : Type 0} → IsStranger w e → P
@@ -67,31 +67,31 @@ module _ (w : World) (e : Endpoint) (own : IsOwn w e) where
 
   pub one_operation : (b c : Begun) → Has w.begun b → Has w.begun c → b.client ≡ e → c.client ≡ e → b ≡ c
   one_operation b c h k first second =
-      one_at w.begun h.place k.place b c h.is k.is (own.operations h.place k.place b c h.is k.is first second)
+      one_at w.begun h.position k.position b c h.is k.is (own.operations h.position k.position b c h.is k.is first second)
 
   one_opening : (o p : Opening) → Has w.opened o → Has w.opened p → o.peer ≡ e → p.peer ≡ e → o.port ≡ p.port → o ≡ p
   one_opening o p h k first second same =
-      one_at w.opened h.place k.place o p h.is k.is (own.openings h.place k.place o p h.is k.is first second same)
+      one_at w.opened h.position k.position o p h.is k.is (own.openings h.position k.position o p h.is k.is first second same)
 
   pub one_put : (file other : List ℕ) → HasPut w e file → HasPut w e other → file ≡ other
   one_put file other h k =
       same_put file other (ap (λ (b : Begun). b.operation) (one_operation _ _ h.among k.among refl refl))
 
   -- one get at an endpoint: of one kind, and one count
-  pub one_get : (kind other : Ruleset) (m n : ℕ) → HasGet w e kind m → HasGet w e other n → (kind ≡ other) × (m ≡ n)
-  one_get kind other m n h k =
+  pub one_get : (rules other : Ruleset) (m n : ℕ) → HasGet w e rules m → HasGet w e other n → (rules ≡ other) × (m ≡ n)
+  one_get rules other m n h k =
       let both = one_operation _ _ h.among k.among refl refl in
-      (same_get kind other (ap (λ (b : Begun). b.operation) both), ap (λ (b : Begun). b.taken) both)
+      (same_get rules other (ap (λ (b : Begun). b.operation) both), ap (λ (b : Begun). b.taken) both)
 
-  one_read : (port : ℕ) (kind other : Ruleset) (m n : ℕ) → HasOpened w e port (to_read kind) m → HasOpened w e port (to_read other) n → (kind ≡ other) × (m ≡ n)
-  one_read port kind other m n h k =
+  one_read : (port : ℕ) (rules other : Ruleset) (m n : ℕ) → HasOpened w e port (to_read rules) m → HasOpened w e port (to_read other) n → (rules ≡ other) × (m ≡ n)
+  one_read port rules other m n h k =
       let both = one_opening _ _ h.among k.among refl refl refl in
-      (same_read kind other (ap (λ (o : Opening). o.asked) both), ap (λ (o : Opening). o.taken) both)
+      (same_read rules other (ap (λ (o : Opening). o.asked) both), ap (λ (o : Opening). o.taken) both)
 
   -- what is served at one port is one collection
-  pub one_served : (port : ℕ) (kind other : Ruleset) (text more : List ℕ) → Serves w e port kind text → Serves w e port other more → text ≡ more
-  one_served port kind other text more h k =
-      let same = one_read port kind other h.count k.count h.opened k.opened in
+  pub one_served : (port : ℕ) (rules other : Ruleset) (text more : List ℕ) → Serves w e port rules text → Serves w e port other more → text ≡ more
+  one_served port rules other text more h k =
+      let same = one_read port rules other h.count k.count h.opened k.opened in
       let best = subst (λ (n : ℕ). IsBestOver other (files_of (take n w.taken)) more) (sym same.1) k.is_text.best in
       let best' = subst (λ (r : Ruleset). IsBestOver r (files_of (take h.count w.taken)) more) (sym same.0) best in
-      one_text kind (files_of (take h.count w.taken)) text more h.is_text.best best'
+      one_text rules (files_of (take h.count w.taken)) text more h.is_text.best best'

@@ -5,18 +5,18 @@ use Rattle.std.proofs.lemmas.List.{take-append-le}
 
 -- the list has this at some place
 pub record Has {A : Type 0} (xs : List A) (x : A) : Type 0 where
-  pub place : ℕ
-  pub is : slice_get xs place ≡ Some x
+  pub position : ℕ
+  pub is : slice_get xs position ≡ Some x
 
 pub record Extends {A : Type 0} (old new : List A) : Type 0 where
   pub rest : List A
   pub is : new ≡ old ++ rest
 
 pub Has-contains : {A : Type 0} (xs : List A) (x : A) → Has xs x → Contains xs x
-Has-contains xs x h = (h.place, slice_get_within xs h.place x h.is, get_or_from_slice_get xs h.place x x h.is)
+Has-contains xs x h = (h.position, slice_get_within xs h.position x h.is, get_or_from_slice_get xs h.position x x h.is)
 
 pub Has-from_contains : {A : Type 0} (xs : List A) (x : A) → Contains xs x → Has xs x
-Has-from_contains xs x c = record { place = c.0; is = slice_get-get_or xs c.0 x c.1 ∙ ap Some c.2 }
+Has-from_contains xs x c = record { position = c.0; is = slice_get-get_or xs c.0 x c.1 ∙ ap Some c.2 }
 
 -- ---- growth
 
@@ -39,7 +39,7 @@ pub at-extends : {A : Type 0} (xs ys : List A) → Extends xs ys → (i : ℕ) (
 at-extends xs ys more i x e = ap (λ zs. slice_get zs i) more.is ∙ at-append xs more.rest i x e
 
 pub Has-extends : {A : Type 0} (xs ys : List A) (x : A) → Extends xs ys → Has xs x → Has ys x
-Has-extends xs ys x more h = record { place = h.place; is = at-extends xs ys more h.place x h.is }
+Has-extends xs ys x more h = record { position = h.position; is = at-extends xs ys more h.position x h.is }
 
 pub length-extends : {A : Type 0} (xs ys : List A) → Extends xs ys → length xs ≤ length ys
 length-extends xs ys more = omega (arith, ap length more.is, length-append xs more.rest)
@@ -54,7 +54,7 @@ at-last [] x = refl
 at-last (a ∷ xs) x = at-last xs x
 
 pub Has-last : {A : Type 0} (xs : List A) (x : A) → Has (xs ++ x ∷ []) x
-Has-last xs x = record { place = length xs; is = at-last xs x }
+Has-last xs x = record { position = length xs; is = at-last xs x }
 
 -- an old one, or the new one at the last place
 abbrev pub OldOrLast : {A : Type 0} → List A → (y : A) → (i : ℕ) → (x : A) → Type 0
@@ -71,11 +71,11 @@ at-push (a ∷ xs) y zero x e = inl e
 at-push (a ∷ xs) y (suc i) x e = push_tail a xs y i x (at-push xs y i x e)
 
 has_push : {A : Type 0} (xs : List A) (y x : A) (i : ℕ) → OldOrLast xs y i x → Has xs x ⊎ (x ≡ y)
-has_push xs y x i (inl old) = inl (record { place = i; is = old })
+has_push xs y x i (inl old) = inl (record { position = i; is = old })
 has_push xs y x i (inr last) = inr last.1
 
 pub Has-push : {A : Type 0} (xs : List A) (y x : A) → Has (xs ++ y ∷ []) x → Has xs x ⊎ (x ≡ y)
-Has-push xs y x h = has_push xs y x h.place (at-push xs y h.place x h.is)
+Has-push xs y x h = has_push xs y x h.position (at-push xs y h.position x h.is)
 
 -- the place of an old one is not the last
 pub before_last : {A : Type 0} (xs : List A) (i : ℕ) (x : A) → slice_get xs i ≡ Some x → i < length xs

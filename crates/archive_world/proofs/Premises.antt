@@ -4,7 +4,7 @@ use Rattle.tftp_packet.specs.Packet.{encode}
 use Rattle.tftp_packet.specs.Decode.{decode_bytes}
 use Rattle.tftp_packet.specs.Blocks.{block_of}
 use Rattle.tws_file.specs.Text.{File, IsText}
-use Rattle.archive_table.specs.Server.{Taken, IsMerged, empty_maps}
+use Rattle.archive_table.specs.Table.{Taken, IsMerged, empty_maps}
 use Rattle.archive_world.specs.World.{run, start, AllMerged}
 use Rattle.archive_world.specs.Headline.{HasOwnPorts}
 use Rattle.archive_world.specs.Samples.{empty_put}

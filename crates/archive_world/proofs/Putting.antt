@@ -31,7 +31,7 @@ server_says w h d among ours p reads =
 pub acked_by : (w : World) → Holds w → (d : Datagram) → Has w.net d → d.source.host ≡ server_endpoint.host → (n : ℕ) → decode_bytes d.bytes ≡ Ok (ack n) → IsOwn w d.target → AcksPut w d.target n
 acked_by w h d among ours n reads own =
     ⊎_elim
-    (λ (f : Fetches w d.source). absurd (begun_away w h d.source (get_begun w d.source f.kind f.count f.began) ours))
+    (λ (f : Fetches w d.source). absurd (begun_away w h d.source (get_begun w d.source f.rules f.count f.began) ours))
     (λ (a : ServerAcks w d.source d.target n). a.whom own)
     (server_says w h d among ours (ack n) reads)
 

@@ -13,7 +13,7 @@ use Rattle.tws_file.specs.Text.{Record, pad, set, bare, solution, File, body_of,
 use Rattle.tws_file.proofs.Readable.{readable_or_fault}
 use Rattle.tws_file.proofs.Faults.{text_without_fault}
 use Rattle.tws_file.specs.declared.file_fault.FileFault.{FileFault}
-use Rattle.tws_file.specs.Fault.{HasFault}
+use Rattle.tws_file.specs.Fault.{HasFileFault}
 
 -- ---- bytes
 
@@ -82,7 +82,7 @@ records_are_bytes (r ∷ rs) fits =
     (joined_bytes (little_bytes 4 (length (body_of r))) (body_of r) (number_bytes 4 (length (body_of r))) (body_is_bytes r fits.0))
     (records_are_bytes rs fits.1)
 
-code_is_byte : (kind : Ruleset) → ruleset_code kind < 256
+code_is_byte : (rules : Ruleset) → ruleset_code rules < 256
 code_is_byte Lynx = omega arith
 code_is_byte Ms = omega arith
 
@@ -98,7 +98,7 @@ text_is_bytes f fits =
 
 -- ---- whether bytes are a text
 
-unreadable_by : (bytes : List ℕ) → (e : FileFault) × HasFault bytes e → IsReadable bytes → ⊥
+unreadable_by : (bytes : List ℕ) → (e : FileFault) × HasFileFault bytes e → IsReadable bytes → ⊥
 unreadable_by bytes fault readable = text_without_fault bytes readable.0 fault.0 readable.1 fault.1
 
 decided : (bytes : List ℕ) → AreBytes bytes ⊎ (AreBytes bytes → ⊥) → IsReadable bytes ⊎ (IsReadable bytes → ⊥)

@@ -3,9 +3,9 @@ use Rattle.std.proofs.Common.{◌≡◌, ◌≢◌, ◌⊎◌, ℕ, ◌<◌, ◌
 use Rattle.std.proofs.lemmas.Bool.{eqb-true}
 use Rattle.tftp_packet.specs.declared.endpoint.Endpoint.{Endpoint}
 use Rattle.tws_file.specs.declared.«ruleset».Ruleset.{Ruleset}
-use Rattle.archive_table.specs.Server.{Maps, Taken}
+use Rattle.archive_table.specs.Table.{Maps, Taken}
 use Rattle.archive_client.specs.Client.{Operation, put, get, is_too_long}
-use Rattle.archive_world.specs.World.{Begun, Event, begin, Got, World, Step, server_endpoint, begins_unless, event_happens, happens, start_from, run_from, AllMerged}
+use Rattle.archive_world.specs.World.{Begun, Event, begin, Got, World, WorldStep, server_endpoint, begins_unless, event_happens, happens, start_from, run_from, AllMerged}
 use Rattle.archive_world.specs.Headline.{IsOwn, AreOver}
 use Rattle.archive_world.specs.Effects.{IsFetchedOver, FetchesNoLess, FetchesNone}
 use Rattle.archive_world.proofs.Places.{Has, Has-extends, Has-contains, Has-from_contains, at-extends, at-last, before_last, take-extends}
@@ -23,7 +23,7 @@ begins_at : (w : World) (ours : Bool) (e : Endpoint) (operation : Operation) →
 begins_at w true e operation at = inl (eqb-true _ _ at)
 begins_at w false e operation at = inr (at-last w.begun _)
 
-begin_at : (w : World) (s : Step) (e : Endpoint) (operation : Operation) → s.event ≡ begin e operation → is_too_long operation ≡ false → (e.host ≡ server_endpoint.host) ⊎ (slice_get (happens s w).begun (length w.begun) ≡ Some (record { client = e; operation = operation; taken = length w.taken }))
+begin_at : (w : World) (s : WorldStep) (e : Endpoint) (operation : Operation) → s.event ≡ begin e operation → is_too_long operation ≡ false → (e.host ≡ server_endpoint.host) ⊎ (slice_get (happens s w).begun (length w.begun) ≡ Some (record { client = e; operation = operation; taken = length w.taken }))
 begin_at w s e operation is short =
     let new : Begun = record { client = e; operation = operation; taken = length w.taken } in
     subst (λ (event : Event). (e.host ≡ server_endpoint.host) ⊎ (slice_get (event_happens event s.grant s.maps w).begun (length w.begun) ≡ Some new)) (sym is)
@@ -34,26 +34,26 @@ begin_at w s e operation is short =
 fetched_over : (w v : World) → GrowsTo w v → (g : Got) (is : IsGot w g) (own : IsOwn w g.client) → IsFetchedOver v g (is.whose own).serves.count
 fetched_over w v grows g is own =
     let s = (is.whose own).serves in
-    let text = text-grown w.taken v.taken s.count is.kind g.file grows.taken s.is_text in
+    let text = text-grown w.taken v.taken s.count is.rules g.file grows.taken s.is_text in
     record {
-      kind = is.kind;
-      began = (record { client = g.client; operation = get is.kind; taken = is.count }, Has-contains v.begun _ (get-lasts w v grows g.client is.kind is.count is.began).among, refl, refl);
+      rules = is.rules;
+      began = (record { client = g.client; operation = get is.rules; taken = is.count }, Has-contains v.begun _ (get-lasts w v grows g.client is.rules is.count is.began).among, refl, refl);
       counted = text.within;
       best = text.best;
     }
 
 -- the worlds before the begin, after it, and at the end
-module _ (w v : World) (s : Step) (h : Holds w) (k : Holds v) (grows : GrowsTo w v) (more : GrowsTo (happens s w) v) (e : Endpoint) (own : IsOwn v e) where
-  gets_later : (kind : Ruleset) → s.event ≡ begin e (get kind) → (g : Got) → Has w.got g → IsOwn w g.client → (late : Got) → Has v.got late → late.client ≡ e → (m : ℕ) × (n : ℕ) × (m ≤ n) × IsFetchedOver v g m × IsFetchedOver v late n
-  gets_later kind event g has own_then late has_late same =
+module _ (w v : World) (s : WorldStep) (h : Holds w) (k : Holds v) (grows : GrowsTo w v) (more : GrowsTo (happens s w) v) (e : Endpoint) (own : IsOwn v e) where
+  gets_later : (rules : Ruleset) → s.event ≡ begin e (get rules) → (g : Got) → Has w.got g → IsOwn w g.client → (late : Got) → Has v.got late → late.client ≡ e → (m : ℕ) × (n : ℕ) × (m ≤ n) × IsFetchedOver v g m × IsFetchedOver v late n
+  gets_later rules event g has own_then late has_late same =
       let is = h.got g has in
       let was = is.whose own_then in
       let now = k.got late has_late in
       let mine = subst (IsOwn v) (sym same) own in
       let since : now.count ≤ (now.whose mine).serves.count = (now.whose mine).since in
-      let began = subst (λ (x : Endpoint). HasGet v x now.kind now.count) same now.began in
-      let begun : (e.host ≡ server_endpoint.host) ⊎ Has v.begun (record { client = e; operation = get kind; taken = length w.taken }) = either (λ ours. ours) (Has-extends (happens s w).begun v.begun _ more.begun) (begin_counted w s e kind event) in
-      let count : length w.taken ≡ now.count = counted w v h k grows e own kind now.kind now.count begun began in
+      let began = subst (λ (x : Endpoint). HasGet v x now.rules now.count) same now.began in
+      let begun : (e.host ≡ server_endpoint.host) ⊎ Has v.begun (record { client = e; operation = get rules; taken = length w.taken }) = either (λ ours. ours) (Has-extends (happens s w).begun v.begun _ more.begun) (begin_counted w s e rules event) in
+      let count : length w.taken ≡ now.count = counted w v h k grows e own rules now.rules now.count begun began in
       let within : was.serves.count ≤ length w.taken = was.serves.is_text.within in
       (was.serves.count, (now.whose mine).serves.count, omega arith, fetched_over w v grows g is own_then, fetched_over v v (GrowsTo-same v) late now mine)
 
@@ -63,13 +63,13 @@ module _ (w v : World) (s : Step) (h : Holds w) (k : Holds v) (grows : GrowsTo w
       let own_then = own-before w v grows e own in
       let from = ((h.taken t has (λ ours. away (ap (λ (x : Endpoint). x.host) (sym same) ∙ ours))).whose (subst (IsOwn w) (sym same) own_then)).began in
       let began : HasPut w e t.file = subst (λ (x : Endpoint). HasPut w x t.file) same from in
-      let place = began.among.place in
-      let early : place < length w.begun = before_last w.begun place _ began.among.is in
+      let position = began.among.position in
+      let early : position < length w.begun = before_last w.begun position _ began.among.is in
       ⊎_elim away
       (λ new.
-      let still = at-extends w.begun v.begun grows.begun place _ began.among.is in
+      let still = at-extends w.begun v.begun grows.begun position _ began.among.is in
       let last = at-extends (happens s w).begun v.begun more.begun (length w.begun) _ new in
-      let one : place ≡ length w.begun = own.operations place (length w.begun) _ _ still last refl refl in
+      let one : position ≡ length w.begun = own.operations position (length w.begun) _ _ still last refl refl in
       omega arith)
       (begin_at w s e operation event short)
 
@@ -84,7 +84,7 @@ module _ (w v : World) (s : Step) (h : Holds w) (k : Holds v) (grows : GrowsTo w
 
 -- ---- a run
 
-module _ (texts : List (List ℕ)) (maps : Maps) (over : AreOver texts maps) (before after : List Step) (s : Step) (merged : AllMerged (before ++ s ∷ after) (start_from texts maps)) where
+module _ (texts : List (List ℕ)) (maps : Maps) (over : AreOver texts maps) (before after : List WorldStep) (s : WorldStep) (merged : AllMerged (before ++ s ∷ after) (start_from texts maps)) where
   abbrev first_world : World
   first_world = start_from texts maps
 
@@ -110,8 +110,8 @@ module _ (texts : List (List ℕ)) (maps : Maps) (over : AreOver texts maps) (be
   last_holds = run_from-holds (before ++ s ∷ after) first_world (start_from-holds texts maps over) merged
 
   pub fetches-no_less : FetchesNoLess first_world before after s
-  fetches-no_less e kind event own g among own_then late among_late same =
-      gets_later first last s first_holds last_holds grows more e own kind event g (Has-from_contains first.got g among) own_then late (Has-from_contains last.got late among_late) same
+  fetches-no_less e rules event own g among own_then late among_late same =
+      gets_later first last s first_holds last_holds grows more e own rules event g (Has-from_contains first.got g among) own_then late (Has-from_contains last.got late among_late) same
 
   pub fetches-none : FetchesNone first_world before after s
   fetches-none e file event away short own g among own_then =

@@ -8,7 +8,7 @@ use Rattle.tftp_ends.specs.declared.recv_state.RecvState.TheVariants as recv
 use Rattle.tftp_ends.specs.declared.recv_fault.RecvFault.{RecvFault}
 use Rattle.tftp_ends.specs.Ends.{Receiver, DataAnswer, TakeAnswer, receiver_data, receiver_take, dgram_of, sent_of, answer_of, IsReceiver, refusal_of}
 use Rattle.tftp_ends.proofs.Steps.{ReadsBack, KeepsReceiver, receiver_data-keeps, receiver_take-keeps, acks-reads_back}
-use Rattle.archive_table.specs.Server.{Maps, Grant, all, no_memory, unkept, memory_of, Taken, Transfer, Answer, receiving, transfer_at, sends_from, refusal_dgram, file_come, file_asked, block_answered, data_at, IsMerged}
+use Rattle.archive_table.specs.Table.{Maps, Grant, all, no_memory, unkept, memory_verdict, Taken, Transfer, TableAnswer, receiving, transfer_at, sends_from, refusal_dgram, file_come, file_asked, block_answered, data_at, IsMerged}
 use Rattle.archive_world.specs.World.{World, server_endpoint, after_transfer, to_write}
 use Rattle.archive_world.specs.Headline.{IsOwn}
 use Rattle.archive_world.proofs.Places.{Has, Has-last, Extends-same, Extends-push}
@@ -23,19 +23,19 @@ use Rattle.archive_world.proofs.Taking.{Taking, taken_of, world_taken, takes-hol
 use Rattle.archive_world.proofs.Coming.{HoldsOrTaken, data-come, data-running, take-state, take-count, take-stops, take-gone, none-come, some-come}
 
 -- if a file is taken, it has made the collections
-abbrev pub Joined : World → Answer → Type 0
-Joined w a = (u : Taken) → a.told.taken ≡ Some u → IsMerged u.file w.server.maps a.server.maps
+abbrev pub MergesTaken : World → TableAnswer → Type 0
+MergesTaken w a = (u : Taken) → a.step.taken ≡ Some u → IsMerged u.file w.server.maps a.server.maps
 
 module _ (w : World) (h : Holds w) (port : ℕ) (t : Transfer) (is : transfer_at port w.server ≡ Some t) (r : Receiver) (end : t.end ≡ receiving r) (there : IsReceivingAt w t.peer port r) (n : ℕ) (body : List ℕ) (short : length body ≤ BLOCK_SIZE) (grant : Grant) where
   -- the receiver's answer, and what is then taken out of it
   abbrev came : DataAnswer
-  came = receiver_data (memory_of grant) n body r
+  came = receiver_data (memory_verdict grant) n body r
 
   abbrev took : TakeAnswer
   took = receiver_take came.receiver
 
   keeps : KeepsReceiver r came.receiver (sent_of came.result)
-  keeps = receiver_data-keeps (memory_of grant) n body r short
+  keeps = receiver_data-keeps (memory_verdict grant) n body r short
 
   bounds : IsReceiver came.receiver
   bounds = keeps.fits there.bounds
@@ -64,7 +64,7 @@ module _ (w : World) (h : Holds w) (port : ℕ) (t : Transfer) (is : transfer_at
 
   onward : IsRunning (receiving took.receiver) → IsRunning t.end
   onward running =
-      subst IsRunning (sym end) (data-running (memory_of grant) n body r (sym (take-state came.receiver) ∙ running))
+      subst IsRunning (sym end) (data-running (memory_verdict grant) n body r (sym (take-state came.receiver) ∙ running))
 
   goes_on : (whose : IsOwn w t.peer → ReceivesPut w t.peer took.receiver) → (out : Option Packet) → came.result ≡ Ok out → Holds (after_transfer (file_asked None grant w.server.maps port t.peer took.receiver (dgram_of out) w.server) w)
   goes_on whose out e =
@@ -143,7 +143,7 @@ module _ (w : World) (h : Holds w) (port : ℕ) (t : Transfer) (is : transfer_at
           best = best-taken w.taken (taken_of t file) w.server.maps maps h.best merged;
         }
 
-    file_grant : (g : Grant) → IsBound w t.peer port → (IsOwn w t.peer → IsGiven) → Joined w (file_come g maps port t.peer file took.receiver (dgram_of out) w.server) → Holds (after_transfer (file_come g maps port t.peer file took.receiver (dgram_of out) w.server) w)
+    file_grant : (g : Grant) → IsBound w t.peer port → (IsOwn w t.peer → IsGiven) → MergesTaken w (file_come g maps port t.peer file took.receiver (dgram_of out) w.server) → Holds (after_transfer (file_come g maps port t.peer file took.receiver (dgram_of out) w.server) w)
     file_grant all bound whose joined =
         takes-holds w h maps port t file took.receiver (sends_from port t.peer (dgram_of out)) (taking bound (joined (taken_of t file) refl) whose)
     file_grant no_memory bound whose joined =
@@ -154,26 +154,26 @@ module _ (w : World) (h : Holds w) (port : ℕ) (t : Transfer) (is : transfer_at
   -- ---- the step
 
   -- what arrives is from the peer, a block of its put
-  module _ (maps : Maps) (bound : IsBound w t.peer port) (heard : IsOwn w t.peer → PutsBlock w t.peer n body) where
+  module _ (maps : Maps) (bound : IsBound w t.peer port) (received : IsOwn w t.peer → PutsBlock w t.peer n body) where
     abbrev Held : Type 0
     Held = (p : ReceivesPut w t.peer r) × HoldsOrTaken w t.peer p.file r came.receiver
 
     held : IsOwn w t.peer → Held
     held own =
         let p = there.whose own in
-        let puts = heard own in
+        let puts = received own in
         let same = one_put w t.peer own puts.file p.file puts.began p.began in
-        (p, data-come w t.peer p.file r (memory_of grant) n body (puts.is_block ∙ ap (λ (f : List ℕ). block_of f n) same) p.come)
+        (p, data-come w t.peer p.file r (memory_verdict grant) n body (puts.is_block ∙ ap (λ (f : List ℕ). block_of f n) same) p.come)
 
-    file_found : (found : Option (List ℕ)) → took.file ≡ found → (out : Option Packet) → came.result ≡ Ok out → Joined w (file_asked found grant maps port t.peer took.receiver (dgram_of out) w.server) → Holds (after_transfer (file_asked found grant maps port t.peer took.receiver (dgram_of out) w.server) w)
+    file_found : (found : Option (List ℕ)) → took.file ≡ found → (out : Option Packet) → came.result ≡ Ok out → MergesTaken w (file_asked found grant maps port t.peer took.receiver (dgram_of out) w.server) → Holds (after_transfer (file_asked found grant maps port t.peer took.receiver (dgram_of out) w.server) w)
     file_found None none out e joined = goes_on (λ own. let x = held own in put_goes_on x.0 x.1 none) out e
     file_found (Some file) given out e joined =
         file_grant file given maps out e grant bound (λ own. let x = held own in given_put file given maps out e x.0 x.1) joined
 
-    block_in : (result : Result (Option Packet) RecvFault) → came.result ≡ result → Joined w (block_answered (answer_of result) grant maps port t.peer came.receiver w.server) → Holds (after_transfer (block_answered (answer_of result) grant maps port t.peer came.receiver w.server) w)
+    block_in : (result : Result (Option Packet) RecvFault) → came.result ≡ result → MergesTaken w (block_answered (answer_of result) grant maps port t.peer came.receiver w.server) → Holds (after_transfer (block_answered (answer_of result) grant maps port t.peer came.receiver w.server) w)
     block_in (Ok out) e joined = file_found took.file refl out e joined
     block_in (Err fault) e joined =
         closes-holds w h port t.peer (Some (refusal_dgram (refusal_of fault))) (honest_refusal w (from_port port) t.peer (refusal_of fault))
 
-    pub data-holds : Joined w (data_at (receiving r) grant maps port t.peer n body w.server) → Holds (after_transfer (data_at (receiving r) grant maps port t.peer n body w.server) w)
+    pub data-holds : MergesTaken w (data_at (receiving r) grant maps port t.peer n body w.server) → Holds (after_transfer (data_at (receiving r) grant maps port t.peer n body w.server) w)
     data-holds joined = block_in came.result refl joined

@@ -13,34 +13,34 @@ use Rattle.archive_world.specs.declared.event_fault.EventFault.{EventFault}
 use Rattle.archive_world.specs.declared.event_fault.EventFault.TheVariants as fault
 use Rattle.archive_world.specs.declared.world_fault.WorldFault.{WorldFault}
 use Rattle.archive_world.specs.declared.world_fault.WorldFault.TheVariants as world
-use Rattle.archive_world.specs.World.{Event, restart, Step, World, start, happens, run_from, run, HasMerged, MayHappen}
+use Rattle.archive_world.specs.World.{Event, restart, WorldStep, World, start, happens, run_from, run, HasMerged, MayHappen}
 use Rattle.archive_world.specs.Headline.{HasOwnPorts, Headline}
 use Rattle.archive_world.specs.Restarts.{EventKeeps, RunKeeps, IsOutside}
 use Rattle.archive_world.specs.View.{event_of, events_of}
 use Rattle.archive_world.specs.Outcomes.{Outcome, outcome_of}
 use Rattle.archive_world.specs.Replays.{HaveKept, IsDue, AllDue, HasHappened, Makes, IsReady, HasRun, IsBadAt, IsReusedAt, IsNotLoadedAt, HasStopped}
-use Rattle.archive_world.specs.Exits.{KeeperHas, MakesKept, Comes, fault_of, Ends}
+use Rattle.archive_world.specs.Exits.{KeeperHas, MakesKept, Comes, world_fault_of, ReplayEnds}
 use Rattle.archive_world.proofs.Collecting.{best-collected, start-best, run_from-best}
 use Rattle.archive_world.proofs.Concluding.{run-headline}
 use Rattle.archive_world.proofs.Happening.{run-append, may-append}
 use Rattle.archive_world.proofs.Loading.{fails-outside}
 use Rattle.archive_world.proofs.Places.{Has-contains}
-use Rattle.archive_world.proofs.Persisting.{own-rules, run-kept}
+use Rattle.archive_world.proofs.Persisting.{own-ruleset, run-kept}
 use Rattle.archive_world.proofs.Reusing.{start-own}
 use Rattle.archive_world.proofs.Tracing.{merged_append}
 
 -- ---- two runs as one
 
-due_append : (xs ys : List Step) (w : World) → AllDue xs w → AllDue ys (run_from xs w) → AllDue (xs ++ ys) w
+due_append : (xs ys : List WorldStep) (w : World) → AllDue xs w → AllDue ys (run_from xs w) → AllDue (xs ++ ys) w
 due_append [] ys w first rest = rest
 due_append (x ∷ xs) ys w first rest = (first.0, due_append xs ys (happens x w) first.1 rest)
 
-keeps_append : (xs ys : List Step) (w : World) (before middle last : List Keeping) → HaveKept xs w before middle → HaveKept ys (run_from xs w) middle last → HaveKept (xs ++ ys) w before last
+keeps_append : (xs ys : List WorldStep) (w : World) (before middle last : List Keeping) → HaveKept xs w before middle → HaveKept ys (run_from xs w) middle last → HaveKept (xs ++ ys) w before last
 keeps_append [] ys w before middle last first rest = subst (λ (l : List Keeping). HaveKept ys w l last) first rest
 keeps_append (x ∷ xs) ys w before middle last first rest =
     (first.0, first.1, first.2, keeps_append xs ys (happens x w) first.0 middle last first.3 rest)
 
-run_keeps : (xs : List Step) (w : World) (before last : List Keeping) → HaveKept xs w before last → RunKeeps xs w before last
+run_keeps : (xs : List WorldStep) (w : World) (before last : List Keeping) → HaveKept xs w before last → RunKeeps xs w before last
 run_keeps [] w before last keeps = keeps
 run_keeps (x ∷ xs) w before last keeps =
     (keeps.0, keeps.1, run_keeps xs (happens x w) keeps.0 last keeps.3)
@@ -50,8 +50,8 @@ some_same x y is = cc
 
 -- ---- what has happened
 
-pub happened-start : (told : Option (List Keeping)) (w : World) → w ≡ start → HasHappened [] told told w
-happened-start told w is =
+pub happened-start : (reported : Option (List Keeping)) (w : World) → w ≡ start → HasHappened [] reported reported w
+happened-start reported w is =
     record {
       steps = [];
       events_are = refl;
@@ -60,33 +60,33 @@ happened-start told w is =
       own = subst HasOwnPorts (sym is) start-own;
       merged = tt;
       due = tt;
-      keeps = λ before tells. (before, tells, refl);
+      keeps = λ before reports. (before, reports, refl);
     }
 
-happened_kept : (events : List Event) (told now : Option (List Keeping)) (w : World) → told ≡ Some [] → HasHappened events told now w → KeeperHas now w
-happened_kept events told now w none h =
+happened_kept : (events : List Event) (reported now : Option (List Keeping)) (w : World) → reported ≡ Some [] → HasHappened events reported now w → KeeperHas now w
+happened_kept events reported now w none h =
     let best = run_from-best h.steps start h.merged start-best in
     let has = h.keeps [] none in
     let there : KeeperHas now (run h.steps) = record {
       log = has.0;
-      tells = has.1;
+      reports = has.1;
       kept = (run-kept h.steps has.0 h.merged (run_keeps h.steps start [] has.0 has.2)).0;
-      rules = own-rules _ _ best;
+      rules = own-ruleset _ _ best;
       lynx = best-collected Lynx _ (run h.steps).server.maps.lynx best.lynx;
       ms = best-collected Ms _ (run h.steps).server.maps.ms best.ms;
     } in
     subst (KeeperHas now) (sym h.is) there
 
-happened_headline : (events : List Event) (told now : Option (List Keeping)) (w : World) → HasHappened events told now w → Headline w
-happened_headline events told now w h =
+happened_headline : (events : List Event) (reported now : Option (List Keeping)) (w : World) → HasHappened events reported now w → Headline w
+happened_headline events reported now w h =
     subst Headline (sym h.is) (run-headline h.steps (subst HasOwnPorts h.is h.own) h.merged)
 
 -- one more
-module _ (events : List Event) (e : Event) (told now after : Option (List Keeping)) (w v : World) (h : HasHappened events told now w) (m : Makes e now after w v) where
-  abbrev step : Step
+module _ (events : List Event) (e : Event) (reported now after : Option (List Keeping)) (w v : World) (h : HasHappened events reported now w) (m : Makes e now after w v) where
+  abbrev step : WorldStep
   step = record { event = e; grant = m.grant; maps = m.maps }
 
-  abbrev steps : List Step
+  abbrev steps : List WorldStep
   steps = h.steps ++ step ∷ []
 
   run_more : v ≡ run steps
@@ -97,18 +97,18 @@ module _ (events : List Event) (e : Event) (told now after : Option (List Keepin
       subst (λ (x : World). EventKeeps e m.grant x (happens step x) first last) h.is
       (subst (λ (y : World). EventKeeps e m.grant w y first last) m.is keeps)
 
-  keeps_more : (before : List Keeping) → told ≡ Some before → (log : List Keeping) × (after ≡ Some log) × HaveKept steps start before log
-  keeps_more before tells =
-      let has = h.keeps before tells in
+  keeps_more : (before : List Keeping) → reported ≡ Some before → (log : List Keeping) × (after ≡ Some log) × HaveKept steps start before log
+  keeps_more before reports =
+      let has = h.keeps before reports in
       let then = m.keeps has.0 has.1 in
       let stays : e ≡ restart → then.0 ≡ has.0 = λ is. some_same then.0 has.0 (sym then.1 ∙ m.stays is ∙ has.1) in
       (then.0, then.1, keeps_append h.steps (step ∷ []) start before has.0 then.0 has.2 (then.0, keeps_last has.0 then.0 then.2, stays, refl))
 
-  happened_more : HasHappened (events ++ e ∷ []) told after v
+  happened_more : HasHappened (events ++ e ∷ []) reported after v
   happened_more =
       record {
         steps = steps;
-        events_are = map_push (λ (s : Step). s.event) h.steps step ∙ ap (λ (es : List Event). es ++ e ∷ []) h.events_are;
+        events_are = map_push (λ (s : WorldStep). s.event) h.steps step ∙ ap (λ (es : List Event). es ++ e ∷ []) h.events_are;
         is = run_more;
         may = may-append h.steps (step ∷ []) start h.may (subst (MayHappen e) h.is m.may, tt);
         own = m.own h.own;
@@ -132,28 +132,28 @@ module _ {A : Type 0} (es : List (events.Event A)) (i : ℕ) (x : events.Event A
       slice_get-map event_of es i
       ∙ ap (option_map event_of) (slice_get-get_or es i x within ∙ ap (λ (y : events.Event A). Some y) (sym at))
 
-  first_are : (n : ℕ) (told now : Option (List Keeping)) (w : World) → HasHappened (events_of (take n es)) told now w → HasHappened (take n (events_of es)) told now w
-  first_are n told now w h = subst (λ (l : List Event). HasHappened l told now w) (sym (take-map event_of n es)) h
+  first_are : (n : ℕ) (reported now : Option (List Keeping)) (w : World) → HasHappened (events_of (take n es)) reported now w → HasHappened (take n (events_of es)) reported now w
+  first_are n reported now w h = subst (λ (l : List Event). HasHappened l reported now w) (sym (take-map event_of n es)) h
 
-  module _ (told now after : Option (List Keeping)) (w v : World) (ready : IsReady told (events_of es)) (so_far : HasHappened (events_of (take i es)) told now w) where
-    none_told : e ≡ restart → told ≡ Some []
-    none_told is =
-        ready (Has-contains (events_of es) restart (record { place = i; is = there_is ∙ ap (λ (x : Event). Some x) is }))
+  module _ (reported now after : Option (List Keeping)) (w v : World) (ready : IsReady reported (events_of es)) (so_far : HasHappened (events_of (take i es)) reported now w) where
+    none_reported : e ≡ restart → reported ≡ Some []
+    none_reported is =
+        ready (Has-contains (events_of es) restart (record { position = i; is = there_is ∙ ap (λ (x : Event). Some x) is }))
 
-    made_more : (u : World) → MakesKept e now after w u → HasHappened (events_of (take (i + 1) es)) told after u
+    made_more : (u : World) → MakesKept e now after w u → HasHappened (events_of (take (i + 1) es)) reported after u
     made_more u makes =
-        subst (λ (l : List Event). HasHappened l told after u) (sym more_is)
-        (happened_more (events_of (take i es)) e told now after w u so_far (makes (λ is. happened_kept (events_of (take i es)) told now w (none_told is) so_far)))
+        subst (λ (l : List Event). HasHappened l reported after u) (sym more_is)
+        (happened_more (events_of (take i es)) e reported now after w u so_far (makes (λ is. happened_kept (events_of (take i es)) reported now w (none_reported is) so_far)))
 
-    one_more : Comes (Ok tt) e now after w v → HasHappened (events_of (take (i + 1) es)) told after v
+    one_more : Comes (Ok tt) e now after w v → HasHappened (events_of (take (i + 1) es)) reported after v
     one_more comes = made_more v comes.1
 
     -- what had happened before it, if the keeper has what it had
-    so_before : after ≡ now → HasHappened (take i (events_of es)) told after w
+    so_before : after ≡ now → HasHappened (take i (events_of es)) reported after w
     so_before same =
-        first_are i told after w (subst (λ (o : Option (List Keeping)). HasHappened (events_of (take i es)) told o w) (sym same) so_far)
+        first_are i reported after w (subst (λ (o : Option (List Keeping)). HasHappened (events_of (take i es)) reported o w) (sym same) so_far)
 
-    stopped_by : (after ≡ now) ⊎ ((u : World) × MakesKept e now after w u) → HasStopped (events_of es) told after
+    stopped_by : (after ≡ now) ⊎ ((u : World) × MakesKept e now after w u) → HasStopped (events_of es) reported after
     stopped_by (inl same) =
         record {
           count = i;
@@ -166,16 +166,16 @@ module _ {A : Type 0} (es : List (events.Event A)) (i : ℕ) (x : events.Event A
           count = i + 1;
           within = omega (arith, length-map es event_of);
           world = made.0;
-          happened = first_are (i + 1) told after made.0 (made_more made.0 made.1);
+          happened = first_are (i + 1) reported after made.0 (made_more made.0 made.1);
         }
 
     -- what is kept is readable, so a failed load has another cause
     fails_outside : e ≡ restart → (f : LoadFault) → TableFails now f → IsOutside f
     fails_outside is f fails =
-        let k : KeeperHas now w = happened_kept (events_of (take i es)) told now w (none_told is) so_far in
-        fails-outside k.log w.server.maps k.rules k.kept k.lynx k.ms f (subst (λ (o : Option (List Keeping)). TableFails o f) k.tells fails)
+        let k : KeeperHas now w = happened_kept (events_of (take i es)) reported now w (none_reported is) so_far in
+        fails-outside k.log w.server.maps k.rules k.kept k.lynx k.ms f (subst (λ (o : Option (List Keeping)). TableFails o f) k.reports fails)
 
-    fails_at : (f : EventFault) → Comes (Err f) e now after w v → Ends (Err (fault_of f i)) (events_of es) told after v
+    fails_at : (f : EventFault) → Comes (Err f) e now after w v → ReplayEnds (Err (world_fault_of f i)) (events_of es) reported after v
     fails_at fault.Bad comes =
         record {
           event = e;
@@ -203,42 +203,42 @@ module _ {A : Type 0} (es : List (events.Event A)) (i : ℕ) (x : events.Event A
 
 -- ---- a loop over a list
 
-module _ {A : Type 0} (es : List (events.Event A)) (i : ℕ) (x : events.Event A) (within : i < length es) (at : x ≡ get_or es i x) (told now after : Option (List Keeping)) (w v : World) (so_far : IsReady told (events_of es) → HasHappened (events_of (take i es)) told now w) where
-  pub one-more : Comes (Ok tt) (event_of x) now after w v → IsReady told (events_of es) → HasHappened (events_of (take (i + 1) es)) told after v
-  one-more comes ready = one_more es i x within at told now after w v ready (so_far ready) comes
+module _ {A : Type 0} (es : List (events.Event A)) (i : ℕ) (x : events.Event A) (within : i < length es) (at : x ≡ get_or es i x) (reported now after : Option (List Keeping)) (w v : World) (so_far : IsReady reported (events_of es) → HasHappened (events_of (take i es)) reported now w) where
+  pub one-more : Comes (Ok tt) (event_of x) now after w v → IsReady reported (events_of es) → HasHappened (events_of (take (i + 1) es)) reported after v
+  one-more comes ready = one_more es i x within at reported now after w v ready (so_far ready) comes
 
-  pub ends-at : (r : WorldFault) (f : EventFault) → r ≡ fault_of f i → Comes (Err f) (event_of x) now after w v → IsReady told (events_of es) → Ends (Err r) (events_of es) told after v
+  pub ends-at : (r : WorldFault) (f : EventFault) → r ≡ world_fault_of f i → Comes (Err f) (event_of x) now after w v → IsReady reported (events_of es) → ReplayEnds (Err r) (events_of es) reported after v
   ends-at r f is comes ready =
-      subst (λ (y : WorldFault). Ends (Err y) (events_of es) told after v) (sym is)
-      (fails_at es i x within at told now after w v ready (so_far ready) f comes)
+      subst (λ (y : WorldFault). ReplayEnds (Err y) (events_of es) reported after v) (sym is)
+      (fails_at es i x within at reported now after w v ready (so_far ready) f comes)
 
 -- ---- the end of a replay
 
-module _ (events : List Event) (told now : Option (List Keeping)) (v : World) where
-  pub ran-to : (o : Outcome) → o ≡ outcome_of v → HasHappened events told now v → HasRun events told now o
-  ran-to o is h = record { world = v; happened = h; is = is; headline = happened_headline events told now v h }
+module _ (events : List Event) (reported now : Option (List Keeping)) (v : World) where
+  pub ran-to : (o : Outcome) → o ≡ outcome_of v → HasHappened events reported now v → HasRun events reported now o
+  ran-to o is h = record { world = v; happened = h; is = is; headline = happened_headline events reported now v h }
 
-  pub stopped-after : take (length events) events ≡ events → HasHappened events told now v → HasStopped events told now
+  pub stopped-after : take (length events) events ≡ events → HasHappened events reported now v → HasStopped events reported now
   stopped-after all h =
       record {
         count = length events;
         within = omega arith;
         world = v;
-        happened = subst (λ (es : List Event). HasHappened es told now v) (sym all) h;
+        happened = subst (λ (es : List Event). HasHappened es reported now v) (sym all) h;
       }
 
-  module _ (f : WorldFault) (ends : IsReady told events → Ends (Err f) events told now v) where
-    ends_by : (g : WorldFault) → f ≡ g → IsReady told events → Ends (Err g) events told now v
-    ends_by g is ready = subst (λ (x : WorldFault). Ends (Err x) events told now v) is (ends ready)
+  module _ (f : WorldFault) (ends : IsReady reported events → ReplayEnds (Err f) events reported now v) where
+    ends_by : (g : WorldFault) → f ≡ g → IsReady reported events → ReplayEnds (Err g) events reported now v
+    ends_by g is ready = subst (λ (x : WorldFault). ReplayEnds (Err x) events reported now v) is (ends ready)
 
-    pub bad-by : (i : ℕ) → f ≡ world.BadEvent i → IsReady told events → IsBadAt events told now i
+    pub bad-by : (i : ℕ) → f ≡ world.BadEvent i → IsReady reported events → IsBadAt events reported now i
     bad-by i is ready = ends_by (world.BadEvent i) is ready
 
-    pub reused-by : (i : ℕ) → f ≡ world.PortReused i → IsReady told events → IsReusedAt events told now i
+    pub reused-by : (i : ℕ) → f ≡ world.PortReused i → IsReady reported events → IsReusedAt events reported now i
     reused-by i is ready = ends_by (world.PortReused i) is ready
 
-    pub not_loaded-by : (i : ℕ) → f ≡ world.NotLoaded i → IsReady told events → IsNotLoadedAt events told now i
+    pub not_loaded-by : (i : ℕ) → f ≡ world.NotLoaded i → IsReady reported events → IsNotLoadedAt events reported now i
     not_loaded-by i is ready = ends_by (world.NotLoaded i) is ready
 
-    pub stopped-by : f ≡ world.Memory → IsReady told events → HasStopped events told now
+    pub stopped-by : f ≡ world.Memory → IsReady reported events → HasStopped events reported now
     stopped-by is ready = ends_by world.Memory is ready

@@ -10,8 +10,8 @@ use Rattle.tftp_ends.specs.Ends.{Verdict, granted, refused, sender_start, data_p
 use Rattle.tftp_ends.proofs.Steps.{IsReceiver-start, ack-reads_back}
 use Rattle.tws_file.specs.declared.«ruleset».Ruleset.{Ruleset}
 use Rattle.tws_best.specs.Best.{collection_text}
-use Rattle.archive_table.specs.Server.{sending, receiving, transfer_at, map_of, has_place, read_opens, read_fits, read_placed, read_named, read_asked, write_opens, write_placed, write_asked, request_packet, request_decoded, server_request, has_long_text}
-use Rattle.tws_file.specs.Names.{kind_named}
+use Rattle.archive_table.specs.Table.{sending, receiving, transfer_at, map_of, has_slot, read_opens, read_fits, read_with_slot, read_named, read_asked, write_opens, write_with_slot, write_asked, request_by_packet, request_decoded, table_request, has_long_text}
+use Rattle.tws_file.specs.Names.{ruleset_named}
 use Rattle.archive_world.specs.World.{Datagram, World, to_write, to_read, after_request, asked_named, asked_packet, asked_decoded, asked_of}
 use Rattle.archive_world.specs.Headline.{IsOwn}
 use Rattle.archive_world.proofs.Places.{Has, Has-last}
@@ -25,30 +25,30 @@ use Rattle.archive_world.proofs.Openings.{opened, grows, IsFine, opened-holds, r
 module _ (w : World) (h : Holds w) (d : Datagram) (among : Has w.net d) (spare : ℕ) (free : transfer_at spare w.server ≡ None) where
   -- ---- a request to read
 
-  read_memory : (verdict : Verdict) (kind : Ruleset) (name : List ℕ) → kind_named name ≡ Some kind → IsStranger w d.source ⊎ AsksToRead w d.source name → length (collection_text (map_of kind w.server.maps)) ≤ MAX_FILE → Holds (after_request d.source spare (to_read kind) (read_opens verdict spare d.source (map_of kind w.server.maps) w.server) w)
-  read_memory granted kind name is whose short =
-      let file = collection_text (map_of kind w.server.maps) in
-      opened-holds w h spare free d.source (to_read kind) (sending (sender_start file)) (encode (data_packet file 1))
-      (read_fine w h d among granted spare free kind short name is whose)
-  read_memory refused kind name is whose short = refuses-holds w h d among spare (to_read kind) OutOfMemory
+  read_memory : (verdict : Verdict) (rules : Ruleset) (name : List ℕ) → ruleset_named name ≡ Some rules → IsStranger w d.source ⊎ AsksToRead w d.source name → length (collection_text (map_of rules w.server.maps)) ≤ MAX_FILE → Holds (after_request d.source spare (to_read rules) (read_opens verdict spare d.source (map_of rules w.server.maps) w.server) w)
+  read_memory granted rules name is whose short =
+      let file = collection_text (map_of rules w.server.maps) in
+      opened-holds w h spare free d.source (to_read rules) (sending (sender_start file)) (encode (data_packet file 1))
+      (read_fine w h d among granted spare free rules short name is whose)
+  read_memory refused rules name is whose short = refuses-holds w h d among spare (to_read rules) OutOfMemory
 
-  read_size : (long : Bool) → (verdict : Verdict) (kind : Ruleset) (name : List ℕ) → kind_named name ≡ Some kind → IsStranger w d.source ⊎ AsksToRead w d.source name → has_long_text (map_of kind w.server.maps) ≡ long → Holds (after_request d.source spare (to_read kind) (read_fits long verdict spare d.source (map_of kind w.server.maps) w.server) w)
-  read_size true verdict kind name is whose size = refuses-holds w h d among spare (to_read kind) CollectionTooLong
-  read_size false verdict kind name is whose size =
-      read_memory verdict kind name is whose (ltb-false MAX_FILE (length (collection_text (map_of kind w.server.maps))) size)
+  read_size : (long : Bool) → (verdict : Verdict) (rules : Ruleset) (name : List ℕ) → ruleset_named name ≡ Some rules → IsStranger w d.source ⊎ AsksToRead w d.source name → has_long_text (map_of rules w.server.maps) ≡ long → Holds (after_request d.source spare (to_read rules) (read_fits long verdict spare d.source (map_of rules w.server.maps) w.server) w)
+  read_size true verdict rules name is whose size = refuses-holds w h d among spare (to_read rules) CollectionTooLong
+  read_size false verdict rules name is whose size =
+      read_memory verdict rules name is whose (ltb-false MAX_FILE (length (collection_text (map_of rules w.server.maps))) size)
 
-  read_place : (place : Bool) → (verdict : Verdict) (kind : Ruleset) (name : List ℕ) → kind_named name ≡ Some kind → IsStranger w d.source ⊎ AsksToRead w d.source name → Holds (after_request d.source spare (to_read kind) (read_placed place verdict spare d.source (map_of kind w.server.maps) w.server) w)
-  read_place true verdict kind name is whose =
-      read_size (has_long_text (map_of kind w.server.maps)) verdict kind name is whose refl
-  read_place false verdict kind name is whose = refuses-holds w h d among spare (to_read kind) ServerBusy
+  read_place : (position : Bool) → (verdict : Verdict) (rules : Ruleset) (name : List ℕ) → ruleset_named name ≡ Some rules → IsStranger w d.source ⊎ AsksToRead w d.source name → Holds (after_request d.source spare (to_read rules) (read_with_slot position verdict spare d.source (map_of rules w.server.maps) w.server) w)
+  read_place true verdict rules name is whose =
+      read_size (has_long_text (map_of rules w.server.maps)) verdict rules name is whose refl
+  read_place false verdict rules name is whose = refuses-holds w h d among spare (to_read rules) ServerBusy
 
-  read_name : (found : Option Ruleset) → (verdict : Verdict) (name : List ℕ) → kind_named name ≡ found → IsStranger w d.source ⊎ AsksToRead w d.source name → Holds (after_request d.source spare (asked_named found) (read_named found verdict spare d.source w.server) w)
-  read_name (Some kind) verdict name is whose = read_place (has_place w.server) verdict kind name is whose
+  read_name : (found : Option Ruleset) → (verdict : Verdict) (name : List ℕ) → ruleset_named name ≡ found → IsStranger w d.source ⊎ AsksToRead w d.source name → Holds (after_request d.source spare (asked_named found) (read_named found verdict spare d.source w.server) w)
+  read_name (Some rules) verdict name is whose = read_place (has_slot w.server) verdict rules name is whose
   read_name None verdict name is whose = refuses-holds w h d among spare to_write NoSuchFile
 
-  read_mode : (octet : Bool) → (verdict : Verdict) (name : List ℕ) → IsStranger w d.source ⊎ AsksToRead w d.source name → Holds (after_request d.source spare (asked_named (kind_named name)) (read_asked octet verdict spare d.source name w.server) w)
-  read_mode true verdict name whose = read_name (kind_named name) verdict name refl whose
-  read_mode false verdict name whose = refuses-holds w h d among spare (asked_named (kind_named name)) OctetOnly
+  read_mode : (octet : Bool) → (verdict : Verdict) (name : List ℕ) → IsStranger w d.source ⊎ AsksToRead w d.source name → Holds (after_request d.source spare (asked_named (ruleset_named name)) (read_asked octet verdict spare d.source name w.server) w)
+  read_mode true verdict name whose = read_name (ruleset_named name) verdict name refl whose
+  read_mode false verdict name whose = refuses-holds w h d among spare (asked_named (ruleset_named name)) OctetOnly
 
   -- ---- a request to write
 
@@ -91,17 +91,17 @@ module _ (w : World) (h : Holds w) (d : Datagram) (among : Has w.net d) (spare :
       opened-holds w h spare free d.source to_write (receiving receiver_start) (encode (ack 0)) (write_fine whose)
   write_memory refused whose = refuses-holds w h d among spare to_write OutOfMemory
 
-  write_place : (place : Bool) → (verdict : Verdict) → IsStranger w d.source ⊎ AsksToWrite w d.source → Holds (after_request d.source spare to_write (write_placed place verdict spare d.source w.server) w)
+  write_place : (position : Bool) → (verdict : Verdict) → IsStranger w d.source ⊎ AsksToWrite w d.source → Holds (after_request d.source spare to_write (write_with_slot position verdict spare d.source w.server) w)
   write_place true verdict whose = write_memory verdict whose
   write_place false verdict whose = refuses-holds w h d among spare to_write ServerBusy
 
   write_mode : (octet : Bool) → (verdict : Verdict) → IsStranger w d.source ⊎ AsksToWrite w d.source → Holds (after_request d.source spare to_write (write_asked octet verdict spare d.source w.server) w)
-  write_mode true verdict whose = write_place (has_place w.server) verdict whose
+  write_mode true verdict whose = write_place (has_slot w.server) verdict whose
   write_mode false verdict whose = refuses-holds w h d among spare to_write OctetOnly
 
   -- ---- a datagram
 
-  packet_asks : (verdict : Verdict) (p : Packet) → decode_bytes d.bytes ≡ Ok p → Holds (after_request d.source spare (asked_packet p) (request_packet verdict spare d.source p w.server) w)
+  packet_asks : (verdict : Verdict) (p : Packet) → decode_bytes d.bytes ≡ Ok p → Holds (after_request d.source spare (asked_packet p) (request_by_packet verdict spare d.source p w.server) w)
   packet_asks verdict (read name mode) is = read_mode (is_octet mode) verdict name (reads w h d among name mode is)
   packet_asks verdict (write name mode) is = write_mode (is_octet mode) verdict (writes w h d among name mode is)
   packet_asks verdict (data_block n body) is = h
@@ -112,5 +112,5 @@ module _ (w : World) (h : Holds w) (d : Datagram) (among : Has w.net d) (spare :
   decoded_asks verdict (Ok p) is = packet_asks verdict p is
   decoded_asks verdict (Err e) is = h
 
-  pub request-holds : (verdict : Verdict) → Holds (after_request d.source spare (asked_of d.bytes) (server_request verdict spare d.source d.bytes w.server) w)
+  pub request-holds : (verdict : Verdict) → Holds (after_request d.source spare (asked_of d.bytes) (table_request verdict spare d.source d.bytes w.server) w)
   request-holds verdict = decoded_asks verdict (decode_bytes d.bytes) refl

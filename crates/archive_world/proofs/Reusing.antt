@@ -3,7 +3,7 @@ use Rattle.std.proofs.lemmas.Bool.{and_parts}
 use Rattle.std.proofs.Common.{◌≡◌, ℕ, zero, suc, ◌<◌, Bool, true, false, ◌==◌, ◌&&◌, cond, List, [], ◌∷◌, ◌++◌, length, slice_get, Contains, Some, refl, ap, sym, ◌∙◌, inl, inr, ⊎_elim, arith}
 use Rattle.std.proofs.lemmas.Bool.{eqb-true, eq-eqb}
 use Rattle.tftp_packet.specs.declared.endpoint.Endpoint.{Endpoint}
-use Rattle.archive_table.specs.Server.{is_same}
+use Rattle.archive_table.specs.Table.{is_same}
 use Rattle.archive_client.specs.Client.{Operation}
 use Rattle.archive_world.specs.World.{Datagram, Begun, Opening, World, start, has_begun, begins, strays_in}
 use Rattle.archive_world.specs.Headline.{OwnPorts, HasOwnPorts, HasOperation}
@@ -102,7 +102,7 @@ module _ (w : World) (own : HasOwnPorts w) where
         (λ (old : Has w.begun c.0). own.strangers d among (c.0, Has-contains w.begun c.0 old, c.2))
         (λ (new : c.0 ≡ began).
         let has = Has-from_contains w.strays d among in
-        strayed_none e w.strays has.place d unused.unstrayed has.is (sym (ap (λ (b : Begun). b.client) new) ∙ c.2))
+        strayed_none e w.strays has.position d unused.unstrayed has.is (sym (ap (λ (b : Begun). b.client) new) ∙ c.2))
         (Has-push w.begun began c.0 (Has-from_contains (w.begun ++ began ∷ []) c.0 c.1))
 
     begin_own : IsUnused e w → HasOwnPorts (begins e operation w)
@@ -117,11 +117,11 @@ module _ (w : World) (own : HasOwnPorts w) where
     begin_unused later =
         record {
           unbegun = begun_any e w.begun ∙ all_fail (λ (x : Begun). is_same e x.client) w.begun (λ i b is passes.
-              let place : i < length w.begun = before_last w.begun i b is in
+              let position : i < length w.begun = before_last w.begun i b is in
               let same : i ≡ length w.begun = later.operations i (length w.begun) b began (at-append w.begun (began ∷ []) i b is) (at-last w.begun began) (sym (exact_endpoint e b.client passes)) in
               omega arith);
           unstrayed = strayed_any e w.strays ∙ all_fail (λ (x : Datagram). is_same e x.source) w.strays (λ i d is passes.
-              later.strangers d (Has-contains w.strays d (record { place = i; is = is })) (began, Has-contains (w.begun ++ began ∷ []) began (Has-last w.begun began), exact_endpoint e d.source passes));
+              later.strangers d (Has-contains w.strays d (record { position = i; is = is })) (began, Has-contains (w.begun ++ began ∷ []) began (Has-last w.begun began), exact_endpoint e d.source passes));
         }
 
     pub begin-keeps_own : BeginKeepsOwn w e operation
@@ -150,7 +150,7 @@ module _ (w : World) (own : HasOwnPorts w) where
     opening_unused later =
         opened_any o.peer o.port w.opened ∙ all_fail (is_opening_at o.peer o.port) w.opened (λ i p is passes.
         let both = and_parts (is_same o.peer p.peer) (o.port == p.port) passes in
-        let place : i < length w.opened = before_last w.opened i p is in
+        let position : i < length w.opened = before_last w.opened i p is in
         let same : i ≡ length w.opened = later.openings i (length w.opened) p o (at-append w.opened (o ∷ []) i p is) (at-last w.opened o) (sym (exact_endpoint o.peer p.peer both.0)) (sym (eqb-true o.port p.port both.1)) in
         omega arith)
 
@@ -170,14 +170,14 @@ module _ (w : World) (own : HasOwnPorts w) where
               (λ (old : Has w.strays x). own.strangers x (Has-contains w.strays x old) c)
               (λ (new : x ≡ d).
               let has = Has-from_contains w.begun c.0 c.1 in
-              begun_none d.source w.begun has.place c.0 none has.is (sym (c.2 ∙ ap (λ (y : Datagram). y.source) new)))
+              begun_none d.source w.begun has.position c.0 none has.is (sym (c.2 ∙ ap (λ (y : Datagram). y.source) new)))
               (Has-push w.strays d x (Has-from_contains (w.strays ++ d ∷ []) x among));
         }
 
     stray_unbegun : HasOwnPorts (strays_in d w) → has_begun d.source w.begun ≡ false
     stray_unbegun later =
         begun_any d.source w.begun ∙ all_fail (λ (x : Begun). is_same d.source x.client) w.begun (λ i b is passes.
-        later.strangers d (Has-contains (w.strays ++ d ∷ []) d (Has-last w.strays d)) (b, Has-contains w.begun b (record { place = i; is = is }), sym (exact_endpoint d.source b.client passes)))
+        later.strangers d (Has-contains (w.strays ++ d ∷ []) d (Has-last w.strays d)) (b, Has-contains w.begun b (record { position = i; is = is }), sym (exact_endpoint d.source b.client passes)))
 
     pub stray-keeps_own : StrayKeepsOwn w d
     stray-keeps_own = (stray_unbegun, stray_own)

@@ -7,43 +7,43 @@ use Rattle.tws_file.specs.declared.«ruleset».Ruleset.TheVariants.{Lynx}
 use Rattle.tws_file.specs.Fields.{set_key}
 use Rattle.tws_file.specs.Text.{Solution, IsSolution, File}
 use Rattle.tws_file.proofs.FileText.{one_file}
-use Rattle.tws_best.specs.Best.{Entry, Collected, IsCollected, collection_text, solutions_of, IsBestOf}
+use Rattle.tws_best.specs.Best.{KeyedBody, Collected, IsCollected, collection_text, solutions_of, IsBestOf}
 use Rattle.tws_best.specs.Choice.{best_of}
 use Rattle.tws_best.proofs.Choices.{best_of_is}
 use Rattle.tws_best.proofs.Texts.{file_from, is_text, file_solves, file_rules}
-use Rattle.archive_table.specs.Server.{Maps, IsJoined, JoinsOwn, IsMerged, empty_maps}
+use Rattle.archive_table.specs.Table.{Maps, IsFileMerge, MergesIntoOwn, IsMerged, empty_maps}
 use Rattle.archive_world.specs.Samples.{sample_file, sample_entry, sample_maps}
 
 -- ---- the text of a Lynx collection
 
 -- the best of the old entries and of these
-abbrev pub with_entries : List Entry → Maps → Maps
+abbrev pub with_entries : List KeyedBody → Maps → Maps
 with_entries entries old =
     record { lynx = record { «ruleset» = Lynx; entries = best_of (old.lynx.entries ++ entries) }; ms = old.ms }
 
-module _ (c : Collected) (fits : IsCollected c) (kind : c.ruleset ≡ Lynx) (old : Maps) (was : old.lynx.ruleset ≡ Lynx) where
+module _ (c : Collected) (fits : IsCollected c) (rules : c.ruleset ≡ Lynx) (old : Maps) (was : old.lynx.ruleset ≡ Lynx) where
   abbrev file : File
   file = file_from c fits
 
   solves : solutions_of old.lynx.ruleset (file ∷ []) ≡ c.entries
-  solves = ap (λ (k : Ruleset). solutions_of k (file ∷ [])) (was ∙ sym kind) ∙ file_solves c fits
+  solves = ap (λ (k : Ruleset). solutions_of k (file ∷ [])) (was ∙ sym rules) ∙ file_solves c fits
 
-  joined : IsJoined file old.lynx (with_entries c.entries old).lynx
+  joined : IsFileMerge file old.lynx (with_entries c.entries old).lynx
   joined =
       let entries = best_of (old.lynx.entries ++ c.entries) in
       record {
-        kind = sym was;
-        best = subst (λ (es : List Entry). IsBestOf (Contains (old.lynx.entries ++ es)) entries) (sym solves) (best_of_is (old.lynx.entries ++ c.entries));
+        rules = sym was;
+        best = subst (λ (es : List KeyedBody). IsBestOf (Contains (old.lynx.entries ++ es)) entries) (sym solves) (best_of_is (old.lynx.entries ++ c.entries));
       }
 
-  own_joined : JoinsOwn file.ruleset file old (with_entries c.entries old)
-  own_joined =
-      subst (λ (k : Ruleset). JoinsOwn k file old (with_entries c.entries old)) (sym (file_rules c fits ∙ kind)) (joined, refl)
+  own_merged : MergesIntoOwn file.ruleset file old (with_entries c.entries old)
+  own_merged =
+      subst (λ (k : Ruleset). MergesIntoOwn k file old (with_entries c.entries old)) (sym (file_rules c fits ∙ rules)) (joined, refl)
 
   text_merged : IsMerged (collection_text c) old (with_entries c.entries old)
   text_merged =
       record {
-        readable = λ f is. subst (λ (g : File). JoinsOwn g.ruleset g old (with_entries c.entries old)) (one_file (collection_text c) file f (is_text c fits) is) own_joined;
+        readable = λ f is. subst (λ (g : File). MergesIntoOwn g.ruleset g old (with_entries c.entries old)) (one_file (collection_text c) file f (is_text c fits) is) own_merged;
         unreadable = λ never. absurd (never file (is_text c fits));
       }
 

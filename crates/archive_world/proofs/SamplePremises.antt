@@ -3,7 +3,7 @@ use Rattle.std.proofs.Common.{◌≡◌, ℕ, suc, List, [], ◌∷◌, ◌++◌
 use Rattle.tftp_packet.specs.Packet.{encode}
 use Rattle.tftp_packet.specs.Decode.{decode_bytes}
 use Rattle.tftp_packet.specs.Blocks.{block_of}
-use Rattle.archive_table.specs.Server.{Maps, Taken, IsMerged}
+use Rattle.archive_table.specs.Table.{Maps, Taken, IsMerged}
 use Rattle.archive_world.specs.World.{run, start, AllMerged}
 use Rattle.archive_world.specs.Headline.{HasOwnPorts}
 use Rattle.archive_world.specs.Samples.{sample_file, sample_client, stranger, crossed_get, strange_put, restart_between, opened_again}

@@ -4,7 +4,7 @@ use Rattle.tftp_packet.specs.Packet.{encode}
 use Rattle.tftp_packet.specs.Decode.{decode_bytes}
 use Rattle.tftp_packet.specs.Blocks.{block_of}
 use Rattle.tws_file.specs.declared.«ruleset».Ruleset.TheVariants.{Lynx}
-use Rattle.archive_table.specs.Server.{Maps, Taken, Grant, all, IsMerged, empty_maps}
+use Rattle.archive_table.specs.Table.{Maps, Taken, Grant, all, IsMerged, empty_maps}
 use Rattle.archive_client.specs.Client.{Operation, put, get}
 use Rattle.archive_world.specs.World.{Begun, Event, World, to_write, start, run, run_from, event_happens, happens, HasMerged, AllMerged}
 use Rattle.archive_world.specs.Headline.{IsOwn, HasOwnPorts, ClientHeadline}
@@ -40,7 +40,7 @@ plain-merged (event ∷ events) w none are =
     let v = event_happens event all empty_maps w in
     let now : v.server.maps ≡ empty_maps = maps_after w all (λ m. event_happens event all m w) (event-takes w event all) none in
     let grows = (run-grows (plain_steps events) v).taken in
-    let here : (t : Taken) → v.taken ≡ w.taken ++ t ∷ [] → IsMerged t.file w.server.maps v.server.maps = λ t is. let has : Has v.taken t = subst (λ (ts : List Taken). Has ts t) (sym is) (Has-last w.taken t) in let last = Has-extends v.taken (run_from (plain_steps events) v).taken t grows has in let bare : t.file ≡ [] = empty_at (run_from (plain_steps events) v).taken are last.place t last.is in subst (λ (f : List ℕ). IsMerged f w.server.maps v.server.maps) (sym bare) (subst (IsMerged [] w.server.maps) (sym now) (subst (λ (m : Maps). IsMerged [] m empty_maps) (sym none) empty_merged)) in
+    let here : (t : Taken) → v.taken ≡ w.taken ++ t ∷ [] → IsMerged t.file w.server.maps v.server.maps = λ t is. let has : Has v.taken t = subst (λ (ts : List Taken). Has ts t) (sym is) (Has-last w.taken t) in let last = Has-extends v.taken (run_from (plain_steps events) v).taken t grows has in let bare : t.file ≡ [] = empty_at (run_from (plain_steps events) v).taken are last.position t last.is in subst (λ (f : List ℕ). IsMerged f w.server.maps v.server.maps) (sym bare) (subst (IsMerged [] w.server.maps) (sym now) (subst (λ (m : Maps). IsMerged [] m empty_maps) (sym none) empty_merged)) in
     (here, plain-merged events v now are)
 
 -- ---- another client reuses its endpoint
@@ -130,7 +130,7 @@ none_put : (w : World) (b : Begun) (t : Taken) → w.begun ≡ b ∷ [] → b.op
 none_put w b t only gets among mine h =
     let by = h.unchanged t among mine in
     let has = Has-from_contains w.begun by.0 by.1 in
-    let same : b ≡ by.0 = only_one b by.0 has.place (ap (λ (l : List Begun). slice_get l has.place) (sym only) ∙ has.is) in
+    let same : b ≡ by.0 = only_one b by.0 has.position (ap (λ (l : List Begun). slice_get l has.position) (sym only) ∙ has.is) in
     not_put t.file (sym gets ∙ ap (λ (x : Begun). x.operation) same ∙ by.3)
 
 abbrev one_get : Begun
@@ -148,5 +148,5 @@ strayed_there-fails =
     record {
       merged = strayed_there-merged;
       tested = refl;
-      fails = none_put (run (plain_steps strayed_there)) one_get bare_put refl refl (Has-contains (bare_put ∷ []) bare_put (record { place = 0; is = refl })) refl;
+      fails = none_put (run (plain_steps strayed_there)) one_get bare_put refl refl (Has-contains (bare_put ∷ []) bare_put (record { position = 0; is = refl })) refl;
     }

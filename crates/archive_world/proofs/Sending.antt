@@ -10,7 +10,7 @@ use Rattle.tftp_packet.specs.Decode.{decode_bytes}
 use Rattle.tftp_packet.proofs.Sent.{sent_refusal}
 use Rattle.tftp_ends.specs.Ends.{dgram_of}
 use Rattle.tftp_ends.proofs.Steps.{ReadsBack}
-use Rattle.archive_table.specs.Server.{End, Transfer, at_port, with_live, transfer_at, sends_from, refusal_dgram, replies, goes_on, closes}
+use Rattle.archive_table.specs.Table.{End, Transfer, at_port, with_live, transfer_at, sends_from, refusal_dgram, replies, goes_on, closes}
 use Rattle.archive_world.specs.World.{Datagram, World, server_endpoint, datagram_of, net_with, after_transfer}
 use Rattle.archive_world.proofs.Places.{Has, Extends, Extends-same, Extends-push, Has-push}
 use Rattle.archive_world.proofs.Keyed.{IsApart, NewOrOld, lookup-set, lookup-remove, apart-set, apart-remove}

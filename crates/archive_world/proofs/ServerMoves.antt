@@ -1,7 +1,7 @@
 -- What must be shown about a step of the server for the invariant to hold in the world after it.
 use Rattle.std.proofs.Common.{◌≡◌, ◌≢◌, ◌⊎◌, ℕ, List, Some, refl, ap, sym, ◌∙◌, ⊎_elim, le_trans}
 use Rattle.tftp_packet.specs.declared.endpoint.Endpoint.{Endpoint}
-use Rattle.archive_table.specs.Server.{Server, Taken, Transfer, at_port, transfer_at}
+use Rattle.archive_table.specs.Table.{Table, Taken, Transfer, at_port, transfer_at}
 use Rattle.archive_client.specs.Client.{Phase, Client, put, get}
 use Rattle.archive_client.specs.Client as client
 use Rattle.archive_world.specs.World.{Datagram, Opening, World, server_endpoint}
@@ -13,7 +13,7 @@ use Rattle.archive_world.proofs.Owning.{own-before, put_begun, get_begun}
 use Rattle.archive_world.proofs.Invariant.{exact_port, AreBest, TakesOnce, Holds}
 
 -- the world after a step of the server
-abbrev pub served : (net : List Datagram) (server : Server) (taken : List Taken) (opened : List Opening) → World → World
+abbrev pub served : (net : List Datagram) (server : Table) (taken : List Taken) (opened : List Opening) → World → World
 served net server taken opened w =
     record {
       net = net;
@@ -32,7 +32,7 @@ pub begun_away : (w : World) → Holds w → (e : Endpoint) → HasBegun w e →
 begun_away w h e b = λ ours. (h.begun b.begun b.among).away (ap (λ (f : Endpoint). f.host) b.client ∙ ours)
 
 -- what must be shown
-pub record Serving (w : World) (net : List Datagram) (server : Server) (taken : List Taken) (opened : List Opening) : Type 0 where
+pub record Serving (w : World) (net : List Datagram) (server : Table) (taken : List Taken) (opened : List Opening) : Type 0 where
   pub more_net : Extends w.net net
   pub more_taken : Extends w.taken taken
   pub more_opened : Extends w.opened opened
@@ -45,7 +45,7 @@ pub record Serving (w : World) (net : List Datagram) (server : Server) (taken : 
   pub once : TakesOnce (served net server taken opened w)
   pub best : AreBest taken server.maps
 
-module _ (w : World) (h : Holds w) (net : List Datagram) (server : Server) (taken : List Taken) (opened : List Opening) where
+module _ (w : World) (h : Holds w) (net : List Datagram) (server : Table) (taken : List Taken) (opened : List Opening) where
   abbrev after : World
   after = served net server taken opened w
 
@@ -63,7 +63,7 @@ module _ (w : World) (h : Holds w) (net : List Datagram) (server : Server) (take
   bound_in e (client.sending peer s) port before p may b =
       may (before (begun_away w h e (put_begun w e s.file p.began)) b)
   bound_in e (client.receiving peer r) port before p may b =
-      may (before (begun_away w h e (get_begun w e p.kind p.count p.began)) b)
+      may (before (begun_away w h e (get_begun w e p.rules p.count p.began)) b)
   bound_in e (client.failed why) port before p may b = tt
 
   pub served-holds : Serving w net server taken opened → Holds after

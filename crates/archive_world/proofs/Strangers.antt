@@ -3,10 +3,10 @@ use Rattle.std.proofs.Common.{◌≡◌, ◌≢◌, ℕ, Bool, true, false, ◌=
 use Rattle.tftp_packet.specs.declared.endpoint.Endpoint.{Endpoint}
 use Rattle.tftp_ends.specs.declared.recv_fault.RecvFault.{RecvFault}
 use Rattle.tftp_ends.specs.Ends.{answer_of, Receiver, receiver_data, receiver_take}
-use Rattle.tftp_ends.specs.Heard.{Heard, nothing, stray, refusal, acked, block}
-use Rattle.archive_table.specs.Server.{Server, Maps, Transfer, Taken, End, sending, receiving, Grant, all, no_memory, unkept, memory_of, heard, transfer_at, file_come, file_asked, block_answered, data_at, transfer_heard, datagram_at, server_datagram, empty_maps}
+use Rattle.tftp_ends.specs.Input.{Input, nothing, stray, refusal, acked, block}
+use Rattle.archive_table.specs.Table.{Table, Maps, Transfer, Taken, End, sending, receiving, Grant, all, no_memory, unkept, memory_verdict, transfer_input, transfer_at, file_come, file_asked, block_answered, data_at, transfer_by_input, datagram_at, table_datagram, empty_maps}
 use Rattle.archive_client.specs.Client.{is_too_long}
-use Rattle.archive_world.specs.World.{Datagram, Event, begin, deliver, client_times_out, server_times_out, restart, Step, World, server_endpoint, client_at, has_begun, taken_with, server_hears, arrives, delivers, event_happens, happens, run_from, run, start, AllMerged}
+use Rattle.archive_world.specs.World.{Datagram, Event, begin, deliver, client_times_out, server_times_out, restart, WorldStep, World, server_endpoint, client_at, has_begun, taken_with, server_receives, arrives, delivers, event_happens, happens, run_from, run, start, AllMerged}
 use Rattle.archive_world.specs.World as world
 use Rattle.archive_world.proofs.Places.{Has, Has-push}
 use Rattle.archive_world.proofs.Invariant.{Holds, none-over, start_from-holds}
@@ -18,7 +18,7 @@ AreFromOthers ts = (t : Taken) → Has ts t → t.peer.host ≢ server_endpoint.
 
 -- ---- a file is from the peer of the transfer that takes it
 
-come_from : (grant : Grant) (maps : Maps) (port : ℕ) (peer : Endpoint) (file : List ℕ) (r : Receiver) (out : Option (List ℕ)) (s : Server) (u : Taken) → (file_come grant maps port peer file r out s).told.taken ≡ Some u → u.peer ≡ peer
+come_from : (grant : Grant) (maps : Maps) (port : ℕ) (peer : Endpoint) (file : List ℕ) (r : Receiver) (out : Option (List ℕ)) (s : Table) (u : Taken) → (file_come grant maps port peer file r out s).step.taken ≡ Some u → u.peer ≡ peer
 come_from all maps port peer file r out s u is =
     let one : Taken = record { peer = peer; file = file } in
     let same : one ≡ u = cc in
@@ -26,30 +26,30 @@ come_from all maps port peer file r out s u is =
 come_from no_memory maps port peer file r out s u is = absurd cc
 come_from unkept maps port peer file r out s u is = absurd cc
 
-asked_from : (found : Option (List ℕ)) (grant : Grant) (maps : Maps) (port : ℕ) (peer : Endpoint) (r : Receiver) (out : Option (List ℕ)) (s : Server) (u : Taken) → (file_asked found grant maps port peer r out s).told.taken ≡ Some u → u.peer ≡ peer
+asked_from : (found : Option (List ℕ)) (grant : Grant) (maps : Maps) (port : ℕ) (peer : Endpoint) (r : Receiver) (out : Option (List ℕ)) (s : Table) (u : Taken) → (file_asked found grant maps port peer r out s).step.taken ≡ Some u → u.peer ≡ peer
 asked_from (Some file) grant maps port peer r out s u is = come_from grant maps port peer file r out s u is
 asked_from None grant maps port peer r out s u is = absurd cc
 
-block_from : (result : Result (Option (List ℕ)) RecvFault) (grant : Grant) (maps : Maps) (port : ℕ) (peer : Endpoint) (r : Receiver) (s : Server) (u : Taken) → (block_answered result grant maps port peer r s).told.taken ≡ Some u → u.peer ≡ peer
+block_from : (result : Result (Option (List ℕ)) RecvFault) (grant : Grant) (maps : Maps) (port : ℕ) (peer : Endpoint) (r : Receiver) (s : Table) (u : Taken) → (block_answered result grant maps port peer r s).step.taken ≡ Some u → u.peer ≡ peer
 block_from (Ok out) grant maps port peer r s u is =
     asked_from (receiver_take r).file grant maps port peer (receiver_take r).receiver out s u is
 block_from (Err e) grant maps port peer r s u is = absurd cc
 
-data_from : (end : End) (grant : Grant) (maps : Maps) (port : ℕ) (peer : Endpoint) (n : ℕ) (body : List ℕ) (s : Server) (u : Taken) → (data_at end grant maps port peer n body s).told.taken ≡ Some u → u.peer ≡ peer
+data_from : (end : End) (grant : Grant) (maps : Maps) (port : ℕ) (peer : Endpoint) (n : ℕ) (body : List ℕ) (s : Table) (u : Taken) → (data_at end grant maps port peer n body s).step.taken ≡ Some u → u.peer ≡ peer
 data_from (sending e) grant maps port peer n body s u is = absurd cc
 data_from (receiving r) grant maps port peer n body s u is =
-    let a = receiver_data (memory_of grant) n body r in
+    let a = receiver_data (memory_verdict grant) n body r in
     block_from (answer_of a.result) grant maps port peer a.receiver s u is
 
 none_is : (o : Option Taken) (u : Taken) (P : Type 0) → o ≡ None → o ≡ Some u → P
 none_is o u P none is = let both : None ≡ Some u = sym none ∙ is in absurd cc
 
-heard_from : (x : Heard) (grant : Grant) (maps : Maps) (port : ℕ) (from : Endpoint) (t : Transfer) (s : Server) (u : Taken) → (transfer_heard x grant maps port from t s).told.taken ≡ Some u → u.peer ≡ t.peer
-heard_from nothing grant maps port from t s u is = absurd cc
-heard_from stray grant maps port from t s u is = absurd cc
-heard_from (refusal code) grant maps port from t s u is = absurd cc
-heard_from (acked n) grant maps port from t s u is = none_is _ u (u.peer ≡ t.peer) (ack_leaves t.end port t.peer n s).0 is
-heard_from (block n body) grant maps port from t s u is = data_from t.end grant maps port t.peer n body s u is
+received_from : (x : Input) (grant : Grant) (maps : Maps) (port : ℕ) (from : Endpoint) (t : Transfer) (s : Table) (u : Taken) → (transfer_by_input x grant maps port from t s).step.taken ≡ Some u → u.peer ≡ t.peer
+received_from nothing grant maps port from t s u is = absurd cc
+received_from stray grant maps port from t s u is = absurd cc
+received_from (refusal code) grant maps port from t s u is = absurd cc
+received_from (acked n) grant maps port from t s u is = none_is _ u (u.peer ≡ t.peer) (ack_leaves t.end port t.peer n s).0 is
+received_from (block n body) grant maps port from t s u is = data_from t.end grant maps port t.peer n body s u is
 
 -- ---- a step
 
@@ -57,22 +57,22 @@ module _ (w : World) (h : Holds w) (before : AreFromOthers w.taken) where
   same_files : {ts : List Taken} → ts ≡ w.taken → AreFromOthers ts
   same_files {ts} same = subst AreFromOthers (sym same) before
 
-  with_file : (told : Option Taken) → ((u : Taken) → told ≡ Some u → u.peer.host ≢ server_endpoint.host) → AreFromOthers (taken_with told w.taken)
+  with_file : (reported : Option Taken) → ((u : Taken) → reported ≡ Some u → u.peer.host ≢ server_endpoint.host) → AreFromOthers (taken_with reported w.taken)
   with_file None new t has = before t has
   with_file (Some u) new t has =
       ⊎_elim (before t) (λ (is : t ≡ u) ours. new u refl (ap (λ (x : Taken). x.peer.host) (sym is) ∙ ours)) (Has-push w.taken u t has)
 
-  found_from : (found : Option Transfer) (grant : Grant) (maps : Maps) (port : ℕ) (from : Endpoint) (bytes : List ℕ) → transfer_at port w.server ≡ found → (u : Taken) → (datagram_at found grant maps port from bytes w.server).told.taken ≡ Some u → u.peer.host ≢ server_endpoint.host
+  found_from : (found : Option Transfer) (grant : Grant) (maps : Maps) (port : ℕ) (from : Endpoint) (bytes : List ℕ) → transfer_at port w.server ≡ found → (u : Taken) → (datagram_at found grant maps port from bytes w.server).step.taken ≡ Some u → u.peer.host ≢ server_endpoint.host
   found_from None grant maps port from bytes at u is = absurd cc
   found_from (Some t) grant maps port from bytes at u is =
-      let same = heard_from (heard t.peer from bytes) grant maps port from t w.server u is in
+      let same = received_from (transfer_input t.peer from bytes) grant maps port from t w.server u is in
       λ ours. (h.live port t at).away (ap (λ (e : Endpoint). e.host) (sym same) ∙ ours)
 
-  server_from : (request : Bool) (spare : ℕ) (grant : Grant) (maps : Maps) (d : Datagram) → AreFromOthers (server_hears request spare grant maps d w).taken
+  server_from : (request : Bool) (spare : ℕ) (grant : Grant) (maps : Maps) (d : Datagram) → AreFromOthers (server_receives request spare grant maps d w).taken
   server_from true spare grant maps d =
       same_files (request_remains w (spare == w.server.request) (transfer_at spare w.server) spare grant d).0
   server_from false spare grant maps d =
-      with_file (server_datagram grant maps d.target.port d.source d.bytes w.server).told.taken
+      with_file (table_datagram grant maps d.target.port d.source d.bytes w.server).step.taken
       (found_from (transfer_at d.target.port w.server) grant maps d.target.port d.source d.bytes refl)
 
   arrives_from : (ours : Bool) (spare : ℕ) (grant : Grant) (maps : Maps) (d : Datagram) → AreFromOthers (arrives ours spare grant maps d w).taken
@@ -94,7 +94,7 @@ module _ (w : World) (h : Holds w) (before : AreFromOthers w.taken) where
       same_files (strays_remain w (d.source.host == server_endpoint.host) (has_begun d.source w.begun) d).0
   event_from restart grant maps = before
 
-run_from_others : (steps : List Step) (w : World) → Holds w → AllMerged steps w → AreFromOthers w.taken → AreFromOthers (run_from steps w).taken
+run_from_others : (steps : List WorldStep) (w : World) → Holds w → AllMerged steps w → AreFromOthers w.taken → AreFromOthers (run_from steps w).taken
 run_from_others [] w h merged others = others
 run_from_others (s ∷ steps) w h merged others =
     run_from_others steps (happens s w) (step-holds w s h merged.0) merged.1 (event_from w h others s.event s.grant s.maps)
@@ -102,6 +102,6 @@ run_from_others (s ∷ steps) w h merged others =
 none_first : AreFromOthers start.taken
 none_first t has = let is : None ≡ Some t = has.is in absurd cc
 
-pub run-from_others : (steps : List Step) → AllMerged steps start → AreFromOthers (run steps).taken
+pub run-from_others : (steps : List WorldStep) → AllMerged steps start → AreFromOthers (run steps).taken
 run-from_others steps merged =
     run_from_others steps start (start_from-holds [] empty_maps none-over) merged none_first

@@ -1,7 +1,7 @@
 -- A stranger's datagram enters the network, or the server restarts.
 use Rattle.std.proofs.Common.{◌≡◌, ◌≢◌, ◌⊎◌, ℕ, [], refl, ap, sym, ◌∙◌, subst, inl, ⊎_elim}
 use Rattle.tftp_packet.specs.declared.endpoint.Endpoint.{Endpoint}
-use Rattle.archive_table.specs.Server.{Server}
+use Rattle.archive_table.specs.Table.{Table}
 use Rattle.archive_world.specs.World.{Datagram, World, server_endpoint, strays_in, restarts}
 use Rattle.archive_world.specs.Headline.{IsOwn}
 use Rattle.archive_world.proofs.Places.{Has-last, Has-push}
@@ -67,7 +67,7 @@ module _ (w : World) (h : Holds w) (d : Datagram) (away : d.source.host ≢ serv
 
 -- ---- a restart
 
-abbrev fresh : Server → Server
+abbrev fresh : Table → Table
 fresh s = record { request = s.request; maps = s.maps; live = [] }
 
 pub restarts-holds : (w : World) → Holds w → Holds (restarts w)

@@ -5,7 +5,7 @@ use Rattle.tftp_packet.specs.declared.endpoint.Endpoint.{Endpoint}
 use Rattle.tftp_packet.specs.declared.out.Out.{Out}
 use Rattle.tftp_ends.specs.declared.recv_state.RecvState.TheVariants as recv
 use Rattle.tftp_ends.specs.Ends.{Receiver}
-use Rattle.archive_table.specs.Server.{Server, Maps, Taken, Transfer, receiving, at_port, transfer_at}
+use Rattle.archive_table.specs.Table.{Table, Maps, Taken, Transfer, receiving, at_port, transfer_at}
 use Rattle.archive_world.specs.World.{Datagram, World, server_endpoint, net_with, to_write}
 use Rattle.archive_world.specs.Headline.{IsOwn}
 use Rattle.archive_world.proofs.Places.{Has, Extends-same, Extends-push, Has-push, OldOrLast, at-push}
@@ -24,7 +24,7 @@ abbrev pub taken_of : Transfer → (file : List ℕ) → Taken
 taken_of t file = record { peer = t.peer; file = file }
 
 -- the server with these collections and this receiver
-abbrev pub server_with : Maps → (port : ℕ) → Transfer → Server → Server
+abbrev pub server_with : Maps → (port : ℕ) → Transfer → Table → Table
 server_with maps port t s = record { request = s.request; maps = maps; live = set_value (at_port port) s.live t }
 
 -- the world after it
@@ -111,10 +111,10 @@ module _ (w : World) (h : Holds w) (maps : Maps) (port : ℕ) (t : Transfer) (fi
   once_in i j a b (inl at_i) (inl at_j) same other own = h.once i j a b at_i at_j same other own
   once_in i j a b (inl at_i) (inr last) same other own =
       let peers : a.peer ≡ t.peer = same ∙ ap (λ (x : Taken). x.peer) last.1 in
-      absurd (k.fresh (subst (IsOwn w) peers own) a (record { place = i; is = at_i }) peers)
+      absurd (k.fresh (subst (IsOwn w) peers own) a (record { position = i; is = at_i }) peers)
   once_in i j a b (inr last) (inl at_j) same other own =
       let mine : a.peer ≡ t.peer = ap (λ (x : Taken). x.peer) last.1 in
-      absurd (k.fresh (subst (IsOwn w) mine own) b (record { place = j; is = at_j }) (sym same ∙ mine))
+      absurd (k.fresh (subst (IsOwn w) mine own) b (record { position = j; is = at_j }) (sym same ∙ mine))
   once_in i j a b (inr last) (inr also) same other own = last.0 ∙ sym also.0
 
   new_taken : IsTaken after (taken_of t file)

@@ -8,8 +8,8 @@ use Rattle.tws_best.specs.Best.{Collected, solutions_of}
 use Rattle.tws_best.specs.Choice.{best_of}
 use Rattle.tws_best.proofs.Choices.{best_of_is}
 use Rattle.tws_best.proofs.Sets.{one_collection}
-use Rattle.archive_table.specs.Server.{Maps, Taken, Grant, IsJoined, JoinsOwn, IsMerged}
-use Rattle.archive_world.specs.World.{Event, World, Step, start, event_happens, happens, run_from, run, AllMerged, asked_by}
+use Rattle.archive_table.specs.Table.{Maps, Taken, Grant, IsFileMerge, MergesIntoOwn, IsMerged}
+use Rattle.archive_world.specs.World.{Event, World, WorldStep, start, event_happens, happens, run_from, run, AllMerged, asked_by}
 use Rattle.archive_world.proofs.Places.{at-last}
 use Rattle.archive_world.proofs.Readability.{readable_or_not}
 use Rattle.archive_world.proofs.Invariant.{AreBest}
@@ -19,22 +19,22 @@ use Rattle.archive_world.proofs.Collecting.{step-best, start-best}
 
 -- ---- the collections that a file makes
 
-joined : (file : File) (old : Collected) → (new : Collected) × IsJoined file old new
+joined : (file : File) (old : Collected) → (new : Collected) × IsFileMerge file old new
 joined file old =
     let entries = old.entries ++ solutions_of old.ruleset (file ∷ []) in
-    (record { «ruleset» = old.ruleset; entries = best_of entries }, record { kind = refl; best = best_of_is entries })
+    (record { «ruleset» = old.ruleset; entries = best_of entries }, record { rules = refl; best = best_of_is entries })
 
-own_joined : (kind : Ruleset) (file : File) (old : Maps) → (new : Maps) × JoinsOwn kind file old new
-own_joined Lynx file old = let j = joined file old.lynx in (record { lynx = j.0; ms = old.ms }, (j.1, refl))
-own_joined Ms file old = let j = joined file old.ms in (record { lynx = old.lynx; ms = j.0 }, (j.1, refl))
+own_merged : (rules : Ruleset) (file : File) (old : Maps) → (new : Maps) × MergesIntoOwn rules file old new
+own_merged Lynx file old = let j = joined file old.lynx in (record { lynx = j.0; ms = old.ms }, (j.1, refl))
+own_merged Ms file old = let j = joined file old.ms in (record { lynx = old.lynx; ms = j.0 }, (j.1, refl))
 
 merged_by : (bytes : List ℕ) (old : Maps) → IsReadable bytes ⊎ (IsReadable bytes → ⊥) → (new : Maps) × IsMerged bytes old new
 merged_by bytes old (inl readable) =
     let file = readable.0 in
-    let j = own_joined file.ruleset file old in (
+    let j = own_merged file.ruleset file old in (
       j.0,
       record {
-        readable = λ f is. subst (λ (g : File). JoinsOwn g.ruleset g old j.0) (one_file bytes file f readable.1 is) j.1;
+        readable = λ f is. subst (λ (g : File). MergesIntoOwn g.ruleset g old j.0) (one_file bytes file f readable.1 is) j.1;
         unreadable = λ never. absurd (never readable.0 readable.1);
       },
     )
@@ -86,18 +86,18 @@ one_after w grant v m n (inr takes) best first second =
 
 -- ---- a run
 
-pub total_from : (asked : List (Event × Grant)) (w : World) → (steps : List Step) × (asked_by steps ≡ asked) × AllMerged steps w
+pub total_from : (asked : List (Event × Grant)) (w : World) → (steps : List WorldStep) × (asked_by steps ≡ asked) × AllMerged steps w
 total_from [] w = ([], refl, tt)
 total_from (a ∷ asked) w =
     let maps = maps_for w a.1 (λ m. event_happens a.0 a.1 m w) (event-takes w a.0 a.1) in
-    let s : Step = record { event = a.0; grant = a.1; maps = maps.0 } in
+    let s : WorldStep = record { event = a.0; grant = a.1; maps = maps.0 } in
     let rest = total_from asked (happens s w) in
     (s ∷ rest.0, ap (λ (l : List (Event × Grant)). a ∷ l) rest.1, (maps.1, rest.2))
 
-pub run-total : (asked : List (Event × Grant)) → (steps : List Step) × (asked_by steps ≡ asked) × AllMerged steps start
+pub run-total : (asked : List (Event × Grant)) → (steps : List WorldStep) × (asked_by steps ≡ asked) × AllMerged steps start
 run-total asked = total_from asked start
 
-one_step : (w : World) (x y : Step) → x.event ≡ y.event → x.grant ≡ y.grant → AreBest w.taken w.server.maps → MergesTo w (happens x w) → MergesTo w (happens y w) → happens x w ≡ happens y w
+one_step : (w : World) (x y : WorldStep) → x.event ≡ y.event → x.grant ≡ y.grant → AreBest w.taken w.server.maps → MergesTo w (happens x w) → MergesTo w (happens y w) → happens x w ≡ happens y w
 one_step w x y event grant best first second =
     let moved : happens y w ≡ event_happens x.event x.grant y.maps w = ap (λ (e : Event). event_happens e y.grant y.maps w) (sym event) ∙ ap (λ (g : Grant). event_happens x.event g y.maps w) (sym grant) in
     one_after w x.grant (λ m. event_happens x.event x.grant m w) x.maps y.maps (event-takes w x.event x.grant) best first (subst (MergesTo w) moved second)
@@ -110,7 +110,7 @@ first_pair e f g h xs ys same =
     let pair : make e g ≡ make f h = cc in
     (ap (λ (p : Event × Grant). p.0) pair, ap (λ (p : Event × Grant). p.1) pair, rest)
 
-pub one_from : (xs ys : List Step) (w : World) → asked_by xs ≡ asked_by ys → AllMerged xs w → AllMerged ys w → AreBest w.taken w.server.maps → run_from xs w ≡ run_from ys w
+pub one_from : (xs ys : List WorldStep) (w : World) → asked_by xs ≡ asked_by ys → AllMerged xs w → AllMerged ys w → AreBest w.taken w.server.maps → run_from xs w ≡ run_from ys w
 one_from [] [] w same first second best = refl
 one_from [] (y ∷ ys) w same first second best = absurd cc
 one_from (x ∷ xs) [] w same first second best = absurd cc
@@ -120,5 +120,5 @@ one_from (x ∷ xs) (y ∷ ys) w same first second best =
     one_from xs ys (happens x w) parts.2 first.1 (subst (AllMerged ys) (sym now) second.1) (step-best w x first.0 best)
     ∙ ap (run_from ys) now
 
-pub run-one : (xs ys : List Step) → asked_by xs ≡ asked_by ys → AllMerged xs start → AllMerged ys start → run xs ≡ run ys
+pub run-one : (xs ys : List WorldStep) → asked_by xs ≡ asked_by ys → AllMerged xs start → AllMerged ys start → run xs ≡ run ys
 run-one xs ys same first second = one_from xs ys start same first second start-best

@@ -6,10 +6,10 @@ use Rattle.std.specs.Str.{bytes_eq}
 use Rattle.std.proofs.lemmas.Bool.{eqb-true, ne_eqb}
 use Rattle.std.proofs.lemmas.Slice.Eq.{bytes_eq-Decides}
 use Rattle.tftp_packet.specs.declared.endpoint.Endpoint.{Endpoint}
-use Rattle.archive_table.specs.Server.{Maps, Grant, Taken, IsMerged, Transfer, is_same, transfer_at, empty_maps}
+use Rattle.archive_table.specs.Table.{Maps, Grant, Taken, IsMerged, Transfer, is_same, transfer_at, empty_maps}
 use Rattle.archive_client.specs.Client.{Operation, is_too_long}
-use Rattle.archive_world.specs.World.{Datagram, deliver, stray, Step, World, server_endpoint, has_begun, begins, begins_unless, request_comes, server_hears, arrives, delivers, strays_in, strays_unless, event_happens, happens, run_from, run, start_from, start, IsFree, MayDeliver, AllMayHappen, AllMerged}
-use Rattle.archive_world.specs.Traces.{Deed, starts, hears, client_waits_long, server_waits_long, loads, Member, is_same_datagram, place_after, place_of, named_in, server_comes, comes, after_deed, trace_from, delivery, events_of, steps_with, member_steps, trace_steps, AllDeedsMerged}
+use Rattle.archive_world.specs.World.{Datagram, deliver, stray, WorldStep, World, server_endpoint, has_begun, begins, begins_unless, request_comes, server_receives, arrives, delivers, strays_in, strays_unless, event_happens, happens, run_from, run, start_from, start, IsFree, MayDeliver, AllMayHappen, AllMerged}
+use Rattle.archive_world.specs.Traces.{Deed, starts, receives, client_waits_long, server_waits_long, loads, Member, is_same_datagram, position_after, position_of, named_in, server_comes, comes, after_deed, trace_from, delivery, events_of, steps_with, member_steps, trace_steps, AllDeedsMerged}
 use Rattle.archive_world.specs.Headline.{AreOver, HasOwnPorts, ClientsHeadline, Headline}
 use Rattle.archive_world.proofs.Happening.{run-append}
 use Rattle.archive_world.proofs.Concluding.{run_from-clients, headline}
@@ -35,21 +35,21 @@ exact_datagram a b e =
     let rest = and_parts (is_same a.target b.target) (bytes_eq a.bytes b.bytes) first.1 in
     datagram_is a b (exact_endpoint a.source b.source first.0) (exact_endpoint a.target b.target rest.0) (exact_bytes a.bytes b.bytes rest.1)
 
-one_later : (later : Option ℕ) (place : ℕ) → option_map (λ n. n + 1) later ≡ Some place → (n : ℕ) × (later ≡ Some n) × (place ≡ suc n)
-one_later None place e = absurd cc
-one_later (Some n) place e = let same : n + 1 ≡ place = cc in (n, refl, omega arith)
+one_later : (later : Option ℕ) (position : ℕ) → option_map (λ n. n + 1) later ≡ Some position → (n : ℕ) × (later ≡ Some n) × (position ≡ suc n)
+one_later None position e = absurd cc
+one_later (Some n) position e = let same : n + 1 ≡ position = cc in (n, refl, omega arith)
 
-place_in : (d x : Datagram) (xs : List Datagram) (first : Bool) → is_same_datagram x d ≡ first → ((n : ℕ) → place_of d xs ≡ Some n → slice_get xs n ≡ Some d) → (place : ℕ) → place_after first (place_of d xs) ≡ Some place → slice_get (x ∷ xs) place ≡ Some d
-place_in d x xs true is rest place e =
-    let zero_is : 0 ≡ place = cc in
+position_in : (d x : Datagram) (xs : List Datagram) (first : Bool) → is_same_datagram x d ≡ first → ((n : ℕ) → position_of d xs ≡ Some n → slice_get xs n ≡ Some d) → (position : ℕ) → position_after first (position_of d xs) ≡ Some position → slice_get (x ∷ xs) position ≡ Some d
+position_in d x xs true is rest position e =
+    let zero_is : 0 ≡ position = cc in
     ap (slice_get (x ∷ xs)) (sym zero_is) ∙ ap Some (exact_datagram x d is)
-place_in d x xs false is rest place e =
-    let later = one_later (place_of d xs) place e in
+position_in d x xs false is rest position e =
+    let later = one_later (position_of d xs) position e in
     ap (slice_get (x ∷ xs)) later.2 ∙ rest later.0 later.1
 
-pub found_at : (d : Datagram) (net : List Datagram) (place : ℕ) → place_of d net ≡ Some place → slice_get net place ≡ Some d
-found_at d [] place e = absurd cc
-found_at d (x ∷ xs) place e = place_in d x xs (is_same_datagram x d) refl (found_at d xs) place e
+pub found_at : (d : Datagram) (net : List Datagram) (position : ℕ) → position_of d net ≡ Some position → slice_get net position ≡ Some d
+found_at d [] position e = absurd cc
+found_at d (x ∷ xs) position e = position_in d x xs (is_same_datagram x d) refl (found_at d xs) position e
 
 -- ---- one delivery
 
@@ -61,7 +61,7 @@ request_fits w d spare grant maps free =
     ap (λ (used : Bool). request_comes used (transfer_at spare w.server) spare grant d w) (ne_eqb spare w.server.request free.other)
     ∙ ap (λ (live : Option Transfer). request_comes false live spare grant d w) free.free
 
-server_fits : (w : World) (d : Datagram) (spare : ℕ) (grant : Grant) (maps : Maps) (request : Bool) → (request ≡ true → IsFree spare w) → server_hears request spare grant maps d w ≡ server_comes request spare grant maps d w
+server_fits : (w : World) (d : Datagram) (spare : ℕ) (grant : Grant) (maps : Maps) (request : Bool) → (request ≡ true → IsFree spare w) → server_receives request spare grant maps d w ≡ server_comes request spare grant maps d w
 server_fits w d spare grant maps true free = request_fits w d spare grant maps (free refl)
 server_fits w d spare grant maps false free = refl
 
@@ -89,9 +89,9 @@ begins_fits w e operation away short =
 
 -- ---- one member
 
-hears_fits : (w : World) (d : Datagram) (spare : ℕ) (grant : Grant) (maps : Maps) (place : Option ℕ) → place_of d w.net ≡ place → AllMayHappen (steps_with grant maps (delivery place d spare w.net)) w → run_from (steps_with grant maps (delivery place d spare w.net)) w ≡ comes (d.target.host == server_endpoint.host) spare grant maps d (named_in place d w)
-hears_fits w d spare grant maps (Some place) is may = delivers_fits w d place spare grant maps (found_at d w.net place is) may.0
-hears_fits w d spare grant maps None is may =
+receives_fits : (w : World) (d : Datagram) (spare : ℕ) (grant : Grant) (maps : Maps) (position : Option ℕ) → position_of d w.net ≡ position → AllMayHappen (steps_with grant maps (delivery position d spare w.net)) w → run_from (steps_with grant maps (delivery position d spare w.net)) w ≡ comes (d.target.host == server_endpoint.host) spare grant maps d (named_in position d w)
+receives_fits w d spare grant maps (Some position) is may = delivers_fits w d position spare grant maps (found_at d w.net position is) may.0
+receives_fits w d spare grant maps None is may =
     let entered = strays_fits w d may.0.0 may.0.1 in
     let then = subst (λ (v : World). MayDeliver (length w.net) spare v) entered may.1.0 in
     ap (λ (v : World). event_happens (deliver (length w.net) spare) grant maps v) entered
@@ -99,14 +99,14 @@ hears_fits w d spare grant maps None is may =
 
 pub deed_fits : (w : World) (deed : Deed) (grant : Grant) (maps : Maps) → AllMayHappen (steps_with grant maps (events_of deed w.net)) w → run_from (steps_with grant maps (events_of deed w.net)) w ≡ after_deed deed grant maps w
 deed_fits w (starts e operation) grant maps may = begins_fits w e operation may.0.0 may.0.1
-deed_fits w (hears d spare) grant maps may = hears_fits w d spare grant maps (place_of d w.net) refl may
+deed_fits w (receives d spare) grant maps may = receives_fits w d spare grant maps (position_of d w.net) refl may
 deed_fits w (client_waits_long e) grant maps may = refl
 deed_fits w (server_waits_long port) grant maps may = refl
 deed_fits w loads grant maps may = refl
 
 -- ---- a trace
 
-may_first : (xs ys : List Step) (w : World) → AllMayHappen (xs ++ ys) w → AllMayHappen xs w × AllMayHappen ys (run_from xs w)
+may_first : (xs ys : List WorldStep) (w : World) → AllMayHappen (xs ++ ys) w → AllMayHappen xs w × AllMayHappen ys (run_from xs w)
 may_first [] ys w may = (tt, may)
 may_first (x ∷ xs) ys w may = let rest = may_first xs ys (happens x w) may.1 in ((may.0, rest.0), rest.1)
 
@@ -128,12 +128,12 @@ MergesTo w v = (t : Taken) → v.taken ≡ w.taken ++ t ∷ [] → IsMerged t.fi
 none_taken : (w : World) → MergesTo w w
 none_taken w t e = let more = ap length e ∙ length-append w.taken (t ∷ []) in absurd (omega arith)
 
-hears_merged : (w : World) (d : Datagram) (spare : ℕ) (grant : Grant) (maps : Maps) (place : Option ℕ) → place_of d w.net ≡ place → AllMayHappen (steps_with grant maps (delivery place d spare w.net)) w → MergesTo w (comes (d.target.host == server_endpoint.host) spare grant maps d (named_in place d w)) → AllMerged (steps_with grant maps (delivery place d spare w.net)) w
-hears_merged w d spare grant maps (Some place) is may merged =
-    (subst (MergesTo w) (sym (hears_fits w d spare grant maps (Some place) is may)) merged, tt)
-hears_merged w d spare grant maps None is may merged =
+receives_merged : (w : World) (d : Datagram) (spare : ℕ) (grant : Grant) (maps : Maps) (position : Option ℕ) → position_of d w.net ≡ position → AllMayHappen (steps_with grant maps (delivery position d spare w.net)) w → MergesTo w (comes (d.target.host == server_endpoint.host) spare grant maps d (named_in position d w)) → AllMerged (steps_with grant maps (delivery position d spare w.net)) w
+receives_merged w d spare grant maps (Some position) is may merged =
+    (subst (MergesTo w) (sym (receives_fits w d spare grant maps (Some position) is may)) merged, tt)
+receives_merged w d spare grant maps None is may merged =
     let entered = strays_fits w d may.0.0 may.0.1 in
-    let last = sym (hears_fits w d spare grant maps None is may) in
+    let last = sym (receives_fits w d spare grant maps None is may) in
     let then : MergesTo (strays_in d w) (run_from (steps_with grant maps (delivery None d spare w.net)) w) = subst (MergesTo (strays_in d w)) last merged in
     let strays : MergesTo w (event_happens (stray d) grant maps w) = subst (MergesTo w) (sym entered) (none_taken w) in
     let delivers : MergesTo (event_happens (stray d) grant maps w) (run_from (steps_with grant maps (delivery None d spare w.net)) w) = subst (λ (v : World). MergesTo v (run_from (steps_with grant maps (delivery None d spare w.net)) w)) (sym entered) then in
@@ -142,12 +142,12 @@ hears_merged w d spare grant maps None is may merged =
 deed_merged : (w : World) (deed : Deed) (grant : Grant) (maps : Maps) → AllMayHappen (steps_with grant maps (events_of deed w.net)) w → MergesTo w (after_deed deed grant maps w) → AllMerged (steps_with grant maps (events_of deed w.net)) w
 deed_merged w (starts e operation) grant maps may merged =
     (subst (MergesTo w) (sym (begins_fits w e operation may.0.0 may.0.1)) merged, tt)
-deed_merged w (hears d spare) grant maps may merged = hears_merged w d spare grant maps (place_of d w.net) refl may merged
+deed_merged w (receives d spare) grant maps may merged = receives_merged w d spare grant maps (position_of d w.net) refl may merged
 deed_merged w (client_waits_long e) grant maps may merged = (merged, tt)
 deed_merged w (server_waits_long port) grant maps may merged = (merged, tt)
 deed_merged w loads grant maps may merged = (merged, tt)
 
-pub merged_append : (xs ys : List Step) (w : World) → AllMerged xs w → AllMerged ys (run_from xs w) → AllMerged (xs ++ ys) w
+pub merged_append : (xs ys : List WorldStep) (w : World) → AllMerged xs w → AllMerged ys (run_from xs w) → AllMerged (xs ++ ys) w
 merged_append [] ys w first rest = rest
 merged_append (x ∷ xs) ys w first rest = (first.0, merged_append xs ys (happens x w) first.1 rest)
 

@@ -5,18 +5,18 @@ use Rattle.tws_file.specs.declared.«ruleset».Ruleset.{Ruleset}
 use Rattle.tws_file.specs.declared.«ruleset».Ruleset.TheVariants.{Lynx, Ms}
 use Rattle.tws_file.specs.Text.{File, IsText}
 use Rattle.tws_best.specs.Rank.{rank_of, IsBelow}
-use Rattle.tws_best.specs.Best.{Entry, Collected, HasBody, solutions_of}
-use Rattle.archive_table.specs.Server.{Maps, Taken, map_of}
+use Rattle.tws_best.specs.Best.{KeyedBody, Collected, HasBody, solutions_of}
+use Rattle.archive_table.specs.Table.{Maps, Taken, map_of}
 use Rattle.archive_table.specs.Keeper.{Keeping, LoadedFrom}
 use Rattle.archive_client.specs.Client.{put}
-use Rattle.archive_world.specs.World.{Begun, Got, Step, World, run_from, happens}
+use Rattle.archive_world.specs.World.{Begun, Got, WorldStep, World, run_from, happens}
 use Rattle.archive_world.specs.Headline.{IsOwn}
 use Rattle.archive_world.specs.Restarts.{EventKeeps}
 
 -- ---- collections
 
 -- the collection has a body at the solution's key, and none of higher rank
-pub record HasNoWorse (c : Collected) (e : Entry) : Type 0 where
+pub record HasNoWorse (c : Collected) (e : KeyedBody) : Type 0 where
   pub body : List ℕ
   pub has : HasBody c.entries e.key body
   pub no_worse : IsBelow (rank_of e.body) (rank_of body) → ⊥
@@ -24,12 +24,12 @@ pub record HasNoWorse (c : Collected) (e : Entry) : Type 0 where
 -- each collection has for each solution of the old one a body that is no worse
 abbrev pub AreNoWorse : (old new : Maps) → Type 0
 AreNoWorse old new =
-    (kind : Ruleset) (e : Entry) → Contains (map_of kind old).entries e → HasNoWorse (map_of kind new) e
+    (rules : Ruleset) (e : KeyedBody) → Contains (map_of rules old).entries e → HasNoWorse (map_of rules new) e
 
 -- The same for each solution of the file with this text. Other bytes have no solutions.
 abbrev pub HoldsFile : Maps → (text : List ℕ) → Type 0
 HoldsFile maps text =
-    (f : File) → IsText text f → (kind : Ruleset) (e : Entry) → Contains (solutions_of kind (f ∷ [])) e → HasNoWorse (map_of kind maps) e
+    (f : File) → IsText text f → (rules : Ruleset) (e : KeyedBody) → Contains (solutions_of rules (f ∷ [])) e → HasNoWorse (map_of rules maps) e
 
 -- ---- what was promised
 
@@ -41,11 +41,11 @@ pub record HoldsPromised (w : World) (maps : Maps) : Type 0 where
   pub got : (g : Got) → IsOwn w g.client → Contains w.got g → HoldsFile maps g.file
 
 -- What these steps from a first world have promised is in what a keeper with this list loads.
-abbrev pub LoadsPromised : World → List Step → List Keeping → Type 0
+abbrev pub LoadsPromised : World → List WorldStep → List Keeping → Type 0
 LoadsPromised w steps log =
     (lynx ms : Collected) → LoadedFrom Lynx (Some log) lynx → LoadedFrom Ms (Some log) ms → HoldsPromised (run_from steps w) (record { lynx = lynx; ms = ms })
 
 -- A step that is cut short leaves the keeper with the list that it had, or with the list after the step.
-abbrev pub CutsShort : World → List Step → Step → (before kept : List Keeping) → Type 0
+abbrev pub CutsShort : World → List WorldStep → WorldStep → (before kept : List Keeping) → Type 0
 CutsShort w steps s before kept =
     (after : List Keeping) × EventKeeps s.event s.grant (run_from steps w) (happens s (run_from steps w)) before after × ((kept ≡ before) ⊎ (kept ≡ after))

@@ -1,13 +1,13 @@
 -- No transfer stays for ever: whatever has happened, time-outs alone free every port of the server.
 use Rattle.std.specs.Prelude.{◌≡◌, ℕ, ◌*◌, ◌≤◌, List, [], ◌∷◌, length}
-use Rattle.archive_table.specs.Server.{all, empty_maps}
-use Rattle.archive_world.specs.World.{server_times_out, Step, World, run_from}
+use Rattle.archive_table.specs.Table.{all, empty_maps}
+use Rattle.archive_world.specs.World.{server_times_out, WorldStep, World, run_from}
 
 -- these ports time out, one after another; what is granted does not matter
-abbrev pub time_out : (port : ℕ) → Step
+abbrev pub time_out : (port : ℕ) → WorldStep
 time_out port = record { event = server_times_out port; grant = all; maps = empty_maps }
 
-abbrev pub time_outs : (ports : List ℕ) → List Step
+abbrev pub time_outs : (ports : List ℕ) → List WorldStep
 time_outs [] = []
 time_outs (port ∷ ports) = time_out port ∷ time_outs ports
 

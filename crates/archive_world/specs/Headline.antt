@@ -5,9 +5,9 @@ use Rattle.tftp_packet.specs.declared.endpoint.Endpoint.{Endpoint}
 use Rattle.tws_file.specs.declared.«ruleset».Ruleset.{Ruleset}
 use Rattle.tws_file.specs.declared.«ruleset».Ruleset.TheVariants.{Lynx, Ms}
 use Rattle.tws_best.specs.Best.{Collected, IsCollectionOf, collection_text}
-use Rattle.archive_table.specs.Server.{Maps, Taken}
+use Rattle.archive_table.specs.Table.{Maps, Taken}
 use Rattle.archive_client.specs.Client.{put, get}
-use Rattle.archive_world.specs.World.{Datagram, Begun, begin, stray, Step, run_from, run, Opening, to_read, Got, World, server_endpoint}
+use Rattle.archive_world.specs.World.{Datagram, Begun, begin, stray, WorldStep, run_from, run, Opening, to_read, Got, World, server_endpoint}
 
 -- ---- own ports: no port is reused
 
@@ -43,7 +43,7 @@ files_of taken = map (λ (t : Taken). t.file) taken
 
 -- the text of the best over the readable files of this ruleset among these, in whatever order they arrived
 abbrev pub IsBestOver : Ruleset → (files : List (List ℕ)) → (text : List ℕ) → Type 0
-IsBestOver kind files text = (c : Collected) × IsCollectionOf kind files c × (text ≡ collection_text c)
+IsBestOver rules files text = (c : Collected) × IsCollectionOf rules files c × (text ≡ collection_text c)
 
 -- ---- the four statements
 
@@ -64,26 +64,26 @@ pub record TakenOnce (begun : List Begun) (taken : List Taken) (strays : List Da
 pub record SentOnce (begun : List Begun) (taken : List Taken) (e : Endpoint) : Type 0 where
   pub file : List ℕ
   pub began : (b : Begun) × Contains begun b × (b.client ≡ e) × (b.operation ≡ put file)
-  pub place : ℕ
-  pub is_taken : slice_get taken place ≡ Some (record { peer = e; file = file })
-  pub only : (i : ℕ) (t : Taken) → slice_get taken i ≡ Some t → t.peer ≡ e → i ≡ place
+  pub position : ℕ
+  pub is_taken : slice_get taken position ≡ Some (record { peer = e; file = file })
+  pub only : (i : ℕ) (t : Taken) → slice_get taken i ≡ Some t → t.peer ≡ e → i ≡ position
 
 -- What a get has fetched is the collection of its ruleset over the first files taken, as many as were taken when a
 -- transfer to it was opened, and no fewer than when it began.
 pub record IsFinishedGet (begun : List Begun) (taken : List Taken) (opened : List Opening) (g : Got) : Type 0 where
-  pub kind : Ruleset
+  pub rules : Ruleset
   pub began : Begun
   pub has_begun : Contains begun began
   pub by : began.client ≡ g.client
-  pub operation : began.operation ≡ get kind
+  pub operation : began.operation ≡ get rules
   pub opening : Opening
   pub was_opened : Contains opened opening
   pub peer : opening.peer ≡ g.client
-  pub asked : opening.asked ≡ to_read kind
+  pub asked : opening.asked ≡ to_read rules
   -- what was taken when the get began is in it
   pub since : began.taken ≤ opening.taken
   pub counted : opening.taken ≤ length taken
-  pub best : IsBestOver kind (files_of (take opening.taken taken)) g.file
+  pub best : IsBestOver rules (files_of (take opening.taken taken)) g.file
 
 -- What holds for the client of one endpoint: whatever was taken from there is the file of the put there, and it was taken
 -- once; if the client counts it as sent, it was taken; and what the client has fetched is the collection at one of its
@@ -124,34 +124,34 @@ pub record Headline (w : World) : Type 0 where
 
 -- What was fetched is the best of this ruleset over the first `count` files taken, and the file that was sent from this
 -- endpoint is among them.
-pub record IsFetchedWith (kind : Ruleset) (taken : List Taken) (sent : Endpoint) (g : Got) : Type 0 where
+pub record IsFetchedWith (rules : Ruleset) (taken : List Taken) (sent : Endpoint) (g : Got) : Type 0 where
   pub count : ℕ
-  pub best : IsBestOver kind (files_of (take count taken)) g.file
+  pub best : IsBestOver rules (files_of (take count taken)) g.file
   pub file : List ℕ
   pub among : Contains (take count taken) (record { peer = sent; file = file })
 
 -- What was counted as sent before a get began is in what it has fetched, if the ports of the get's endpoint are its own at
 -- the end, and those of the sender's when the get began.
-abbrev pub FetchesOwnSent : World → (before after : List Step) → Step → Type 0
+abbrev pub FetchesOwnSent : World → (before after : List WorldStep) → WorldStep → Type 0
 FetchesOwnSent w before after s =
-    (e : Endpoint) (kind : Ruleset) → s.event ≡ begin e (get kind) → IsOwn (run_from (before ++ s ∷ after) w) e → (x : Endpoint) → Contains (run_from before w).sent x → IsOwn (run_from before w) x → (g : Got) → Contains (run_from (before ++ s ∷ after) w).got g → g.client ≡ e → IsFetchedWith kind (run_from (before ++ s ∷ after) w).taken x g
+    (e : Endpoint) (rules : Ruleset) → s.event ≡ begin e (get rules) → IsOwn (run_from (before ++ s ∷ after) w) e → (x : Endpoint) → Contains (run_from before w).sent x → IsOwn (run_from before w) x → (g : Got) → Contains (run_from (before ++ s ∷ after) w).got g → g.client ≡ e → IsFetchedWith rules (run_from (before ++ s ∷ after) w).taken x g
 
 -- the same if no port is reused, from a server that has nothing at first
-abbrev pub FetchesSent : (before after : List Step) → Step → Type 0
+abbrev pub FetchesSent : (before after : List WorldStep) → WorldStep → Type 0
 FetchesSent before after s =
-    (e : Endpoint) (kind : Ruleset) → s.event ≡ begin e (get kind) → (x : Endpoint) → Contains (run before).sent x → (g : Got) → Contains (run (before ++ s ∷ after)).got g → g.client ≡ e → IsFetchedWith kind (run (before ++ s ∷ after)).taken x g
+    (e : Endpoint) (rules : Ruleset) → s.event ≡ begin e (get rules) → (x : Endpoint) → Contains (run before).sent x → (g : Got) → Contains (run (before ++ s ∷ after)).got g → g.client ≡ e → IsFetchedWith rules (run (before ++ s ∷ after)).taken x g
 
 -- An operation that has begun is that of an event, and it counts the files that were taken in the run before that
 -- event.
-pub record BeganBy (steps : List Step) (b : Begun) : Type 0 where
-  pub before : List Step
-  pub step : Step
-  pub after : List Step
+pub record BeganBy (steps : List WorldStep) (b : Begun) : Type 0 where
+  pub before : List WorldStep
+  pub step : WorldStep
+  pub after : List WorldStep
   pub split : steps ≡ before ++ step ∷ after
   pub event : step.event ≡ begin b.client b.operation
   pub counted : b.taken ≡ length (run before).taken
 
 -- The datagram entered the network by one of these steps.
-abbrev pub StraysBy : List Step → Datagram → Type 0
+abbrev pub StraysBy : List WorldStep → Datagram → Type 0
 StraysBy [] d = ⊥
 StraysBy (s ∷ steps) d = (s.event ≡ stray d) ⊎ StraysBy steps d

@@ -13,7 +13,7 @@ use Rattle.archive_world.specs.declared.begun.Begun.TheInside as beginning
 use Rattle.archive_world.specs.declared.machine.Machine.TheInside as machines
 use Rattle.archive_world.specs.View.{operation_of}
 use Rattle.archive_world.specs.World.{World, Begun, Datagram, after_transfer, net_with, sent_with, got_with, newly_sent, newly_got}
-use Rattle.archive_table.specs.Server.{Grant, all, Merges, server_datagram, is_same}
+use Rattle.archive_table.specs.Table.{Grant, all, Merges, table_datagram, is_same}
 use Rattle.archive_table.specs.Keeper.{Keeping, StepKeeps}
 
 abbrev pub running_of : {A : Type 0} → runnings.Running A → Client
@@ -68,12 +68,12 @@ world_of m =
 
 -- The world after a datagram has arrived at a port of the server, with what was granted; and the keeper's list after
 -- that.
-pub record HearsAtPort (d : Datagram) (before after : Option (List Keeping)) (old new : World) : Type 0 where
+pub record ReceivesAtPort (d : Datagram) (before after : Option (List Keeping)) (old new : World) : Type 0 where
   pub grant : Grant
-  pub is : new ≡ after_transfer (server_datagram grant new.server.maps d.target.port d.source d.bytes old.server) old
-  pub merges : Merges (server_datagram grant new.server.maps d.target.port d.source d.bytes old.server).told.taken old.server.maps new.server.maps
+  pub is : new ≡ after_transfer (table_datagram grant new.server.maps d.target.port d.source d.bytes old.server) old
+  pub merges : Merges (table_datagram grant new.server.maps d.target.port d.source d.bytes old.server).step.taken old.server.maps new.server.maps
   -- by the file that is taken if everything is granted
-  pub keeps : StepKeeps grant (server_datagram all old.server.maps d.target.port d.source d.bytes old.server).told.taken old.server.maps new.server.maps before after
+  pub keeps : StepKeeps grant (table_datagram all old.server.maps d.target.port d.source d.bytes old.server).step.taken old.server.maps new.server.maps before after
 
 -- ---- a client
 
@@ -83,7 +83,7 @@ newly_fetched true file = file
 newly_fetched false file = None
 
 -- For the client at an endpoint: what its step returned, as a list of clients and a program see it.
-pub record Answers (step : Client → client.Answer) (e : Endpoint) (before after : List (Endpoint × Client)) (sent : Bool) (file : Option (List ℕ)) (out : Option Out) : Type 0 where
+pub record StepsClient (step : Client → client.ClientAnswer) (e : Endpoint) (before after : List (Endpoint × Client)) (sent : Bool) (file : Option (List ℕ)) (out : Option Out) : Type 0 where
   pub client : Client
   pub there : lookup (is_same e) before ≡ Some client
   pub written : after ≡ set_value (is_same e) before (step client).client

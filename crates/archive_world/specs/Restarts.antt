@@ -3,16 +3,16 @@ use Rattle.std.specs.Prelude.{◌≡◌, ◌⊎◌, ℕ, Bool, true, false, ◌=
 use Rattle.tws_file.specs.declared.«ruleset».Ruleset.{Ruleset}
 use Rattle.tws_file.specs.declared.«ruleset».Ruleset.TheVariants.{Lynx, Ms}
 use Rattle.tws_best.specs.Best.{Collected, IsCollected, collection_text}
-use Rattle.archive_table.specs.Server.{Server, Maps, Taken, Grant, all, server_datagram}
+use Rattle.archive_table.specs.Table.{Table, Maps, Taken, Grant, all, table_datagram}
 use Rattle.archive_table.specs.Keeper.{Keeping, last_kept, LoadedFrom, TableFails, StepKeeps}
 use Rattle.archive_table.specs.declared.load_fault.LoadFault.{LoadFault}
 use Rattle.archive_table.specs.declared.load_fault.LoadFault.TheVariants.{Keep, Unreadable, WrongRuleset, Memory}
-use Rattle.archive_world.specs.World.{Datagram, Event, begin, deliver, client_times_out, server_times_out, stray, restart, Step, World, server_endpoint, restarts, happens}
+use Rattle.archive_world.specs.World.{Datagram, Event, begin, deliver, client_times_out, server_times_out, stray, restart, WorldStep, World, server_endpoint, restarts, happens}
 
 -- the text is the collection's; if there is none, the collection is empty
 abbrev pub IsTextAt : Ruleset → Option (List ℕ) → Collected → Type 0
-IsTextAt kind None c = c ≡ record { «ruleset» = kind; entries = [] }
-IsTextAt kind (Some text) c = text ≡ collection_text c
+IsTextAt rules None c = c ≡ record { «ruleset» = rules; entries = [] }
+IsTextAt rules (Some text) c = text ≡ collection_text c
 
 -- for each ruleset, what was kept last is the current collection
 pub record HasKept (log : List Keeping) (maps : Maps) : Type 0 where
@@ -20,7 +20,7 @@ pub record HasKept (log : List Keeping) (maps : Maps) : Type 0 where
   pub ms : IsTextAt Ms (last_kept Ms log) maps.ms
 
 -- each collection is of its own ruleset
-pub record AreOwnRules (maps : Maps) : Type 0 where
+pub record HaveOwnRuleset (maps : Maps) : Type 0 where
   pub lynx : maps.lynx.ruleset ≡ Lynx
   pub ms : maps.ms.ruleset ≡ Ms
 
@@ -28,7 +28,7 @@ pub record AreOwnRules (maps : Maps) : Type 0 where
 -- did not change
 abbrev pub StepStaysKept : Grant → (wanted : Option Taken) → (old new : Maps) → (before after : List Keeping) → Type 0
 StepStaysKept grant wanted old new before after =
-    StepKeeps grant wanted old new (Some before) (Some after) → (grant ≡ all) ⊎ (new ≡ old) → AreOwnRules new → HasKept before old → HasKept after new
+    StepKeeps grant wanted old new (Some before) (Some after) → (grant ≡ all) ⊎ (new ≡ old) → HaveOwnRuleset new → HasKept before old → HasKept after new
 
 -- what is loaded is what the server had
 abbrev pub LoadsTheSame : List Keeping → Maps → Type 0
@@ -51,7 +51,7 @@ FailsOutside log = (fault : LoadFault) → TableFails (Some log) fault → IsOut
 -- whether it arrives at the request port, where no file is taken
 abbrev pub wanted_at : (request : Bool) → Datagram → World → Option Taken
 wanted_at true d w = None
-wanted_at false d w = (server_datagram all w.server.maps d.target.port d.source d.bytes w.server).told.taken
+wanted_at false d w = (table_datagram all w.server.maps d.target.port d.source d.bytes w.server).step.taken
 
 -- whether it arrives at the server's host
 abbrev pub wanted_of : (ours : Bool) → Datagram → World → Option Taken
@@ -70,7 +70,7 @@ DeliveryKeeps grant wanted old new before after =
 
 -- for each ruleset, what was kept last is the same
 abbrev pub AreAlike : (before after : List Keeping) → Type 0
-AreAlike before after = (kind : Ruleset) → last_kept kind after ≡ last_kept kind before
+AreAlike before after = (rules : Ruleset) → last_kept rules after ≡ last_kept rules before
 
 -- What the keeper has after an event. A server that restarts may have a new keeper, which has what was kept last.
 abbrev pub EventKeeps : Event → Grant → (w v : World) → (before after : List Keeping) → Type 0
@@ -83,13 +83,13 @@ EventKeeps (stray d) grant w v before after = after ≡ before
 EventKeeps restart grant w v before after = AreAlike before after
 
 -- what the keeper has after these steps, if it has `before` at first
-abbrev pub RunKeeps : List Step → World → (before last : List Keeping) → Type 0
+abbrev pub RunKeeps : List WorldStep → World → (before last : List Keeping) → Type 0
 RunKeeps [] w before last = last ≡ before
 RunKeeps (s ∷ steps) w before last =
     (after : List Keeping) × EventKeeps s.event s.grant w (happens s w) before after × RunKeeps steps (happens s w) after last
 
 -- the server that a load makes from these collections
-abbrev pub loaded_server : (request : ℕ) → (lynx ms : Collected) → Server
+abbrev pub loaded_server : (request : ℕ) → (lynx ms : Collected) → Table
 loaded_server request lynx ms =
     record { request = request; maps = record { lynx = lynx; ms = ms }; live = [] }
 

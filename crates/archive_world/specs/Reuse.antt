@@ -1,7 +1,7 @@
 -- Which events reuse a port, and which endpoints have ports of their own: the tests.
 use Rattle.std.specs.Prelude.{◌≡◌, ◌↔◌, ℕ, Bool, true, false, ◌==◌, ◌&&◌, not, cond, List, [], ◌∷◌, ◌++◌}
 use Rattle.tftp_packet.specs.declared.endpoint.Endpoint.{Endpoint}
-use Rattle.archive_table.specs.Server.{is_same}
+use Rattle.archive_table.specs.Table.{is_same}
 use Rattle.archive_client.specs.Client.{Operation}
 use Rattle.archive_world.specs.World.{Datagram, Begun, Opening, World, has_begun, begins, strays_in}
 use Rattle.archive_world.specs.Headline.{IsOwn, OwnPorts, HasOwnPorts}

@@ -2,10 +2,10 @@
 use Rattle.std.specs.Prelude.{◌≡◌, ℕ, ◌+◌, List, [], ◌∷◌, ◌++◌, length}
 use Rattle.tftp_packet.specs.declared.endpoint.Endpoint.{Endpoint}
 use Rattle.tws_file.specs.declared.«ruleset».Ruleset.TheVariants.{Lynx, Ms}
-use Rattle.tws_best.specs.Best.{Entry, collection_text}
-use Rattle.archive_table.specs.Server.{Maps, Taken, all, empty_maps}
+use Rattle.tws_best.specs.Best.{KeyedBody, collection_text}
+use Rattle.archive_table.specs.Table.{Maps, Taken, all, empty_maps}
 use Rattle.archive_client.specs.Client.{put, get}
-use Rattle.archive_world.specs.World.{Event, begin, deliver, client_times_out, server_times_out, stray, restart, Step, World, Asked, to_write, to_read, Opening, Got, server_endpoint, start, run, AllMerged}
+use Rattle.archive_world.specs.World.{Event, begin, deliver, client_times_out, server_times_out, stray, restart, WorldStep, World, Asked, to_write, to_read, Opening, Got, server_endpoint, start, run, AllMerged}
 use Rattle.archive_world.specs.Headline.{ClientHeadline}
 use Rattle.archive_world.specs.Reuse.{OwnTests, own_tests}
 
@@ -18,7 +18,7 @@ sample_body ticks = 1 ∷ 0 ∷ 0x42 ∷ 0x44 ∷ 0x48 ∷ 0x50 ∷ 0 ∷ 0 ∷ 
 abbrev pub sample_file : (ticks : ℕ) → List ℕ
 sample_file ticks = 0x35 ∷ 0x33 ∷ 0x9B ∷ 0x99 ∷ 1 ∷ 0 ∷ 0 ∷ 0 ∷ 16 ∷ 0 ∷ 0 ∷ 0 ∷ sample_body ticks
 
-abbrev pub sample_entry : (ticks : ℕ) → Entry
+abbrev pub sample_entry : (ticks : ℕ) → KeyedBody
 sample_entry ticks =
     record { key = record { number = 1; password = 0x42 ∷ 0x44 ∷ 0x48 ∷ 0x50 ∷ [] }; body = sample_body ticks }
 
@@ -35,26 +35,26 @@ abbrev pub stranger : Endpoint
 stranger = record { host = 100; port = 7 }
 
 -- everything is granted, and these are the collections after a file is taken
-abbrev pub steps_of : (ticks : ℕ) → List Event → List Step
+abbrev pub steps_of : (ticks : ℕ) → List Event → List WorldStep
 steps_of ticks [] = []
 steps_of ticks (event ∷ events) = record { event = event; grant = all; maps = sample_maps ticks } ∷ steps_of ticks events
 
 -- the collections stay empty
-abbrev pub plain_steps : List Event → List Step
+abbrev pub plain_steps : List Event → List WorldStep
 plain_steps [] = []
 plain_steps (event ∷ events) = record { event = event; grant = all; maps = empty_maps } ∷ plain_steps events
 
 -- ---- the runs
 
 -- The request arrives twice, and two transfers are opened; the client binds to the first.
-abbrev pub request_twice : List Step
+abbrev pub request_twice : List WorldStep
 request_twice =
     steps_of 100
     (begin (sample_client 1) (put (sample_file 100)) ∷ deliver 0 4000 ∷ deliver 0 4001 ∷ deliver 1 0 ∷ deliver 2 0 ∷ deliver 4 0 ∷ deliver 3 0
     ∷ deliver 5 0 ∷ [])
 
 -- Each ACK of the last block is late; the client sends that block again, and the file is taken once.
-abbrev pub late_ack : List Step
+abbrev pub late_ack : List WorldStep
 late_ack =
     steps_of 100
     (begin (sample_client 1) (put (sample_file 100)) ∷ deliver 0 4000 ∷ deliver 1 0 ∷ deliver 2 0 ∷ client_times_out (sample_client 1)
@@ -66,7 +66,7 @@ abbrev pub one_put : List Event
 one_put = begin (sample_client 1) (put (sample_file 100)) ∷ deliver 0 4000 ∷ deliver 1 0 ∷ deliver 2 0 ∷ deliver 3 0 ∷ []
 
 -- A better solution arrives while the first is fetched: that get has the collection as it was.
-abbrev pub crossed_get : List Step
+abbrev pub crossed_get : List WorldStep
 crossed_get =
     steps_of 100 (one_put ++ begin (sample_client 2) (get Lynx) ∷ deliver 4 4001 ∷ [])
     ++ steps_of 90
@@ -74,7 +74,7 @@ crossed_get =
     ∷ begin (sample_client 4) (get Lynx) ∷ deliver 11 4003 ∷ deliver 12 0 ∷ [])
 
 -- Nobody answers.
-abbrev pub unanswered : List Step
+abbrev pub unanswered : List WorldStep
 unanswered =
     steps_of 100
     (begin (sample_client 1) (put (sample_file 100)) ∷ client_times_out (sample_client 1) ∷ client_times_out (sample_client 1)
@@ -89,42 +89,42 @@ abbrev pub write_request : List ℕ
 write_request = 0 ∷ 2 ∷ 0x61 ∷ 0 ∷ 0x6F ∷ 0x63 ∷ 0x74 ∷ 0x65 ∷ 0x74 ∷ 0 ∷ []
 
 -- A stranger acknowledges a block in the put's transfer, which is refused, and then puts another file.
-abbrev pub strange_put : List Step
+abbrev pub strange_put : List WorldStep
 strange_put =
     steps_of 90
     (begin (sample_client 1) (put (sample_file 100)) ∷ deliver 0 4000 ∷ stray_by stranger 4000 (0 ∷ 4 ∷ 0 ∷ 1 ∷ []) ∷ deliver 2 0
     ∷ stray_by stranger 6969 write_request ∷ deliver 4 4001 ∷ stray_by stranger 4001 (0 ∷ 3 ∷ 0 ∷ 1 ∷ sample_file 90) ∷ deliver 6 0 ∷ deliver 1 0 ∷ deliver 8 0 ∷ deliver 9 0 ∷ [])
 
 -- The server restarts between a put and a get.
-abbrev pub restart_between : List Step
+abbrev pub restart_between : List WorldStep
 restart_between =
     steps_of 100 (one_put ++ restart ∷ server_times_out 4000 ∷ begin (sample_client 2) (get Lynx) ∷ deliver 4 4001 ∷ deliver 5 0 ∷ [])
 
 -- A file without bytes, which is not a solution file, changes no collection.
-abbrev pub empty_put : List Step
+abbrev pub empty_put : List WorldStep
 empty_put =
     plain_steps (begin (sample_client 1) (put []) ∷ deliver 0 4000 ∷ deliver 1 0 ∷ deliver 2 0 ∷ deliver 3 0 ∷ [])
 
 -- An MS get from a server that has nothing: it fetches the text of the empty collection.
-abbrev pub empty_get : List Step
+abbrev pub empty_get : List WorldStep
 empty_get = plain_steps (begin (sample_client 1) (get Ms) ∷ deliver 0 4000 ∷ deliver 1 0 ∷ deliver 2 0 ∷ [])
 
 abbrev pub stray_from : Endpoint → Event
 stray_from source = stray_by source 4000 (0 ∷ 4 ∷ 0 ∷ 1 ∷ [])
 
 -- The strays that may not happen change nothing: one from the endpoint of an operation, one from the server's host.
-abbrev pub barred_strays : List Step
+abbrev pub barred_strays : List WorldStep
 barred_strays =
     plain_steps
     (begin (sample_client 1) (put []) ∷ stray_from (sample_client 1) ∷ stray_from (record { host = server_endpoint.host; port = 7 })
     ∷ [])
 
 -- The request arrives again after a restart, and finds the same port free.
-abbrev pub opened_again : List Step
+abbrev pub opened_again : List WorldStep
 opened_again = plain_steps (begin (sample_client 1) (put []) ∷ deliver 0 4000 ∷ restart ∷ deliver 0 4000 ∷ [])
 
 -- Two operations begin at one endpoint, while a client at another one puts its file.
-abbrev pub reused_elsewhere : List Step
+abbrev pub reused_elsewhere : List WorldStep
 reused_elsewhere =
     steps_of 100
     (begin (sample_client 2) (put []) ∷ begin (sample_client 2) (put []) ∷ begin (sample_client 1) (put (sample_file 100)) ∷ deliver 2 4000

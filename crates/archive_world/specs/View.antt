@@ -1,6 +1,6 @@
 -- The plain values of events and of the outcome of a run, without their layout in memory.
 use Rattle.std.specs.Prelude.{List, map}
-use Rattle.archive_table.specs.Server.{Taken}
+use Rattle.archive_table.specs.Table.{Taken}
 use Rattle.archive_client.specs.Client.{Operation, put, get}
 use Rattle.archive_world.specs.declared.datagram.Datagram.TheInside as datagrams
 use Rattle.archive_world.specs.declared.opening.Opening.TheInside as openings
@@ -21,13 +21,13 @@ datagram_of d = record { source = d.from; target = d.to; bytes = d.bytes }
 
 abbrev pub asked_as : AskedFor → Asked
 asked_as asks.Write = to_write
-asked_as (asks.Read kind) = to_read kind
+asked_as (asks.Read rules) = to_read rules
 
 abbrev pub opening_of : openings.Inside → Opening
 opening_of o = record { peer = o.peer; port = o.port; asked = asked_as o.asked; taken = o.taken }
 
-abbrev pub taken_of : {A : Type 0} → taking.Inside A → Taken
-taken_of t = record { peer = t.peer; file = t.file }
+abbrev pub taken_file_of : {A : Type 0} → taking.Inside A → Taken
+taken_file_of t = record { peer = t.peer; file = t.file }
 
 abbrev pub got_of : {A : Type 0} → getting.Inside A → Got
 got_of g = record { client = g.client; file = g.file }
@@ -46,7 +46,7 @@ outcome_as o =
 
 abbrev pub operation_of : {A : Type 0} → kinds.OpKind A → Operation
 operation_of (Put file) = put file
-operation_of (Get kind) = get kind
+operation_of (Get rules) = get rules
 
 abbrev pub event_of : {A : Type 0} → events.Event A → Event
 event_of (Begin op) = begin op.client (operation_of op.kind)

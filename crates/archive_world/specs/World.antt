@@ -8,9 +8,9 @@ use Rattle.tftp_packet.specs.declared.packet_fault.PacketFault.{PacketFault}
 use Rattle.tftp_packet.specs.Packet.{Packet, read, write, data_block, ack, error}
 use Rattle.tftp_packet.specs.Decode.{decode_bytes}
 use Rattle.tws_file.specs.declared.«ruleset».Ruleset.{Ruleset}
-use Rattle.archive_table.specs.Server.{Server, Maps, empty_maps, Transfer, Taken, Grant, memory_of, is_same, transfer_at, server_request, server_datagram, server_timeout, IsMerged}
-use Rattle.tws_file.specs.Names.{kind_named}
-use Rattle.archive_table.specs.Server as table
+use Rattle.archive_table.specs.Table.{Table, Maps, empty_maps, Transfer, Taken, Grant, memory_verdict, is_same, transfer_at, table_request, table_datagram, table_timeout, IsMerged}
+use Rattle.tws_file.specs.Names.{ruleset_named}
+use Rattle.archive_table.specs.Table as table
 use Rattle.archive_client.specs.declared.state.State.{State}
 use Rattle.archive_client.specs.declared.state.State.TheVariants as state
 use Rattle.archive_client.specs.Client.{Operation, put, get, is_too_long, Client, request_out, client_start, client_datagram, client_timeout, state_of, phase_file}
@@ -34,7 +34,7 @@ pub record Begun : Type 0 where
 -- what a transfer was opened for
 pub data Asked : Type 0 where
   to_write : Asked
-  to_read : (kind : Ruleset) → Asked
+  to_read : (rules : Ruleset) → Asked
 
 -- a transfer that the server has opened
 pub record Opening : Type 0 where
@@ -52,7 +52,7 @@ pub record Got : Type 0 where
 pub record World : Type 0 where
   -- all datagrams that were ever sent, in order; none leaves the network
   pub net : List Datagram
-  pub server : Server
+  pub server : Table
   -- the newest first
   pub clients : List (Endpoint × Client)
   -- what has happened, in order: the operations that have begun
@@ -84,7 +84,7 @@ pub data Event : Type 0 where
   restart : Event
 
 -- an event, and what the network does not control
-pub record Step : Type 0 where
+pub record WorldStep : Type 0 where
   pub event : Event
   -- what the step is granted: memory, and that a changed collection is kept
   pub grant : Grant
@@ -148,29 +148,29 @@ taken_with None ts = ts
 taken_with (Some t) ts = ts ++ t ∷ []
 
 -- after the server's answer to a request; a request takes no file
-abbrev pub after_request : (peer : Endpoint) (port : ℕ) → Asked → table.Answer → World → World
+abbrev pub after_request : (peer : Endpoint) (port : ℕ) → Asked → table.TableAnswer → World → World
 after_request peer port asked a w =
     record {
-      net = net_with server_endpoint.host w.net a.told.out;
+      net = net_with server_endpoint.host w.net a.step.out;
       server = a.server;
       clients = w.clients;
       begun = w.begun;
       taken = w.taken;
       sent = w.sent;
       got = w.got;
-      opened = opened_with a.told.opened (record { peer = peer; port = port; asked = asked; taken = length w.taken }) w.opened;
+      opened = opened_with a.step.opened (record { peer = peer; port = port; asked = asked; taken = length w.taken }) w.opened;
       strays = w.strays;
     }
 
 -- after any other answer of the server; only a request opens a transfer
-abbrev pub after_transfer : table.Answer → World → World
+abbrev pub after_transfer : table.TableAnswer → World → World
 after_transfer a w =
     record {
-      net = net_with server_endpoint.host w.net a.told.out;
+      net = net_with server_endpoint.host w.net a.step.out;
       server = a.server;
       clients = w.clients;
       begun = w.begun;
-      taken = taken_with a.told.taken w.taken;
+      taken = taken_with a.step.taken w.taken;
       sent = w.sent;
       got = w.got;
       opened = w.opened;
@@ -206,7 +206,7 @@ got_with true e None gs = gs
 got_with false e file gs = gs
 
 -- after the answer of the client at an endpoint, which was `c` before
-abbrev pub after_client : Endpoint → Client → client.Answer → World → World
+abbrev pub after_client : Endpoint → Client → client.ClientAnswer → World → World
 after_client e c a w =
     record {
       net = net_with e.host w.net a.out;
@@ -247,12 +247,12 @@ begins_unless false false e operation w = begins e operation w
 
 -- what a request to read this name asks for; for an unknown name no transfer is opened
 abbrev pub asked_named : Option Ruleset → Asked
-asked_named (Some kind) = to_read kind
+asked_named (Some rules) = to_read rules
 asked_named None = to_write
 
 -- what a request asks for; no other packet opens a transfer
 abbrev pub asked_packet : Packet → Asked
-asked_packet (read name mode) = asked_named (kind_named name)
+asked_packet (read name mode) = asked_named (ruleset_named name)
 asked_packet (write name mode) = to_write
 asked_packet (data_block n body) = to_write
 asked_packet (ack n) = to_write
@@ -270,25 +270,25 @@ abbrev pub request_comes : (used : Bool) → Option Transfer → (spare : ℕ) �
 request_comes true live spare grant d w = w
 request_comes false (Some t) spare grant d w = w
 request_comes false None spare grant d w =
-    after_request d.source spare (asked_of d.bytes) (server_request (memory_of grant) spare d.source d.bytes w.server) w
+    after_request d.source spare (asked_of d.bytes) (table_request (memory_verdict grant) spare d.source d.bytes w.server) w
 
 -- a datagram arrives at the server's host: whether at the request port
-abbrev pub server_hears : (request : Bool) → (spare : ℕ) → Grant → Maps → Datagram → World → World
-server_hears true spare grant maps d w =
+abbrev pub server_receives : (request : Bool) → (spare : ℕ) → Grant → Maps → Datagram → World → World
+server_receives true spare grant maps d w =
     request_comes (spare == w.server.request) (transfer_at spare w.server) spare grant d w
-server_hears false spare grant maps d w =
-    after_transfer (server_datagram grant maps d.target.port d.source d.bytes w.server) w
+server_receives false spare grant maps d w =
+    after_transfer (table_datagram grant maps d.target.port d.source d.bytes w.server) w
 
 -- a datagram for an endpoint without a client changes nothing
-abbrev pub client_hears : Option Client → Grant → Datagram → World → World
-client_hears None grant d w = w
-client_hears (Some c) grant d w =
-    after_client d.target c (client_datagram (memory_of grant) d.source d.bytes c) w
+abbrev pub client_receives : Option Client → Grant → Datagram → World → World
+client_receives None grant d w = w
+client_receives (Some c) grant d w =
+    after_client d.target c (client_datagram (memory_verdict grant) d.source d.bytes c) w
 
 -- whether it arrives at the server's host
 abbrev pub arrives : (ours : Bool) → (spare : ℕ) → Grant → Maps → Datagram → World → World
-arrives true spare grant maps d w = server_hears (d.target.port == w.server.request) spare grant maps d w
-arrives false spare grant maps d w = client_hears (client_at d.target w) grant d w
+arrives true spare grant maps d w = server_receives (d.target.port == w.server.request) spare grant maps d w
+arrives false spare grant maps d w = client_receives (client_at d.target w) grant d w
 
 -- a place at which nothing was sent changes nothing
 abbrev pub delivers : Option Datagram → (spare : ℕ) → Grant → Maps → World → World
@@ -345,33 +345,33 @@ event_happens (begin e operation) grant maps w =
     begins_unless (e.host == server_endpoint.host) (is_too_long operation) e operation w
 event_happens (deliver index spare) grant maps w = delivers (slice_get w.net index) spare grant maps w
 event_happens (client_times_out e) grant maps w = client_waits (client_at e w) e w
-event_happens (server_times_out port) grant maps w = after_transfer (server_timeout port w.server) w
+event_happens (server_times_out port) grant maps w = after_transfer (table_timeout port w.server) w
 event_happens (stray d) grant maps w =
     strays_unless (d.source.host == server_endpoint.host) (has_begun d.source w.begun) d w
 event_happens restart grant maps w = restarts w
 
-abbrev pub happens : Step → World → World
+abbrev pub happens : WorldStep → World → World
 happens s w = event_happens s.event s.grant s.maps w
 
-abbrev pub run_from : List Step → World → World
+abbrev pub run_from : List WorldStep → World → World
 run_from [] w = w
 run_from (s ∷ steps) w = run_from steps (happens s w)
 
-abbrev pub run : List Step → World
+abbrev pub run : List WorldStep → World
 run steps = run_from steps start
 
 -- If the step takes a file, that file has made the collections after it.
-abbrev pub HasMerged : Step → World → Type 0
+abbrev pub HasMerged : WorldStep → World → Type 0
 HasMerged s w =
     (t : Taken) → (happens s w).taken ≡ w.taken ++ t ∷ [] → IsMerged t.file w.server.maps (happens s w).server.maps
 
-abbrev pub AllMerged : List Step → World → Type 0
+abbrev pub AllMerged : List WorldStep → World → Type 0
 AllMerged [] w = Unit {0}
 AllMerged (s ∷ steps) w = HasMerged s w × AllMerged steps (happens s w)
 
 -- the events and grants of these steps; the collections follow from them
-abbrev pub asked_by : List Step → List (Event × Grant)
-asked_by steps = map (λ (s : Step). (s.event, s.grant)) steps
+abbrev pub asked_by : List WorldStep → List (Event × Grant)
+asked_by steps = map (λ (s : WorldStep). (s.event, s.grant)) steps
 
 -- ---- which events may happen
 
@@ -395,6 +395,6 @@ MayHappen (server_times_out port) w = Unit {0}
 MayHappen (stray d) w = (d.source.host ≢ server_endpoint.host) × (has_begun d.source w.begun ≡ false)
 MayHappen restart w = Unit {0}
 
-abbrev pub AllMayHappen : List Step → World → Type 0
+abbrev pub AllMayHappen : List WorldStep → World → Type 0
 AllMayHappen [] w = Unit {0}
 AllMayHappen (s ∷ steps) w = MayHappen s.event w × AllMayHappen steps (happens s w)

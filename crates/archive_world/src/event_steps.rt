@@ -2,7 +2,7 @@
 
 ghost use Rattle.std.specs.Prelude.{◌≡◌, ◌≢◌, ◌==◌, List, Some, Ok, Err, IfOk, IfErr, OnOk, OnErr, false, true};
 ghost use Rattle.archive_client.specs.Client.{is_too_long};
-ghost use Rattle.archive_table.specs.Server.{all, server_request, request_verdict, empty_maps};
+ghost use Rattle.archive_table.specs.Table.{all, table_request, request_verdict, empty_maps};
 ghost use Rattle.archive_table.specs.Keeper.{Keeping, TableFails};
 ghost use Rattle.tws_best.specs.Best.{IsCollected};
 ghost use Rattle.archive_world.specs.Restarts.{HasKept};
@@ -149,16 +149,16 @@ pub(crate) fn request<A: Allocator + Copy>(
     d: &Datagram<A>,
 ) -> Result<bool, EventFault>
     requires request { machine.old.server.request ≡ server_endpoint.port }
-    ensures made { IfOk result (λ opened. machine.new ≡ after_request d.now.source spare (asked_of d.now.bytes) (server_request (request_verdict opened) spare d.now.source d.now.bytes machine.old.server) machine.old) }
+    ensures made { IfOk result (λ opened. machine.new ≡ after_request d.now.source spare (asked_of d.now.bytes) (table_request (request_verdict opened) spare d.now.source d.now.bytes machine.old.server) machine.old) }
     ensures free { OnOk result (IsFree spare machine.old) }
     ensures own { result ≡ Ok true → was_opened d.now.source spare machine.old.opened ≡ false }
     ensures bad { result ≡ Err EventFault.Bad → IsFree spare machine.old → ⊥ }
     ensures reused { result ≡ Err EventFault.Reused → IsFree spare machine.old }
     ensures used { result ≡ Err EventFault.Reused → was_opened d.now.source spare machine.old.opened ≡ true }
     ensures loads { result ≢ Err EventFault.NotLoaded }
-    ensures told { IfOk result (λ opened. opened ≡ (server_request (request_verdict opened) spare d.now.source d.now.bytes machine.old.server).told.opened) }
-    ensures opens { result ≡ Err EventFault.Reused → (server_request granted spare d.now.source d.now.bytes machine.old.server).told.opened ≡ true }
-    ensures opened { result ≡ Err EventFault.Reused → machine.new ≡ after_request d.now.source spare (asked_of d.now.bytes) (server_request granted spare d.now.source d.now.bytes machine.old.server) machine.old }
+    ensures step { IfOk result (λ opened. opened ≡ (table_request (request_verdict opened) spare d.now.source d.now.bytes machine.old.server).step.opened) }
+    ensures opens { result ≡ Err EventFault.Reused → (table_request granted spare d.now.source d.now.bytes machine.old.server).step.opened ≡ true }
+    ensures opened { result ≡ Err EventFault.Reused → machine.new ≡ after_request d.now.source spare (asked_of d.now.bytes) (table_request granted spare d.now.source d.now.bytes machine.old.server) machine.old }
 {
     if spare == SERVER.port || machine.is_live(spare) {
         return Err(EventFault::Bad);
@@ -175,7 +175,7 @@ pub(crate) fn request<A: Allocator + Copy>(
     }
 }
 
-/// Restarts the server. If the keeper tells its list, and what it kept last is what the server has, the collections do
+/// Restarts the server. If the keeper has a log, and what it kept last is what the server has, the collections do
 /// not change.
 ///
 /// # Errors

@@ -16,11 +16,11 @@ use archive_table::Keeper;
 use std::alloc::Allocator;
 
 // Delivers a datagram to a client's host.
-fn hear<A: Allocator + Copy>(machine: &mut Machine<A>, d: &Datagram<A>) -> Result<(), EventFault>
+fn receive<A: Allocator + Copy>(machine: &mut Machine<A>, d: &Datagram<A>) -> Result<(), EventFault>
     requires away { d.now.target.host ≢ server_endpoint.host }
-    ensures { (told : Option (List Keeping)) (index spare : ℕ) → slice_get machine.old.net index ≡ Some d.now → Comes result (deliver index spare) told told machine.old machine.new }
+    ensures { (reported : Option (List Keeping)) (index spare : ℕ) → slice_get machine.old.net index ≡ Some d.now → Comes result (deliver index spare) reported reported machine.old machine.new }
 {
-    match machine.client_hear(d) {
+    match machine.client_receive(d) {
         Ok(()) => Ok(()),
         Err(_) => Err(EventFault::Memory),
     }
@@ -35,7 +35,7 @@ fn ask<A: Allocator + Copy>(
     requires request { machine.old.server.request ≡ server_endpoint.port }
     requires ours { d.now.target.host ≡ server_endpoint.host }
     requires at { d.now.target.port ≡ server_endpoint.port }
-    ensures { (told : Option (List Keeping)) (index : ℕ) → slice_get machine.old.net index ≡ Some d.now → Comes result (deliver index spare) told told machine.old machine.new }
+    ensures { (reported : Option (List Keeping)) (index : ℕ) → slice_get machine.old.net index ≡ Some d.now → Comes result (deliver index spare) reported reported machine.old machine.new }
 {
     match request(machine, spare, d) {
         Ok(_) => Ok(()),
@@ -72,7 +72,7 @@ fn arrive<K: Keeper, A: Allocator + Copy>(
 {
     let to = d.to;
     if to.host != SERVER.host {
-        return hear(machine, d);
+        return receive(machine, d);
     }
     if to.port == SERVER.port {
         return ask(machine, spare, d);

@@ -5,8 +5,8 @@ ghost use Rattle.archive_world.specs.Samples.{request_twice, late_ack, crossed_g
 ghost use Rattle.tftp_packet.specs.declared.endpoint.Endpoint.{Endpoint};
 ghost use Rattle.archive_client.specs.Client.{Operation};
 ghost use Rattle.archive_world.specs.Reuse.{BeginKeepsOwn, OpeningKeepsOwn, StrayKeepsOwn, IsOwnByTests};
-ghost use Rattle.archive_world.specs.World.{Begun, Datagram, Got, Opening, to_write, World, Event, Step, happens, start, start_from, run, run_from, server_endpoint, AllMerged, asked_by, AllMayHappen};
-ghost use Rattle.archive_table.specs.Server.{Grant, Maps, Taken, empty_maps};
+ghost use Rattle.archive_world.specs.World.{Begun, Datagram, Got, Opening, to_write, World, Event, WorldStep, happens, start, start_from, run, run_from, server_endpoint, AllMerged, asked_by, AllMayHappen};
+ghost use Rattle.archive_table.specs.Table.{Grant, Maps, Taken, empty_maps};
 ghost use Rattle.tws_file.specs.declared.«ruleset».Ruleset.TheVariants.{Lynx, Ms};
 ghost use Rattle.tws_best.specs.Best.{Collected, IsCollected, collection_text};
 ghost use Rattle.archive_table.specs.Keeper.{Keeping};
@@ -24,21 +24,21 @@ ghost use Rattle.archive_world.specs.Headline.{IsOwn, AreOver, HasOwnPorts, HasO
 /// once if its client counts it as sent; and a finished get is the collection at one of its own requests. If a step
 /// takes a file, the collections after it are those that the server's contract says.
 pub fn network_law()
-    ensures clients { (steps : List Step) → AllMerged steps start → ClientsHeadline (run steps) }
+    ensures clients { (steps : List WorldStep) → AllMerged steps start → ClientsHeadline (run steps) }
     // So if no port is reused, all of this holds of every client.
-    ensures headline { (steps : List Step) → HasOwnPorts (run steps) → AllMerged steps start → Headline (run steps) }
+    ensures headline { (steps : List WorldStep) → HasOwnPorts (run steps) → AllMerged steps start → Headline (run steps) }
     // Every operation that has begun is that of an event, with the number of files that were taken before that event.
-    ensures began { (steps : List Step) (b : Begun) → Contains (run steps).begun b → BeganBy steps b }
+    ensures began { (steps : List WorldStep) (b : Begun) → Contains (run steps).begun b → BeganBy steps b }
     // The strays are those of the events.
-    ensures strays { (steps : List Step) (d : Datagram) → Contains (run steps).strays d → StraysBy steps d }
+    ensures strays { (steps : List WorldStep) (d : Datagram) → Contains (run steps).strays d → StraysBy steps d }
     // So a put that was counted as sent before a get began is in what that get has fetched.
-    ensures since { (before after : List Step) (s : Step) → HasOwnPorts (run (before ++ s ∷ after)) → AllMerged (before ++ s ∷ after) start → FetchesSent before after s }
+    ensures since { (before after : List WorldStep) (s : WorldStep) → HasOwnPorts (run (before ++ s ∷ after)) → AllMerged (before ++ s ∷ after) start → FetchesSent before after s }
     // No step sends more than one datagram.
-    ensures cost { (steps : List Step) → length (run steps).net ≤ length steps }
+    ensures cost { (steps : List WorldStep) → length (run steps).net ≤ length steps }
     // For all events and grants there are collections as the server's contract says, and the world after them is
     // unique.
-    ensures total { (asked : List (Event × Grant)) → (steps : List Step) × (asked_by steps ≡ asked) × AllMerged steps start }
-    ensures one { (first second : List Step) → asked_by first ≡ asked_by second → AllMerged first start → AllMerged second start → run first ≡ run second }
+    ensures total { (asked : List (Event × Grant)) → (steps : List WorldStep) × (asked_by steps ≡ asked) × AllMerged steps start }
+    ensures one { (first second : List WorldStep) → asked_by first ≡ asked_by second → AllMerged first start → AllMerged second start → run first ≡ run second }
 {}
 
 /// The operations of the clients whose ports are their own are in one order, whatever others do: each put that is counted
@@ -47,11 +47,11 @@ pub fn network_law()
 /// of a run is a run, before its end. So with what ends before something else begins: what was sent is fetched
 /// (`since`), a later get has fetched no less, and an earlier one has nothing of a later put.
 pub fn effects_law()
-    ensures puts { (texts : List (List ℕ)) (maps : Maps) → AreOver texts maps → (steps : List Step) → AllMerged steps (start_from texts maps) → (e : Endpoint) → IsOwn (run_from steps (start_from texts maps)) e → Contains (run_from steps (start_from texts maps)).sent e → TakesEffect (start_from texts maps) steps e }
-    ensures gets { (texts : List (List ℕ)) (maps : Maps) → AreOver texts maps → (steps : List Step) → AllMerged steps (start_from texts maps) → (g : Got) → IsOwn (run_from steps (start_from texts maps)) g.client → Contains (run_from steps (start_from texts maps)).got g → ReadsAtOnce (start_from texts maps) steps g }
-    ensures since { (texts : List (List ℕ)) (maps : Maps) → AreOver texts maps → (before after : List Step) (s : Step) → AllMerged (before ++ s ∷ after) (start_from texts maps) → FetchesOwnSent (start_from texts maps) before after s }
-    ensures no_less { (texts : List (List ℕ)) (maps : Maps) → AreOver texts maps → (before after : List Step) (s : Step) → AllMerged (before ++ s ∷ after) (start_from texts maps) → FetchesNoLess (start_from texts maps) before after s }
-    ensures none { (texts : List (List ℕ)) (maps : Maps) → AreOver texts maps → (before after : List Step) (s : Step) → AllMerged (before ++ s ∷ after) (start_from texts maps) → FetchesNone (start_from texts maps) before after s }
+    ensures puts { (texts : List (List ℕ)) (maps : Maps) → AreOver texts maps → (steps : List WorldStep) → AllMerged steps (start_from texts maps) → (e : Endpoint) → IsOwn (run_from steps (start_from texts maps)) e → Contains (run_from steps (start_from texts maps)).sent e → TakesEffect (start_from texts maps) steps e }
+    ensures gets { (texts : List (List ℕ)) (maps : Maps) → AreOver texts maps → (steps : List WorldStep) → AllMerged steps (start_from texts maps) → (g : Got) → IsOwn (run_from steps (start_from texts maps)) g.client → Contains (run_from steps (start_from texts maps)).got g → ReadsAtOnce (start_from texts maps) steps g }
+    ensures since { (texts : List (List ℕ)) (maps : Maps) → AreOver texts maps → (before after : List WorldStep) (s : WorldStep) → AllMerged (before ++ s ∷ after) (start_from texts maps) → FetchesOwnSent (start_from texts maps) before after s }
+    ensures no_less { (texts : List (List ℕ)) (maps : Maps) → AreOver texts maps → (before after : List WorldStep) (s : WorldStep) → AllMerged (before ++ s ∷ after) (start_from texts maps) → FetchesNoLess (start_from texts maps) before after s }
+    ensures none { (texts : List (List ℕ)) (maps : Maps) → AreOver texts maps → (before after : List WorldStep) (s : WorldStep) → AllMerged (before ++ s ∷ after) (start_from texts maps) → FetchesNone (start_from texts maps) before after s }
 {}
 
 /// A run may start from a server that has collections, as a real one has those of its folder. They are the best over
@@ -63,18 +63,18 @@ pub fn effects_law()
 pub fn folder_law()
     ensures empty { AreOver [] empty_maps }
     ensures own { (lynx ms : Collected) → IsCollected lynx → IsCollected ms → lynx.«ruleset» ≡ Lynx → ms.«ruleset» ≡ Ms → AreOver (collection_text lynx ∷ collection_text ms ∷ []) (record { lynx = lynx; ms = ms }) }
-    ensures clients { (texts : List (List ℕ)) (maps : Maps) → AreOver texts maps → (steps : List Step) → AllMerged steps (start_from texts maps) → ClientsHeadline (run_from steps (start_from texts maps)) }
+    ensures clients { (texts : List (List ℕ)) (maps : Maps) → AreOver texts maps → (steps : List WorldStep) → AllMerged steps (start_from texts maps) → ClientsHeadline (run_from steps (start_from texts maps)) }
     // Also from there, for all events and grants, there are collections as the server's contract says, and lists of what a
     // keeper has; and the world after them is unique.
-    ensures total { (texts : List (List ℕ)) (maps : Maps) (asked : List (Event × Grant)) → (steps : List Step) × (asked_by steps ≡ asked) × AllMerged steps (start_from texts maps) }
-    ensures one { (texts : List (List ℕ)) (maps : Maps) → AreOver texts maps → (first second : List Step) → asked_by first ≡ asked_by second → AllMerged first (start_from texts maps) → AllMerged second (start_from texts maps) → run_from first (start_from texts maps) ≡ run_from second (start_from texts maps) }
-    ensures list { (texts : List (List ℕ)) (maps : Maps) → AreOver texts maps → (steps : List Step) (first : List Keeping) → AllMerged steps (start_from texts maps) → (last : List Keeping) × RunKeeps steps (start_from texts maps) first last }
-    ensures no_worse { (texts : List (List ℕ)) (maps : Maps) → AreOver texts maps → (before after : List Step) → AllMerged (before ++ after) (start_from texts maps) → AreNoWorse (run_from before (start_from texts maps)).server.maps (run_from (before ++ after) (start_from texts maps)).server.maps }
-    ensures restarts { (texts : List (List ℕ)) (maps : Maps) → AreOver texts maps → (first : List Keeping) → HasKept first maps → (steps : List Step) (last : List Keeping) → AllMerged steps (start_from texts maps) → RunKeeps steps (start_from texts maps) first last → HasKept last (run_from steps (start_from texts maps)).server.maps × RestartsFrom last (run_from steps (start_from texts maps)) }
-    ensures promised { (texts : List (List ℕ)) (maps : Maps) → AreOver texts maps → (first : List Keeping) → HasKept first maps → (steps : List Step) (last : List Keeping) → AllMerged steps (start_from texts maps) → RunKeeps steps (start_from texts maps) first last → LoadsPromised (start_from texts maps) steps last }
-    ensures cut { (texts : List (List ℕ)) (maps : Maps) → AreOver texts maps → (first : List Keeping) → HasKept first maps → (steps : List Step) (s : Step) (before last : List Keeping) → AllMerged (steps ++ s ∷ []) (start_from texts maps) → RunKeeps steps (start_from texts maps) first before → CutsShort (start_from texts maps) steps s before last → LoadsPromised (start_from texts maps) steps last }
+    ensures total { (texts : List (List ℕ)) (maps : Maps) (asked : List (Event × Grant)) → (steps : List WorldStep) × (asked_by steps ≡ asked) × AllMerged steps (start_from texts maps) }
+    ensures one { (texts : List (List ℕ)) (maps : Maps) → AreOver texts maps → (first second : List WorldStep) → asked_by first ≡ asked_by second → AllMerged first (start_from texts maps) → AllMerged second (start_from texts maps) → run_from first (start_from texts maps) ≡ run_from second (start_from texts maps) }
+    ensures list { (texts : List (List ℕ)) (maps : Maps) → AreOver texts maps → (steps : List WorldStep) (first : List Keeping) → AllMerged steps (start_from texts maps) → (last : List Keeping) × RunKeeps steps (start_from texts maps) first last }
+    ensures no_worse { (texts : List (List ℕ)) (maps : Maps) → AreOver texts maps → (before after : List WorldStep) → AllMerged (before ++ after) (start_from texts maps) → AreNoWorse (run_from before (start_from texts maps)).server.maps (run_from (before ++ after) (start_from texts maps)).server.maps }
+    ensures restarts { (texts : List (List ℕ)) (maps : Maps) → AreOver texts maps → (first : List Keeping) → HasKept first maps → (steps : List WorldStep) (last : List Keeping) → AllMerged steps (start_from texts maps) → RunKeeps steps (start_from texts maps) first last → HasKept last (run_from steps (start_from texts maps)).server.maps × RestartsFrom last (run_from steps (start_from texts maps)) }
+    ensures promised { (texts : List (List ℕ)) (maps : Maps) → AreOver texts maps → (first : List Keeping) → HasKept first maps → (steps : List WorldStep) (last : List Keeping) → AllMerged steps (start_from texts maps) → RunKeeps steps (start_from texts maps) first last → LoadsPromised (start_from texts maps) steps last }
+    ensures cut { (texts : List (List ℕ)) (maps : Maps) → AreOver texts maps → (first : List Keeping) → HasKept first maps → (steps : List WorldStep) (s : WorldStep) (before last : List Keeping) → AllMerged (steps ++ s ∷ []) (start_from texts maps) → RunKeeps steps (start_from texts maps) first before → CutsShort (start_from texts maps) steps s before last → LoadsPromised (start_from texts maps) steps last }
     // No transfer stays for ever: whatever has happened, time-outs alone free every port.
-    ensures freed { (texts : List (List ℕ)) (maps : Maps) → AreOver texts maps → (steps : List Step) → AllMerged steps (start_from texts maps) → IsFreed (run_from steps (start_from texts maps)) }
+    ensures freed { (texts : List (List ℕ)) (maps : Maps) → AreOver texts maps → (steps : List WorldStep) → AllMerged steps (start_from texts maps) → IsFreed (run_from steps (start_from texts maps)) }
 {}
 
 /// The values of the server's host and its request port, which the definitions refer to by name.
@@ -129,12 +129,12 @@ pub fn own_ports()
     ensures opening { (w : World) → HasOwnPorts w → (o : Opening) → OpeningKeepsOwn w o }
     ensures stray { (w : World) → HasOwnPorts w → (d : Datagram) → StrayKeepsOwn w d }
     // Once a port was reused, it stays reused.
-    ensures before { (w : World) (s : Step) → HasOwnPorts (happens s w) → HasOwnPorts w }
+    ensures before { (w : World) (s : WorldStep) → HasOwnPorts (happens s w) → HasOwnPorts w }
     // The ports of one endpoint are its own exactly if the tests say so. They are so at the start; once they are not,
     // they stay so; and if no port is reused, those of each endpoint with an operation are its own.
     ensures tests { (w : World) (e : Endpoint) → IsOwnByTests w e }
     ensures own_start { (e : Endpoint) → IsOwn start e }
-    ensures own_before { (w : World) (s : Step) (e : Endpoint) → IsOwn (happens s w) e → IsOwn w e }
+    ensures own_before { (w : World) (s : WorldStep) (e : Endpoint) → IsOwn (happens s w) e → IsOwn w e }
     ensures each { (w : World) → HasOwnPorts w → (e : Endpoint) → HasOperation w.begun e → IsOwn w e }
 {}
 
@@ -148,8 +148,8 @@ pub fn restart_law()
     ensures step { (grant : Grant) (wanted : Option Taken) (old new : Maps) (before after : List Keeping) → StepStaysKept grant wanted old new before after }
     ensures load { (log : List Keeping) (maps : Maps) → LoadsTheSame log maps }
     // For every run, from a keeper that holds nothing. The beginning of a run is a run, so this holds at each restart.
-    ensures run { (steps : List Step) (log : List Keeping) → AllMerged steps start → RunKeeps steps start [] log → HasKept log (run steps).server.maps × RestartsFrom log (run steps) }
-    ensures fails { (steps : List Step) (log : List Keeping) → AllMerged steps start → RunKeeps steps start [] log → FailsOutside log }
+    ensures run { (steps : List WorldStep) (log : List Keeping) → AllMerged steps start → RunKeeps steps start [] log → HasKept log (run steps).server.maps × RestartsFrom log (run steps) }
+    ensures fails { (steps : List WorldStep) (log : List Keeping) → AllMerged steps start → RunKeeps steps start [] log → FailsOutside log }
     // Every run with merged collections has such a list.
-    ensures list { (steps : List Step) → AllMerged steps start → (log : List Keeping) × RunKeeps steps start [] log }
+    ensures list { (steps : List WorldStep) → AllMerged steps start → (log : List Keeping) × RunKeeps steps start [] log }
 {}

@@ -2,12 +2,12 @@
 
 ghost use Rattle.std.specs.Prelude.{◌≡◌, false, true, is_some, ◌≢◌, [], OnOk, OnErr, IfOk, IfErr, Some, None, length, slice_get};
 ghost use Rattle.archive_client.specs.Client.{is_too_long};
-ghost use Rattle.archive_table.specs.Server.{request_verdict, server_request, server_datagram, server_timeout, grant_of, transfer_at, is_same, Grant};
-ghost use Rattle.tws_file.specs.Names.{kind_named};
+ghost use Rattle.archive_table.specs.Table.{request_verdict, table_request, table_datagram, table_timeout, grant_of, transfer_at, is_same, Grant};
+ghost use Rattle.tws_file.specs.Names.{ruleset_named};
 ghost use Rattle.archive_table.specs.Keeper.{HasLoaded, TableFails};
 ghost use Rattle.archive_world.specs.View.{asked_as, operation_of};
-ghost use Rattle.archive_world.specs.World.{World, start, has_begun, begins, server_endpoint, net_with, taken_with, opened_with, got_with, asked_of, asked_named, after_request, after_transfer, strays_in, client_at, client_waits, client_hears};
-ghost use Rattle.archive_world.specs.Inside.{HearsAtPort, answered_by};
+ghost use Rattle.archive_world.specs.World.{World, start, has_begun, begins, server_endpoint, net_with, taken_with, opened_with, got_with, asked_of, asked_named, after_request, after_transfer, strays_in, client_at, client_waits, client_receives};
+ghost use Rattle.archive_world.specs.Inside.{ReceivesAtPort, answered_by};
 ghost use Rattle.archive_world.specs.Outcomes.{outcome_of};
 ghost use Rattle.archive_world.specs.Reuse.{has_strayed, was_opened, is_opening_at};
 ghost use Rattle.tws_best.specs.Best.{collection_text};
@@ -22,7 +22,7 @@ use crate::opening::Opening;
 use crate::outcome::Outcome;
 use crate::running::Running;
 use crate::seat::Seat;
-use crate::seats::{find, hear_at, is_one, wait_at};
+use crate::seats::{find, is_one, receive_at, wait_at};
 use crate::server_endpoint::SERVER;
 use crate::taken_file::TakenFile;
 use archive_table::{Keeper, LoadFault, Step, Table, Taken};
@@ -110,8 +110,8 @@ impl<A: Allocator + Copy> Machine<A> {
     }
 
     // Records what a step of the server returned, for any input other than a request.
-    fn tell(&mut self, step: Step<A>) -> Result<(), AllocError>
-        ensures { OnOk result (self.new ≡ after_transfer (record { server = self.old.server; told = step }) self.old) }
+    fn add_step(&mut self, step: Step<A>) -> Result<(), AllocError>
+        ensures { OnOk result (self.new ≡ after_transfer (record { server = self.old.server; step = step }) self.old) }
     {
         let Step { out, taken, .. } = step;
         self.send(SERVER.host, out)?;
@@ -124,10 +124,10 @@ impl<A: Allocator + Copy> Machine<A> {
     ///
     /// Out of memory.
     pub(crate) fn server_timeout(&mut self, port: u16) -> Result<(), AllocError>
-        ensures { OnOk result (self.new ≡ after_transfer (server_timeout port self.old.server) self.old) }
+        ensures { OnOk result (self.new ≡ after_transfer (table_timeout port self.old.server) self.old) }
     {
         let step = self.table.on_timeout(port);
-        self.tell(step)
+        self.add_step(step)
     }
 
     /// Adds a stranger's datagram to the network.
@@ -155,12 +155,12 @@ impl<A: Allocator + Copy> Machine<A> {
         keeper: &mut K,
         d: &Datagram<A>,
     ) -> Result<(), AllocError>
-        ensures { (world : World) × HearsAtPort d.now (K.log keeper.old) (K.log keeper.new) self.old world × OnOk result (self.new ≡ world) }
+        ensures { (world : World) × ReceivesAtPort d.now (K.log keeper.old) (K.log keeper.new) self.old world × OnOk result (self.new ≡ world) }
     {
         let step = self
             .table
             .on_datagram(keeper, d.to.port, d.from, d.bytes.as_slice());
-        self.tell(step)
+        self.add_step(step)
     }
 
     /// Restarts the server with what the keeper has.
@@ -251,10 +251,10 @@ impl<A: Allocator + Copy> Machine<A> {
     }
 
     // Records what a client's step returned.
-    fn answer(&mut self, e: Endpoint, told: Answered<A>) -> Result<(), AllocError>
-        ensures { OnOk result (self.new ≡ answered_by e self.old.clients told.sent told.file told.out self.old) }
+    fn answer(&mut self, e: Endpoint, answered: Answered<A>) -> Result<(), AllocError>
+        ensures { OnOk result (self.new ≡ answered_by e self.old.clients answered.sent answered.file answered.out self.old) }
     {
-        let Answered { sent, file, out } = told;
+        let Answered { sent, file, out } = answered;
         if sent {
             self.sent.push(e)?;
         }
@@ -273,8 +273,8 @@ impl<A: Allocator + Copy> Machine<A> {
         let Some(i) = find(self.clients.as_slice(), e) else {
             return Ok(());
         };
-        let told = wait_at(self.alloc, &mut self.clients, i, e)?;
-        self.answer(e, told)
+        let answered = wait_at(self.alloc, &mut self.clients, i, e)?;
+        self.answer(e, answered)
     }
 
     /// Delivers a datagram to a client's host. If no client is at its target, nothing changes.
@@ -282,14 +282,14 @@ impl<A: Allocator + Copy> Machine<A> {
     /// # Errors
     ///
     /// Out of memory.
-    pub(crate) fn client_hear(&mut self, d: &Datagram<A>) -> Result<(), AllocError>
-        ensures { OnOk result ((grant : Grant) × (self.new ≡ client_hears (client_at d.now.target self.old) grant d.now self.old)) }
+    pub(crate) fn client_receive(&mut self, d: &Datagram<A>) -> Result<(), AllocError>
+        ensures { OnOk result ((grant : Grant) × (self.new ≡ client_receives (client_at d.now.target self.old) grant d.now self.old)) }
     {
         let Some(i) = find(self.clients.as_slice(), d.to) else {
             return Ok(());
         };
-        let told = hear_at(self.alloc, &mut self.clients, i, d)?;
-        self.answer(d.to, told)
+        let answered = receive_at(self.alloc, &mut self.clients, i, d)?;
+        self.answer(d.to, answered)
     }
 
     /// Whether a transfer was opened for this peer at this port.
@@ -308,8 +308,8 @@ impl<A: Allocator + Copy> Machine<A> {
     pub(crate) fn request(&mut self, spare: u16, d: &Datagram<A>) -> Result<bool, AllocError>
         requires other { spare ≢ self.old.server.request }
         requires free { transfer_at spare self.old.server ≡ None }
-        ensures told { IfOk result (λ opened. opened ≡ (server_request (request_verdict opened) spare d.now.source d.now.bytes self.old.server).told.opened) }
-        ensures made { IfOk result (λ opened. self.new ≡ after_request d.now.source spare (asked_of d.now.bytes) (server_request (request_verdict opened) spare d.now.source d.now.bytes self.old.server) self.old) }
+        ensures step { IfOk result (λ opened. opened ≡ (table_request (request_verdict opened) spare d.now.source d.now.bytes self.old.server).step.opened) }
+        ensures made { IfOk result (λ opened. self.new ≡ after_request d.now.source spare (asked_of d.now.bytes) (table_request (request_verdict opened) spare d.now.source d.now.bytes self.old.server) self.old) }
     {
         let step = self.table.on_request(spare, d.from, d.bytes.as_slice());
         let Step { out, opened, .. } = step;
@@ -390,10 +390,10 @@ fn asked_by(bytes: &[u8]) -> Asked
 
 // What a request to read this name asks for.
 fn asked_named(name: &[u8]) -> Asked
-    ensures { asked_as result ≡ asked_named (kind_named name.now) }
+    ensures { asked_as result ≡ asked_named (ruleset_named name.now) }
 {
     match Ruleset::from_file_name(name) {
-        Some(kind) => Asked::Read(kind),
+        Some(ruleset) => Asked::Read(ruleset),
         None => Asked::Write,
     }
 }

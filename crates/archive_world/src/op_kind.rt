@@ -28,7 +28,7 @@ impl<A: Allocator> OpKind<A> {
                 let file = Vec::from_slice(alloc, file.as_slice())?;
                 Ok(OpKind::Put(Bytes::of(file)))
             }
-            OpKind::Get(kind) => Ok(OpKind::Get(*kind)),
+            OpKind::Get(ruleset) => Ok(OpKind::Get(*ruleset)),
         }
     }
 }

@@ -39,15 +39,15 @@ impl<A: Allocator + Copy> Running<A> {
                     Err(_) => unreachable!(),
                 }
             }
-            OpKind::Get(kind) => {
-                let (get, out) = Get::start(alloc, port, SERVER, *kind);
+            OpKind::Get(ruleset) => {
+                let (get, out) = Get::start(alloc, port, SERVER, *ruleset);
                 Ok((Running::Get(get), out))
             }
         }
     }
 
     /// Handles a datagram of these bytes, received from `from`.
-    pub(crate) fn hear(&mut self, from: Endpoint, bytes: &[u8]) -> Option<Out>
+    pub(crate) fn receive(&mut self, from: Endpoint, bytes: &[u8]) -> Option<Out>
         ensures client { running_of self.new ≡ (client_datagram (verdict_in self.new) from bytes.now (running_of self.old)).client }
         ensures sent { result ≡ (client_datagram (verdict_in self.new) from bytes.now (running_of self.old)).out }
     {

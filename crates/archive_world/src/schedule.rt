@@ -4,7 +4,7 @@ ghost use Rattle.std.specs.Prelude.{◌≡◌, ℕ, Err, IfOk};
 ghost use Rattle.archive_world.specs.World.{start};
 ghost use Rattle.archive_world.specs.View.{events_of};
 ghost use Rattle.archive_world.specs.Replays.{IsReady, HasRun, IsBadAt, IsReusedAt, IsNotLoadedAt, HasStopped};
-ghost use Rattle.archive_world.specs.Exits.{fault_of, Ends};
+ghost use Rattle.archive_world.specs.Exits.{world_fault_of, ReplayEnds};
 
 use crate::event::Event;
 use crate::event_fault::EventFault;
@@ -17,7 +17,7 @@ use std::alloc::Allocator;
 
 // Why there is no run, given the fault of the event at this place.
 fn fault_at(fault: EventFault, index: usize) -> WorldFault
-    ensures { result ≡ fault_of fault index }
+    ensures { result ≡ world_fault_of fault index }
 {
     match fault {
         EventFault::Bad => WorldFault::BadEvent(index),
@@ -34,7 +34,7 @@ fn happen_all<K: Keeper, A: Allocator + Copy>(
     events: &[Event<A>],
 ) -> Result<(), WorldFault>
     requires start { machine.old ≡ start }
-    ensures { IsReady (K.log keeper.old) (events_of events.now) → Ends result (events_of events.now) (K.log keeper.old) (K.log keeper.new) machine.new }
+    ensures { IsReady (K.log keeper.old) (events_of events.now) → ReplayEnds result (events_of events.now) (K.log keeper.old) (K.log keeper.new) machine.new }
 {
     let mut i = 0;
     while i < events.len() {

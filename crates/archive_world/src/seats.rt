@@ -2,9 +2,9 @@
 
 ghost use Rattle.std.specs.Prelude.{◌≡◌, ◌<◌, length, true, None, IfSome, IfOk};
 ghost use Rattle.std.specs.Map.{lookup};
-ghost use Rattle.archive_table.specs.Server.{is_same};
+ghost use Rattle.archive_table.specs.Table.{is_same};
 ghost use Rattle.archive_world.specs.World.{newly_sent, newly_got};
-ghost use Rattle.archive_world.specs.Inside.{IsFirst, Answers, running_of, newly_fetched};
+ghost use Rattle.archive_world.specs.Inside.{IsFirst, StepsClient, running_of, newly_fetched};
 ghost use Rattle.archive_client.specs.Client.{client_timeout, client_datagram, phase_file, state_of};
 ghost use Rattle.tftp_ends.specs.Ends.{Verdict};
 
@@ -76,9 +76,9 @@ fn answered<A: Allocator + Copy>(
     was: State,
     out: Option<Out>,
 ) -> Result<Answered<A>, AllocError>
-    ensures sent { IfOk result (λ told. told.sent ≡ newly_sent was (state_of (running_of client.now))) }
-    ensures file { IfOk result (λ told. told.file ≡ newly_fetched (newly_got was (state_of (running_of client.now))) (phase_file (running_of client.now).phase)) }
-    ensures out { IfOk result (λ told. told.out ≡ out) }
+    ensures sent { IfOk result (λ answered. answered.sent ≡ newly_sent was (state_of (running_of client.now))) }
+    ensures file { IfOk result (λ answered. answered.file ≡ newly_fetched (newly_got was (state_of (running_of client.now))) (phase_file (running_of client.now).phase)) }
+    ensures out { IfOk result (λ answered. answered.out ≡ out) }
 {
     let now = client.state();
     let sent = is_newly_sent(was, now);
@@ -106,7 +106,7 @@ pub(crate) fn wait_at<A: Allocator + Copy>(
 ) -> Result<Answered<A>, AllocError>
     requires first { IsFirst (is_same e) i clients.old.items }
     requires within { i < length clients.old.items }
-    ensures { IfOk result (λ told. Answers client_timeout e clients.old.items clients.new.items told.sent told.file told.out) }
+    ensures { IfOk result (λ answered. StepsClient client_timeout e clients.old.items clients.new.items answered.sent answered.file answered.out) }
 {
     let seat = &mut clients[i];
     let was = seat.running.state();
@@ -120,7 +120,7 @@ pub(crate) fn wait_at<A: Allocator + Copy>(
 /// # Errors
 ///
 /// Out of memory for a copy of a file.
-pub(crate) fn hear_at<A: Allocator + Copy>(
+pub(crate) fn receive_at<A: Allocator + Copy>(
     alloc: A,
     clients: &mut Vec<Seat<A>, A>,
     i: usize,
@@ -128,10 +128,10 @@ pub(crate) fn hear_at<A: Allocator + Copy>(
 ) -> Result<Answered<A>, AllocError>
     requires first { IsFirst (is_same d.now.target) i clients.old.items }
     requires within { i < length clients.old.items }
-    ensures { IfOk result (λ told. (verdict : Verdict) × Answers (client_datagram verdict d.now.source d.now.bytes) d.now.target clients.old.items clients.new.items told.sent told.file told.out) }
+    ensures { IfOk result (λ answered. (verdict : Verdict) × StepsClient (client_datagram verdict d.now.source d.now.bytes) d.now.target clients.old.items clients.new.items answered.sent answered.file answered.out) }
 {
     let seat = &mut clients[i];
     let was = seat.running.state();
-    let out = seat.running.hear(d.from, d.bytes.as_slice());
+    let out = seat.running.receive(d.from, d.bytes.as_slice());
     answered(alloc, &seat.running, was, out)
 }

@@ -14,11 +14,11 @@ pub struct TakenFile<A: Allocator = Global> {
 }
 
 impl<A: Allocator> Model for TakenFile<A> {
-    ghost use Rattle.archive_table.specs.Server.{Taken};
+    ghost use Rattle.archive_table.specs.Table.{Taken};
 
     ghost Value = { Taken };
 
-    ghost use Rattle.archive_world.specs.View.{taken_of};
+    ghost use Rattle.archive_world.specs.View.{taken_file_of};
 
-    ghost view = { taken_of };
+    ghost view = { taken_file_of };
 }

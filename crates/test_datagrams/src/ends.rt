@@ -63,7 +63,7 @@ fn sends_ack(out: &Option<Dgram>, n: u16) -> bool {
 
 // What a sender is given: an ACK with this number, or a time-out.
 #[derive(Clone, Copy)]
-enum Heard {
+enum Input {
     Ack(u16),
     Nothing,
 }
@@ -84,12 +84,12 @@ fn sends_block(out: &Option<Dgram>, blocks: Blocks, n: u16) -> bool {
 fn plays_sender(
     sender: &mut Sender<Owned>,
     blocks: Blocks,
-    rows: &[(Heard, Option<u16>, SendState)],
+    rows: &[(Input, Option<u16>, SendState)],
 ) -> bool {
-    for (heard, answer, state) in rows {
-        let out = match *heard {
-            Heard::Ack(n) => sender.on_ack(n),
-            Heard::Nothing => sender.on_timeout(),
+    for (received, answer, state) in rows {
+        let out = match *received {
+            Input::Ack(n) => sender.on_ack(n),
+            Input::Nothing => sender.on_timeout(),
         };
         let is_right = match *answer {
             Some(n) => sends_block(&out, blocks, n),
@@ -106,7 +106,7 @@ fn plays_sender(
 fn sends(
     alloc: Global,
     blocks: Blocks,
-    rows: &[(Heard, Option<u16>, SendState)],
+    rows: &[(Input, Option<u16>, SendState)],
 ) -> Result<bool, Fail> {
     let (mut sender, first) = start(alloc, blocks)?;
     Ok(sends_block(&Some(first), blocks, 1) && plays_sender(&mut sender, blocks, rows))
@@ -145,35 +145,35 @@ fn a_repeated_ack_sends_nothing(rt: HostRuntime) -> Result<(), Fail> {
         last: 464,
     };
     let rows = [
-        (Heard::Ack(1), Some(2), SendState::Running),
-        (Heard::Ack(2), Some(3), SendState::Running),
-        (Heard::Ack(3), Some(4), SendState::Running),
-        (Heard::Ack(3), None, SendState::Running),
-        (Heard::Ack(3), None, SendState::Running),
-        (Heard::Ack(3), None, SendState::Running),
-        (Heard::Ack(3), None, SendState::Running),
-        (Heard::Nothing, Some(4), SendState::Running),
-        (Heard::Ack(4), None, SendState::Finished),
-        (Heard::Ack(4), None, SendState::Finished),
-        (Heard::Nothing, None, SendState::Finished),
+        (Input::Ack(1), Some(2), SendState::Running),
+        (Input::Ack(2), Some(3), SendState::Running),
+        (Input::Ack(3), Some(4), SendState::Running),
+        (Input::Ack(3), None, SendState::Running),
+        (Input::Ack(3), None, SendState::Running),
+        (Input::Ack(3), None, SendState::Running),
+        (Input::Ack(3), None, SendState::Running),
+        (Input::Nothing, Some(4), SendState::Running),
+        (Input::Ack(4), None, SendState::Finished),
+        (Input::Ack(4), None, SendState::Finished),
+        (Input::Nothing, None, SendState::Finished),
     ];
     assert!(rt; sends(rt.alloc(), blocks, &rows)?);
     Ok(())
 }
 
 // The rows of a sender of two blocks that gives up.
-fn rows_to_the_end() -> [(Heard, Option<u16>, SendState); 23] {
-    let wait = (Heard::Nothing, Some(1), SendState::Running);
-    let again = (Heard::Nothing, Some(2), SendState::Running);
-    let before = (Heard::Ack(0), None, SendState::Running);
-    let last = (Heard::Ack(1), None, SendState::Running);
-    let after = (Heard::Ack(3), None, SendState::Running);
+fn rows_to_the_end() -> [(Input, Option<u16>, SendState); 23] {
+    let wait = (Input::Nothing, Some(1), SendState::Running);
+    let again = (Input::Nothing, Some(2), SendState::Running);
+    let before = (Input::Ack(0), None, SendState::Running);
+    let last = (Input::Ack(1), None, SendState::Running);
+    let after = (Input::Ack(3), None, SendState::Running);
     [
         wait,
         wait,
         wait,
         wait,
-        (Heard::Ack(1), Some(2), SendState::Running),
+        (Input::Ack(1), Some(2), SendState::Running),
         again,
         before,
         last,
@@ -190,8 +190,8 @@ fn rows_to_the_end() -> [(Heard, Option<u16>, SendState); 23] {
         before,
         last,
         after,
-        (Heard::Nothing, None, SendState::TimedOut),
-        (Heard::Ack(2), None, SendState::TimedOut),
+        (Input::Nothing, None, SendState::TimedOut),
+        (Input::Ack(2), None, SendState::TimedOut),
     ]
 }
 

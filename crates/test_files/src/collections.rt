@@ -55,11 +55,11 @@ pub(crate) fn has_text(alloc: Global, collection: &Collection, wanted: &[u8]) ->
 // Whether the files, merged in this order into a collection of this ruleset, result in this text.
 fn are_merged_to(
     alloc: Global,
-    kind: Ruleset,
+    ruleset: Ruleset,
     files: &[&[u8]],
     wanted: &[u8],
 ) -> Result<bool, Fail> {
-    let mut collection = Collection::new(alloc, kind);
+    let mut collection = Collection::new(alloc, ruleset);
     for file in files {
         merge(alloc, &mut collection, file)?;
     }

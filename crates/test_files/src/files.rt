@@ -289,7 +289,7 @@ fn packed<A: Allocator + Copy>(alloc: A, bytes: &[u8]) -> Result<Vec<u8, A>, Fai
     written(alloc, &packed)
 }
 
-const EVERY_KIND: [u8; 76] = [
+const EVERY_RULESET: [u8; 76] = [
     0x35, 0x33, 0x9B, 0x99, 0x02, 0x03, 0x04, 0x02, 0xAB, 0xCD, 0x10, 0, 0, 0, 0, 0, 0, 0, 0, 0,
     0x61, 0x20, 0x73, 0x65, 0x74, 0x20, 0x6F, 0x66, 0x20, 0x6C, 6, 0, 0, 0, 0, 0, 0, 0, 0, 0, 6, 0,
     0, 0, 2, 0, 0x41, 0x42, 0x43, 0x44, 0, 0, 0, 0, 0x12, 0, 0, 0, 1, 2, 0x42, 0x44, 0x48, 0x50, 3,
@@ -298,11 +298,11 @@ const EVERY_KIND: [u8; 76] = [
 
 #[test]
 fn what_is_read_is_written(rt: HostRuntime) -> Result<(), Fail> {
-    let written = rewritten(rt.alloc(), &EVERY_KIND)?;
-    let packed = packed(rt.alloc(), &EVERY_KIND)?;
+    let written = rewritten(rt.alloc(), &EVERY_RULESET)?;
+    let packed = packed(rt.alloc(), &EVERY_RULESET)?;
     assert_eq!(rt;
         (written.as_slice(), packed.as_slice()),
-        (EVERY_KIND.as_slice(), EVERY_KIND.as_slice())
+        (EVERY_RULESET.as_slice(), EVERY_RULESET.as_slice())
     );
     Ok(())
 }
@@ -311,7 +311,7 @@ fn what_is_read_is_written(rt: HostRuntime) -> Result<(), Fail> {
 fn large_file<A: Allocator>(alloc: A) -> Result<Vec<u8, A>, Fail> {
     let mut large = Vec::from_slice(alloc, EMPTY_LYNX)?;
     for _ in 0..10_000 {
-        large.extend_from_slice(&EVERY_KIND[54..])?;
+        large.extend_from_slice(&EVERY_RULESET[54..])?;
     }
     Ok(large)
 }

@@ -40,10 +40,10 @@ pub(crate) fn keep(
 pub(crate) fn loads(
     rt: HostRuntime,
     keeper: &mut DirKeeper<HostRuntime>,
-    kind: Ruleset,
+    ruleset: Ruleset,
     text: &[u8],
 ) -> Result<bool, Fail> {
-    match keeper.load(rt.alloc(), kind)? {
+    match keeper.load(rt.alloc(), ruleset)? {
         Some(loaded) => Ok(loaded.as_slice() == text),
         None => Ok(false),
     }
@@ -52,9 +52,9 @@ pub(crate) fn loads(
 fn loads_none(
     rt: HostRuntime,
     keeper: &mut DirKeeper<HostRuntime>,
-    kind: Ruleset,
+    ruleset: Ruleset,
 ) -> Result<bool, Fail> {
-    Ok(keeper.load(rt.alloc(), kind)?.is_none())
+    Ok(keeper.load(rt.alloc(), ruleset)?.is_none())
 }
 
 // Whether a keeper over a new folder loads nothing, keeps the first file and loads it, and keeps the second.

@@ -1,6 +1,6 @@
 // A download from the server's table does not allocate after its first block, nor to open if another one has its text.
 use crate::blocks::Blocks;
-use crate::table::{REQUEST, ask, goes, hear};
+use crate::table::{REQUEST, ask, goes, handle};
 use archive_table::Table;
 use refusing::Refusing;
 use std::alloc::{Allocator, Global};
@@ -13,8 +13,8 @@ fn takes<A: Allocator + Copy>(table: &mut Table<A>, file: &Blocks) -> bool {
         return false;
     };
     step.opened
-        && hear(table, 4000, ALICE, &file.first).taken.is_none()
-        && hear(table, 4000, ALICE, &file.second).taken.is_some()
+        && handle(table, 4000, ALICE, &file.first).taken.is_none()
+        && handle(table, 4000, ALICE, &file.second).taken.is_some()
 }
 
 // Whether a download is opened, and its first block is the file's.
@@ -28,9 +28,9 @@ fn opens<A: Allocator + Copy>(table: &mut Table<A>, file: &Blocks) -> bool {
 // Whether a block is sent again at a time-out, ACK 0 has no effect, and a stranger is sent its ERROR.
 fn repeats<A: Allocator + Copy>(table: &mut Table<A>, block: &[u8]) -> bool {
     goes(&table.on_timeout(4001).out, 4001, BOB, block)
-        && hear(table, 4001, BOB, ACK_0).out.is_none()
+        && handle(table, 4001, BOB, ACK_0).out.is_none()
         && goes(
-            &hear(table, 4001, ALICE, ACK_1).out,
+            &handle(table, 4001, ALICE, ACK_1).out,
             4001,
             ALICE,
             UNKNOWN_TRANSFER,
@@ -43,10 +43,10 @@ fn goes_on<A: Allocator + Copy>(table: &mut Table<A>, file: &Blocks) -> bool {
     if !repeats(table, &file.first) {
         return false;
     }
-    let second = hear(table, 4001, BOB, ACK_1);
+    let second = handle(table, 4001, BOB, ACK_1);
     goes(&second.out, 4001, BOB, &file.second)
         && repeats(table, &file.second)
-        && hear(table, 4001, BOB, ACK_2).closed
+        && handle(table, 4001, BOB, ACK_2).closed
         && table.live() == 1
 }
 
@@ -73,7 +73,7 @@ fn opens_at<A: Allocator + Copy>(table: &mut Table<A>, port: u16) -> bool {
 
 // Whether an ERROR of its peer closes it.
 fn closes_at<A: Allocator + Copy>(table: &mut Table<A>, port: u16) -> bool {
-    hear(table, port, BOB, b"\0\x05\0\0\0").closed
+    handle(table, port, BOB, b"\0\x05\0\0\0").closed
 }
 
 // The second download has the snapshot of the first. It is dropped with the last of them, so the next one allocates.

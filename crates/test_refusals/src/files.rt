@@ -1,6 +1,6 @@
 // Reading and listing a solution file.
 ghost use Rattle.std.specs.Prelude.{ℕ, ◌+◌, length};
-ghost use Rattle.tws_file.specs.Reader.{HasRoom, HasAtMost};
+ghost use Rattle.tws_file.specs.Reader.{HasRoomFor, HasAtMost};
 
 use refusing::{Outcome, Refusing, refuse_each};
 use std::alloc::{Allocator, Global};
@@ -9,7 +9,7 @@ use test_samples::CUT_MOVE;
 use tws_file::{FileFault, OutFault, Reader, TwsFile, read_file, show};
 
 // Two further header bytes, then a set record, a bare one, a pad, and a solution with two bytes of moves.
-const EVERY_KIND: [u8; 66] = [
+const EVERY_RULESET: [u8; 66] = [
     0x35, 0x33, 0x9B, 0x99, 0x02, 0x00, 0x00, 0x02, 0xAB, 0xCD, 0x10, 0x00, 0x00, 0x00, 0x00, 0x00,
     0x00, 0x00, 0x00, 0x00, 0x61, 0x20, 0x73, 0x65, 0x74, 0x20, 0x6F, 0x66, 0x20, 0x6C, 0x06, 0x00,
     0x00, 0x00, 0x02, 0x00, 0x41, 0x42, 0x43, 0x44, 0x00, 0x00, 0x00, 0x00, 0x12, 0x00, 0x00, 0x00,
@@ -32,7 +32,7 @@ fn reading(rt: HostRuntime) -> Result<(), Fail> {
         global,
         4,
         &|refusing: &Refusing<Global>| {
-            match read_file(refusing, &EVERY_KIND) {
+            match read_file(refusing, &EVERY_RULESET) {
                 Ok(file) => Outcome::of(is_listed(global, &file)),
                 Err(fault) => Outcome::refused(fault == FileFault::Memory),
             }
@@ -52,7 +52,7 @@ fn list(global: Global, refusing: &Refusing<Global>, file: &TwsFile) -> Outcome 
 #[test]
 fn listing(rt: HostRuntime) -> Result<(), Fail> {
     let global = rt.alloc();
-    let file = read_file(global, &EVERY_KIND)?;
+    let file = read_file(global, &EVERY_RULESET)?;
     Ok(refuse_each(
         global,
         2,
@@ -75,7 +75,7 @@ fn a_cut_record_of_the_greatest_size(rt: HostRuntime) {
 
 // Pushes a piece, and once more if that was out of memory.
 fn push_again<A: Allocator + Copy>(reader: &mut Reader<A>, piece: &[u8]) -> Result<(), FileFault>
-    requires { HasRoom reader.old piece.now }
+    requires { HasRoomFor reader.old piece.now }
     ensures { (n : ℕ) → HasAtMost reader.old n → HasAtMost reader.new (n + length piece.now) }
 {
     match reader.push(piece) {
@@ -87,8 +87,8 @@ fn push_again<A: Allocator + Copy>(reader: &mut Reader<A>, piece: &[u8]) -> Resu
 // Reads the file byte by byte. A push that was out of memory is made again, so that the answer is the complete one.
 fn read_again(global: Global, refusing: &Refusing<Global>) -> Result<bool, FileFault> {
     let mut reader = Reader::new(refusing);
-    for i in 0..EVERY_KIND.len() {
-        push_again(&mut reader, &EVERY_KIND[i..i + 1])?;
+    for i in 0..EVERY_RULESET.len() {
+        push_again(&mut reader, &EVERY_RULESET[i..i + 1])?;
     }
     Ok(is_listed(global, &reader.finish()?))
 }

@@ -214,13 +214,13 @@ fn judge_restart<A: Allocator + Copy>(left: &Left<A>, keeper: &MemoryKeeper<A>) 
         && is_datagram(first, at(4000), ALICE, ACK_0)
         && is_datagram(block, ALICE, at(4000), DATA_HUNDRED);
     if left.taken.is_empty() {
-        let is_told = is_datagram(last, at(4000), ALICE, OUT_OF_MEMORY)
+        let is_reported = is_datagram(last, at(4000), ALICE, OUT_OF_MEMORY)
             || is_datagram(last, at(4000), ALICE, NOT_KEPT);
         let is_nothing = has_nothing(left) && keeper.kept().is_empty();
-        return Outcome::refused(is_begun && is_told && is_nothing);
+        return Outcome::refused(is_begun && is_reported && is_nothing);
     }
-    let is_told = is_datagram(last, at(4000), ALICE, ACK_1);
-    Outcome::of(is_begun && is_told && has_file(left, &[]) && keeps_file(keeper))
+    let is_reported = is_datagram(last, at(4000), ALICE, ACK_1);
+    Outcome::of(is_begun && is_reported && has_file(left, &[]) && keeps_file(keeper))
 }
 
 // What was refused in any run, besides the allocations of the replay itself.

@@ -51,7 +51,7 @@ fn fetch(global: Global, refusing: &Refusing<Global>) -> Outcome {
     }
 }
 
-// The server is told, and nothing is written.
+// The server receives an ERROR, and nothing is written.
 #[test]
 fn fetching(rt: HostRuntime) -> Result<(), Fail> {
     let global = rt.alloc();

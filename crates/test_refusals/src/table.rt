@@ -35,7 +35,7 @@ pub(crate) fn ask<A: Allocator + Copy>(
 }
 
 // Passes a datagram to a table whose keeper keeps nothing.
-pub(crate) fn hear<A: Allocator + Copy>(
+pub(crate) fn handle<A: Allocator + Copy>(
     table: &mut Table<A>,
     port: u16,
     from: Endpoint,
@@ -87,7 +87,7 @@ fn has_taken<A: Allocator + Copy>(global: Global, step: &Step<A>, file: &[u8]) -
 
 // Passes the block that completes a file to its open transfer. Returns an outcome if it is not taken and acknowledged.
 fn give_file<A: Allocator + Copy>(global: Global, table: &mut Table<A>) -> Result<(), Outcome> {
-    let step = hear(table, 4000, ALICE, DATA_HUNDRED);
+    let step = handle(table, 4000, ALICE, DATA_HUNDRED);
     if step.taken.is_none() {
         return Err(Outcome::refused(is_let_go(table, &step)));
     }
@@ -150,7 +150,7 @@ fn is_turned_down<A: Allocator + Copy>(table: &Table<A>, step: &Step<A>) -> bool
 
 // Whether the transfer whose file was taken goes on: it acknowledges its block again.
 fn acks_again<A: Allocator + Copy>(table: &mut Table<A>) -> bool {
-    let step = hear(table, 4000, ALICE, DATA_HUNDRED);
+    let step = handle(table, 4000, ALICE, DATA_HUNDRED);
     step.taken.is_none() && goes(&step.out, 4000, ALICE, ACK_1)
 }
 

@@ -1,7 +1,7 @@
 // Uploads of two blocks to the server's table: each allocation is refused in turn, and repeated blocks and time-outs do
 // not allocate.
 use crate::blocks::Blocks;
-use crate::table::{REQUEST, goes, hear, is_let_go, open};
+use crate::table::{REQUEST, goes, handle, is_let_go, open};
 use archive_table::{Step, Table};
 use refusing::{Outcome, Refusing, refuse_each};
 use std::alloc::{Allocator, Global};
@@ -30,7 +30,7 @@ fn give_blocks<A: Allocator + Copy>(
     at_the_first: &Cell<u64>,
 ) -> Outcome {
     let file = Blocks::new();
-    let first = hear(table, 4000, ALICE, &file.first);
+    let first = handle(table, 4000, ALICE, &file.first);
     if first.closed {
         at_the_first.set(at_the_first.get().saturating_add(1));
         return Outcome::refused(is_let_go(table, &first));
@@ -38,7 +38,7 @@ fn give_blocks<A: Allocator + Copy>(
     if !goes(&first.out, 4000, ALICE, ACK_1) {
         return Outcome::Wrong;
     }
-    let second = hear(table, 4000, ALICE, &file.second);
+    let second = handle(table, 4000, ALICE, &file.second);
     if second.closed {
         return Outcome::refused(is_let_go(table, &second));
     }
@@ -69,13 +69,13 @@ fn a_file_of_two_blocks(rt: HostRuntime) -> Result<(), Fail> {
 
 // Whether the last block is acknowledged again if it is repeated, and at a time-out.
 fn repeats<A: Allocator + Copy>(table: &mut Table<A>, block: &[u8], ack: &[u8]) -> bool {
-    goes(&hear(table, 4000, ALICE, block).out, 4000, ALICE, ack)
+    goes(&handle(table, 4000, ALICE, block).out, 4000, ALICE, ack)
         && goes(&table.on_timeout(4000).out, 4000, ALICE, ack)
 }
 
 // Whether a taken file's last block is acknowledged again, and the second time-out then ends the transfer.
 fn dallies<A: Allocator + Copy>(table: &mut Table<A>, block: &[u8]) -> bool {
-    goes(&hear(table, 4000, ALICE, block).out, 4000, ALICE, ACK_2)
+    goes(&handle(table, 4000, ALICE, block).out, 4000, ALICE, ACK_2)
         && table.on_timeout(4000).out.is_none()
         && table.on_timeout(4000).closed
 }
@@ -91,7 +91,7 @@ fn repeated_blocks_and_timeouts(rt: HostRuntime) -> Result<(), Fail> {
     assert_eq!(rt; refusing.requests(), opened);
     assert!(rt;
         goes(
-            &hear(&mut table, 4000, ALICE, &file.first).out,
+            &handle(&mut table, 4000, ALICE, &file.first).out,
             4000,
             ALICE,
             ACK_1
@@ -100,7 +100,11 @@ fn repeated_blocks_and_timeouts(rt: HostRuntime) -> Result<(), Fail> {
     let received = refusing.requests();
     assert!(rt; repeats(&mut table, &file.first, ACK_1));
     assert_eq!(rt; refusing.requests(), received);
-    assert!(rt; hear(&mut table, 4000, ALICE, &file.second).taken.is_some());
+    assert!(rt;
+        handle(&mut table, 4000, ALICE, &file.second)
+            .taken
+            .is_some()
+    );
     let taken = refusing.requests();
     assert!(rt; dallies(&mut table, &file.second));
     assert_eq!(rt; refusing.requests(), taken);

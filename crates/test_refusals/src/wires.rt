@@ -11,7 +11,7 @@ fn is_telling<A: Allocator + Copy>(wire: &MemoryWire<A>, calls: usize) -> bool {
 }
 
 // Whether the first call failed because the log could not grow, and the next one succeeds. Its entry is in the log, but
-// the wire never tells its log again.
+// the wire never has a log again.
 fn has_stopped<A: Allocator + Copy>(wire: &mut MemoryWire<A>) -> bool {
     let stopped = !wire.telling() && wire.failures() == 1;
     let done = wire.close(4001).is_ok();

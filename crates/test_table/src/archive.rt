@@ -35,7 +35,7 @@ impl Archive {
     }
 
     // Handles a datagram at a transfer's port.
-    pub(crate) fn hear<K: Keeper>(
+    pub(crate) fn handle<K: Keeper>(
         &mut self,
         keeper: &mut K,
         port: u16,
@@ -55,9 +55,9 @@ impl Archive {
     }
 
     // The text of a collection.
-    pub(crate) fn text(&self, alloc: Global, kind: Ruleset) -> Result<Vec<u8>, Fail> {
+    pub(crate) fn text(&self, alloc: Global, ruleset: Ruleset) -> Result<Vec<u8>, Fail> {
         let mut text = Vec::new(alloc);
-        self.table.collection(kind).write_text(&mut text)?;
+        self.table.collection(ruleset).write_text(&mut text)?;
         Ok(text)
     }
 }
@@ -75,7 +75,7 @@ pub(crate) struct Wanted<'a> {
 // The same for a step by hand, by what it does: it sends these bytes from this port to the client on this host, opens a
 // transfer with them, takes the file that is named last, or closes its transfer.
 #[derive(Clone, Copy)]
-pub(crate) enum Told<'a> {
+pub(crate) enum Then<'a> {
     Nothing,
     Sends(u16, u32, &'a [u8]),
     Opens(u16, u32, &'a [u8]),
@@ -84,17 +84,17 @@ pub(crate) enum Told<'a> {
     Ends,
 }
 
-fn wanted_of(told: Told<'_>) -> Wanted<'_> {
-    let (out, opened, taken, closed) = match told {
-        Told::Nothing => (None, false, None, false),
-        Told::Sends(port, host, bytes) => (Some((port, client(host), bytes)), false, None, false),
-        Told::Opens(port, host, bytes) => (Some((port, client(host), bytes)), true, None, false),
-        Told::Takes(port, host, bytes, file) => {
+fn wanted_of(then: Then<'_>) -> Wanted<'_> {
+    let (out, opened, taken, closed) = match then {
+        Then::Nothing => (None, false, None, false),
+        Then::Sends(port, host, bytes) => (Some((port, client(host), bytes)), false, None, false),
+        Then::Opens(port, host, bytes) => (Some((port, client(host), bytes)), true, None, false),
+        Then::Takes(port, host, bytes, file) => {
             let to = client(host);
             (Some((port, to, bytes)), false, Some((to, file)), false)
         }
-        Told::Closes(port, host, bytes) => (Some((port, client(host), bytes)), false, None, true),
-        Told::Ends => (None, false, None, true),
+        Then::Closes(port, host, bytes) => (Some((port, client(host), bytes)), false, None, true),
+        Then::Ends => (None, false, None, true),
     };
     Wanted {
         out,
@@ -131,8 +131,8 @@ pub(crate) fn is_step(alloc: Global, step: &Step, wanted: Wanted<'_>) -> Result<
     )
 }
 
-pub(crate) fn has_told(alloc: Global, step: &Step, told: Told<'_>) -> Result<bool, Fail> {
-    is_step(alloc, step, wanted_of(told))
+pub(crate) fn is_wanted(alloc: Global, step: &Step, then: Then<'_>) -> Result<bool, Fail> {
+    is_step(alloc, step, wanted_of(then))
 }
 
 // The endpoints of the clients: host 2 is the first.
@@ -145,14 +145,14 @@ pub(crate) fn client(host: u32) -> Endpoint {
 #[derive(Clone, Copy)]
 pub(crate) enum Input<'a> {
     Ask(u16, u32, &'a [u8]),
-    Hear(u16, u32, &'a [u8]),
+    Recv(u16, u32, &'a [u8]),
     Wait(u16),
 }
 
 fn step<K: Keeper>(archive: &mut Archive, keeper: &mut K, input: Input<'_>) -> Result<Step, Fail> {
     match input {
         Input::Ask(spare, host, bytes) => archive.ask(spare, client(host), bytes),
-        Input::Hear(port, host, bytes) => Ok(archive.hear(keeper, port, client(host), bytes)),
+        Input::Recv(port, host, bytes) => Ok(archive.handle(keeper, port, client(host), bytes)),
         Input::Wait(port) => Ok(archive.wait(port)),
     }
 }
@@ -162,11 +162,11 @@ pub(crate) fn first_other<K: Keeper>(
     alloc: Global,
     archive: &mut Archive,
     keeper: &mut K,
-    rows: &[(Input<'_>, Told<'_>)],
+    rows: &[(Input<'_>, Then<'_>)],
 ) -> Result<Option<usize>, Fail> {
-    for (i, (input, told)) in rows.iter().enumerate() {
+    for (i, (input, then)) in rows.iter().enumerate() {
         let step = step(archive, keeper, *input)?;
-        if !has_told(alloc, &step, *told)? {
+        if !is_wanted(alloc, &step, *then)? {
             return Ok(Some(i));
         }
     }
@@ -214,7 +214,7 @@ fn other_at<K: Keeper>(
     alloc: Global,
     archive: &mut Archive,
     keeper: &mut K,
-    rows: &[(Input<'_>, Told<'_>)],
+    rows: &[(Input<'_>, Then<'_>)],
     left: Left<'_>,
 ) -> Result<Option<usize>, Fail> {
     let other = first_other(alloc, archive, keeper, rows)?;
@@ -231,7 +231,7 @@ pub(crate) fn other_of<K: Keeper>(
     alloc: Global,
     archive: Archive,
     keeper: &mut K,
-    rows: &[(Input<'_>, Told<'_>)],
+    rows: &[(Input<'_>, Then<'_>)],
     left: Left<'_>,
 ) -> Result<Option<usize>, Fail> {
     let mut archive = archive;
@@ -241,7 +241,7 @@ pub(crate) fn other_of<K: Keeper>(
 // The same for a new archive, whose keeper has nothing yet.
 pub(crate) fn other_of_new(
     alloc: Global,
-    rows: &[(Input<'_>, Told<'_>)],
+    rows: &[(Input<'_>, Then<'_>)],
     left: Left<'_>,
 ) -> Result<Option<usize>, Fail> {
     let mut keeper = MemoryKeeper::new(alloc);

@@ -1,6 +1,6 @@
 // Datagrams at a transfer's port.
 use crate::archive::{
-    Archive, Input, Left, NOTHING, Told, client, first_other, has_told, is_live, other_of,
+    Archive, Input, Left, NOTHING, Then, client, first_other, is_live, is_wanted, other_of,
     other_of_new,
 };
 use archive_table::{NoKeeper, Step};
@@ -25,19 +25,19 @@ const LONG_HEADER: &[u8; 32] =
 #[test]
 fn a_request_that_came_twice(rt: HostRuntime) -> Result<(), Fail> {
     let rows = [
-        (Input::Ask(4000, 2, WRQ), Told::Opens(4000, 2, ACK_0)),
-        (Input::Ask(4001, 2, WRQ), Told::Opens(4001, 2, ACK_0)),
-        (Input::Hear(4001, 2, UNKNOWN_TRANSFER), Told::Ends),
+        (Input::Ask(4000, 2, WRQ), Then::Opens(4000, 2, ACK_0)),
+        (Input::Ask(4001, 2, WRQ), Then::Opens(4001, 2, ACK_0)),
+        (Input::Recv(4001, 2, UNKNOWN_TRANSFER), Then::Ends),
         (
-            Input::Hear(4000, 2, DATA_HUNDRED),
-            Told::Takes(4000, 2, ACK_1, HUNDRED),
+            Input::Recv(4000, 2, DATA_HUNDRED),
+            Then::Takes(4000, 2, ACK_1, HUNDRED),
         ),
         (
-            Input::Hear(4000, 2, DATA_HUNDRED),
-            Told::Sends(4000, 2, ACK_1),
+            Input::Recv(4000, 2, DATA_HUNDRED),
+            Then::Sends(4000, 2, ACK_1),
         ),
-        (Input::Wait(4000), Told::Nothing),
-        (Input::Wait(4000), Told::Ends),
+        (Input::Wait(4000), Then::Nothing),
+        (Input::Wait(4000), Then::Ends),
     ];
     let left = Left {
         lynx: HUNDRED,
@@ -53,16 +53,16 @@ fn another_source(rt: HostRuntime) -> Result<(), Fail> {
     let rows = [
         (
             Input::Ask(4000, 2, RRQ_LYNX),
-            Told::Opens(4000, 2, DATA_EMPTY_LYNX),
+            Then::Opens(4000, 2, DATA_EMPTY_LYNX),
         ),
         (
-            Input::Hear(4000, 3, ACK_1),
-            Told::Sends(4000, 3, UNKNOWN_TRANSFER),
+            Input::Recv(4000, 3, ACK_1),
+            Then::Sends(4000, 3, UNKNOWN_TRANSFER),
         ),
-        (Input::Hear(4000, 3, b"\0\x05\0\0\0"), Told::Nothing),
-        (Input::Hear(4000, 3, b"\0\x04\0"), Told::Nothing),
-        (Input::Wait(4000), Told::Sends(4000, 2, DATA_EMPTY_LYNX)),
-        (Input::Hear(4000, 2, ACK_1), Told::Ends),
+        (Input::Recv(4000, 3, b"\0\x05\0\0\0"), Then::Nothing),
+        (Input::Recv(4000, 3, b"\0\x04\0"), Then::Nothing),
+        (Input::Wait(4000), Then::Sends(4000, 2, DATA_EMPTY_LYNX)),
+        (Input::Recv(4000, 2, ACK_1), Then::Ends),
     ];
     assert_eq!(rt; other_of_new(rt.alloc(), &rows, NOTHING)?, None);
     Ok(())
@@ -71,39 +71,39 @@ fn another_source(rt: HostRuntime) -> Result<(), Fail> {
 #[test]
 fn malformed_datagrams_of_the_peer(rt: HostRuntime) -> Result<(), Fail> {
     let rows = [
-        (Input::Ask(4000, 2, WRQ), Told::Opens(4000, 2, ACK_0)),
-        (Input::Hear(4000, 2, &[0; 517]), Told::Nothing),
-        (Input::Hear(4000, 2, b"\0\x05\0\0\x61"), Told::Nothing),
-        (Input::Hear(4000, 2, b"\0\x04\0\0\0"), Told::Nothing),
-        (Input::Hear(4000, 2, WRQ), Told::Nothing),
-        (Input::Wait(4000), Told::Sends(4000, 2, ACK_0)),
-        (Input::Hear(4000, 2, b"\0\x05\0\0\0"), Told::Ends),
-        (Input::Hear(4000, 2, DATA_HUNDRED), Told::Nothing),
-        (Input::Wait(4000), Told::Nothing),
+        (Input::Ask(4000, 2, WRQ), Then::Opens(4000, 2, ACK_0)),
+        (Input::Recv(4000, 2, &[0; 517]), Then::Nothing),
+        (Input::Recv(4000, 2, b"\0\x05\0\0\x61"), Then::Nothing),
+        (Input::Recv(4000, 2, b"\0\x04\0\0\0"), Then::Nothing),
+        (Input::Recv(4000, 2, WRQ), Then::Nothing),
+        (Input::Wait(4000), Then::Sends(4000, 2, ACK_0)),
+        (Input::Recv(4000, 2, b"\0\x05\0\0\0"), Then::Ends),
+        (Input::Recv(4000, 2, DATA_HUNDRED), Then::Nothing),
+        (Input::Wait(4000), Then::Nothing),
     ];
     assert_eq!(rt; other_of_new(rt.alloc(), &rows, NOTHING)?, None);
     Ok(())
 }
 
-type Row = (Input<'static>, Told<'static>);
+type Row = (Input<'static>, Then<'static>);
 
 // The first file is taken, and its transfer ends.
 const TAKES_FIRST: [Row; 4] = [
-    (Input::Ask(4000, 2, WRQ), Told::Opens(4000, 2, ACK_0)),
+    (Input::Ask(4000, 2, WRQ), Then::Opens(4000, 2, ACK_0)),
     (
-        Input::Hear(4000, 2, DATA_HUNDRED),
-        Told::Takes(4000, 2, ACK_1, HUNDRED),
+        Input::Recv(4000, 2, DATA_HUNDRED),
+        Then::Takes(4000, 2, ACK_1, HUNDRED),
     ),
-    (Input::Wait(4000), Told::Nothing),
-    (Input::Wait(4000), Told::Ends),
+    (Input::Wait(4000), Then::Nothing),
+    (Input::Wait(4000), Then::Ends),
 ];
 
 // The better file is taken.
 const TAKES_BETTER: [Row; 2] = [
-    (Input::Ask(4200, 3, WRQ), Told::Opens(4200, 3, ACK_0)),
+    (Input::Ask(4200, 3, WRQ), Then::Opens(4200, 3, ACK_0)),
     (
-        Input::Hear(4200, 3, DATA_NINETY),
-        Told::Takes(4200, 3, ACK_1, NINETY),
+        Input::Recv(4200, 3, DATA_NINETY),
+        Then::Takes(4200, 3, ACK_1, NINETY),
     ),
 ];
 
@@ -113,12 +113,12 @@ fn downloads(alloc: Global) -> Result<Vec<Row>, Fail> {
     for port in 4101..4164 {
         rows.push((
             Input::Ask(port, 2, RRQ_LYNX),
-            Told::Opens(port, 2, DATA_HUNDRED),
+            Then::Opens(port, 2, DATA_HUNDRED),
         ))?;
     }
     rows.extend_from_slice(&TAKES_BETTER)?;
     for port in 4101..4164 {
-        rows.push((Input::Wait(port), Told::Sends(port, 2, DATA_HUNDRED)))?;
+        rows.push((Input::Wait(port), Then::Sends(port, 2, DATA_HUNDRED)))?;
     }
     Ok(rows)
 }
@@ -141,8 +141,8 @@ fn downloads_beside_an_upload(rt: HostRuntime) -> Result<(), Fail> {
 fn takes_sevens(alloc: Global, archive: &mut Archive, number: u16) -> Result<bool, Fail> {
     let [high, low] = number.to_be_bytes();
     let data = whole_block(number, 7);
-    let step = archive.hear(&mut NoKeeper, 4000, client(2), &data);
-    has_told(alloc, &step, Told::Sends(4000, 2, &[0, 4, high, low]))
+    let step = archive.handle(&mut NoKeeper, 4000, client(2), &data);
+    is_wanted(alloc, &step, Then::Sends(4000, 2, &[0, 4, high, low]))
 }
 
 // Opens a transfer that receives 65,534 whole blocks of sevens.
@@ -167,8 +167,8 @@ fn nearly_full(alloc: Global) -> Result<Archive, Fail> {
 fn refuses_a_block(alloc: Global) -> Result<bool, Fail> {
     let data = whole_block(65535, 7);
     let rows = [(
-        Input::Hear(4000, 2, &data),
-        Told::Closes(4000, 2, FILE_TOO_LONG),
+        Input::Recv(4000, 2, &data),
+        Then::Closes(4000, 2, FILE_TOO_LONG),
     )];
     let archive = nearly_full(alloc)?;
     Ok(other_of(alloc, archive, &mut NoKeeper, &rows, NOTHING)?.is_none())
@@ -188,12 +188,12 @@ fn takes_the_last(alloc: Global, file: &[u8]) -> Result<bool, Fail> {
     let last = b"\0\x04\xFF\xFF";
     let rows = [
         (
-            Input::Hear(4000, 2, &data),
-            Told::Takes(4000, 2, last, file),
+            Input::Recv(4000, 2, &data),
+            Then::Takes(4000, 2, last, file),
         ),
-        (Input::Hear(4000, 2, &data), Told::Sends(4000, 2, last)),
-        (Input::Hear(4000, 2, b"\0\x03\0\0end"), Told::Nothing),
-        (Input::Hear(4000, 2, b"\0\x03\0\x01end"), Told::Nothing),
+        (Input::Recv(4000, 2, &data), Then::Sends(4000, 2, last)),
+        (Input::Recv(4000, 2, b"\0\x03\0\0end"), Then::Nothing),
+        (Input::Recv(4000, 2, b"\0\x03\0\x01end"), Then::Nothing),
     ];
     let left = Left {
         live: 1,
@@ -230,9 +230,9 @@ fn long_file(
     for n in 0..whole_blocks {
         let [high, low] = n.wrapping_add(1).to_be_bytes();
         data[2..4].copy_from_slice(&[high, low]);
-        let step = archive.hear(&mut NoKeeper, port, host, &data);
-        let told = Told::Sends(port, u32::from(level), &[0, 4, high, low]);
-        if !has_told(alloc, &step, told)? {
+        let step = archive.handle(&mut NoKeeper, port, host, &data);
+        let then = Then::Sends(port, u32::from(level), &[0, 4, high, low]);
+        if !is_wanted(alloc, &step, then)? {
             return Ok(false);
         }
         data = [1; 516];
@@ -240,7 +240,7 @@ fn long_file(
     }
     data[2..4].copy_from_slice(&whole_blocks.wrapping_add(1).to_be_bytes());
     let rest = (size % 512) as usize;
-    let step = archive.hear(&mut NoKeeper, port, host, &data[..4 + rest]);
+    let step = archive.handle(&mut NoKeeper, port, host, &data[..4 + rest]);
     match step.taken {
         Some(taken) => Ok(taken.file.len() == u64::from(size)),
         None => Ok(false),
@@ -257,11 +257,11 @@ fn sends_the_other(alloc: Global) -> Result<bool, Fail> {
     let rows = [
         (
             Input::Ask(4003, 9, RRQ_LYNX),
-            Told::Sends(6969, 9, TOO_LONG),
+            Then::Sends(6969, 9, TOO_LONG),
         ),
         (
             Input::Ask(4003, 9, RRQ_MS),
-            Told::Opens(4003, 9, DATA_EMPTY_MS),
+            Then::Opens(4003, 9, DATA_EMPTY_MS),
         ),
     ];
     let mut archive = Archive::new(alloc);
@@ -302,7 +302,7 @@ fn is_served(archive: &mut Archive, port: u16, first: Step, text: &[u8]) -> Resu
             return Ok(false);
         }
         let ack = [0, 4, number[0], number[1]];
-        step = archive.hear(&mut NoKeeper, port, client(9), &ack);
+        step = archive.handle(&mut NoKeeper, port, client(9), &ack);
     }
     Ok(step.closed && step.out.is_none())
 }

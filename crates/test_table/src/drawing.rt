@@ -17,7 +17,7 @@ pub(crate) enum Input {
         from: Endpoint,
         bytes: Vec<u8>,
     },
-    Hear {
+    Recv {
         port: u16,
         from: Endpoint,
         bytes: Vec<u8>,
@@ -205,5 +205,5 @@ pub(crate) fn draw(
     }
     let from = if draws.once_in(10) { peer(draws) } else { from };
     let bytes = datagram(alloc, draws, plain, i, run)?;
-    Ok(Input::Hear { port, from, bytes })
+    Ok(Input::Recv { port, from, bytes })
 }

@@ -1,5 +1,5 @@
 // Collections that are kept, or not, and loaded again by a server that starts.
-use crate::archive::{Archive, Input, Left, NOTHING, Told, client, has_texts, is_live, other_of};
+use crate::archive::{Archive, Input, Left, NOTHING, Then, client, has_texts, is_live, other_of};
 use archive_table::{KeepFault, LoadFault, MemoryKeeper};
 use std::alloc::Global;
 use std::test::Fail;
@@ -26,7 +26,7 @@ fn was_given(keeper: &MemoryKeeper, wanted: &[(&[u8; 28], bool)]) -> bool {
 fn other_kept(
     alloc: Global,
     failing: u64,
-    rows: &[(Input<'_>, Told<'_>)],
+    rows: &[(Input<'_>, Then<'_>)],
     left: Left<'_>,
     given: &[(&[u8; 28], bool)],
 ) -> Result<Option<usize>, Fail> {
@@ -40,26 +40,26 @@ fn other_kept(
     Ok(if is_kept { None } else { Some(rows.len()) })
 }
 
-// A file that is not kept is refused, and joins no collection: a reader is sent the empty one, and the same file from
-// another client is given to the keeper again.
+// A file that is not kept is refused, and merged into no collection: a reader is sent the empty one, and the same file
+// from another client is given to the keeper again.
 #[test]
 fn a_keep_that_fails(rt: HostRuntime) -> Result<(), Fail> {
     let rows = [
-        (Input::Ask(4000, 2, WRQ), Told::Opens(4000, 2, ACK_0)),
+        (Input::Ask(4000, 2, WRQ), Then::Opens(4000, 2, ACK_0)),
         (
-            Input::Hear(4000, 2, DATA_HUNDRED),
-            Told::Closes(4000, 2, NOT_KEPT),
+            Input::Recv(4000, 2, DATA_HUNDRED),
+            Then::Closes(4000, 2, NOT_KEPT),
         ),
-        (Input::Wait(4000), Told::Nothing),
+        (Input::Wait(4000), Then::Nothing),
         (
             Input::Ask(4002, 4, RRQ_LYNX),
-            Told::Opens(4002, 4, DATA_EMPTY_LYNX),
+            Then::Opens(4002, 4, DATA_EMPTY_LYNX),
         ),
-        (Input::Hear(4002, 4, ACK_1), Told::Ends),
-        (Input::Ask(4001, 3, WRQ), Told::Opens(4001, 3, ACK_0)),
+        (Input::Recv(4002, 4, ACK_1), Then::Ends),
+        (Input::Ask(4001, 3, WRQ), Then::Opens(4001, 3, ACK_0)),
         (
-            Input::Hear(4001, 3, DATA_HUNDRED),
-            Told::Takes(4001, 3, ACK_1, HUNDRED),
+            Input::Recv(4001, 3, DATA_HUNDRED),
+            Then::Takes(4001, 3, ACK_1, HUNDRED),
         ),
     ];
     let left = Left {
@@ -77,19 +77,19 @@ fn a_keep_that_fails(rt: HostRuntime) -> Result<(), Fail> {
 #[test]
 fn a_better_file_that_is_not_kept(rt: HostRuntime) -> Result<(), Fail> {
     let rows = [
-        (Input::Ask(4000, 2, WRQ), Told::Opens(4000, 2, ACK_0)),
+        (Input::Ask(4000, 2, WRQ), Then::Opens(4000, 2, ACK_0)),
         (
-            Input::Hear(4000, 2, DATA_HUNDRED),
-            Told::Takes(4000, 2, ACK_1, HUNDRED),
+            Input::Recv(4000, 2, DATA_HUNDRED),
+            Then::Takes(4000, 2, ACK_1, HUNDRED),
         ),
-        (Input::Ask(4001, 3, WRQ), Told::Opens(4001, 3, ACK_0)),
+        (Input::Ask(4001, 3, WRQ), Then::Opens(4001, 3, ACK_0)),
         (
-            Input::Hear(4001, 3, DATA_NINETY),
-            Told::Closes(4001, 3, NOT_KEPT),
+            Input::Recv(4001, 3, DATA_NINETY),
+            Then::Closes(4001, 3, NOT_KEPT),
         ),
         (
             Input::Ask(4001, 4, RRQ_LYNX),
-            Told::Opens(4001, 4, DATA_HUNDRED),
+            Then::Opens(4001, 4, DATA_HUNDRED),
         ),
     ];
     let left = Left {
@@ -107,20 +107,20 @@ fn a_better_file_that_is_not_kept(rt: HostRuntime) -> Result<(), Fail> {
 #[test]
 fn nothing_to_keep(rt: HostRuntime) -> Result<(), Fail> {
     let rows = [
-        (Input::Ask(4000, 2, WRQ), Told::Opens(4000, 2, ACK_0)),
+        (Input::Ask(4000, 2, WRQ), Then::Opens(4000, 2, ACK_0)),
         (
-            Input::Hear(4000, 2, DATA_HUNDRED),
-            Told::Takes(4000, 2, ACK_1, HUNDRED),
+            Input::Recv(4000, 2, DATA_HUNDRED),
+            Then::Takes(4000, 2, ACK_1, HUNDRED),
         ),
-        (Input::Ask(4001, 3, WRQ), Told::Opens(4001, 3, ACK_0)),
+        (Input::Ask(4001, 3, WRQ), Then::Opens(4001, 3, ACK_0)),
         (
-            Input::Hear(4001, 3, DATA_HUNDRED),
-            Told::Takes(4001, 3, ACK_1, HUNDRED),
+            Input::Recv(4001, 3, DATA_HUNDRED),
+            Then::Takes(4001, 3, ACK_1, HUNDRED),
         ),
-        (Input::Ask(4002, 4, WRQ), Told::Opens(4002, 4, ACK_0)),
+        (Input::Ask(4002, 4, WRQ), Then::Opens(4002, 4, ACK_0)),
         (
-            Input::Hear(4002, 4, DATA_UNREADABLE),
-            Told::Takes(4002, 4, ACK_1, UNREADABLE),
+            Input::Recv(4002, 4, DATA_UNREADABLE),
+            Then::Takes(4002, 4, ACK_1, UNREADABLE),
         ),
     ];
     let left = Left {
@@ -225,7 +225,7 @@ fn loading(rt: HostRuntime) -> Result<(), Fail> {
 // Whether a server takes the file.
 fn takes(archive: &mut Archive, keeper: &mut MemoryKeeper) -> Result<bool, Fail> {
     archive.ask(4000, client(2), WRQ)?;
-    let step = archive.hear(keeper, 4000, client(2), DATA_HUNDRED);
+    let step = archive.handle(keeper, 4000, client(2), DATA_HUNDRED);
     Ok(step.taken.is_some())
 }
 

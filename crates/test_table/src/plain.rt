@@ -49,7 +49,7 @@ pub(crate) struct Transfer {
 // A collection that a keeper is given, and whether it keeps it.
 #[derive(Drop)]
 pub(crate) struct Keeping {
-    pub(crate) kind: Ruleset,
+    pub(crate) ruleset: Ruleset,
     pub(crate) text: Vec<u8>,
     pub(crate) keeps: bool,
 }
@@ -175,8 +175,8 @@ impl Plain {
         }
     }
 
-    pub(crate) fn text(&self, kind: Ruleset) -> Result<Vec<u8>, Fail> {
-        text(self.alloc, kind, self.collection(kind))
+    pub(crate) fn text(&self, ruleset: Ruleset) -> Result<Vec<u8>, Fail> {
+        text(self.alloc, ruleset, self.collection(ruleset))
     }
 
     pub(crate) fn place(&self, port: u16) -> Option<usize> {
@@ -364,15 +364,15 @@ impl Plain {
         }
     }
 
-    fn collection(&self, kind: Ruleset) -> &[Solution] {
-        match kind {
+    fn collection(&self, ruleset: Ruleset) -> &[Solution] {
+        match ruleset {
             Ruleset::Lynx => &self.lynx,
             Ruleset::Ms => &self.ms,
         }
     }
 
-    fn replace(&mut self, kind: Ruleset, collection: Vec<Solution>) {
-        match kind {
+    fn replace(&mut self, ruleset: Ruleset, collection: Vec<Solution>) {
+        match ruleset {
             Ruleset::Lynx => self.lynx = collection,
             Ruleset::Ms => self.ms = collection,
         }
@@ -382,29 +382,33 @@ impl Plain {
     // replaced only if `keeps`.
     fn merge(
         &mut self,
-        kind: Ruleset,
+        ruleset: Ruleset,
         solutions: Vec<Solution>,
         keeps: bool,
     ) -> Result<Option<Keeping>, Fail> {
         if !solutions
             .iter()
-            .any(|one| improves(self.collection(kind), one))
+            .any(|one| improves(self.collection(ruleset), one))
         {
             return Ok(None);
         }
-        let mut joined = copy(self.alloc, self.collection(kind))?;
+        let mut joined = copy(self.alloc, self.collection(ruleset))?;
         join(&mut joined, solutions)?;
-        let text = text(self.alloc, kind, &joined)?;
+        let text = text(self.alloc, ruleset, &joined)?;
         if keeps {
-            self.replace(kind, joined);
+            self.replace(ruleset, joined);
         }
-        Ok(Some(Keeping { kind, text, keeps }))
+        Ok(Some(Keeping {
+            ruleset,
+            text,
+            keeps,
+        }))
     }
 
     // Handles the whole file of the transfer at this place of the list.
     fn on_file(&mut self, i: usize, n: usize, file: Vec<u8>, keeps: bool) -> Result<Said, Fail> {
         let kept = match read(self.alloc, &file)? {
-            Some((kind, solutions)) => self.merge(kind, solutions, keeps)?,
+            Some((ruleset, solutions)) => self.merge(ruleset, solutions, keeps)?,
             None => None,
         };
         let mut said = if kept.is_some() && !keeps {

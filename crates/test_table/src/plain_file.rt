@@ -97,7 +97,7 @@ fn take_solution(alloc: Global, file: &[u8], at: usize, size: usize) -> Result<S
 
 // The ruleset of a file and its solutions; `None` if the bytes are not a file.
 pub(crate) fn read(alloc: Global, file: &[u8]) -> Result<Option<(Ruleset, Vec<Solution>)>, Fail> {
-    let kind = match byte(file, 4) {
+    let ruleset = match byte(file, 4) {
         1 => Ruleset::Lynx,
         2 => Ruleset::Ms,
         _ => return Ok(None),
@@ -119,7 +119,7 @@ pub(crate) fn read(alloc: Global, file: &[u8]) -> Result<Option<(Ruleset, Vec<So
         }
         at = at.wrapping_add(4).wrapping_add(size);
     }
-    Ok(Some((kind, solutions)))
+    Ok(Some((ruleset, solutions)))
 }
 
 // Fewer ticks are better, then fewer bytes, then lesser bytes.
@@ -189,8 +189,12 @@ pub(crate) fn copy(alloc: Global, collection: &[Solution]) -> Result<Vec<Solutio
     Ok(copy)
 }
 
-pub(crate) fn text(alloc: Global, kind: Ruleset, collection: &[Solution]) -> Result<Vec<u8>, Fail> {
-    let rules = match kind {
+pub(crate) fn text(
+    alloc: Global,
+    ruleset: Ruleset,
+    collection: &[Solution],
+) -> Result<Vec<u8>, Fail> {
+    let rules = match ruleset {
         Ruleset::Lynx => 1,
         Ruleset::Ms => 2,
     };

@@ -1,6 +1,6 @@
 // Datagrams at the request port.
 use crate::archive::{
-    Archive, Input, Left, NOTHING, Told, client, has_told, other_of, other_of_new,
+    Archive, Input, Left, NOTHING, Then, client, is_wanted, other_of, other_of_new,
 };
 use archive_table::NoKeeper;
 use std::alloc::Global;
@@ -19,9 +19,9 @@ fn a_request_to_read(rt: HostRuntime) -> Result<(), Fail> {
     let rows = [
         (
             Input::Ask(4000, 2, RRQ_WITH_OPTION),
-            Told::Opens(4000, 2, DATA_EMPTY_MS),
+            Then::Opens(4000, 2, DATA_EMPTY_MS),
         ),
-        (Input::Hear(4000, 2, ACK_1), Told::Ends),
+        (Input::Recv(4000, 2, ACK_1), Then::Ends),
     ];
     assert_eq!(rt; other_of_new(rt.alloc(), &rows, NOTHING)?, None);
     Ok(())
@@ -30,8 +30,8 @@ fn a_request_to_read(rt: HostRuntime) -> Result<(), Fail> {
 // A refused request leaves neither a transfer nor its port in use: the mode is checked before the name.
 #[test]
 fn requests_refused(rt: HostRuntime) -> Result<(), Fail> {
-    let octet_only = Told::Sends(6969, 2, OCTET_ONLY);
-    let no_such_file = Told::Sends(6969, 2, NO_SUCH_FILE);
+    let octet_only = Then::Sends(6969, 2, OCTET_ONLY);
+    let no_such_file = Then::Sends(6969, 2, NO_SUCH_FILE);
     let rows = [
         (Input::Ask(4000, 2, b"\0\x01ms.tws\0netascii\0"), octet_only),
         (Input::Ask(4000, 2, b"\0\x01MS.TWS\0netascii\0"), octet_only),
@@ -47,47 +47,47 @@ fn requests_refused(rt: HostRuntime) -> Result<(), Fail> {
 #[test]
 fn no_requests(rt: HostRuntime) -> Result<(), Fail> {
     let rows = [
-        (Input::Ask(4000, 2, b""), Told::Nothing),
-        (Input::Ask(4000, 2, b"\0\x03\0\x01"), Told::Nothing),
-        (Input::Ask(4000, 2, ACK_0), Told::Nothing),
-        (Input::Ask(4000, 2, b"\0\x05\0\0\0"), Told::Nothing),
-        (Input::Ask(4000, 2, b"\0\x06\0\0"), Told::Nothing),
+        (Input::Ask(4000, 2, b""), Then::Nothing),
+        (Input::Ask(4000, 2, b"\0\x03\0\x01"), Then::Nothing),
+        (Input::Ask(4000, 2, ACK_0), Then::Nothing),
+        (Input::Ask(4000, 2, b"\0\x05\0\0\0"), Then::Nothing),
+        (Input::Ask(4000, 2, b"\0\x06\0\0"), Then::Nothing),
         (
             Input::Ask(4000, 2, b"\0\x02upload.tws\0octet"),
-            Told::Nothing,
+            Then::Nothing,
         ),
-        (Input::Ask(4000, 2, &[0; 517]), Told::Nothing),
+        (Input::Ask(4000, 2, &[0; 517]), Then::Nothing),
     ];
     assert_eq!(rt; other_of_new(rt.alloc(), &rows, NOTHING)?, None);
     Ok(())
 }
 
 // Whether these bytes at the request port, with this spare port, make this step.
-fn tells(
+fn answers(
     alloc: Global,
     archive: &mut Archive,
     spare: u16,
     bytes: &[u8],
-    told: Told<'_>,
+    then: Then<'_>,
 ) -> Result<bool, Fail> {
     let step = archive.ask(spare, client(2), bytes)?;
-    has_told(alloc, &step, told)
+    is_wanted(alloc, &step, then)
 }
 
 // Whether the first `count` bytes of the request have no effect, or open a transfer once they have the byte that ends
 // its mode.
 fn is_answered(alloc: Global, count: usize) -> Result<bool, Fail> {
-    let told = if count < 15 {
-        Told::Nothing
+    let then = if count < 15 {
+        Then::Nothing
     } else {
-        Told::Opens(4000, 2, DATA_EMPTY_MS)
+        Then::Opens(4000, 2, DATA_EMPTY_MS)
     };
-    tells(
+    answers(
         alloc,
         &mut Archive::new(alloc),
         4000,
         &RRQ_WITH_OPTION[..count.min(28)],
-        told,
+        then,
     )
 }
 
@@ -103,8 +103,8 @@ fn a_request_cut_short(rt: HostRuntime) -> Result<(), Fail> {
 // Opens 64 transfers, at the ports from 4001 on.
 fn fill(alloc: Global, archive: &mut Archive) -> Result<(), Fail> {
     for port in 4001..4065 {
-        let told = Told::Opens(port, 2, ACK_0);
-        if !tells(alloc, archive, port, WRQ, told)? {
+        let then = Then::Opens(port, 2, ACK_0);
+        if !answers(alloc, archive, port, WRQ, then)? {
             return Err(Fail::new("not opened"));
         }
     }
@@ -121,22 +121,22 @@ fn full(alloc: Global) -> Result<Archive, Fail> {
 // With 64 transfers a request in another mode or for another file is still refused for that; any other, as busy.
 #[test]
 fn a_busy_server(rt: HostRuntime) -> Result<(), Fail> {
-    let busy = Told::Sends(6969, 3, BUSY);
+    let busy = Then::Sends(6969, 3, BUSY);
     let rows = [
         (Input::Ask(4065, 3, WRQ), busy),
         (Input::Ask(4065, 3, RRQ_WITH_OPTION), busy),
         (
             Input::Ask(4065, 3, b"\0\x01MS.TWS\0octet\0"),
-            Told::Sends(6969, 3, NO_SUCH_FILE),
+            Then::Sends(6969, 3, NO_SUCH_FILE),
         ),
         (
             Input::Ask(4065, 3, b"\0\x02upload.tws\0mail\0"),
-            Told::Sends(6969, 3, OCTET_ONLY),
+            Then::Sends(6969, 3, OCTET_ONLY),
         ),
-        (Input::Hear(4001, 2, b"\0\x05\0\0\0"), Told::Ends),
+        (Input::Recv(4001, 2, b"\0\x05\0\0\0"), Then::Ends),
         (
             Input::Ask(4065, 3, RRQ_WITH_OPTION),
-            Told::Opens(4065, 3, DATA_EMPTY_MS),
+            Then::Opens(4065, 3, DATA_EMPTY_MS),
         ),
         (Input::Ask(4066, 3, RRQ_WITH_OPTION), busy),
     ];

@@ -141,9 +141,9 @@ fn step(both: &mut Both, input: Input, keeps: bool) -> Result<(Step, Said), Fail
             let said = plain.on_request(spare, from, &bytes)?;
             Ok((archive.ask(spare, from, &bytes)?, said))
         }
-        Input::Hear { port, from, bytes } => {
+        Input::Recv { port, from, bytes } => {
             let said = plain.on_datagram(port, from, &bytes, keeps)?;
-            Ok((archive.hear(keeper, port, from, &bytes), said))
+            Ok((archive.handle(keeper, port, from, &bytes), said))
         }
         Input::Wait { port } => {
             let said = plain.on_timeout(port)?;
@@ -157,7 +157,7 @@ fn is_given(keeper: &MemoryKeeper, before: usize, said: &Said) -> bool {
     match (keeper.kept().get(before..), &said.kept) {
         (Some([]), None) => true,
         (Some([one]), Some(kept)) => {
-            one.ruleset == kept.kind
+            one.ruleset == kept.ruleset
                 && one.ok == kept.keeps
                 && one.text.as_slice() == kept.text.as_slice()
         }
@@ -185,7 +185,7 @@ fn difference_after(
     said: &Said,
 ) -> Result<Option<&'static str>, Fail> {
     if !is_said(alloc, step, said)? {
-        return Ok(Some("the server tells something else"));
+        return Ok(Some("the server does something else"));
     }
     if !is_given(&both.keeper, before, said) {
         return Ok(Some("the keeper is given something else"));

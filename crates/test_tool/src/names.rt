@@ -50,7 +50,7 @@ fn best_of_files(rt: HostRuntime) -> Result<(), Fail> {
     Ok(())
 }
 
-// A file system of one name, which tells the bytes of its file.
+// A file system of one name, whose file has known bytes.
 #[derive(Drop)]
 struct One<'a> {
     name: &'a str,

@@ -79,7 +79,7 @@ fn puts_in_turns(
     Ok((has_refused, first, second))
 }
 
-// The first put is refused, joins no collection and is closed. The file is taken when it is put again.
+// The first put is refused, is merged into no collection, and is closed. The file is taken when it is put again.
 #[test]
 fn a_keep_that_fails(rt: HostRuntime) -> Result<(), Fail> {
     let mut wire = wire_of(rt.alloc(), &[4000, 4001])?;

@@ -51,7 +51,7 @@ fn file(alloc: Global, draws: &mut Draws) -> Result<Vec<u8>, Fail> {
     Ok(bytes)
 }
 
-fn kind(draws: &mut Draws) -> Ruleset {
+fn ruleset(draws: &mut Draws) -> Ruleset {
     if draws.once_in(4) {
         Ruleset::Ms
     } else {
@@ -62,7 +62,7 @@ fn kind(draws: &mut Draws) -> Ruleset {
 // Begins the next operation.
 fn begin(alloc: Global, draws: &mut Draws, drawn: &mut Drawn) -> Result<(), Fail> {
     let kind = if draws.once_in(3) {
-        OpKind::Get(kind(draws))
+        OpKind::Get(ruleset(draws))
     } else {
         OpKind::Put(bytes_of(alloc, &file(alloc, draws)?)?)
     };

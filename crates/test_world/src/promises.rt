@@ -37,7 +37,7 @@ fn put_of(op: &Op) -> Option<&[u8]> {
 fn get_of(op: &Op) -> Option<Ruleset> {
     match op.kind {
         OpKind::Put(_) => None,
-        OpKind::Get(kind) => Some(kind),
+        OpKind::Get(ruleset) => Some(ruleset),
     }
 }
 
@@ -143,8 +143,8 @@ fn merge(alloc: Global, best: &mut Collection, file: &[u8]) -> Result<(), Fail> 
 }
 
 // The text of the best over these files. They are merged from the last one to the first, since order has no effect.
-fn best_over(alloc: Global, kind: Ruleset, files: &[TakenFile]) -> Result<Vec<u8>, Fail> {
-    let mut best = Collection::new(alloc, kind);
+fn best_over(alloc: Global, ruleset: Ruleset, files: &[TakenFile]) -> Result<Vec<u8>, Fail> {
+    let mut best = Collection::new(alloc, ruleset);
     for one in files.iter().rev() {
         merge(alloc, &mut best, one.file.as_slice())?;
     }
@@ -178,15 +178,15 @@ fn is_from(
     taken: &[TakenFile],
     opening: &Opening,
     got: &GotFile,
-    kind: Ruleset,
+    ruleset: Ruleset,
     since: usize,
 ) -> Result<bool, Fail> {
-    let is_own = opening.peer == got.client && opening.asked == Asked::Read(kind);
+    let is_own = opening.peer == got.client && opening.asked == Asked::Read(ruleset);
     if !is_own || opening.taken < since {
         return Ok(false);
     }
     match taken.get(..opening.taken) {
-        Some(first) => Ok(best_over(alloc, kind, first)?.as_slice() == got.file.as_slice()),
+        Some(first) => Ok(best_over(alloc, ruleset, first)?.as_slice() == got.file.as_slice()),
         None => Ok(false),
     }
 }
@@ -201,12 +201,19 @@ fn is_finished_get(
     let Some((i, op)) = op_at(events, got.client) else {
         return Ok(false);
     };
-    let Some(kind) = get_of(op) else {
+    let Some(ruleset) = get_of(op) else {
         return Ok(false);
     };
     let since = taken_before(alloc, events, i, fails)?;
     for opening in &outcome.opened {
-        if is_from(alloc, outcome.taken.as_slice(), opening, got, kind, since)? {
+        if is_from(
+            alloc,
+            outcome.taken.as_slice(),
+            opening,
+            got,
+            ruleset,
+            since,
+        )? {
             return Ok(true);
         }
     }

@@ -39,7 +39,7 @@ fn begin(client: Endpoint, kind: OpKind) -> Event {
 pub(crate) fn event_of(alloc: Global, act: Act<'_>) -> Result<Event, Fail> {
     Ok(match act {
         Act::Put(client, file) => begin(client, OpKind::Put(bytes_of(alloc, file)?)),
-        Act::Get(client, kind) => begin(client, OpKind::Get(kind)),
+        Act::Get(client, ruleset) => begin(client, OpKind::Get(ruleset)),
         Act::Deliver(index) => Event::Deliver { index, spare: 0 },
         Act::Ask(index, spare) => Event::Deliver { index, spare },
         Act::ClientWaits(client) => Event::ClientTimeout { client },
@@ -200,8 +200,8 @@ fn other_part(outcome: &Outcome, wanted: &Wanted<'_>) -> Option<&'static str> {
 // Whether a keeper was given exactly these texts, and kept each or not.
 pub(crate) fn was_given(keeper: &MemoryKeeper, wanted: &[(Ruleset, &[u8], bool)]) -> bool {
     let kept = keeper.kept();
-    for (one, (kind, text, ok)) in kept.iter().zip(wanted) {
-        if one.ruleset != *kind || one.text.as_slice() != *text || one.ok != *ok {
+    for (one, (ruleset, text, ok)) in kept.iter().zip(wanted) {
+        if one.ruleset != *ruleset || one.text.as_slice() != *text || one.ok != *ok {
             return false;
         }
     }

@@ -355,13 +355,13 @@ impl Tally {
 }
 
 // The text that a keeper has for this ruleset, that of an empty collection if it has none.
-fn last_kept(keeper: &MemoryKeeper, kind: Ruleset) -> &[u8] {
+fn last_kept(keeper: &MemoryKeeper, ruleset: Ruleset) -> &[u8] {
     for one in keeper.kept().iter().rev() {
-        if one.ruleset == kind && one.ok {
+        if one.ruleset == ruleset && one.ok {
             return one.text.as_slice();
         }
     }
-    match kind {
+    match ruleset {
         Ruleset::Lynx => EMPTY_LYNX,
         Ruleset::Ms => EMPTY_MS,
     }

@@ -9,7 +9,7 @@ use Rattle.tftp_packet.proofs.Cutting.{first_blocks-more}
 use Rattle.tftp_ends.specs.declared.limits.TheConstants.{MISSES, DALLY}
 use Rattle.tftp_ends.specs.declared.recv_state.RecvState.{RecvState}
 use Rattle.tftp_ends.specs.declared.recv_state.RecvState.TheVariants as receiving
-use Rattle.tftp_ends.specs.Ends.{Verdict, granted, refused, Receiver, receiver_appends, receiver_takes, receiver_next, receiver_again, is_last_come, is_past, receiver_running, receiver_data_in, receiver_data, receiver_missed, receiver_dallied, receiver_timeout_in, receiver_timeout, TakeAnswer, receiver_take_in, receiver_take, IsEnded, HoldsFirst, HasSize, IsReceiver}
+use Rattle.tftp_ends.specs.Ends.{Verdict, granted, refused, Receiver, receiver_appends, receiver_takes, receiver_next, receiver_again, is_last_come, is_past, receiver_running, receiver_data_in, receiver_data, receiver_missed, receiver_dallied, receiver_timeout_in, receiver_timeout, TakeAnswer, receiver_take_in, receiver_take, IsEnded, HoldsFirst, HasReceivedSize, IsReceiver}
 
 -- ---- what a receiver knows of the file
 
@@ -64,8 +64,8 @@ module _ (file : List ℕ) (r : Receiver) (holds : HoldsFirst file r) where
 
   -- ---- complete means having the whole file
 
-  held_size : IsReceiver r → HasSize r.state r.count (first_blocks file r.count)
-  held_size fits = subst (λ o. IfSome o (HasSize r.state r.count)) holds fits.size
+  held_size : IsReceiver r → HasReceivedSize r.state r.count (first_blocks file r.count)
+  held_size fits = subst (λ o. IfSome o (HasReceivedSize r.state r.count)) holds fits.size
 
   -- whether it has the whole file, by its state
   abbrev IsWhole : RecvState → Type 0
@@ -83,7 +83,7 @@ module _ (file : List ℕ) (r : Receiver) (holds : HoldsFirst file r) where
       let whole : first_blocks file r.count ≡ file = take_all (BLOCK_SIZE * r.count) file all in
       (size ∙ ap block_count whole, holds ∙ ap Some whole)
 
-  whole_in : (state : RecvState) → HasSize state r.count (first_blocks file r.count) → IsWhole state
+  whole_in : (state : RecvState) → HasReceivedSize state r.count (first_blocks file r.count) → IsWhole state
   whole_in receiving.Running size = part size
   whole_in receiving.Complete size = ended size
   whole_in receiving.TimedOut size = part size

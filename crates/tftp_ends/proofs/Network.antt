@@ -4,7 +4,7 @@ use Rattle.std.proofs.lemmas.List.Sums.{sum_by-append}
 use Rattle.tftp_packet.specs.Packet.{Packet, read, write, data_block, ack, error}
 use Rattle.tftp_packet.specs.Blocks.{block_of}
 use Rattle.tftp_ends.specs.Ends.{Sender, SendAnswer, data_packet}
-use Rattle.tftp_ends.specs.Pair.{is_data, sent_with, resent_with}
+use Rattle.tftp_ends.specs.Pair.{is_data, sent_after, resent_after}
 use Rattle.tftp_ends.proofs.Steps.{GoesOn, SendsAgain}
 
 -- ---- what is sent while the sender is at block c and the receiver at block r
@@ -38,13 +38,13 @@ AllHonest-push file c r [] packet honest new = (new, tt)
 AllHonest-push file c r (first ∷ sent) packet honest new = (honest.0, AllHonest-push file c r sent packet honest.1 new)
 
 -- a sender goes on, and may send its block
-pub AllHonest-data : (file : List ℕ) (c c' r : ℕ) (sent : List Packet) (out : Option Packet) → c ≤ c' → AllHonest file c r sent → IfSome out (λ p. p ≡ data_packet file c') → AllHonest file c' r (sent_with sent out)
+pub AllHonest-data : (file : List ℕ) (c c' r : ℕ) (sent : List Packet) (out : Option Packet) → c ≤ c' → AllHonest file c r sent → IfSome out (λ p. p ≡ data_packet file c') → AllHonest file c' r (sent_after sent out)
 AllHonest-data file c c' r sent None further honest sends = AllHonest-later file c c' r r sent further (omega arith) honest
 AllHonest-data file c c' r sent (Some p) further honest sends =
     AllHonest-push file c' r sent p (AllHonest-later file c c' r r sent further (omega arith) honest) (subst (IsHonest file c' r) (sym sends) (omega arith, refl))
 
 -- a receiver goes on, and may acknowledge its block
-pub AllHonest-ack : (file : List ℕ) (c r r' : ℕ) (sent : List Packet) (out : Option Packet) → r ≤ r' → AllHonest file c r sent → IfSome out (λ p. p ≡ ack r') → AllHonest file c r' (sent_with sent out)
+pub AllHonest-ack : (file : List ℕ) (c r r' : ℕ) (sent : List Packet) (out : Option Packet) → r ≤ r' → AllHonest file c r sent → IfSome out (λ p. p ≡ ack r') → AllHonest file c r' (sent_after sent out)
 AllHonest-ack file c r r' sent None more honest sends = AllHonest-later file c c r r' sent (omega arith) more honest
 AllHonest-ack file c r r' sent (Some p) more honest sends =
     let new : r' ≤ r' = omega arith in
@@ -67,22 +67,22 @@ count-ack sent n =
     omega arith
 
 -- no ACK is a DATA
-pub count-acks : (sent : List Packet) (n : ℕ) (out : Option Packet) → IfSome out (λ p. p ≡ ack n) → count_by is_data (sent_with sent out) ≡ count_by is_data sent
+pub count-acks : (sent : List Packet) (n : ℕ) (out : Option Packet) → IfSome out (λ p. p ≡ ack n) → count_by is_data (sent_after sent out) ≡ count_by is_data sent
 count-acks sent n None sends = refl
 count-acks sent n (Some p) sends = ap (λ (q : Packet). count_by is_data (sent ++ q ∷ [])) sends ∙ count-ack sent n
 
 -- one DATA for each block
-pub once_acked : (sent : List Packet) (resent : ℕ) (s : Sender) (a : SendAnswer) → count_by is_data sent ≡ s.current + resent → GoesOn s a → count_by is_data (sent_with sent a.out) ≡ a.sender.current + resent
+pub once_acked : (sent : List Packet) (resent : ℕ) (s : Sender) (a : SendAnswer) → count_by is_data sent ≡ s.current + resent → GoesOn s a → count_by is_data (sent_after sent a.out) ≡ a.sender.current + resent
 once_acked sent resent s a once (inl stays) =
-    ap (λ o. count_by is_data (sent_with sent o)) stays.0 ∙ once ∙ ap (λ n. n + resent) (sym stays.1)
+    ap (λ o. count_by is_data (sent_after sent o)) stays.0 ∙ once ∙ ap (λ n. n + resent) (sym stays.1)
 once_acked sent resent s a once (inr next) =
     let more = count-data sent (s.current + 1) (block_of s.file (s.current + 1)) in
-    ap (λ o. count_by is_data (sent_with sent o)) next.0 ∙ omega (arith, more, once, next.1)
+    ap (λ o. count_by is_data (sent_after sent o)) next.0 ∙ omega (arith, more, once, next.1)
 
 -- and one for each time-out that made it send
-pub once_again : (sent : List Packet) (resent : ℕ) (s : Sender) (a : SendAnswer) → count_by is_data sent ≡ s.current + resent → SendsAgain s a → count_by is_data (sent_with sent a.out) ≡ a.sender.current + resent_with resent a.out
+pub once_again : (sent : List Packet) (resent : ℕ) (s : Sender) (a : SendAnswer) → count_by is_data sent ≡ s.current + resent → SendsAgain s a → count_by is_data (sent_after sent a.out) ≡ a.sender.current + resent_after resent a.out
 once_again sent resent s a once (same, inl none) =
-    ap (λ o. count_by is_data (sent_with sent o)) none ∙ omega (arith, once, same, ap (resent_with resent) none)
+    ap (λ o. count_by is_data (sent_after sent o)) none ∙ omega (arith, once, same, ap (resent_after resent) none)
 once_again sent resent s a once (same, inr again) =
     let more = count-data sent s.current (block_of s.file s.current) in
-    ap (λ o. count_by is_data (sent_with sent o)) again ∙ omega (arith, more, once, same, ap (resent_with resent) again)
+    ap (λ o. count_by is_data (sent_after sent o)) again ∙ omega (arith, more, once, same, ap (resent_after resent) again)

@@ -5,7 +5,7 @@ use Rattle.tftp_packet.specs.Blocks.{block_count, block_of, first_blocks}
 use Rattle.tftp_packet.proofs.Cutting.{length-block_of-le, joined_first}
 use Rattle.tftp_ends.specs.declared.send_state.SendState.TheVariants as sending
 use Rattle.tftp_ends.specs.Ends.{Verdict, Receiver, SendAnswer, data_packet, sender_ack, sender_timeout, receiver_data, receiver_timeout, receiver_take, sent_of, HoldsFirst, IsReceiver}
-use Rattle.tftp_ends.specs.Pair.{Pair, Event, deliver, sender_times_out, receiver_times_out, take_file, pair_start, sent_with, taken_with, after_ack, after_data, after_sender_timeout, after_receiver_timeout, after_take, after_packet, after_event, after_events, pair_run, HasFirstBlocks, FinishesWhole, SendsOnce, IsTakenOnce}
+use Rattle.tftp_ends.specs.Pair.{Pair, PairEvent, deliver, sender_times_out, receiver_times_out, take_file, pair_start, sent_after, taken_after, after_ack, after_data, after_sender_timeout, after_receiver_timeout, after_take, after_packet, after_event, after_events, pair_run, HasFirstBlocks, FinishesWhole, SendsOnce, IsTakenOnce}
 use Rattle.tftp_ends.proofs.Steps.{KeepsSender, sender_ack-keeps, sender_ack-sends, sender_ack-finishes, sender_timeout-keeps, sender_timeout-sends, sender_timeout-finishes, KeepsReceiver, IsReceiver-start, receiver_data-keeps, receiver_timeout-keeps, receiver_take-keeps}
 use Rattle.tftp_ends.proofs.Holding.{receiver_data-holds, receiver_data-next, receiver_timeout-same, receiver_take-gives, ended-whole, last-ended, IsSameOrNext}
 use Rattle.tftp_ends.proofs.Network.{IsHonest, AllHonest, AllHonest-data, AllHonest-ack, IsHonest-at, once_acked, once_again, count-acks}
@@ -34,7 +34,7 @@ module _ (file : List ℕ) (p : Pair) (k : Keeps file p) where
   sender_within : (a : SendAnswer) → KeepsSender p.sender a → a.sender.current ≤ block_count file
   sender_within a s = omega (arith, s.within (omega (arith, k.within, count_is)), count_is)
 
-  sender_honest : (a : SendAnswer) → KeepsSender p.sender a → AllHonest file a.sender.current p.receiver.count (sent_with p.sent a.out)
+  sender_honest : (a : SendAnswer) → KeepsSender p.sender a → AllHonest file a.sender.current p.receiver.count (sent_after p.sent a.out)
   sender_honest a s =
       AllHonest-data file p.sender.current a.sender.current p.receiver.count p.sent a.out s.onward k.honest (subst (λ (f : List ℕ). IfSome a.out (λ q. q ≡ data_packet f a.sender.current)) k.file_is s.sends)
 
@@ -70,7 +70,7 @@ module _ (file : List ℕ) (p : Pair) (k : Keeps file p) where
 
   -- ---- the receiver
 
-  receiver_honest : (next : Receiver) (out : Option Packet) → KeepsReceiver p.receiver next out → AllHonest file p.sender.current next.count (sent_with p.sent out)
+  receiver_honest : (next : Receiver) (out : Option Packet) → KeepsReceiver p.receiver next out → AllHonest file p.sender.current next.count (sent_after p.sent out)
   receiver_honest next out s = AllHonest-ack file p.sender.current p.receiver.count next.count p.sent out s.onward k.honest s.sends
 
   -- after a DATA of the file
@@ -126,8 +126,8 @@ module _ (file : List ℕ) (p : Pair) (k : Keeps file p) where
       }
 
   -- the file is asked for
-  given : (r : Receiver) (taken : List (List ℕ)) → r.file ≡ Some file → taken ≡ [] → taken_with taken r.file ≡ file ∷ []
-  given r taken whole none = ap (λ ts. taken_with ts r.file) none ∙ ap (taken_with []) whole
+  given : (r : Receiver) (taken : List (List ℕ)) → r.file ≡ Some file → taken ≡ [] → taken_after taken r.file ≡ file ∷ []
+  given r taken whole none = ap (λ ts. taken_after ts r.file) none ∙ ap (taken_after []) whole
 
   take_keeps : Keeps file (after_take (receiver_take p.receiver) p)
   take_keeps =
@@ -137,7 +137,7 @@ module _ (file : List ℕ) (p : Pair) (k : Keeps file p) where
       (λ same.
       let count = ap (λ (r : Receiver). r.count) same.0 in
       let kept = ap (λ (r : Receiver). r.file) same.0 in
-      let none = ap (taken_with p.taken) same.1 in
+      let none = ap (taken_after p.taken) same.1 in
       record {
         file_is = k.file_is;
         within = k.within;
@@ -155,7 +155,7 @@ module _ (file : List ℕ) (p : Pair) (k : Keeps file p) where
         come = omega (arith, gives.1, k.come);
         honest = receiver_honest a.receiver None s;
         bounds = s.fits k.bounds;
-        bytes = ⊎_elim (λ held. let whole = ended-whole file p.receiver held.1 k.bounds gives.0 in inr (ap (taken_with p.taken) gives.3 ∙ given p.receiver p.taken whole.1 held.0, gives.2, gives.1 ∙ whole.0)) (λ gone. inr (ap (taken_with p.taken) (gives.3 ∙ gone.1) ∙ gone.0, gives.2, gives.1 ∙ gone.2)) k.bytes;
+        bytes = ⊎_elim (λ held. let whole = ended-whole file p.receiver held.1 k.bounds gives.0 in inr (ap (taken_after p.taken) gives.3 ∙ given p.receiver p.taken whole.1 held.0, gives.2, gives.1 ∙ whole.0)) (λ gone. inr (ap (taken_after p.taken) (gives.3 ∙ gone.1) ∙ gone.0, gives.2, gives.1 ∙ gone.2)) k.bytes;
         finished = λ e. gives.1 ∙ k.finished e;
         once = k.once;
       })
@@ -171,7 +171,7 @@ module _ (file : List ℕ) (p : Pair) (k : Keeps file p) where
   packet_keeps (Some (ack n)) honest verdict = ack_keeps n honest
   packet_keeps (Some (error code text)) honest verdict = k
 
-  event_keeps : (event : Event) → Keeps file (after_event event p)
+  event_keeps : (event : PairEvent) → Keeps file (after_event event p)
   event_keeps (deliver index verdict) =
       packet_keeps (slice_get p.sent index) (IsHonest-at file p.sender.current p.receiver.count p.sent index k.honest) verdict
   event_keeps sender_times_out = sender_timeout_keeps
@@ -180,7 +180,7 @@ module _ (file : List ℕ) (p : Pair) (k : Keeps file p) where
 
 -- ---- a run
 
-events_keep : (file : List ℕ) (events : List Event) (p : Pair) → Keeps file p → Keeps file (after_events events p)
+events_keep : (file : List ℕ) (events : List PairEvent) (p : Pair) → Keeps file p → Keeps file (after_events events p)
 events_keep file [] p k = k
 events_keep file (event ∷ events) p k = events_keep file events (after_event event p) (event_keeps file p k event)
 
@@ -197,7 +197,7 @@ start_keeps file =
       once = refl;
     }
 
-run_keeps : (file : List ℕ) (events : List Event) → Keeps file (pair_run file events)
+run_keeps : (file : List ℕ) (events : List PairEvent) → Keeps file (pair_run file events)
 run_keeps file events = events_keep file events (pair_start file) (start_keeps file)
 
 -- ---- what follows
@@ -206,7 +206,7 @@ held_from : (file : List ℕ) (r : Receiver) (taken : List (List ℕ)) → HasBy
 held_from file r taken (inl held) none = held.1
 held_from file r taken (inr gone) none = let both : [] ≡ file ∷ [] = sym none ∙ gone.0 in absurd cc
 
-pub first_blocks_held : (file : List ℕ) (events : List Event) → HasFirstBlocks file (pair_run file events)
+pub first_blocks_held : (file : List ℕ) (events : List PairEvent) → HasFirstBlocks file (pair_run file events)
 first_blocks_held file events none =
     let p = pair_run file events in
     held_from file p.receiver p.taken (run_keeps file events).bytes none ∙ ap Some (sym (joined_first file p.receiver.count))
@@ -216,15 +216,15 @@ whole_from file p k finished none =
     let holds = held_from file p.receiver p.taken k.bytes none in
     (ended-whole file p.receiver holds k.bounds (last-ended file p.receiver holds k.bounds (k.finished finished))).1
 
-pub finishes_whole : (file : List ℕ) (events : List Event) → FinishesWhole file (pair_run file events)
+pub finishes_whole : (file : List ℕ) (events : List PairEvent) → FinishesWhole file (pair_run file events)
 finishes_whole file events = whole_from file (pair_run file events) (run_keeps file events)
 
-pub sends_once : (file : List ℕ) (events : List Event) → SendsOnce (pair_run file events)
+pub sends_once : (file : List ℕ) (events : List PairEvent) → SendsOnce (pair_run file events)
 sends_once file events = (run_keeps file events).once
 
 taken_from : (file : List ℕ) (r : Receiver) (taken : List (List ℕ)) → HasBytes file r taken → (taken ≡ []) ⊎ (taken ≡ file ∷ [])
 taken_from file r taken (inl held) = inl held.0
 taken_from file r taken (inr gone) = inr gone.0
 
-pub taken_once : (file : List ℕ) (events : List Event) → IsTakenOnce file (pair_run file events)
+pub taken_once : (file : List ℕ) (events : List PairEvent) → IsTakenOnce file (pair_run file events)
 taken_once file events = taken_from file (pair_run file events).receiver (pair_run file events).taken (run_keeps file events).bytes

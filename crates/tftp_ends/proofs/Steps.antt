@@ -4,7 +4,7 @@ use Rattle.std.proofs.Common.{◌≡◌, ◌≢◌, ◌⊎◌, ℕ, ◌+◌, ◌
 use Rattle.std.proofs.lemmas.Bool.{eqb-true, eqb-false}
 use Rattle.std.proofs.lemmas.Bool.Decides.{nat_tests}
 use Rattle.tftp_packet.specs.declared.sizes.TheConstants.{BLOCK_SIZE}
-use Rattle.tftp_packet.specs.Packet.{Packet, ack, HasFields, encode}
+use Rattle.tftp_packet.specs.Packet.{Packet, ack, HasPacketFields, encode}
 use Rattle.tftp_packet.specs.Blocks.{block_count}
 use Rattle.tftp_packet.specs.Decode.{decode_bytes}
 use Rattle.tftp_packet.proofs.Cutting.{length-block_of-le}
@@ -14,18 +14,18 @@ use Rattle.tftp_ends.specs.declared.send_state.SendState.{SendState}
 use Rattle.tftp_ends.specs.declared.send_state.SendState.TheVariants as sending
 use Rattle.tftp_ends.specs.declared.recv_state.RecvState.{RecvState}
 use Rattle.tftp_ends.specs.declared.recv_state.RecvState.TheVariants as receiving
-use Rattle.tftp_ends.specs.Ends.{Verdict, granted, refused, Sender, SendAnswer, Receiver, data_packet, sender_start, sender_goes_on, sender_acked, sender_ack_in, sender_ack, sender_missed, sender_timeout_in, sender_timeout, receiver_start, receiver_appends, state_after, receiver_takes, receiver_next, receiver_again, is_last_come, is_past, receiver_running, receiver_data_in, receiver_data, receiver_waits, receiver_missed, receiver_dallied, receiver_timeout_in, receiver_timeout, receiver_gives, receiver_take_in, receiver_take, sent_of, IsSender, HasSize, IsReceiver}
+use Rattle.tftp_ends.specs.Ends.{Verdict, granted, refused, Sender, SendAnswer, Receiver, data_packet, sender_start, sender_goes_on, sender_acked, sender_ack_in, sender_ack, sender_missed, sender_timeout_in, sender_timeout, receiver_start, receiver_appends, state_after, receiver_takes, receiver_next, receiver_again, is_last_come, is_past, receiver_running, receiver_data_in, receiver_data, receiver_waits, receiver_missed, receiver_dallied, receiver_timeout_in, receiver_timeout, receiver_gives, receiver_take_in, receiver_take, sent_of, IsSender, HasReceivedSize, IsReceiver}
 
 -- ---- packets that read back
 
 -- the fields are in range, so the bytes are decoded as this packet
 pub record ReadsBack (p : Packet) : Type 0 where
-  pub fields : HasFields p
+  pub fields : HasPacketFields p
   pub decoded : decode_bytes (encode p) ≡ Ok p
 
 pub data-reads_back : (file : List ℕ) (k : ℕ) → k < 2 ^ 16 → ReadsBack (data_packet file k)
 data-reads_back file k fits =
-    let fields : HasFields (data_packet file k) = (fits, length-block_of-le file k) in
+    let fields : HasPacketFields (data_packet file k) = (fits, length-block_of-le file k) in
     record { fields = fields; decoded = decode_bytes-encode (data_packet file k) fields (omega (arith, length-block_of-le file k)) }
 
 pub ack-reads_back : (n : ℕ) → n < 2 ^ 16 → ReadsBack (ack n)
@@ -218,14 +218,14 @@ before_last n body before full last = grind (arith, nat_tests)
 
 -- the bounds after a block that was taken, by whether it is full
 module _ (n : ℕ) (body : List ℕ) (r : Receiver) (h : IsReceiver r) (short : length body ≤ BLOCK_SIZE) (running : r.state ≡ receiving.Running) (is_next : n ≡ r.count + 1) (before : is_past n body ≡ false) where
-  taken_size : (full : Bool) → (length body == BLOCK_SIZE) ≡ full → (file : Option (List ℕ)) → IfSome file (HasSize r.state r.count) → IfSome (receiver_appends file body) (HasSize (state_after full) (r.count + 1))
+  taken_size : (full : Bool) → (length body == BLOCK_SIZE) ≡ full → (file : Option (List ℕ)) → IfSome file (HasReceivedSize r.state r.count) → IfSome (receiver_appends file body) (HasReceivedSize (state_after full) (r.count + 1))
   taken_size full is_full None size = tt
   taken_size true is_full (Some bytes) size =
-      let old : length bytes ≡ BLOCK_SIZE * r.count = subst (λ s. HasSize s r.count bytes) running size in
+      let old : length bytes ≡ BLOCK_SIZE * r.count = subst (λ s. HasReceivedSize s r.count bytes) running size in
       let whole : length body ≡ BLOCK_SIZE = eqb-true _ _ is_full in
       omega (arith, length-append bytes body)
   taken_size false is_full (Some bytes) size =
-      let old : length bytes ≡ BLOCK_SIZE * r.count = subst (λ s. HasSize s r.count bytes) running size in
+      let old : length bytes ≡ BLOCK_SIZE * r.count = subst (λ s. HasReceivedSize s r.count bytes) running size in
       let other : length body ≡ BLOCK_SIZE → ⊥ = eqb-false _ _ is_full in
       omega (arith, length-append bytes body)
 
@@ -273,7 +273,7 @@ pub receiver_data-keeps : (verdict : Verdict) (n : ℕ) (body : List ℕ) (r : R
 receiver_data-keeps verdict n body r short = data_in_keeps r.state n body r short refl verdict
 
 -- it no longer waits, in a state in which nothing more is received
-stops_keeps : (state : RecvState) (r : Receiver) → state ≢ receiving.Running → state ≢ receiving.Complete → (IsReceiver r → IfSome r.file (HasSize state r.count)) → KeepsReceiver r (receiver_waits r.misses state None r).receiver None
+stops_keeps : (state : RecvState) (r : Receiver) → state ≢ receiving.Running → state ≢ receiving.Complete → (IsReceiver r → IfSome r.file (HasReceivedSize state r.count)) → KeepsReceiver r (receiver_waits r.misses state None r).receiver None
 stops_keeps state r idle done size =
     record {
       onward = omega arith;
@@ -296,7 +296,7 @@ waits_keeps state out r is sends patient dally =
       onward = omega arith;
       sends = sends;
       fits = λ h. record {
-        size = subst (λ s. IfSome r.file (HasSize s r.count)) is h.size;
+        size = subst (λ s. IfSome r.file (HasReceivedSize s r.count)) is h.size;
         held = λ e. h.held (is ∙ e);
         room = λ e. h.room (is ∙ e);
         within = h.within;
@@ -307,14 +307,14 @@ waits_keeps state out r is sends patient dally =
 
 missed_receiver : (last : Bool) (r : Receiver) → r.state ≡ receiving.Running → (r.misses + 1 == MISSES) ≡ last → KeepsReceiver r (receiver_missed last r).receiver (receiver_missed last r).out
 missed_receiver true r running is_last =
-    stops_keeps receiving.TimedOut r (λ e. cc) (λ e. cc) (λ h. subst (λ s. IfSome r.file (HasSize s r.count)) running h.size)
+    stops_keeps receiving.TimedOut r (λ e. cc) (λ e. cc) (λ h. subst (λ s. IfSome r.file (HasReceivedSize s r.count)) running h.size)
 missed_receiver false r running is_last =
     let other : r.misses + 1 ≡ MISSES → ⊥ = eqb-false _ _ is_last in
     waits_keeps receiving.Running (Some (ack r.count)) r running refl (λ h. omega (arith, h.patient, other)) (λ h e. absurd cc)
 
 dallied_receiver : (last : Bool) (r : Receiver) → r.state ≡ receiving.Complete → (r.misses + 1 == DALLY) ≡ last → KeepsReceiver r (receiver_dallied last r).receiver (receiver_dallied last r).out
 dallied_receiver true r complete is_last =
-    stops_keeps receiving.Over r (λ e. cc) (λ e. cc) (λ h. subst (λ s. IfSome r.file (HasSize s r.count)) complete h.size)
+    stops_keeps receiving.Over r (λ e. cc) (λ e. cc) (λ h. subst (λ s. IfSome r.file (HasReceivedSize s r.count)) complete h.size)
 dallied_receiver false r complete is_last =
     let other : r.misses + 1 ≡ DALLY → ⊥ = eqb-false _ _ is_last in
     waits_keeps receiving.Complete None r complete tt (λ h. omega (arith, h.dally complete, other)) (λ h e. omega (arith, h.dally complete, other))

@@ -259,14 +259,14 @@ pub record IsSender (s : Sender) : Type 0 where
   pub patient : s.misses < MISSES
 
 -- the length of the bytes, by the state
-abbrev pub HasSize : RecvState → (count : ℕ) (bytes : List ℕ) → Type 0
-HasSize receiving.Running count bytes = length bytes ≡ BLOCK_SIZE * count
-HasSize receiving.Complete count bytes = count ≡ block_count bytes
-HasSize receiving.TimedOut count bytes = length bytes ≡ BLOCK_SIZE * count
-HasSize receiving.Over count bytes = count ≡ block_count bytes
+abbrev pub HasReceivedSize : RecvState → (count : ℕ) (bytes : List ℕ) → Type 0
+HasReceivedSize receiving.Running count bytes = length bytes ≡ BLOCK_SIZE * count
+HasReceivedSize receiving.Complete count bytes = count ≡ block_count bytes
+HasReceivedSize receiving.TimedOut count bytes = length bytes ≡ BLOCK_SIZE * count
+HasReceivedSize receiving.Over count bytes = count ≡ block_count bytes
 
 pub record IsReceiver (r : Receiver) : Type 0 where
-  pub size : IfSome r.file (HasSize r.state r.count)
+  pub size : IfSome r.file (HasReceivedSize r.state r.count)
   -- before the last block the file is present, and can grow
   pub held : r.state ≡ receiving.Running → IsSome r.file
   pub room : r.state ≡ receiving.Running → r.count < MAX_BLOCKS

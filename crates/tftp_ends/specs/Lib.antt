@@ -3,4 +3,4 @@ pub mod Chunks
 pub mod Held
 pub mod View
 pub mod Pair
-pub mod Heard
+pub mod Input

@@ -17,14 +17,14 @@ pub record Pair : Type 0 where
   pub taken : List (List ℕ)
 
 -- What may happen next. A loss is a packet that is never delivered.
-pub data Event : Type 0 where
+pub data PairEvent : Type 0 where
   -- the packet at this index of those sent arrives at the end that it was sent to; any may arrive again, and in any
   -- order. `verdict` is whether an allocation that the receiver then makes is granted
-  deliver : (index : ℕ) (verdict : Verdict) → Event
-  sender_times_out : Event
-  receiver_times_out : Event
+  deliver : (index : ℕ) (verdict : Verdict) → PairEvent
+  sender_times_out : PairEvent
+  receiver_times_out : PairEvent
   -- the receiver is asked for the file
-  take_file : Event
+  take_file : PairEvent
 
 -- the receiver is new, and the sender has sent DATA 1
 abbrev pub pair_start : (file : List ℕ) → Pair
@@ -33,43 +33,43 @@ pair_start file =
 
 -- ---- the pair after an end's answer
 
-abbrev pub sent_with : List Packet → Option Packet → List Packet
-sent_with sent None = sent
-sent_with sent (Some packet) = sent ++ packet ∷ []
+abbrev pub sent_after : List Packet → Option Packet → List Packet
+sent_after sent None = sent
+sent_after sent (Some packet) = sent ++ packet ∷ []
 
-abbrev pub resent_with : ℕ → Option Packet → ℕ
-resent_with resent None = resent
-resent_with resent (Some packet) = resent + 1
+abbrev pub resent_after : ℕ → Option Packet → ℕ
+resent_after resent None = resent
+resent_after resent (Some packet) = resent + 1
 
-abbrev pub taken_with : List (List ℕ) → Option (List ℕ) → List (List ℕ)
-taken_with taken None = taken
-taken_with taken (Some file) = taken ++ file ∷ []
+abbrev pub taken_after : List (List ℕ) → Option (List ℕ) → List (List ℕ)
+taken_after taken None = taken
+taken_after taken (Some file) = taken ++ file ∷ []
 
 abbrev pub after_ack : SendAnswer → Pair → Pair
 after_ack a p =
-    record { sender = a.sender; receiver = p.receiver; sent = sent_with p.sent a.out; resent = p.resent; taken = p.taken }
+    record { sender = a.sender; receiver = p.receiver; sent = sent_after p.sent a.out; resent = p.resent; taken = p.taken }
 
 abbrev pub after_data : DataAnswer → Pair → Pair
 after_data a p =
-    record { sender = p.sender; receiver = a.receiver; sent = sent_with p.sent (sent_of a.result); resent = p.resent; taken = p.taken }
+    record { sender = p.sender; receiver = a.receiver; sent = sent_after p.sent (sent_of a.result); resent = p.resent; taken = p.taken }
 
 abbrev pub after_sender_timeout : SendAnswer → Pair → Pair
 after_sender_timeout a p =
     record {
       sender = a.sender;
       receiver = p.receiver;
-      sent = sent_with p.sent a.out;
-      resent = resent_with p.resent a.out;
+      sent = sent_after p.sent a.out;
+      resent = resent_after p.resent a.out;
       taken = p.taken;
     }
 
 abbrev pub after_receiver_timeout : RecvAnswer → Pair → Pair
 after_receiver_timeout a p =
-    record { sender = p.sender; receiver = a.receiver; sent = sent_with p.sent a.out; resent = p.resent; taken = p.taken }
+    record { sender = p.sender; receiver = a.receiver; sent = sent_after p.sent a.out; resent = p.resent; taken = p.taken }
 
 abbrev pub after_take : TakeAnswer → Pair → Pair
 after_take a p =
-    record { sender = p.sender; receiver = a.receiver; sent = p.sent; resent = p.resent; taken = taken_with p.taken a.file }
+    record { sender = p.sender; receiver = a.receiver; sent = p.sent; resent = p.resent; taken = taken_after p.taken a.file }
 
 -- ---- the run
 
@@ -83,18 +83,18 @@ after_packet (Some (ack n)) verdict p = after_ack (sender_ack n p.sender) p
 after_packet (Some (error code text)) verdict p = p
 
 -- an index at which nothing was sent changes nothing
-abbrev pub after_event : Event → Pair → Pair
+abbrev pub after_event : PairEvent → Pair → Pair
 after_event (deliver index verdict) p = after_packet (slice_get p.sent index) verdict p
 after_event sender_times_out p = after_sender_timeout (sender_timeout p.sender) p
 after_event receiver_times_out p = after_receiver_timeout (receiver_timeout p.receiver) p
 after_event take_file p = after_take (receiver_take p.receiver) p
 
-abbrev pub after_events : List Event → Pair → Pair
+abbrev pub after_events : List PairEvent → Pair → Pair
 after_events [] p = p
 after_events (e ∷ es) p = after_events es (after_event e p)
 
 -- a whole run of a sender of this file
-abbrev pub pair_run : (file : List ℕ) → List Event → Pair
+abbrev pub pair_run : (file : List ℕ) → List PairEvent → Pair
 pair_run file events = after_events events (pair_start file)
 
 -- ---- what holds of it

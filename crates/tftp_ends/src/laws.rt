@@ -4,7 +4,7 @@
 ghost use Rattle.std.specs.Prelude.{◌≡◌, ℕ, ◌+◌, ◌<◌, ◌≤◌, List, length};
 ghost use Rattle.std.specs.List.{concat};
 ghost use Rattle.tftp_ends.specs.Chunks.{chunk_count, chunk_of, chunks_of};
-ghost use Rattle.tftp_ends.specs.Pair.{Event, pair_run, HasFirstBlocks, FinishesWhole, SendsOnce, IsTakenOnce};
+ghost use Rattle.tftp_ends.specs.Pair.{PairEvent, pair_run, HasFirstBlocks, FinishesWhole, SendsOnce, IsTakenOnce};
 
 use crate::chunks::CHUNK_SIZE;
 use crate::limits::{DALLY, MAX_BLOCKS, MAX_FILE, MISSES};
@@ -13,14 +13,14 @@ use crate::limits::{DALLY, MAX_BLOCKS, MAX_FILE, MISSES};
 /// was ever sent, of time-outs, of refused allocations and of requests for the file.
 pub fn one_pair()
     // Until the file is taken out, the receiver's bytes are the blocks that it counts, joined.
-    ensures blocks { (file : List ℕ) (events : List Event) → HasFirstBlocks file (pair_run file events) }
+    ensures blocks { (file : List ℕ) (events : List PairEvent) → HasFirstBlocks file (pair_run file events) }
     // Until the file is taken out, the sender has finished only if the receiver has the whole file.
-    ensures whole { (file : List ℕ) (events : List Event) → FinishesWhole file (pair_run file events) }
+    ensures whole { (file : List ℕ) (events : List PairEvent) → FinishesWhole file (pair_run file events) }
     // The sender has sent exactly one DATA for each block up to its current one, and one for each time-out that made it
     // send.
-    ensures once { (file : List ℕ) (events : List Event) → SendsOnce (pair_run file events) }
+    ensures once { (file : List ℕ) (events : List PairEvent) → SendsOnce (pair_run file events) }
     // What is taken out is the sender's file, at most once.
-    ensures taken { (file : List ℕ) (events : List Event) → IsTakenOnce file (pair_run file events) }
+    ensures taken { (file : List ℕ) (events : List PairEvent) → IsTakenOnce file (pair_run file events) }
 {}
 
 /// The chunks of a file joined are the file. Each has `CHUNK_SIZE` bytes, except the last, which has 1 to `CHUNK_SIZE`.

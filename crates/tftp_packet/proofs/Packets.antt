@@ -9,8 +9,8 @@ use Rattle.tftp_packet.specs.declared.packet_fault.PacketFault.{PacketFault}
 use Rattle.tftp_packet.specs.declared.packet_fault.PacketFault.TheVariants.{Short, TooLong, BadOpcode, BadRequest, BadBlock, BadError}
 use Rattle.byte_output.specs.Bytes.{IsBytes}
 use Rattle.tftp_packet.specs.declared.sizes.TheConstants.{MAX_DATAGRAM}
-use Rattle.tftp_packet.specs.Packet.{Packet, read, write, data_block, ack, error, HasNoZero, zero_count, HasForm, HasFields, IsPacket, request_bytes, packet_size, encode}
-use Rattle.tftp_packet.specs.Fault.{IsCutRequest, HasFault}
+use Rattle.tftp_packet.specs.Packet.{Packet, read, write, data_block, ack, error, HasNoZero, zero_count, HasForm, HasPacketFields, IsPacket, request_bytes, packet_size, encode}
+use Rattle.tftp_packet.specs.Fault.{IsCutRequest, HasPacketFault}
 use Rattle.tftp_packet.specs.Decode.{before_zero, after_zero, request_of, data_of, error_of, packet_from, decode_bytes}
 use Rattle.byte_output.proofs.Bytes.{IsBytes-drop}
 use Rattle.tftp_packet.proofs.Bytes.{number_first, big_number-fits}
@@ -18,7 +18,7 @@ use Rattle.tftp_packet.proofs.Zeros.{zero_count-ended, before_zero-ended, after_
 
 -- ---- bytes with a fault
 
-pub decode_bytes-fault : (bytes : List ℕ) (e : PacketFault) → HasFault bytes e → decode_bytes bytes ≡ Err e
+pub decode_bytes-fault : (bytes : List ℕ) (e : PacketFault) → HasPacketFault bytes e → decode_bytes bytes ≡ Err e
 unfolding decode_bytes
 decode_bytes-fault bytes Short fault = grind (arith, nat_tests)
 decode_bytes-fault bytes TooLong fault = grind (arith, nat_tests)
@@ -92,7 +92,7 @@ decode_bytes-packet (error code text) bytes packet =
 -- ---- bytes are a packet or have a fault
 
 abbrev IsEither : List ℕ → Type 0
-IsEither bytes = ((p : Packet) × IsPacket p bytes) ⊎ ((e : PacketFault) × HasFault bytes e)
+IsEither bytes = ((p : Packet) × IsPacket p bytes) ⊎ ((e : PacketFault) × HasPacketFault bytes e)
 
 -- by the opcode
 module _ (bytes : List ℕ) (fits : IsBytes bytes) (size : length bytes ≤ MAX_DATAGRAM) where
@@ -111,7 +111,7 @@ module _ (bytes : List ℕ) (fits : IsBytes bytes) (size : length bytes ≤ MAX_
   second_fits : big_number 2 (drop 2 bytes) < 2 ^ 16
   second_fits = big_number-fits (drop 2 bytes) (IsBytes-drop 2 bytes fits)
 
-  request_either : (make : List ℕ → List ℕ → Packet) → ((name mode more : List ℕ) → HasNoZero name → HasNoZero mode → drop 2 bytes ≡ name ++ 0 ∷ (mode ++ 0 ∷ more) → IsPacket (make name mode) bytes) → (IsCutRequest bytes → HasFault bytes BadRequest) → IsEither bytes
+  request_either : (make : List ℕ → List ℕ → Packet) → ((name mode more : List ℕ) → HasNoZero name → HasNoZero mode → drop 2 bytes ≡ name ++ 0 ∷ (mode ++ 0 ∷ more) → IsPacket (make name mode) bytes) → (IsCutRequest bytes → HasPacketFault bytes BadRequest) → IsEither bytes
   request_either make whole cut =
       ⊎_elim
       (λ none. inr (BadRequest, cut (omega (arith, none.0))))
@@ -195,7 +195,7 @@ decoded_packet bytes p fits e =
     absurd cc)
     (packet_or_fault bytes fits)
 
-pub decoded_fault : (bytes : List ℕ) (d : PacketFault) → IsBytes bytes → decode_bytes bytes ≡ Err d → HasFault bytes d
+pub decoded_fault : (bytes : List ℕ) (d : PacketFault) → IsBytes bytes → decode_bytes bytes ≡ Err d → HasPacketFault bytes d
 decoded_fault bytes d fits e =
     ⊎_elim
     (λ found.
@@ -204,7 +204,7 @@ decoded_fault bytes d fits e =
     (λ found.
     let again = decode_bytes-fault bytes found.0 found.1 in
     let same : found.0 ≡ d = cc in
-    subst (λ q. HasFault bytes q) same found.1)
+    subst (λ q. HasPacketFault bytes q) same found.1)
     (packet_or_fault bytes fits)
 
 pub one_packet : (bytes : List ℕ) (p q : Packet) → IsPacket p bytes → IsPacket q bytes → p ≡ q
@@ -213,13 +213,13 @@ one_packet bytes p q first second =
     let other = decode_bytes-packet q bytes second in
     cc
 
-pub one_fault : (bytes : List ℕ) (d e : PacketFault) → HasFault bytes d → HasFault bytes e → d ≡ e
+pub one_fault : (bytes : List ℕ) (d e : PacketFault) → HasPacketFault bytes d → HasPacketFault bytes e → d ≡ e
 one_fault bytes d e first second =
     let one = decode_bytes-fault bytes d first in
     let other = decode_bytes-fault bytes e second in
     cc
 
-pub packet_without_fault : (bytes : List ℕ) (p : Packet) (e : PacketFault) → IsPacket p bytes → HasFault bytes e → ⊥
+pub packet_without_fault : (bytes : List ℕ) (p : Packet) (e : PacketFault) → IsPacket p bytes → HasPacketFault bytes e → ⊥
 packet_without_fault bytes p e packet fault =
     let one = decode_bytes-packet p bytes packet in
     let other = decode_bytes-fault bytes e fault in
@@ -247,10 +247,10 @@ encode-form (data_block block body) = refl
 encode-form (ack block) = refl
 encode-form (error code text) = ([], refl)
 
-pub IsPacket-encode : (p : Packet) → HasFields p → packet_size p ≤ MAX_DATAGRAM → IsPacket p (encode p)
+pub IsPacket-encode : (p : Packet) → HasPacketFields p → packet_size p ≤ MAX_DATAGRAM → IsPacket p (encode p)
 IsPacket-encode p fields size =
     record { fields = fields; size = omega (arith, length-encode p); form = encode-form p }
 
 -- an encoded packet is decoded as itself
-pub decode_bytes-encode : (p : Packet) → HasFields p → packet_size p ≤ MAX_DATAGRAM → decode_bytes (encode p) ≡ Ok p
+pub decode_bytes-encode : (p : Packet) → HasPacketFields p → packet_size p ≤ MAX_DATAGRAM → decode_bytes (encode p) ≡ Ok p
 decode_bytes-encode p fields size = decode_bytes-packet p (encode p) (IsPacket-encode p fields size)

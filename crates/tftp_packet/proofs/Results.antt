@@ -5,7 +5,7 @@ use Rattle.tftp_packet.specs.declared.packet.Packet as borrowed
 use Rattle.tftp_packet.specs.declared.packet_fault.PacketFault.{PacketFault}
 use Rattle.byte_output.specs.Bytes.{IsBytes}
 use Rattle.tftp_packet.specs.Packet.{Packet, IsPacket}
-use Rattle.tftp_packet.specs.Fault.{HasFault}
+use Rattle.tftp_packet.specs.Fault.{HasPacketFault}
 use Rattle.tftp_packet.specs.Decode.{decode_bytes}
 use Rattle.tftp_packet.specs.View.{packet_of, decoded_of}
 use Rattle.tftp_packet.proofs.Packets.{decoded_packet, decoded_fault, decode_bytes-packet, decode_bytes-fault}
@@ -22,11 +22,11 @@ answer_accepts bytes (Err e) exact p packet =
     let same = exact ∙ decode_bytes-packet p bytes packet in
     absurd cc
 
-pub answer_fault : (bytes : List ℕ) (answer : Result borrowed.Packet PacketFault) → IsBytes bytes → decoded_of answer ≡ decode_bytes bytes → IfErr answer (HasFault bytes)
+pub answer_fault : (bytes : List ℕ) (answer : Result borrowed.Packet PacketFault) → IsBytes bytes → decoded_of answer ≡ decode_bytes bytes → IfErr answer (HasPacketFault bytes)
 answer_fault bytes (Ok p) fits exact = tt
 answer_fault bytes (Err e) fits exact = decoded_fault bytes e fits (sym exact)
 
-pub answer_refuses : (bytes : List ℕ) (answer : Result borrowed.Packet PacketFault) → decoded_of answer ≡ decode_bytes bytes → (e : PacketFault) → HasFault bytes e → answer ≡ Err e
+pub answer_refuses : (bytes : List ℕ) (answer : Result borrowed.Packet PacketFault) → decoded_of answer ≡ decode_bytes bytes → (e : PacketFault) → HasPacketFault bytes e → answer ≡ Err e
 answer_refuses bytes (Ok p) exact e fault =
     let same = exact ∙ decode_bytes-fault bytes e fault in
     absurd cc

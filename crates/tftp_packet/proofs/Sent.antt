@@ -7,7 +7,7 @@ use Rattle.tftp_packet.specs.declared.packet_fault.PacketFault.{PacketFault}
 use Rattle.tftp_packet.specs.declared.packet_fault.PacketFault.TheVariants.{Short, TooLong, BadOpcode, BadRequest, BadBlock, BadError}
 use Rattle.tftp_packet.specs.declared.refusal.Refusal.{Refusal}
 use Rattle.tftp_packet.specs.declared.refusal.Refusal.TheVariants.{OctetOnly, NoSuchFile, ServerBusy, CollectionTooLong, OutOfMemory, FileTooLong, UnknownTransfer, NotKept}
-use Rattle.tftp_packet.specs.Packet.{Packet, read, write, data_block, ack, error, zero_count, HasFields, encode}
+use Rattle.tftp_packet.specs.Packet.{Packet, read, write, data_block, ack, error, zero_count, HasPacketFields, encode}
 use Rattle.tftp_packet.specs.Refusal.{refusal_packet}
 use Rattle.tftp_packet.specs.Decode.{request_of, data_of, ack_of, error_of, packet_from, decode_bytes}
 use Rattle.tftp_packet.proofs.Packets.{decode_bytes-encode}
@@ -74,7 +74,7 @@ data_size bytes n body e = (subst IsShort e (decode_short bytes)).short
 
 -- ---- the refusals
 
-refusal-fields : (refusal : Refusal) → HasFields (refusal_packet refusal)
+refusal-fields : (refusal : Refusal) → HasPacketFields (refusal_packet refusal)
 refusal-fields OctetOnly = (omega arith, refl)
 refusal-fields NoSuchFile = (omega arith, refl)
 refusal-fields ServerBusy = (omega arith, refl)

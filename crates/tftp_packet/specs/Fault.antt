@@ -25,33 +25,33 @@ Fails bytes BadBlock = ((big_number 2 bytes ≡ 3) × (length bytes < 4)) ⊎ ((
 Fails bytes BadError = (big_number 2 bytes ≡ 5) × HasNoZero (drop 4 bytes)
 
 -- an opcode can be read, and the bytes fit in a datagram
-abbrev pub HasSize : List ℕ → Type 0
-HasSize bytes = (2 ≤ length bytes) × (length bytes ≤ MAX_DATAGRAM)
+abbrev pub IsDatagramSize : List ℕ → Type 0
+IsDatagramSize bytes = (2 ≤ length bytes) × (length bytes ≤ MAX_DATAGRAM)
 
 -- the other faults are checked only for bytes of this size
 abbrev pub IsLookedFor : List ℕ → PacketFault → Type 0
 IsLookedFor bytes Short = Unit {0}
 IsLookedFor bytes TooLong = Unit {0}
-IsLookedFor bytes BadOpcode = HasSize bytes
-IsLookedFor bytes BadRequest = HasSize bytes
-IsLookedFor bytes BadBlock = HasSize bytes
-IsLookedFor bytes BadError = HasSize bytes
+IsLookedFor bytes BadOpcode = IsDatagramSize bytes
+IsLookedFor bytes BadRequest = IsDatagramSize bytes
+IsLookedFor bytes BadBlock = IsDatagramSize bytes
+IsLookedFor bytes BadError = IsDatagramSize bytes
 
-abbrev pub HasFault : List ℕ → PacketFault → Type 0
-HasFault bytes fault = Fails bytes fault × IsLookedFor bytes fault
+abbrev pub HasPacketFault : List ℕ → PacketFault → Type 0
+HasPacketFault bytes fault = Fails bytes fault × IsLookedFor bytes fault
 
 -- ---- the order of the faults
 
 -- the order of the checks
-abbrev pub place_of : PacketFault → ℕ
-place_of Short = 1
-place_of TooLong = 2
-place_of BadOpcode = 3
-place_of BadRequest = 4
-place_of BadBlock = 5
-place_of BadError = 6
+abbrev pub check_of : PacketFault → ℕ
+check_of Short = 1
+check_of TooLong = 2
+check_of BadOpcode = 3
+check_of BadRequest = 4
+check_of BadBlock = 5
+check_of BadError = 6
 
 -- the bytes fail this check, and no earlier one
 pub record IsFirstFault (bytes : List ℕ) (fault : PacketFault) : Type 0 where
   pub fails : Fails bytes fault
-  pub first : (earlier : PacketFault) → place_of earlier < place_of fault → Fails bytes earlier → ⊥
+  pub first : (earlier : PacketFault) → check_of earlier < check_of fault → Fails bytes earlier → ⊥

@@ -64,16 +64,16 @@ HasForm (ack block) bytes = bytes ≡ ack_bytes block
 HasForm (error code text) bytes = (rest : List ℕ) × (bytes ≡ error_bytes code text rest)
 
 -- which fields a packet can have
-abbrev pub HasFields : Packet → Type 0
-HasFields (read name mode) = HasNoZero name × HasNoZero mode
-HasFields (write name mode) = HasNoZero name × HasNoZero mode
-HasFields (data_block block body) = (block < 2 ^ 16) × (length body ≤ BLOCK_SIZE)
-HasFields (ack block) = block < 2 ^ 16
-HasFields (error code text) = (code < 2 ^ 16) × HasNoZero text
+abbrev pub HasPacketFields : Packet → Type 0
+HasPacketFields (read name mode) = HasNoZero name × HasNoZero mode
+HasPacketFields (write name mode) = HasNoZero name × HasNoZero mode
+HasPacketFields (data_block block body) = (block < 2 ^ 16) × (length body ≤ BLOCK_SIZE)
+HasPacketFields (ack block) = block < 2 ^ 16
+HasPacketFields (error code text) = (code < 2 ^ 16) × HasNoZero text
 
 -- the bytes are this packet
 pub record IsPacket (packet : Packet) (bytes : List ℕ) : Type 0 where
-  pub fields : HasFields packet
+  pub fields : HasPacketFields packet
   pub size : length bytes ≤ MAX_DATAGRAM
   pub form : HasForm packet bytes
 

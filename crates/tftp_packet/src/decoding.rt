@@ -3,7 +3,7 @@
 ghost use Rattle.std.specs.Prelude.{◌≡◌, ◌+◌, ◌<◌, ◌≤◌, IfOk, IfErr, IfSome, IfNone, IsOkAnd, Err, position, drop, length};
 ghost use Rattle.byteorder.specs.Endian.{big_number};
 ghost use Rattle.tftp_packet.specs.Packet.{Packet as Plain, read, write, is_zero, zero_count, HasNoZero, IsPacket};
-ghost use Rattle.tftp_packet.specs.Fault.{HasFault};
+ghost use Rattle.tftp_packet.specs.Fault.{HasPacketFault};
 ghost use Rattle.tftp_packet.specs.Decode.{before_zero, after_zero, request_of, data_of, ack_of, error_of, decode_bytes};
 ghost use Rattle.tftp_packet.specs.View.{packet_of, decoded_of};
 ghost use Rattle.tftp_packet.specs.declared.packet_fault.PacketFault as fault;
@@ -129,9 +129,9 @@ pub fn decode(bytes: &[u8]) -> Result<Packet<'_>, PacketFault>
     // Bytes that are a packet are decoded as that packet.
     ensures accepts { (p : Plain) → IsPacket p bytes.now → IsOkAnd result (λ q. packet_of q ≡ p) }
     // A fault that is returned is that of the bytes.
-    ensures fault { IfErr result (HasFault bytes.now) }
+    ensures fault { IfErr result (HasPacketFault bytes.now) }
     // Bytes with a fault are refused with that fault.
-    ensures refuses { (e : fault.PacketFault) → HasFault bytes.now e → result ≡ Err e }
+    ensures refuses { (e : fault.PacketFault) → HasPacketFault bytes.now e → result ≡ Err e }
     // The same as a function of the bytes.
     ensures function { decoded_of result ≡ decode_bytes bytes.now }
 {

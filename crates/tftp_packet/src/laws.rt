@@ -7,8 +7,8 @@ ghost use Rattle.tftp_packet.specs.declared.packet_fault.PacketFault as fault;
 ghost use Rattle.byte_output.specs.Bytes.{IsBytes};
 ghost use Rattle.tftp_packet.specs.declared.refusal.Refusal.{Refusal as Refused};
 ghost use Rattle.tftp_packet.specs.Refusal.{refusal_packet};
-ghost use Rattle.tftp_packet.specs.Packet.{Packet, data_block, IsPacket, HasFields, packet_size, encode};
-ghost use Rattle.tftp_packet.specs.Fault.{HasFault, IsFirstFault};
+ghost use Rattle.tftp_packet.specs.Packet.{Packet, data_block, IsPacket, HasPacketFields, packet_size, encode};
+ghost use Rattle.tftp_packet.specs.Fault.{HasPacketFault, IsFirstFault};
 ghost use Rattle.tftp_packet.specs.Decode.{decode_bytes};
 ghost use Rattle.tftp_packet.specs.Blocks.{block_count, block_of, first_blocks, blocks_to, blocks_of};
 
@@ -21,23 +21,23 @@ pub fn one_packet()
 
 /// Bytes have at most one fault.
 pub fn one_fault()
-    ensures { (bytes : List ℕ) (d e : fault.PacketFault) → HasFault bytes d → HasFault bytes e → d ≡ e }
+    ensures { (bytes : List ℕ) (d e : fault.PacketFault) → HasPacketFault bytes d → HasPacketFault bytes e → d ≡ e }
 {}
 
 /// The fault of bytes is the first, in the order of `PacketFault`, of all the checks that they fail.
 pub fn first_fault()
-    ensures { (bytes : List ℕ) (e : fault.PacketFault) → HasFault bytes e ↔ IsFirstFault bytes e }
+    ensures { (bytes : List ℕ) (e : fault.PacketFault) → HasPacketFault bytes e ↔ IsFirstFault bytes e }
 {}
 
 /// The bytes of a packet have no fault.
 pub fn packet_without_fault()
-    ensures { (bytes : List ℕ) (p : Packet) (e : fault.PacketFault) → IsPacket p bytes → HasFault bytes e → ⊥ }
+    ensures { (bytes : List ℕ) (p : Packet) (e : fault.PacketFault) → IsPacket p bytes → HasPacketFault bytes e → ⊥ }
 {}
 
 /// Bytes are a packet, or have a fault.
 pub fn packet_or_fault()
     ensures { (bytes : List ℕ) → IsBytes bytes →
-        ((p : Packet) × IsPacket p bytes) ⊎ ((e : fault.PacketFault) × HasFault bytes e) }
+        ((p : Packet) × IsPacket p bytes) ⊎ ((e : fault.PacketFault) × HasPacketFault bytes e) }
 {}
 
 /// The decoding function returns the packet that bytes are, or the fault that they have.
@@ -45,13 +45,13 @@ pub fn function_and_relations()
     ensures packet { (bytes : List ℕ) (p : Packet) → IsBytes bytes →
         ((decode_bytes bytes ≡ Ok p) ↔ IsPacket p bytes) }
     ensures fault { (bytes : List ℕ) (e : fault.PacketFault) → IsBytes bytes →
-        ((decode_bytes bytes ≡ Err e) ↔ HasFault bytes e) }
+        ((decode_bytes bytes ≡ Err e) ↔ HasPacketFault bytes e) }
 {}
 
 /// The bytes sent for a packet that fits in a datagram are that packet, and are decoded as it.
 pub fn sent_packet()
-    ensures packet { (p : Packet) → HasFields p → packet_size p ≤ MAX_DATAGRAM → IsPacket p (encode p) }
-    ensures decoded { (p : Packet) → HasFields p → packet_size p ≤ MAX_DATAGRAM → decode_bytes (encode p) ≡ Ok p }
+    ensures packet { (p : Packet) → HasPacketFields p → packet_size p ≤ MAX_DATAGRAM → IsPacket p (encode p) }
+    ensures decoded { (p : Packet) → HasPacketFields p → packet_size p ≤ MAX_DATAGRAM → decode_bytes (encode p) ≡ Ok p }
     ensures size { (p : Packet) → length (encode p) ≡ packet_size p }
 {}
 

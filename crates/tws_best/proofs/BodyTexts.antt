@@ -4,14 +4,14 @@ use Rattle.std.specs.List.{flat_map}
 use Rattle.std.specs.Map.{values_of}
 use Rattle.byte_output.specs.Output.{Sends, AppendsPrefix}
 use Rattle.byte_output.proofs.Sending.{Sends-push, Sends-then, prefix_then, prefix_more}
-use Rattle.tws_best.specs.Best.{body_text, entry_text}
-use Rattle.tws_best.specs.Bodies.{Pair, entries_of}
+use Rattle.tws_best.specs.Best.{body_text, keyed_body_text}
+use Rattle.tws_best.specs.Bodies.{BodyPair, keyed_bodies}
 
 abbrev pub texts : List (List ℕ) → List ℕ
 texts bodies = flat_map body_text bodies
 
 -- the text of a map's entries is that of its bodies
-pub entries_text : (ps : List Pair) → flat_map entry_text (entries_of ps) ≡ texts (values_of ps)
+pub entries_text : (ps : List BodyPair) → flat_map keyed_body_text (keyed_bodies ps) ≡ texts (values_of ps)
 entries_text [] = refl
 entries_text (p ∷ ps) = ap (λ (x : List ℕ). body_text p.1 ++ x) (entries_text ps)
 

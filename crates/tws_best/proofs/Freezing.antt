@@ -3,20 +3,20 @@ use Rattle.std.proofs.Common.{◌≡◌, ℕ, List, [], ◌∷◌, ◌++◌, map
 use Rattle.std.specs.List.{flat_map}
 use Rattle.std.specs.Map.{values_of}
 use Rattle.tws_file.specs.declared.«ruleset».Ruleset.{Ruleset}
-use Rattle.tws_best.specs.Best.{Entry, Collected, body_text, entry_text, collection_header, collection_text}
-use Rattle.tws_best.specs.Bodies.{Pair, entries_of}
+use Rattle.tws_best.specs.Best.{KeyedBody, Collected, body_text, keyed_body_text, collection_header, collection_text}
+use Rattle.tws_best.specs.Bodies.{BodyPair, keyed_bodies}
 use Rattle.tws_best.specs.Frozen.{Frozen, frozen, frozen_text}
 use Rattle.tws_best.proofs.BodyTexts.{texts}
 
-bodies_in : List Entry → List (List ℕ)
-bodies_in es = map (λ (e : Entry). e.body) es
+bodies_in : List KeyedBody → List (List ℕ)
+bodies_in es = map (λ (e : KeyedBody). e.body) es
 
-bodies_text : (es : List Entry) → texts (bodies_in es) ≡ flat_map entry_text es
+bodies_text : (es : List KeyedBody) → texts (bodies_in es) ≡ flat_map keyed_body_text es
 unfolding bodies_in
 bodies_text [] = refl
 bodies_text (e ∷ es) = ap (λ (xs : List ℕ). body_text e.body ++ xs) (bodies_text es)
 
-values_bodies : (ps : List Pair) → values_of ps ≡ bodies_in (entries_of ps)
+values_bodies : (ps : List BodyPair) → values_of ps ≡ bodies_in (keyed_bodies ps)
 unfolding bodies_in
 values_bodies [] = refl
 values_bodies (p ∷ ps) = ap (λ (bs : List (List ℕ)). p.1 ∷ bs) (values_bodies ps)
@@ -25,18 +25,18 @@ frozen_is : (s : Frozen) (c : Collected) → s.ruleset ≡ c.ruleset → s.bodie
 unfolding bodies_in
 frozen_is s c rules bodies =
     let make : Ruleset → List (List ℕ) → Frozen = λ k bs. record { «ruleset» = k; bodies = bs } in
-    let whole : make s.ruleset s.bodies ≡ make c.ruleset (map (λ (e : Entry). e.body) c.entries) = cc in
+    let whole : make s.ruleset s.bodies ≡ make c.ruleset (map (λ (e : KeyedBody). e.body) c.entries) = cc in
     whole
 
 pub frozen_text_is : (c : Collected) → frozen_text (frozen c) ≡ collection_text c
 unfolding bodies_in
 frozen_text_is c = ap (λ (xs : List ℕ). collection_header c.ruleset ++ xs) (bodies_text c.entries)
 
-module _ {E : Type 0} (c : Collected) (kind : Ruleset) (ps : List Pair) (kind-is : kind ≡ c.ruleset) (entries-is : entries_of ps ≡ c.entries) where
-  pub is_frozen : (r : Result Frozen E) → IfOk r (λ s. s.ruleset ≡ kind) → IfOk r (λ s. s.bodies ≡ values_of ps) → IfOk r (λ s. s ≡ frozen c)
-  is_frozen (Ok s) rules bodies = frozen_is s c (rules ∙ kind-is) (bodies ∙ values_bodies ps ∙ ap bodies_in entries-is)
-  is_frozen (Err e) rules bodies = tt
+module _ {E : Type 0} (c : Collected) (rules : Ruleset) (ps : List BodyPair) (ruleset-is : rules ≡ c.ruleset) (entries-is : keyed_bodies ps ≡ c.entries) where
+  pub is_frozen : (r : Result Frozen E) → IfOk r (λ s. s.ruleset ≡ rules) → IfOk r (λ s. s.bodies ≡ values_of ps) → IfOk r (λ s. s ≡ frozen c)
+  is_frozen (Ok s) rules-is bodies = frozen_is s c (rules-is ∙ ruleset-is) (bodies ∙ values_bodies ps ∙ ap bodies_in entries-is)
+  is_frozen (Err e) rules-is bodies = tt
 
-  pub has_text : (r : Result Frozen E) → IfOk r (λ s. s.ruleset ≡ kind) → IfOk r (λ s. s.bodies ≡ values_of ps) → IfOk r (λ s. frozen_text s ≡ collection_text c)
-  has_text (Ok s) rules bodies = ap frozen_text (frozen_is s c (rules ∙ kind-is) (bodies ∙ values_bodies ps ∙ ap bodies_in entries-is)) ∙ frozen_text_is c
-  has_text (Err e) rules bodies = tt
+  pub has_text : (r : Result Frozen E) → IfOk r (λ s. s.ruleset ≡ rules) → IfOk r (λ s. s.bodies ≡ values_of ps) → IfOk r (λ s. frozen_text s ≡ collection_text c)
+  has_text (Ok s) rules-is bodies = ap frozen_text (frozen_is s c (rules-is ∙ ruleset-is) (bodies ∙ values_bodies ps ∙ ap bodies_in entries-is)) ∙ frozen_text_is c
+  has_text (Err e) rules-is bodies = tt

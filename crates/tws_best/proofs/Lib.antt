@@ -11,7 +11,7 @@ pub mod Taking
 pub mod Solved
 pub mod BodyTexts
 pub mod Results
-pub mod OtherRules
+pub mod OtherRuleset
 pub mod Windows
 pub mod Starts
 pub mod Freezing

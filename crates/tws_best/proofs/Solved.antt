@@ -5,7 +5,7 @@ use Rattle.tws_file.specs.declared.record.Record as stored
 use Rattle.tws_file.specs.declared.record.Record.TheVariants.{Pad, Set, Bare, Solution as Solved}
 use Rattle.tws_file.specs.Text.{Record, Solution, pad, set, bare, solution}
 use Rattle.tws_file.specs.Record.{record_of, records_of}
-use Rattle.tws_best.specs.Best.{Entry, entry_of, solved_in}
+use Rattle.tws_best.specs.Best.{KeyedBody, keyed_body, solved_in}
 
 solved_in-append : (rs ss : List Record) → solved_in (rs ++ ss) ≡ solved_in rs ++ solved_in ss
 solved_in-append [] ss = refl
@@ -29,22 +29,22 @@ not_solved (Bare key) not = refl
 not_solved (Solved s) not = absurd (not s refl)
 
 -- one more reference
-pub mapped_push : {X : Type 0} (f : X → Entry) (xs pushed ys : List X) (y : X) → ys ≡ pushed → pushed ≡ xs ++ y ∷ [] → map f ys ≡ map f xs ++ f y ∷ []
+pub mapped_push : {X : Type 0} (f : X → KeyedBody) (xs pushed ys : List X) (y : X) → ys ≡ pushed → pushed ≡ xs ++ y ∷ [] → map f ys ≡ map f xs ++ f y ∷ []
 mapped_push f xs pushed ys y same is = ap (map f) same ∙ ap (map f) is ∙ map_push f xs y
 
 -- one more solution
-pub mapped_more : {X : Type 0} (f : X → Entry) (xs : List X) (i : ℕ) (x : X) → i < length xs → x ≡ get_or xs i x → map f (take (i + 1) xs) ≡ map f (take i xs) ++ f x ∷ []
+pub mapped_more : {X : Type 0} (f : X → KeyedBody) (xs : List X) (i : ℕ) (x : X) → i < length xs → x ≡ get_or xs i x → map f (take (i + 1) xs) ≡ map f (take i xs) ++ f x ∷ []
 mapped_more f xs i x inside is = map_more f xs i x inside ∙ ap (λ y. map f (take i xs) ++ f y ∷ []) (sym is)
 
 -- one more record, if the solutions before it were found
-module _ {A : Type 0} (so_far before all items : List Entry) (item : stored.Record A) (more : all ≡ so_far ++ solved_in (record_of item ∷ [])) (is_so_far : before ≡ so_far) where
-  pub step_solution : (s : Solution) → item ≡ Solved s → items ≡ before ++ entry_of s ∷ [] → items ≡ all
+module _ {A : Type 0} (so_far before all items : List KeyedBody) (item : stored.Record A) (more : all ≡ so_far ++ solved_in (record_of item ∷ [])) (is_so_far : before ≡ so_far) where
+  pub step_solution : (s : Solution) → item ≡ Solved s → items ≡ before ++ keyed_body s ∷ [] → items ≡ all
   step_solution s is items_is =
       items_is
-      ∙ ap (λ (es : List Entry). es ++ entry_of s ∷ []) is_so_far
+      ∙ ap (λ (es : List KeyedBody). es ++ keyed_body s ∷ []) is_so_far
       ∙ ap (λ (r : stored.Record A). so_far ++ solved_in (record_of r ∷ [])) (sym is)
       ∙ sym more
 
   pub step_other : ((s : Solution) → item ≡ Solved s → ⊥) → items ≡ before → items ≡ all
   step_other not items_is =
-      items_is ∙ is_so_far ∙ sym (append-nil so_far) ∙ ap (λ (es : List Entry). so_far ++ es) (sym (not_solved item not)) ∙ sym more
+      items_is ∙ is_so_far ∙ sym (append-nil so_far) ∙ ap (λ (es : List KeyedBody). so_far ++ es) (sym (not_solved item not)) ∙ sym more

@@ -12,8 +12,8 @@ use Rattle.std.proofs.lemmas.List.Sorted.{Contains-permutation, IsPermutation-sy
 use Rattle.tws_file.specs.declared.key.Key.{Key}
 use Rattle.tws_file.specs.Text.{Solution, Record, pad, set, bare, solution, IsRecord, body_of}
 use Rattle.tws_best.specs.Rank.{rank_of, IsBelow}
-use Rattle.tws_best.specs.Best.{Entry, IsEntry, IsBestOf, IsRising, AreCollected, key_cmp, entry_of, solved_in}
-use Rattle.tws_best.specs.Bodies.{Pair, entries_of}
+use Rattle.tws_best.specs.Best.{KeyedBody, IsKeyedBody, IsBestOf, IsRising, AreCollected, key_cmp, keyed_body, solved_in}
+use Rattle.tws_best.specs.Bodies.{BodyPair, keyed_bodies}
 use Rattle.tws_best.specs.Choice.{placed, better_of, put_in}
 use Rattle.tws_best.specs.Steps.{IsHeld, IsBetter, Stays, Enters, Takes}
 use Rattle.tws_best.proofs.Members.{Contains-none, Contains-here, Contains-there, Contains-cases, all_at, all_from}
@@ -27,48 +27,48 @@ use Rattle.tws_best.proofs.Found.{entry, found, not_found, rising_of}
 -- ---- whether a solution enters
 
 -- what is found for the key is the only entry that has it
-pub held_by_found : (ps : List Pair) (k : Key) (b old : List ℕ) → lookup (is_at (key_cmp k)) ps ≡ Some old → (IsBelow (rank_of b) (rank_of old) → ⊥) → IsHeld (Contains (entries_of ps)) (entry k b)
+pub held_by_found : (ps : List BodyPair) (k : Key) (b old : List ℕ) → lookup (is_at (key_cmp k)) ps ≡ Some old → (IsBelow (rank_of b) (rank_of old) → ⊥) → IsHeld (Contains (keyed_bodies ps)) (entry k b)
 held_by_found ps k b old is not = record { holder = entry k old; member = found k old ps is; same = refl; no_worse = not }
 
-pub better_than_found : (ps : List Pair) (k : Key) (b old : List ℕ) → IsRising (entries_of ps) → lookup (is_at (key_cmp k)) ps ≡ Some old → IsBelow (rank_of b) (rank_of old) → IsBetter (entries_of ps) (entry k b)
+pub better_than_found : (ps : List BodyPair) (k : Key) (b old : List ℕ) → IsRising (keyed_bodies ps) → lookup (is_at (key_cmp k)) ps ≡ Some old → IsBelow (rank_of b) (rank_of old) → IsBetter (keyed_bodies ps) (entry k b)
 better_than_found ps k b old rising is below = λ e has same.
-    let one = one_entry (entries_of ps) (entry k old) e rising (found k old ps is) has (sym same) in
-    subst (λ (f : Entry). IsBelow (rank_of b) (rank_of f.body)) one below
+    let one = one_entry (keyed_bodies ps) (entry k old) e rising (found k old ps is) has (sym same) in
+    subst (λ (f : KeyedBody). IsBelow (rank_of b) (rank_of f.body)) one below
 
-pub better_than_none : (ps : List Pair) (k : Key) (b : List ℕ) → lookup (is_at (key_cmp k)) ps ≡ None → IsBetter (entries_of ps) (entry k b)
+pub better_than_none : (ps : List BodyPair) (k : Key) (b : List ℕ) → lookup (is_at (key_cmp k)) ps ≡ None → IsBetter (keyed_bodies ps) (entry k b)
 better_than_none ps k b none = λ e has same. absurd (not_found k ps none e has same)
 
 -- ---- the map after it
 
-chosen : (x e : Entry) (es : List Entry) → IsBelow (rank_of x.body) (rank_of e.body) → better_of x e ∷ es ≡ x ∷ es
+chosen : (x e : KeyedBody) (es : List KeyedBody) → IsBelow (rank_of x.body) (rank_of e.body) → better_of x e ∷ es ≡ x ∷ es
 chosen x e es below = ap (λ (o : Ordering). (if is_lt o then x else e) ∷ es) below
 
-put_at : (o : Ordering) (k : Key) (b : List ℕ) (p : Pair) (ps : List Pair) → o ≡ key_cmp k p.0 → IsBetter (entries_of (p ∷ ps)) (entry k b) → put_in (entry k b) (entries_of ps) ≡ entries_of (insert_entry key_cmp ps k b) → placed o (entry k b) (entry p.0 p.1) (entries_of ps) (put_in (entry k b) (entries_of ps)) ≡ entries_of (match_ordering o ((k, b) ∷ (p ∷ ps)) ((p.0, b) ∷ ps) (p ∷ insert_entry key_cmp ps k b))
+put_at : (o : Ordering) (k : Key) (b : List ℕ) (p : BodyPair) (ps : List BodyPair) → o ≡ key_cmp k p.0 → IsBetter (keyed_bodies (p ∷ ps)) (entry k b) → put_in (entry k b) (keyed_bodies ps) ≡ keyed_bodies (insert_entry key_cmp ps k b) → placed o (entry k b) (entry p.0 p.1) (keyed_bodies ps) (put_in (entry k b) (keyed_bodies ps)) ≡ keyed_bodies (match_ordering o ((k, b) ∷ (p ∷ ps)) ((p.0, b) ∷ ps) (p ∷ insert_entry key_cmp ps k b))
 put_at Less k b p ps is better rest = refl
 put_at Equal k b p ps is better rest =
     let tie : k ≡ p.0 = key_tie k p.0 (sym is) in
-    chosen (entry k b) (entry p.0 p.1) (entries_of ps) (better (entry p.0 p.1) (Contains-here (entry p.0 p.1) (entries_of ps)) (sym tie))
-    ∙ ap (λ j. entry j b ∷ entries_of ps) tie
-put_at Greater k b p ps is better rest = ap (λ (es : List Entry). entry p.0 p.1 ∷ es) rest
+    chosen (entry k b) (entry p.0 p.1) (keyed_bodies ps) (better (entry p.0 p.1) (Contains-here (entry p.0 p.1) (keyed_bodies ps)) (sym tie))
+    ∙ ap (λ j. entry j b ∷ keyed_bodies ps) tie
+put_at Greater k b p ps is better rest = ap (λ (es : List KeyedBody). entry p.0 p.1 ∷ es) rest
 
 -- what is better than all with its key takes their place
-put_inserts : (k : Key) (b : List ℕ) (ps : List Pair) → IsBetter (entries_of ps) (entry k b) → put_in (entry k b) (entries_of ps) ≡ entries_of (insert_entry key_cmp ps k b)
+put_inserts : (k : Key) (b : List ℕ) (ps : List BodyPair) → IsBetter (keyed_bodies ps) (entry k b) → put_in (entry k b) (keyed_bodies ps) ≡ keyed_bodies (insert_entry key_cmp ps k b)
 put_inserts k b [] better = refl
 put_inserts k b (p ∷ ps) better =
-    let rest = put_inserts k b ps (λ e has. better e (Contains-there (entry p.0 p.1) (entries_of ps) e has)) in
+    let rest = put_inserts k b ps (λ e has. better e (Contains-there (entry p.0 p.1) (keyed_bodies ps) e has)) in
     put_at (key_cmp k p.0) k b p ps refl better rest
 
-pub entry_same : (s : Solution) (key : Key) (b : List ℕ) → key ≡ s.key → b ≡ body_of (solution s) → entry key b ≡ entry_of s
+pub entry_same : (s : Solution) (key : Key) (b : List ℕ) → key ≡ s.key → b ≡ body_of (solution s) → entry key b ≡ keyed_body s
 entry_same s key b key-is b-is = ap (λ (x : List ℕ). entry key x) b-is ∙ ap (λ (k : Key). entry k (body_of (solution s))) key-is
 
 -- a better solution that was inserted has entered
-pub enters_by : {E : Type 0} (r : Result (Unit {0}) E) (k : Key) (b : List ℕ) (ps new : List Pair) (was is : ℕ) → (IsRising (entries_of ps) → IsBetter (entries_of ps) (entry k b)) → OnOk r (new ≡ insert_entry key_cmp ps k b) → OnOk r (is ≡ was + 1) → OnOk r (IsStrictlySortedBy key_cmp (keys_of ps)) → OnOk r (Takes (entry k b) ps new was is)
+pub enters_by : {E : Type 0} (r : Result (Unit {0}) E) (k : Key) (b : List ℕ) (ps new : List BodyPair) (was is : ℕ) → (IsRising (keyed_bodies ps) → IsBetter (keyed_bodies ps) (entry k b)) → OnOk r (new ≡ insert_entry key_cmp ps k b) → OnOk r (is ≡ was + 1) → OnOk r (IsStrictlySortedBy key_cmp (keys_of ps)) → OnOk r (Takes (entry k b) ps new was is)
 enters_by (Ok u) k b ps new was is better inserted count sorted = inr (record { better = better (rising_of ps sorted); inserted = inserted; some = λ none. omega arith })
 enters_by (Err e) k b ps new was is better inserted count sorted = tt
 
 -- ---- the best so far
 
-pushed_best : (x : Entry) (es new : List Entry) → IsBestOf (Contains (x ∷ es)) new → IsBestOf (Contains (es ++ x ∷ [])) new
+pushed_best : (x : KeyedBody) (es new : List KeyedBody) → IsBestOf (Contains (x ∷ es)) new → IsBestOf (Contains (es ++ x ∷ [])) new
 pushed_best x es new of =
     same_best (Contains (x ∷ es)) (Contains (es ++ x ∷ [])) new of
     (λ e has. elim (Contains-cases x es e has) [
@@ -83,68 +83,68 @@ pushed_best x es new of =
       ]
     ])
 
-held_best : (x : Entry) (es : List Entry) → IsRising es → IsHeld (Contains es) x → IsBestOf (Contains (es ++ x ∷ [])) es
+held_best : (x : KeyedBody) (es : List KeyedBody) → IsRising es → IsHeld (Contains es) x → IsBestOf (Contains (es ++ x ∷ [])) es
 held_best x es rising held =
     widen (Contains es) (Contains (es ++ x ∷ [])) es (own_best es rising)
     (λ e has. Contains-append_left es (x ∷ []) e has)
     (λ f has. elim (Contains-append_cases es (x ∷ []) f has) [
       | inl first ↦ held_itself (Contains es) f first
       | inr second ↦ elim (Contains-cases x [] f second) [
-        | inl is ↦ subst (λ (g : Entry). IsHeld (Contains es) g) is held
+        | inl is ↦ subst (λ (g : KeyedBody). IsHeld (Contains es) g) is held
         | inr none ↦ absurd (Contains-none f none)
       ]
     ])
 
-module _ (first so_far : List Entry) (x : Entry) (es new : List Entry) (of : IsBestOf (Contains (first ++ so_far)) es) where
+module _ (first so_far : List KeyedBody) (x : KeyedBody) (es new : List KeyedBody) (of : IsBestOf (Contains (first ++ so_far)) es) where
   with_more : IsBestOf (Contains (es ++ x ∷ [])) new → IsBestOf (Contains (first ++ (so_far ++ x ∷ []))) new
   with_more next =
-      subst (λ (all : List Entry). IsBestOf (Contains all) new) (append_assoc first so_far (x ∷ []))
+      subst (λ (all : List KeyedBody). IsBestOf (Contains all) new) (append_assoc first so_far (x ∷ []))
       (best_of_best (first ++ so_far) (x ∷ []) es new of next)
 
   -- what is better than the best so far was not there at first
   differs : IsBetter es x → IsBestOf (Contains (es ++ x ∷ [])) new → new ≢ first
   differs better next same =
       let k = next.every x (Contains-append_right es (x ∷ []) x (Contains-here x [])) in
-      let early : Contains first k.entry = subst (λ (all : List Entry). Contains all k.entry) same k.present in
+      let early : Contains first k.entry = subst (λ (all : List KeyedBody). Contains all k.entry) same k.present in
       let h = held_by_best (Contains (first ++ so_far)) es of k.entry (Contains-append_left first so_far k.entry early) in
       no_better (rank_of h.holder.body) (rank_of k.entry.body) (rank_of x.body) h.no_worse
       ((next.best k.entry k.present).least x (Contains-append_right es (x ∷ []) x (Contains-here x [])) (sym k.key_is))
       (better h.holder h.member (h.same ∙ k.key_is))
 
 -- what holds after each solution of a file: the bodies are the best so far, and nothing was noted or something changed
-pub record IsTaken (first : List Pair) (solved : List Entry) (now : List Pair) (count : ℕ) : Type 0 where
-  pub best : IsBestOf (Contains (entries_of first ++ solved)) (entries_of now)
-  pub changed : (count ≡ 0) ⊎ (entries_of now ≢ entries_of first)
+pub record IsTaken (first : List BodyPair) (solved : List KeyedBody) (now : List BodyPair) (count : ℕ) : Type 0 where
+  pub best : IsBestOf (Contains (keyed_bodies first ++ solved)) (keyed_bodies now)
+  pub changed : (count ≡ 0) ⊎ (keyed_bodies now ≢ keyed_bodies first)
 
-pub taken_none : (first : List Pair) (count : ℕ) → IsRising (entries_of first) → count ≡ 0 → IsTaken first [] first count
+pub taken_none : (first : List BodyPair) (count : ℕ) → IsRising (keyed_bodies first) → count ≡ 0 → IsTaken first [] first count
 taken_none first count rising none = record {
-  best = subst (λ (es : List Entry). IsBestOf (Contains es) (entries_of first)) (sym (append-nil (entries_of first))) (own_best (entries_of first) rising);
+  best = subst (λ (es : List KeyedBody). IsBestOf (Contains es) (keyed_bodies first)) (sym (append-nil (keyed_bodies first))) (own_best (keyed_bodies first) rising);
   changed = inl none;
 }
 
-stays : (first : List Pair) (so_far : List Entry) (x : Entry) (old new : List Pair) (was is : ℕ) → IsTaken first so_far old was → Stays x old new was is → IsTaken first (so_far ++ x ∷ []) new is
+stays : (first : List BodyPair) (so_far : List KeyedBody) (x : KeyedBody) (old new : List BodyPair) (was is : ℕ) → IsTaken first so_far old was → Stays x old new was is → IsTaken first (so_far ++ x ∷ []) new is
 stays first so_far x old new was is t s =
-    let best = with_more (entries_of first) so_far x (entries_of old) (entries_of old) t.best (held_best x (entries_of old) t.best.rising s.held) in
-    let same = ap entries_of s.same in
+    let best = with_more (keyed_bodies first) so_far x (keyed_bodies old) (keyed_bodies old) t.best (held_best x (keyed_bodies old) t.best.rising s.held) in
+    let same = ap keyed_bodies s.same in
     record {
-      best = subst (λ (es : List Entry). IsBestOf (Contains (entries_of first ++ (so_far ++ x ∷ []))) es) (sym same) best;
+      best = subst (λ (es : List KeyedBody). IsBestOf (Contains (keyed_bodies first ++ (so_far ++ x ∷ []))) es) (sym same) best;
       changed = elim t.changed [
         | inl none ↦ inl (s.count ∙ none)
         | inr other ↦ inr (λ e. other (sym same ∙ e))
       ];
     }
 
-enters : (first : List Pair) (so_far : List Entry) (x : Entry) (old new : List Pair) (was is : ℕ) → IsTaken first so_far old was → Enters x old new is → IsTaken first (so_far ++ x ∷ []) new is
+enters : (first : List BodyPair) (so_far : List KeyedBody) (x : KeyedBody) (old new : List BodyPair) (was is : ℕ) → IsTaken first so_far old was → Enters x old new is → IsTaken first (so_far ++ x ∷ []) new is
 enters first so_far x old new was is t s =
-    let inserted = put_inserts x.key x.body old s.better ∙ ap entries_of (sym s.inserted) in
-    let put : IsBestOf (Contains (x ∷ entries_of old)) (entries_of new) = subst (λ (es : List Entry). IsBestOf (Contains (x ∷ entries_of old)) es) inserted (put_best x (entries_of old) t.best.rising) in
-    let next = pushed_best x (entries_of old) (entries_of new) put in
+    let inserted = put_inserts x.key x.body old s.better ∙ ap keyed_bodies (sym s.inserted) in
+    let put : IsBestOf (Contains (x ∷ keyed_bodies old)) (keyed_bodies new) = subst (λ (es : List KeyedBody). IsBestOf (Contains (x ∷ keyed_bodies old)) es) inserted (put_best x (keyed_bodies old) t.best.rising) in
+    let next = pushed_best x (keyed_bodies old) (keyed_bodies new) put in
     record {
-      best = with_more (entries_of first) so_far x (entries_of old) (entries_of new) t.best next;
-      changed = inr (differs (entries_of first) so_far x (entries_of old) (entries_of new) t.best s.better next);
+      best = with_more (keyed_bodies first) so_far x (keyed_bodies old) (keyed_bodies new) t.best next;
+      changed = inr (differs (keyed_bodies first) so_far x (keyed_bodies old) (keyed_bodies new) t.best s.better next);
     }
 
-pub taken_more : (first : List Pair) (so_far : List Entry) (x : Entry) (old new : List Pair) (was is : ℕ) → IsTaken first so_far old was → Takes x old new was is → IsTaken first (so_far ++ x ∷ []) new is
+pub taken_more : (first : List BodyPair) (so_far : List KeyedBody) (x : KeyedBody) (old new : List BodyPair) (was is : ℕ) → IsTaken first so_far old was → Takes x old new was is → IsTaken first (so_far ++ x ∷ []) new is
 taken_more first so_far x old new was is t takes = elim takes [
   | inl s ↦ stays first so_far x old new was is t s
   | inr s ↦ enters first so_far x old new was is t s
@@ -153,7 +153,7 @@ taken_more first so_far x old new was is t takes = elim takes [
 -- ---- all solutions, in whatever order
 
 -- what is best of the bodies before and of the solutions does not depend on their order
-pub best_moved : (old solved moved new : List Entry) → IsPermutation solved moved → IsBestOf (Contains (old ++ moved)) new → IsBestOf (Contains (old ++ solved)) new
+pub best_moved : (old solved moved new : List KeyedBody) → IsPermutation solved moved → IsBestOf (Contains (old ++ moved)) new → IsBestOf (Contains (old ++ solved)) new
 best_moved old solved moved new order of =
     same_best (Contains (old ++ moved)) (Contains (old ++ solved)) new of
     (λ e has. elim (Contains-append_cases old moved e has) [
@@ -167,7 +167,7 @@ best_moved old solved moved new order of =
 
 -- ---- what a collection has are solutions, with each key only once
 
-pub solved_entries : (rs : List Record) → AllByRecursion IsRecord rs → AllByRecursion IsEntry (solved_in rs)
+pub solved_entries : (rs : List Record) → AllByRecursion IsRecord rs → AllByRecursion IsKeyedBody (solved_in rs)
 solved_entries [] fits = tt
 solved_entries (pad ∷ rs) fits = solved_entries rs fits.1
 solved_entries (set rest ∷ rs) fits = solved_entries rs fits.1
@@ -175,11 +175,11 @@ solved_entries (bare key ∷ rs) fits = solved_entries rs fits.1
 solved_entries (solution s ∷ rs) fits = (record { solved = s; fits = fits.0; is = refl }, solved_entries rs fits.1)
 
 -- the best of two lists of what a collection can have, a collection can have
-pub best_collected : (old more new : List Entry) → AreCollected old → AllByRecursion IsEntry more → IsBestOf (Contains (old ++ more)) new → AreCollected new
+pub best_collected : (old more new : List KeyedBody) → AreCollected old → AllByRecursion IsKeyedBody more → IsBestOf (Contains (old ++ more)) new → AreCollected new
 best_collected old more new collected fits of = record {
   rising = of.rising;
-  solved = all_from IsEntry new (λ e has. elim (Contains-append_cases old more e (of.best e has).member) [
-    | inl first ↦ all_at IsEntry old e collected.solved first
-    | inr second ↦ all_at IsEntry more e fits second
+  solved = all_from IsKeyedBody new (λ e has. elim (Contains-append_cases old more e (of.best e has).member) [
+    | inl first ↦ all_at IsKeyedBody old e collected.solved first
+    | inr second ↦ all_at IsKeyedBody more e fits second
   ]);
 }

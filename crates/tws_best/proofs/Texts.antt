@@ -5,30 +5,30 @@ use Rattle.tws_file.specs.declared.«ruleset».Ruleset.{Ruleset}
 use Rattle.tws_file.specs.declared.«ruleset».Ruleset.TheVariants.{Lynx, Ms}
 use Rattle.tws_file.specs.Text.{Record, solution, File, IsRecord, IsText, record_text, header_text}
 use Rattle.tws_file.proofs.FileText.{one_file}
-use Rattle.tws_best.specs.Best.{Entry, IsEntry, entry_text, solved_in, solved_by, solutions_of, IsBestOf, Collected, IsCollected, collection_text}
+use Rattle.tws_best.specs.Best.{KeyedBody, IsKeyedBody, keyed_body_text, solved_in, solved_by, solutions_of, IsBestOf, Collected, IsCollected, collection_text}
 use Rattle.tws_best.proofs.Bests.{own_best, one_map}
 
 -- the records of these entries
-records_from : (es : List Entry) → AllByRecursion IsEntry es → List Record
+records_from : (es : List KeyedBody) → AllByRecursion IsKeyedBody es → List Record
 records_from [] fits = []
 records_from (e ∷ es) fits = solution fits.0.solved ∷ records_from es fits.1
 
-records_fit : (es : List Entry) (fits : AllByRecursion IsEntry es) → AllByRecursion IsRecord (records_from es fits)
+records_fit : (es : List KeyedBody) (fits : AllByRecursion IsKeyedBody es) → AllByRecursion IsRecord (records_from es fits)
 unfolding records_from
 records_fit [] fits = tt
 records_fit (e ∷ es) fits = (fits.0.fits, records_fit es fits.1)
 
-records_solve : (es : List Entry) (fits : AllByRecursion IsEntry es) → solved_in (records_from es fits) ≡ es
+records_solve : (es : List KeyedBody) (fits : AllByRecursion IsKeyedBody es) → solved_in (records_from es fits) ≡ es
 unfolding records_from
 records_solve [] fits = refl
 records_solve (e ∷ es) fits = let first = fits.0.is in let rest = records_solve es fits.1 in cc
 
-records_text : (es : List Entry) (fits : AllByRecursion IsEntry es) → flat_map record_text (records_from es fits) ≡ flat_map entry_text es
+records_text : (es : List KeyedBody) (fits : AllByRecursion IsKeyedBody es) → flat_map record_text (records_from es fits) ≡ flat_map keyed_body_text es
 unfolding records_from
 records_text [] fits = refl
 records_text (e ∷ es) fits =
-    ap (λ (d : Entry). entry_text d ++ flat_map record_text (records_from es fits.1)) (sym fits.0.is)
-    ∙ ap (λ (x : List ℕ). entry_text e ++ x) (records_text es fits.1)
+    ap (λ (d : KeyedBody). keyed_body_text d ++ flat_map record_text (records_from es fits.1)) (sym fits.0.is)
+    ∙ ap (λ (x : List ℕ). keyed_body_text e ++ x) (records_text es fits.1)
 
 no_bytes : (i : ℕ) → slice_index [] i < 256
 no_bytes i = omega arith
@@ -49,7 +49,7 @@ is_text c fits = record {
   text = ap (λ (x : List ℕ). header_text c.ruleset (0 ∷ 0 ∷ []) [] ++ x) (sym (records_text c.entries fits.solved));
 }
 
-own_solutions : (kind : Ruleset) (rs : List Record) → solved_by kind kind rs ≡ solved_in rs
+own_solutions : (rules : Ruleset) (rs : List Record) → solved_by rules rules rs ≡ solved_in rs
 own_solutions Lynx rs = refl
 own_solutions Ms rs = refl
 
@@ -63,16 +63,16 @@ unfolding file_from
 file_rules c fits = refl
 
 collected_is : (c d : Collected) → c.ruleset ≡ d.ruleset → c.entries ≡ d.entries → c ≡ d
-collected_is c d kind entries =
-    let make : Ruleset → List Entry → Collected = λ k es. record { «ruleset» = k; entries = es } in
+collected_is c d rules entries =
+    let make : Ruleset → List KeyedBody → Collected = λ k es. record { «ruleset» = k; entries = es } in
     let whole : make c.ruleset c.entries ≡ make d.ruleset d.entries = cc in
     whole
 
 -- the best of the file with a collection's text are the collection
 pub read_back : (c d : Collected) (f : File) → IsCollected c → IsText (collection_text c) f → d.ruleset ≡ f.ruleset → IsBestOf (Contains (solutions_of f.ruleset (f ∷ []))) d.entries → d ≡ c
-read_back c d f fits text kind best =
+read_back c d f fits text rules best =
     let same : f ≡ file_from c fits = one_file (collection_text c) f (file_from c fits) text (is_text c fits) in
-    let rules : d.ruleset ≡ c.ruleset = kind ∙ ap (λ (g : File). g.ruleset) same ∙ file_rules c fits in
+    let rules-is : d.ruleset ≡ c.ruleset = rules ∙ ap (λ (g : File). g.ruleset) same ∙ file_rules c fits in
     let solves : solutions_of f.ruleset (f ∷ []) ≡ c.entries = ap (λ (g : File). solutions_of g.ruleset (g ∷ [])) same ∙ ap (λ k. solutions_of k (file_from c fits ∷ [])) (file_rules c fits) ∙ file_solves c fits in
-    let of : IsBestOf (Contains c.entries) d.entries = subst (λ (es : List Entry). IsBestOf (Contains es) d.entries) solves best in
-    collected_is d c rules (one_map (Contains c.entries) d.entries c.entries of (own_best c.entries fits.rising))
+    let of : IsBestOf (Contains c.entries) d.entries = subst (λ (es : List KeyedBody). IsBestOf (Contains es) d.entries) solves best in
+    collected_is d c rules-is (one_map (Contains c.entries) d.entries c.entries of (own_best c.entries fits.rising))

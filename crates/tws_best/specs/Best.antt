@@ -13,18 +13,18 @@ use Rattle.tws_file.specs.Text.{Solution, Record, pad, set, bare, solution, File
 use Rattle.tws_best.specs.Rank.{rank_of, IsBelow}
 
 -- a solution: the key of its level, and the body of its record
-pub record Entry : Type 0 where
+pub record KeyedBody : Type 0 where
   pub key : Key
   pub body : List ℕ
 
-abbrev pub entry_of : Solution → Entry
-entry_of s = record { key = s.key; body = body_of (solution s) }
+abbrev pub keyed_body : Solution → KeyedBody
+keyed_body s = record { key = s.key; body = body_of (solution s) }
 
 -- some solution has this key and this body
-pub record IsEntry (e : Entry) : Type 0 where
+pub record IsKeyedBody (e : KeyedBody) : Type 0 where
   pub solved : Solution
   pub fits : IsSolution solved
-  pub is : e ≡ entry_of solved
+  pub is : e ≡ keyed_body solved
 
 -- some solution has this body
 pub record IsBody (body : List ℕ) : Type 0 where
@@ -35,72 +35,72 @@ pub record IsBody (body : List ℕ) : Type 0 where
 -- ---- the solutions of files
 
 -- the solutions among records: not pads, records of the set or bare ones
-abbrev pub solved_in : List Record → List Entry
+abbrev pub solved_in : List Record → List KeyedBody
 solved_in [] = []
 solved_in (pad ∷ rs) = solved_in rs
 solved_in (set rest ∷ rs) = solved_in rs
 solved_in (bare key ∷ rs) = solved_in rs
-solved_in (solution s ∷ rs) = entry_of s ∷ solved_in rs
+solved_in (solution s ∷ rs) = keyed_body s ∷ solved_in rs
 
 -- the solutions of a file, if it is of this ruleset
-abbrev pub solved_by : Ruleset → Ruleset → List Record → List Entry
+abbrev pub solved_by : Ruleset → Ruleset → List Record → List KeyedBody
 solved_by Lynx Lynx rs = solved_in rs
 solved_by Lynx Ms rs = []
 solved_by Ms Lynx rs = []
 solved_by Ms Ms rs = solved_in rs
 
 -- the solutions of all files of this ruleset
-abbrev pub solutions_of : Ruleset → List File → List Entry
-solutions_of kind files = flat_map (λ (file : File). solved_by kind file.ruleset file.records) files
+abbrev pub solutions_of : Ruleset → List File → List KeyedBody
+solutions_of rules files = flat_map (λ (file : File). solved_by rules file.ruleset file.records) files
 
 -- a solution of this ruleset in a file whose text is among these. Bytes that are not a file's text have no solutions.
-pub record IsSolutionIn (kind : Ruleset) (texts : List (List ℕ)) (e : Entry) : Type 0 where
+pub record IsSolutionIn (rules : Ruleset) (texts : List (List ℕ)) (e : KeyedBody) : Type 0 where
   pub text : List ℕ
   pub among : Contains texts text
   pub file : File
   pub is_text : IsText text file
-  pub present : Contains (solutions_of kind (file ∷ [])) e
+  pub present : Contains (solutions_of rules (file ∷ [])) e
 
 -- ---- what is best
 
 -- a solution of the set, such that no other for the same level and password has a lower rank
-pub record IsBest (IsMember : Entry → Type 0) (e : Entry) : Type 0 where
+pub record IsBest (IsMember : KeyedBody → Type 0) (e : KeyedBody) : Type 0 where
   pub member : IsMember e
-  pub least : (f : Entry) → IsMember f → f.key ≡ e.key → IsBelow (rank_of f.body) (rank_of e.body) → ⊥
+  pub least : (f : KeyedBody) → IsMember f → f.key ≡ e.key → IsBelow (rank_of f.body) (rank_of e.body) → ⊥
 
 -- by number, and then by the bytes of the password
 abbrev pub key_cmp : Key → Key → Ordering
 key_cmp = then_cmp (on (λ k. k.number) nat_cmp) (on (λ k. k.password) (slice_cmp nat_cmp))
 
 -- each key is below those after it, so no key occurs twice
-abbrev pub IsRising : List Entry → Type 0
+abbrev pub IsRising : List KeyedBody → Type 0
 IsRising [] = Unit {0}
-IsRising (e ∷ es) = AllByRecursion (λ (f : Entry). key_cmp e.key f.key ≡ Less) es × IsRising es
+IsRising (e ∷ es) = AllByRecursion (λ (f : KeyedBody). key_cmp e.key f.key ≡ Less) es × IsRising es
 
 -- some entry has this key
-pub record HasKey (entries : List Entry) (key : Key) : Type 0 where
-  pub entry : Entry
+pub record HasKey (entries : List KeyedBody) (key : Key) : Type 0 where
+  pub entry : KeyedBody
   pub present : Contains entries entry
   pub key_is : entry.key ≡ key
 
 -- a collection of the best of a set, as entries in the order of their keys: it has the keys that the set has, and at
 -- each key a best solution
-pub record IsBestOf (IsMember : Entry → Type 0) (entries : List Entry) : Type 0 where
+pub record IsBestOf (IsMember : KeyedBody → Type 0) (entries : List KeyedBody) : Type 0 where
   pub rising : IsRising entries
-  pub best : (e : Entry) → Contains entries e → IsBest IsMember e
-  pub every : (f : Entry) → IsMember f → HasKey entries f.key
+  pub best : (e : KeyedBody) → Contains entries e → IsBest IsMember e
+  pub every : (f : KeyedBody) → IsMember f → HasKey entries f.key
 
 -- ---- collections
 
 -- the best solutions so far, in the order of their keys
 pub record Collected : Type 0 where
   pub «ruleset» : Ruleset
-  pub entries : List Entry
+  pub entries : List KeyedBody
 
 -- what a collection can have: solutions, with each key only once
-pub record AreCollected (entries : List Entry) : Type 0 where
+pub record AreCollected (entries : List KeyedBody) : Type 0 where
   pub rising : IsRising entries
-  pub solved : AllByRecursion IsEntry entries
+  pub solved : AllByRecursion IsKeyedBody entries
 
 abbrev pub IsCollected : Collected → Type 0
 IsCollected c = AreCollected c.entries
@@ -109,22 +109,22 @@ IsCollected c = AreCollected c.entries
 abbrev pub body_text : List ℕ → List ℕ
 body_text body = little_bytes 4 (length body) ++ body
 
-abbrev pub entry_text : Entry → List ℕ
-entry_text e = body_text e.body
+abbrev pub keyed_body_text : KeyedBody → List ℕ
+keyed_body_text e = body_text e.body
 
 abbrev pub collection_header : Ruleset → List ℕ
-collection_header kind = header_text kind (0 ∷ 0 ∷ []) []
+collection_header rules = header_text rules (0 ∷ 0 ∷ []) []
 
 -- a header without further bytes, and a record for each solution, by rising number and then by the bytes of the
 -- password
 abbrev pub collection_text : Collected → List ℕ
-collection_text c = collection_header c.ruleset ++ flat_map entry_text c.entries
+collection_text c = collection_header c.ruleset ++ flat_map keyed_body_text c.entries
 
 -- the collection over all files of this ruleset whose texts are among these
-pub record IsCollectionOf (kind : Ruleset) (texts : List (List ℕ)) (c : Collected) : Type 0 where
-  pub kind_is : c.ruleset ≡ kind
-  pub best : IsBestOf (IsSolutionIn kind texts) c.entries
+pub record IsCollectionOf (rules : Ruleset) (texts : List (List ℕ)) (c : Collected) : Type 0 where
+  pub ruleset_is : c.ruleset ≡ rules
+  pub best : IsBestOf (IsSolutionIn rules texts) c.entries
 
 -- the collection has this body at this key
-abbrev pub HasBody : List Entry → Key → List ℕ → Type 0
+abbrev pub HasBody : List KeyedBody → Key → List ℕ → Type 0
 HasBody entries key body = Contains entries (record { key = key; body = body })

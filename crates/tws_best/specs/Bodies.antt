@@ -1,10 +1,10 @@
 -- The pairs of a map as entries.
 use Rattle.std.specs.Prelude.{ℕ, List, map}
 use Rattle.tws_file.specs.declared.key.Key.{Key}
-use Rattle.tws_best.specs.Best.{Entry}
+use Rattle.tws_best.specs.Best.{KeyedBody}
 
-abbrev pub Pair : Type 0
-Pair = Key × List ℕ
+abbrev pub BodyPair : Type 0
+BodyPair = Key × List ℕ
 
-abbrev pub entries_of : List Pair → List Entry
-entries_of ps = map (λ (p : Pair). record { key = p.0; body = p.1 }) ps
+abbrev pub keyed_bodies : List BodyPair → List KeyedBody
+keyed_bodies ps = map (λ (p : BodyPair). record { key = p.0; body = p.1 }) ps

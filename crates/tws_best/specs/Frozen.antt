@@ -2,7 +2,7 @@
 use Rattle.std.specs.Prelude.{ℕ, ◌+◌, List, [], ◌∷◌, ◌++◌, length, take, map}
 use Rattle.std.specs.List.{flat_map}
 use Rattle.tws_file.specs.declared.«ruleset».Ruleset.{Ruleset}
-use Rattle.tws_best.specs.Best.{Entry, Collected, body_text, collection_header}
+use Rattle.tws_best.specs.Best.{KeyedBody, Collected, body_text, collection_header}
 
 pub record Frozen : Type 0 where
   pub «ruleset» : Ruleset
@@ -11,7 +11,7 @@ pub record Frozen : Type 0 where
 
 -- the snapshot of a collection
 abbrev pub frozen : Collected → Frozen
-frozen c = record { «ruleset» = c.ruleset; bodies = map (λ (e : Entry). e.body) c.entries }
+frozen c = record { «ruleset» = c.ruleset; bodies = map (λ (e : KeyedBody). e.body) c.entries }
 
 abbrev pub frozen_text : Frozen → List ℕ
 frozen_text s = collection_header s.ruleset ++ flat_map body_text s.bodies

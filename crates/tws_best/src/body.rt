@@ -1,7 +1,7 @@
 ghost use Rattle.std.specs.Prelude.{◌≡◌, ◌≤◌, length, IfOk};
 ghost use Rattle.std.specs.Ordering.{is_lt};
 ghost use Rattle.tws_best.specs.Rank.{rank_of, rank_cmp};
-ghost use Rattle.tws_best.specs.Best.{IsBody, entry_of};
+ghost use Rattle.tws_best.specs.Best.{IsBody, keyed_body};
 
 use crate::rank::Rank;
 use std::alloc::{AllocError, Allocator};
@@ -57,7 +57,7 @@ impl<A: Allocator> Body<A> {
 
     // Whether `solution` has the lower rank, so is the better one. Its body is not built for the comparison.
     pub(crate) fn is_worse_than<B: Allocator>(&self, solution: &Solution<B>) -> bool
-        ensures { result ≡ is_lt (rank_cmp (rank_of (entry_of solution.now).body) (rank_of self.now)) }
+        ensures { result ≡ is_lt (rank_cmp (rank_of (keyed_body solution.now).body) (rank_of self.now)) }
     {
         let ticks = Rank::of(self.as_slice()).ticks();
         let order = solution

@@ -37,14 +37,14 @@ impl<A: Allocator> Model for Collection<A> {
 
 impl<A: Allocator + Copy> Collection<A> {
     /// A collection without solutions. Does not allocate until it grows.
-    pub fn new(alloc: A, kind: Ruleset) -> Self
-        ensures rules { result.ruleset ≡ kind }
+    pub fn new(alloc: A, ruleset: Ruleset) -> Self
+        ensures rules { result.ruleset ≡ «ruleset» }
         ensures empty { result.entries ≡ [] }
         ensures fits { IsCollected result }
     {
         Collection {
             alloc,
-            ruleset: kind,
+            ruleset,
             best: BTreeMap::new(alloc),
         }
     }

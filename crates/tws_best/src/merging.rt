@@ -6,8 +6,8 @@ ghost use Rattle.std.specs.List.Sorted.{IsPermutation};
 ghost use Rattle.std.specs.BTreeMap.{get, insert_entry, IsOrdered};
 ghost use Rattle.tws_file.specs.Record.{records_of};
 ghost use Rattle.tws_file.specs.Text.{IsRecord};
-ghost use Rattle.tws_best.specs.Best.{AreCollected, IsBestOf, entry_of, key_cmp, solved_in};
-ghost use Rattle.tws_best.specs.Bodies.{Pair, entries_of};
+ghost use Rattle.tws_best.specs.Best.{AreCollected, IsBestOf, keyed_body, key_cmp, solved_in};
+ghost use Rattle.tws_best.specs.Bodies.{BodyPair, keyed_bodies};
 ghost use Rattle.tws_best.specs.Steps.{Takes, Undoes, CanGoBack, back_to};
 
 use crate::body::Body;
@@ -33,7 +33,7 @@ fn replace<A: Allocator + Copy>(
     ensures ok { OnOk result (best.new.entries ≡ insert_entry key_cmp best.old.entries key body) }
     ensures noted { OnOk result (length done.new.items ≡ length done.old.items + 1) }
     ensures ordered { OnOk result (IsOrdered key_cmp best.old) }
-    ensures undo { (first : List Pair) → Undoes first done.old.items best.old.entries → Undoes first done.new.items best.new.entries }
+    ensures undo { (first : List BodyPair) → Undoes first done.old.items best.old.entries → Undoes first done.new.items best.new.entries }
 {
     done.push((key, old))?;
     match best.insert(key, body) {
@@ -52,8 +52,8 @@ fn take<A: Allocator + Copy, B: Allocator>(
     done: &mut Changes<A>,
     solution: &Solution<B>,
 ) -> Result<(), AllocError>
-    ensures ok { OnOk result (Takes (entry_of solution.now) best.old.entries best.new.entries (length done.old.items) (length done.new.items)) }
-    ensures undo { (first : List Pair) → Undoes first done.old.items best.old.entries → Undoes first done.new.items best.new.entries }
+    ensures ok { OnOk result (Takes (keyed_body solution.now) best.old.entries best.new.entries (length done.old.items) (length done.new.items)) }
+    ensures undo { (first : List BodyPair) → Undoes first done.old.items best.old.entries → Undoes first done.new.items best.new.entries }
 {
     let key = solution.key;
     match best.get(&key) {
@@ -75,7 +75,7 @@ fn solutions_among<A: Allocator, B: Allocator>(
     alloc: A,
     records: &[Record<B>],
 ) -> Result<Vec<(Key, &Solution<B>), A>, AllocError>
-    ensures { IfOk result (λ all. map (λ s. entry_of s.1.now) all.items ≡ solved_in (records_of records.now)) }
+    ensures { IfOk result (λ all. map (λ s. keyed_body s.1.now) all.items ≡ solved_in (records_of records.now)) }
 {
     let mut all = Vec::new(alloc);
     for record in records {
@@ -92,7 +92,7 @@ fn sorted_solutions<A: Allocator, B: Allocator>(
     alloc: A,
     records: &[Record<B>],
 ) -> Result<Vec<(Key, &Solution<B>), A>, AllocError>
-    ensures { IfOk result (λ all. IsPermutation (solved_in (records_of records.now)) (map (λ s. entry_of s.1.now) all.items)) }
+    ensures { IfOk result (λ all. IsPermutation (solved_in (records_of records.now)) (map (λ s. keyed_body s.1.now) all.items)) }
 {
     let mut all = solutions_among(alloc, records)?;
     all.sort_unstable_by_key(|one| one.0);
@@ -106,10 +106,10 @@ fn take_all<A: Allocator + Copy, B: Allocator>(
     done: &mut Changes<A>,
     solutions: &[(Key, &Solution<B>)],
 ) -> Result<(), AllocError>
-    requires collected { AreCollected (entries_of best.old.entries) }
+    requires collected { AreCollected (keyed_bodies best.old.entries) }
     requires none { done.old.items ≡ [] }
-    ensures best { OnOk result (IsBestOf (Contains (entries_of best.old.entries ++ map (λ s. entry_of s.1.now) solutions.now)) (entries_of best.new.entries)) }
-    ensures changed { OnOk result ((done.new.items ≡ []) ⊎ (entries_of best.new.entries ≢ entries_of best.old.entries)) }
+    ensures best { OnOk result (IsBestOf (Contains (keyed_bodies best.old.entries ++ map (λ s. keyed_body s.1.now) solutions.now)) (keyed_bodies best.new.entries)) }
+    ensures changed { OnOk result ((done.new.items ≡ []) ⊎ (keyed_bodies best.new.entries ≢ keyed_bodies best.old.entries)) }
     ensures undo { Undoes best.old.entries done.new.items best.new.entries }
 {
     for (_, solution) in solutions {
@@ -135,8 +135,8 @@ fn go_back<A: Allocator + Copy>(best: &mut Bodies<A>, key: Key, old: Option<Body
 
 // Undoes the changes, the last one first. Does not allocate.
 fn undo<A: Allocator + Copy>(best: &mut Bodies<A>, done: Changes<A>)
-    requires { (first : List Pair) × Undoes first done.items best.old.entries }
-    ensures { (first : List Pair) → Undoes first done.items best.old.entries → best.new.entries ≡ first }
+    requires { (first : List BodyPair) × Undoes first done.items best.old.entries }
+    ensures { (first : List BodyPair) → Undoes first done.items best.old.entries → best.new.entries ≡ first }
 {
     let mut done = done;
     while let Some((key, old)) = done.pop() {
@@ -150,12 +150,12 @@ pub(crate) fn add<A: Allocator + Copy, B: Allocator>(
     best: &mut Bodies<A>,
     records: &[Record<B>],
 ) -> Result<bool, AllocError>
-    requires collected { AreCollected (entries_of best.old.entries) }
+    requires collected { AreCollected (keyed_bodies best.old.entries) }
     requires records { AllByRecursion IsRecord (records_of records.now) }
-    ensures best { OnOk result (IsBestOf (Contains (entries_of best.old.entries ++ solved_in (records_of records.now))) (entries_of best.new.entries)) }
-    ensures changed { IfOk result (λ changed. MatchBool changed (entries_of best.new.entries ≢ entries_of best.old.entries) (entries_of best.new.entries ≡ entries_of best.old.entries)) }
+    ensures best { OnOk result (IsBestOf (Contains (keyed_bodies best.old.entries ++ solved_in (records_of records.now))) (keyed_bodies best.new.entries)) }
+    ensures changed { IfOk result (λ changed. MatchBool changed (keyed_bodies best.new.entries ≢ keyed_bodies best.old.entries) (keyed_bodies best.new.entries ≡ keyed_bodies best.old.entries)) }
     ensures err { OnErr result (best.new.entries ≡ best.old.entries) }
-    ensures fits { AreCollected (entries_of best.new.entries) }
+    ensures fits { AreCollected (keyed_bodies best.new.entries) }
 {
     let solutions = sorted_solutions(alloc, records)?;
     let mut done = Vec::new(alloc);

@@ -48,9 +48,9 @@ impl<A: Allocator> Model for Snapshot<A> {
 
 impl<A: Allocator + Copy> Snapshot<A> {
     // A snapshot with the records of these bodies. Fails where an allocation for the two lists was refused.
-    pub(crate) fn of(alloc: A, kind: Ruleset, best: &Bodies<A>) -> Result<Self, AllocError>
+    pub(crate) fn of(alloc: A, ruleset: Ruleset, best: &Bodies<A>) -> Result<Self, AllocError>
         requires { 8 + length (flat_map body_text (values best.now)) < 2 ^ 64 }
-        ensures rules { IfOk result (λ s. s.ruleset ≡ kind) }
+        ensures rules { IfOk result (λ s. s.ruleset ≡ «ruleset») }
         ensures bodies { IfOk result (λ s. s.bodies ≡ values best.now) }
     {
         let mut starts = Vec::with_capacity(alloc, best.len())?;
@@ -62,7 +62,7 @@ impl<A: Allocator + Copy> Snapshot<A> {
             len += 4 + u64::from(body.size());
         }
         Ok(Snapshot {
-            ruleset: kind,
+            ruleset,
             len,
             starts,
             bodies,

@@ -38,11 +38,11 @@ pub(crate) fn size_bytes<A: Allocator>(body: &Body<A>) -> [u8; 4]
 }
 
 // The header of a collection's text.
-pub(crate) fn header_bytes(kind: Ruleset) -> [u8; 8]
-    ensures { result ≡ collection_header kind }
+pub(crate) fn header_bytes(ruleset: Ruleset) -> [u8; 8]
+    ensures { result ≡ collection_header «ruleset» }
 {
     let [a, b, c, d] = SIGNATURE;
-    [a, b, c, d, kind.code(), 0, 0, 0]
+    [a, b, c, d, ruleset.code(), 0, 0, 0]
 }
 
 // Sends one record.
@@ -77,16 +77,16 @@ fn send_bodies<A: Allocator, W: Write>(
 
 // Writes a header, and a record for each body.
 pub(crate) fn write_parts<A: Allocator, W: Write>(
-    kind: Ruleset,
+    ruleset: Ruleset,
     best: &Bodies<A>,
     out: &mut W,
 ) -> Result<(), OutFault>
-    ensures ok { OnOk result (Appends (W.contents out.old) (W.contents out.new) (collection_header kind ++ flat_map body_text (values best.now))) }
-    ensures err { OnErr result (AppendsPrefix (W.contents out.old) (W.contents out.new) (collection_header kind ++ flat_map body_text (values best.now))) }
+    ensures ok { OnOk result (Appends (W.contents out.old) (W.contents out.new) (collection_header «ruleset» ++ flat_map body_text (values best.now))) }
+    ensures err { OnErr result (AppendsPrefix (W.contents out.old) (W.contents out.new) (collection_header «ruleset» ++ flat_map body_text (values best.now))) }
     ensures io { IfErr result (λ e. e ≡ OutFault.Io) }
 {
     let mut buffer = Buffer::new();
-    buffer.send(&header_bytes(kind), out)?;
+    buffer.send(&header_bytes(ruleset), out)?;
     send_bodies(&mut buffer, best, out)?;
     put(out, buffer.as_slice())
 }

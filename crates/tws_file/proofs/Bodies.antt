@@ -9,7 +9,7 @@ use Rattle.tws_moves.specs.Spelling.{IsSpelling}
 use Rattle.byte_output.proofs.Bytes.{IsBytes-drop}
 use Rattle.tws_file.specs.declared.file_fault.FileFault.{FileFault}
 use Rattle.tws_file.specs.declared.file_fault.FileFault.TheVariants.{ShortHeader, BadSignature, BadRuleset, ShortRecord, BadSize, MoveCut, Memory}
-use Rattle.tws_file.specs.Text.{Solution, IsLevel, HasFields, IsSolution}
+use Rattle.tws_file.specs.Text.{Solution, IsLevel, HasSolutionFields, IsSolution}
 use Rattle.tws_file.specs.Steps.{MovesFailAt, SolutionFails}
 use Rattle.tws_file.proofs.Numbers.{little_bytes-little_number_4}
 
@@ -38,7 +38,7 @@ module _ (key : Key) (rest a b moves : List ℕ) (seed ticks : ℕ) (level : IsL
   abbrev pub solved : Solution
   solved = record { key = key; flags = slice_index rest 0; start = slice_index rest 1; seed = seed; ticks = ticks; moves = moves }
 
-  pub fields_fit : HasFields solved
+  pub fields_fit : HasSolutionFields solved
   fields_fit = record {
     key = level;
     flags = omega (arith, fits 0);

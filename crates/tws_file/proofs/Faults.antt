@@ -7,7 +7,7 @@ use Rattle.tws_file.specs.declared.«ruleset».Ruleset.{Ruleset}
 use Rattle.tws_file.specs.declared.«ruleset».Ruleset.TheVariants.{Lynx, Ms}
 use Rattle.tws_file.specs.Fields.{ruleset_code}
 use Rattle.tws_file.specs.Text.{File, IsFile, IsText, text_of, record_text}
-use Rattle.tws_file.specs.Fault.{IsSigned, StopsAt, HasBadSize, IsRecordCut, HasCutMoves, StopsInMoves, HasFault}
+use Rattle.tws_file.specs.Fault.{IsSigned, StopsAt, HasBadSize, IsRecordCut, HasCutMoves, StopsInMoves, HasFileFault}
 use Rattle.tws_file.proofs.FileText.{text_parts, nothing_begins}
 use Rattle.tws_file.proofs.Beginnings.{moves_or_cut, moves_or_bad, one_cut_place}
 
@@ -17,7 +17,7 @@ record HasHeader (bytes : List ℕ) : Type 0 where
   known : (slice_index bytes 4 ≡ 1) ⊎ (slice_index bytes 4 ≡ 2)
   whole : 8 + slice_index bytes 7 ≤ length bytes
 
-code_known : (kind : Ruleset) → (ruleset_code kind ≡ 1) ⊎ (ruleset_code kind ≡ 2)
+code_known : (rules : Ruleset) → (ruleset_code rules ≡ 1) ⊎ (ruleset_code rules ≡ 2)
 code_known Lynx = inl refl
 code_known Ms = inr refl
 
@@ -43,13 +43,13 @@ header_of_text f rest fits =
 
 -- ---- a whole header has no fault
 
-short_header : (bytes : List ℕ) (n : ℕ) → HasHeader bytes → HasFault bytes (ShortHeader n) → ⊥
+short_header : (bytes : List ℕ) (n : ℕ) → HasHeader bytes → HasFileFault bytes (ShortHeader n) → ⊥
 short_header bytes n header fault = ⊎_elim (λ short. absurd (omega (arith, header.signed.long))) (λ cut. absurd (omega (arith, header.whole, cut.cut))) fault.1
 
-bad_signature : (bytes : List ℕ) → IsSigned bytes → HasFault bytes BadSignature → ⊥
+bad_signature : (bytes : List ℕ) → IsSigned bytes → HasFileFault bytes BadSignature → ⊥
 bad_signature bytes signed fault = fault.1 signed.signed
 
-unknown_ruleset : (bytes : List ℕ) (code : ℕ) → (slice_index bytes 4 ≡ 1) ⊎ (slice_index bytes 4 ≡ 2) → HasFault bytes (BadRuleset code) → ⊥
+unknown_ruleset : (bytes : List ℕ) (code : ℕ) → (slice_index bytes 4 ≡ 1) ⊎ (slice_index bytes 4 ≡ 2) → HasFileFault bytes (BadRuleset code) → ⊥
 unknown_ruleset bytes code known fault = ⊎_elim (λ one. fault.2.0 (fault.1 ∙ one)) (λ two. fault.2.1 (fault.1 ∙ two)) known
 
 -- ---- where the records stop
@@ -65,17 +65,17 @@ one_stop bytes o p x y s t =
 bad_or_cut : (rest : List ℕ) → HasBadSize rest → IsRecordCut rest → ⊥
 bad_or_cut rest bad cut = ⊎_elim (λ short. absurd (omega (arith, bad.0))) (λ whole. whole.1 bad.1) cut
 
-cut_and_bad : (bytes : List ℕ) (o p : ℕ) → HasFault bytes (ShortRecord o) → HasFault bytes (BadSize p) → ⊥
+cut_and_bad : (bytes : List ℕ) (o p : ℕ) → HasFileFault bytes (ShortRecord o) → HasFileFault bytes (BadSize p) → ⊥
 cut_and_bad bytes o p cut bad =
     bad_or_cut bad.0 bad.2 (subst IsRecordCut (one_stop bytes o p cut.0 bad.0 cut.1 bad.1).1 cut.2)
 
 -- ---- where moves are cut
 
-cut_and_moves : (bytes : List ℕ) (o p : ℕ) → HasFault bytes (ShortRecord o) → StopsInMoves bytes p → ⊥
+cut_and_moves : (bytes : List ℕ) (o p : ℕ) → HasFileFault bytes (ShortRecord o) → StopsInMoves bytes p → ⊥
 cut_and_moves bytes o p cut moves =
     moves_or_cut moves.rest moves.at moves.moves (subst IsRecordCut (one_stop bytes o moves.offset cut.0 moves.rest cut.1 moves.stop).1 cut.2)
 
-bad_and_moves : (bytes : List ℕ) (o p : ℕ) → HasFault bytes (BadSize o) → StopsInMoves bytes p → ⊥
+bad_and_moves : (bytes : List ℕ) (o p : ℕ) → HasFileFault bytes (BadSize o) → StopsInMoves bytes p → ⊥
 bad_and_moves bytes o p bad moves =
     moves_or_bad moves.rest moves.at moves.moves (subst HasBadSize (one_stop bytes o moves.offset bad.0 moves.rest bad.1 moves.stop).1 bad.2)
 
@@ -87,7 +87,7 @@ one_moves_stop bytes o p first second =
 
 -- ---- one fault
 
-pub one_fault : (bytes : List ℕ) (d e : FileFault) → HasFault bytes d → HasFault bytes e → d ≡ e
+pub one_fault : (bytes : List ℕ) (d e : FileFault) → HasFileFault bytes d → HasFileFault bytes e → d ≡ e
 one_fault bytes (ShortHeader m) (ShortHeader n) p q = ap ShortHeader (p.0 ∙ sym q.0)
 one_fault bytes (ShortHeader m) BadSignature p q = ⊎_elim (λ short. absurd (omega (arith, q.0))) (λ cut. absurd (bad_signature bytes cut.signed q)) p.1
 one_fault bytes (ShortHeader m) (BadRuleset code) p q = ⊎_elim (λ short. absurd (omega (arith, q.0.long))) (λ cut. absurd (unknown_ruleset bytes code cut.known q)) p.1
@@ -136,7 +136,7 @@ text_goes_on : (bytes : List ℕ) (f : File) (offset : ℕ) (rest : List ℕ) �
 text_goes_on bytes f offset rest text stop =
     stop.some (sym (text_parts f stop.prefix [] rest text.fits stop.fits nothing_begins stop.no_record (append-nil (text_of f) ∙ sym text.text ∙ stop.split)).1)
 
-pub text_without_fault : (bytes : List ℕ) (f : File) (e : FileFault) → IsText bytes f → HasFault bytes e → ⊥
+pub text_without_fault : (bytes : List ℕ) (f : File) (e : FileFault) → IsText bytes f → HasFileFault bytes e → ⊥
 text_without_fault bytes f (ShortHeader n) text fault = short_header bytes n (text_header bytes f text) fault
 text_without_fault bytes f BadSignature text fault = bad_signature bytes (text_header bytes f text).signed fault
 text_without_fault bytes f (BadRuleset code) text fault = unknown_ruleset bytes code (text_header bytes f text).known fault

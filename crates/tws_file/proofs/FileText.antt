@@ -20,7 +20,7 @@ abbrev header_of : File → List ℕ
 header_of f = header_text f.ruleset f.word f.extra
 
 record HasSameHeader (f g : File) (x y : List ℕ) : Type 0 where
-  kind : f.ruleset ≡ g.ruleset
+  rules : f.ruleset ≡ g.ruleset
   word : f.word ≡ g.word
   extra : f.extra ≡ g.extra
   rest : x ≡ y
@@ -35,7 +35,7 @@ header_parts f g x y ff fg e =
     let count : length f.extra ≡ length g.extra = cc in
     let rest : f.extra ++ x ≡ g.extra ++ y = cc in
     let extra = append_parts f.extra g.extra x y count rest in
-    record { kind = ruleset_code-injective f.ruleset g.ruleset code; word = word.0; extra = extra.0; rest = extra.1 }
+    record { rules = ruleset_code-injective f.ruleset g.ruleset code; word = word.0; extra = extra.0; rest = extra.1 }
 
 pub nothing_begins : BeginsNoRecord []
 nothing_begins r more fits e = absurd cc
@@ -46,7 +46,7 @@ text_parts f g x y ff fg nx ny e =
     let records_g = flat_map record_text g.records in
     let header = header_parts f g (records_f ++ x) (records_g ++ y) ff fg (sym (append_assoc (header_of f) records_f x) ∙ e ∙ append_assoc (header_of g) records_g y) in
     let records = one_cut IsRecord record_text record_texts f.records g.records x y ff.records fg.records nx ny header.rest in
-    let kind = header.kind in
+    let rules = header.rules in
     let word = header.word in
     let extra = header.extra in
     let same = records.0 in

@@ -14,10 +14,10 @@ two_bytes a b fa fb (suc zero) = fb
 two_bytes a b fa fb (suc (suc i)) = omega arith
 
 -- `count` bytes of the rest are the further header bytes
-pub header_from : (bytes : List ℕ) (kind : Ruleset) (rest extra records : List ℕ) (count : ℕ) → IsBytes bytes → 8 ≤ length bytes → take 4 bytes ≡ signature → ruleset_code kind ≡ slice_index bytes 4 → count ≡ slice_index bytes 7
+pub header_from : (bytes : List ℕ) (rules : Ruleset) (rest extra records : List ℕ) (count : ℕ) → IsBytes bytes → 8 ≤ length bytes → take 4 bytes ≡ signature → ruleset_code rules ≡ slice_index bytes 4 → count ≡ slice_index bytes 7
     → rest ≡ drop 8 bytes → count ≤ length rest → extra ≡ take count rest → records ≡ drop count rest
-    → BeginsWithHeader bytes kind (slice_index bytes 5 ∷ slice_index bytes 6 ∷ []) extra records
-header_from bytes kind rest extra records count fits long signed code seven rest-is room extra-is records-is =
+    → BeginsWithHeader bytes rules (slice_index bytes 5 ∷ slice_index bytes 6 ∷ []) extra records
+header_from bytes rules rest extra records count fits long signed code seven rest-is room extra-is records-is =
     let four : bytes ≡ take 4 bytes ++ drop 4 bytes = sym (take-append-drop 4 bytes) in
     let cell4 = drop_more bytes 4 0 (omega arith) in
     let cell5 = drop_more bytes 5 0 (omega arith) in
@@ -25,7 +25,7 @@ header_from bytes kind rest extra records count fits long signed code seven rest
     let cell7 = drop_more bytes 7 0 (omega arith) in
     let further : extra ++ records ≡ rest = rw (extra-is, records-is) (take-append-drop count rest) in
     let len : length extra ≡ count = rw extra-is (omega (arith, length-take count rest)) in
-    let whole : bytes ≡ header_text kind (slice_index bytes 5 ∷ slice_index bytes 6 ∷ []) extra ++ records = cc in
+    let whole : bytes ≡ header_text rules (slice_index bytes 5 ∷ slice_index bytes 6 ∷ []) extra ++ records = cc in
     let rest_fits : IsBytes rest = rw rest-is (IsBytes-drop 8 bytes fits) in
     record {
       split = whole;

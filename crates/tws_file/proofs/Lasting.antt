@@ -7,7 +7,7 @@ use Rattle.byteorder.specs.Numbers.{little_from-take}
 use Rattle.tws_file.specs.declared.file_fault.FileFault.{FileFault}
 use Rattle.tws_file.specs.declared.file_fault.FileFault.TheVariants.{ShortHeader, BadSignature, BadRuleset, ShortRecord, BadSize, MoveCut, Memory}
 use Rattle.tws_file.specs.Text.{File, text_of}
-use Rattle.tws_file.specs.Fault.{HasFault, IsLasting, IsBadSize, HasBadSize}
+use Rattle.tws_file.specs.Fault.{HasFileFault, IsLasting, IsBadSize, HasBadSize}
 use Rattle.tws_file.specs.Reader.{Reading, reading, stopped, HasTaken, TakesPiece, Finishes, IsAnswer}
 use Rattle.tws_file.proofs.Beginnings.{bad_begins_none, cut_moves_begin_none, cut_moves-append}
 
@@ -25,7 +25,7 @@ still_some : (rest more : List ℕ) → rest ≢ [] → rest ++ more ≢ []
 still_some [] more some none = some refl
 still_some (b ∷ rest) more some none = absurd cc
 
-pub lasting-append : (bytes more : List ℕ) (e : FileFault) → IsLasting e → HasFault bytes e → HasFault (bytes ++ more) e
+pub lasting-append : (bytes more : List ℕ) (e : FileFault) → IsLasting e → HasFileFault bytes e → HasFileFault (bytes ++ more) e
 lasting-append bytes more (ShortHeader n) lasts fault = absurd lasts
 lasting-append bytes more BadSignature lasts fault =
     (omega (arith, fault.0, length-append bytes more), λ signed. fault.1 (sym (take-append-le 4 bytes more (omega (arith, fault.0))) ∙ signed))

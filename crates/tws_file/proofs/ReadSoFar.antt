@@ -8,7 +8,7 @@ use Rattle.tws_file.specs.declared.file_fault.FileFault.{FileFault}
 use Rattle.tws_file.specs.declared.file_fault.FileFault.TheVariants.{ShortHeader, BadSignature, BadRuleset, ShortRecord, BadSize, MoveCut, Memory}
 use Rattle.tws_file.specs.declared.«ruleset».Ruleset.{Ruleset}
 use Rattle.tws_file.specs.Text.{File, Record, IsRecord, IsFile, IsText, header_text, text_of, record_text}
-use Rattle.tws_file.specs.Fault.{HasFault, IsLasting, StopsAt, IsRecordCut, FailsWith, IsReadAs}
+use Rattle.tws_file.specs.Fault.{HasFileFault, IsLasting, StopsAt, IsRecordCut, FailsWith, IsReadAs}
 use Rattle.tws_file.specs.Reader.{Reading, reading, stopped, reading_from, Pushes, PushFails, HasTaken, TakesPiece, Finishes, IsAnswer, HasNoLasting}
 use Rattle.tws_file.specs.Steps.{BeginsWithHeader, StopsAfter, RecordsFail, FailsForGood, IsAt, IsLeft, text_so_far, Advances}
 use Rattle.tws_file.proofs.Beginnings.{cut_begins_none}
@@ -75,10 +75,10 @@ more_fails file bytes offset Memory fits offset-is fault = inr refl
 
 -- a header alone is a file without records
 abbrev pub without_records : Ruleset → List ℕ → List ℕ → File
-without_records kind word extra = record { «ruleset» = kind; word = word; extra = extra; records = [] }
+without_records rules word extra = record { «ruleset» = rules; word = word; extra = extra; records = [] }
 
-pub without_records_fits : (bytes word extra rest : List ℕ) (kind : Ruleset) → BeginsWithHeader bytes kind word extra rest → IsFile (without_records kind word extra)
-without_records_fits bytes word extra rest kind header = record {
+pub without_records_fits : (bytes word extra rest : List ℕ) (rules : Ruleset) → BeginsWithHeader bytes rules word extra rest → IsFile (without_records rules word extra)
+without_records_fits bytes word extra rest rules header = record {
   word = header.word_bytes;
   word_length = header.word_length;
   extra = header.extra_bytes;
@@ -86,16 +86,16 @@ without_records_fits bytes word extra rest kind header = record {
   records = tt;
 }
 
-pub header_split : (bytes word extra rest : List ℕ) (kind : Ruleset) → BeginsWithHeader bytes kind word extra rest → bytes ≡ text_of (without_records kind word extra) ++ rest
-header_split bytes word extra rest kind header =
-    header.split ∙ ap (λ (xs : List ℕ). xs ++ rest) (sym (append-nil (header_text kind word extra)))
+pub header_split : (bytes word extra rest : List ℕ) (rules : Ruleset) → BeginsWithHeader bytes rules word extra rest → bytes ≡ text_of (without_records rules word extra) ++ rest
+header_split bytes word extra rest rules header =
+    header.split ∙ ap (λ (xs : List ℕ). xs ++ rest) (sym (append-nil (header_text rules word extra)))
 
 -- records that fail after a header are a fault of all the bytes
-pub start_fails : (bytes word extra rest : List ℕ) (kind : Ruleset) (e : FileFault) → BeginsWithHeader bytes kind word extra rest → RecordsFail rest (length bytes - length rest) e → FailsForGood bytes e
-start_fails bytes word extra rest kind e header fault =
-    let file = without_records kind word extra in
-    let split = header_split bytes word extra rest kind header in
-    subst (λ (xs : List ℕ). FailsForGood xs e) (sym split) (more_fails file rest (length bytes - length rest) e (without_records_fits bytes word extra rest kind header) (omega (arith, ap length split, length-append (text_of file) rest)) fault)
+pub start_fails : (bytes word extra rest : List ℕ) (rules : Ruleset) (e : FileFault) → BeginsWithHeader bytes rules word extra rest → RecordsFail rest (length bytes - length rest) e → FailsForGood bytes e
+start_fails bytes word extra rest rules e header fault =
+    let file = without_records rules word extra in
+    let split = header_split bytes word extra rest rules header in
+    subst (λ (xs : List ℕ). FailsForGood xs e) (sym split) (more_fails file rest (length bytes - length rest) e (without_records_fits bytes word extra rest rules header) (omega (arith, ap length split, length-append (text_of file) rest)) fault)
 
 -- ---- a step
 
@@ -135,14 +135,14 @@ next_advance file offset bytes rest more fits offset-is fits_more split cut =
 -- ---- the end
 
 -- a file, and then bytes that are cut
-pub cut_after : (file : File) (rest : List ℕ) (offset : ℕ) → IsFile file → offset ≡ length (text_of file) → rest ≢ [] → IsRecordCut rest → HasFault (text_of file ++ rest) (ShortRecord offset)
+pub cut_after : (file : File) (rest : List ℕ) (offset : ℕ) → IsFile file → offset ≡ length (text_of file) → rest ≢ [] → IsRecordCut rest → HasFileFault (text_of file ++ rest) (ShortRecord offset)
 cut_after file rest offset fits offset-is some cut =
     (rest, record { prefix = file; fits = fits; split = refl; place = offset-is; some = some; no_record = cut_begins_none rest cut }, cut)
 
 text_alone : (file : File) → IsFile file → IsText (text_of file ++ []) file
 text_alone file fits = record { fits = fits; text = append-nil (text_of file) }
 
-no_lasting_after : (file : File) (rest : List ℕ) (offset : ℕ) (e : FileFault) → IsFile file → offset ≡ length (text_of file) → IsRecordCut rest → IsLasting e → HasFault (text_of file ++ rest) e → ⊥
+no_lasting_after : (file : File) (rest : List ℕ) (offset : ℕ) (e : FileFault) → IsFile file → offset ≡ length (text_of file) → IsRecordCut rest → IsLasting e → HasFileFault (text_of file ++ rest) e → ⊥
 no_lasting_after file [] offset e fits offset-is cut lasts fault = text_without_fault (text_of file ++ []) file e (text_alone file fits) fault
 no_lasting_after file (b ∷ rest) offset e fits offset-is cut lasts fault =
     let some : b ∷ rest ≢ [] = λ none. absurd cc in
@@ -150,7 +150,7 @@ no_lasting_after file (b ∷ rest) offset e fits offset-is cut lasts fault =
     absurd (subst IsLasting same lasts)
 
 -- if nothing whole is left to read, there is no lasting fault
-no_lasting : (so_far : Option File) (rest : List ℕ) (offset : ℕ) → IsAt so_far offset → IsLeft so_far rest → (e : FileFault) → IsLasting e → HasFault (text_so_far so_far ++ rest) e → ⊥
+no_lasting : (so_far : Option File) (rest : List ℕ) (offset : ℕ) → IsAt so_far offset → IsLeft so_far rest → (e : FileFault) → IsLasting e → HasFileFault (text_so_far so_far ++ rest) e → ⊥
 no_lasting None rest offset at left e lasts fault =
     absurd (subst IsLasting (one_fault rest e (ShortHeader (length rest)) fault left) lasts)
 no_lasting (Some file) rest offset at left e lasts fault =
@@ -170,10 +170,10 @@ goes_on (Some e) old new bytes rest offset count none step rest-is = absurd cc
 -- ---- a fault that stops the reading
 
 -- the fault of bytes for which memory did not run out
-lasting_of : (bytes : List ℕ) (e : FileFault) → e ≢ Memory → FailsForGood bytes e → IsLasting e × HasFault bytes e
+lasting_of : (bytes : List ℕ) (e : FileFault) → e ≢ Memory → FailsForGood bytes e → IsLasting e × HasFileFault bytes e
 lasting_of bytes e some fails = ⊎_elim (λ lasts. lasts) (λ memory. absurd (some memory)) fails
 
-stops_at : (bytes piece : List ℕ) (e : FileFault) (new : Reading) → new ≡ stopped e → IsLasting e × HasFault (bytes ++ piece) e → PushFails bytes piece e new
+stops_at : (bytes piece : List ℕ) (e : FileFault) (new : Reading) → new ≡ stopped e → IsLasting e × HasFileFault (bytes ++ piece) e → PushFails bytes piece e new
 stops_at bytes piece (ShortHeader n) new is fails = absurd fails.0
 stops_at bytes piece BadSignature new is fails = (is, fails.1)
 stops_at bytes piece (BadRuleset code) new is fails = (is, fails.1)
@@ -182,7 +182,7 @@ stops_at bytes piece (BadSize o) new is fails = (is, fails.1)
 stops_at bytes piece (MoveCut place) new is fails = (is, fails.1)
 stops_at bytes piece Memory new is fails = absurd fails.0
 
-takes_at : (bytes : List ℕ) (e : FileFault) → IsLasting e × HasFault bytes e → TakesPiece (Err e) bytes (stopped e)
+takes_at : (bytes : List ℕ) (e : FileFault) → IsLasting e × HasFileFault bytes e → TakesPiece (Err e) bytes (stopped e)
 takes_at bytes (ShortHeader n) fails = absurd fails.0
 takes_at bytes BadSignature fails = fails
 takes_at bytes (BadRuleset code) fails = fails
@@ -192,7 +192,7 @@ takes_at bytes (MoveCut place) fails = fails
 takes_at bytes Memory fails = tt
 
 -- of all bytes, those that were read first
-whole_fails : (so_far : Option File) (rest piece : List ℕ) (e : FileFault) → e ≢ Memory → FailsForGood (text_so_far so_far ++ (rest ++ piece)) e → IsLasting e × HasFault (text_so_far so_far ++ rest ++ piece) e
+whole_fails : (so_far : Option File) (rest piece : List ℕ) (e : FileFault) → e ≢ Memory → FailsForGood (text_so_far so_far ++ (rest ++ piece)) e → IsLasting e × HasFileFault (text_so_far so_far ++ rest ++ piece) e
 whole_fails so_far rest piece e some fails =
     lasting_of (text_so_far so_far ++ rest ++ piece) e some (subst (λ (xs : List ℕ). FailsForGood xs e) (sym (append_assoc (text_so_far so_far) rest piece)) fails)
 

@@ -14,8 +14,8 @@ use Rattle.tws_file.specs.declared.file_fault.FileFault.TheVariants.{ShortHeader
 use Rattle.tws_file.specs.declared.«ruleset».Ruleset.{Ruleset}
 use Rattle.tws_file.specs.declared.«ruleset».Ruleset.TheVariants.{Lynx, Ms}
 use Rattle.tws_file.specs.Fields.{IsKey, signature, ruleset_code, set_key, key_bytes}
-use Rattle.tws_file.specs.Text.{File, Record, Solution, pad, set, bare, solution, IsLevel, HasFields, IsRecord, IsFile, IsReadable, body_of, record_text, text_of}
-use Rattle.tws_file.specs.Fault.{HasFault, IsSigned, IsBadSize, HasBadSize, IsRecordCut, HasCutMoves, StopsAt}
+use Rattle.tws_file.specs.Text.{File, Record, Solution, pad, set, bare, solution, IsLevel, HasSolutionFields, IsRecord, IsFile, IsReadable, body_of, record_text, text_of}
+use Rattle.tws_file.specs.Fault.{HasFileFault, IsSigned, IsBadSize, HasBadSize, IsRecordCut, HasCutMoves, StopsAt}
 use Rattle.tws_file.proofs.Numbers.{little_bytes-little_number_2, little_bytes-little_number_4}
 use Rattle.tws_file.proofs.Headers.{header_from}
 use Rattle.tws_file.proofs.Bodies.{solved_from, fields_fit}
@@ -79,7 +79,7 @@ set_or_level key fits =
 -- the body of a record, or of a solution whose moves are cut
 data InBody (body : List ℕ) : Type 0 where
   whole_body : (r : Record) → IsRecord r → body_of r ≡ body → InBody body
-  cut_body : (s : Solution) (at : ℕ) → HasFields s → body_of (solution s) ≡ body → IsCutAt s.moves at → InBody body
+  cut_body : (s : Solution) (at : ℕ) → HasSolutionFields s → body_of (solution s) ≡ body → IsCutAt s.moves at → InBody body
 
 solution_in : (body : List ℕ) → IsBytes body → 16 ≤ length body → length body < 2 ^ 32 → IsLevel (key_in body) → InBody body
 solution_in body fits long size level =
@@ -200,7 +200,7 @@ begins rest fits =
 -- ---- all records
 
 abbrev Answers : List ℕ → Type 0
-Answers bytes = IsReadable bytes ⊎ ((e : FileFault) × HasFault bytes e)
+Answers bytes = IsReadable bytes ⊎ ((e : FileFault) × HasFileFault bytes e)
 
 stops : (file : File) (rest : List ℕ) → IsFile file → rest ≢ [] → ((r : Record) (more : List ℕ) → IsRecord r → rest ≢ record_text r ++ more) → StopsAt (text_of file ++ rest) (length (text_of file)) rest
 stops file rest fits some none = record { prefix = file; fits = fits; split = refl; place = refl; some = some; no_record = none }
@@ -235,21 +235,21 @@ walk (suc n) file (b ∷ rest) enough fits bytes =
 
 -- ---- the header
 
-after_header : (bytes : List ℕ) (kind : Ruleset) → IsBytes bytes → IsSigned bytes → ruleset_code kind ≡ slice_index bytes 4 → (slice_index bytes 4 ≡ 1) ⊎ (slice_index bytes 4 ≡ 2) → Answers bytes
-after_header bytes kind fits signed code known =
+after_header : (bytes : List ℕ) (rules : Ruleset) → IsBytes bytes → IsSigned bytes → ruleset_code rules ≡ slice_index bytes 4 → (slice_index bytes 4 ≡ 1) ⊎ (slice_index bytes 4 ≡ 2) → Answers bytes
+after_header bytes rules fits signed code known =
     let count = slice_index bytes 7 in
     let rest = drop 8 bytes in
     let word = slice_index bytes 5 ∷ slice_index bytes 6 ∷ [] in
     elim (cases_lt (length bytes) (8 + count)) [
       | inl cut ↦ inr (ShortHeader (length bytes), (refl, inr (record { signed = signed; known = known; cut = cut })))
       | inr room ↦
-          let header = header_from bytes kind rest (take count rest) (drop count rest) count fits signed.long signed.signed code refl refl (omega (arith, room, length-drop 8 bytes)) refl refl in
-          let file = without_records kind word (take count rest) in
-          subst Answers (sym (header_split bytes word (take count rest) (drop count rest) kind header))
-          (walk (length (drop count rest)) file (drop count rest) (omega arith) (without_records_fits bytes word (take count rest) (drop count rest) kind header) (IsBytes-drop count rest (IsBytes-drop 8 bytes fits)))
+          let header = header_from bytes rules rest (take count rest) (drop count rest) count fits signed.long signed.signed code refl refl (omega (arith, room, length-drop 8 bytes)) refl refl in
+          let file = without_records rules word (take count rest) in
+          subst Answers (sym (header_split bytes word (take count rest) (drop count rest) rules header))
+          (walk (length (drop count rest)) file (drop count rest) (omega arith) (without_records_fits bytes word (take count rest) (drop count rest) rules header) (IsBytes-drop count rest (IsBytes-drop 8 bytes fits)))
     ]
 
-pub readable_or_fault : (bytes : List ℕ) → IsBytes bytes → IsReadable bytes ⊎ ((e : FileFault) × HasFault bytes e)
+pub readable_or_fault : (bytes : List ℕ) → IsBytes bytes → IsReadable bytes ⊎ ((e : FileFault) × HasFileFault bytes e)
 readable_or_fault bytes fits =
     elim (cases_lt (length bytes) 8) [
       | inl short ↦ inr (ShortHeader (length bytes), (refl, inl short))

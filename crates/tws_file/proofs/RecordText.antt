@@ -4,7 +4,7 @@ use Rattle.byteorder.specs.Endian.{little_bytes}
 use Rattle.tws_file.specs.declared.key.Key.{Key}
 use Rattle.byte_output.specs.Bytes.{IsBytes}
 use Rattle.tws_file.specs.Fields.{IsKey, set_key, key_bytes}
-use Rattle.tws_file.specs.Text.{Solution, Record, pad, set, bare, solution, body_of, record_text, IsLevel, HasFields, IsSet, IsRecord}
+use Rattle.tws_file.specs.Text.{Solution, Record, pad, set, bare, solution, body_of, record_text, IsLevel, HasSolutionFields, IsSet, IsRecord}
 use Rattle.tws_file.specs.Steps.{IsSize, IsShaped, solved_after_key}
 use Rattle.byte_output.proofs.Lists.{append_parts}
 use Rattle.tws_moves.proofs.Codes.{IsCode}
@@ -29,7 +29,7 @@ key_parts j k x y fj fk e =
 
 -- ---- bodies
 
-solution-injective : (s t : Solution) → HasFields s → HasFields t → body_of (solution s) ≡ body_of (solution t) → s ≡ t
+solution-injective : (s t : Solution) → HasSolutionFields s → HasSolutionFields t → body_of (solution s) ≡ body_of (solution t) → s ≡ t
 solution-injective s t fs ft e =
     let key = key_parts s.key t.key (solved_after_key s) (solved_after_key t) fs.key.fits ft.key.fits e in
     let rest : solved_after_key s ≡ solved_after_key t = key.1 in

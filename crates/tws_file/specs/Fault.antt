@@ -5,7 +5,7 @@ use Rattle.tws_moves.specs.Spelling.{IsCutAt}
 use Rattle.tws_file.specs.declared.file_fault.FileFault.{FileFault}
 use Rattle.tws_file.specs.declared.file_fault.FileFault.TheVariants.{ShortHeader, BadSignature, BadRuleset, ShortRecord, BadSize, MoveCut, Memory}
 use Rattle.tws_file.specs.Fields.{signature}
-use Rattle.tws_file.specs.Text.{File, Record, Solution, solution, IsFile, IsRecord, HasFields, text_of, record_text}
+use Rattle.tws_file.specs.Text.{File, Record, Solution, solution, IsFile, IsRecord, HasSolutionFields, text_of, record_text}
 
 -- ---- the header
 
@@ -54,7 +54,7 @@ IsRecordCut rest = (length rest < 4) ⊎ ((4 ≤ length rest) × ¬ IsBadSize (l
 pub record HasCutMoves (bytes : List ℕ) (at : ℕ) : Type 0 where
   pub solved : Solution
   pub more : List ℕ
-  pub fields : HasFields solved
+  pub fields : HasSolutionFields solved
   pub split : bytes ≡ record_text (solution solved) ++ more
   pub cut : IsCutAt solved.moves at
 
@@ -70,15 +70,15 @@ pub record StopsInMoves (bytes : List ℕ) (place : ℕ) : Type 0 where
 
 -- ---- the fault
 
-abbrev pub HasFault : List ℕ → FileFault → Type 0
-HasFault bytes (ShortHeader n) = (n ≡ length bytes) × ((length bytes < 8) ⊎ IsHeaderCut bytes)
-HasFault bytes BadSignature = (8 ≤ length bytes) × (take 4 bytes ≢ signature)
-HasFault bytes (BadRuleset code) = IsSigned bytes × (code ≡ slice_index bytes 4) × IsUnknownRuleset code
-HasFault bytes (ShortRecord offset) = (rest : List ℕ) × StopsAt bytes offset rest × IsRecordCut rest
-HasFault bytes (BadSize offset) = (rest : List ℕ) × StopsAt bytes offset rest × HasBadSize rest
-HasFault bytes (MoveCut place) = StopsInMoves bytes place
+abbrev pub HasFileFault : List ℕ → FileFault → Type 0
+HasFileFault bytes (ShortHeader n) = (n ≡ length bytes) × ((length bytes < 8) ⊎ IsHeaderCut bytes)
+HasFileFault bytes BadSignature = (8 ≤ length bytes) × (take 4 bytes ≢ signature)
+HasFileFault bytes (BadRuleset code) = IsSigned bytes × (code ≡ slice_index bytes 4) × IsUnknownRuleset code
+HasFileFault bytes (ShortRecord offset) = (rest : List ℕ) × StopsAt bytes offset rest × IsRecordCut rest
+HasFileFault bytes (BadSize offset) = (rest : List ℕ) × StopsAt bytes offset rest × HasBadSize rest
+HasFileFault bytes (MoveCut place) = StopsInMoves bytes place
 -- running out of memory is not a fault of the bytes
-HasFault bytes Memory = ⊥
+HasFileFault bytes Memory = ⊥
 
 -- a fault that no further bytes can cure
 abbrev pub IsLasting : FileFault → Type 0
@@ -92,7 +92,7 @@ IsLasting Memory = ⊥
 
 -- a failed read: the fault of the bytes, or out of memory
 abbrev pub FailsWith : List ℕ → FileFault → Type 0
-FailsWith bytes e = HasFault bytes e ⊎ (e ≡ Memory)
+FailsWith bytes e = HasFileFault bytes e ⊎ (e ≡ Memory)
 
 -- a read that returned this file, or ran out of memory
 abbrev pub IsReadAs : File → Result File FileFault → Type 0

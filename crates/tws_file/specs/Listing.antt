@@ -41,7 +41,7 @@ abbrev pub line : List ℕ → List ℕ
 line text = text ++ 10 ∷ []
 
 abbrev pub header_line : Ruleset → List ℕ → List ℕ → List ℕ
-header_line kind word extra = line (codes "ruleset " ++ ruleset_name kind ++ codes " word " ++ hex word ++ codes " extra " ++ decimal (length extra))
+header_line rules word extra = line (codes "ruleset " ++ ruleset_name rules ++ codes " word " ++ hex word ++ codes " extra " ++ decimal (length extra))
 
 -- a solution's line up to the time
 abbrev pub solved_words : Key → ℕ → List ℕ

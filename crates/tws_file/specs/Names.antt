@@ -9,8 +9,8 @@ file_name_of Lynx = codes "lynx.tws"
 file_name_of Ms = codes "ms.tws"
 
 -- the ruleset whose collection has this name
-abbrev pub kind_named : (name : List ℕ) → Option Ruleset
-kind_named name =
+abbrev pub ruleset_named : (name : List ℕ) → Option Ruleset
+ruleset_named name =
     cond (bytes_eq name (file_name_of Lynx)) (Some Lynx) (cond (bytes_eq name (file_name_of Ms)) (Some Ms) None)
 
 -- it has no meaning to the server

@@ -4,7 +4,7 @@ use Rattle.tws_file.specs.declared.file_fault.FileFault.{FileFault}
 use Rattle.tws_file.specs.declared.file_fault.FileFault.TheVariants.{ShortHeader, BadSignature, BadRuleset, ShortRecord, BadSize, MoveCut, Memory}
 use Rattle.tws_file.specs.declared.reader.Reader.TheInside.{Inside}
 use Rattle.tws_file.specs.Text.{File, IsText}
-use Rattle.tws_file.specs.Fault.{HasFault, IsLasting}
+use Rattle.tws_file.specs.Fault.{HasFileFault, IsLasting}
 use Rattle.tws_file.specs.Steps.{IsAt, IsLeft, text_so_far}
 
 pub data Reading : Type 0 where
@@ -16,14 +16,14 @@ pub data Reading : Type 0 where
 -- these bytes have arrived, in pieces of any sizes
 abbrev pub HasTaken : Reading → List ℕ → Type 0
 HasTaken (reading xs) bytes = xs ≡ bytes
-HasTaken (stopped fault) bytes = IsLasting fault × HasFault bytes fault
+HasTaken (stopped fault) bytes = IsLasting fault × HasFileFault bytes fault
 
 -- ---- the calls
 
 -- the condition of a push: all bytes together can be counted
-abbrev pub HasRoom : Reading → List ℕ → Type 0
-HasRoom (reading bytes) piece = length bytes + length piece < 2 ^ 64
-HasRoom (stopped fault) piece = Unit {0}
+abbrev pub HasRoomFor : Reading → List ℕ → Type 0
+HasRoomFor (reading bytes) piece = length bytes + length piece < 2 ^ 64
+HasRoomFor (stopped fault) piece = Unit {0}
 
 -- at most `n` bytes have arrived
 abbrev pub HasAtMost : Reading → ℕ → Type 0
@@ -35,10 +35,10 @@ abbrev pub PushFails : List ℕ → List ℕ → FileFault → Reading → Type 
 PushFails bytes piece Memory new = new ≡ reading bytes
 PushFails bytes piece (ShortHeader n) new = ⊥
 PushFails bytes piece (ShortRecord offset) new = ⊥
-PushFails bytes piece BadSignature new = (new ≡ stopped BadSignature) × HasFault (bytes ++ piece) BadSignature
-PushFails bytes piece (BadRuleset code) new = (new ≡ stopped (BadRuleset code)) × HasFault (bytes ++ piece) (BadRuleset code)
-PushFails bytes piece (BadSize offset) new = (new ≡ stopped (BadSize offset)) × HasFault (bytes ++ piece) (BadSize offset)
-PushFails bytes piece (MoveCut place) new = (new ≡ stopped (MoveCut place)) × HasFault (bytes ++ piece) (MoveCut place)
+PushFails bytes piece BadSignature new = (new ≡ stopped BadSignature) × HasFileFault (bytes ++ piece) BadSignature
+PushFails bytes piece (BadRuleset code) new = (new ≡ stopped (BadRuleset code)) × HasFileFault (bytes ++ piece) (BadRuleset code)
+PushFails bytes piece (BadSize offset) new = (new ≡ stopped (BadSize offset)) × HasFileFault (bytes ++ piece) (BadSize offset)
+PushFails bytes piece (MoveCut place) new = (new ≡ stopped (MoveCut place)) × HasFileFault (bytes ++ piece) (MoveCut place)
 
 abbrev pub Pushes : Reading → List ℕ → Result (Unit {0}) FileFault → Reading → Type 0
 Pushes (reading bytes) piece (Ok done) new = new ≡ reading (bytes ++ piece)
@@ -59,11 +59,11 @@ TakesPiece (Err Memory) bytes new = Unit {0}
 -- what reading all the bytes returns
 abbrev pub IsAnswer : List ℕ → Result File FileFault → Type 0
 IsAnswer bytes (Ok file) = IsText bytes file
-IsAnswer bytes (Err e) = HasFault bytes e
+IsAnswer bytes (Err e) = HasFileFault bytes e
 
 -- the bytes that arrived have no lasting fault
 abbrev pub HasNoLasting : Reading → Type 0
-HasNoLasting (reading bytes) = (e : FileFault) → IsLasting e → HasFault bytes e → ⊥
+HasNoLasting (reading bytes) = (e : FileFault) → IsLasting e → HasFileFault bytes e → ⊥
 HasNoLasting (stopped fault) = ⊥
 
 abbrev pub Finishes : Reading → Result File FileFault → Type 0

@@ -8,12 +8,12 @@ use Rattle.tws_file.specs.declared.«ruleset».Ruleset.{Ruleset}
 use Rattle.byte_output.specs.Bytes.{IsBytes}
 use Rattle.byte_output.specs.Output.{Sends}
 use Rattle.tws_moves.specs.Spelling.{IsCutAt}
-use Rattle.tws_file.specs.Text.{Solution, Record, pad, set, bare, solution, File, IsLevel, IsSet, IsRecord, HasFields, IsFile, body_of, header_text, record_text, text_of}
-use Rattle.tws_file.specs.Fault.{BeginsNoRecord, IsRecordCut, HasBadSize, HasCutMoves, HasFault, IsLasting}
+use Rattle.tws_file.specs.Text.{Solution, Record, pad, set, bare, solution, File, IsLevel, IsSet, IsRecord, HasSolutionFields, IsFile, body_of, header_text, record_text, text_of}
+use Rattle.tws_file.specs.Fault.{BeginsNoRecord, IsRecordCut, HasBadSize, HasCutMoves, HasFileFault, IsLasting}
 
 -- the bytes are a header with these fields, followed by the rest
-pub record BeginsWithHeader (bytes : List ℕ) (kind : Ruleset) (word extra rest : List ℕ) : Type 0 where
-  pub split : bytes ≡ header_text kind word extra ++ rest
+pub record BeginsWithHeader (bytes : List ℕ) (rules : Ruleset) (word extra rest : List ℕ) : Type 0 where
+  pub split : bytes ≡ header_text rules word extra ++ rest
   pub word_bytes : IsBytes word
   pub word_length : length word ≡ 2
   pub extra_bytes : IsBytes extra
@@ -28,13 +28,13 @@ abbrev pub IsShaped : Record → Type 0
 IsShaped pad = Unit {0}
 IsShaped (set rest) = IsSet rest
 IsShaped (bare key) = IsLevel key
-IsShaped (solution s) = HasFields s
+IsShaped (solution s) = HasSolutionFields s
 
 -- the body of a solution, except that its moves, which begin at `offset`, are cut
 pub record IsCutSolution (body : List ℕ) (offset place : ℕ) : Type 0 where
   pub solved : Solution
   pub at : ℕ
-  pub fields : HasFields solved
+  pub fields : HasSolutionFields solved
   pub body_is : body_of (solution solved) ≡ body
   pub cut : IsCutAt solved.moves at
   pub place_is : place ≡ offset + at
@@ -107,11 +107,11 @@ SendsSome old new text = (rest : List ℕ) × Sends old new text rest
 
 -- no file was read from these bytes, and no further ones would help
 abbrev pub FailsForGood : List ℕ → FileFault → Type 0
-FailsForGood bytes e = (IsLasting e × HasFault bytes e) ⊎ (e ≡ Memory)
+FailsForGood bytes e = (IsLasting e × HasFileFault bytes e) ⊎ (e ≡ Memory)
 
 -- the bytes are too short for a header
 abbrev pub IsShort : List ℕ → Type 0
-IsShort bytes = HasFault bytes (ShortHeader (length bytes))
+IsShort bytes = HasFileFault bytes (ShortHeader (length bytes))
 
 -- the bytes that were read; none until the whole header has arrived
 abbrev pub text_so_far : Option File → List ℕ

@@ -47,7 +47,7 @@ abbrev pub record_text : Record → List ℕ
 record_text r = little_bytes 4 (length (body_of r)) ++ body_of r
 
 abbrev pub header_text : Ruleset → List ℕ → List ℕ → List ℕ
-header_text kind word extra = signature ++ (ruleset_code kind ∷ (word ++ (length extra ∷ extra)))
+header_text rules word extra = signature ++ (ruleset_code rules ∷ (word ++ (length extra ∷ extra)))
 
 abbrev pub text_of : File → List ℕ
 text_of file = header_text file.ruleset file.word file.extra ++ flat_map record_text file.records
@@ -60,7 +60,7 @@ pub record IsLevel (key : Key) : Type 0 where
   pub named : key ≢ set_key
 
 -- the fields of a solution fit, whatever its moves are
-pub record HasFields (s : Solution) : Type 0 where
+pub record HasSolutionFields (s : Solution) : Type 0 where
   pub key : IsLevel s.key
   pub flags : s.flags < 2 ^ 8
   pub start : s.start < 2 ^ 8
@@ -71,7 +71,7 @@ pub record HasFields (s : Solution) : Type 0 where
   pub size : 16 + length s.moves < 2 ^ 32
 
 pub record IsSolution (s : Solution) : Type 0 where
-  pub fields : HasFields s
+  pub fields : HasSolutionFields s
   -- no move is cut
   pub whole : IsSpelling s.moves
 

@@ -1,7 +1,7 @@
 //! The header of a solution file.
 
 ghost use Rattle.std.specs.Prelude.{IfOk, IfErr, IfSome, IfNone};
-ghost use Rattle.tws_file.specs.Fault.{HasFault, IsLasting};
+ghost use Rattle.tws_file.specs.Fault.{HasFileFault, IsLasting};
 ghost use Rattle.tws_file.specs.Steps.{BeginsWithHeader, IsShort};
 
 use crate::file_fault::FileFault;
@@ -24,7 +24,7 @@ pub(crate) fn read_header(bytes: &[u8]) -> Result<Option<Header<'_>>, FileFault>
     ensures header { IfOk result (λ r. IfSome r (λ h. BeginsWithHeader bytes.now h.ruleset h.word h.extra.now h.records.now)) }
     ensures short { IfOk result (λ r. IfNone r (IsShort bytes.now)) }
     // Never `Memory`: it does not allocate.
-    ensures fault { IfErr result (λ e. IsLasting e × HasFault bytes.now e) }
+    ensures fault { IfErr result (λ e. IsLasting e × HasFileFault bytes.now e) }
 {
     let [a, b, c, d, code, low, high, count, rest @ ..] = bytes else {
         return Ok(None);

@@ -10,7 +10,7 @@ ghost use Rattle.tws_file.specs.Text.{File, Solution, IsSolution, IsFile, IsText
 ghost use Rattle.tws_file.specs.declared.«ruleset».Ruleset.{Ruleset as Rules};
 ghost use Rattle.tws_file.specs.Names.{file_name_of};
 ghost use Rattle.tws_file.specs.Packing.{packed_solution, packed_file};
-ghost use Rattle.tws_file.specs.Fault.{HasFault};
+ghost use Rattle.tws_file.specs.Fault.{HasFileFault};
 
 /// Bytes are the text of at most one file.
 pub fn one_file()
@@ -19,17 +19,17 @@ pub fn one_file()
 
 /// Bytes have at most one fault.
 pub fn one_fault()
-    ensures { (bytes : List ℕ) (d e : fault.FileFault) → HasFault bytes d → HasFault bytes e → d ≡ e }
+    ensures { (bytes : List ℕ) (d e : fault.FileFault) → HasFileFault bytes d → HasFileFault bytes e → d ≡ e }
 {}
 
 /// Bytes are a file's text or have a fault.
 pub fn text_or_fault()
-    ensures { (bytes : List ℕ) → IsBytes bytes → IsReadable bytes ⊎ ((e : fault.FileFault) × HasFault bytes e) }
+    ensures { (bytes : List ℕ) → IsBytes bytes → IsReadable bytes ⊎ ((e : fault.FileFault) × HasFileFault bytes e) }
 {}
 
 /// The text of a file has no fault.
 pub fn text_without_fault()
-    ensures { (bytes : List ℕ) (f : File) (e : fault.FileFault) → IsText bytes f → HasFault bytes e → ⊥ }
+    ensures { (bytes : List ℕ) (f : File) (e : fault.FileFault) → IsText bytes f → HasFileFault bytes e → ⊥ }
 {}
 
 /// No two rulesets have the same file name.

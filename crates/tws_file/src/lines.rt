@@ -16,13 +16,13 @@ use tws_moves::{Act, Move};
 
 pub(crate) fn push_header<A: Allocator>(
     text: &mut String<A>,
-    kind: Ruleset,
+    ruleset: Ruleset,
     word: [u8; 2],
     extra: &[u8],
 ) -> Result<(), AllocError>
-    ensures { OnOk result (string_bytes text.new ≡ string_bytes text.old ++ header_line kind word extra.now) }
+    ensures { OnOk result (string_bytes text.new ≡ string_bytes text.old ++ header_line «ruleset» word extra.now) }
 {
-    write!(text, "ruleset {kind} word {}", Hex(&word))?;
+    write!(text, "ruleset {ruleset} word {}", Hex(&word))?;
     writeln!(text, " extra {}", extra.len())
 }
 

@@ -112,7 +112,7 @@ fn show_records<A: Allocator + Copy, B: Allocator, W: Write>(
 // Writes the listing of a file with these parts.
 fn show_parts<A: Allocator + Copy, B: Allocator, W: Write>(
     alloc: A,
-    kind: Ruleset,
+    ruleset: Ruleset,
     word: [u8; 2],
     extra: &[u8],
     records: &[Record<B>],
@@ -120,12 +120,12 @@ fn show_parts<A: Allocator + Copy, B: Allocator, W: Write>(
     out: &mut W,
 ) -> Result<(), OutFault>
     ensures ok { OnOk result (Appends (W.contents out.old) (W.contents out.new)
-        (header_line kind word extra.now ++ flat_map (record_lines with_moves) (records_of records.now) ++ count_line (length records.now))) }
+        (header_line «ruleset» word extra.now ++ flat_map (record_lines with_moves) (records_of records.now) ++ count_line (length records.now))) }
     ensures err { OnErr result (AppendsPrefix (W.contents out.old) (W.contents out.new)
-        (header_line kind word extra.now ++ flat_map (record_lines with_moves) (records_of records.now) ++ count_line (length records.now))) }
+        (header_line «ruleset» word extra.now ++ flat_map (record_lines with_moves) (records_of records.now) ++ count_line (length records.now))) }
 {
     let mut text = String::new(alloc);
-    push_header(&mut text, kind, word, extra)?;
+    push_header(&mut text, ruleset, word, extra)?;
     show_records(alloc, &mut text, records, with_moves, out)?;
     push_count(&mut text, records.len())?;
     put(out, text.as_bytes())

@@ -3,7 +3,7 @@
 ghost use Rattle.std.specs.Prelude.{◌≡◌, ◌⊎◌, ◌+◌, ◌<◌, ◌≤◌, ◌^◌, ℕ, List, [], ◌++◌, length, drop, Some, Err, OnOk, OnErr, IfOk, IfErr, IfSome, IfNone};
 ghost use Rattle.tws_file.specs.Text.{File, IsFile, IsText, text_of};
 ghost use Rattle.tws_file.specs.Fault.{FailsWith, IsReadAs, IsRecordCut, IsLasting};
-ghost use Rattle.tws_file.specs.Reader.{reading, stopped, HasRoom, Pushes, HasTaken, TakesPiece, HasAtMost, HasNoLasting, Finishes, IsAnswer};
+ghost use Rattle.tws_file.specs.Reader.{reading, stopped, HasRoomFor, Pushes, HasTaken, TakesPiece, HasAtMost, HasNoLasting, Finishes, IsAnswer};
 ghost use Rattle.tws_file.specs.Steps.{IsShort, FailsForGood, IsAt, text_so_far, record_count, taken_back, Advances};
 
 use crate::bytes::Bytes;
@@ -217,7 +217,7 @@ impl<A: Allocator + Copy> Reader<A> {
     /// The fault of the bytes so far if no further bytes can cure it, so any but `ShortHeader` and `ShortRecord`. It is
     /// kept, all else is dropped, and every later call returns it. After `Memory` the reader is as it was before the piece.
     pub fn push(&mut self, piece: &[u8]) -> Result<(), FileFault>
-        requires { HasRoom self.old piece.now }
+        requires { HasRoomFor self.old piece.now }
         ensures pushes { Pushes self.old piece.now result self.new }
         // However the bytes are cut, the reader has then taken them and the piece.
         ensures taken { (bytes : List ℕ) → HasTaken self.old bytes → TakesPiece result (bytes ++ piece.now) self.new }

@@ -1,6 +1,6 @@
 ghost use Rattle.std.specs.Prelude.{◌≡◌, ◌≢◌, IfSome, IfNone};
 ghost use Rattle.tws_file.specs.Fields.{ruleset_code};
-ghost use Rattle.tws_file.specs.Names.{file_name_of, kind_named};
+ghost use Rattle.tws_file.specs.Names.{file_name_of, ruleset_named};
 
 use std::fmt;
 
@@ -26,7 +26,7 @@ impl Ruleset {
 
     /// The ruleset with this code, if there is one.
     pub fn from_code(code: u8) -> Option<Self>
-        ensures known { IfSome result (λ kind. ruleset_code kind ≡ code) }
+        ensures known { IfSome result (λ «ruleset». ruleset_code «ruleset» ≡ code) }
         ensures unknown { IfNone result ((code ≢ 1) × (code ≢ 2)) }
     {
         match code {
@@ -48,9 +48,9 @@ impl Ruleset {
 
     /// The ruleset whose collection has exactly these bytes as its name, if there is one.
     pub fn from_file_name(name: &[u8]) -> Option<Self>
-        ensures is { result ≡ kind_named name.now }
-        ensures known { IfSome result (λ kind. file_name_of kind ≡ name.now) }
-        ensures unknown { IfNone result ((kind : Ruleset) → file_name_of kind ≢ name.now) }
+        ensures is { result ≡ ruleset_named name.now }
+        ensures known { IfSome result (λ «ruleset». file_name_of «ruleset» ≡ name.now) }
+        ensures unknown { IfNone result ((«ruleset» : Ruleset) → file_name_of «ruleset» ≢ name.now) }
     {
         if name == Ruleset::Lynx.file_name() {
             return Some(Ruleset::Lynx);
@@ -67,7 +67,7 @@ impl fmt::Display for Ruleset {
     ghost use Rattle.std.specs.Prelude.{Some};
     ghost use Rattle.tws_file.specs.Listing.{ruleset_name};
 
-    ghost output = { λ kind. Some (ruleset_name kind) };
+    ghost output = { λ «ruleset». Some (ruleset_name «ruleset») };
 
     fn fmt<W: fmt::Write>(&self, f: &mut fmt::Formatter<W>) -> fmt::Result {
         f.write_str(match self {

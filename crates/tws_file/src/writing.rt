@@ -16,13 +16,13 @@ use std::alloc::Allocator;
 use std::io::Write;
 
 // The header up to its further bytes.
-fn header_head(kind: Ruleset, word: [u8; 2], extra: &[u8]) -> Buffer<8>
+fn header_head(ruleset: Ruleset, word: [u8; 2], extra: &[u8]) -> Buffer<8>
     requires { length extra.now < 256 }
-    ensures { result ++ extra.now ≡ header_text kind word extra.now }
+    ensures { result ++ extra.now ≡ header_text «ruleset» word extra.now }
 {
     let mut head = Buffer::new();
     head.push(&SIGNATURE);
-    head.push(&[kind.code()]);
+    head.push(&[ruleset.code()]);
     head.push(&word);
     head.push(&[extra.len() as u8]);
     head
@@ -64,7 +64,7 @@ fn send_records<B: Allocator, W: Write>(
 
 // Writes the text of a file with these parts.
 fn write_parts<B: Allocator, W: Write>(
-    kind: Ruleset,
+    ruleset: Ruleset,
     word: [u8; 2],
     extra: &[u8],
     records: &[Record<B>],
@@ -73,13 +73,13 @@ fn write_parts<B: Allocator, W: Write>(
     requires extra { length extra.now < 256 }
     requires records { AllByRecursion IsRecord (records_of records.now) }
     ensures ok { OnOk result (Appends (W.contents out.old) (W.contents out.new)
-        (header_text kind word extra.now ++ flat_map record_text (records_of records.now))) }
+        (header_text «ruleset» word extra.now ++ flat_map record_text (records_of records.now))) }
     ensures err { OnErr result (AppendsPrefix (W.contents out.old) (W.contents out.new)
-        (header_text kind word extra.now ++ flat_map record_text (records_of records.now))) }
+        (header_text «ruleset» word extra.now ++ flat_map record_text (records_of records.now))) }
     ensures io { IfErr result (λ e. e ≡ OutFault.Io) }
 {
     let mut buffer = Buffer::new();
-    let head = header_head(kind, word, extra);
+    let head = header_head(ruleset, word, extra);
     send_both(&mut buffer, head.as_slice(), extra, out)?;
     send_records(&mut buffer, records, out)?;
     put(out, buffer.as_slice())

@@ -2,7 +2,7 @@
 use Rattle.std.proofs.Common.{[], ◌≡◌, ℕ, List, Option, None, Result, Ok, Err, OnOk, IfErr, refl, arith, ap, sym, subst, ◌∙◌, inl, inr, ⊎_elim}
 use Rattle.archive_table.specs.declared.limits.TheConstants.{LIVE}
 use Rattle.archive_table.specs.Keeper.{Keeping, HasLoaded}
-use Rattle.archive_turns.specs.Turn.{Service, fresh_server}
+use Rattle.archive_turns.specs.Turn.{Server, fresh_server}
 use Rattle.tws_tool.specs.declared.commands.serve.Passes.{Passes}
 use Rattle.tws_tool.specs.declared.tool_fault.ToolFault.{ToolFault}
 use Rattle.tws_tool.specs.declared.tool_fault.ToolFault.TheVariants.{Read, Write, Unreadable, Memory, Socket, Transfer}
@@ -41,15 +41,15 @@ module _ (old new : Option (List ℕ)) where
         record { done = λ z. absurd (omega (arith, z, two)); failed = λ z. inr (e, stops); few = inr two }
 
 -- a server that was loaded, once its limit is set
-pub limited_server : (loaded limited : Service) (port per_host : ℕ) (kept : Option (List Keeping)) → HasLoaded port kept loaded.table → loaded ≡ fresh_server LIVE loaded.table → limited ≡ record loaded { per_host = per_host } → HasLoaded port kept limited.table × (limited ≡ fresh_server per_host limited.table)
+pub limited_server : (loaded limited : Server) (port per_host : ℕ) (kept : Option (List Keeping)) → HasLoaded port kept loaded.table → loaded ≡ fresh_server LIVE loaded.table → limited ≡ record loaded { per_host = per_host } → HasLoaded port kept limited.table × (limited ≡ fresh_server per_host limited.table)
 limited_server loaded limited port per_host kept has fresh is =
-    let set : Service → Service = λ s. record s { per_host = per_host } in
+    let set : Server → Server = λ s. record s { per_host = per_host } in
     let whole : limited ≡ fresh_server per_host loaded.table = is ∙ ap set fresh in
-    let table : loaded.table ≡ limited.table = sym (ap (λ (s : Service). s.table) whole) in
+    let table : loaded.table ≡ limited.table = sym (ap (λ (s : Server). s.table) whole) in
     (subst (HasLoaded port kept) table has, whole ∙ ap (fresh_server per_host) table)
 
 -- a server from its load on, which keeps nothing
-pub server_served : (port turns per_host : ℕ) (kept mid now : Option (List Keeping)) → mid ≡ kept → (passes : Passes) (first last : Service) → ArePassesFor turns passes → HasLoaded port kept first.table → first ≡ fresh_server per_host first.table
+pub server_served : (port turns per_host : ℕ) (kept mid now : Option (List Keeping)) → mid ≡ kept → (passes : Passes) (first last : Server) → ArePassesFor turns passes → HasLoaded port kept first.table → first ≡ fresh_server per_host first.table
     → (taken : ℕ) → MakesPasses passes first last taken None None mid now → ServerServed port turns per_host kept now taken
 server_served port turns per_host kept mid now same passes first last are loaded fresh taken made = record {
   first = first;

@@ -7,7 +7,7 @@ use Rattle.byte_output.specs.declared.out_fault.OutFault.{OutFault}
 use Rattle.byte_output.specs.declared.out_fault.OutFault.TheVariants as out
 use Rattle.archive_turns.specs.declared.run_fault.RunFault.{RunFault}
 use Rattle.archive_turns.specs.declared.run_fault.RunFault.TheVariants as run
-use Rattle.tws_file.specs.Fault.{HasFault}
+use Rattle.tws_file.specs.Fault.{HasFileFault}
 use Rattle.tws_tool.specs.declared.tool_fault.ToolFault.{ToolFault}
 use Rattle.tws_tool.specs.declared.tool_fault.ToolFault.TheVariants.{Read, Write, Unreadable, Memory, Socket, Transfer}
 
@@ -54,7 +54,7 @@ IsBeforeOutput (Transfer why) = Unit {0}
 abbrev pub ReadFails : ℕ → Option (List ℕ) → ToolFault → Type 0
 ReadFails index known Read = Unit {0}
 ReadFails index known Write = ⊥
-ReadFails index known (Unreadable i fault) = (i ≡ index) × IfSome known (λ (bytes : List ℕ). HasFault bytes fault)
+ReadFails index known (Unreadable i fault) = (i ≡ index) × IfSome known (λ (bytes : List ℕ). HasFileFault bytes fault)
 ReadFails index known Memory = Unit {0}
 ReadFails index known Socket = ⊥
 ReadFails index known (Transfer why) = ⊥

@@ -38,14 +38,14 @@ abbrev pub Says : (text : ℕ → List ℕ) (old new : Option (List ℕ)) → Ty
 Says text old new = (n : ℕ) × Appends old new (text n)
 
 -- nothing was written, or a proper prefix of a line
-abbrev pub IsCut : (text : ℕ → List ℕ) (old new : Option (List ℕ)) → Type 0
-IsCut text old new = (new ≡ old) ⊎ ((n : ℕ) × AppendsPrefix old new (text n))
+abbrev pub IsCutText : (text : ℕ → List ℕ) (old new : Option (List ℕ)) → Type 0
+IsCutText text old new = (new ≡ old) ⊎ ((n : ℕ) × AppendsPrefix old new (text n))
 
 abbrev pub Unsaid : (text : ℕ → List ℕ) (old new : Option (List ℕ)) → ToolFault → Type 0
 Unsaid text old new Read = new ≡ old
-Unsaid text old new Write = IsCut text old new
+Unsaid text old new Write = IsCutText text old new
 Unsaid text old new (Unreadable index fault) = new ≡ old
-Unsaid text old new Memory = IsCut text old new
+Unsaid text old new Memory = IsCutText text old new
 Unsaid text old new Socket = new ≡ old
 Unsaid text old new (Transfer why) = new ≡ old
 
@@ -59,7 +59,7 @@ IsNoAddress address = (host : ℕ) → IsAddress address host → ⊥
 -- a transfer with a server at the address that was typed, which prints this line
 pub record Transfers (address : List ℕ) (text : ℕ → List ℕ) (status : ℕ) (old new : Option (List ℕ)) : Type 0 where
   pub done : status ≡ 0 → Says text old new
-  pub failed : status ≡ 2 → IsCut text old new
+  pub failed : status ≡ 2 → IsCutText text old new
   pub other : status ≢ 0 → status ≢ 2 → new ≡ old
   pub bad : (status ≡ 1) ↔ IsNoAddress address
   pub few : status ≤ 4

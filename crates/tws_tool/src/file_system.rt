@@ -10,7 +10,7 @@ use std::io::{Read, Write};
 use std::rt::Files;
 use std::{fs, io};
 
-/// Opens and creates files by their names. It may tell what each of them has; that of the system tells nothing.
+/// Opens and creates files by their names. It may have ghost contents for each; that of the system has none.
 pub trait FileSystem {
     /// A file that is open to be read.
     type File: Read + Drop;
@@ -18,10 +18,10 @@ pub trait FileSystem {
     /// A file that was created, and is open to be written.
     type Created: Write + Drop;
 
-    /// The bytes of the file with a name, if they are told.
+    /// The bytes of the file with a name, if they are known.
     ghost bytes_of: { Self → List ℕ → Option (List ℕ) };
 
-    /// The contents of a file that was just created with a name, if they are told.
+    /// The contents of a file that was just created with a name, if they are known.
     ghost created_of: { Self → List ℕ → Option (List ℕ) };
 
     /// Opens the file of this name, to be read from its start.
@@ -45,7 +45,7 @@ pub trait FileSystem {
 #[derive(Clone, Copy)]
 pub(crate) struct SystemFiles<P: Files + Copy>(pub(crate) P);
 
-/// A file of the system, which does not tell its contents.
+/// A file of the system, which has no ghost contents.
 #[derive(Drop)]
 pub(crate) struct SystemFile<F>(F);
 

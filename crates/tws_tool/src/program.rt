@@ -97,15 +97,13 @@ pub fn run_words_with<
     )
 }
 
-/// The same with the system's files and sockets, which tell nothing.
-pub fn run_words<P: Files<File = File> + Net + Clock + RandomSource + AllocGlobal + Copy, R: Read, W: Write, E: Write>(
-    rt: &P,
-    alloc: Global,
-    words: &[String],
-    input: &mut R,
-    out: &mut W,
-    errors: &mut E,
-) -> u8
+/// The same with the system's files and sockets, which have no ghost contents or logs.
+pub fn run_words<
+    P: Files<File = File> + Net + Clock + RandomSource + AllocGlobal + Copy,
+    R: Read,
+    W: Write,
+    E: Write,
+>(rt: &P, alloc: Global, words: &[String], input: &mut R, out: &mut W, errors: &mut E) -> u8
     ensures ran { (job : Result Job JobFault) × AnswersWords (map string_bytes words.now) job × JobRuns (λ name. None) (λ name. None) (input.new ≡ input.old) job result None None (R.remaining input.old) (R.remaining input.new) (W.contents out.old) (W.contents out.new) }
     ensures usage { result ≡ 1 → (input.new ≡ input.old) × (out.new ≡ out.old) }
     ensures status { result ≤ 4 }

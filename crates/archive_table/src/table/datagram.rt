@@ -4,7 +4,7 @@ ghost use Rattle.std.specs.Prelude.{◌≡◌, ◌≢◌, ◌≤◌, ℕ, List, 
 ghost use Rattle.std.specs.Map.{remove_entry};
 ghost use Rattle.tftp_packet.specs.Packet.{ack, data_block, error, read, write};
 ghost use Rattle.tws_file.specs.Reader.{IsAnswer};
-ghost use Rattle.archive_table.specs.Server.{nothing_told, transfer_at, IsServer, closes, server_datagram, grant_of, all, unkept, at_port, with_live, Merges, refusal_dgram};
+ghost use Rattle.archive_table.specs.Table.{empty_step, transfer_at, IsTable, closes, table_datagram, grant_of, all, unkept, at_port, with_live, Merges, refusal_dgram};
 ghost use Rattle.archive_table.specs.Steps.{packet_live, file_done, reply_grant};
 ghost use Rattle.archive_table.specs.Keeper.{StepKeeps};
 
@@ -25,8 +25,8 @@ impl<A: Allocator + Copy> Table<A> {
     // Ends the transfer at a port.
     pub(super) fn close(&mut self, port: u16, step: &mut Step<A>)
         ensures server { self.new ≡ with_live (remove_entry (at_port port) self.old.live) self.old }
-        ensures told { step.new ≡ record { out = step.old.out; opened = step.old.opened; taken = step.old.taken; closed = true } }
-        ensures fits { IsServer self.new }
+        ensures step { step.new ≡ record { out = step.old.out; opened = step.old.opened; taken = step.old.taken; closed = true } }
+        ensures fits { IsTable self.new }
     {
         self.live.remove(port);
         step.closed = true;
@@ -34,10 +34,10 @@ impl<A: Allocator + Copy> Table<A> {
 
     // Fails the transfer at a port, and sends the peer an ERROR with the reason.
     fn fail(&mut self, port: u16, peer: Endpoint, why: Refusal, step: &mut Step<A>)
-        requires new { step.old ≡ nothing_told }
+        requires new { step.old ≡ empty_step }
         ensures server { self.new ≡ (closes port peer (Some (refusal_dgram why)) self.old).server }
-        ensures told { step.new ≡ (closes port peer (Some (refusal_dgram why)) self.old).told }
-        ensures fits { IsServer self.new }
+        ensures step { step.new ≡ (closes port peer (Some (refusal_dgram why)) self.old).step }
+        ensures fits { IsTable self.new }
     {
         step.set_out(port, peer, Some(why.dgram()));
         self.close(port, step);
@@ -46,13 +46,13 @@ impl<A: Allocator + Copy> Table<A> {
     // Handles ACK `n`, received from `from` at a port.
     #[tactic(auto, using(crate::proofs::Live::remove_set, crate::proofs::Live::set_same, crate::proofs::Replies::data_grant))]
     fn on_ack(&mut self, port: u16, from: Endpoint, n: u16, step: &mut Step<A>)
-        requires new { step.old ≡ nothing_told }
+        requires new { step.old ≡ empty_step }
         ensures server { self.new ≡ (packet_live (transfer_at port self.old) (grant_of step.new.out) self.new.maps port from (ack n) self.old).server }
-        ensures told { step.new ≡ (packet_live (transfer_at port self.old) (grant_of step.new.out) self.new.maps port from (ack n) self.old).told }
+        ensures step { step.new ≡ (packet_live (transfer_at port self.old) (grant_of step.new.out) self.new.maps port from (ack n) self.old).step }
         ensures maps { self.new.maps ≡ self.old.maps }
         ensures untaken { step.new.taken ≡ None }
         ensures grant { grant_of step.new.out ≡ all }
-        ensures fits { IsServer self.new }
+        ensures fits { IsTable self.new }
     {
         let Some(transfer) = self.live.get_mut(port) else {
             return;
@@ -75,7 +75,7 @@ impl<A: Allocator + Copy> Table<A> {
         }
     }
 
-    // Handles a whole file: it joins the collection of its ruleset and is taken, or the transfer is closed.
+    // Handles a whole file: it is merged into the collection of its ruleset and taken, or the transfer is closed.
     fn on_file<K: Keeper>(
         &mut self,
         keeper: &mut K,
@@ -87,13 +87,13 @@ impl<A: Allocator + Copy> Table<A> {
     )
         requires acks { reply_grant ack ≡ all }
         requires read { IsAnswer whole.file whole.read }
-        requires new { step.old ≡ nothing_told }
+        requires new { step.old ≡ empty_step }
         ensures server { self.new ≡ (file_done (grant_of step.new.out) self.new.maps port peer whole.file ack self.old).server }
-        ensures told { step.new ≡ (file_done (grant_of step.new.out) self.new.maps port peer whole.file ack self.old).told }
+        ensures step { step.new ≡ (file_done (grant_of step.new.out) self.new.maps port peer whole.file ack self.old).step }
         ensures merges { Merges step.new.taken self.old.maps self.new.maps }
         ensures keeps { StepKeeps (grant_of step.new.out) (Some (record { peer = peer; file = whole.file })) self.old.maps self.new.maps (K.log keeper.old) (K.log keeper.new) }
         ensures untouched { grant_of step.new.out ≢ unkept → self.new.maps ≡ self.old.maps → keeper.new ≡ keeper.old }
-        ensures fits { IsServer self.new }
+        ensures fits { IsTable self.new }
     {
         let Whole { file, read } = whole;
         match merge_file(&mut self.lynx, &mut self.ms, keeper, &read) {
@@ -117,13 +117,13 @@ impl<A: Allocator + Copy> Table<A> {
         step: &mut Step<A>,
     )
         requires short { length body.now ≤ 512 }
-        requires new { step.old ≡ nothing_told }
+        requires new { step.old ≡ empty_step }
         ensures server { self.new ≡ (packet_live (transfer_at port self.old) (grant_of step.new.out) self.new.maps port from (data_block n body.now) self.old).server }
-        ensures told { step.new ≡ (packet_live (transfer_at port self.old) (grant_of step.new.out) self.new.maps port from (data_block n body.now) self.old).told }
+        ensures step { step.new ≡ (packet_live (transfer_at port self.old) (grant_of step.new.out) self.new.maps port from (data_block n body.now) self.old).step }
         ensures merges { Merges step.new.taken self.old.maps self.new.maps }
-        ensures keeps { StepKeeps (grant_of step.new.out) (packet_live (transfer_at port self.old) all self.old.maps port from (data_block n body.now) self.old).told.taken self.old.maps self.new.maps (K.log keeper.old) (K.log keeper.new) }
+        ensures keeps { StepKeeps (grant_of step.new.out) (packet_live (transfer_at port self.old) all self.old.maps port from (data_block n body.now) self.old).step.taken self.old.maps self.new.maps (K.log keeper.old) (K.log keeper.new) }
         ensures untouched { grant_of step.new.out ≢ unkept → self.new.maps ≡ self.old.maps → keeper.new ≡ keeper.old }
-        ensures fits { IsServer self.new }
+        ensures fits { IsTable self.new }
     {
         let Some(transfer) = self.live.get_mut(port) else {
             return;
@@ -148,13 +148,13 @@ impl<A: Allocator + Copy> Table<A> {
 
     // Handles a request, received from `from` at a transfer's port.
     fn on_misplaced_request(&mut self, port: u16, from: Endpoint, step: &mut Step<A>)
-        requires new { step.old ≡ nothing_told }
+        requires new { step.old ≡ empty_step }
         ensures server { self.new ≡ self.old }
-        ensures reads { (name mode : List ℕ) → record { server = self.new; told = step.new } ≡ (packet_live (transfer_at port self.old) (grant_of step.new.out) self.new.maps port from (read name mode) self.old) }
-        ensures writes { (name mode : List ℕ) → record { server = self.new; told = step.new } ≡ (packet_live (transfer_at port self.old) (grant_of step.new.out) self.new.maps port from (write name mode) self.old) }
+        ensures reads { (name mode : List ℕ) → record { server = self.new; step = step.new } ≡ (packet_live (transfer_at port self.old) (grant_of step.new.out) self.new.maps port from (read name mode) self.old) }
+        ensures writes { (name mode : List ℕ) → record { server = self.new; step = step.new } ≡ (packet_live (transfer_at port self.old) (grant_of step.new.out) self.new.maps port from (write name mode) self.old) }
         ensures untaken { step.new.taken ≡ None }
         ensures grant { grant_of step.new.out ≡ all }
-        ensures fits { IsServer self.new }
+        ensures fits { IsTable self.new }
     {
         let Some(transfer) = self.live.get(port) else {
             return;
@@ -166,12 +166,12 @@ impl<A: Allocator + Copy> Table<A> {
 
     // Handles an ERROR, received from `from` at a port. It is never answered.
     fn on_error(&mut self, port: u16, from: Endpoint, step: &mut Step<A>)
-        requires new { step.old ≡ nothing_told }
-        ensures step { (code : ℕ) (text : List ℕ) → record { server = self.new; told = step.new } ≡ (packet_live (transfer_at port self.old) (grant_of step.new.out) self.new.maps port from (error code text) self.old) }
+        requires new { step.old ≡ empty_step }
+        ensures step { (code : ℕ) (text : List ℕ) → record { server = self.new; step = step.new } ≡ (packet_live (transfer_at port self.old) (grant_of step.new.out) self.new.maps port from (error code text) self.old) }
         ensures maps { self.new.maps ≡ self.old.maps }
         ensures untaken { step.new.taken ≡ None }
         ensures grant { grant_of step.new.out ≡ all }
-        ensures fits { IsServer self.new }
+        ensures fits { IsTable self.new }
     {
         let Some(transfer) = self.live.get(port) else {
             return;
@@ -184,7 +184,7 @@ impl<A: Allocator + Copy> Table<A> {
     // Handles a datagram of these bytes, received from `from` at a transfer's port. The port is looked up once, and
     // once more if the transfer ends.
     #[tactic(auto, using(crate::proofs::Decoded::packet_come, crate::proofs::Decoded::nothing_come))]
-    pub(super) fn hear<K: Keeper>(
+    pub(super) fn handle<K: Keeper>(
         &mut self,
         keeper: &mut K,
         port: u16,
@@ -192,13 +192,13 @@ impl<A: Allocator + Copy> Table<A> {
         bytes: &[u8],
         step: &mut Step<A>,
     )
-        requires new { step.old ≡ nothing_told }
-        ensures server { self.new ≡ (server_datagram (grant_of step.new.out) self.new.maps port from bytes.now self.old).server }
-        ensures told { step.new ≡ (server_datagram (grant_of step.new.out) self.new.maps port from bytes.now self.old).told }
+        requires new { step.old ≡ empty_step }
+        ensures server { self.new ≡ (table_datagram (grant_of step.new.out) self.new.maps port from bytes.now self.old).server }
+        ensures step { step.new ≡ (table_datagram (grant_of step.new.out) self.new.maps port from bytes.now self.old).step }
         ensures merges { Merges step.new.taken self.old.maps self.new.maps }
-        ensures keeps { StepKeeps (grant_of step.new.out) (server_datagram all self.old.maps port from bytes.now self.old).told.taken self.old.maps self.new.maps (K.log keeper.old) (K.log keeper.new) }
+        ensures keeps { StepKeeps (grant_of step.new.out) (table_datagram all self.old.maps port from bytes.now self.old).step.taken self.old.maps self.new.maps (K.log keeper.old) (K.log keeper.new) }
         ensures untouched { grant_of step.new.out ≢ unkept → self.new.maps ≡ self.old.maps → keeper.new ≡ keeper.old }
-        ensures fits { IsServer self.new }
+        ensures fits { IsTable self.new }
     {
         match decode(bytes) {
             Ok(Packet::Ack { block }) => self.on_ack(port, from, block, step),

@@ -4,7 +4,7 @@ use Rattle.std.specs.Io.KnownBytes.{Appends}
 use Rattle.clap.specs.Words.{App, Row, Text, new_app, with_rule}
 use Rattle.byte_output.specs.Output.{AppendsPrefix}
 use Rattle.tws_file.specs.Text.{IsReadable}
-use Rattle.tws_file.specs.Fault.{HasFault}
+use Rattle.tws_file.specs.Fault.{HasFileFault}
 use Rattle.tftp_packet.specs.declared.endpoint.Endpoint.{Endpoint}
 use Rattle.archive_turns.specs.declared.run_fault.RunFault.{RunFault}
 use Rattle.archive_turns.specs.declared.run_fault.RunFault.TheVariants as run
@@ -34,14 +34,14 @@ AsksToPut rows arguments = HasTarget rows arguments.target
 -- ---- what it does
 
 -- the whole input is these bytes, which are a file's text
-pub record IsWhole (known : Option (List ℕ)) (bytes : List ℕ) : Type 0 where
+pub record IsWholeInput (known : Option (List ℕ)) (bytes : List ℕ) : Type 0 where
   pub known_is : IfSome known (λ (xs : List ℕ). bytes ≡ xs)
   pub readable : IsReadable bytes
 
 -- a complete run of a put of these bytes, with this result
 pub record PutRuns (known : Option (List ℕ)) (server : Endpoint) (result : Result ℕ RunFault) (before after : Option (List Entry)) : Type 0 where
   pub bytes : List ℕ
-  pub whole : IsWhole known bytes
+  pub whole : IsWholeInput known bytes
   pub runs : RunsPut server bytes TURNS result before after
 
 -- the whole input was put, and the line that reports it was written
@@ -60,7 +60,7 @@ pub record PutUnsaid (known : Option (List ℕ)) (server : Endpoint) (before aft
 abbrev pub PutFails : (known : Option (List ℕ)) (server : Endpoint) (before after : Option (List Entry)) (old new : Option (List ℕ)) → ToolFault → Type 0
 PutFails known server before after old new Read = (after ≡ before) × (new ≡ old)
 PutFails known server before after old new Write = PutUnsaid known server before after old new
-PutFails known server before after old new (Unreadable index fault) = (after ≡ before) × (new ≡ old) × (index ≡ 0) × IfSome known (λ (bytes : List ℕ). HasFault bytes fault)
+PutFails known server before after old new (Unreadable index fault) = (after ≡ before) × (new ≡ old) × (index ≡ 0) × IfSome known (λ (bytes : List ℕ). HasFileFault bytes fault)
 PutFails known server before after old new Memory = (new ≡ old) × ((after ≡ before) ⊎ PutRuns known server (Err run.Memory) before after ⊎ ((len : ℕ) × PutRuns known server (Ok len) before after))
 PutFails known server before after old new Socket = (new ≡ old) × PutRuns known server (Err run.Socket) before after
 PutFails known server before after old new (Transfer why) = (new ≡ old) × PutRuns known server (Err (run.Transfer why)) before after
@@ -73,7 +73,7 @@ SaysSent known old new = IfSome known (λ (bytes : List ℕ). IsReadable bytes �
 abbrev pub IsBlamed : (known : Option (List ℕ)) → ToolFault → Type 0
 IsBlamed known Read = Unit {0}
 IsBlamed known Write = Unit {0}
-IsBlamed known (Unreadable index fault) = IfSome known (λ (bytes : List ℕ). HasFault bytes fault)
+IsBlamed known (Unreadable index fault) = IfSome known (λ (bytes : List ℕ). HasFileFault bytes fault)
 IsBlamed known Memory = Unit {0}
 IsBlamed known Socket = Unit {0}
 IsBlamed known (Transfer why) = Unit {0}

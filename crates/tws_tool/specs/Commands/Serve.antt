@@ -4,7 +4,7 @@ use Rattle.std.specs.Io.KnownBytes.{Appends}
 use Rattle.clap.specs.Words.{App, Row, Rule, Text, first_of, new_app, new_rule, with_rule}
 use Rattle.archive_table.specs.Keeper.{Keeping, HasLoaded}
 use Rattle.archive_table.specs.declared.limits.TheConstants.{LIVE}
-use Rattle.archive_turns.specs.Turn.{MakesRounds, MakesTurns, Service, fresh_server}
+use Rattle.archive_turns.specs.Turn.{MakesRounds, MakesTurns, Server, fresh_server}
 use Rattle.archive_turns.specs.Wire.{Entry}
 use Rattle.tws_tool.specs.declared.commands.serve.Passes.{Passes}
 use Rattle.tws_tool.specs.declared.commands.serve.Passes.TheVariants.{Turns, Rounds}
@@ -62,7 +62,7 @@ abbrev pub ServeFails : (port : ℕ) (Unmade : Type 0) (Made : (taken : ℕ) →
 ServeFails port Unmade Made old new e = (Unmade × LineFails (serving_line port) old new e) ⊎ ServesUnsaid port Made old new e
 
 -- so many turns or rounds were made, of which `taken` took a file
-abbrev pub MakesPasses : Passes → (old new : Service) (taken : ℕ) (before after : Option (List Entry)) (kept now : Option (List Keeping)) → Type 0
+abbrev pub MakesPasses : Passes → (old new : Server) (taken : ℕ) (before after : Option (List Entry)) (kept now : Option (List Keeping)) → Type 0
 MakesPasses (Turns turns) old new taken before after kept now = MakesTurns turns old new taken before after kept now
 MakesPasses (Rounds rounds) old new taken before after kept now = MakesRounds rounds old new taken before after kept now
 
@@ -74,8 +74,8 @@ ArePassesFor turns passes = ((turns < TURNS) × (passes ≡ Turns turns)) ⊎ ((
 -- a server was loaded, and made its turns or rounds, in which one host had at most so many transfers: what was kept before
 -- and after, and how many files were taken
 pub record ServerServed (port turns per_host : ℕ) (kept now : Option (List Keeping)) (taken : ℕ) : Type 0 where
-  pub first : Service
-  pub last : Service
+  pub first : Server
+  pub last : Server
   pub loaded : HasLoaded port kept first.table
   pub fresh : first ≡ fresh_server per_host first.table
   pub passes : Passes

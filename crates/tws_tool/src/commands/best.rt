@@ -110,7 +110,7 @@ pub fn run_best<R: Read, W: Write>(
     ensures collected { OnOk result (BestWrites «ruleset» (map (λ file. R.remaining file) files.old) (W.contents out.old) (W.contents out.new)) }
     ensures fails { IfErr result (BestFails «ruleset» (map (λ file. R.remaining file) files.old) (W.contents out.old) (W.contents out.new)) }
     ensures unreadable { IfErr result (AreReadOut (λ file. R.remaining file) files.new) }
-    // Holds also for a writer that does not tell its contents.
+    // Holds also for a writer without ghost contents.
     ensures unwritten { IfErr result (λ e. e ≢ ToolFault.Write → out.new ≡ out.old) }
 {
     let collection = collect(alloc, ruleset, files)?;
@@ -128,7 +128,7 @@ fn write_best<S: FileSystem, W: Write>(
 ) -> Result<(), ToolFault>
     ensures collected { OnOk result (BestWrites «ruleset» (map (λ name. S.bytes_of system.now (string_bytes name)) names.now) (W.contents out.old) (W.contents out.new)) }
     ensures fails { IfErr result (BestFails «ruleset» (map (λ name. S.bytes_of system.now (string_bytes name)) names.now) (W.contents out.old) (W.contents out.new)) }
-    // Holds also for a writer that does not tell its contents.
+    // Holds also for a writer without ghost contents.
     ensures unwritten { IfErr result (λ e. e ≢ ToolFault.Write → out.new ≡ out.old) }
 {
     let mut files = open_all(system, alloc, names)?;

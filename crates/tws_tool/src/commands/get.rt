@@ -77,7 +77,7 @@ pub fn get_file<N: Wire, F: Write, W: Write>(
 ) -> Result<(), ToolFault>
     ensures got { OnOk result (Gets server «ruleset» (N.log wire.old) (N.log wire.new) (F.contents file.old) (F.contents file.new) (W.contents out.old) (W.contents out.new)) }
     ensures fails { IfErr result (GetFails server «ruleset» (N.log wire.old) (N.log wire.new) (F.contents file.old) (F.contents file.new) (W.contents out.old) (W.contents out.new)) }
-    // Holds also for a writer that does not tell its contents.
+    // Holds also for a writer without ghost contents.
     ensures unwritten { IfErr result (Unless (out.new ≡ out.old)) }
 {
     let len = run_get(alloc, wire, server, ruleset, TURNS, file)?;

@@ -42,7 +42,7 @@ pub fn run_pack<R: Read, W: Write>(
     ensures unreadable { IfErr result (IsReadOut (R.remaining input.new)) }
     ensures packed { OnOk result (Writes packed_text (R.remaining input.old) (W.contents out.old) (W.contents out.new)) }
     ensures fails { IfErr result (WriteFails packed_text (R.remaining input.old) (W.contents out.old) (W.contents out.new)) }
-    // Holds also for a writer that does not tell its contents.
+    // Holds also for a writer without ghost contents.
     ensures unwritten { IfErr result (λ e. e ≢ ToolFault.Write → out.new ≡ out.old) }
 {
     let file = read_input(alloc, 0, input)?;

@@ -7,11 +7,11 @@ ghost use Rattle.clap.specs.Words.{app_of, rows_of};
 ghost use Rattle.clap.specs.declared.builder.command.Command.TheViews.{out-Command};
 ghost use Rattle.archive_turns.specs.Run.{RunsPut};
 ghost use Rattle.tws_file.specs.Text.{IsReadable};
-ghost use Rattle.tws_file.specs.Fault.{HasFault};
+ghost use Rattle.tws_file.specs.Fault.{HasFileFault};
 ghost use Rattle.tws_tool.specs.declared.limits.TheConstants.{TURNS};
 ghost use Rattle.tws_tool.specs.Address.{IsAddress};
 ghost use Rattle.tws_tool.specs.Arguments.{Answers};
-ghost use Rattle.tws_tool.specs.Commands.Put.{AsksToPut, IsWhole, PutFails, PutRan, PutRuns, Puts, put_app};
+ghost use Rattle.tws_tool.specs.Commands.Put.{AsksToPut, IsWholeInput, PutFails, PutRan, PutRuns, Puts, put_app};
 ghost use Rattle.tws_tool.specs.Faults.{IsReadFault, IsReadOut, ReadFails, run_fault};
 ghost use Rattle.tws_tool.specs.Lines.{Unless};
 
@@ -82,7 +82,7 @@ fn read_bytes<R: Read>(alloc: Global, input: &mut R) -> Result<Vec<u8>, ToolFaul
 
 // Reads all bytes of an input, which must be the text of a solution file.
 fn read_whole<R: Read>(alloc: Global, input: &mut R) -> Result<Vec<u8>, ToolFault>
-    ensures whole { IfOk result (λ bytes. IsWhole (R.remaining input.old) bytes.items) }
+    ensures whole { IfOk result (λ bytes. IsWholeInput (R.remaining input.old) bytes.items) }
     ensures end { OnOk result (IsAtEnd (R.remaining input.new)) }
     ensures unreadable { IfErr result (IsReadOut (R.remaining input.new)) }
     ensures fault { IfErr result (ReadFails 0 (R.remaining input.old)) }
@@ -113,7 +113,7 @@ pub fn put_file<R: Read, N: Wire, W: Write>(
     ensures unreadable { IfErr result (IsReadOut (R.remaining input.new)) }
     ensures sent { OnOk result (Puts (R.remaining input.old) server (N.log wire.old) (N.log wire.new) (W.contents out.old) (W.contents out.new)) }
     ensures fails { IfErr result (PutFails (R.remaining input.old) server (N.log wire.old) (N.log wire.new) (W.contents out.old) (W.contents out.new)) }
-    // Holds also for a writer that does not tell its contents.
+    // Holds also for a writer without ghost contents.
     ensures unwritten { IfErr result (Unless (out.new ≡ out.old)) }
 {
     let bytes = read_whole(alloc, input)?;

@@ -228,13 +228,11 @@ fn serve_with<P: Net + Clock + RandomSource + AllocGlobal + Copy, K: Keeper, W: 
 }
 
 /// Runs `serve`, with the collections kept in the folder of this name, if there is one, and returns the status.
-pub(crate) fn run<P: Files<File = File> + Net + Clock + RandomSource + AllocGlobal + Copy, W: Write, E: Write>(
-    rt: P,
-    alloc: Global,
-    arguments: &ServeArguments,
-    out: &mut W,
-    errors: &mut E,
-) -> u8
+pub(crate) fn run<
+    P: Files<File = File> + Net + Clock + RandomSource + AllocGlobal + Copy,
+    W: Write,
+    E: Write,
+>(rt: P, alloc: Global, arguments: &ServeArguments, out: &mut W, errors: &mut E) -> u8
     ensures ran { ServeRan arguments.now result (W.contents out.old) (W.contents out.new) }
     ensures status { (result ≡ 0) ⊎ (result ≡ 2) }
     ensures silent { result ≡ 0 → errors.new ≡ errors.old }

@@ -62,7 +62,7 @@ pub fn run_show<R: Read, W: Write>(
     ensures unreadable { IfErr result (IsReadOut (R.remaining input.new)) }
     ensures listed { OnOk result (Writes (listing_of moves) (R.remaining input.old) (W.contents out.old) (W.contents out.new)) }
     ensures fails { IfErr result (WriteFails (listing_of moves) (R.remaining input.old) (W.contents out.old) (W.contents out.new)) }
-    // Holds also for a writer that does not tell its contents.
+    // Holds also for a writer without ghost contents.
     ensures unwritten { IfErr result (λ e. IsBeforeOutput e → out.new ≡ out.old) }
 {
     let file = read_input(alloc, 0, input)?;

@@ -4,7 +4,7 @@ use Rattle.archive_table.proofs.memory_keeper.last_of.Given as goal
 
 -- no entry from here on was kept for this ruleset
 abbrev pub invariant-loop-i : goal.invariant-loop-i
-invariant-loop-i g l = (l.i ≤ length l.kept) × (last_kept l.kind (drop l.i l.kept) ≡ None)
+invariant-loop-i g l = (l.i ≤ length l.kept) × (last_kept l.ruleset (drop l.i l.kept) ≡ None)
 
 abbrev pub decreases-loop-i : goal.decreases-loop-i
 decreases-loop-i g l = l.i

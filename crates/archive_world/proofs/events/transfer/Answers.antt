@@ -4,10 +4,10 @@ use Rattle.archive_world.proofs.events.transfer.Goals as goal
 
 pub returns-in-Ok : goal.returns-in-Ok
 returns-in-Ok g c = λ index spare there.
-    let told = c.in-Ok.ensures in
-    transfer-comes c.args.machine.now c.transfer.new.self c.args.d.now index spare there c.requires.ours (λ e. c.requires.other (e ∙ c.requires.request)) _ _ told.0 told.1 told.2
+    let reported = c.in-Ok.ensures in
+    transfer-comes c.args.machine.now c.transfer.new.self c.args.d.now index spare there c.requires.ours (λ e. c.requires.other (e ∙ c.requires.request)) _ _ reported.0 reported.1 reported.2
 
 pub returns-in-Err : goal.returns-in-Err
 returns-in-Err g c = λ index spare there.
-    let told = c.in-Err.ensures in
-    transfer-fails c.args.machine.now c.transfer.new.self c.args.d.now index spare there c.requires.ours (λ e. c.requires.other (e ∙ c.requires.request)) _ _ told.0 told.1
+    let reported = c.in-Err.ensures in
+    transfer-fails c.args.machine.now c.transfer.new.self c.args.d.now index spare there c.requires.ours (λ e. c.requires.other (e ∙ c.requires.request)) _ _ reported.0 reported.1

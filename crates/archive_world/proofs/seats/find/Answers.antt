@@ -1,5 +1,5 @@
 use Rattle.std.proofs.Common.{◌+◌, refl, sym, ◌∙◌, arith}
-use Rattle.archive_table.specs.Server.{is_same}
+use Rattle.archive_table.specs.Table.{is_same}
 use Rattle.archive_world.proofs.Firsts.{none_more, first_here, none_all}
 use Rattle.archive_world.proofs.seats.find.Goals as goal
 

@@ -1,5 +1,5 @@
 use Rattle.std.proofs.Common.{◌≤◌, ◌-◌, length}
-use Rattle.archive_table.specs.Server.{is_same}
+use Rattle.archive_table.specs.Table.{is_same}
 use Rattle.archive_world.specs.Inside.{NoneBefore}
 use Rattle.archive_world.proofs.seats.find.Given as goal
 

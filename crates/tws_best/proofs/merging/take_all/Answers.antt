@@ -1,5 +1,5 @@
 use Rattle.std.proofs.Common.{List, take, map, ap, sym, subst, refl, length, inl, inr}
-use Rattle.tws_best.specs.Best.{Entry, entry_of}
+use Rattle.tws_best.specs.Best.{KeyedBody, keyed_body}
 use Rattle.tws_best.specs.Steps.{Undoes}
 use Rattle.tws_best.proofs.Members.{none_from_length}
 use Rattle.tws_best.proofs.Solved.{mapped_more}
@@ -22,13 +22,13 @@ loop-solution-preserved g c =
     let i = c.loop-solution.solution-index in
     let solutions = c.args.solutions.now in
     let first = c.args.best.now.entries in
-    let so_far = map (λ s. entry_of s.1.now) (take i solutions) in
+    let so_far = map (λ s. keyed_body s.1.now) (take i solutions) in
     let item = c.loop-solution-item.result in
-    let more = mapped_more (λ s. entry_of s.1.now) solutions i item c.loop-solution-test.true c.loop-solution-item.is in
+    let more = mapped_more (λ s. keyed_body s.1.now) solutions i item c.loop-solution-test.true c.loop-solution-item.is in
     let before = c.loop-solution in
     record {
-      taken = subst (λ (es : List Entry). IsTaken first es c.take.new.best.entries (length c.take.new.done.items)) (sym more)
-          (taken_more first so_far (entry_of item.1.now) before.best.entries c.take.new.best.entries (length before.done.items) (length c.take.new.done.items) before.invariant.taken c.in_ok-take.ensures.ok);
+      taken = subst (λ (es : List KeyedBody). IsTaken first es c.take.new.best.entries (length c.take.new.done.items)) (sym more)
+          (taken_more first so_far (keyed_body item.1.now) before.best.entries c.take.new.best.entries (length before.done.items) (length c.take.new.done.items) before.invariant.taken c.in_ok-take.ensures.ok);
       undo = c.take.ensures.undo first before.invariant.undo;
     }
 

@@ -14,14 +14,14 @@ returns-in_err-send-clause-err g c =
     let new = g.W.Write.contents c.send.new.out in
     let text = ap (λ (x : List ℕ). x ++ c.header_bytes.result) c.new-buffer.ensures ∙ c.header_bytes.ensures in
     let cut = subst (λ (x : List ℕ). AppendsPrefix old new x) text c.in_err-send.ensures.err in
-    at_err c.from_residual.result (prefix_more old new (collection_header c.args.kind) cut (texts (values c.args.best.now)))
+    at_err c.from_residual.result (prefix_more old new (collection_header c.args.ruleset) cut (texts (values c.args.best.now)))
 
 pub returns-in_err-send_bodies-clause-err : goal.returns-in_err-send_bodies-clause-err
 returns-in_err-send_bodies-clause-err g c =
     let old = g.W.Write.contents c.args.out.now in
     let mid = g.W.Write.contents c.send.new.out in
     let new = g.W.Write.contents c.send_bodies.new.out in
-    let head = collection_header c.args.kind in
+    let head = collection_header c.args.ruleset in
     let bodies = texts (values c.args.best.now) in
     let first = c.send.new.self in
     let text = ap (λ (x : List ℕ). x ++ c.header_bytes.result) c.new-buffer.ensures ∙ c.header_bytes.ensures in
@@ -34,7 +34,7 @@ returns-clause-ok g c =
     let mid = g.W.Write.contents c.send.new.out in
     let later = g.W.Write.contents c.send_bodies.new.out in
     let new = g.W.Write.contents c.put.new.out in
-    let head = collection_header c.args.kind in
+    let head = collection_header c.args.ruleset in
     let bodies = texts (values c.args.best.now) in
     let first = c.send.new.self in
     let left = c.send_bodies.new.buffer in
@@ -49,7 +49,7 @@ returns-clause-err g c =
     let mid = g.W.Write.contents c.send.new.out in
     let later = g.W.Write.contents c.send_bodies.new.out in
     let new = g.W.Write.contents c.put.new.out in
-    let head = collection_header c.args.kind in
+    let head = collection_header c.args.ruleset in
     let bodies = texts (values c.args.best.now) in
     let first = c.send.new.self in
     let left = c.send_bodies.new.buffer in

@@ -9,21 +9,21 @@ use Rattle.tws_file.proofs.listing.show_parts.Goals as goal
 pub returns-in_err-push_header-clause-err : goal.returns-in_err-push_header-clause-err
 returns-in_err-push_header-clause-err g c =
     let old = g.W.Write.contents c.args.out.now in
-    let header = header_line c.args.kind c.args.word c.args.extra.now in
+    let header = header_line c.args.ruleset c.args.word c.args.extra.now in
     at_err c.from_residual.result (none_sent old old header (of_records c.args.with_moves c.args.records.now) [] header (length c.args.records.now) refl refl)
 
 pub returns-in_err-show_records-clause-err : goal.returns-in_err-show_records-clause-err
 returns-in_err-show_records-clause-err g c =
     let old = g.W.Write.contents c.args.out.now in
     let new = g.W.Write.contents c.show_records.new.out in
-    let header = header_line c.args.kind c.args.word c.args.extra.now in
+    let header = header_line c.args.ruleset c.args.word c.args.extra.now in
     at_err c.from_residual-in_err-show_records.result (prefix_of_two old new header (of_records c.args.with_moves c.args.records.now) (string_bytes c.new-text.result) (string_bytes c.push_header.new.text) (length c.args.records.now) c.in_ok-push_header.ensures c.new-text.ensures.bytes c.in_err-show_records.ensures.err)
 
 pub returns-in_err-push_count-clause-err : goal.returns-in_err-push_count-clause-err
 returns-in_err-push_count-clause-err g c =
     let old = g.W.Write.contents c.args.out.now in
     let new = g.W.Write.contents c.show_records.new.out in
-    let header = header_line c.args.kind c.args.word c.args.extra.now in
+    let header = header_line c.args.ruleset c.args.word c.args.extra.now in
     at_err c.from_residual-in_err-push_count.result (prefix_of_two old new header (of_records c.args.with_moves c.args.records.now) (string_bytes c.new-text.result) (string_bytes c.push_header.new.text) (length c.args.records.now) c.in_ok-push_header.ensures c.new-text.ensures.bytes (string_bytes c.show_records.new.text, c.in_ok-show_records.ensures.ok))
 
 pub returns-clause-ok : goal.returns-clause-ok
@@ -31,7 +31,7 @@ returns-clause-ok g c =
     let old = g.W.Write.contents c.args.out.now in
     let mid = g.W.Write.contents c.show_records.new.out in
     let new = g.W.Write.contents c.put.new.out in
-    let header = header_line c.args.kind c.args.word c.args.extra.now in
+    let header = header_line c.args.ruleset c.args.word c.args.extra.now in
     let body = of_records c.args.with_moves c.args.records.now in
     let last = count_line (length c.args.records.now) in
     let pushed-is = c.as_bytes.ensures.value ∙ c.in_ok-push_count.ensures in
@@ -43,7 +43,7 @@ returns-clause-err g c =
     let old = g.W.Write.contents c.args.out.now in
     let mid = g.W.Write.contents c.show_records.new.out in
     let new = g.W.Write.contents c.put.new.out in
-    let header = header_line c.args.kind c.args.word c.args.extra.now in
+    let header = header_line c.args.ruleset c.args.word c.args.extra.now in
     let body = of_records c.args.with_moves c.args.records.now in
     let last = count_line (length c.args.records.now) in
     let pushed-is = c.as_bytes.ensures.value ∙ c.in_ok-push_count.ensures in

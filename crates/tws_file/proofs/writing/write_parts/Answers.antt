@@ -11,7 +11,7 @@ pub returns-in_err-send_both-clause-err : goal.returns-in_err-send_both-clause-e
 returns-in_err-send_both-clause-err g c =
     let old = g.W.Write.contents c.args.out.now in
     let mid = g.W.Write.contents c.send_both.new.out in
-    let header = header_text c.args.kind c.args.word c.args.extra.now in
+    let header = header_text c.args.ruleset c.args.word c.args.extra.now in
     let pushed = c.new-buffer.result ++ (c.as_slice.result.now ++ c.args.extra.now) in
     let pushed-is = after_nothing c.new-buffer.result c.as_slice.result.now c.header_head-head.result c.args.extra.now header c.new-buffer.ensures c.as_slice.ensures c.header_head-head.ensures in
     at_err c.from_residual.result (first_prefix old mid mid [] header (texts c.args.records.now) pushed pushed pushed-is c.in_err-send_both.ensures.err)
@@ -20,7 +20,7 @@ pub returns-in_err-send_records-clause-err : goal.returns-in_err-send_records-cl
 returns-in_err-send_records-clause-err g c =
     let old = g.W.Write.contents c.args.out.now in
     let mid = g.W.Write.contents c.send_both.new.out in
-    let header = header_text c.args.kind c.args.word c.args.extra.now in
+    let header = header_text c.args.ruleset c.args.word c.args.extra.now in
     let pushed = c.new-buffer.result ++ (c.as_slice.result.now ++ c.args.extra.now) in
     let pushed-is = after_nothing c.new-buffer.result c.as_slice.result.now c.header_head-head.result c.args.extra.now header c.new-buffer.ensures c.as_slice.ensures c.header_head-head.ensures in
     let new = g.W.Write.contents c.send_records.new.out in
@@ -30,7 +30,7 @@ pub returns-clause-ok : goal.returns-clause-ok
 returns-clause-ok g c =
     let old = g.W.Write.contents c.args.out.now in
     let mid = g.W.Write.contents c.send_both.new.out in
-    let header = header_text c.args.kind c.args.word c.args.extra.now in
+    let header = header_text c.args.ruleset c.args.word c.args.extra.now in
     let pushed = c.new-buffer.result ++ (c.as_slice.result.now ++ c.args.extra.now) in
     let pushed-is = after_nothing c.new-buffer.result c.as_slice.result.now c.header_head-head.result c.args.extra.now header c.new-buffer.ensures c.as_slice.ensures c.header_head-head.ensures in
     let then = g.W.Write.contents c.send_records.new.out in
@@ -44,7 +44,7 @@ pub returns-clause-err : goal.returns-clause-err
 returns-clause-err g c =
     let old = g.W.Write.contents c.args.out.now in
     let mid = g.W.Write.contents c.send_both.new.out in
-    let header = header_text c.args.kind c.args.word c.args.extra.now in
+    let header = header_text c.args.ruleset c.args.word c.args.extra.now in
     let pushed = c.new-buffer.result ++ (c.as_slice.result.now ++ c.args.extra.now) in
     let pushed-is = after_nothing c.new-buffer.result c.as_slice.result.now c.header_head-head.result c.args.extra.now header c.new-buffer.ensures c.as_slice.ensures c.header_head-head.ensures in
     let then = g.W.Write.contents c.send_records.new.out in

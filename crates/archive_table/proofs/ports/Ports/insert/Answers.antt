@@ -4,7 +4,7 @@ use Rattle.std.specs.Map.{lookup}
 use Rattle.std.specs.BTreeMap.{insert_entry}
 use Rattle.std.specs.Ordering.{nat_cmp}
 use Rattle.slab.specs.Slab.{get}
-use Rattle.archive_table.specs.Server.{at_port}
+use Rattle.archive_table.specs.Table.{at_port}
 use Rattle.archive_table.specs.Ports.{found_at, AreHeld}
 use Rattle.archive_table.proofs.Held.{free_port, held_room, found_inserted, held_inserted}
 use Rattle.archive_table.proofs.ports.Ports.insert.Goals as goal
@@ -13,7 +13,7 @@ pub insert-requires : goal.insert-requires
 insert-requires g c =
     let keys = c.self.inside.keys in
     let room = c.reserve.new.self in
-    let held : AreHeld keys room = subst (λ p. AreHeld keys p) (sym c.reserve.ensures.rest_kept) (held_room keys c.self.inside.places c.self.invariant room.capacity) in
+    let held : AreHeld keys room = subst (λ p. AreHeld keys p) (sym c.reserve.ensures.rest_kept) (held_room keys c.self.inside.slots c.self.invariant room.capacity) in
     let was : found_at (get room) keys ≡ c.args.self.now = ap (λ p. found_at (get p) keys) c.reserve.ensures.rest_kept ∙ c.self.view_is in
     record { free = free_port keys room held (at_port c.args.port) (ap (lookup (at_port c.args.port)) was ∙ c.requires.free) }
 
@@ -21,7 +21,7 @@ pub invariant_of-self-2 : goal.invariant_of-self-2
 invariant_of-self-2 g c =
     let keys = c.self.inside.keys in
     let room = c.reserve.new.self in
-    let held : AreHeld keys room = subst (λ p. AreHeld keys p) (sym c.reserve.ensures.rest_kept) (held_room keys c.self.inside.places c.self.invariant room.capacity) in
+    let held : AreHeld keys room = subst (λ p. AreHeld keys p) (sym c.reserve.ensures.rest_kept) (held_room keys c.self.inside.slots c.self.invariant room.capacity) in
     let was : found_at (get room) keys ≡ c.args.self.now = ap (λ p. found_at (get p) keys) c.reserve.ensures.rest_kept ∙ c.self.view_is in
     let free : lookup (at_port c.args.port) keys ≡ None = free_port keys room held (at_port c.args.port) (ap (lookup (at_port c.args.port)) was ∙ c.requires.free) in
     let same = c.insert_reserved.ensures.key ∙ sym c.vacant_key-key.ensures.value in
@@ -31,7 +31,7 @@ pub returns-clause-inserted : goal.returns-clause-inserted
 returns-clause-inserted g c =
     let keys = c.self.inside.keys in
     let room = c.reserve.new.self in
-    let held : AreHeld keys room = subst (λ p. AreHeld keys p) (sym c.reserve.ensures.rest_kept) (held_room keys c.self.inside.places c.self.invariant room.capacity) in
+    let held : AreHeld keys room = subst (λ p. AreHeld keys p) (sym c.reserve.ensures.rest_kept) (held_room keys c.self.inside.slots c.self.invariant room.capacity) in
     let was : found_at (get room) keys ≡ c.args.self.now = ap (λ p. found_at (get p) keys) c.reserve.ensures.rest_kept ∙ c.self.view_is in
     let free : lookup (at_port c.args.port) keys ≡ None = free_port keys room held (at_port c.args.port) (ap (lookup (at_port c.args.port)) was ∙ c.requires.free) in
     let same = c.insert_reserved.ensures.key ∙ sym c.vacant_key-key.ensures.value in

@@ -1,7 +1,7 @@
 use Rattle.std.proofs.Common.{sym, ap, subst}
 use Rattle.std.specs.Prelude.{◌≡◌, Some}
 use Rattle.tftp_packet.specs.declared.refusal.Refusal.TheVariants.{NotKept}
-use Rattle.archive_table.specs.Server.{Server, Told, Grant, grant_of, dgram_grant, refusal_dgram}
+use Rattle.archive_table.specs.Table.{Table, Step, Grant, grant_of, dgram_grant, refusal_dgram}
 use Rattle.archive_table.specs.Keeper.{StepKeeps, RefusesFile}
 use Rattle.archive_table.proofs.Merged.{other_refusal, refused_keeps}
 use Rattle.archive_table.proofs.table.Table.on_file.Goals as goal
@@ -12,12 +12,12 @@ returns-in-Err-clause-keeps g c =
     let wanted = Some (record { peer = c.args.peer; file = file }) in
     let was = g.K.Keeper.log c.args.keeper.now in
     let now = g.K.Keeper.log c.merge_file.new.keeper in
-    let grant : grant_of c.fail.new.step.out ≡ dgram_grant (refusal_dgram c.in-Err.why) = ap (λ (t : Told). grant_of t.out) c.fail.ensures.told in
-    let refused : RefusesFile c.in-Err.why file c.args.self.now.maps was now = subst (λ (s : Server). RefusesFile c.in-Err.why file s.maps was now) c.self.view_is (c.in-Err.ensures.unkept file c.requires.read) in
+    let grant : grant_of c.fail.new.step.out ≡ dgram_grant (refusal_dgram c.in-Err.why) = ap (λ (t : Step). grant_of t.out) c.fail.ensures.step in
+    let refused : RefusesFile c.in-Err.why file c.args.self.now.maps was now = subst (λ (s : Table). RefusesFile c.in-Err.why file s.maps was now) c.self.view_is (c.in-Err.ensures.unkept file c.requires.read) in
     subst (λ (g : Grant). StepKeeps g wanted c.args.self.now.maps c.fail.new.self.maps was now) (sym grant)
     (refused_keeps c.in-Err.why c.args.peer file c.args.self.now.maps c.fail.new.self.maps was now refused)
 
 pub returns-in-Err-clause-untouched : goal.returns-in-Err-clause-untouched
 returns-in-Err-clause-untouched g c = λ other same.
-    let grant : grant_of c.fail.new.step.out ≡ dgram_grant (refusal_dgram c.in-Err.why) = ap (λ (t : Told). grant_of t.out) c.fail.ensures.told in
+    let grant : grant_of c.fail.new.step.out ≡ dgram_grant (refusal_dgram c.in-Err.why) = ap (λ (t : Step). grant_of t.out) c.fail.ensures.step in
     c.in-Err.ensures.untouched (λ is. let not : c.in-Err.why ≡ NotKept = cc in other_refusal c.in-Err.why (grant_of c.fail.new.step.out) grant other not) c.in-Err.ensures.lynx c.in-Err.ensures.ms

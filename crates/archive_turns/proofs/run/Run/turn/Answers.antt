@@ -1,12 +1,12 @@
 use Rattle.std.proofs.Common.{ap}
 use Rattle.archive_turns.specs.Run.{Run}
 use Rattle.archive_turns.proofs.Log.{grows_come, grows_quiet}
-use Rattle.archive_turns.proofs.Running.{turn_heard, turn_quiet, turn_failed}
+use Rattle.archive_turns.proofs.Running.{turn_received, turn_quiet, turn_failed}
 use Rattle.archive_turns.proofs.run.Run.turn.Goals as goal
 
 pub returns-in-Ok-Some : goal.returns-in-Ok-Some
 returns-in-Ok-Some g c =
-    turn_heard _ _ _ _ _ _ (ap (λ (r : Run). r.port) c.self.view_is) (grows_come _ _ _ _ _ c.in-Ok-Some.field-0-is c.in-Ok-Some.ensures.log) c.take.ensures.ran
+    turn_received _ _ _ _ _ _ (ap (λ (r : Run). r.port) c.self.view_is) (grows_come _ _ _ _ _ c.in-Ok-Some.field-0-is c.in-Ok-Some.ensures.log) c.take.ensures.ran
 
 pub returns-in-Ok-None : goal.returns-in-Ok-None
 returns-in-Ok-None g c =

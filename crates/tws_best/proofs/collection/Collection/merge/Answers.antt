@@ -1,6 +1,6 @@
 use Rattle.std.proofs.Common.{ap, sym, ◌∙◌, subst}
 use Rattle.tws_best.specs.Best.{IsRising}
-use Rattle.tws_best.proofs.OtherRules.{still_best}
+use Rattle.tws_best.proofs.OtherRuleset.{still_best}
 use Rattle.tws_best.proofs.collection.Collection.merge.Goals as goal
 
 pub returns-then-ne-clause-best : goal.returns-then-ne-clause-best

@@ -1,6 +1,6 @@
 /// What a datagram means to a client.
 #[derive(Clone, Copy)]
-pub(crate) enum Heard<'a> {
+pub(crate) enum Input<'a> {
     /// It has no effect.
     Nothing,
     /// A packet other than an ERROR, from a port of the server's host that the client is not bound to.
