@@ -84,13 +84,13 @@ record Freed (count : ℕ) (w : World) (left : List (ℕ × Transfer)) : Type 0 
   remain : Remain w (run_from (time_outs ports) w)
 
 module _ (port : ℕ) (t : Transfer) (rest : List (ℕ × Transfer)) where
-  found_first : lookup (at_port port) ((port, t) ∷ rest) ≡ Some t
+  pub found_first : lookup (at_port port) ((port, t) ∷ rest) ≡ Some t
   found_first = ap (λ (b : Bool). cond b (Some t) (lookup (at_port port) rest)) (same_port port)
 
   removed_first : remove_entry (at_port port) ((port, t) ∷ rest) ≡ rest
   removed_first = ap (λ (b : Bool). cond b rest ((port, t) ∷ remove_entry (at_port port) rest)) (same_port port)
 
-  set_first : (u : Transfer) → set_value (at_port port) ((port, t) ∷ rest) u ≡ (port, u) ∷ rest
+  pub set_first : (u : Transfer) → set_value (at_port port) ((port, t) ∷ rest) u ≡ (port, u) ∷ rest
   set_first u = ap (λ (b : Bool). cond b ((port, u) ∷ rest) ((port, t) ∷ set_value (at_port port) rest u)) (same_port port)
 
 patient : (w : World) (e : Endpoint) (port : ℕ) (end : End) → IsLiveEnd w e port end → misses_of end < MISSES

@@ -49,6 +49,8 @@ pub mod Enduring
 pub mod Folders
 pub mod Costs
 pub mod Freeing
+pub mod Exchanging
+pub mod Finishing
 pub mod Effects
 pub mod RealTime
 pub mod Searches

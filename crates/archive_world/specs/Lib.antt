@@ -12,3 +12,4 @@ pub mod Exits
 pub mod Durable
 pub mod Effects
 pub mod Freeing
+pub mod Progress

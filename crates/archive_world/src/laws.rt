@@ -1,9 +1,9 @@
 //! What holds for every run. These functions do nothing: each contract is a theorem.
 
-ghost use Rattle.std.specs.Prelude.{◌≡◌, ℕ, ◌≤◌, true, false, List, length, [], ◌∷◌, ◌++◌, Contains, Option};
+ghost use Rattle.std.specs.Prelude.{◌≡◌, ◌≢◌, ℕ, ◌≤◌, true, false, List, length, [], ◌∷◌, ◌++◌, Contains, Option};
 ghost use Rattle.archive_world.specs.Samples.{request_twice, late_ack, crossed_get, unanswered, strange_put, restart_between, empty_put, empty_get, barred_strays, opened_again, reused_elsewhere, begun_twice, opened_twice, strayed_there, FailsBy, sample_client, summary_of, sample_opening, one_put_summary, no_file_summary, crossed_get_summary, strange_put_summary, restart_summary, empty_put_summary, empty_get_summary};
 ghost use Rattle.tftp_packet.specs.declared.endpoint.Endpoint.{Endpoint};
-ghost use Rattle.archive_client.specs.Client.{Operation};
+ghost use Rattle.archive_client.specs.Client.{Operation, put, is_too_long};
 ghost use Rattle.archive_world.specs.Reuse.{BeginKeepsOwn, OpeningKeepsOwn, StrayKeepsOwn, IsOwnByTests};
 ghost use Rattle.archive_world.specs.World.{Begun, Datagram, Got, Opening, to_write, World, Event, WorldStep, happens, start, start_from, run, run_from, server_endpoint, AllMerged, asked_by, AllMayHappen};
 ghost use Rattle.archive_table.specs.Table.{Grant, Maps, Taken, empty_maps};
@@ -13,6 +13,7 @@ ghost use Rattle.archive_table.specs.Keeper.{Keeping};
 ghost use Rattle.archive_world.specs.Restarts.{HasKept, StepStaysKept, LoadsTheSame, FailsOutside, RunKeeps, RestartsFrom};
 ghost use Rattle.archive_world.specs.Effects.{TakesEffect, ReadsAtOnce, FetchesNoLess, FetchesNone};
 ghost use Rattle.archive_world.specs.Freeing.{IsFreed};
+ghost use Rattle.archive_world.specs.Progress.{IsUnstuck};
 ghost use Rattle.archive_world.specs.Durable.{AreNoWorse, LoadsPromised, CutsShort};
 ghost use Rattle.archive_world.specs.Traces.{Member, trace_from, trace_steps, AllDeedsMerged};
 ghost use Rattle.archive_world.specs.Headline.{IsOwn, AreOver, HasOwnPorts, HasOperation, ClientsHeadline, Headline, FetchesOwnSent, FetchesSent, BeganBy, StraysBy};
@@ -75,6 +76,8 @@ pub fn folder_law()
     ensures cut { (texts : List (List ℕ)) (maps : Maps) → AreOver texts maps → (first : List Keeping) → HasKept first maps → (steps : List WorldStep) (s : WorldStep) (before last : List Keeping) → AllMerged (steps ++ s ∷ []) (start_from texts maps) → RunKeeps steps (start_from texts maps) first before → CutsShort (start_from texts maps) steps s before last → LoadsPromised (start_from texts maps) steps last }
     // No transfer stays for ever: whatever has happened, time-outs alone free every port.
     ensures freed { (texts : List (List ℕ)) (maps : Maps) → AreOver texts maps → (steps : List WorldStep) → AllMerged steps (start_from texts maps) → IsFreed (run_from steps (start_from texts maps)) }
+    // Nothing gets stuck: and then a put that begins anywhere can be counted as sent.
+    ensures unstuck { (texts : List (List ℕ)) (maps : Maps) → AreOver texts maps → (steps : List WorldStep) → AllMerged steps (start_from texts maps) → (e : Endpoint) (file : List ℕ) → e.host ≢ server_endpoint.host → is_too_long (put file) ≡ false → IsUnstuck (run_from steps (start_from texts maps)) e file }
 {}
 
 /// The values of the server's host and its request port, which the definitions refer to by name.

@@ -6,6 +6,7 @@ use Rattle.archive_world.proofs.Folders.{over-own_texts}
 use Rattle.archive_world.proofs.Concluding.{run_from-clients}
 use Rattle.archive_world.proofs.Enduring.{never-worse, run_from-restarts, loads-promised, cut-promised}
 use Rattle.archive_world.proofs.Freeing.{run_from-freed}
+use Rattle.archive_world.proofs.Finishing.{run_from-unstuck}
 use Rattle.archive_world.proofs.laws.folder_law.Goals as goal
 
 pub returns-clause-empty : goal.returns-clause-empty
@@ -42,3 +43,6 @@ returns-clause-cut c = cut-promised
 
 pub returns-clause-freed : goal.returns-clause-freed
 returns-clause-freed c = run_from-freed
+
+pub returns-clause-unstuck : goal.returns-clause-unstuck
+returns-clause-unstuck c = run_from-unstuck
