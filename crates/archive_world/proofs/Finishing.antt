@@ -28,10 +28,10 @@ use Rattle.archive_world.proofs.Freeing.{found_first, set_first, run_from-freed}
 use Rattle.archive_world.proofs.Beginning.{may_begin}
 use Rattle.archive_world.proofs.Exchanging.{blocks_in, all_in, receives, block_out, from_server, block-taken, last-taken, block-acked, last-acked, request-opens, first-acked}
 
-at_end : (ds : List Datagram) (d : Datagram) (i : ℕ) → length ds ≡ i → slice_get (ds ++ d ∷ []) i ≡ Some d
+pub at_end : (ds : List Datagram) (d : Datagram) (i : ℕ) → length ds ≡ i → slice_get (ds ++ d ∷ []) i ≡ Some d
 at_end ds d i size = ap (slice_get (ds ++ d ∷ [])) (sym size) ∙ at-last ds d
 
-one_longer : (ds : List Datagram) (d : Datagram) (i : ℕ) → length ds ≡ i → length (ds ++ d ∷ []) ≡ i + 1
+pub one_longer : (ds : List Datagram) (d : Datagram) (i : ℕ) → length ds ≡ i → length (ds ++ d ∷ []) ≡ i + 1
 one_longer ds d i size = omega (arith, length-append ds (d ∷ []), size)
 
 module _ (first : World) (e : Endpoint) (away : e.host ≢ server_endpoint.host) (file : List ℕ) (short : length file ≤ MAX_FILE) (m : Maps) (good : IsMerged file first.server.maps m) (p : ℕ) (other : p ≢ first.server.request) where
@@ -362,7 +362,7 @@ module _ (w : World) where
   event_same (stray d) grant maps = strays_same (d.source.host == server_endpoint.host) (has_begun d.source w.begun) d
   event_same restart grant maps = refl
 
-run_same : (steps : List WorldStep) (w : World) → (run_from steps w).server.request ≡ w.server.request
+pub run_same : (steps : List WorldStep) (w : World) → (run_from steps w).server.request ≡ w.server.request
 run_same [] w = refl
 run_same (s ∷ steps) w = run_same steps (happens s w) ∙ event_same w s.event s.grant s.maps
 

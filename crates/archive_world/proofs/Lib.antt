@@ -51,6 +51,8 @@ pub mod Costs
 pub mod Freeing
 pub mod Exchanging
 pub mod Finishing
+pub mod GetExchanging
+pub mod GetFinishing
 pub mod Effects
 pub mod RealTime
 pub mod Searches

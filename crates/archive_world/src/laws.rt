@@ -6,14 +6,15 @@ ghost use Rattle.tftp_packet.specs.declared.endpoint.Endpoint.{Endpoint};
 ghost use Rattle.archive_client.specs.Client.{Operation, put, is_too_long};
 ghost use Rattle.archive_world.specs.Reuse.{BeginKeepsOwn, OpeningKeepsOwn, StrayKeepsOwn, IsOwnByTests};
 ghost use Rattle.archive_world.specs.World.{Begun, Datagram, Got, Opening, to_write, World, Event, WorldStep, happens, start, start_from, run, run_from, server_endpoint, AllMerged, asked_by, AllMayHappen};
-ghost use Rattle.archive_table.specs.Table.{Grant, Maps, Taken, empty_maps};
+ghost use Rattle.archive_table.specs.Table.{Grant, Maps, Taken, empty_maps, map_of, has_long_text};
+ghost use Rattle.tws_file.specs.declared.«ruleset».Ruleset.{Ruleset};
 ghost use Rattle.tws_file.specs.declared.«ruleset».Ruleset.TheVariants.{Lynx, Ms};
 ghost use Rattle.tws_best.specs.Best.{Collected, IsCollected, collection_text};
 ghost use Rattle.archive_table.specs.Keeper.{Keeping};
 ghost use Rattle.archive_world.specs.Restarts.{HasKept, StepStaysKept, LoadsTheSame, FailsOutside, RunKeeps, RestartsFrom};
 ghost use Rattle.archive_world.specs.Effects.{TakesEffect, ReadsAtOnce, FetchesNoLess, FetchesNone};
 ghost use Rattle.archive_world.specs.Freeing.{IsFreed};
-ghost use Rattle.archive_world.specs.Progress.{IsUnstuck};
+ghost use Rattle.archive_world.specs.Progress.{IsUnstuck, GetIsUnstuck};
 ghost use Rattle.archive_world.specs.Durable.{AreNoWorse, LoadsPromised, CutsShort};
 ghost use Rattle.archive_world.specs.Traces.{Member, trace_from, trace_steps, AllDeedsMerged};
 ghost use Rattle.archive_world.specs.Headline.{IsOwn, AreOver, HasOwnPorts, HasOperation, ClientsHeadline, Headline, FetchesOwnSent, FetchesSent, BeganBy, StraysBy};
@@ -76,8 +77,10 @@ pub fn folder_law()
     ensures cut { (texts : List (List ℕ)) (maps : Maps) → AreOver texts maps → (first : List Keeping) → HasKept first maps → (steps : List WorldStep) (s : WorldStep) (before last : List Keeping) → AllMerged (steps ++ s ∷ []) (start_from texts maps) → RunKeeps steps (start_from texts maps) first before → CutsShort (start_from texts maps) steps s before last → LoadsPromised (start_from texts maps) steps last }
     // No transfer stays for ever: whatever has happened, time-outs alone free every port.
     ensures freed { (texts : List (List ℕ)) (maps : Maps) → AreOver texts maps → (steps : List WorldStep) → AllMerged steps (start_from texts maps) → IsFreed (run_from steps (start_from texts maps)) }
-    // Nothing gets stuck: and then a put that begins anywhere can be counted as sent.
+    // Nothing gets stuck: then a put that begins anywhere can be counted as sent, and a get can fetch the collection,
+    // unless that is too long.
     ensures unstuck { (texts : List (List ℕ)) (maps : Maps) → AreOver texts maps → (steps : List WorldStep) → AllMerged steps (start_from texts maps) → (e : Endpoint) (file : List ℕ) → e.host ≢ server_endpoint.host → is_too_long (put file) ≡ false → IsUnstuck (run_from steps (start_from texts maps)) e file }
+    ensures get_unstuck { (texts : List (List ℕ)) (maps : Maps) → AreOver texts maps → (steps : List WorldStep) → AllMerged steps (start_from texts maps) → (e : Endpoint) («ruleset» : Ruleset) → e.host ≢ server_endpoint.host → has_long_text (map_of «ruleset» (run_from steps (start_from texts maps)).server.maps) ≡ false → GetIsUnstuck (run_from steps (start_from texts maps)) e «ruleset» }
 {}
 
 /// The values of the server's host and its request port, which the definitions refer to by name.

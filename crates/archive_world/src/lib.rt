@@ -4,9 +4,10 @@
 //!
 //! Read `specs/World.antt` first: what a world is, and what each event does to it. `specs/Headline.antt` has the
 //! premise on ports and what holds for every run. `Effects` has the order in which operations take effect, `Durable`
-//! what is never lost, `Freeing` how a full server gets free, `Traces` runs as their ends tell them, `Reuse` the tests
-//! for the reuse of a port, `Restarts` why a restart does not change the collections, `Outcomes` the outcome of a run,
-//! `Replays` what a replay of events guarantees, and `Samples` some runs. README.md shows how `replay` is called.
+//! what is never lost, `Freeing` and `Progress` why nothing gets stuck, `Traces` runs as their ends tell them, `Reuse`
+//! the tests for the reuse of a port, `Restarts` why a restart does not change the collections, `Outcomes` the outcome
+//! of a run, `Replays` what a replay of events guarantees, and `Samples` some runs. README.md shows how `replay` is
+//! called.
 #![tactic(auto)]
 
 mod answered;

@@ -7,6 +7,7 @@ use Rattle.archive_world.proofs.Concluding.{run_from-clients}
 use Rattle.archive_world.proofs.Enduring.{never-worse, run_from-restarts, loads-promised, cut-promised}
 use Rattle.archive_world.proofs.Freeing.{run_from-freed}
 use Rattle.archive_world.proofs.Finishing.{run_from-unstuck}
+use Rattle.archive_world.proofs.GetFinishing.{run_from-get_unstuck}
 use Rattle.archive_world.proofs.laws.folder_law.Goals as goal
 
 pub returns-clause-empty : goal.returns-clause-empty
@@ -46,3 +47,6 @@ returns-clause-freed c = run_from-freed
 
 pub returns-clause-unstuck : goal.returns-clause-unstuck
 returns-clause-unstuck c = run_from-unstuck
+
+pub returns-clause-get_unstuck : goal.returns-clause-get_unstuck
+returns-clause-get_unstuck c = run_from-get_unstuck
