@@ -16,7 +16,7 @@ use Rattle.archive_world.proofs.Remaining.{StepTakes, step-takes}
 
 -- ---- what can be kept
 
-own_entries : (rules rules-is : Ruleset) (rs : List Record) → AllByRecursion IsRecord rs → AllByRecursion IsKeyedBody (solved_by rules rules-is rs)
+own_entries : (rules named : Ruleset) (rs : List Record) → AllByRecursion IsRecord rs → AllByRecursion IsKeyedBody (solved_by rules named rs)
 own_entries Lynx Lynx rs fits = solved_entries rs fits
 own_entries Lynx Ms rs fits = tt
 own_entries Ms Lynx rs fits = tt

@@ -70,7 +70,7 @@ file_held taken maps best t has f is rules e present =
 -- ---- a collection that was fetched
 
 -- a file of one ruleset has no solutions of the other
-own_entries : (rules rules-is : Ruleset) (f : File) (e : KeyedBody) → f.ruleset ≡ rules-is → Contains (solutions_of rules (f ∷ [])) e → rules ≡ rules-is
+own_entries : (rules named : Ruleset) (f : File) (e : KeyedBody) → f.ruleset ≡ named → Contains (solutions_of rules (f ∷ [])) e → rules ≡ named
 own_entries Lynx Lynx f e is present = refl
 own_entries Ms Ms f e is present = refl
 own_entries Lynx Ms f e is present =
@@ -88,13 +88,13 @@ entry_of_text c fits f is rules e present =
     (same, subst (λ (es : List KeyedBody). Contains es e) (file_solves c fits) own)
 
 text_held : (first taken : List Taken) (maps : Maps) (rules : Ruleset) (text : List ℕ) → AreBest taken maps → IsBestOver rules (files_of first) text → Extends first taken → HoldsFile maps text
-text_held first taken maps rules text best over more f is rules-is e present =
+text_held first taken maps rules text best over more f is named e present =
     let c = over.0 in
     let fits = best-collected rules (files_of first) c over.1 in
-    let there = entry_of_text c fits f (subst (λ (x : List ℕ). IsText x f) over.2 is) rules-is e present in
-    let same : rules ≡ rules = sym over.1.ruleset_is ∙ sym there.0 in
-    let member : IsSolutionIn rules-is (files_of first) e = subst (λ (r : Ruleset). IsSolutionIn r (files_of first) e) same (over.1.best.best e there.1).member in
-    solution_held taken maps rules-is e best (solution_later first taken rules-is e more member)
+    let there = entry_of_text c fits f (subst (λ (x : List ℕ). IsText x f) over.2 is) named e present in
+    let same : rules ≡ named = sym over.1.ruleset_is ∙ sym there.0 in
+    let member : IsSolutionIn named (files_of first) e = subst (λ (r : Ruleset). IsSolutionIn r (files_of first) e) same (over.1.best.best e there.1).member in
+    solution_held taken maps named e best (solution_later first taken named e more member)
 
 pub first_extends : (n : ℕ) (ts : List Taken) → Extends (take n ts) ts
 first_extends n ts = record { rest = drop n ts; is = sym (take-append-drop n ts) }

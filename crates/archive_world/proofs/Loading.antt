@@ -87,9 +87,9 @@ none_added maps before after grows kept =
     record { lynx = unchanged Lynx before after maps.lynx grows kept.lynx; ms = unchanged Ms before after maps.ms grows kept.ms }
 
 failed_one : (maps : Maps) (before after : List Keeping) (rules : Ruleset) (new : Collected) → FailsKeep rules new (Some before) (Some after) → HasKept before maps → HasKept after maps
-failed_one maps before after rules-is new (inl none) kept = none_added maps before after none kept
-failed_one maps before after rules-is new (inr failed) kept =
-    let k = keeping rules-is (collection_text new) false in
+failed_one maps before after named new (inl none) kept = none_added maps before after none kept
+failed_one maps before after named new (inr failed) kept =
+    let k = keeping named (collection_text new) false in
     let last : (rules : Ruleset) → last_kept rules before ≡ last_kept rules after = λ rules. sym (ap (last_kept rules) failed ∙ last_failed rules before k refl) in
     record {
       lynx = subst (λ (o : Option (List ℕ)). IsTextAt Lynx o maps.lynx) (last Lynx) kept.lynx;
