@@ -6,4 +6,6 @@ mod folders;
 #[cfg(test)]
 mod obstacles;
 #[cfg(test)]
+mod ports;
+#[cfg(test)]
 mod wires;

@@ -1,6 +1,7 @@
 // The wire over sockets of the system.
 ghost use Rattle.std.specs.Prelude.{None};
 
+use crate::ports::past_port;
 use archive_host::UdpWire;
 use archive_table::NoKeeper;
 use archive_turns::{RECEIVE_SIZE, ReadyWire, Server, Wire, WireFault, run_get, run_put};
@@ -13,9 +14,6 @@ use tws_file::Ruleset;
 
 // The result of a read of a port: the number of an ACK's block, and where the ACK came from.
 type Came = Option<(u16, Endpoint)>;
-
-// The least port for private use, RFC 6335 section 6. The greatest is 65535.
-const FIRST: u16 = 49152;
 
 // The loopback address of this host, 127.0.0.1.
 const LOOPBACK: u32 = 0x7F00_0001;
@@ -46,7 +44,7 @@ fn ack(from_port: u16, to: u16, block: u16) -> Out {
     }
 }
 
-// A client's wire with a server loopback its other end: before each receive the server makes a turn.
+// A client's wire with a server at its other end: before each receive the server makes a turn.
 #[derive(Drop)]
 struct Ends {
     client: UdpWire<HostRuntime>,
@@ -88,7 +86,7 @@ impl Wire for Ends {
     }
 }
 
-// A client's wire with a server loopback a free port, and the server's address.
+// A client's wire with a server at a free port, and the server's address.
 fn connected(rt: HostRuntime) -> Result<(Ends, Endpoint), Fail> {
     let (wire, port) = listening(rt)?;
     let ends = Ends {
@@ -128,80 +126,6 @@ fn loopback_put_get(rt: HostRuntime) -> Result<(), Fail> {
     Ok(())
 }
 
-// A port that was open and is closed again, unused.
-fn past_port(wire: &mut UdpWire<HostRuntime>) -> Result<u16, WireFault> {
-    let port = wire.open()?;
-    wire.close(port)?;
-    Ok(port)
-}
-
-// Opens a port for each place.
-fn open_all(wire: &mut UdpWire<HostRuntime>, ports: &mut [u16; 20]) -> Result<(), WireFault> {
-    for i in 0..20 {
-        ports[i] = wire.open()?;
-    }
-    Ok(())
-}
-
-fn is_among(ports: &[u16], port: u16) -> bool {
-    for other in ports {
-        if *other == port {
-            return true;
-        }
-    }
-    false
-}
-
-// Whether each port is for private use, and another than those before it.
-fn are_apart(ports: &[u16; 20]) -> bool {
-    for i in 0..20 {
-        if ports[i] < FIRST || is_among(&ports[..i], ports[i]) {
-            return false;
-        }
-    }
-    true
-}
-
-// Whether no port is below the one before it.
-fn do_rise(ports: &[u16; 20]) -> bool {
-    for i in 1..20 {
-        if ports[i] < ports[i - 1] {
-            return false;
-        }
-    }
-    true
-}
-
-// Who knows a port cannot tell the next one: of twenty drawn ones, one order in 20! rises.
-#[test]
-fn ports_are_drawn(rt: HostRuntime) -> Result<(), Fail> {
-    let mut wire = UdpWire::new(rt);
-    let mut ports = [0; 20];
-    open_all(&mut wire, &mut ports)?;
-    assert_eq!(rt;
-        (are_apart(&ports), do_rise(&ports), wire.failures()),
-        (true, false, 0)
-    );
-    Ok(())
-}
-
-// A port that was closed unused is the next one. When it is another socket's by then, the wire opens another, and that
-// is no failure.
-#[test]
-fn a_port_in_use_is_passed_over(rt: HostRuntime) -> Result<(), Fail> {
-    let mut wire = UdpWire::new(rt);
-    let unused = past_port(&mut wire)?;
-    let again = past_port(&mut wire)?;
-    // If this fails, a socket of another program has the port.
-    let _other = UdpWire::listen(rt, unused);
-    let port = wire.open()?;
-    assert_eq!(rt;
-        (again == unused, port == unused, wire.failures()),
-        (true, false, 0)
-    );
-    Ok(())
-}
-
 #[test]
 fn a_taken_port_is_not_opened(rt: HostRuntime) -> Result<(), Fail> {
     let (_other, taken) = listening(rt)?;
@@ -227,7 +151,7 @@ fn calls_that_fail_are_counted(rt: HostRuntime) -> Result<(), Fail> {
     Ok(())
 }
 
-// No datagram goes to port 0, and none to all hosts loopback once without leave.
+// No datagram goes to port 0, and none to all hosts at once without leave.
 #[test]
 fn addresses_that_the_system_refuses(rt: HostRuntime) -> Result<(), Fail> {
     let (_other, taken) = listening(rt)?;
@@ -252,7 +176,7 @@ fn addresses_that_the_system_refuses(rt: HostRuntime) -> Result<(), Fail> {
     Ok(())
 }
 
-// Whether nothing arrives loopback a port in twenty reads.
+// Whether nothing arrives at a port in twenty reads.
 fn is_quiet(wire: &mut UdpWire<HostRuntime>, port: u16) -> bool {
     let mut buffer = [0; RECEIVE_SIZE];
     for _ in 0..20 {
@@ -337,7 +261,7 @@ impl Pair {
         self.peer.send(&ack(self.from, to, block))
     }
 
-    // Reads an ACK loopback a port.
+    // Reads an ACK at a port.
     fn read(&mut self, port: u16) -> Result<Came, Fail> {
         let mut buffer = [0; RECEIVE_SIZE];
         let Some((count, from)) = self.wire.receive(port, &mut buffer)? else {
@@ -432,7 +356,7 @@ fn times_of_two_reads(rt: HostRuntime, pair: &mut Pair) -> Result<(u128, u128), 
     ))
 }
 
-// The port that a wait has just returned is read loopback once, and after that it is waited loopback again.
+// The port that a wait has just returned is read at once, and after that it is waited at again.
 #[test]
 fn a_port_that_is_given_is_not_waited_at(rt: HostRuntime) -> Result<(), Fail> {
     let mut pair = Pair::open(rt)?;
@@ -446,7 +370,7 @@ fn a_port_that_is_given_is_not_waited_at(rt: HostRuntime) -> Result<(), Fail> {
     Ok(())
 }
 
-// The ports that three waits return. Three datagrams have arrived loopback the upper port, and one arrives loopback the lower after
+// The ports that three waits return. Three datagrams have arrived at the upper port, and one arrives at the lower after
 // the upper one was read.
 fn three_waits(pair: &mut Pair) -> Result<(u16, u16, Option<u16>), Fail> {
     let (low, high) = (pair.low, pair.high);
@@ -487,8 +411,8 @@ fn a_closed_port_is_not_given(rt: HostRuntime) -> Result<(), Fail> {
     Ok(())
 }
 
-// How often the upper port is read in forty visits. Two datagrams have arrived loopback it, and before each visit another
-// arrives loopback the lower port.
+// How often the upper port is read in forty visits. Two datagrams have arrived at it, and before each visit another
+// arrives at the lower port.
 fn visits_above(pair: &mut Pair) -> Result<u32, Fail> {
     pair.send(pair.high, 1)?;
     pair.send(pair.high, 2)?;
