@@ -325,11 +325,14 @@ def check_callers():
 
 
 class Shell:
-    """A shell in a folder of its own, with the built program (so that no launcher proves it first) and the examples."""
+    """A shell in a folder of its own, with the built programs (so that no launcher proves them first), the examples and
+    these scripts."""
 
     def __init__(self, folder):
-        for name, place in (("tws", "crates/tws/out/tws"), ("examples", "examples")):
-            os.symlink(Path(place).resolve(), Path(folder, name))
+        for name in ("tws", "replay_schedule"):
+            os.symlink(Path(f"crates/{name}/out/{name}").resolve(), Path(folder, name))
+        for name in ("examples", "system_tests"):
+            os.symlink(Path(name).resolve(), Path(folder, name))
         self.process = subprocess.Popen(
             ["bash", "--norc"], cwd=folder, text=True, bufsize=1, start_new_session=True,
             stdin=subprocess.PIPE, stdout=subprocess.PIPE, stderr=subprocess.STDOUT,

@@ -1,4 +1,4 @@
--- One more moment joins those of a folder in memory.
+-- One more moment is added to the earlier ones of a folder in memory, at which a crash might have happened.
 use Rattle.std.proofs.Common.{◌≡◌, ◌⊎◌, inl, inr, ⊎_elim, ℕ, zero, suc, ◌≤◌, List, [], ◌∷◌, ◌++◌, length, drop, Option, Vec, refl, sym, ◌∙◌, subst, arith, length-append}
 use Rattle.std.specs.declared.alloc.Global.{Global}
 use Rattle.archive_table.specs.Keeper.{texts_of}
@@ -12,21 +12,25 @@ use Rattle.archive_folder.specs.Names.{at_name}
 use Rattle.archive_folder.specs.Stored.{synced_of, MightLeave, OneMightLeave}
 use Rattle.archive_folder.specs.Memory.{memory_leaves, memory_since, Recalls}
 
+-- what might have been left before still might have been
 keeps : (past : List Left) (l : Left) (n : FileName) (o : Option (List ℕ)) → OneMightLeave past n o → OneMightLeave (past ++ l ∷ []) n o
 keeps [] l n o had = absurd had
 keeps (p ∷ past) l n o (inl here) = inl here
 keeps (p ∷ past) l n o (inr there) = inr (keeps past l n o there)
 
+-- what might have been left was, at an earlier moment or at the one that was added
 splits : (past : List Left) (l : Left) (n : FileName) (o : Option (List ℕ)) → OneMightLeave (past ++ l ∷ []) n o → OneMightLeave past n o ⊎ MightLeave l n o
 splits [] l n o (inl here) = inr here
 splits [] l n o (inr none) = absurd none
 splits (p ∷ past) l n o (inl here) = inl (inl here)
 splits (p ∷ past) l n o (inr there) = ⊎_elim (λ had. inl (inr had)) (λ new. inr new) (splits past l n o there)
 
+-- what may be left at that moment is among what might have been
 newest : (past : List Left) (l : Left) (n : FileName) (o : Option (List ℕ)) → MightLeave l n o → OneMightLeave (past ++ l ∷ []) n o
 newest [] l n o is = inl is
 newest (p ∷ past) l n o is = inr (newest past l n o is)
 
+-- the moments since an earlier one, with the new one after them
 drop_push : (t : ℕ) (past : List Left) (l : Left) → t ≤ length past → drop t (past ++ l ∷ []) ≡ drop t past ++ l ∷ []
 drop_push zero past l le = refl
 drop_push (suc t) [] l le = absurd (omega arith)
@@ -47,8 +51,13 @@ pub elapses_to : (f : MemoryFolder) (later : List Left) (disk : ByName (Option (
 elapses_to f later disk files l same recalls =
     subst (λ (ls : List Left). Elapses (length f.past.items) (length ls) (memory_since f) (Since ls (Leaves disk files)) (Leaves disk files)) (sym same) (record {
       later = omega (arith, length-append f.past.items (l ∷ []));
-      recalls = λ t n o le left. inr (subst (λ (ls : List Left). OneMightLeave ls n o) (sym (drop_push t f.past.items l le)) (⊎_elim (λ now. newest (drop t f.past.items) l n o (into n o now)) (keeps (drop t f.past.items) l n o) left));
-      adds = λ t n o le left. ⊎_elim (λ now. inr now) (λ had. inl (was t n o (splits (drop t f.past.items) l n o (subst (λ (ls : List Left). OneMightLeave ls n o) (drop_push t f.past.items l le) had)))) left;
+      recalls = λ t n o le left. inr
+          (subst (λ (ls : List Left). OneMightLeave ls n o) (sym (drop_push t f.past.items l le))
+          (⊎_elim (λ now. newest (drop t f.past.items) l n o (into n o now)) (keeps (drop t f.past.items) l n o) left));
+      adds = λ t n o le left. ⊎_elim (λ now. inr now)
+          (λ had. inl (was t n o
+          (splits (drop t f.past.items) l n o
+          (subst (λ (ls : List Left). OneMightLeave ls n o) (drop_push t f.past.items l le) had)))) left;
     })
   where
     into : (n : FileName) (o : Option (List ℕ)) → memory_leaves f n o → MightLeave l n o

@@ -1,4 +1,4 @@
--- How a run of a folder's calls goes on, for one name.
+-- How a run of a folder's calls goes on, for one name: it stays, or it gets a text, and the same after a crash.
 use Rattle.std.proofs.Common.{◌≡◌, ◌≢◌, ◌⊎◌, ◌≤◌, ℕ, Bool, true, List, Option, None, Some, inl, inr, ⊎_elim, ap, arith}
 use Rattle.tws_file.specs.declared.«ruleset».Ruleset.{Ruleset}
 use Rattle.archive_folder.specs.declared.file_name.FileName.{FileName}
@@ -6,6 +6,7 @@ use Rattle.archive_folder.specs.declared.file_name.FileName.TheVariants.{Kept, D
 use Rattle.archive_folder.specs.Folder.{Texts, Files, NarrowsAt, Only, IsHeld, IsSettled, Elapses}
 use Rattle.archive_folder.specs.Replacing.{Stays, Replaces, HasOnly, IsWritten}
 
+-- any folder: what can be read, held or left under a name, and the moments that a crash may divide
 module _ {D : Type 0} (reads : D → Texts) (holds : D → Files) (leaves : D → Texts) (moment : D → ℕ) (left_since : D → ℕ → Texts) where
   -- one call that leaves this name alone
   pub stays_by : {has_model : Bool} → ((d : D) (t : ℕ) (name : FileName) (left : Option (List ℕ)) → has_model ≡ true → t ≤ moment d → leaves d name left → left_since d t name left)
@@ -19,7 +20,9 @@ module _ {D : Type 0} (reads : D → Texts) (holds : D → Files) (leaves : D �
     before = λ t left le since. ⊎_elim (λ past. past) (λ now. counts old t name left modelled le (narrows.left left now)) (time.adds t name left le since);
   }
 
-  pub stays_then : (old mid new : D) (name : FileName) → Stays reads holds leaves moment left_since old mid name → Stays reads holds leaves moment left_since mid new name → Stays reads holds leaves moment left_since old new name
+  -- a name that stays twice stays
+  pub stays_then : (old mid new : D) (name : FileName) → Stays reads holds leaves moment left_since old mid name →
+      Stays reads holds leaves moment left_since mid new name → Stays reads holds leaves moment left_since old new name
   stays_then old mid new name a b = record {
     possible = record {
       now = λ r h. a.possible.now r (b.possible.now r h);
@@ -41,7 +44,10 @@ module _ {D : Type 0} (reads : D → Texts) (holds : D → Files) (leaves : D �
     before = λ t left le since. inl (a.before t left le since);
   }
 
-  pub replaces_after : (old mid new : D) (name : FileName) (text : List ℕ) → Stays reads holds leaves moment left_since old mid name → Replaces reads leaves moment left_since mid new name text → Replaces reads leaves moment left_since old new name text
+  -- a name that stays, and then may get this text
+  pub replaces_after : (old mid new : D) (name : FileName) (text : List ℕ) →
+      Stays reads holds leaves moment left_since old mid name → Replaces reads leaves moment left_since mid new name text →
+      Replaces reads leaves moment left_since old new name text
   replaces_after old mid new name text a b = record {
     now = λ r h. ⊎_elim (λ was. inl (a.possible.now r was)) (λ is. inr is) (b.now r h);
     left = λ r h. ⊎_elim (λ was. inl (a.possible.left r was)) (λ is. inr is) (b.left r h);
@@ -50,7 +56,10 @@ module _ {D : Type 0} (reads : D → Texts) (holds : D → Files) (leaves : D �
     before = λ t left le since. ⊎_elim (λ was. inl (a.before t left le was)) (λ is. inr is) (b.before t left (omega (arith, le, a.later)) since);
   }
 
-  pub replaces_then : (old mid new : D) (name : FileName) (text : List ℕ) → Replaces reads leaves moment left_since old mid name text → Stays reads holds leaves moment left_since mid new name → Replaces reads leaves moment left_since old new name text
+  -- a name that may get this text, and then stays
+  pub replaces_then : (old mid new : D) (name : FileName) (text : List ℕ) →
+      Replaces reads leaves moment left_since old mid name text → Stays reads holds leaves moment left_since mid new name →
+      Replaces reads leaves moment left_since old new name text
   replaces_then old mid new name text a b = record {
     now = λ r h. a.now r (b.possible.now r h);
     left = λ r h. a.left r (b.possible.left r h);
@@ -59,6 +68,7 @@ module _ {D : Type 0} (reads : D → Texts) (holds : D → Files) (leaves : D �
     before = λ t left le since. a.before t left le (b.before t left (omega (arith, le, a.later)) since);
   }
 
+  -- a file that can hold only this text after a crash holds it
   held_is : (old : D) (from : FileName) (text : List ℕ) → Only text (holds old from) → (left : Option (List ℕ)) → IsHeld (holds old from) left → left ≡ Some text
   held_is old from text only None h = absurd h
   held_is old from text only (Some t) h = ap Some (only t h)
@@ -81,7 +91,9 @@ module _ {D : Type 0} (reads : D → Texts) (holds : D → Files) (leaves : D �
         before = λ t left le since. ⊎_elim (λ past. inl past) (λ h. ⊎_elim (λ was. inl (counts old t to left modelled le was)) (λ is. inr is) (now_left left h)) (time.adds t to left le since);
       }
 
-  settled_is : (mid : D) (to : FileName) (text : List ℕ) → Only (Some text) (reads mid to) → Only text (holds mid to) → (left : Option (List ℕ)) → IsSettled (reads mid to) (holds mid to) left → left ≡ Some text
+  -- a name that has only this text leaves only this text, once the folder is synced
+  settled_is : (mid : D) (to : FileName) (text : List ℕ) → Only (Some text) (reads mid to) → Only text (holds mid to) →
+      (left : Option (List ℕ)) → IsSettled (reads mid to) (holds mid to) left → left ≡ Some text
   settled_is mid to text now held None h = now None h
   settled_is mid to text now held (Some t) h = ap Some (held t h)
 
@@ -97,5 +109,6 @@ module _ {D : Type 0} (reads : D → Texts) (holds : D → Files) (leaves : D �
     left = λ left h. settled_is mid to text (λ r is. written.now r (moved r is)) (λ t is. written.held t (held t is)) left (settled to left h);
   }
 
+-- a collection and its draft have different names
 pub kept_is_no_draft : (rules : Ruleset) → Kept rules ≢ Draft rules
 kept_is_no_draft rules is = cc

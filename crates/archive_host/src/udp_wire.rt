@@ -185,12 +185,13 @@ impl<R: Net + Clock + RandomSource + AllocGlobal + Copy> UdpWire<R> {
         self.time
     }
 
-    // Looks for arrivals, for at most `millis` milliseconds.
-    fn look(&mut self, millis: Option<u64>)
+    // Looks for arrivals, for at most `millis` milliseconds. Returns whether the look was made.
+    fn look(&mut self, millis: Option<u64>) -> bool
         ensures failures { self.new.failures ≡ self.old.failures }
     {
-        if let Some(watch) = &mut self.watch {
-            watch.look(&mut self.ports, millis);
+        match &mut self.watch {
+            Some(watch) => watch.look(&mut self.ports, millis),
+            None => true,
         }
     }
 
@@ -250,12 +251,14 @@ impl<R: Net + Clock + RandomSource + AllocGlobal + Copy> UdpWire<R> {
         ensures failures { self.new.failures ≡ self.old.failures }
     {
         let millis = self.millis_left(until);
-        self.look(millis);
+        let is_made = self.look(millis);
         self.lap = (self.lap + 1) % LAPS;
         self.began = None;
         if self.lap == 0 || self.ports.ready_least().is_none() {
             self.ports.mark_read();
-            self.began = Some(self.now());
+            if is_made {
+                self.began = Some(self.now());
+            }
         }
     }
 

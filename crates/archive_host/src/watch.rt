@@ -41,11 +41,12 @@ impl Watch {
     }
 
     /// Waits until a datagram arrives at a port or `millis` milliseconds have passed, without limit if that is `None`,
-    /// and marks the ports with arrivals. If the system fails, no port is marked.
-    pub(crate) fn look(&mut self, ports: &mut OpenPorts, millis: Option<u64>) {
+    /// and marks the ports with arrivals. If the system fails, no port is marked. Returns whether the look was made: one
+    /// that a signal interrupts, as when a process that was stopped goes on, was not.
+    pub(crate) fn look(&mut self, ports: &mut OpenPorts, millis: Option<u64>) -> bool {
         let limit = millis.map(Duration::from_millis);
-        if self.poll.poll(&mut self.events, limit).is_err() {
-            return;
+        if let Err(e) = self.poll.poll(&mut self.events, limit) {
+            return e.kind() != ErrorKind::Interrupted;
         }
         for event in self.events.iter() {
             if let Ok(port) = u16::try_from(event.token().0) {
@@ -54,5 +55,6 @@ impl Watch {
                 }
             }
         }
+        true
     }
 }

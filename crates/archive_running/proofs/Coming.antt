@@ -1,4 +1,4 @@
--- An archive and its world after each deed.
+-- What a DATA of a put does to its receiver: it holds more of the file, or all of it, or waits as before.
 use Rattle.std.proofs.Common.{◌≡◌, ◌≢◌, ◌⊎◌, ℕ, zero, suc, Bool, true, false, ◌==◌, ◌&&◌, List, [], ◌∷◌, ◌++◌, length, slice_get, Option, None, Some, is_some, refl, ap, sym, ◌∙◌, subst, inl, inr, true≢false}
 use Rattle.std.specs.Str.{bytes_eq}
 use Rattle.std.specs.Map.{lookup}
@@ -11,13 +11,13 @@ use Rattle.archive_table.specs.Table.{Table, Maps, Grant, Taken, TableAnswer, Me
 use Rattle.archive_table.specs.Keeper.{Keeping}
 use Rattle.archive_client.specs.Client.{Operation, Client, client_datagram, client_timeout, is_too_long}
 use Rattle.archive_client.specs.Client as client
-use Rattle.archive_world.specs.World.{Datagram, World, server_endpoint, has_begun, asked_of, taken_with, after_request, after_transfer, after_client, client_receives, client_waits, begins, restarts, strays_in, AllMayHappen, MayDeliver, IsFree}
-use Rattle.archive_world.specs.Traces.{Member, server_waits_long, client_waits_long, starts, loads, is_same_datagram, position_after, position_of, named_in, server_comes, comes, after_deed, delivery, steps_with, member_steps, trace_from, DeedMerged}
-use Rattle.archive_world.proofs.Places.{Has, at-last}
-use Rattle.archive_world.proofs.Endpoints.{same_endpoint}
-use Rattle.archive_world.proofs.Remaining.{timeout_leaves, decoded_leaves}
-use Rattle.archive_world.proofs.Totality.{not_more, one_last}
-use Rattle.archive_world.proofs.Tracing.{found_at, strays_fits}
+use Rattle.archive_theorem.specs.World.{Datagram, World, server_endpoint, has_begun, asked_of, taken_with, after_request, after_transfer, after_client, client_receives, client_waits, begins, restarts, strays_in, AllMayHappen, MayDeliver, IsFree}
+use Rattle.archive_theorem.specs.Traces.{Member, server_waits_long, client_waits_long, starts, loads, is_same_datagram, position_after, position_of, named_in, server_comes, comes, after_deed, delivery, steps_with, member_steps, trace_from, DeedMerged}
+use Rattle.archive_theorem.proofs.Places.{Has, at-last}
+use Rattle.archive_theorem.proofs.Endpoints.{same_endpoint}
+use Rattle.archive_theorem.proofs.Remaining.{timeout_leaves, decoded_leaves}
+use Rattle.archive_theorem.proofs.Totality.{not_more, one_last}
+use Rattle.archive_theorem.proofs.Tracing.{found_at, strays_fits}
 use Rattle.archive_running.specs.Members.{arrival, grant_for, reception, does}
 use Rattle.archive_running.specs.Archive.{Archive, IsStrangers, after_restart}
 use Rattle.archive_running.proofs.Fitting.{AllFit}
@@ -38,6 +38,7 @@ same_datagram d =
     ∙ ap (λ (b : Bool). b && bytes_eq d.bytes d.bytes) (same_endpoint d.target)
     ∙ (bytes_eq-Decides d.bytes d.bytes).1 refl
 
+-- a datagram that was sent is found among those that were
 placed : (d : Datagram) (net : List Datagram) (i : ℕ) → slice_get net i ≡ Some d → is_some (position_of d net) ≡ true
 placed d [] i e = absurd cc
 placed d (x ∷ net) zero e =
@@ -50,17 +51,22 @@ placed d (x ∷ net) (suc i) e = by (is_same_datagram x d) (position_of d net) (
     by false (Some n) h = refl
     by false None h = h
 
+-- the datagram was sent before, or is a stranger's
 abbrev pub IsBrought : Datagram → Archive → Type 0
 IsBrought d a = Has a.net d ⊎ IsStrangers d a
 
 module _ (a : Archive) (w : World) (h : Shows a w) where
+  -- a datagram that the network brings, and that nobody has sent, is a stranger's
   strangers : (d : Datagram) → position_of d w.net ≡ None → IsBrought d a → IsStrangers d a
   strangers d none (inl old) =
       let has = h.net d old in
       absurd (true≢false (sym (placed d w.net has.position has.is) ∙ ap is_some none))
   strangers d none (inr stranger) = stranger
 
-  may_handle : (d : Datagram) (spare : ℕ) (grant : Grant) (maps : Maps) → IsBrought d a → (d.target ≡ record { host = server_endpoint.host; port = w.server.request } → IsFree spare w) → (position : Option ℕ) → position_of d w.net ≡ position → AllMayHappen (steps_with grant maps (delivery position d spare w.net)) w
+  -- what the network brings may be delivered, or enter the network and then be delivered
+  may_handle : (d : Datagram) (spare : ℕ) (grant : Grant) (maps : Maps) → IsBrought d a →
+      (d.target ≡ record { host = server_endpoint.host; port = w.server.request } → IsFree spare w) → (position : Option ℕ) →
+      position_of d w.net ≡ position → AllMayHappen (steps_with grant maps (delivery position d spare w.net)) w
   may_handle d spare grant maps brought free (Some n) is =
       (record { datagram = d; is = found_at d w.net n is; spare_is = free }, tt)
   may_handle d spare grant maps brought free None is =
@@ -76,24 +82,30 @@ module _ (a : Archive) (w : World) (h : Shows a w) where
 
   -- ---- the server
 
+  -- a stranger's datagram that enters the network changes no file
   named_taken : (position : Option ℕ) (d : Datagram) → (named_in position d w).taken ≡ w.taken
   named_taken (Some n) d = refl
   named_taken None d = refl
 
-  merged_by : (took : Option Taken) (ts : List Taken) (old new : Maps) → Merges took old new → (t : Taken) → taken_with took ts ≡ ts ++ t ∷ [] → IsMerged t.file old new
+  -- the file that a step takes is the one that it merges
+  merged_by : (took : Option Taken) (ts : List Taken) (old new : Maps) → Merges took old new → (t : Taken) →
+      taken_with took ts ≡ ts ++ t ∷ [] → IsMerged t.file old new
   merged_by None ts old new merges t e = not_more ts t e
   merged_by (Some u) ts old new merges t e =
       let same : u ≡ t = one_last ts u t e in
       subst (λ (x : Taken). IsMerged x.file old new) same merges
 
   -- for a world that equals the one after the deed
-  deed_merged : (m : Member) (v : World) → after_deed m.deed m.grant m.maps w ≡ v → (took : Option Taken) → v.taken ≡ taken_with took w.taken → Merges took a.server.maps v.server.maps → DeedMerged m w
+  deed_merged : (m : Member) (v : World) → after_deed m.deed m.grant m.maps w ≡ v → (took : Option Taken) →
+      v.taken ≡ taken_with took w.taken → Merges took a.server.maps v.server.maps → DeedMerged m w
   deed_merged m v is took taken merges t e =
       let made = merged_by took w.taken a.server.maps v.server.maps merges t (sym taken ∙ ap (λ (x : World). x.taken) (sym is) ∙ e) in
       let later = subst (λ (x : World). IsMerged t.file a.server.maps x.server.maps) (sym is) made in
       subst (λ (s : Table). IsMerged t.file s.maps (after_deed m.deed m.grant m.maps w).server.maps) (sym h.server) later
 
-  one_made : (b : Archive) (m : Member) (v : World) → after_deed m.deed m.grant m.maps w ≡ v → AllMayHappen (member_steps m w) w → DeedMerged m w → Shows b v → Makes b (m ∷ []) w
+  -- one deed that may happen, after which the world has what this archive has
+  one_made : (b : Archive) (m : Member) (v : World) → after_deed m.deed m.grant m.maps w ≡ v → AllMayHappen (member_steps m w) w →
+      DeedMerged m w → Shows b v → Makes b (m ∷ []) w
   one_made b m v is may merged shows =
       record { fit = (record { may = may; merged = merged }, tt); shows = subst (Shows b) (sym is) shows }
 
@@ -101,23 +113,31 @@ module _ (a : Archive) (w : World) (h : Shows a w) where
   memory_is granted = refl
   memory_is refused = refl
 
-  module _ (spare : ℕ) (from : Endpoint) (bytes : List ℕ) (verdict : Verdict) (other : spare ≢ a.server.request) (free : transfer_at spare a.server ≡ None) where
+  module _ (spare : ℕ) (from : Endpoint) (bytes : List ℕ) (verdict : Verdict) (other : spare ≢ a.server.request)
+      (free : transfer_at spare a.server ≡ None) where
+    -- the datagram
     abbrev request_d : Datagram
     request_d = arrival server_endpoint.host a.server.request from bytes
 
+    -- the world once the datagram is in the network
     abbrev request_v : World
     request_v = named_in (position_of request_d w.net) request_d w
 
+    -- the server's step
     abbrev request_x : TableAnswer
     request_x = table_request verdict spare from bytes a.server
 
-    request_is : (v : World) → v.server ≡ a.server → server_comes (a.server.request == v.server.request) spare (grant_for verdict) empty_maps request_d v ≡ after_request from spare (asked_of bytes) request_x v
+    -- its delivery is that step, in any world with this server
+    request_is : (v : World) → v.server ≡ a.server →
+        server_comes (a.server.request == v.server.request) spare (grant_for verdict) empty_maps request_d v ≡ after_request from spare
+        (asked_of bytes) request_x v
     request_is v same =
         ap (λ (s : Table). server_comes (a.server.request == s.request) spare (grant_for verdict) empty_maps request_d v) same
         ∙ ap (λ (b : Bool). server_comes b spare (grant_for verdict) empty_maps request_d v) (eq-eqb a.server.request a.server.request refl)
         ∙ ap (λ (s : Table). after_request from spare (asked_of bytes) (table_request (memory_verdict (grant_for verdict)) spare from bytes s) v) same
         ∙ ap (λ (m : Verdict). after_request from spare (asked_of bytes) (table_request m spare from bytes a.server) v) (memory_is verdict)
 
+    -- the spare port is free in the world too
     is_free : IsFree spare w
     is_free =
         record {
@@ -125,7 +145,10 @@ module _ (a : Archive) (w : World) (h : Shows a w) where
           free = ap (λ (s : Table). transfer_at spare s) h.server ∙ free;
         }
 
-    pub request-makes : IsBrought request_d a → Makes (with_answer request_x.server request_x.step.taken (outs server_endpoint.host request_x.step.out) a) (reception request_d spare (grant_for verdict) empty_maps ∷ []) w
+    -- a request that the network brings
+    pub request-makes : IsBrought request_d a →
+        Makes (with_answer request_x.server request_x.step.taken (outs server_endpoint.host request_x.step.out) a)
+        (reception request_d spare (grant_for verdict) empty_maps ∷ []) w
     request-makes brought =
         let position = position_of request_d w.net in
         let m = reception request_d spare (grant_for verdict) empty_maps in
@@ -139,28 +162,36 @@ module _ (a : Archive) (w : World) (h : Shows a w) where
         (subst (λ (o : Option Taken). Shows (with_answer request_x.server o (outs server_endpoint.host request_x.step.out) a) after) (sym leaves.0) shows)
 
   module _ (port : ℕ) (from : Endpoint) (bytes : List ℕ) (grant : Grant) (maps : Maps) (other : port ≢ a.server.request) where
+    -- the datagram
     abbrev transfer_d : Datagram
     transfer_d = arrival server_endpoint.host port from bytes
 
+    -- the world once the datagram is in the network
     abbrev transfer_v : World
     transfer_v = named_in (position_of transfer_d w.net) transfer_d w
 
+    -- the server's step
     abbrev transfer_x : TableAnswer
     transfer_x = table_datagram grant maps port from bytes a.server
 
+    -- its delivery is that step, in any world with this server
     transfer_is : (v : World) → v.server ≡ a.server → server_comes (port == v.server.request) 0 grant maps transfer_d v ≡ after_transfer transfer_x v
     transfer_is v same =
         ap (λ (s : Table). server_comes (port == s.request) 0 grant maps transfer_d v) same
         ∙ ap (λ (b : Bool). server_comes b 0 grant maps transfer_d v) (ne_eqb port a.server.request other)
         ∙ ap (λ (s : Table). after_transfer (table_datagram grant maps port from bytes s) v) same
 
+    -- it does not arrive at the request port
     not_request : transfer_d.target ≡ record { host = server_endpoint.host; port = w.server.request } → ⊥
     not_request to = other (ap (λ (e : Endpoint). e.port) to ∙ ap (λ (s : Table). s.request) h.server)
 
+    -- the files taken are those before and what the step takes
     taken_more : (position : Option ℕ) → taken_with transfer_x.step.taken (named_in position transfer_d w).taken ≡ taken_with transfer_x.step.taken w.taken
     taken_more position = ap (taken_with transfer_x.step.taken) (named_taken position transfer_d)
 
-    pub transfer-makes : IsBrought transfer_d a → Merges transfer_x.step.taken a.server.maps transfer_x.server.maps → Makes (with_answer transfer_x.server transfer_x.step.taken (outs server_endpoint.host transfer_x.step.out) a) (reception transfer_d 0 grant maps ∷ []) w
+    -- a datagram at a transfer's port that the network brings
+    pub transfer-makes : IsBrought transfer_d a → Merges transfer_x.step.taken a.server.maps transfer_x.server.maps →
+        Makes (with_answer transfer_x.server transfer_x.step.taken (outs server_endpoint.host transfer_x.step.out) a) (reception transfer_d 0 grant maps ∷ []) w
     transfer-makes brought merges =
         let position = position_of transfer_d w.net in
         let m = reception transfer_d 0 grant maps in
@@ -171,6 +202,7 @@ module _ (a : Archive) (w : World) (h : Shows a w) where
         (deed_merged m after is transfer_x.step.taken (taken_more position) merges)
         (shows-served a transfer_v shown transfer_x (datagram-apart port a.server h.apart grant maps from bytes) transfer_x.step.taken _)
 
+  -- a time-out of a port of the server
   pub timeout-makes : (port : ℕ) →
       let x = table_timeout port a.server in
       Makes (with_answer x.server None (outs server_endpoint.host x.step.out) a) (does (server_waits_long port) ∷ []) w
@@ -185,6 +217,7 @@ module _ (a : Archive) (w : World) (h : Shows a w) where
       (deed_merged m after is None (ap (λ (o : Option Taken). taken_with o w.taken) leaves.0) leaves.1)
       (subst (λ (o : Option Taken). Shows (with_answer x.server o (outs server_endpoint.host x.step.out) a) after) leaves.0 shows)
 
+  -- a restart with the same collections
   pub restart-makes : (kept : Option (List Keeping)) → Makes (after_restart a.server.maps kept a) (does loads ∷ []) w
   restart-makes kept =
       one_made _ (does loads) (restarts w) refl (tt, tt)
@@ -192,7 +225,9 @@ module _ (a : Archive) (w : World) (h : Shows a w) where
 
   -- ---- a client
 
-  pub begin-makes : (e : Endpoint) (operation : Operation) → e.host ≢ server_endpoint.host → is_too_long operation ≡ false → Makes (with_begun a w h e operation) (does (starts e operation) ∷ []) w
+  -- an operation begins
+  pub begin-makes : (e : Endpoint) (operation : Operation) → e.host ≢ server_endpoint.host → is_too_long operation ≡ false →
+      Makes (with_begun a w h e operation) (does (starts e operation) ∷ []) w
   begin-makes e operation away short =
       let m = does (starts e operation) in
       one_made _ m (begins e operation w) refl ((away, short), tt)
@@ -201,25 +236,33 @@ module _ (a : Archive) (w : World) (h : Shows a w) where
 
   module _ (e : Endpoint) (c : Client) (away : e.host ≢ server_endpoint.host) (is : lookup (is_same e) a.clients ≡ Some c) where
     module _ (from : Endpoint) (bytes : List ℕ) (verdict : Verdict) where
+      -- the datagram
       abbrev client_d : Datagram
       client_d = arrival e.host e.port from bytes
 
+      -- the world once the datagram is in the network
       abbrev client_v : World
       client_v = named_in (position_of client_d w.net) client_d w
 
+      -- the client's step
       abbrev client_x : client.ClientAnswer
       client_x = client_datagram verdict from bytes c
 
-      client_is : (v : World) → v.clients ≡ a.clients → comes (e.host == server_endpoint.host) 0 (grant_for verdict) empty_maps client_d v ≡ after_client e c client_x v
+      -- its delivery is that step, in any world with these clients
+      client_is : (v : World) → v.clients ≡ a.clients →
+          comes (e.host == server_endpoint.host) 0 (grant_for verdict) empty_maps client_d v ≡ after_client e c client_x v
       client_is v same =
           ap (λ (b : Bool). comes b 0 (grant_for verdict) empty_maps client_d v) (ne_eqb e.host server_endpoint.host away)
           ∙ ap (λ (o : Option Client). client_receives o (grant_for verdict) client_d v) (ap (lookup (is_same e)) same ∙ is)
           ∙ ap (λ (m : Verdict). after_client e c (client_datagram m from bytes c) v) (memory_is verdict)
 
+      -- it does not arrive at the server's request port
       not_server : client_d.target ≡ record { host = server_endpoint.host; port = w.server.request } → ⊥
       not_server to = away (ap (λ (f : Endpoint). f.host) to)
 
-      pub client-makes : IsBrought client_d a → Makes (with_client e client_x.client (outs e.host client_x.out) a) (reception client_d 0 (grant_for verdict) empty_maps ∷ []) w
+      -- a datagram for a client that the network brings
+      pub client-makes : IsBrought client_d a →
+          Makes (with_client e client_x.client (outs e.host client_x.out) a) (reception client_d 0 (grant_for verdict) empty_maps ∷ []) w
       client-makes brought =
           let position = position_of client_d w.net in
           let m = reception client_d 0 (grant_for verdict) empty_maps in

@@ -7,3 +7,5 @@ pub mod Serving
 pub mod Restarting
 pub mod Running
 pub mod Sampling
+pub mod Calling
+pub mod RoundSampling

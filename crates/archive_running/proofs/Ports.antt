@@ -26,10 +26,13 @@ use Rattle.tws_best.specs.Best.{Collected}
 use Rattle.archive_table.specs.Table.{Table, Maps, Transfer, End, sending, receiving, Grant, all, no_memory, unkept, memory_verdict, map_of, has_slot, at_port, with_live, opens_if, read_fits, read_with_slot, read_named, read_asked, write_with_slot, write_asked, request_by_packet, request_decoded, table_request, transfer_input, transfer_at, first_live, port_above, file_come, file_asked, block_answered, data_at, sending_goes_on, ack_at, transfer_by_input, datagram_at, table_datagram, receiving_goes_on, waits_at, timeout_at, table_timeout, has_long_text}
 use Rattle.tws_file.specs.Names.{ruleset_named}
 
+-- no transfer is at the request port
 abbrev pub IsApart : Table → Type 0
 IsApart s = All (λ p. p ≢ s.request) (keys_of s.live)
 
-first_kept : (P : ℕ → Type 0) (test : ℕ × Transfer → Bool) (es : List (ℕ × Transfer)) → All P (keys_of es) → (port : ℕ) → first_live (filter test es) ≡ Some port → P port
+-- a property that holds at each live port holds at the first one that passes a test
+first_kept : (P : ℕ → Type 0) (test : ℕ × Transfer → Bool) (es : List (ℕ × Transfer)) → All P (keys_of es) → (port : ℕ) →
+    first_live (filter test es) ≡ Some port → P port
 first_kept P test [] fits port e = absurd cc
 first_kept P test (x ∷ es) fits port e = by (test x) (first_kept P test es (All-tail P _ _ fits) port) e
   where
@@ -37,20 +40,24 @@ first_kept P test (x ∷ es) fits port e = by (test x) (first_kept P test es (Al
     by true later found = let same : x.0 ≡ port = cc in subst P same (All-head P _ _ fits)
     by false later found = later found
 
+-- so the next live port above another is not the request port
 pub above-apart : (last : ℕ) (s : Table) → IsApart s → (port : ℕ) → port_above last s ≡ Some port → port ≢ s.request
 above-apart last s apart port e =
     first_kept (λ p. p ≢ s.request) (λ e. range_contains nat_cmp (Excluded last) Unbounded e.0) s.live apart port e
 
 -- ---- the transfers after a step
 
+-- writing a transfer
 set_apart : (port : ℕ) (t : Transfer) (s : Table) → IsApart s → IsApart (with_live (set_value (at_port port) s.live t) s)
 set_apart port t s apart =
     subst (λ ps. All (λ p. p ≢ s.request) ps) (sym (keys-set_value (at_port port) s.live t)) apart
 
+-- removing one
 remove_apart : (port : ℕ) (s : Table) → IsApart s → IsApart (with_live (remove_entry (at_port port) s.live) s)
 remove_apart port s apart =
     All-map-remove_entry (at_port port) (λ (e : ℕ × Transfer). e.0) (λ p. p ≢ s.request) s.live apart
 
+-- opening one at another port than the request port
 insert_apart : (port : ℕ) (t : Transfer) (s : Table) → IsApart s → port ≢ s.request → IsApart (with_live (insert_entry nat_cmp s.live port t) s)
 insert_apart port t s apart other = All-keys-insert_entry nat_cmp port t (λ p. p ≢ s.request) s.live apart other
 
@@ -96,6 +103,7 @@ module _ (spare : ℕ) (from : Endpoint) (s : Table) (apart : IsApart s) (other 
   decoded_apart verdict (Ok packet) = packet_apart verdict packet
   decoded_apart verdict (Err e) = apart
 
+  -- after any request no transfer is at the request port
   pub request-apart : (verdict : Verdict) (bytes : List ℕ) → IsApart (table_request verdict spare from bytes s).server
   request-apart verdict bytes = decoded_apart verdict (decode_bytes bytes)
 
@@ -118,16 +126,19 @@ module _ (port : ℕ) (s : Table) (apart : IsApart s) where
     waits_apart (sending e) = sender_apart (sender_timeout e).sender.state (sender_timeout e)
     waits_apart (receiving r) = receiver_apart (receiver_timeout r).receiver.state (receiver_timeout r)
 
-    come_apart : (grant : Grant) (maps : Maps) (file : List ℕ) (r : Receiver) (out : Option (List ℕ)) → IsApart (file_come grant maps port peer file r out s).server
+    come_apart : (grant : Grant) (maps : Maps) (file : List ℕ) (r : Receiver) (out : Option (List ℕ)) →
+        IsApart (file_come grant maps port peer file r out s).server
     come_apart all maps file r out = set_apart port _ s apart
     come_apart no_memory maps file r out = remove_apart port s apart
     come_apart unkept maps file r out = remove_apart port s apart
 
-    file_apart : (file : Option (List ℕ)) (grant : Grant) (maps : Maps) (r : Receiver) (out : Option (List ℕ)) → IsApart (file_asked file grant maps port peer r out s).server
+    file_apart : (file : Option (List ℕ)) (grant : Grant) (maps : Maps) (r : Receiver) (out : Option (List ℕ)) →
+        IsApart (file_asked file grant maps port peer r out s).server
     file_apart (Some file) grant maps r out = come_apart grant maps file r out
     file_apart None grant maps r out = set_apart port _ s apart
 
-    block_apart : (result : Result (Option (List ℕ)) RecvFault) (grant : Grant) (maps : Maps) (r : Receiver) → IsApart (block_answered result grant maps port peer r s).server
+    block_apart : (result : Result (Option (List ℕ)) RecvFault) (grant : Grant) (maps : Maps) (r : Receiver) →
+        IsApart (block_answered result grant maps port peer r s).server
     block_apart (Ok out) grant maps r = file_apart (receiver_take r).file grant maps (receiver_take r).receiver out
     block_apart (Err e) grant maps r = remove_apart port s apart
 
@@ -148,10 +159,12 @@ module _ (port : ℕ) (s : Table) (apart : IsApart s) where
   received_apart (acked n) grant maps from t = ack_apart t.peer t.end n
   received_apart (block n body) grant maps from t = data_apart t.peer t.end grant maps n body
 
-  found_apart : (found : Option Transfer) (grant : Grant) (maps : Maps) (from : Endpoint) (bytes : List ℕ) → IsApart (datagram_at found grant maps port from bytes s).server
+  found_apart : (found : Option Transfer) (grant : Grant) (maps : Maps) (from : Endpoint) (bytes : List ℕ) →
+      IsApart (datagram_at found grant maps port from bytes s).server
   found_apart (Some t) grant maps from bytes = received_apart (transfer_input t.peer from bytes) grant maps from t
   found_apart None grant maps from bytes = apart
 
+  -- after a datagram at a port
   pub datagram-apart : (grant : Grant) (maps : Maps) (from : Endpoint) (bytes : List ℕ) → IsApart (table_datagram grant maps port from bytes s).server
   datagram-apart grant maps from bytes = found_apart (transfer_at port s) grant maps from bytes
 
@@ -159,5 +172,6 @@ module _ (port : ℕ) (s : Table) (apart : IsApart s) where
   at_apart (Some t) = waits_apart t.peer t.end
   at_apart None = apart
 
+  -- after a time-out at a port
   pub timeout-apart : IsApart (table_timeout port s).server
   timeout-apart = at_apart (transfer_at port s)

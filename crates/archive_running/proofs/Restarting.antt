@@ -1,5 +1,5 @@
 -- After each move of the server the keeper has what the server has, so a restart loads the current collections.
-use Rattle.std.proofs.Common.{◌≡◌, ◌⊎◌, ℕ, Bool, true, false, ◌==◌, List, [], ◌∷◌, fold, Option, None, Some, refl, ap, sym, ◌∙◌, subst, inl, inr, ⊎_elim}
+use Rattle.std.proofs.Common.{◌≡◌, ◌⊎◌, ℕ, Bool, true, false, List, [], ◌∷◌, fold, Option, None, Some, refl, ap, sym, ◌∙◌, subst, inl, inr, ⊎_elim}
 use Rattle.tftp_packet.specs.declared.endpoint.Endpoint.{Endpoint}
 use Rattle.tftp_packet.specs.Decode.{decode_bytes}
 use Rattle.tftp_ends.specs.Ends.{Verdict}
@@ -14,9 +14,9 @@ use Rattle.archive_turns.specs.declared.mode.Mode.{Mode}
 use Rattle.archive_turns.specs.declared.next.Next.{Next}
 use Rattle.archive_turns.specs.declared.next.Next.TheVariants as next
 use Rattle.archive_turns.specs.declared.timer.Timer.{Timer}
-use Rattle.archive_world.specs.Restarts.{HasKept, IsTextAt, HaveOwnRuleset}
-use Rattle.archive_world.proofs.Loading.{step-stays_kept, loads-the_same}
-use Rattle.archive_world.proofs.Remaining.{decoded_leaves, timeout_leaves, found_takes}
+use Rattle.archive_theorem.specs.Restarts.{HasKept, IsTextAt, HaveOwnRuleset}
+use Rattle.archive_theorem.proofs.Loading.{step-stays_kept, loads-the_same}
+use Rattle.archive_theorem.proofs.Remaining.{decoded_leaves, timeout_leaves, found_takes}
 use Rattle.archive_running.specs.Archive.{LoadsKept}
 
 -- if the keeper has a log
@@ -26,10 +26,12 @@ KeptIn (Some log) maps = HasKept log maps
 
 -- ---- a keeper without a log before has none afterwards
 
+-- a keeper without a log has none after a step that keeps a collection
 one_unreported : (old new : Collected) (now : List Keeping) → KeepsOne old new None (Some now) → ⊥
 one_unreported old new now (inl same) = same.1
 one_unreported old new now (inr other) = other.1
 
+-- nor after one that keeps either collection
 maps_unreported : (old new : Maps) (now : List Keeping) → KeepsMaps old new None (Some now) → ⊥
 maps_unreported old new now (inl lynx) = one_unreported old.lynx new.lynx now lynx.1
 maps_unreported old new now (inr ms) = one_unreported old.ms new.ms now ms.1
@@ -38,10 +40,12 @@ neither : ⊥ ⊎ ⊥ → ⊥
 neither (inl first) = first
 neither (inr second) = second
 
+-- a keeper without a log has none after a keep that failed
 fails_unreported : (old new : Maps) (now : List Keeping) → FailsKeepOf old new None (Some now) → ⊥
 fails_unreported old new now (inl lynx) = neither lynx.2
 fails_unreported old new now (inr ms) = neither ms.2
 
+-- so a keeper without a log has none after any step
 step_unreported : (grant : Grant) (wanted : Option Taken) (old new : Maps) (now : List Keeping) → StepKeeps grant wanted old new None (Some now) → ⊥
 step_unreported all wanted old new now keeps = maps_unreported old new now keeps
 step_unreported no_memory wanted old new now keeps = keeps
@@ -54,7 +58,9 @@ abbrev pub IsFine : Option Asks → (old new : Maps) → Type 0
 IsFine (Some a) old new = (a.grant ≡ all) ⊎ (new ≡ old)
 IsFine None old new = new ≡ old
 
-pub asked-kept : (asks : Option Asks) (old new : Maps) (kept now : Option (List Keeping)) → KeepsAsked asks old new kept now → IsFine asks old new → HaveOwnRuleset new → KeptIn kept old → KeptIn now new
+-- after such a step the keeper has what the server has
+pub asked-kept : (asks : Option Asks) (old new : Maps) (kept now : Option (List Keeping)) → KeepsAsked asks old new kept now →
+    IsFine asks old new → HaveOwnRuleset new → KeptIn kept old → KeptIn now new
 asked-kept None old new kept now keeps same rules has =
     subst (λ (o : Option (List Keeping)). KeptIn o new) (sym keeps) (subst (KeptIn kept) (sym same) has)
 asked-kept (Some a) old new kept None keeps fine rules has = tt
@@ -66,35 +72,45 @@ asked-kept (Some a) old new None (Some after) keeps fine rules has =
 -- ---- a visit
 
 module _ (s : Table) where
-  datagram_fine : (grant : Grant) (maps : Maps) (port : ℕ) (from : Endpoint) (bytes : List ℕ) → (grant ≡ all) ⊎ ((table_datagram grant maps port from bytes s).server.maps ≡ s.maps)
+  -- a datagram at a port: everything was granted, or the collections stay
+  datagram_fine : (grant : Grant) (maps : Maps) (port : ℕ) (from : Endpoint) (bytes : List ℕ) →
+      (grant ≡ all) ⊎ ((table_datagram grant maps port from bytes s).server.maps ≡ s.maps)
   datagram_fine grant maps port from bytes =
       ⊎_elim
       (λ leaves. inr (ap (λ (a : TableAnswer). a.server.maps) (leaves.2 maps) ∙ leaves.1.1))
       (λ takes. inl takes.2)
       (found_takes (transfer_at port s) grant port from bytes s)
 
-  received_fine : (receipt : Receipt) (answers : Answers) (port : ℕ) → IsFine (received_asks receipt answers.grant port s) s.maps (transfer_received receipt answers port s).server.maps
+  -- the same for a visit to a transfer's port
+  received_fine : (receipt : Receipt) (answers : Answers) (port : ℕ) →
+      IsFine (received_asks receipt answers.grant port s) s.maps (transfer_received receipt answers port s).server.maps
   received_fine (datagram from bytes) answers port = datagram_fine answers.grant answers.maps port from bytes
   received_fine nothing answers port = refl
   received_fine fault answers port = refl
 
-  used_maps : (usable : Bool) (spare : ℕ) (verdict : Verdict) (replies : Replies) (from : Endpoint) (bytes : List ℕ) → (request_used usable spare verdict replies from bytes s).server.maps ≡ s.maps
+  -- a request changes no collection
+  used_maps : (usable : Bool) (spare : ℕ) (verdict : Verdict) (replies : Replies) (from : Endpoint) (bytes : List ℕ) →
+      (request_used usable spare verdict replies from bytes s).server.maps ≡ s.maps
   used_maps true spare verdict replies from bytes = (decoded_leaves verdict spare from (decode_bytes bytes) s).1
   used_maps false spare verdict replies from bytes = refl
 
-  spared_maps : (spare : Option ℕ) (verdict : Verdict) (replies : Replies) (from : Endpoint) (bytes : List ℕ) → (request_spared spare verdict replies from bytes s).server.maps ≡ s.maps
+  spared_maps : (spare : Option ℕ) (verdict : Verdict) (replies : Replies) (from : Endpoint) (bytes : List ℕ) →
+      (request_spared spare verdict replies from bytes s).server.maps ≡ s.maps
   spared_maps (Some spare) verdict replies from bytes = used_maps (is_usable spare s) spare verdict replies from bytes
   spared_maps None verdict replies from bytes = refl
 
-  admitted_maps : (admitted : Bool) (answers : Answers) (from : Endpoint) (bytes : List ℕ) → (request_admitted admitted answers from bytes s).server.maps ≡ s.maps
+  admitted_maps : (admitted : Bool) (answers : Answers) (from : Endpoint) (bytes : List ℕ) →
+      (request_admitted admitted answers from bytes s).server.maps ≡ s.maps
   admitted_maps true answers from bytes = spared_maps answers.spare answers.verdict answers.replies from bytes
   admitted_maps false answers from bytes = refl
 
+  -- a visit to the request port changes no collection
   request_maps : (receipt : Receipt) (answers : Answers) → (request_received receipt answers s).server.maps ≡ s.maps
   request_maps (datagram from bytes) answers = admitted_maps answers.admitted answers from bytes
   request_maps nothing answers = refl
   request_maps fault answers = refl
 
+  -- any visit
   visit_fine : (n : Next) (answers : Answers) → IsFine (next_asks n answers s) s.maps (next_visit n answers s).server.maps
   visit_fine next.Request answers = request_maps answers.receipt answers
   visit_fine (next.Transfer port) answers = received_fine answers.receipt answers port
@@ -102,6 +118,7 @@ module _ (s : Table) where
 
 -- ---- time-outs
 
+-- no time-out changes a collection
 walk_maps : (late : List (ℕ × Replies)) (due : ℕ) (k : Walk) → (fold (walk_on due) k late).server.maps ≡ k.server.maps
 walk_maps [] due k = refl
 walk_maps (e ∷ late) due k =
@@ -110,16 +127,20 @@ walk_maps (e ∷ late) due k =
 -- ---- a turn or a round
 
 -- by what the visit and the time-outs do to the collections
-ends_kept : (asks : Option Asks) (old mid new : Maps) (kept now : Option (List Keeping)) → KeepsAsked asks old mid kept now → IsFine asks old mid → new ≡ mid → HaveOwnRuleset new → KeptIn kept old → KeptIn now new
+ends_kept : (asks : Option Asks) (old mid new : Maps) (kept now : Option (List Keeping)) → KeepsAsked asks old mid kept now →
+    IsFine asks old mid → new ≡ mid → HaveOwnRuleset new → KeptIn kept old → KeptIn now new
 ends_kept asks old mid new kept now keeps fine is rules has =
     subst (KeptIn now) (sym is) (asked-kept asks old mid kept now keeps fine (subst HaveOwnRuleset is rules) has)
 
-pub pass-kept : (mode : Mode) (n : Next) (old new : Table) (timers left : List Timer) (took : Bool) (calls : List Entry) (kept now : Option (List Keeping)) → IsPass mode n old new timers left took calls kept now → HaveOwnRuleset new.maps → KeptIn kept old.maps → KeptIn now new.maps
+-- after a turn or a round the keeper has what the server has
+pub pass-kept : (mode : Mode) (n : Next) (old new : Table) (timers left : List Timer) (took : Bool) (calls : List Entry) (kept now : Option (List Keeping)) →
+    IsPass mode n old new timers left took calls kept now → HaveOwnRuleset new.maps → KeptIn kept old.maps → KeptIn now new.maps
 pass-kept mode n old new timers left took calls kept now p rules has =
     let v = next_visit n p.answers old in
     ends_kept (next_asks n p.answers old) old.maps v.server.maps new.maps kept now p.keeps
     (visit_fine old n p.answers)
-    (ap (λ (s : Table). s.maps) p.table ∙ walk_maps p.late (restart mode) (record { server = v.server; timers = timers_after mode v.change timers; calls = [] }))
+    (ap (λ (s : Table). s.maps) p.table ∙ walk_maps p.late (restart mode)
+    (record { server = v.server; timers = timers_after mode v.change timers; calls = [] }))
     rules has
 
 -- ---- a restart
@@ -131,7 +152,8 @@ both_are a b lynx ms =
     whole
 
 -- what is loaded is what the server had, and the keeper has it
-pub restart-same : (before now : Option (List Keeping)) (old new : Maps) → LoadsKept before now old new → KeptIn before old → IsCollected old.lynx → IsCollected old.ms → (new ≡ old) × KeptIn now old
+pub restart-same : (before now : Option (List Keeping)) (old new : Maps) → LoadsKept before now old new → KeptIn before old →
+    IsCollected old.lynx → IsCollected old.ms → (new ≡ old) × KeptIn now old
 restart-same None now old new loads has lynx ms =
     (loads.1, subst (λ (o : Option (List Keeping)). KeptIn o old) (sym loads.0) tt)
 restart-same (Some log) None old new loads has lynx ms = absurd loads

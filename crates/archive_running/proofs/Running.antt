@@ -15,17 +15,19 @@ use Rattle.archive_turns.specs.declared.limits.TheConstants.{QUIET_TURNS}
 use Rattle.archive_turns.specs.Wire.{Entry}
 use Rattle.archive_turns.specs.Turn.{Replies, Receipt, datagram, nothing, fault}
 use Rattle.archive_turns.specs.Run.{Run, IsRunTurn, run_received, run_waited, begin_sized, begin_opened, put_result, WritesFetched, WritesGot}
-use Rattle.archive_world.specs.World.{Datagram, World, server_endpoint, start_from, start, run_from, AllMayHappen, AllMerged}
-use Rattle.archive_world.specs.Headline.{IsOwn, AreOver, HasOwnPorts, ClientsHeadline, Headline, SentOnce, IsFinishedGet}
-use Rattle.archive_world.specs.Traces.{Member, starts, loads, trace_from, trace_steps, AllDeedsMerged}
-use Rattle.archive_world.specs.Restarts.{HaveOwnRuleset}
-use Rattle.archive_world.proofs.Places.{Has-contains, Has-from_contains}
-use Rattle.archive_world.proofs.Invariant.{AreBest, none-over, start_from-best}
-use Rattle.archive_world.proofs.Collecting.{best-collected, run_from-best}
-use Rattle.archive_world.proofs.Persisting.{own-ruleset}
-use Rattle.archive_world.proofs.Tracing.{trace-makes, trace_merged, trace-clients, trace-headline}
-use Rattle.archive_running.specs.Members.{sent_in_calls, come_to, does, received_members, quiet_members, client_members}
-use Rattle.archive_running.specs.Archive.{Archive, idle, IsStrangers, Brings, own_endpoint, after_begin, after_client_turn, after_restart, LoadsKept, Moves, server_turns, server_rounds, server_restarts, client_begins, client_turns, Reaches, reported, unreported, more, Mirrors, WritesFinished}
+use Rattle.archive_turns.specs.declared.pace.Pace.{Pace}
+use Rattle.archive_turns.specs.Rounds.{RoundAnswers, round_received, round_goes, run_round, is_late, is_ready, IsRunRound}
+use Rattle.archive_theorem.specs.World.{Datagram, World, server_endpoint, start_from, start, run_from, AllMayHappen, AllMerged}
+use Rattle.archive_theorem.specs.Headline.{IsOwn, AreOver, HasOwnPorts, ClientsHeadline, Headline, SentOnce, IsFinishedGet}
+use Rattle.archive_theorem.specs.Traces.{Member, starts, loads, trace_from, trace_steps, AllDeedsMerged}
+use Rattle.archive_theorem.specs.Restarts.{HaveOwnRuleset}
+use Rattle.archive_theorem.proofs.Places.{Has-contains, Has-from_contains}
+use Rattle.archive_theorem.proofs.Invariant.{AreBest, none-over, start_from-best}
+use Rattle.archive_theorem.proofs.Collecting.{best-collected, run_from-best}
+use Rattle.archive_theorem.proofs.Persisting.{own-ruleset}
+use Rattle.archive_theorem.proofs.Tracing.{trace-makes, trace_merged, trace-clients, trace-headline}
+use Rattle.archive_running.specs.Members.{sent_in_calls, come_to, does, received_members, quiet_members, client_members, arrived_members, goes_members, round_members}
+use Rattle.archive_running.specs.Archive.{Archive, idle, IsStrangers, Brings, own_endpoint, after_begin, after_client_turn, after_restart, LoadsKept, Moves, server_turns, server_rounds, server_restarts, client_begins, client_turns, client_rounds, Reaches, reported, unreported, more, Mirrors, WritesFinished}
 use Rattle.archive_running.proofs.Fitting.{all-may, all-merged}
 use Rattle.archive_running.proofs.Showing.{Shows, with_client, shows-mirrors}
 use Rattle.archive_running.proofs.Coming.{Makes, IsBrought, begin-makes, client-makes, waits-makes, restart-makes}
@@ -34,13 +36,17 @@ use Rattle.archive_running.proofs.Serving.{Brought, makes-then, sent-sendings, t
 
 -- ---- a turn of a client
 
+-- a turn in which the client does nothing
 shows-idle : (a : Archive) (w : World) (e : Endpoint) (c : Client) → lookup (is_same e) a.clients ≡ Some c → Shows a w → Shows (with_client e c [] a) w
 shows-idle a w e c is h =
-    let make : List (Endpoint × Client) → List Datagram → Archive = λ cs l. record { server = a.server; clients = cs; begun = a.begun; taken = a.taken; net = l; kept = a.kept } in
+    let make : List (Endpoint × Client) → List Datagram → Archive =
+    λ cs l. record { server = a.server; clients = cs; begun = a.begun; taken = a.taken; net = l; kept = a.kept } in
     let net = subst (λ (l : List Datagram). Shows (make a.clients l) w) (sym (append-nil a.net)) h in
     subst (λ (cs : List (Endpoint × Client)). Shows (make cs (a.net ++ [])) w) (sym (set_value_same (is_same e) a.clients c is)) net
 
-module _ (a : Archive) (w : World) (h : Shows a w) (host : ℕ) (r : Run) (away : host ≢ server_endpoint.host) (is : lookup (is_same (own_endpoint host r)) a.clients ≡ Some r.client) where
+module _ (a : Archive) (w : World) (h : Shows a w) (host : ℕ) (r : Run) (away : host ≢ server_endpoint.host)
+    (is : lookup (is_same (own_endpoint host r)) a.clients ≡ Some r.client) where
+  -- a quiet turn is a time-out of the world, or nothing
   waited_made : (last : Bool) (ok : Bool) →
       let ran = run_waited last r ok in
       Makes (with_client (own_endpoint host r) ran.run.client (sent_in_calls host ran.calls) a) (quiet_members last host r) w
@@ -50,9 +56,11 @@ module _ (a : Archive) (w : World) (h : Shows a w) (host : ℕ) (r : Run) (away 
       (waits-makes a w h (own_endpoint host r) r.client away is)
   waited_made false ok = record { fit = tt; shows = shows-idle a w (own_endpoint host r) r.client is h }
 
+  -- by what is received: the turn is a delivery, a time-out or nothing
   received_made : (receipt : Receipt) (verdict : Verdict) (ok : Bool) →
       let ran = run_received receipt verdict ok r in
-      Brought host ran.calls a → Makes (with_client (own_endpoint host r) ran.run.client (sent_in_calls host ran.calls) a) (received_members receipt verdict host r) w
+      Brought host ran.calls a → Makes (with_client (own_endpoint host r) ran.run.client (sent_in_calls host ran.calls) a)
+      (received_members receipt verdict host r) w
   received_made (datagram from bytes) verdict ok brought =
       let x = client_datagram verdict from bytes r.client in
       subst (λ (l : List Datagram). Makes (with_client (own_endpoint host r) x.client l a) (received_members (datagram from bytes) verdict host r) w)
@@ -61,18 +69,67 @@ module _ (a : Archive) (w : World) (h : Shows a w) (host : ℕ) (r : Run) (away 
   received_made nothing verdict ok brought = waited_made (nat_le r.left 1) ok
   received_made fault verdict ok brought = waited_made (nat_le r.left 1) ok
 
-  run_made : (new : Run) (calls : List Entry) (t : IsRunTurn r new calls) → Brought host calls a → Makes (after_client_turn host r new calls a) (client_members t.answers host r) w
+  -- so any turn of the client makes its members
+  run_made : (new : Run) (calls : List Entry) (t : IsRunTurn r new calls) → Brought host calls a →
+      Makes (after_client_turn host r new calls a) (client_members t.answers host r) w
   run_made new calls t brought =
       let ran = run_received t.answers.receipt t.answers.verdict t.answers.sent r in
       let made = received_made t.answers.receipt t.answers.verdict t.answers.sent (subst (λ (l : List Entry). Brought host l a) t.calls_are brought) in
       let members = client_members t.answers host r in
-      let sent = subst (λ (l : List Entry). Makes (with_client (own_endpoint host r) ran.run.client (sent_in_calls host l) a) members w) (sym t.calls_are) made in
+      let sent =
+      subst (λ (l : List Entry). Makes (with_client (own_endpoint host r) ran.run.client (sent_in_calls host l) a) members w) (sym t.calls_are) made in
+      subst (λ (x : Run). Makes (with_client (own_endpoint host r) x.client (sent_in_calls host calls) a) members w) (sym t.run) sent
+
+-- ---- a round of a client
+
+module _ (a : Archive) (w : World) (h : Shows a w) (host : ℕ) (r : Run) (away : host ≢ server_endpoint.host)
+    (is : lookup (is_same (own_endpoint host r)) a.clients ≡ Some r.client) (pace : Pace) where
+  -- what a client does with what it receives in a round makes its members
+  arrived_made : (receipt : Receipt) (verdict : Verdict) (time : ℕ) (ok : Bool) →
+      let ran = round_received receipt pace time verdict ok r in
+      Brought host ran.calls a → Makes (with_client (own_endpoint host r) ran.run.client (sent_in_calls host ran.calls) a)
+      (arrived_members receipt verdict host r) w
+  arrived_made (datagram from bytes) verdict time ok brought =
+      let x = client_datagram verdict from bytes r.client in
+      subst (λ (l : List Datagram). Makes (with_client (own_endpoint host r) x.client l a) (arrived_members (datagram from bytes) verdict host r) w)
+      (sym (sent-sendings host x.out ok))
+      (client-makes a w h (own_endpoint host r) r.client away is from bytes verdict (brought _ (record { position = 0; is = refl })))
+  arrived_made nothing verdict time ok brought = record { fit = tt; shows = shows-idle a w (own_endpoint host r) r.client is h }
+  arrived_made fault verdict time ok brought = record { fit = tt; shows = shows-idle a w (own_endpoint host r) r.client is h }
+
+  -- and so does a time-out of a round, or nothing
+  goes_made : (late here : Bool) (x : RoundAnswers) →
+      let ran = round_goes late here pace x r in
+      Brought host ran.calls a → Makes (with_client (own_endpoint host r) ran.run.client (sent_in_calls host ran.calls) a)
+      (goes_members late here x host r) w
+  goes_made true here x brought =
+      subst (λ (l : List Datagram). Makes (with_client (own_endpoint host r) (client_timeout r.client).client l a) (goes_members true here x host r) w)
+      (sym (sent-sendings host (client_timeout r.client).out x.sent))
+      (waits-makes a w h (own_endpoint host r) r.client away is)
+  goes_made false true x brought = arrived_made x.receipt x.verdict x.time x.sent brought
+  goes_made false false x brought = record { fit = tt; shows = shows-idle a w (own_endpoint host r) r.client is h }
+
+  -- so any round of the client makes its members
+  round_made : (new : Run) (calls : List Entry) (t : IsRunRound pace r new calls) → Brought host calls a →
+      Makes (after_client_turn host r new calls a) (round_members pace t.answers host r) w
+  round_made new calls t brought =
+      let ran = run_round pace t.answers r in
+      let made =
+      goes_made (is_late pace r t.answers) (is_ready r.port t.answers.ready) t.answers
+      (subst (λ (l : List Entry). Brought host l a) t.calls_are brought) in
+      let members = round_members pace t.answers host r in
+      let sent =
+      subst (λ (l : List Entry). Makes (with_client (own_endpoint host r) ran.run.client (sent_in_calls host l) a) members w) (sym t.calls_are) made in
       subst (λ (x : Run). Makes (with_client (own_endpoint host r) x.client (sent_in_calls host calls) a) members w) (sym t.run) sent
 
 -- ---- a begin
 
 module _ (a : Archive) (w : World) (h : Shows a w) (host : ℕ) (operation : Operation) (replies : Replies) (r : Run) (away : host ≢ server_endpoint.host) where
-  sized_made : (long : Bool) (port : ℕ) → is_too_long operation ≡ long → (begin_sized long server_endpoint operation port replies).result ≡ Ok r → Makes (after_begin host operation r (begin_sized long server_endpoint operation port replies).calls a) (does (starts (own_endpoint host r) operation) ∷ []) w
+  -- with a port that was opened, whether or not the file is too long
+  sized_made : (long : Bool) (port : ℕ) → is_too_long operation ≡ long →
+      (begin_sized long server_endpoint operation port replies).result ≡ Ok r →
+      Makes (after_begin host operation r (begin_sized long server_endpoint operation port replies).calls a)
+      (does (starts (own_endpoint host r) operation) ∷ []) w
   sized_made true port is e = absurd cc
   sized_made false port is e =
       let begun = begin_sized false server_endpoint operation port replies in
@@ -81,12 +138,15 @@ module _ (a : Archive) (w : World) (h : Shows a w) (host : ℕ) (operation : Ope
       subst (λ (x : Run). Makes (after_begin host operation x begun.calls a) (does (starts (own_endpoint host x) operation) ∷ []) w) same
       (begin-makes a w h (record { host = host; port = port }) operation away is)
 
-  begin_made : (port : Option ℕ) → (begin_opened port server_endpoint operation replies).result ≡ Ok r → Makes (after_begin host operation r (begin_opened port server_endpoint operation replies).calls a) (does (starts (own_endpoint host r) operation) ∷ []) w
+  -- any begin that succeeds
+  begin_made : (port : Option ℕ) → (begin_opened port server_endpoint operation replies).result ≡ Ok r →
+      Makes (after_begin host operation r (begin_opened port server_endpoint operation replies).calls a) (does (starts (own_endpoint host r) operation) ∷ []) w
   begin_made (Some port) e = sized_made (is_too_long operation) port refl e
   begin_made None e = absurd cc
 
 -- ---- a run
 
+-- what the network brings, by places among the datagrams sent
 by_places : (host : ℕ) (calls : List Entry) (a : Archive) → Brings host calls a → Brought host calls a
 by_places host calls a brings d has = by (brings d (Has-contains (come_to host calls) d has))
   where
@@ -104,6 +164,7 @@ put_sent (state.Failed why) len n e = absurd cc
 -- ---- from a server with these collections
 
 module _ (texts : List (List ℕ)) (maps : Maps) (over : AreOver texts maps) where
+  -- the world at first
   abbrev first : World
   first = start_from texts maps
 
@@ -112,10 +173,12 @@ module _ (texts : List (List ℕ)) (maps : Maps) (over : AreOver texts maps) whe
     makes : Makes a members first
     kept : KeptIn a.kept a.server.maps
 
+  -- each file that the steps of the trace take makes the collections after it
   steps_merged : (a : Archive) (members : List Member) → Makes a members first → AllMerged (trace_steps members first) first
   steps_merged a members makes =
       trace_merged members first (all-may members first makes.fit) (all-merged members first makes.fit)
 
+  -- so the server's collections are the best over the files taken
   are_best : (a : Archive) (members : List Member) → Makes a members first → AreBest (trace_from members first).taken a.server.maps
   are_best a members makes =
       let steps = trace_steps members first in
@@ -124,31 +187,40 @@ module _ (texts : List (List ℕ)) (maps : Maps) (over : AreOver texts maps) whe
       let traced = subst (λ (w : World). AreBest w.taken w.server.maps) made best in
       subst (λ (s : Table). AreBest (trace_from members first).taken s.maps) makes.shows.server traced
 
+  -- each is of its own ruleset
   rules_of : (a : Archive) (members : List Member) → Makes a members first → HaveOwnRuleset a.server.maps
   rules_of a members makes = own-ruleset (trace_from members first).taken a.server.maps (are_best a members makes)
 
   -- a move of the server
-  served : (a b : Archive) (members added : List Member) → Made a members → Makes b added (trace_from members first) → (HaveOwnRuleset b.server.maps → KeptIn b.kept b.server.maps) → Made b (members ++ added)
+  served : (a b : Archive) (members added : List Member) → Made a members → Makes b added (trace_from members first) →
+      (HaveOwnRuleset b.server.maps → KeptIn b.kept b.server.maps) → Made b (members ++ added)
   served a b members added before makes kept =
       let whole = makes-then b members added a first before.makes makes in
       record { makes = whole; kept = kept (rules_of b (members ++ added) whole) }
 
   -- a move of a client
-  asked : (a b : Archive) (members added : List Member) → Made a members → b.server ≡ a.server → b.kept ≡ a.kept → Makes b added (trace_from members first) → Made b (members ++ added)
+  asked : (a b : Archive) (members added : List Member) → Made a members → b.server ≡ a.server → b.kept ≡ a.kept →
+      Makes b added (trace_from members first) → Made b (members ++ added)
   asked a b members added before server kept makes =
       record {
         makes = makes-then b members added a first before.makes makes;
         kept = subst (λ (o : Option (List Keeping)). KeptIn o b.server.maps) (sym kept) (subst (λ (s : Table). KeptIn a.kept s.maps) (sym server) before.kept);
       }
 
-  restarted : (a : Archive) (members : List Member) (maps : Maps) (now : Option (List Keeping)) → LoadsKept a.kept now a.server.maps maps → Made a members → Made (after_restart maps now a) (members ++ does loads ∷ [])
+  -- a restart, which loads what the keeper has
+  restarted : (a : Archive) (members : List Member) (maps : Maps) (now : Option (List Keeping)) → LoadsKept a.kept now a.server.maps maps →
+      Made a members → Made (after_restart maps now a) (members ++ does loads ∷ [])
   restarted a members maps now has before =
       let best = are_best a members before.makes in
-      let same = restart-same a.kept now a.server.maps maps has before.kept (best-collected Lynx _ a.server.maps.lynx best.lynx) (best-collected Ms _ a.server.maps.ms best.ms) in
+      let same =
+      restart-same a.kept now a.server.maps maps has before.kept (best-collected Lynx _ a.server.maps.lynx best.lynx)
+      (best-collected Ms _ a.server.maps.ms best.ms) in
       let makes = restart-makes a (trace_from members first) before.makes.shows now in
-      let whole : Made (after_restart a.server.maps now a) (members ++ does loads ∷ []) = record { makes = makes-then _ members _ a first before.makes makes; kept = same.1 } in
+      let whole : Made (after_restart a.server.maps now a) (members ++ does loads ∷ []) =
+      record { makes = makes-then _ members _ a first before.makes makes; kept = same.1 } in
       subst (λ (m : Maps). Made (after_restart m now a) (members ++ does loads ∷ [])) (sym same.0) whole
 
+  -- any move
   moved : {a b : Archive} {members added : List Member} → Made a members → Moves a b added → Made b (members ++ added)
   moved {members} before (server_turns a last timers per_host new took calls now t brings) =
       served a _ members _ before
@@ -165,7 +237,11 @@ module _ (texts : List (List ℕ)) (maps : Maps) (over : AreOver texts maps) whe
   moved {members} before (client_turns a host old new calls t away is brings) =
       asked a _ members _ before refl refl
       (run_made a (trace_from members first) before.makes.shows host old away is new calls t (by_places host calls a brings))
+  moved {members} before (client_rounds a host pace old new calls t away is brings) =
+      asked a _ members _ before refl refl
+      (round_made a (trace_from members first) before.makes.shows host old away is pace new calls t (by_places host calls a brings))
 
+  -- before the first move
   idle_made : (kept : Option (List Keeping)) → KeptIn kept maps → Made (idle texts maps kept) []
   idle_made kept has =
       record {
@@ -187,6 +263,7 @@ module _ (texts : List (List ℕ)) (maps : Maps) (over : AreOver texts maps) whe
         kept = has;
       }
 
+  -- so for each run of the archive
   reached : {a : Archive} {members : List Member} → Reaches texts maps a members → Made a members
   reached (reported log has) = idle_made (Some log) has
   reached unreported = idle_made None tt
@@ -195,31 +272,43 @@ module _ (texts : List (List ℕ)) (maps : Maps) (over : AreOver texts maps) whe
   -- ---- what is promised
 
   module _ (a : Archive) (members : List Member) (reaches : Reaches texts maps a members) where
+    -- the world of its trace has what it has
     pub run-mirrors : Mirrors a (trace_from members first)
     run-mirrors = shows-mirrors a (trace_from members first) (reached reaches).makes.shows
 
+    -- each event of the world's run may happen
     pub run-happens : AllMayHappen (trace_steps members first) first
     run-happens = all-may members first (reached reaches).makes.fit
 
+    -- each file that the world's run takes makes the collections after it
     pub run-merged : AllMerged (trace_steps members first) first
     run-merged = steps_merged a members (reached reaches).makes
 
+    -- the same by deeds
     run-fits : AllDeedsMerged members first
     run-fits = all-merged members first (reached reaches).makes.fit
 
+    -- the headline holds for each client whose ports are its own
     pub run-clients : ClientsHeadline (trace_from members first)
     run-clients = trace-clients texts maps over members run-happens run-fits
 
     module _ (e : Endpoint) (own : IsOwn (trace_from members first) e) (c : Client) where
-      pub run-sent : (len n : ℕ) → lookup (is_same e) a.clients ≡ Some c → put_result (state_of c) len ≡ Ok n → SentOnce (trace_from members first).begun (trace_from members first).taken e
+      -- if its put returned Ok, its file was taken exactly once
+      pub run-sent : (len n : ℕ) → lookup (is_same e) a.clients ≡ Some c → put_result (state_of c) len ≡ Ok n →
+          SentOnce (trace_from members first).begun (trace_from members first).taken e
       run-sent len n is ok =
           let among = run-mirrors.sent e c is (put_sent (state_of c) len n ok) in
           (run-clients.client e (run-clients.sent e among) own).sent among
 
-      finished_get : (file : List ℕ) → Contains (trace_from members first).got (record { client = e; file = file }) → IsFinishedGet (trace_from members first).begun (trace_from members first).taken (trace_from members first).opened (record { client = e; file = file })
+      -- what it has fetched is the collection at one of its own requests
+      finished_get : (file : List ℕ) → Contains (trace_from members first).got (record { client = e; file = file }) →
+          IsFinishedGet (trace_from members first).begun (trace_from members first).taken (trace_from members first).opened (record { client = e; file = file })
       finished_get file among = (run-clients.client e (run-clients.got _ among) own).got _ among refl
 
-      written_finished : (file : Result (List ℕ) Client) → file_or_client c ≡ file → (len : ℕ) (written now : Option (List ℕ)) → lookup (is_same e) a.clients ≡ Some c → WritesFetched file (Ok len) written now → WritesFinished e c len (trace_from members first) written now
+      -- what a get writes that returns Ok is that file
+      written_finished : (file : Result (List ℕ) Client) → file_or_client c ≡ file → (len : ℕ) (written now : Option (List ℕ)) →
+          lookup (is_same e) a.clients ≡ Some c → WritesFetched file (Ok len) written now →
+          WritesFinished e c len (trace_from members first) written now
       written_finished (Ok file) given len written now is writes =
           record {
             file = file;
@@ -230,10 +319,13 @@ module _ (texts : List (List ℕ)) (maps : Maps) (over : AreOver texts maps) whe
           }
       written_finished (Err k) given len written now is writes = absurd writes
 
-      pub run-fetched : (len : ℕ) (written now : Option (List ℕ)) → lookup (is_same e) a.clients ≡ Some c → WritesGot c (Ok len) written now → WritesFinished e c len (trace_from members first) written now
+      -- if its get returned Ok, what it wrote is the whole of such a file
+      pub run-fetched : (len : ℕ) (written now : Option (List ℕ)) → lookup (is_same e) a.clients ≡ Some c →
+          WritesGot c (Ok len) written now → WritesFinished e c len (trace_from members first) written now
       run-fetched len written now is writes = written_finished (file_or_client c) refl len written now is writes.writes
 
 -- a server that has nothing at first
-pub run-headline : (a : Archive) (members : List Member) → Reaches [] empty_maps a members → HasOwnPorts (trace_from members start) → Headline (trace_from members start)
+pub run-headline : (a : Archive) (members : List Member) → Reaches [] empty_maps a members → HasOwnPorts (trace_from members start) →
+    Headline (trace_from members start)
 run-headline a members reaches own =
     trace-headline members (run-happens [] empty_maps none-over a members reaches) own (run-fits [] empty_maps none-over a members reaches)

@@ -13,13 +13,13 @@ use Rattle.archive_table.specs.Table as table
 use Rattle.archive_client.specs.declared.state.State.TheVariants as state
 use Rattle.archive_client.specs.Client.{Operation, Client, request_out, client_start, state_of, phase_file, file_or, file_or_client}
 use Rattle.archive_client.specs.Client as client
-use Rattle.archive_world.specs.World.{Datagram, Begun, Opening, Got, World, server_endpoint, has_begun, datagram_of, net_with, taken_with, sent_with, got_with, newly_sent, newly_got, after_client, begins, restarts}
-use Rattle.archive_world.specs.Traces.{named_in}
-use Rattle.archive_world.proofs.Places.{Has, Has-contains, Has-from_contains, Has-extends, Extends-push, Has-last, Has-push}
-use Rattle.archive_world.proofs.Keyed.{lookup-set}
-use Rattle.archive_world.proofs.Lasting.{either}
-use Rattle.archive_world.proofs.Endpoints.{exact_endpoint}
-use Rattle.archive_world.proofs.ServerMoves.{served}
+use Rattle.archive_theorem.specs.World.{Datagram, Begun, Opening, Got, World, server_endpoint, has_begun, datagram_of, net_with, taken_with, sent_with, got_with, newly_sent, newly_got, after_client, begins, restarts}
+use Rattle.archive_theorem.specs.Traces.{named_in}
+use Rattle.archive_theorem.proofs.Places.{Has, Has-contains, Has-from_contains, Has-extends, Extends-push, Has-last, Has-push}
+use Rattle.archive_theorem.proofs.Keyed.{lookup-set}
+use Rattle.archive_theorem.proofs.Lasting.{either}
+use Rattle.archive_theorem.proofs.Endpoints.{exact_endpoint}
+use Rattle.archive_theorem.proofs.ServerMoves.{served}
 use Rattle.archive_running.specs.Archive.{Archive, Mirrors, after_restart}
 use Rattle.archive_running.proofs.Ports.{IsApart}
 use Rattle.archive_running.proofs.Ended.{Ends}
@@ -34,14 +34,17 @@ pub record Shows (a : Archive) (w : World) : Type 0 where
   pub net : (d : Datagram) → Has a.net d → Has w.net d
   pub others : (d : Datagram) → Has w.net d → Has a.net d ⊎ Has w.strays d
   pub sent : (e : Endpoint) (c : Client) → lookup (is_same e) a.clients ≡ Some c → state_of c ≡ state.Sent → Has w.sent e
-  pub got : (e : Endpoint) (c : Client) (file : List ℕ) → lookup (is_same e) a.clients ≡ Some c → phase_file c.phase ≡ Some file → Has w.got (record { client = e; file = file })
+  pub got : (e : Endpoint) (c : Client) (file : List ℕ) → lookup (is_same e) a.clients ≡ Some c → phase_file c.phase ≡ Some file →
+      Has w.got (record { client = e; file = file })
   pub known : (e : Endpoint) → has_begun e w.begun ≡ is_some (lookup (is_same e) a.clients)
   pub apart : IsApart a.server
 
+-- a file that is handed out is the client's
 given_file : (file : Option (List ℕ)) (c : Client) (f : List ℕ) → file_or file c ≡ Ok f → file ≡ Some f
 given_file None c f e = absurd cc
 given_file (Some g) c f e = cc
 
+-- a world that has what an archive has mirrors it
 pub shows-mirrors : (a : Archive) (w : World) → Shows a w → Mirrors a w
 shows-mirrors a w h =
     record {
@@ -57,11 +60,13 @@ shows-mirrors a w h =
 
 -- ---- a stranger's datagram
 
+-- a datagram of the network with one more stray was sent by the archive or is a stranger's
 strayed : (a : Archive) (w : World) → Shows a w → (d x : Datagram) → Has w.net x ⊎ (x ≡ d) → Has a.net x ⊎ Has (w.strays ++ d ∷ []) x
 strayed a w h d x (inl old) =
     either (λ has. has) (λ has. Has-extends w.strays (w.strays ++ d ∷ []) x (Extends-push w.strays d) has) (h.others x old)
 strayed a w h d x (inr is) = inr (subst (Has (w.strays ++ d ∷ [])) (sym is) (Has-last w.strays d))
 
+-- a stranger's datagram enters the network
 pub shows-named : (position : Option ℕ) (d : Datagram) (a : Archive) (w : World) → Shows a w → Shows a (named_in position d w)
 shows-named (Some n) d a w h = h
 shows-named None d a w h =
@@ -80,25 +85,33 @@ shows-named None d a w h =
 
 -- ---- what a host sends
 
+-- the datagram that a host sends, if it does
 abbrev pub outs : (host : ℕ) → Option Out → List Datagram
 outs host None = []
 outs host (Some out) = datagram_of host out ∷ []
 
+-- what was in the network stays there when one more is sent
 pushed : (old net : List Datagram) (x d : Datagram) → (Has old d → Has net d) → Has old d ⊎ (d ≡ x) → Has (net ++ x ∷ []) d
 pushed old net x d more (inl was) = Has-extends net (net ++ x ∷ []) d (Extends-push net x) (more was)
 pushed old net x d more (inr is) = subst (Has (net ++ x ∷ [])) (sym is) (Has-last net x)
 
-pub has_out : (host : ℕ) (out : Option Out) (old net : List Datagram) → ((d : Datagram) → Has old d → Has net d) → (d : Datagram) → Has (old ++ outs host out) d → Has (net_with host net out) d
+-- what the archive sends is in the world's network
+pub has_out : (host : ℕ) (out : Option Out) (old net : List Datagram) → ((d : Datagram) → Has old d → Has net d) → (d : Datagram) →
+    Has (old ++ outs host out) d → Has (net_with host net out) d
 has_out host None old net more d has = more d (subst (λ l. Has l d) (append-nil old) has)
 has_out host (Some out) old net more d has =
     pushed old net (datagram_of host out) d (more d) (Has-push old (datagram_of host out) d has)
 
-new_or_other : (old net strays : List Datagram) (x d : Datagram) → ((y : Datagram) → Has net y → Has old y ⊎ Has strays y) → Has net d ⊎ (d ≡ x) → Has (old ++ x ∷ []) d ⊎ Has strays d
+-- with one more datagram sent, each is the archive's or a stranger's
+new_or_other : (old net strays : List Datagram) (x d : Datagram) → ((y : Datagram) → Has net y → Has old y ⊎ Has strays y) →
+    Has net d ⊎ (d ≡ x) → Has (old ++ x ∷ []) d ⊎ Has strays d
 new_or_other old net strays x d others (inl was) =
     either (λ has. Has-extends old (old ++ x ∷ []) d (Extends-push old x) has) (λ has. has) (others d was)
 new_or_other old net strays x d others (inr is) = inl (subst (Has (old ++ x ∷ [])) (sym is) (Has-last old x))
 
-other_out : (host : ℕ) (out : Option Out) (old net strays : List Datagram) → ((d : Datagram) → Has net d → Has old d ⊎ Has strays d) → (d : Datagram) → Has (net_with host net out) d → Has (old ++ outs host out) d ⊎ Has strays d
+-- the same where none may be sent
+other_out : (host : ℕ) (out : Option Out) (old net strays : List Datagram) → ((d : Datagram) → Has net d → Has old d ⊎ Has strays d) →
+    (d : Datagram) → Has (net_with host net out) d → Has (old ++ outs host out) d ⊎ Has strays d
 other_out host None old net strays others d has =
     either (λ was. subst (λ l. Has l d) (sym (append-nil old)) was) (λ stray. stray) (others d has)
 other_out host (Some out) old net strays others d has =
@@ -106,6 +119,7 @@ other_out host (Some out) old net strays others d has =
 
 -- ---- the server
 
+-- the archive after a step of its server
 abbrev pub with_answer : Table → Option Taken → List Datagram → Archive → Archive
 with_answer s took sent a =
     record {
@@ -117,7 +131,11 @@ with_answer s took sent a =
       kept = a.kept;
     }
 
-pub shows-served : (a : Archive) (w : World) → Shows a w → (x : table.TableAnswer) → IsApart x.server → (took : Option Taken) (opened : List Opening) → Shows (with_answer x.server took (outs server_endpoint.host x.step.out) a) (served (net_with server_endpoint.host w.net x.step.out) x.server (taken_with took w.taken) opened w)
+-- after a step of the server
+pub shows-served : (a : Archive) (w : World) → Shows a w → (x : table.TableAnswer) → IsApart x.server →
+    (took : Option Taken) (opened : List Opening) →
+    Shows (with_answer x.server took (outs server_endpoint.host x.step.out) a)
+    (served (net_with server_endpoint.host w.net x.step.out) x.server (taken_with took w.taken) opened w)
 shows-served a w h x apart took opened =
     record {
       server = refl;
@@ -132,6 +150,7 @@ shows-served a w h x apart took opened =
       apart = apart;
     }
 
+-- after a restart
 pub shows-restart : (kept : Option (List Keeping)) (a : Archive) (w : World) → Shows a w → Shows (after_restart a.server.maps kept a) (restarts w)
 shows-restart kept a w h =
     let emptied : Table → Table = λ s. record { request = s.request; maps = s.maps; live = [] } in
@@ -150,6 +169,7 @@ shows-restart kept a w h =
 
 -- ---- a client
 
+-- the archive after a step of a client
 abbrev pub with_client : Endpoint → Client → List Datagram → Archive → Archive
 with_client e next sent a =
     record {
@@ -169,7 +189,8 @@ sent_still : (newly : Bool) (e f : Endpoint) (es : List Endpoint) → Has es f �
 sent_still true e f es has = Has-extends es (es ++ e ∷ []) f (Extends-push es e) has
 sent_still false e f es has = has
 
-got_now : (newly : Bool) (e : Endpoint) (file : Option (List ℕ)) (gs : List Got) (f : List ℕ) → newly ≡ true → file ≡ Some f → Has (got_with newly e file gs) (record { client = e; file = f })
+got_now : (newly : Bool) (e : Endpoint) (file : Option (List ℕ)) (gs : List Got) (f : List ℕ) → newly ≡ true → file ≡ Some f →
+    Has (got_with newly e file gs) (record { client = e; file = f })
 got_now true e (Some g) gs f is given =
     let same : g ≡ f = cc in
     subst (λ x. Has (gs ++ record { client = e; file = g } ∷ []) (record { client = e; file = x })) same (Has-last gs _)
@@ -181,39 +202,53 @@ got_still true e (Some f) gs g has = Has-extends gs _ g (Extends-push gs _) has
 got_still true e None gs g has = has
 got_still false e file gs g has = has
 
-module _ (a : Archive) (w : World) (h : Shows a w) (e : Endpoint) (c : Client) (is : lookup (is_same e) a.clients ≡ Some c) (x : client.ClientAnswer) (ends : Ends c x.client) where
+module _ (a : Archive) (w : World) (h : Shows a w) (e : Endpoint) (c : Client) (is : lookup (is_same e) a.clients ≡ Some c)
+    (x : client.ClientAnswer) (ends : Ends c x.client) where
+  -- whether it newly counts its file as sent
   abbrev newly_s : Bool
   newly_s = newly_sent (state_of c) (state_of x.client)
 
+  -- whether it has newly fetched a file
   abbrev newly_g : Bool
   newly_g = newly_got (state_of c) (state_of x.client)
 
+  -- if it counts its file as sent, it is listed
   sent_here : (newly_s ≡ true) ⊎ (state_of c ≡ state.Sent) → Has (sent_with newly_s e w.sent) e
   sent_here (inl now) = sent_now newly_s e w.sent now
   sent_here (inr was) = sent_still newly_s e e w.sent (h.sent e c is was)
 
-  sent_at : (f : Endpoint) (k : Client) → state_of k ≡ state.Sent → ((f ≡ e) × (k ≡ x.client)) ⊎ (lookup (is_same f) a.clients ≡ Some k) → Has (sent_with newly_s e w.sent) f
+  -- so is any client that does
+  sent_at : (f : Endpoint) (k : Client) → state_of k ≡ state.Sent → ((f ≡ e) × (k ≡ x.client)) ⊎ (lookup (is_same f) a.clients ≡ Some k) →
+      Has (sent_with newly_s e w.sent) f
   sent_at f k sent (inl new) =
       subst (Has (sent_with newly_s e w.sent)) (sym new.0) (sent_here (ends.sent (ap state_of (sym new.1) ∙ sent)))
   sent_at f k sent (inr old) = sent_still newly_s e f w.sent (h.sent f k old sent)
 
-  got_here : (file : List ℕ) → phase_file x.client.phase ≡ Some file → (newly_g ≡ true) ⊎ (phase_file c.phase ≡ Some file) → Has (got_with newly_g e (phase_file x.client.phase) w.got) (record { client = e; file = file })
+  -- if it has fetched a file, that is listed
+  got_here : (file : List ℕ) → phase_file x.client.phase ≡ Some file → (newly_g ≡ true) ⊎ (phase_file c.phase ≡ Some file) →
+      Has (got_with newly_g e (phase_file x.client.phase) w.got) (record { client = e; file = file })
   got_here file given (inl now) = got_now newly_g e (phase_file x.client.phase) w.got file now given
   got_here file given (inr was) = got_still newly_g e (phase_file x.client.phase) w.got _ (h.got e c file is was)
 
-  got_at : (f : Endpoint) (k : Client) (file : List ℕ) → phase_file k.phase ≡ Some file → ((f ≡ e) × (k ≡ x.client)) ⊎ (lookup (is_same f) a.clients ≡ Some k) → Has (got_with newly_g e (phase_file x.client.phase) w.got) (record { client = f; file = file })
+  -- so is the file of any client that has
+  got_at : (f : Endpoint) (k : Client) (file : List ℕ) → phase_file k.phase ≡ Some file →
+      ((f ≡ e) × (k ≡ x.client)) ⊎ (lookup (is_same f) a.clients ≡ Some k) →
+      Has (got_with newly_g e (phase_file x.client.phase) w.got) (record { client = f; file = file })
   got_at f k file given (inl new) =
       let now : phase_file x.client.phase ≡ Some file = ap (λ (y : Client). phase_file y.phase) (sym new.1) ∙ given in
-      subst (λ g. Has (got_with newly_g e (phase_file x.client.phase) w.got) (record { client = g; file = file })) (sym new.0) (got_here file now (ends.got file now))
+      subst (λ g. Has (got_with newly_g e (phase_file x.client.phase) w.got) (record { client = g; file = file })) (sym new.0)
+      (got_here file now (ends.got file now))
   got_at f k file given (inr old) =
       got_still newly_g e (phase_file x.client.phase) w.got _ (h.got f k file old given)
 
+  -- the endpoints with a client are the same
   known_still : (f : Endpoint) → is_some (lookup (is_same f) a.clients) ≡ is_some (lookup (is_same f) (set_value (is_same e) a.clients x.client))
   known_still f =
       is_some-lookup (is_same f) a.clients
       ∙ ap (list_any (is_same f)) (sym (keys-set_value (is_same e) a.clients x.client))
       ∙ sym (is_some-lookup (is_same f) (set_value (is_same e) a.clients x.client))
 
+  -- after a step of a client
   pub shows-client : Shows (with_client e x.client (outs e.host x.out) a) (after_client e c x w)
   shows-client =
       record {
@@ -231,6 +266,7 @@ module _ (a : Archive) (w : World) (h : Shows a w) (e : Endpoint) (c : Client) (
 
 -- ---- a begin
 
+-- one more operation has begun
 begun_more : (f : Endpoint) (bs : List Begun) (b : Begun) → has_begun f (bs ++ b ∷ []) ≡ (is_same f b.client || has_begun f bs)
 begun_more f [] b = by (is_same f b.client)
   where
@@ -239,7 +275,8 @@ begun_more f [] b = by (is_same f b.client)
     by false = refl
 begun_more f (x ∷ bs) b = by (is_same f x.client) (is_same f b.client) (begun_more f bs b)
   where
-    by : (first last : Bool) → has_begun f (bs ++ b ∷ []) ≡ (last || has_begun f bs) → cond first true (has_begun f (bs ++ b ∷ [])) ≡ (last || cond first true (has_begun f bs))
+    by : (first last : Bool) → has_begun f (bs ++ b ∷ []) ≡ (last || has_begun f bs) →
+        cond first true (has_begun f (bs ++ b ∷ [])) ≡ (last || cond first true (has_begun f bs))
     by true true later = refl
     by true false later = refl
     by false last later = later
@@ -253,9 +290,11 @@ first_or true c k old e new later = new cc
 first_or false c k old e new later = later e
 
 module _ (a : Archive) (w : World) (h : Shows a w) (e : Endpoint) (operation : Operation) where
+  -- its client
   abbrev pub begun_client : Client
   begun_client = client_start e.port server_endpoint operation
 
+  -- the archive after that
   abbrev pub with_begun : Archive
   with_begun =
       record {
@@ -267,6 +306,7 @@ module _ (a : Archive) (w : World) (h : Shows a w) (e : Endpoint) (operation : O
         kept = a.kept;
       }
 
+  -- after a begin
   pub shows-begin : Shows with_begun (begins e operation w)
   shows-begin =
       record {

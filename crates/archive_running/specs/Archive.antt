@@ -14,11 +14,13 @@ use Rattle.archive_turns.specs.Wire.{Entry}
 use Rattle.archive_turns.specs.declared.timer.Timer.{Timer}
 use Rattle.archive_turns.specs.Turn.{Replies, Server, IsTurn, IsRound, next_visit, turn_next, ready_next}
 use Rattle.archive_turns.specs.Run.{Run, begin_opened, IsRunTurn}
-use Rattle.archive_world.specs.World.{Datagram, Begun, World, server_endpoint, given, taken_with, start}
-use Rattle.archive_world.specs.Headline.{HasOwnPorts, IsFinishedGet}
-use Rattle.archive_world.specs.Restarts.{HasKept, AreAlike}
-use Rattle.archive_world.specs.Traces.{starts, loads, Member, trace_from}
-use Rattle.archive_running.specs.Members.{sent_in_calls, come_to, does, visit_members, late_members, client_members}
+use Rattle.archive_turns.specs.declared.pace.Pace.{Pace}
+use Rattle.archive_turns.specs.Rounds.{IsRunRound}
+use Rattle.archive_theorem.specs.World.{Datagram, Begun, World, server_endpoint, given, taken_with, start}
+use Rattle.archive_theorem.specs.Headline.{HasOwnPorts, IsFinishedGet}
+use Rattle.archive_theorem.specs.Restarts.{HasKept, AreAlike}
+use Rattle.archive_theorem.specs.Traces.{starts, loads, Member, trace_from}
+use Rattle.archive_running.specs.Members.{sent_in_calls, come_to, does, visit_members, late_members, client_members, round_members}
 
 -- ---- what runs
 
@@ -122,7 +124,7 @@ LoadsKept (Some log) (Some reported) old new =
 abbrev pub server_in : (last : ℕ) (timers : List Timer) (per_host : ℕ) → Archive → Server
 server_in last timers per_host a = record { table = a.server; last = last; timers = timers; per_host = per_host }
 
--- One move: a turn of the server or of a client, a begin, or a restart; with its members of the trace. A begin that
+-- One move: a turn or round of the server or of a client, a begin, or a restart; with its members of the trace. A begin that
 -- fails sends nothing and leaves no client, so it is not a move.
 pub data Moves : (old new : Archive) → List Member → Type 0 where
   -- the server makes a turn; the port that it visited last, its timers and its limit may be any
@@ -133,6 +135,8 @@ pub data Moves : (old new : Archive) → List Member → Type 0 where
   -- an operation begins on another host than the server's
   client_begins : (a : Archive) (host : ℕ) (operation : Operation) (port : Option ℕ) (replies : Replies) (r : Run) → host ≢ server_endpoint.host → (begin_opened port server_endpoint operation replies).result ≡ Ok r → Moves a (after_begin host operation r (begin_opened port server_endpoint operation replies).calls a) (does (starts (own_endpoint host r) operation) ∷ [])
   client_turns : (a : Archive) (host : ℕ) (old new : Run) (calls : List Entry) (t : IsRunTurn old new calls) → host ≢ server_endpoint.host → lookup (is_same (own_endpoint host old)) a.clients ≡ Some old.client → Brings host calls a → Moves a (after_client_turn host old new calls a) (client_members t.answers host old)
+  -- a client makes a round, also one that dallies; when it times out is up to its clock
+  client_rounds : (a : Archive) (host : ℕ) (pace : Pace) (old new : Run) (calls : List Entry) (t : IsRunRound pace old new calls) → host ≢ server_endpoint.host → lookup (is_same (own_endpoint host old)) a.clients ≡ Some old.client → Brings host calls a → Moves a (after_client_turn host old new calls a) (round_members pace t.answers host old)
 
 -- From a server with these collections the archive reaches this state by one move after another, and these are their
 -- members. At first a keeper that tells its list has these collections.
@@ -175,3 +179,32 @@ pub record CanReach (P : Client → Type 0) : Type 0 where
   pub client : Client
   pub there : lookup (is_same endpoint) archive.clients ≡ Some client
   pub holds : P client
+
+-- the server makes rounds, and no turns
+abbrev pub IsNoTurn : {old new : Archive} {added : List Member} → Moves old new added → Type 0
+IsNoTurn (server_turns a last timers per_host new took calls now t brings) = ⊥
+IsNoTurn (server_rounds a last timers per_host new took calls now t brings) = Unit {0}
+IsNoTurn (server_restarts a maps now loaded) = Unit {0}
+IsNoTurn (client_begins a host operation port replies r away begun) = Unit {0}
+IsNoTurn (client_turns a host old new calls t away there brings) = Unit {0}
+IsNoTurn (client_rounds a host pace old new calls t away there brings) = Unit {0}
+
+abbrev pub IsByRounds : {texts : List (List ℕ)} {maps : Maps} {a : Archive} {members : List Member} → Reaches texts maps a members → Type 0
+IsByRounds (reported log has) = Unit {0}
+IsByRounds unreported = Unit {0}
+IsByRounds (more before move) = IsByRounds before × IsNoTurn move
+
+-- An archive that has nothing at first and serves in rounds can take a file and restart, and a get then has fetched that
+-- file, without reusing a port.
+pub record CanRestart (file : List ℕ) : Type 0 where
+  pub archive : Archive
+  pub members : List Member
+  pub reaches : Reaches [] empty_maps archive members
+  pub rounds : IsByRounds reaches
+  pub restarts : Contains members (does loads)
+  pub own : HasOwnPorts (trace_from members start)
+  pub putter : Endpoint
+  pub sent : (c : Client) × (lookup (is_same putter) archive.clients ≡ Some c) × (state_of c ≡ state.Sent)
+  pub taken : archive.taken ≡ record { peer = putter; file = file } ∷ []
+  pub getter : Endpoint
+  pub got : (c : Client) × (lookup (is_same getter) archive.clients ≡ Some c) × (file_or_client c ≡ Ok file)

@@ -1,4 +1,4 @@
--- What the turns of archive_turns are in the world of archive_world: a datagram that is received and not dropped is a
+-- What the turns of archive_turns are in the world of archive_theorem: a datagram that is received and not dropped is a
 -- `receives`, and a time-out is a `client_waits_long` or a `server_waits_long`.
 use Rattle.std.specs.Prelude.{ℕ, Bool, true, false, nat_le, List, [], ◌∷◌, map, flat_map, Option, None, Some}
 use Rattle.tftp_packet.specs.declared.endpoint.Endpoint.{Endpoint}
@@ -9,8 +9,10 @@ use Rattle.archive_turns.specs.declared.next.Next.TheVariants as next
 use Rattle.archive_turns.specs.Wire.{Entry, opened, closed, came, quiet, failed, sent, waited}
 use Rattle.archive_turns.specs.Turn.{Replies, Receipt, datagram, nothing, fault, Answers, is_usable}
 use Rattle.archive_turns.specs.Run.{Run, RunAnswers}
-use Rattle.archive_world.specs.World.{Datagram, server_endpoint, datagram_of}
-use Rattle.archive_world.specs.Traces.{Deed, receives, client_waits_long, server_waits_long, Member}
+use Rattle.archive_turns.specs.declared.pace.Pace.{Pace}
+use Rattle.archive_turns.specs.Rounds.{RoundAnswers, is_late, is_ready}
+use Rattle.archive_theorem.specs.World.{Datagram, server_endpoint, datagram_of}
+use Rattle.archive_theorem.specs.Traces.{Deed, receives, client_waits_long, server_waits_long, Member}
 
 -- ---- what calls of a wire on this host send and receive
 
@@ -108,3 +110,20 @@ received_members fault verdict host r = quiet_members (nat_le r.left 1) host r
 
 abbrev pub client_members : RunAnswers → (host : ℕ) → Run → List Member
 client_members a host r = received_members a.receipt a.verdict host r
+
+-- ---- a round of a client
+
+-- what it receives at its port
+abbrev pub arrived_members : Receipt → Verdict → (host : ℕ) → Run → List Member
+arrived_members (datagram from bytes) verdict host r =
+    reception (arrival host r.port from bytes) 0 (grant_for verdict) empty_maps ∷ []
+arrived_members nothing verdict host r = []
+arrived_members fault verdict host r = []
+
+abbrev pub goes_members : (late here : Bool) → RoundAnswers → (host : ℕ) → Run → List Member
+goes_members true here a host r = does (client_waits_long (record { host = host; port = r.port })) ∷ []
+goes_members false true a host r = arrived_members a.receipt a.verdict host r
+goes_members false false a host r = []
+
+abbrev pub round_members : Pace → RoundAnswers → (host : ℕ) → Run → List Member
+round_members pace a host r = goes_members (is_late pace r a) (is_ready r.port a.ready) a host r

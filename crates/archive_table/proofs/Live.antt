@@ -19,6 +19,7 @@ abbrev value_or : {X : Type 0} → X → Option X → X
 value_or v None = v
 value_or v (Some x) = x
 
+-- a port whose value was written is removed: the ports are as if nothing had been written
 pub remove_set : {X : Type 0} (test : ℕ → Bool) (es : List (ℕ × X)) (w : X) → remove_entry test (set_value test es w) ≡ remove_entry test es
 remove_set test [] w = refl
 remove_set {X} test (e ∷ es) w = elim (cases_Bool (test e.0)) [
@@ -26,6 +27,7 @@ remove_set {X} test (e ∷ es) w = elim (cases_Bool (test e.0)) [
   | inr n ↦ ap (remove_entry test) (if_false ((e.0, w) ∷ es) _ n) ∙ if_false _ _ n ∙ ap (λ (l : List (ℕ × X)). e ∷ l) (remove_set test es w) ∙ sym (if_false _ _ n)
 ]
 
+-- writing the value that a port has changes nothing
 pub set_same : {X : Type 0} (test : ℕ → Bool) (es : List (ℕ × X)) (v : X) → lookup test es ≡ Some v → set_value test es v ≡ es
 set_same test [] v h = refl
 set_same {X} test (e ∷ es) v h = elim (cases_Bool (test e.0)) [
@@ -33,6 +35,7 @@ set_same {X} test (e ∷ es) v h = elim (cases_Bool (test e.0)) [
   | inr n ↦ if_false _ _ n ∙ ap (λ (l : List (ℕ × X)). e ∷ l) (set_same test es v (sym (if_false _ _ n) ∙ h))
 ]
 
+-- the step that closes a port among these, with a datagram
 abbrev closed_with : List (ℕ × Transfer) → (port : ℕ) → Endpoint → Option (List ℕ) → Table → TableAnswer
 closed_with live port peer out s =
     record {
@@ -41,10 +44,17 @@ closed_with live port peer out s =
     }
 
 -- a whole file at a port whose receiver was written
-pub done_come : (g : Grant) (maps : Maps) (port : ℕ) (peer : Endpoint) (file : List ℕ) (r : Receiver) (out : Option (List ℕ)) (s : Table) → file_done g maps port peer file out (with_live (set_value (at_port port) s.live (record { peer = peer; end = receiving r })) s) ≡ file_come g maps port peer file r out s
+pub done_come : (g : Grant) (maps : Maps) (port : ℕ) (peer : Endpoint) (file : List ℕ) (r : Receiver) (out : Option (List ℕ))
+    (s : Table) → file_done g maps port peer file out
+    (with_live (set_value (at_port port) s.live
+    (record { peer = peer; end = receiving r })) s) ≡ file_come g maps port peer file r out s
 done_come all maps port peer file r out s = refl
-done_come no_memory maps port peer file r out s = ap (λ (l : List (ℕ × Transfer)). closed_with l port peer (Some (refusal_dgram OutOfMemory)) s) (remove_set (at_port port) s.live (record { peer = peer; end = receiving r }))
-done_come unkept maps port peer file r out s = ap (λ (l : List (ℕ × Transfer)). closed_with l port peer (Some (refusal_dgram NotKept)) s) (remove_set (at_port port) s.live (record { peer = peer; end = receiving r }))
+done_come no_memory maps port peer file r out s =
+    ap (λ (l : List (ℕ × Transfer)). closed_with l port peer (Some (refusal_dgram OutOfMemory)) s)
+    (remove_set (at_port port) s.live (record { peer = peer; end = receiving r }))
+done_come unkept maps port peer file r out s =
+    ap (λ (l : List (ℕ × Transfer)). closed_with l port peer (Some (refusal_dgram NotKept)) s)
+    (remove_set (at_port port) s.live (record { peer = peer; end = receiving r }))
 
 pub some_none : {X Y : Type 0} {x : X} → Some x ≡ None → Y
 some_none e = absurd (true≢false (ap is_some e))

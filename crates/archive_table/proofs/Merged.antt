@@ -21,44 +21,13 @@ use Rattle.std.proofs.lemmas.Bool.{true≢false}
 use Rattle.tftp_ends.specs.declared.recv_fault.RecvFault.{RecvFault}
 use Rattle.tftp_ends.specs.declared.recv_fault.RecvFault.TheVariants as recv
 
+-- the collections of both rulesets
 abbrev pub both : Collected → Collected → Maps
 both lynx ms = record { lynx = lynx; ms = ms }
 
--- the bytes are this file's and no other's
-own_merged : (bytes : List ℕ) (f : File) (old new : Maps) → IsText bytes f → MergesIntoOwn f.«ruleset» f old new → IsMerged bytes old new
-own_merged bytes f old new t own =
-    record {
-      readable = λ file s. subst (λ (f : File). MergesIntoOwn f.«ruleset» f old new) (one_file bytes f file t s) own;
-      unreadable = λ no. absurd (no f t);
-    }
-
-pub lynx_merged : (bytes : List ℕ) (f : File) (lynx new ms : Collected) → IsText bytes f → f.«ruleset» ≡ Lynx → IsFileMerge f lynx new → IsMerged bytes (both lynx ms) (both new ms)
-lynx_merged bytes f lynx new ms t is merged =
-    own_merged bytes f (both lynx ms) (both new ms) t (subst (λ r. MergesIntoOwn r f (both lynx ms) (both new ms)) (sym is) (merged, refl))
-
-pub ms_merged : (bytes : List ℕ) (f : File) (lynx ms new : Collected) → IsText bytes f → f.«ruleset» ≡ Ms → IsFileMerge f ms new → IsMerged bytes (both lynx ms) (both lynx new)
-ms_merged bytes f lynx ms new t is merged =
-    own_merged bytes f (both lynx ms) (both lynx new) t (subst (λ r. MergesIntoOwn r f (both lynx ms) (both lynx new)) (sym is) (merged, refl))
-
--- bytes with a fault change nothing
-pub unread_merged : (bytes : List ℕ) (e : FileFault) (old : Maps) → HasFileFault bytes e → IsMerged bytes old old
-unread_merged bytes e old fault =
-    record {
-      readable = λ file t. absurd (text_without_fault bytes file e t fault);
-      unreadable = λ no. refl;
-    }
-
-module _ (why : Refusal) (bytes : List ℕ) (f : File) (lynx ms : Collected) (t : IsText bytes f) (before after : Option (List Keeping)) where
-  pub lynx_refused : f.«ruleset» ≡ Lynx → RefusesMerge why f lynx before after → RefusesFile why bytes (both lynx ms) before after
-  lynx_refused is (inl h) = inl h
-  lynx_refused is (inr (not, (new, merged, other, fails))) = inr (not, (both new ms, lynx_merged bytes f lynx new ms t is merged, inl (refl, other, fails)))
-
-  pub ms_refused : f.«ruleset» ≡ Ms → RefusesMerge why f ms before after → RefusesFile why bytes (both lynx ms) before after
-  ms_refused is (inl h) = inl h
-  ms_refused is (inr (not, (new, merged, other, fails))) = inr (not, (both lynx new, ms_merged bytes f lynx ms new t is merged, inr (refl, other, fails)))
-
 -- ---- the step
 
+-- the ERROR for a failed keep is read back as that
 pub unkept_grant : dgram_grant (refusal_dgram NotKept) ≡ unkept
 unfolding encode
 unkept_grant = refl
@@ -67,7 +36,10 @@ unkept_grant = refl
 pub other_refusal : (why : Refusal) (grant : Grant) → grant ≡ dgram_grant (refusal_dgram why) → grant ≢ unkept → why ≢ NotKept
 other_refusal why grant is other not = other (is ∙ (ap (λ w. dgram_grant (refusal_dgram w)) not ∙ unkept_grant))
 
-pub refused_keeps : (why : Refusal) (peer : Endpoint) (bytes : List ℕ) (old new : Maps) (before after : Option (List Keeping)) → RefusesFile why bytes old before after → StepKeeps (dgram_grant (refusal_dgram why)) (Some (record { peer = peer; file = bytes })) old new before after
+-- a refused file: what the keeper was given goes with the ERROR that is sent
+pub refused_keeps : (why : Refusal) (peer : Endpoint) (bytes : List ℕ) (old new : Maps) (before after : Option (List Keeping)) →
+    RefusesFile why bytes old before after →
+    StepKeeps (dgram_grant (refusal_dgram why)) (Some (record { peer = peer; file = bytes })) old new before after
 refused_keeps why peer bytes old new before after (inl (is, grows)) =
     subst (λ (g : Grant). StepKeeps g (Some (record { peer = peer; file = bytes })) old new before after) (sym (ap (λ w. dgram_grant (refusal_dgram w)) is ∙ memory_grant)) grows
 refused_keeps why peer bytes old new before after (inr (is, h)) =
@@ -78,6 +50,7 @@ grows_not : (log : Option (List Keeping)) → KeeperGrows log log []
 grows_not None = refl
 grows_not (Some ks) = sym (append-nil ks)
 
+-- a step that changes no collection gives the keeper nothing
 pub keeps_nothing : (grant : Grant) (wanted : Option Taken) (maps : Maps) (log : Option (List Keeping)) → grant ≢ unkept → StepKeeps grant wanted maps maps log log
 keeps_nothing all wanted maps log other = inl (refl, inl (refl, grows_not log))
 keeps_nothing no_memory wanted maps log other = grows_not log
@@ -87,23 +60,29 @@ keeps_nothing unkept wanted maps log other = absurd (other refl)
 
 -- ---- when nothing is to be kept
 
+-- everything was granted
 abbrev is_all : Grant → Bool
 is_all all = true
 is_all no_memory = false
 is_all unkept = false
 
+-- memory was refused
 abbrev is_memory : Grant → Bool
 is_memory all = false
 is_memory no_memory = true
 is_memory unkept = false
 
+-- if everything is granted, no keep has failed
 all_is : all ≢ unkept
 all_is e = true≢false (ap is_all e)
 
-pub keeps_same : (grant : Grant) (wanted : Option Taken) (old new : Maps) (before after : Option (List Keeping)) → grant ≢ unkept → new ≡ old → after ≡ before → StepKeeps grant wanted old new before after
+-- a step that changes neither the collections nor the log, unless a keep failed
+pub keeps_same : (grant : Grant) (wanted : Option Taken) (old new : Maps) (before after : Option (List Keeping)) →
+    grant ≢ unkept → new ≡ old → after ≡ before → StepKeeps grant wanted old new before after
 keeps_same grant wanted old new before after other maps log =
     subst (λ m. StepKeeps grant wanted old m before after) (sym maps) (subst (λ l. StepKeeps grant wanted old old before l) (sym log) (keeps_nothing grant wanted old before other))
 
+-- a step that changes neither the collections nor the log, if everything was granted
 pub keeps_all : (grant : Grant) (wanted : Option Taken) (old new : Maps) (before after : Option (List Keeping)) → grant ≡ all → new ≡ old → after ≡ before → StepKeeps grant wanted old new before after
 keeps_all grant wanted old new before after is = keeps_same grant wanted old new before after (λ e. all_is (sym is ∙ e))
 
@@ -112,6 +91,7 @@ pub fault_grant : (fault : RecvFault) → dgram_grant (refusal_dgram (refusal_of
 fault_grant recv.Memory e = true≢false (ap is_memory (sym memory_grant ∙ e))
 fault_grant recv.TooLong e = all_is (sym past_grant ∙ e)
 
+-- the ERROR for an unknown transfer is no refusal of memory or of a keep
 pub stray_grant : dgram_grant (refusal_dgram UnknownTransfer) ≡ all
 unfolding encode
 stray_grant = refl

@@ -1,4 +1,4 @@
--- No call changes the request port.
+-- No call changes the request port. Each lemma is about one definition that a step goes through.
 use Rattle.std.specs.Prelude.{◌≡◌, ℕ, Bool, true, false, List, Option, None, Some, Result, Ok, Err}
 use Rattle.std.proofs.Common.{refl}
 use Rattle.tftp_packet.specs.declared.endpoint.Endpoint.{Endpoint}
@@ -54,25 +54,31 @@ decoded_same : (v : Verdict) (spare : ℕ) (from : Endpoint) (r : Result Packet 
 decoded_same v spare from (Ok p) s = packet_same v spare from p s
 decoded_same v spare from (Err e) s = refl
 
+-- a request leaves the request port
 pub request_same : (v : Verdict) (spare : ℕ) (from : Endpoint) (bytes : List ℕ) (s : Table) → (table_request v spare from bytes s).server.request ≡ s.request
 request_same v spare from bytes s = decoded_same v spare from (decode_bytes bytes) s
 
-come_same : (grant : Grant) (maps : Maps) (port : ℕ) (peer : Endpoint) (file : List ℕ) (r : Receiver) (out : Option (List ℕ)) (s : Table) → (file_come grant maps port peer file r out s).server.request ≡ s.request
+come_same : (grant : Grant) (maps : Maps) (port : ℕ) (peer : Endpoint) (file : List ℕ) (r : Receiver) (out : Option (List ℕ))
+    (s : Table) → (file_come grant maps port peer file r out s).server.request ≡ s.request
 come_same all maps port peer file r out s = refl
 come_same no_memory maps port peer file r out s = refl
 come_same unkept maps port peer file r out s = refl
 
-asked_same : (file : Option (List ℕ)) (grant : Grant) (maps : Maps) (port : ℕ) (peer : Endpoint) (r : Receiver) (out : Option (List ℕ)) (s : Table) → (file_asked file grant maps port peer r out s).server.request ≡ s.request
+asked_same : (file : Option (List ℕ)) (grant : Grant) (maps : Maps) (port : ℕ) (peer : Endpoint) (r : Receiver)
+    (out : Option (List ℕ)) (s : Table) → (file_asked file grant maps port peer r out s).server.request ≡ s.request
 asked_same (Some file) grant maps port peer r out s = come_same grant maps port peer file r out s
 asked_same None grant maps port peer r out s = refl
 
-block_same : (result : Result (Option (List ℕ)) RecvFault) (grant : Grant) (maps : Maps) (port : ℕ) (peer : Endpoint) (r : Receiver) (s : Table) → (block_answered result grant maps port peer r s).server.request ≡ s.request
+block_same : (result : Result (Option (List ℕ)) RecvFault) (grant : Grant) (maps : Maps) (port : ℕ) (peer : Endpoint)
+    (r : Receiver) (s : Table) → (block_answered result grant maps port peer r s).server.request ≡ s.request
 block_same (Ok out) grant maps port peer r s = asked_same (receiver_take r).file grant maps port peer (receiver_take r).receiver out s
 block_same (Err e) grant maps port peer r s = refl
 
 data_same : (end : End) (grant : Grant) (maps : Maps) (port : ℕ) (peer : Endpoint) (n : ℕ) (body : List ℕ) (s : Table) → (data_at end grant maps port peer n body s).server.request ≡ s.request
 data_same (sending e) grant maps port peer n body s = refl
-data_same (receiving r) grant maps port peer n body s = block_same (answer_of (receiver_data (memory_verdict grant) n body r).result) grant maps port peer (receiver_data (memory_verdict grant) n body r).receiver s
+data_same (receiving r) grant maps port peer n body s =
+    block_same (answer_of (receiver_data (memory_verdict grant) n body r).result) grant maps port peer
+    (receiver_data (memory_verdict grant) n body r).receiver s
 
 sender_same : (state : SendState) (port : ℕ) (peer : Endpoint) (a : SendAnswer) (s : Table) → (sending_goes_on state port peer a s).server.request ≡ s.request
 sender_same send.Running port peer a s = refl
@@ -90,10 +96,12 @@ received_same (refusal code) grant maps port from t s = refl
 received_same (acked n) grant maps port from t s = ack_same t.end port t.peer n s
 received_same (block n body) grant maps port from t s = data_same t.end grant maps port t.peer n body s
 
-datagram_at_same : (t : Option Transfer) (grant : Grant) (maps : Maps) (port : ℕ) (from : Endpoint) (bytes : List ℕ) (s : Table) → (datagram_at t grant maps port from bytes s).server.request ≡ s.request
+datagram_at_same : (t : Option Transfer) (grant : Grant) (maps : Maps) (port : ℕ) (from : Endpoint) (bytes : List ℕ) (s : Table) →
+    (datagram_at t grant maps port from bytes s).server.request ≡ s.request
 datagram_at_same (Some t) grant maps port from bytes s = received_same (transfer_input t.peer from bytes) grant maps port from t s
 datagram_at_same None grant maps port from bytes s = refl
 
+-- a datagram at a transfer's port leaves the request port
 pub datagram_same : (grant : Grant) (maps : Maps) (port : ℕ) (from : Endpoint) (bytes : List ℕ) (s : Table) → (table_datagram grant maps port from bytes s).server.request ≡ s.request
 datagram_same grant maps port from bytes s = datagram_at_same (transfer_at port s) grant maps port from bytes s
 
@@ -111,5 +119,6 @@ timeout_at_same : (t : Option Transfer) (port : ℕ) (s : Table) → (timeout_at
 timeout_at_same (Some t) port s = waits_same t.end port t.peer s
 timeout_at_same None port s = refl
 
+-- a time-out leaves the request port
 pub timeout_same : (port : ℕ) (s : Table) → (table_timeout port s).server.request ≡ s.request
 timeout_same port s = timeout_at_same (transfer_at port s) port s

@@ -29,7 +29,9 @@ order_of a b less same more = elim (cases_Bool (ltb a b)) [
   ]
 ]
 
+-- a map from ports
 module _ {T : Type 0} where
+  -- with a new port the ports are in order
   rising_insert : (port : ℕ) (x : T) (es : List (ℕ × T)) → AreRising (keys_of es) → lookup (at_port port) es ≡ None → AreRising (keys_of (insert_entry nat_cmp es port x))
   rising_insert port x [] h free = (All-nil (λ m. port < m), tt)
   rising_insert port x (e ∷ es) h free = order_of port e.0
@@ -41,18 +43,22 @@ module _ {T : Type 0} where
         rising_insert port x es h.1 (ap (λ r. cond (is_eq r) (Some e.1) (lookup (at_port port) es)) (nat_cmp_is port e.0 Greater more) ∙ free),
       ))
 
+  -- and they are without some
   rising_remove : (test : ℕ → Bool) (es : List (ℕ × T)) → AreRising (keys_of es) → AreRising (keys_of (remove_entry test es))
   rising_remove test [] h = tt
   rising_remove test (e ∷ es) h = elim (cases_Bool (test e.0)) [
     | inl y ↦ subst (λ (l : List (ℕ × T)). AreRising (keys_of l)) (sym (if_true es (e ∷ remove_entry test es) y)) h.1
-    | inr n ↦ subst (λ (l : List (ℕ × T)). AreRising (keys_of l)) (sym (if_false es (e ∷ remove_entry test es) n)) (All-map-remove_entry test (λ (x : ℕ × T). x.0) (λ m. e.0 < m) es h.0, rising_remove test es h.1)
+    | inr n ↦ subst (λ (l : List (ℕ × T)). AreRising (keys_of l)) (sym (if_false es (e ∷ remove_entry test es) n))
+        (All-map-remove_entry test (λ (x : ℕ × T). x.0) (λ m. e.0 < m) es h.0, rising_remove test es h.1)
   ]
 
   length_insert : (port : ℕ) (x : T) (es : List (ℕ × T)) → length (insert_entry nat_cmp es port x) ≤ suc (length es)
   length_insert port x [] = omega arith
   length_insert port x (e ∷ es) = by (nat_cmp port e.0) (length_insert port x es)
     where
-      by : (r : Ordering) → length (insert_entry nat_cmp es port x) ≤ suc (length es) → length (match_ordering r ((port, x) ∷ e ∷ es) ((e.0, x) ∷ es) (e ∷ insert_entry nat_cmp es port x)) ≤ suc (length (e ∷ es))
+      by : (r : Ordering) → length (insert_entry nat_cmp es port x) ≤ suc (length es) →
+          length (match_ordering r ((port, x) ∷ e ∷ es) ((e.0, x) ∷ es) (e ∷ insert_entry nat_cmp es port x)) ≤ suc
+          (length (e ∷ es))
       by Less h = omega arith
       by Equal h = omega arith
       by Greater h = omega (arith, h)
@@ -65,6 +71,7 @@ module _ {T : Type 0} where
       by true h = omega arith
       by false h = omega (arith, h)
 
+-- writing a transfer whose end is within its bounds keeps the invariant
 pub set_fits : (port : ℕ) (t : Transfer) (s : Table) → IsTable s → IsEnd t.end → IsTable (with_live (set_value (at_port port) s.live t) s)
 set_fits port t s h end =
     record {
@@ -76,6 +83,7 @@ set_fits port t s h end =
       ends = All-values-set_value (at_port port) (λ t. IsEnd t.end) s.live t h.ends end;
     }
 
+-- removing a transfer keeps the invariant
 pub remove_fits : (port : ℕ) (s : Table) → IsTable s → IsTable (with_live (remove_entry (at_port port) s.live) s)
 remove_fits port s h =
     record {
@@ -87,7 +95,9 @@ remove_fits port s h =
       ends = All-map-remove_entry (at_port port) (λ (e : ℕ × Transfer). e.1) (λ t. IsEnd t.end) s.live h.ends;
     }
 
-pub insert_fits : (port : ℕ) (t : Transfer) (s : Table) → IsTable s → IsEnd t.end → port ≢ s.request → transfer_at port s ≡ None → has_slot s ≡ true → IsTable (with_live (insert_entry nat_cmp s.live port t) s)
+-- opening a transfer at a free port keeps the invariant, if there is a slot
+pub insert_fits : (port : ℕ) (t : Transfer) (s : Table) → IsTable s → IsEnd t.end → port ≢ s.request → transfer_at port s ≡ None →
+    has_slot s ≡ true → IsTable (with_live (insert_entry nat_cmp s.live port t) s)
 insert_fits port t s h end other free slot =
     record {
       lynx = h.lynx;
@@ -102,7 +112,10 @@ insert_fits port t s h end other free slot =
 pub removed_fits : (port : ℕ) (live : List (ℕ × Transfer)) (s : Table) → IsTable s → live ≡ remove_entry (at_port port) s.live → IsTable (with_live live s)
 removed_fits port live s h is = subst (λ l. IsTable (with_live l s)) (sym is) (remove_fits port s h)
 
-pub inserted_fits : (port : ℕ) (live : List (ℕ × Transfer)) (t : Transfer) (s : Table) → IsTable s → live ≡ insert_entry nat_cmp s.live port t → IsEnd t.end → port ≢ s.request → transfer_at port s ≡ None → has_slot s ≡ true → IsTable (with_live live s)
+-- opening a transfer keeps the invariant, for ports that equal those with it
+pub inserted_fits : (port : ℕ) (live : List (ℕ × Transfer)) (t : Transfer) (s : Table) → IsTable s →
+    live ≡ insert_entry nat_cmp s.live port t → IsEnd t.end → port ≢ s.request → transfer_at port s ≡ None → has_slot s ≡ true →
+    IsTable (with_live live s)
 inserted_fits port live t s h is end other free slot = subst (λ l. IsTable (with_live l s)) (sym is) (insert_fits port t s h end other free slot)
 
 -- if no port is live

@@ -7,3 +7,4 @@ pub mod Keys
 pub mod Ports
 pub mod Lends
 pub mod View
+pub mod FileMerge

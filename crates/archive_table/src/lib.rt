@@ -6,6 +6,7 @@
 #![tactic(auto)]
 
 mod end;
+mod file_merge;
 mod incoming;
 mod keep_fault;
 mod keeper;

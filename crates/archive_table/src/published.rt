@@ -1,20 +1,28 @@
 //! A collection that players can fetch.
 
-ghost use Rattle.std.specs.Prelude.{◌≡◌, ◌<◌, ◌^◌, length, IfOk};
+ghost use Rattle.std.specs.Prelude.{◌≡◌, ◌≢◌, ◌⊎◌, ◌<◌, ◌^◌, length, Err, IfOk, IfErr, OnOk, OnErr};
 ghost use Rattle.tws_best.specs.Best.{collection_text};
 ghost use Rattle.tws_best.specs.Frozen.{frozen_text};
+ghost use Rattle.archive_table.specs.FileMerge.{MergesFile, RefusesOne};
+ghost use Rattle.archive_table.specs.Keeper.{KeepsOne};
 
+use crate::keeper::Keeper;
+use crate::keeping::merge_into;
 use std::alloc::{AllocError, Allocator};
+use std::clone::Clone;
 use std::marker::Model;
-use std::rc::{Rc, Weak};
-use tftp_packet::Blocks;
+use std::rc::Rc;
+use tftp_ends::Received;
+use tftp_packet::Refusal;
 use tws_best::{Collection, Snapshot};
 
-/// A collection, and a weak reference to the snapshot of its text that downloads share.
+/// A collection; the length of its text, and the snapshot of it that downloads share. Both are found out at the first
+/// request, and kept until the collection changes.
 #[derive(Drop)]
 pub(crate) struct Published<A: Allocator + Copy> {
     collection: Collection<A>,
-    snapshot: Weak<Snapshot<A>, A>,
+    text_len: Option<u128>,
+    snapshot: Option<Rc<Snapshot<A>, A>>,
 }
 
 impl<A: Allocator + Copy> Model for Published<A> {
@@ -22,11 +30,11 @@ impl<A: Allocator + Copy> Model for Published<A> {
 
     ghost Value = { Collected };
 
-    ghost use Rattle.archive_table.specs.Published.{published_in, HasOwnSnapshot};
+    ghost use Rattle.archive_table.specs.Published.{published_in, HasOwnText};
 
     ghost view = { published_in };
 
-    ghost invariant = { HasOwnSnapshot };
+    ghost invariant = { HasOwnText };
 }
 
 impl<A: Allocator + Copy> Published<A> {
@@ -36,7 +44,8 @@ impl<A: Allocator + Copy> Published<A> {
     {
         Published {
             collection,
-            snapshot: Weak::new(),
+            text_len: None,
+            snapshot: None,
         }
     }
 
@@ -47,18 +56,21 @@ impl<A: Allocator + Copy> Published<A> {
         &self.collection
     }
 
-    /// The length of its text in bytes.
-    pub(crate) fn text_len(&self) -> u128
-        ensures { result ≡ length (collection_text self.now) }
+    /// The length of its text in bytes. The collection never changes.
+    pub(crate) fn text_len(&mut self) -> u128
+        ensures same { self.new ≡ self.old }
+        ensures len { result ≡ length (collection_text self.old) }
     {
-        // A snapshot has its length; a collection adds up those of all its records.
-        match self.snapshot.upgrade() {
-            Some(snapshot) => u128::from(snapshot.file_len()),
-            None => self.collection.text_len(),
+        if let Some(len) = self.text_len {
+            return len;
         }
+        let len = self.collection.text_len();
+        self.text_len = Some(len);
+        len
     }
 
-    /// Returns the snapshot of its text, which must have fewer than 2^64 bytes. Does not allocate if a download has it.
+    /// Returns the snapshot of its text, which must have fewer than 2^64 bytes. Does not allocate if the text was asked
+    /// for since the collection changed.
     ///
     /// # Errors
     ///
@@ -68,13 +80,42 @@ impl<A: Allocator + Copy> Published<A> {
         ensures same { self.new ≡ self.old }
         ensures text { IfOk result (λ s. frozen_text s.value ≡ collection_text self.old) }
     {
-        if let Some(snapshot) = self.snapshot.upgrade() {
-            return Ok(snapshot);
+        if let Some(snapshot) = &self.snapshot {
+            return snapshot.clone();
         }
         let Ok(snapshot) = Rc::new(alloc, self.collection.snapshot()?) else {
             return Err(AllocError);
         };
-        self.snapshot = Rc::downgrade(&snapshot)?;
-        Ok(snapshot)
+        let shared = snapshot.clone()?;
+        self.snapshot = Some(snapshot);
+        Ok(shared)
+    }
+
+    /// Merges a received file, if it is one of this ruleset, and keeps the collection if that changed it. Bytes that are
+    /// not a solution file change nothing. On error nothing changes.
+    pub(crate) fn merge<K: Keeper>(
+        &mut self,
+        alloc: A,
+        keeper: &mut K,
+        file: &Received<A>,
+    ) -> Result<(), Refusal>
+        ensures merged { OnOk result (MergesFile file.now self.old self.new) }
+        ensures unchanged { OnErr result (self.new ≡ self.old) }
+        ensures rules { self.new.ruleset ≡ self.old.ruleset }
+        ensures refusal { IfErr result (λ e. (e ≡ Refusal.OutOfMemory) ⊎ (e ≡ Refusal.NotKept)) }
+        ensures kept { OnOk result (KeepsOne self.old self.new (K.log keeper.old) (K.log keeper.new)) }
+        ensures unkept { IfErr result (λ e. RefusesOne e file.now self.old (K.log keeper.old) (K.log keeper.new)) }
+        ensures untouched { result ≢ Err Refusal.NotKept → self.new ≡ self.old → keeper.new ≡ keeper.old }
+    {
+        match merge_into(alloc, &mut self.collection, keeper, file) {
+            Ok(changed) => {
+                if changed {
+                    self.text_len = None;
+                    self.snapshot = None;
+                }
+                Ok(())
+            }
+            Err(why) => Err(why),
+        }
     }
 }

@@ -190,8 +190,9 @@ impl<A: Allocator + Copy> Table<A> {
     }
 
     // The length of a collection's text in bytes.
-    fn text_len(&self, ruleset: Ruleset) -> u128
-        ensures { result ≡ length (collection_text (map_of «ruleset» self.now.maps)) }
+    fn text_len(&mut self, ruleset: Ruleset) -> u128
+        ensures same { self.new ≡ self.old }
+        ensures len { result ≡ length (collection_text (map_of «ruleset» self.old.maps)) }
     {
         match ruleset {
             Ruleset::Lynx => self.lynx.text_len(),

@@ -10,3 +10,4 @@ pub mod Transfers
 pub mod Following
 pub mod Turns
 pub mod Running
+pub mod Rounding

@@ -13,6 +13,7 @@ same_grown (Some k) log e = let same : k ≡ log = cc in sym same ∙ sym (appen
 pub grows_none : (log : Option (List Entry)) → Grows log log []
 grows_none log = record { reported = same_grown log }
 
+-- a log that grows twice grows by both
 joined_grown : (a b : Option (List Entry)) (log xs ys : List Entry) → ((m : List Entry) → b ≡ Some m → IsGrown a m xs) → IsGrown b log ys → IsGrown a log (xs ++ ys)
 joined_grown a None log xs ys first then = absurd then
 joined_grown None (Some m) log xs ys first then = absurd (first m refl)
@@ -23,8 +24,12 @@ pub grows_join : {a b c : Option (List Entry)} {xs ys : List Entry} → Grows a 
 grows_join {a} {b} {c} {xs} {ys} first then = record { reported = λ log e. joined_grown a b log xs ys first.reported (then.reported log e) }
 
 -- the entry that `receive` logs, by its result
-pub grows_come : {before after : Option (List Entry)} (port : ℕ) (buffer : List ℕ) (got : Option (ℕ × Endpoint)) (count : ℕ) (from : Endpoint) → got ≡ Some (count, from) → Grows before after (received port (Ok got) buffer ∷ []) → Grows before after (came port from (take count buffer) ∷ [])
+pub grows_come : {before after : Option (List Entry)} (port : ℕ) (buffer : List ℕ) (got : Option (ℕ × Endpoint)) (count : ℕ)
+    (from : Endpoint) → got ≡ Some (count, from) → Grows before after (received port (Ok got) buffer ∷ []) →
+    Grows before after (came port from (take count buffer) ∷ [])
 grows_come {before} {after} port buffer got count from e grows = subst (λ (o : Option (ℕ × Endpoint)). Grows before after (received port (Ok o) buffer ∷ [])) e grows
 
-pub grows_quiet : {before after : Option (List Entry)} (port : ℕ) (buffer : List ℕ) (got : Option (ℕ × Endpoint)) → got ≡ None → Grows before after (received port (Ok got) buffer ∷ []) → Grows before after (quiet port ∷ [])
+-- the entry of a call of `receive` that returned nothing
+pub grows_quiet : {before after : Option (List Entry)} (port : ℕ) (buffer : List ℕ) (got : Option (ℕ × Endpoint)) → got ≡ None →
+    Grows before after (received port (Ok got) buffer ∷ []) → Grows before after (quiet port ∷ [])
 grows_quiet {before} {after} port buffer got e grows = subst (λ (o : Option (ℕ × Endpoint)). Grows before after (received port (Ok o) buffer ∷ [])) e grows

@@ -1,4 +1,5 @@
--- What the timers notice of a change leaves the ports as the change does.
+-- What the timers notice of a change: an answer to a stranger may count as nothing, and the ports are the same either
+-- way.
 use Rattle.std.specs.Prelude.{◌≡◌, ℕ, List}
 use Rattle.std.proofs.Common.{refl, sym, subst}
 use Rattle.archive_turns.specs.declared.change.Change.{Change}
@@ -18,10 +19,12 @@ room_same Turn (Answered port) timers room = tt
 room_same (Round now settled per_host) (Answered port) timers room = tt
 room_same mode (Closed port) timers room = room
 
+-- what is noticed needs a place for a timer only if the change does
 pub room_noticed : (mode : Mode) (change seen : Change) (timers : List Timer) → seen ≡ noticed mode change → HasRoom change timers → HasRoom seen timers
 room_noticed mode change seen timers is room =
     subst (λ (c : Change). HasRoom c timers) (sym is) (room_same mode change timers room)
 
+-- the timers have the same ports, whether all of a change is noticed or not
 pub ports_noticed : (mode : Mode) (change : Change) (due : ℕ) (timers : List Timer) → ports_of (timed (noticed mode change) due timers) ≡ ports_of (timed change due timers)
 ports_noticed mode Quiet due timers = refl
 ports_noticed mode Nothing due timers = refl

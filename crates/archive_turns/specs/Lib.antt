@@ -4,4 +4,5 @@ pub mod Timers
 pub mod Turn
 pub mod Parts
 pub mod Run
+pub mod Rounds
 pub mod View

@@ -1,4 +1,4 @@
--- A client that runs over a wire: how it begins, one turn of it, and how a whole run ends.
+-- A client that runs over a wire: how it begins, one turn of it, and how a whole run ends. A round is in `Rounds`.
 use Rattle.std.specs.Prelude.{◌≡◌, ◌⊎◌, ℕ, ◌≤◌, ◌+◌, ◌-◌, Bool, true, false, nat_le, List, [], ◌∷◌, ◌++◌, length, Option, None, Some, Result, Ok, Err}
 use Rattle.std.specs.Io.KnownBytes.{Appends}
 use Rattle.byte_output.specs.Output.{AppendsPrefix}
@@ -21,7 +21,7 @@ pub record Run : Type 0 where
   pub client : Client
   -- its own port
   pub port : ℕ
-  -- how many quiet turns are left until it times out
+  -- how many quiet turns are left until it times out, or in rounds the moment at which it does
   pub left : ℕ
 
 -- the result of a begin or of a turn, and the calls of the wire
@@ -115,13 +115,20 @@ pub record IsRunTurn (old new : Run) (calls : List Entry) : Type 0 where
   pub run : new ≡ (run_turn answers old).run
   pub calls_are : calls ≡ (run_turn answers old).calls
 
--- a turn was made, and the log has grown by its calls
-pub record MakesRunTurn (old new : Run) (before after : Option (List Entry)) : Type 0 where
+-- what is known of a run before and after a turn or a round, and of the calls
+abbrev pub RunStep : Type 1
+RunStep = Run → Run → List Entry → Type 0
+
+-- a turn or a round was made, and the log has grown by its calls
+pub record MakesRunStep (Is : RunStep) (old new : Run) (before after : Option (List Entry)) : Type 0 where
   pub calls : List Entry
-  pub turn : IsRunTurn old new calls
+  pub made : Is old new calls
   pub log : Grows before after calls
 
--- the state after the part of a turn that follows `receive`
+abbrev pub MakesRunTurn : (old new : Run) (before after : Option (List Entry)) → Type 0
+MakesRunTurn old new before after = MakesRunStep IsRunTurn old new before after
+
+-- the state after a part of a turn or a round
 pub record MakesRan (ran : (ok : Bool) → RunTurn) (new : Run) (before after : Option (List Entry)) : Type 0 where
   pub ok : Bool
   pub run : new ≡ (ran ok).run
@@ -138,21 +145,31 @@ pub record Takes (from : Endpoint) (bytes : List ℕ) (old new : Run) (before af
   pub verdict : Verdict
   pub ran : MakesRan (λ ok. run_datagram from bytes verdict old ok) new before after
 
--- turns one after another, as long as the client is not over
-pub data Runs : (turns : ℕ) (old new : Run) (calls : List Entry) → Type 0 where
-  none : (r : Run) → Runs 0 r r []
-  more : {turns : ℕ} {old mid new : Run} {calls added : List Entry} → Runs turns old mid calls → is_over mid.client ≡ false → IsRunTurn mid new added → Runs (turns + 1) old new (calls ++ added)
+-- turns or rounds one after another, as long as the client has not ended
+pub data Runs (Is : RunStep) (ended : Client → Bool) : (count : ℕ) (old new : Run) (calls : List Entry) → Type 0 where
+  none : (r : Run) → Runs Is ended 0 r r []
+  more : {count : ℕ} {old mid new : Run} {calls added : List Entry} → Runs Is ended count old mid calls → ended mid.client ≡ false → Is mid new added → Runs Is ended (count + 1) old new (calls ++ added)
 
--- at most `turns` of them, until the client is over
-pub record RunsFor (turns : ℕ) (old new : Run) (calls : List Entry) : Type 0 where
+-- at most `most` of them, until the client has ended
+pub record RunsFor (Is : RunStep) (ended : Client → Bool) (most : ℕ) (old new : Run) (calls : List Entry) : Type 0 where
   pub made : ℕ
-  pub most : made ≤ turns
-  pub runs : Runs made old new calls
-  pub ends : (is_over new.client ≡ true) ⊎ (made ≡ turns)
+  pub few : made ≤ most
+  pub runs : Runs Is ended made old new calls
+  pub ends : (ended new.client ≡ true) ⊎ (made ≡ most)
 
-pub record MakesRunTurns (turns : ℕ) (old new : Run) (before after : Option (List Entry)) : Type 0 where
+pub record MakesRunSteps (Is : RunStep) (ended : Client → Bool) (most : ℕ) (old new : Run) (before after : Option (List Entry)) : Type 0 where
   pub calls : List Entry
-  pub runs : RunsFor turns old new calls
+  pub runs : RunsFor Is ended most old new calls
+  pub log : Grows before after calls
+
+-- turns until the client is over
+abbrev pub MakesRunTurns : (turns : ℕ) (old new : Run) (before after : Option (List Entry)) → Type 0
+MakesRunTurns turns old new before after = MakesRunSteps IsRunTurn is_over turns old new before after
+
+-- in the middle of a run
+pub record MakesSome (Is : RunStep) (ended : Client → Bool) (count : ℕ) (old new : Run) (before after : Option (List Entry)) : Type 0 where
+  pub calls : List Entry
+  pub runs : Runs Is ended count old new calls
   pub log : Grows before after calls
 
 -- ---- the end of a run
@@ -187,43 +204,45 @@ WritesFetched (Err c) (Err e) written now = (e ≡ unfinished (state_of c)) × (
 pub record WritesGot (c : Client) (result : Result ℕ RunFault) (written now : Option (List ℕ)) : Type 0 where
   pub writes : WritesFetched (file_or_client c) result written now
 
--- the turns of a put that has begun, and its result
-pub record EndsPut (run : Run) (turns len : ℕ) (result : Result ℕ RunFault) (before after : Option (List Entry)) : Type 0 where
+-- what is known of a run before and after its turns or rounds, and of the log
+abbrev pub RunMakes : Type 1
+RunMakes = Run → Run → Option (List Entry) → Option (List Entry) → Type 0
+
+-- the turns or rounds of a put that has begun, and its result
+pub record EndsPut (Makes : RunMakes) (run : Run) (len : ℕ) (result : Result ℕ RunFault) (before after : Option (List Entry)) : Type 0 where
   pub last : Run
-  pub made : MakesRunTurns turns run last before after
+  pub made : Makes run last before after
   pub result_is : result ≡ put_result (state_of last.client) len
 
--- the same for a get
+-- the turns of a get that has begun, and its result
 pub record EndsGet (run : Run) (turns : ℕ) (result : Result ℕ RunFault) (before after : Option (List Entry)) (written now : Option (List ℕ)) : Type 0 where
   pub last : Run
   pub made : MakesRunTurns turns run last before after
   pub got : WritesGot last.client result written now
 
--- a run that has not begun makes no turn and writes nothing
-abbrev pub PutAfter : Result Run RunFault → (turns len : ℕ) → Result ℕ RunFault → (mid after : Option (List Entry)) → Type 0
-PutAfter (Ok run) turns len result mid after = EndsPut run turns len result mid after
-PutAfter (Err e) turns len result mid after = (result ≡ Err e) × (after ≡ mid)
+-- a run that has not begun makes no turn or round and writes nothing
+abbrev pub PutAfter : RunMakes → Result Run RunFault → (len : ℕ) → Result ℕ RunFault → (mid after : Option (List Entry)) → Type 0
+PutAfter Makes (Ok run) len result mid after = EndsPut Makes run len result mid after
+PutAfter Makes (Err e) len result mid after = (result ≡ Err e) × (after ≡ mid)
 
 abbrev pub GetAfter : Result Run RunFault → (turns : ℕ) → Result ℕ RunFault → (mid after : Option (List Entry)) → (written now : Option (List ℕ)) → Type 0
 GetAfter (Ok run) turns result mid after written now = EndsGet run turns result mid after written now
 GetAfter (Err e) turns result mid after written now = (result ≡ Err e) × (after ≡ mid) × (now ≡ written)
 
--- a whole put: its begin, its turns and its result
-pub record RunsPut (server : Endpoint) (file : List ℕ) (turns : ℕ) (result : Result ℕ RunFault) (before after : Option (List Entry)) : Type 0 where
+-- a whole put: its begin, its turns or rounds, and its result
+pub record PutsBy (Makes : RunMakes) (server : Endpoint) (file : List ℕ) (result : Result ℕ RunFault) (before after : Option (List Entry)) : Type 0 where
   pub begun : Result Run RunFault
   pub mid : Option (List Entry)
   pub begins : Begins server (put file) begun before mid
-  pub ends : PutAfter begun turns (length file) result mid after
+  pub ends : PutAfter Makes begun (length file) result mid after
 
--- a whole get
+-- a whole put by turns
+abbrev pub RunsPut : (server : Endpoint) (file : List ℕ) (turns : ℕ) (result : Result ℕ RunFault) (before after : Option (List Entry)) → Type 0
+RunsPut server file turns result before after = PutsBy (MakesRunTurns turns) server file result before after
+
+-- a whole get by turns
 pub record RunsGet (server : Endpoint) (rules : Ruleset) (turns : ℕ) (result : Result ℕ RunFault) (before after : Option (List Entry)) (written now : Option (List ℕ)) : Type 0 where
   pub begun : Result Run RunFault
   pub mid : Option (List Entry)
   pub begins : Begins server (get rules) begun before mid
   pub ends : GetAfter begun turns result mid after written now
-
--- in the middle of a run
-pub record MakesSome (turns : ℕ) (old new : Run) (before after : Option (List Entry)) : Type 0 where
-  pub calls : List Entry
-  pub runs : Runs turns old new calls
-  pub log : Grows before after calls

@@ -1,7 +1,7 @@
 //! The running archive over any wire: one turn of a server or of a client, and the loops over them.
 //!
 //! Read `specs/Turn.antt` first: which calls of the wire a turn makes, and which steps of the table. `specs/Wire.antt`
-//! has the ghost log of a wire's calls. The crate's README shows how it is called.
+//! has the ghost log of a wire's calls, `specs/Run.antt` and `specs/Rounds.antt` the runs of clients. The crate's README shows how it is called.
 #![tactic(auto)]
 
 mod arrival;
@@ -12,6 +12,7 @@ mod limits;
 mod memory_wire;
 mod mode;
 mod next;
+mod pace;
 mod ready_wire;
 mod run;
 mod run_client;
@@ -27,15 +28,16 @@ mod wire_fault;
 
 pub use entry::Entry;
 pub use laws::limit_values;
-pub use limits::{QUIET_TURNS, TIMEOUT};
+pub use limits::{DALLY_LIMIT, DALLY_PAUSE, QUIET_TURNS, TIMEOUT};
 pub use memory_wire::MemoryWire;
 pub use mode::Mode;
 pub use next::Next;
+pub use pace::Pace;
 pub use ready_wire::{Ready, ReadyWire};
 pub use run::{GetRun, PutRun, Run};
 pub use run_client::RunClient;
 pub use run_fault::RunFault;
-pub use runs::{run_get, run_put};
+pub use runs::{get_in_rounds, put_in_rounds, run_get, run_put};
 pub use serve::{serve_rounds, serve_turns};
 pub use server::Server;
 pub use timer::Timer;

@@ -2,5 +2,13 @@
 /// quiet leave the count unchanged.
 pub const QUIET_TURNS: u64 = 200;
 
-/// The same in milliseconds, for a transfer of the server that waits for ready ports.
+/// The same in milliseconds, where the clock of the wire counts: for a server that waits for ready ports, and for a
+/// client that makes rounds.
 pub const TIMEOUT: u64 = 1000;
+
+/// How many milliseconds a get that makes rounds waits for a repeated last block, since it had the file or last
+/// acknowledged that block.
+pub const DALLY_PAUSE: u64 = 250;
+
+/// How many milliseconds it waits for that at most.
+pub const DALLY_LIMIT: u64 = 2000;

@@ -1,10 +1,14 @@
 //! A put or a get that runs over a wire.
 
-ghost use Rattle.std.specs.Prelude.{◌≡◌};
+ghost use Rattle.std.specs.Prelude.{◌≡◌, true, false};
+ghost use Rattle.tftp_packet.specs.Decode.{decode_bytes};
 ghost use Rattle.archive_client.specs.Client.{get as getting, put as putting};
-ghost use Rattle.archive_turns.specs.Run.{Begins, MakesRan, MakesRunTurn, MakesRunTurns, Takes, run_datagram, run_quiet, left_after};
+ghost use Rattle.archive_turns.specs.Rounds.{DalliesFor, IsRunRound, MakesDally, MakesRunRound, MakesRunRounds, ReceivesAt, SetsTimer, TakesAt, asking, has_ended, is_error, is_past, is_ready, left_at, round_timeout};
+ghost use Rattle.archive_turns.specs.Run.{Begins, MakesRan, MakesRunStep, MakesRunSteps, MakesRunTurn, MakesRunTurns, Takes, run_datagram, run_quiet, left_after};
 
-use crate::limits::QUIET_TURNS;
+use crate::limits::{DALLY_PAUSE, QUIET_TURNS, TIMEOUT};
+use crate::pace::{Pace, moment_after};
+use crate::ready_wire::ReadyWire;
 use crate::run_client::RunClient;
 use crate::run_fault::RunFault;
 use crate::visit::send;
@@ -12,10 +16,11 @@ use crate::wire::{RECEIVE_SIZE, Wire};
 use archive_client::{Cause, Get, Put};
 use std::alloc::{Allocator, Global};
 use std::marker::Model;
-use tftp_packet::{Endpoint, Out};
+use tftp_packet::{Endpoint, Out, Packet, decode};
 use tws_file::Ruleset;
 
-/// A client that runs over a wire: the client, its port there, and how many quiet turns are left until it times out.
+/// A client that runs over a wire: the client, its port there, and when it times out: how many quiet turns are left, if
+/// `turn` is called, or the moment, if `round` is.
 #[derive(Debug, Drop)]
 pub struct Run<C: RunClient> {
     client: C,
@@ -44,6 +49,56 @@ fn left_now(out: &Option<Out>, left: u64) -> u64
     match out {
         Some(_) => QUIET_TURNS,
         None => left,
+    }
+}
+
+// Whether a datagram that is sent is an ERROR.
+fn is_error(out: &Out) -> bool
+    ensures { result ≡ is_error (decode_bytes out.now.dgram) }
+{
+    match decode(out.dgram.bytes()) {
+        Ok(Packet::Read { .. }) => false,
+        Ok(Packet::Write { .. }) => false,
+        Ok(Packet::Data { .. }) => false,
+        Ok(Packet::Ack { .. }) => false,
+        Ok(Packet::Error { .. }) => true,
+        Err(_) => false,
+    }
+}
+
+// The moment at which a client times out after a step at `time`. An ERROR that it sends restarts nothing.
+fn due_now(pace: Pace, time: u64, out: &Option<Out>, left: u64) -> u64
+    ensures { result ≡ left_at pace time out.now left }
+{
+    match out {
+        Some(out) => {
+            if is_error(out) {
+                left
+            } else {
+                moment_after(pace.pause, time)
+            }
+        }
+        None => left,
+    }
+}
+
+// Whether all that had arrived by this moment was handed out.
+fn is_past(end: u64, settled: Option<u64>) -> bool
+    ensures { result ≡ is_past end settled }
+{
+    match settled {
+        Some(settled) => end <= settled,
+        None => false,
+    }
+}
+
+// Whether this port is the one that is ready.
+fn is_ready(port: u16, ready: Option<u16>) -> bool
+    ensures { result ≡ is_ready port ready }
+{
+    match ready {
+        Some(ready) => ready == port,
+        None => false,
     }
 }
 
@@ -99,6 +154,108 @@ impl<C: RunClient> Run<C> {
                 return;
             }
             self.turn(wire);
+        }
+    }
+
+    // Looks at the clock, and has the client time out so many milliseconds later. Returns the time.
+    fn set_timer<W: ReadyWire>(&mut self, wire: &mut W, pause: u64) -> u64
+        ensures { SetsTimer pause result self.old self.new (W.log wire.old) (W.log wire.new) }
+    {
+        let time = wire.wait(0, Some(0)).time;
+        self.left = moment_after(pause, time);
+        time
+    }
+
+    // Handles a datagram in a round.
+    fn take_at<W: Wire>(
+        &mut self,
+        wire: &mut W,
+        pace: Pace,
+        time: u64,
+        from: Endpoint,
+        bytes: &[u8],
+    )
+        ensures { TakesAt pace time from bytes.now self.old self.new (W.log wire.old) (W.log wire.new) }
+    {
+        let out = self.client.take_datagram(from, bytes);
+        self.left = due_now(pace, time, &out, self.left);
+        send(wire, &out);
+    }
+
+    // Receives at the client's port, and handles what has come.
+    fn receive_at<W: Wire>(&mut self, wire: &mut W, pace: Pace, time: u64)
+        ensures { ReceivesAt pace time self.old self.new (W.log wire.old) (W.log wire.new) }
+    {
+        let mut buffer = [0; RECEIVE_SIZE];
+        match wire.receive(self.port, &mut buffer) {
+            Ok(Some((count, from))) => self.take_at(wire, pace, time, from, &buffer[..count]),
+            Ok(None) => {}
+            Err(_) => {}
+        }
+    }
+
+    // Lets the client time out in a round.
+    fn time_out<W: Wire>(&mut self, wire: &mut W, pace: Pace, time: u64)
+        ensures { MakesRan (λ ok. round_timeout pace time self.old ok) self.new (W.log wire.old) (W.log wire.new) }
+    {
+        self.left = moment_after(pace.pause, time);
+        let out = self.client.take_timeout();
+        send(wire, &out);
+    }
+
+    // Makes one round. Returns whether the client timed out.
+    fn pass<W: ReadyWire>(&mut self, wire: &mut W, pace: Pace) -> bool
+        ensures { MakesRunRound pace result self.old self.new (W.log wire.old) (W.log wire.new) }
+    {
+        let end = pace.wait_end(self.left);
+        let ready = wire.wait(0, Some(end));
+        if is_past(end, ready.settled) {
+            self.time_out(wire, pace, ready.time);
+            return true;
+        }
+        if is_ready(self.port, ready.port) {
+            self.receive_at(wire, pace, ready.time);
+        }
+        false
+    }
+
+    /// Makes one round: waits until a datagram arrives, which is then a step, or until the client times out, `TIMEOUT`
+    /// milliseconds after it last sent anything but an ERROR. No datagram holds the time-out back.
+    pub fn round<W: ReadyWire>(&mut self, wire: &mut W)
+        ensures { MakesRunStep (IsRunRound asking) self.old self.new (W.log wire.old) (W.log wire.new) }
+    {
+        self.pass(wire, Pace::asking());
+    }
+
+    // Makes rounds until the transfer has ended, at most `rounds`.
+    fn rounds_on<W: ReadyWire>(&mut self, wire: &mut W, rounds: u64)
+        ensures { MakesRunSteps (IsRunRound asking) has_ended rounds self.old self.new (W.log wire.old) (W.log wire.new) }
+    {
+        for _round in 0..rounds {
+            if self.client().has_ended() {
+                return;
+            }
+            self.round(wire);
+        }
+    }
+
+    /// Makes rounds until the transfer has ended, at most `rounds`. The first time-out is `TIMEOUT` milliseconds from
+    /// now.
+    pub(crate) fn rounds<W: ReadyWire>(&mut self, wire: &mut W, rounds: u64)
+        ensures { MakesRunRounds rounds self.old self.new (W.log wire.old) (W.log wire.new) }
+    {
+        self.set_timer(wire, TIMEOUT);
+        self.rounds_on(wire, rounds);
+    }
+
+    // Makes rounds until the client times out, at most `rounds`.
+    fn dally_on<W: ReadyWire>(&mut self, wire: &mut W, pace: Pace, rounds: u64)
+        ensures { DalliesFor pace rounds self.old self.new (W.log wire.old) (W.log wire.new) }
+    {
+        for _round in 0..rounds {
+            if self.pass(wire, pace) {
+                return;
+            }
         }
     }
 }
@@ -167,10 +324,13 @@ impl<A: Allocator + Copy> Run<Get<A>> {
         })
     }
 
-    /// The client, moved out.
-    pub(crate) fn into_client(self) -> Get<A>
-        ensures { result ≡ self.client }
+    /// Dallies, once the client has the file: acknowledges a repeated last block, in case the last ACK was lost (RFC 1350
+    /// section 6). Ends when nothing was acknowledged for `DALLY_PAUSE` milliseconds, after `DALLY_LIMIT` at the latest,
+    /// and after `rounds` rounds in any case.
+    pub fn dally<W: ReadyWire>(&mut self, wire: &mut W, rounds: u64)
+        ensures { MakesDally rounds self.old self.new (W.log wire.old) (W.log wire.new) }
     {
-        self.client
+        let time = self.set_timer(wire, DALLY_PAUSE);
+        self.dally_on(wire, Pace::dallying(time), rounds);
     }
 }

@@ -2,9 +2,10 @@
 
 ghost use Rattle.std.specs.Prelude.{◌≡◌};
 ghost use Rattle.archive_client.specs.Client.{Client, client_datagram, client_timeout, is_over as over_client};
+ghost use Rattle.archive_turns.specs.Rounds.{has_ended, is_ended};
 ghost use Rattle.archive_turns.specs.Run.{ClientSteps};
 
-use archive_client::{Get, Put};
+use archive_client::{Get, Put, State};
 use std::alloc::Allocator;
 use tftp_packet::{Endpoint, Out};
 
@@ -24,6 +25,22 @@ pub trait RunClient {
     /// Whether the client is over: it sends nothing more.
     fn is_over(&self) -> bool
         ensures { result ≡ over_client (client self.now) };
+
+    /// Whether its transfer has ended: it has failed, or has sent or received the whole file. A get may still dally.
+    fn has_ended(&self) -> bool
+        ensures { result ≡ has_ended (client self.now) };
+}
+
+// Whether a transfer in this state has ended.
+fn is_ended(state: State) -> bool
+    ensures { result ≡ is_ended state }
+{
+    match state {
+        State::Running => false,
+        State::Sent => true,
+        State::Got => true,
+        State::Failed(_) => true,
+    }
 }
 
 impl<A: Allocator + Copy> RunClient for Put<A> {
@@ -40,6 +57,10 @@ impl<A: Allocator + Copy> RunClient for Put<A> {
     fn is_over(&self) -> bool {
         self.over()
     }
+
+    fn has_ended(&self) -> bool {
+        is_ended(self.state())
+    }
 }
 
 impl<A: Allocator + Copy> RunClient for Get<A> {
@@ -55,5 +76,9 @@ impl<A: Allocator + Copy> RunClient for Get<A> {
 
     fn is_over(&self) -> bool {
         self.over()
+    }
+
+    fn has_ended(&self) -> bool {
+        is_ended(self.state())
     }
 }

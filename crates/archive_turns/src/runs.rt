@@ -1,8 +1,10 @@
 //! Whole runs of clients.
 
 ghost use Rattle.std.specs.Prelude.{◌≡◌};
-ghost use Rattle.archive_turns.specs.Run.{RunsPut, RunsGet, EndsPut, EndsGet, WritesGot, put_result, run_fault_of, unfinished};
+ghost use Rattle.archive_turns.specs.Rounds.{EndsGetInRounds, GetsInRounds, MakesRunRounds, PutsInRounds};
+ghost use Rattle.archive_turns.specs.Run.{RunsPut, RunsGet, EndsPut, EndsGet, MakesRunTurns, WritesGot, put_result, run_fault_of, unfinished};
 
+use crate::ready_wire::ReadyWire;
 use crate::run::{GetRun, PutRun};
 use crate::run_fault::RunFault;
 use crate::wire::Wire;
@@ -62,7 +64,7 @@ fn end_put<A: Allocator + Copy, W: Wire>(
     len: u64,
     turns: u64,
 ) -> Result<u64, RunFault>
-    ensures { EndsPut run turns len result (W.log wire.old) (W.log wire.new) }
+    ensures { EndsPut (MakesRunTurns turns) run len result (W.log wire.old) (W.log wire.new) }
 {
     let mut run = run;
     run.turns(wire, turns);
@@ -104,19 +106,19 @@ fn end_get<A: Allocator + Copy, W: Wire, O: Write>(
 {
     let mut run = run;
     run.turns(wire, turns);
-    write_got(run.into_client(), out)
+    write_got(run.client(), out)
 }
 
 // Writes the file that a get has fetched.
-fn write_got<A: Allocator + Copy, O: Write>(get: Get<A>, out: &mut O) -> Result<u64, RunFault>
-    ensures { WritesGot get result (O.contents out.old) (O.contents out.new) }
+fn write_got<A: Allocator + Copy, O: Write>(get: &Get<A>, out: &mut O) -> Result<u64, RunFault>
+    ensures { WritesGot get.now result (O.contents out.old) (O.contents out.new) }
 {
-    match get.into_file() {
-        Ok(file) => match file.write_to(out) {
+    match get.file() {
+        Some(file) => match file.write_to(out) {
             Ok(()) => Ok(file.len()),
             Err(_) => Err(RunFault::Write),
         },
-        Err(get) => Err(get_fault(get.state())),
+        None => Err(get_fault(get.state())),
     }
 }
 
@@ -127,5 +129,80 @@ fn get_fault(state: State) -> RunFault
     match state {
         State::Failed(why) => fault(why),
         State::Running | State::Sent | State::Got => RunFault::Transfer(Cause::TimedOut),
+    }
+}
+
+/// Puts a file by the clock of the wire: begins, and makes rounds until the client is over, at most `rounds`, each of
+/// which waits a second at most. Returns the file's length in bytes. `server` is the server's host and request port.
+///
+/// # Errors
+///
+/// Those of `run_put`.
+pub fn put_in_rounds<A: Allocator + Copy, W: ReadyWire>(
+    wire: &mut W,
+    server: Endpoint,
+    file: Vec<u8, A>,
+    rounds: u64,
+) -> Result<u64, RunFault>
+    ensures { PutsInRounds server file.items rounds result (W.log wire.old) (W.log wire.new) }
+{
+    let len = file.len() as u64;
+    match PutRun::begin(wire, server, file) {
+        Ok(run) => end_put_in_rounds(wire, run, len, rounds),
+        Err(fault) => Err(fault),
+    }
+}
+
+// Makes the rounds of a put that has begun. Returns its result.
+fn end_put_in_rounds<A: Allocator + Copy, W: ReadyWire>(
+    wire: &mut W,
+    run: PutRun<A>,
+    len: u64,
+    rounds: u64,
+) -> Result<u64, RunFault>
+    ensures { EndsPut (MakesRunRounds rounds) run len result (W.log wire.old) (W.log wire.new) }
+{
+    let mut run = run;
+    run.rounds(wire, rounds);
+    put_answer(run.client().state(), len)
+}
+
+/// Gets the collection of a ruleset by the clock of the wire, and writes it: begins, makes rounds until the client has the
+/// file or has failed, at most `rounds`, each of which waits a second at most; then writes the file, if all of it was
+/// received. Returns its length in bytes, and the run, which can then dally.
+///
+/// # Errors
+///
+/// Those of `run_get`.
+pub fn get_in_rounds<A: Allocator + Copy, W: ReadyWire, O: Write>(
+    alloc: A,
+    wire: &mut W,
+    server: Endpoint,
+    ruleset: Ruleset,
+    rounds: u64,
+    out: &mut O,
+) -> Result<(u64, GetRun<A>), RunFault>
+    ensures { GetsInRounds server «ruleset» rounds result (W.log wire.old) (W.log wire.new) (O.contents out.old) (O.contents out.new) }
+{
+    match GetRun::begin(alloc, wire, server, ruleset) {
+        Ok(run) => end_get_in_rounds(wire, run, rounds, out),
+        Err(fault) => Err(fault),
+    }
+}
+
+// Makes the rounds of a get that has begun, and writes its file. Returns its result.
+fn end_get_in_rounds<A: Allocator + Copy, W: ReadyWire, O: Write>(
+    wire: &mut W,
+    run: GetRun<A>,
+    rounds: u64,
+    out: &mut O,
+) -> Result<(u64, GetRun<A>), RunFault>
+    ensures { EndsGetInRounds rounds run result (W.log wire.old) (W.log wire.new) (O.contents out.old) (O.contents out.new) }
+{
+    let mut run = run;
+    run.rounds(wire, rounds);
+    match write_got(run.client(), out) {
+        Ok(len) => Ok((len, run)),
+        Err(fault) => Err(fault),
     }
 }

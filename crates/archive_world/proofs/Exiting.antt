@@ -1,4 +1,5 @@
--- What each event other than a delivery does, given the result of its call.
+-- What each event other than a delivery does, given the result of its call: it happens, may not happen, or reuses a
+-- port.
 use Rattle.std.specs.Prelude.{◌≡◌, ◌≢◌, ℕ, Bool, true, false, ◌==◌, List, [], ◌∷◌, ◌++◌, Option, None, Some, Result, Ok, Err, OnOk, IfErr}
 use Rattle.std.proofs.Common.{refl, ap, sym, ◌∙◌, subst, inl}
 use Rattle.std.proofs.lemmas.Bool.{true≢false}
@@ -9,23 +10,24 @@ use Rattle.archive_table.specs.Keeper.{Keeping}
 use Rattle.archive_table.proofs.SamePort.{timeout_same}
 use Rattle.archive_world.specs.declared.event_fault.EventFault.{EventFault}
 use Rattle.archive_world.specs.declared.event_fault.EventFault.TheVariants as fault
-use Rattle.archive_world.specs.World.{Event, begin, deliver, client_times_out, server_times_out, stray, restart, World, Datagram, server_endpoint, has_begun, client_at, begins_unless, client_waits, strays_unless, restarts, taken_with, event_happens, HasMerged, MayHappen}
-use Rattle.archive_world.specs.Headline.{HasOwnPorts}
-use Rattle.archive_world.specs.Reuse.{IsUnused}
-use Rattle.archive_world.specs.Restarts.{HasKept}
-use Rattle.archive_world.specs.Traces.{comes}
+use Rattle.archive_theorem.specs.World.{Event, begin, deliver, client_times_out, server_times_out, stray, restart, World, Datagram, server_endpoint, has_begun, client_at, begins_unless, client_waits, strays_unless, restarts, taken_with, event_happens, HasMerged, MayHappen}
+use Rattle.archive_theorem.specs.Headline.{HasOwnPorts}
+use Rattle.archive_theorem.specs.Reuse.{IsUnused}
+use Rattle.archive_theorem.specs.Restarts.{HasKept}
+use Rattle.archive_theorem.specs.Traces.{comes}
 use Rattle.tws_best.specs.Best.{IsCollected}
 use Rattle.archive_world.specs.Replays.{Makes}
 use Rattle.archive_world.specs.Exits.{Comes}
-use Rattle.archive_world.proofs.Remaining.{Remain, begins_remain, waits_remain, strays_remain, timeout_leaves}
-use Rattle.archive_world.proofs.Reusing.{begin-keeps_own, stray-keeps_own}
-use Rattle.archive_world.proofs.Totality.{not_more}
-use Rattle.archive_world.proofs.Tracing.{begins_fits, strays_fits}
+use Rattle.archive_theorem.proofs.Remaining.{Remain, begins_remain, waits_remain, strays_remain, timeout_leaves}
+use Rattle.archive_theorem.proofs.Reusing.{begin-keeps_own, stray-keeps_own}
+use Rattle.archive_theorem.proofs.Totality.{not_more}
+use Rattle.archive_theorem.proofs.Tracing.{begins_fits, strays_fits}
 
 -- no file is taken, so none has to be merged
 pub remain-merged : (w v : World) → Remain w v → (t : Taken) → v.taken ≡ w.taken ++ t ∷ [] → IsMerged t.file w.server.maps v.server.maps
 remain-merged w v remain t e = not_more w.taken t (sym remain.0 ∙ e)
 
+-- whether the event is a restart
 abbrev pub is_restart : Event → Bool
 is_restart (begin e operation) = false
 is_restart (deliver index spare) = false
@@ -41,12 +43,15 @@ no_restart e other is = true≢false (sym (ap is_restart is) ∙ other)
 -- ---- a begin
 
 module _ (w v : World) (e : Endpoint) (operation : Operation) where
+  -- the world after that
   abbrev begun : World
   begun = event_happens (begin e operation) all empty_maps w
 
+  -- no file is taken
   begun_merged : HasMerged (record { event = begin e operation; grant = all; maps = empty_maps }) w
   begun_merged = remain-merged w begun (begins_remain w (e.host == server_endpoint.host) (is_too_long operation) e operation)
 
+  -- no port is reused only if nothing was at the endpoint
   begun_own : MayHappen (begin e operation) w → HasOwnPorts w → HasOwnPorts begun → IsUnused e w
   begun_own may own later = (begin-keeps_own w own e operation).0 (subst HasOwnPorts (begins_fits w e operation may.0 may.1) later)
 
@@ -55,7 +60,9 @@ module _ (w v : World) (e : Endpoint) (operation : Operation) where
   begun_request false true = refl
   begun_request false false = refl
 
-  begun_makes : v ≡ begun → MayHappen (begin e operation) w → IsUnused e w → (reported : Option (List Keeping)) → Makes (begin e operation) reported reported w v
+  -- what it does to the world and the keeper
+  begun_makes : v ≡ begun → MayHappen (begin e operation) w → IsUnused e w → (reported : Option (List Keeping)) →
+      Makes (begin e operation) reported reported w v
   begun_makes is may unused reported =
       record {
         grant = all;
@@ -69,7 +76,11 @@ module _ (w v : World) (e : Endpoint) (operation : Operation) where
         stays = λ is. refl;
       }
 
-  pub begin-comes : (r : Result (Unit {0}) EventFault) (reported : Option (List Keeping)) → OnOk r (v ≡ begun) → OnOk r (MayHappen (begin e operation) w) → OnOk r (IsUnused e w) → (r ≡ Err fault.Bad → MayHappen (begin e operation) w → ⊥) → (r ≡ Err fault.Reused → MayHappen (begin e operation) w) → (r ≡ Err fault.Reused → IsUnused e w → ⊥) → r ≢ Err fault.NotLoaded → Comes r (begin e operation) reported reported w v
+  -- the result of the call for a begin
+  pub begin-comes : (r : Result (Unit {0}) EventFault) (reported : Option (List Keeping)) → OnOk r (v ≡ begun) →
+      OnOk r (MayHappen (begin e operation) w) → OnOk r (IsUnused e w) → (r ≡ Err fault.Bad → MayHappen (begin e operation) w → ⊥) →
+      (r ≡ Err fault.Reused → MayHappen (begin e operation) w) → (r ≡ Err fault.Reused → IsUnused e w → ⊥) → r ≢ Err fault.NotLoaded →
+      Comes r (begin e operation) reported reported w v
   begin-comes (Ok done) reported is may unused bad reused used loads = (
     ap (λ (x : World). x.server.request) is ∙ begun_request (e.host == server_endpoint.host) (is_too_long operation),
     λ ready. begun_makes is may unused reported,
@@ -91,6 +102,7 @@ module _ (w v : World) (e : Endpoint) (operation : Operation) where
 -- ---- a stray
 
 module _ (w v : World) (d : Datagram) where
+  -- the world after that
   abbrev strayed : World
   strayed = event_happens (stray d) all empty_maps w
 
@@ -99,6 +111,7 @@ module _ (w v : World) (d : Datagram) where
   strayed_request false true = refl
   strayed_request false false = refl
 
+  -- what it does to the world and the keeper
   strayed_makes : v ≡ strayed → MayHappen (stray d) w → (reported : Option (List Keeping)) → Makes (stray d) reported reported w v
   strayed_makes is may reported =
       record {
@@ -113,7 +126,10 @@ module _ (w v : World) (d : Datagram) where
         stays = λ is. refl;
       }
 
-  pub stray-comes : (r : Result (Unit {0}) EventFault) (reported : Option (List Keeping)) → OnOk r (v ≡ strayed) → OnOk r (MayHappen (stray d) w) → (r ≡ Err fault.Bad → MayHappen (stray d) w → ⊥) → r ≢ Err fault.Reused → r ≢ Err fault.NotLoaded → Comes r (stray d) reported reported w v
+  -- the result of the call for a stray
+  pub stray-comes : (r : Result (Unit {0}) EventFault) (reported : Option (List Keeping)) → OnOk r (v ≡ strayed) →
+      OnOk r (MayHappen (stray d) w) → (r ≡ Err fault.Bad → MayHappen (stray d) w → ⊥) → r ≢ Err fault.Reused → r ≢ Err fault.NotLoaded →
+      Comes r (stray d) reported reported w v
   stray-comes (Ok done) reported is may bad own loads = (
     ap (λ (x : World). x.server.request) is ∙ strayed_request (d.source.host == server_endpoint.host) (has_begun d.source w.begun),
     λ ready. strayed_makes is may reported,
@@ -126,6 +142,7 @@ module _ (w v : World) (d : Datagram) where
 -- ---- time-outs
 
 module _ (w v : World) (e : Endpoint) where
+  -- the world after that
   abbrev waited : World
   waited = event_happens (client_times_out e) all empty_maps w
 
@@ -133,11 +150,13 @@ module _ (w v : World) (e : Endpoint) where
   waited_request None = refl
   waited_request (Some c) = refl
 
+  -- no port is reused
   waited_own : (found : Option Client) → HasOwnPorts w → HasOwnPorts (client_waits found e w)
   waited_own None own = own
   waited_own (Some c) own =
       record { operations = own.operations; openings = own.openings; strangers = own.strangers }
 
+  -- what it does to the world and the keeper
   waited_makes : v ≡ waited → MayHappen (client_times_out e) w → (reported : Option (List Keeping)) → Makes (client_times_out e) reported reported w v
   waited_makes is may reported =
       record {
@@ -152,7 +171,10 @@ module _ (w v : World) (e : Endpoint) where
         stays = λ is. refl;
       }
 
-  pub wait-comes : (r : Result (Unit {0}) EventFault) (reported : Option (List Keeping)) → OnOk r (v ≡ waited) → OnOk r (MayHappen (client_times_out e) w) → (r ≡ Err fault.Bad → MayHappen (client_times_out e) w → ⊥) → r ≢ Err fault.Reused → r ≢ Err fault.NotLoaded → Comes r (client_times_out e) reported reported w v
+  -- the result of the call for a client's time-out
+  pub wait-comes : (r : Result (Unit {0}) EventFault) (reported : Option (List Keeping)) → OnOk r (v ≡ waited) →
+      OnOk r (MayHappen (client_times_out e) w) → (r ≡ Err fault.Bad → MayHappen (client_times_out e) w → ⊥) → r ≢ Err fault.Reused →
+      r ≢ Err fault.NotLoaded → Comes r (client_times_out e) reported reported w v
   wait-comes (Ok done) reported is may bad own loads = (
     ap (λ (x : World). x.server.request) is ∙ waited_request (client_at e w),
     λ ready. waited_makes is may reported,
@@ -163,12 +185,15 @@ module _ (w v : World) (e : Endpoint) where
   wait-comes (Err fault.Memory) reported is may bad own loads = (no_restart (client_times_out e) refl, inl refl)
 
 module _ (w v : World) (port : ℕ) where
+  -- the world after that
   abbrev timed : World
   timed = event_happens (server_times_out port) all empty_maps w
 
+  -- no file is taken
   timed_taken : timed.taken ≡ w.taken
   timed_taken = ap (λ (o : Option Taken). taken_with o w.taken) (timeout_leaves (transfer_at port w.server) port w.server).0
 
+  -- what it does to the world and the keeper
   timed_makes : v ≡ timed → (reported : Option (List Keeping)) → Makes (server_times_out port) reported reported w v
   timed_makes is reported =
       record {
@@ -183,7 +208,9 @@ module _ (w v : World) (port : ℕ) where
         stays = λ is. refl;
       }
 
-  pub time-comes : (r : Result (Unit {0}) EventFault) (reported : Option (List Keeping)) → OnOk r (v ≡ timed) → IfErr r (λ f. f ≡ fault.Memory) → Comes r (server_times_out port) reported reported w v
+  -- the result of the call for a time-out of the server
+  pub time-comes : (r : Result (Unit {0}) EventFault) (reported : Option (List Keeping)) → OnOk r (v ≡ timed) →
+      IfErr r (λ f. f ≡ fault.Memory) → Comes r (server_times_out port) reported reported w v
   time-comes (Ok done) reported is memory = (
     ap (λ (x : World). x.server.request) is ∙ timeout_same port w.server,
     λ ready. timed_makes is reported,
@@ -196,6 +223,7 @@ module _ (w v : World) (port : ℕ) where
 -- ---- a restart
 
 module _ (w v : World) (reported now : Option (List Keeping)) (same : now ≡ reported) where
+  -- what it does to the world and the keeper
   restart_makes : v ≡ restarts w → Makes restart reported now w v
   restart_makes is =
       record {
@@ -210,7 +238,11 @@ module _ (w v : World) (reported now : Option (List Keeping)) (same : now ≡ re
         stays = λ is. same;
       }
 
-  pub restart-comes : v.server.request ≡ w.server.request → ((log : List Keeping) → reported ≡ Some log → HasKept log w.server.maps → IsCollected w.server.maps.lynx → IsCollected w.server.maps.ms → v ≡ restarts w) → Comes (Ok tt) restart reported now w v
+  -- the result of the call for a restart
+  pub restart-comes : v.server.request ≡ w.server.request →
+      ((log : List Keeping) → reported ≡ Some log → HasKept log w.server.maps → IsCollected w.server.maps.lynx → IsCollected
+      w.server.maps.ms → v ≡ restarts w) →
+      Comes (Ok tt) restart reported now w v
   restart-comes request made = (
     request,
     λ ready. let has = ready refl in
@@ -218,5 +250,6 @@ module _ (w v : World) (reported now : Option (List Keeping)) (same : now ≡ re
   )
 
 -- the same for an event that equals this one
-pub comes-at : (e f : Event) (r : Result (Unit {0}) EventFault) (old new : Option (List Keeping)) (w v : World) → e ≡ f → Comes r f old new w v → Comes r e old new w v
+pub comes-at : (e f : Event) (r : Result (Unit {0}) EventFault) (old new : Option (List Keeping)) (w v : World) → e ≡ f →
+    Comes r f old new w v → Comes r e old new w v
 comes-at e f r old new w v is comes = subst (λ (x : Event). Comes r x old new w v) (sym is) comes

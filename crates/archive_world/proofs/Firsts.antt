@@ -5,7 +5,9 @@ use Rattle.std.proofs.Common.{refl, ap, ◌∙◌, arith}
 use Rattle.std.proofs.Math.ListN.{get_or, set}
 use Rattle.archive_world.specs.Inside.{NoneBefore, IsFirst}
 
-pub none_more : {K X : Type 0} (test : K → Bool) (xs : List (K × X)) (i n : ℕ) (k : K × X) → NoneBefore test i xs → i < length xs → get_or xs i k ≡ k → test k.0 ≡ false → n ≡ i + 1 → NoneBefore test n xs
+-- one more entry was tested, and does not pass
+pub none_more : {K X : Type 0} (test : K → Bool) (xs : List (K × X)) (i n : ℕ) (k : K × X) → NoneBefore test i xs → i < length xs →
+    get_or xs i k ≡ k → test k.0 ≡ false → n ≡ i + 1 → NoneBefore test n xs
 none_more test xs i zero k none small is other next = absurd (omega arith)
 none_more test [] i (suc n) k none small is other next = absurd (omega arith)
 none_more {K} {X} test (x ∷ xs) zero (suc zero) k none small is other next = (ap (λ (y : K × X). test y.0) is ∙ other, tt)
@@ -13,11 +15,14 @@ none_more test (x ∷ xs) zero (suc (suc n)) k none small is other next = absurd
 none_more test (x ∷ xs) (suc i) (suc n) k none small is other next =
     (none.0, none_more test xs i n k none.1 (omega arith) is other (omega arith))
 
-pub first_here : {K X : Type 0} (test : K → Bool) (xs : List (K × X)) (i : ℕ) (k : K × X) → NoneBefore test i xs → i < length xs → get_or xs i k ≡ k → test k.0 ≡ true → IsFirst test i xs
+-- the next one passes, so it is the first
+pub first_here : {K X : Type 0} (test : K → Bool) (xs : List (K × X)) (i : ℕ) (k : K × X) → NoneBefore test i xs → i < length xs →
+    get_or xs i k ≡ k → test k.0 ≡ true → IsFirst test i xs
 first_here test [] i k none small is found = absurd (omega arith)
 first_here {K} {X} test (x ∷ xs) zero k none small is found = ap (λ (y : K × X). test y.0) is ∙ found
 first_here test (x ∷ xs) (suc i) k none small is found = (none.0, first_here test xs i k none.1 (omega arith) is found)
 
+-- it is within the list
 pub first_within : {K X : Type 0} (test : K → Bool) (xs : List (K × X)) (i : ℕ) → IsFirst test i xs → i < length xs
 first_within test [] zero first = absurd first
 first_within test [] (suc i) first = absurd first
@@ -40,7 +45,8 @@ first_lookup test (x ∷ xs) (suc i) d first =
     ap (λ b. cond b (Some x.1) (lookup test xs)) first.0 ∙ first_lookup test xs i d first.1
 
 -- what a write changes
-pub first_set : {K X : Type 0} (test : K → Bool) (xs : List (K × X)) (i : ℕ) (d : K × X) (w : X) → IsFirst test i xs → set_value test xs w ≡ set xs i ((get_or xs i d).0, w)
+pub first_set : {K X : Type 0} (test : K → Bool) (xs : List (K × X)) (i : ℕ) (d : K × X) (w : X) → IsFirst test i xs →
+    set_value test xs w ≡ set xs i ((get_or xs i d).0, w)
 first_set test [] zero d w first = absurd first
 first_set test [] (suc i) d w first = absurd first
 first_set test (x ∷ xs) zero d w first = ap (λ b. cond b ((x.0, w) ∷ xs) (x ∷ set_value test xs w)) first

@@ -12,7 +12,7 @@ use Rattle.archive_world.specs.declared.running.Running.TheVariants.{Put, Get}
 use Rattle.archive_world.specs.declared.begun.Begun.TheInside as beginning
 use Rattle.archive_world.specs.declared.machine.Machine.TheInside as machines
 use Rattle.archive_world.specs.View.{operation_of}
-use Rattle.archive_world.specs.World.{World, Begun, Datagram, after_transfer, net_with, sent_with, got_with, newly_sent, newly_got}
+use Rattle.archive_theorem.specs.World.{World, Begun, Datagram, after_transfer, net_with, sent_with, got_with, newly_sent, newly_got}
 use Rattle.archive_table.specs.Table.{Grant, all, Merges, table_datagram, is_same}
 use Rattle.archive_table.specs.Keeper.{Keeping, StepKeeps}
 

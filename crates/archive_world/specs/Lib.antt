@@ -1,15 +1,5 @@
-pub mod World
-pub mod Headline
-pub mod Traces
-pub mod Samples
-pub mod Reuse
-pub mod Restarts
 pub mod Outcomes
 pub mod View
 pub mod Inside
 pub mod Replays
 pub mod Exits
-pub mod Durable
-pub mod Effects
-pub mod Freeing
-pub mod Progress

@@ -1,11 +1,10 @@
 -- What a replay of events guarantees: that all of them have happened, or which one is the first at fault, and why.
 use Rattle.std.specs.Prelude.{◌≡◌, ◌≢◌, ℕ, ◌≤◌, List, [], ◌∷◌, map, take, length, slice_get, Contains, Option, Some}
 use Rattle.archive_table.specs.Table.{Grant, unkept, Maps, Taken, IsMerged}
-use Rattle.archive_table.specs.Keeper.{Keeping, TableFails}
-use Rattle.archive_table.specs.declared.load_fault.LoadFault.{LoadFault}
-use Rattle.archive_world.specs.World.{Event, begin, deliver, client_times_out, server_times_out, stray, restart, WorldStep, World, start, event_happens, happens, run, HasMerged, AllMerged, MayHappen, AllMayHappen}
-use Rattle.archive_world.specs.Headline.{HasOwnPorts, Headline}
-use Rattle.archive_world.specs.Restarts.{EventKeeps, wanted_by, IsOutside}
+use Rattle.archive_table.specs.Keeper.{Keeping}
+use Rattle.archive_theorem.specs.World.{Event, begin, deliver, client_times_out, server_times_out, stray, restart, WorldStep, World, start, event_happens, happens, run, HasMerged, AllMerged, MayHappen, AllMayHappen}
+use Rattle.archive_theorem.specs.Headline.{HasOwnPorts, Headline}
+use Rattle.archive_theorem.specs.Restarts.{EventKeeps, wanted_by}
 use Rattle.archive_world.specs.Outcomes.{Outcome, outcome_of}
 
 -- What the keeper has after these steps, if it has `before` at first. A restart does not change its list.
@@ -90,13 +89,11 @@ pub record IsReusedAt (events : List Event) (reported now : Option (List Keeping
   pub happened : HasHappened (take i events) reported now world
   pub reuses : Reuses event world
 
--- The events before this place have happened, and the one there is a restart. What the keeper has then is not at fault: a
--- load of it fails only by a fault of the keeper or out of memory.
+-- The events before this place have happened, and the one there is a restart.
 pub record IsNotLoadedAt (events : List Event) (reported now : Option (List Keeping)) (i : ℕ) : Type 0 where
   pub there : slice_get events i ≡ Some restart
   pub world : World
   pub happened : HasHappened (take i events) reported now world
-  pub outside : (fault : LoadFault) → TableFails now fault → IsOutside fault
 
 -- The first `count` events have happened, and the keeper has what they have kept.
 pub record HasStopped (events : List Event) (reported now : Option (List Keeping)) : Type 0 where

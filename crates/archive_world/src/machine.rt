@@ -6,10 +6,10 @@ ghost use Rattle.archive_table.specs.Table.{request_verdict, table_request, tabl
 ghost use Rattle.tws_file.specs.Names.{ruleset_named};
 ghost use Rattle.archive_table.specs.Keeper.{HasLoaded, TableFails};
 ghost use Rattle.archive_world.specs.View.{asked_as, operation_of};
-ghost use Rattle.archive_world.specs.World.{World, start, has_begun, begins, server_endpoint, net_with, taken_with, opened_with, got_with, asked_of, asked_named, after_request, after_transfer, strays_in, client_at, client_waits, client_receives};
+ghost use Rattle.archive_theorem.specs.World.{World, start, has_begun, begins, server_endpoint, net_with, taken_with, opened_with, got_with, asked_of, asked_named, after_request, after_transfer, strays_in, client_at, client_waits, client_receives};
 ghost use Rattle.archive_world.specs.Inside.{ReceivesAtPort, answered_by};
 ghost use Rattle.archive_world.specs.Outcomes.{outcome_of};
-ghost use Rattle.archive_world.specs.Reuse.{has_strayed, was_opened, is_opening_at};
+ghost use Rattle.archive_theorem.specs.Reuse.{has_strayed, was_opened, is_opening_at};
 ghost use Rattle.tws_best.specs.Best.{collection_text};
 
 use crate::answered::Answered;
@@ -49,7 +49,7 @@ pub(crate) struct Machine<A: Allocator + Copy = Global> {
 }
 
 impl<A: Allocator + Copy> Model for Machine<A> {
-    ghost use Rattle.archive_world.specs.World.{World};
+    ghost use Rattle.archive_theorem.specs.World.{World};
 
     ghost Value = { World };
 

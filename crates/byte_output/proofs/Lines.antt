@@ -19,6 +19,7 @@ module _ {X : Type 0} (lines : List X → List ℕ) (line : X → List ℕ) (joi
 
   -- after text that was gathered at the start
   module _ (old mid new : Option (List ℕ)) (start : List ℕ) (xs : List X) (i : ℕ) where
+    -- the lines of the first i members and those of the others, one after another, are all lines
     whole : (start ++ lines (take i xs)) ++ lines (drop i xs) ≡ start ++ lines xs
     whole = append_assoc start (lines (take i xs)) (lines (drop i xs)) ∙ ap (λ (ys : List ℕ). start ++ ys) (lines-take-drop i xs)
 
@@ -31,7 +32,10 @@ module _ {X : Type 0} (lines : List X → List ℕ) (line : X → List ℕ) (joi
     Sends-of-all buffer s = subst (λ (ys : List ℕ). Sends old new ys (buffer ++ lines (drop i xs))) whole (Sends-push old new new (start ++ lines (take i xs)) buffer s (lines (drop i xs)))
 
     -- one more line is gathered
-    pub line_gathered : (buffer pushed : List ℕ) (x : X) → Sends old mid (start ++ lines (take i xs)) buffer → i < length xs → x ≡ get_or xs i x → pushed ≡ buffer ++ line x → Sends old mid (start ++ lines (take (i + 1) xs)) pushed
+    pub line_gathered : (buffer pushed : List ℕ) (x : X) → Sends old mid (start ++ lines (take i xs)) buffer → i < length xs →
+        x ≡ get_or xs i x → pushed ≡ buffer ++ line x → Sends old mid (start ++ lines (take (i + 1) xs)) pushed
     line_gathered buffer pushed x s inside x-is pushed-is =
-        let longer : (start ++ lines (take i xs)) ++ line x ≡ start ++ lines (take (i + 1) xs) = append_assoc start (lines (take i xs)) (line x) ∙ ap (λ (ys : List ℕ). start ++ ys) (sym (lines-more i xs x inside x-is)) in
+        let longer : (start ++ lines (take i xs)) ++ line x ≡ start ++ lines (take (i + 1) xs) =
+        append_assoc start (lines (take i xs)) (line x) ∙
+        ap (λ (ys : List ℕ). start ++ ys) (sym (lines-more i xs x inside x-is)) in
         rw (pushed-is, ← longer) (Sends-push old mid new (start ++ lines (take i xs)) buffer s (line x))

@@ -27,6 +27,7 @@ module _ {X : Type 0} (P : X → Type 0) where
   all_take (suc n) [] all = tt
   all_take (suc n) (x ∷ xs) all = (all.0, all_take n xs all.1)
 
+  -- what holds of each member holds of the one at an index within the list
   pub all_at : (xs : List X) (i : ℕ) (d : X) → i < length xs → AllByRecursion P xs → P (slice_index_or xs i d)
   all_at [] i d inside all = absurd (omega arith)
   all_at (x ∷ xs) zero d inside all = all.0

@@ -1,13 +1,15 @@
--- A text that is written piece by piece.
+-- A text that is written piece by piece: how much of it a writer has so far, and what a failure leaves.
 use Rattle.std.proofs.Common.{◌≡◌, ◌≢◌, ℕ, ◌-◌, List, [], ◌∷◌, ◌++◌, length, take, drop, Option, Some, None, Result, Ok, Err, OnErr, refl, subst, ap, sym, ◌∙◌, append_assoc, append-nil, take-append-drop}
 use Rattle.std.proofs.lemmas.List.{take_rest}
 use Rattle.std.specs.Io.KnownBytes.{Appends}
 use Rattle.byte_output.specs.Output.{Sends, AppendsPrefix}
 
+-- nothing was appended
 pub Appends-nil : (old : Option (List ℕ)) → Appends old old []
 Appends-nil None = tt
 Appends-nil (Some xs) = sym (append-nil xs)
 
+-- one text was appended, and then another
 pub Appends-then : (old mid new : Option (List ℕ)) (x y : List ℕ) → Appends old mid x → Appends mid new y → Appends old new (x ++ y)
 Appends-then None mid new x y p q = tt
 Appends-then (Some xs) None new x y p q = absurd p
@@ -62,7 +64,9 @@ module _ (old mid new : Option (List ℕ)) (text rest : List ℕ) where
 pub Sends-more : (old mid new : Option (List ℕ)) (text rest : List ℕ) (n : ℕ) → Sends old mid text rest → Appends mid new (take n rest) → Sends old new text (take (length rest - n) (drop n rest))
 Sends-more old mid new text rest n s more = record {
   sent = s.sent ++ take n rest;
-  cut = s.cut ∙ ap (λ (xs : List ℕ). s.sent ++ xs) (sym (take-append-drop n rest) ∙ ap (λ (xs : List ℕ). take n rest ++ xs) (sym (take_rest rest n))) ∙ sym (append_assoc s.sent (take n rest) (take (length rest - n) (drop n rest)));
+  cut = s.cut ∙ ap (λ (xs : List ℕ). s.sent ++ xs)
+      (sym (take-append-drop n rest) ∙ ap (λ (xs : List ℕ). take n rest ++ xs) (sym (take_rest rest n))) ∙
+      sym (append_assoc s.sent (take n rest) (take (length rest - n) (drop n rest)));
   appends = Appends-then old mid new s.sent (take n rest) s.appends more;
 }
 
@@ -73,6 +77,7 @@ prefix_more old new text p more = record { rest = p.rest ++ more; some = some_fi
 -- ---- a text of two parts, after gathered text
 
 module _ (old mid new : Option (List ℕ)) (start first second pushed buffer : List ℕ) (pushed-is : pushed ≡ start ++ first) where
+  -- what was gathered, with the second part after it, is the start with both parts after it
   two_parts : pushed ++ second ≡ start ++ (first ++ second)
   two_parts = ap (λ (x : List ℕ). x ++ second) pushed-is ∙ append_assoc start first second
 
@@ -84,20 +89,25 @@ module _ (old mid new : Option (List ℕ)) (start first second pushed buffer : L
   pub both_sent : Sends old mid pushed buffer → (left : List ℕ) → Sends mid new (buffer ++ second) left → Sends old new (start ++ (first ++ second)) left
   both_sent s left t = subst (λ (x : List ℕ). Sends old new x left) two_parts (Sends-then old mid new (pushed ++ second) (buffer ++ second) (Sends-push old mid new pushed buffer s second) left t)
 
+  -- a proper prefix of what was left and of the second part is written
   pub both_prefix : Sends old mid pushed buffer → AppendsPrefix mid new (buffer ++ second) → AppendsPrefix old new (start ++ (first ++ second))
   both_prefix s p = subst (λ (x : List ℕ). AppendsPrefix old new x) two_parts (prefix_then old mid new (pushed ++ second) (buffer ++ second) (Sends-push old mid new pushed buffer s second) p)
 
 -- ---- a written text, followed by another
 
 module _ (old mid new : Option (List ℕ)) (first second written : List ℕ) (written-is : written ≡ first) where
+  -- a proper prefix of the first text is a proper prefix of both
   pub first_alone : AppendsPrefix old mid written → AppendsPrefix old mid (first ++ second)
   first_alone p = prefix_more old mid first (subst (λ (x : List ℕ). AppendsPrefix old mid x) written-is p) second
 
+  -- once the first text is written, the second is left
   written_first : Appends old mid written → Sends old mid (first ++ second) second
   written_first p = record { sent = first; cut = refl; appends = subst (λ (x : List ℕ). Appends old mid x) written-is p }
 
+  -- the first text is written, and then some of the second
   pub sent_in_turn : Appends old mid written → (left : List ℕ) → Sends mid new second left → Sends old new (first ++ second) left
   sent_in_turn p left q = Sends-then old mid new (first ++ second) second (written_first p) left q
 
+  -- the first text is written, and then a proper prefix of the second
   pub prefix_in_turn : Appends old mid written → AppendsPrefix mid new second → AppendsPrefix old new (first ++ second)
   prefix_in_turn p q = prefix_then old mid new (first ++ second) second (written_first p) q

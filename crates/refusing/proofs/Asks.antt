@@ -19,25 +19,31 @@ use denote.Triple.Spec.{triple_of}
 use Rattle.std.specs.contracts.cell.Cell as CE
 use Rattle.refusing.specs.contracts.is_refused as IR
 
+-- the counter of requests, as the logic sees it
 abbrev Count : RattleType
 Count = CE.the_row u64
 
+-- the contract of `is_refused`, and its arguments at a call
 module _ {M : Type 1} {𝓤 : Ura M} (𝓛 : Logic 𝓤) (at_mem : Memory → SProp 𝓤) (run : Routine → Fun 𝓤) where
+  -- the contract as the prover states it
   abbrev pub Asks : Contract 𝓤
   Asks = triple_of 𝓛 IR.signature (IR.spec 𝓛 at_mem run)
 
+  -- a call with the counter at `c` and the number `n` of the request to refuse
   abbrev pub at_asks : Lft → Share → ℕ × ℕ → ℕ → Asks.Ghost
   at_asks κ q c n = (((κ, tt), (q, tt), tt, (record { ref_ptr = c; now = record { value = tt } }, (n, tt)), (vptr c.0 c.1 ∷ [], (vint w64 n ∷ [], tt))), tt)
 
 module _ {M : Type 1} {𝓤 : Ura M} (𝓛 : Logic 𝓤) (at_mem : Memory → SProp 𝓤) (run : Routine → Fun 𝓤) (κ : Lft) (q : Share) (c : ℕ × ℕ) (n : ℕ) where
   open 𝓛 use {H, A}
 
+  -- a caller that shares the counter for a lifetime, and has its token, meets what the call requires
   pub Asks-goes : n < 2 ^ 64 → ent 𝓤 (sep 𝓤 (sem 𝓛 (hidden_shr Count κ (record { value = tt }) c.0 c.1)) (A.lft κ q)) ((Asks 𝓛 at_mem run).pre (at_asks 𝓛 at_mem run κ q c n))
   Asks-goes fits =
       qed 𝓛 (‵ (hidden_shr Count κ (record { value = tt }) c.0 c.1) ∷ ‵ (flft κ q) ∷ []) ∵ feq_i ! (List Val) (vptr c.0 c.1 ∷ []) (vptr c.0 c.1 ∷ []) refl $ fjoin ! $
       nothing ! $ flt_i ! n (2 ^ 64) fits $ feq_i ! (List Val) (vint w64 n ∷ []) (vint w64 n ∷ []) refl $ fjoin ! $ fjoin ! $ move ! (1 ∷ 0 ∷ []) $ fjoin ! $
       nothing ! $ move ! (2 ∷ []) $ join ! $ join ! $ nothing ! $ move ! (1 ∷ []) $ done !
 
+  -- the call returns a truth value, and gives the token back
   pub Asks-gives : (v : Val) → ent 𝓤 ((Asks 𝓛 at_mem run).post (at_asks 𝓛 at_mem run κ q c n) v) (H.⇛ (ex 𝓤 (λ (r : Bool). guard 𝓤 (v ≡ vbool r) (A.lft κ q))))
   Asks-gives v =
       qed 𝓛 (types.Kit.raw ((Asks 𝓛 at_mem run).post (at_asks 𝓛 at_mem run κ q c n) v) ∷ []) ∵ updating ! $

@@ -76,7 +76,7 @@ fn closes_at<A: Allocator + Copy>(table: &mut Table<A>, port: u16) -> bool {
     handle(table, port, BOB, b"\0\x05\0\0\0").closed
 }
 
-// The second download has the snapshot of the first. It is dropped with the last of them, so the next one allocates.
+// The second download has the snapshot of the first, and so has one after both have ended.
 #[test]
 fn downloads_of_one_text(rt: HostRuntime) -> Result<(), Fail> {
     let refusing: Refusing<Global> = Refusing::new(rt.alloc(), 0);
@@ -90,6 +90,6 @@ fn downloads_of_one_text(rt: HostRuntime) -> Result<(), Fail> {
     assert_eq!(rt; refusing.requests(), first);
     assert!(rt; closes_at(&mut table, 4001) && closes_at(&mut table, 4002));
     assert!(rt; opens_at(&mut table, 4001));
-    assert!(rt; refusing.requests() > first);
+    assert_eq!(rt; refusing.requests(), first);
     Ok(())
 }

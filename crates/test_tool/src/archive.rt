@@ -1,5 +1,6 @@
 // The commands of the archive over wires in memory: what is sent, what is printed, and inputs that fail.
 use crate::streams::*;
+use archive_client::Cause;
 use archive_table::NoKeeper;
 use archive_turns::{Entry, MemoryWire, Server};
 use std::io;
@@ -7,7 +8,7 @@ use std::test::Fail;
 use test_samples::{ACK_0, ACK_1, ALICE, DATA_HUNDRED, HUNDRED, PEER, RRQ_LYNX, SERVER, WRQ};
 use tftp_packet::Endpoint;
 use tws_file::{FileFault, Ruleset};
-use tws_tool::{INPUT_READS, Passes, ToolFault, get_file, put_file, serve_archive};
+use tws_tool::{Passes, ToolFault, get_file, put_file, serve_archive};
 
 fn wire_of(rt: &HostRuntime, opens: &[u16]) -> Result<MemoryWire, Fail> {
     Ok(MemoryWire::new(rt.alloc(), Vec::from_slice(rt.alloc(), opens)?))
@@ -66,21 +67,25 @@ fn put_of<R: io::Read>(
     Ok((done, wire.log().len(), out.len()))
 }
 
+// The most bytes of a file that can be sent.
+const MOST: u32 = 33_553_919;
+
+// It is left at the first byte that is too many.
 #[test]
 fn a_put_of_an_input_that_does_not_end(rt: HostRuntime) -> Result<(), Fail> {
     let mut input = Drops { left: u32::MAX };
     let put = put_of(&rt, &mut input)?;
-    let left = u32::MAX - INPUT_READS;
-    assert_eq!(rt; (put, input.left), ((Err(ToolFault::Read), 0, 0), left));
+    let fault = ToolFault::Transfer(Cause::TooLong);
+    assert_eq!(rt;
+        (put, input.left),
+        ((Err(fault), 0, 0), u32::MAX - MOST - 1)
+    );
     Ok(())
 }
 
-// The last read that is allowed finds the end.
 #[test]
-fn a_put_of_an_input_that_ends_at_the_last_read(rt: HostRuntime) -> Result<(), Fail> {
-    let mut input = Drops {
-        left: INPUT_READS - 1,
-    };
+fn a_put_of_the_longest_input(rt: HostRuntime) -> Result<(), Fail> {
+    let mut input = Drops { left: MOST };
     let fault = ToolFault::Unreadable {
         index: 0,
         fault: FileFault::BadSignature,

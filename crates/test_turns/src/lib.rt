@@ -14,4 +14,6 @@ mod runs;
 #[cfg(test)]
 mod turns;
 #[cfg(test)]
+mod waiting;
+#[cfg(test)]
 mod wires;

@@ -1,4 +1,4 @@
--- The packets between a sender and a receiver.
+-- The packets between a sender and a receiver: each is a block of the file or an ACK of one, and each DATA is counted.
 use Rattle.std.proofs.Common.{◌≡◌, ℕ, zero, suc, ◌+◌, ◌≤◌, List, [], ◌∷◌, ◌++◌, slice_get, Option, None, Some, IfSome, count_by, refl, ap, sym, subst, ◌∙◌, arith, inl, inr}
 use Rattle.std.proofs.lemmas.List.Sums.{sum_by-append}
 use Rattle.tftp_packet.specs.Packet.{Packet, read, write, data_block, ack, error}
@@ -9,6 +9,7 @@ use Rattle.tftp_ends.proofs.Steps.{GoesOn, SendsAgain}
 
 -- ---- what is sent while the sender is at block c and the receiver at block r
 
+-- a block of the file that the sender has reached, or the ACK of one that the receiver has
 abbrev pub IsHonest : (file : List ℕ) (c r : ℕ) → Packet → Type 0
 IsHonest file c r (read name mode) = ⊥
 IsHonest file c r (write name mode) = ⊥
@@ -16,6 +17,7 @@ IsHonest file c r (data_block n body) = (n ≤ c) × (body ≡ block_of file n)
 IsHonest file c r (ack n) = n ≤ r
 IsHonest file c r (error code text) = ⊥
 
+-- each packet that was sent is such a packet
 abbrev pub AllHonest : (file : List ℕ) (c r : ℕ) → List Packet → Type 0
 AllHonest file c r [] = Unit {0}
 AllHonest file c r (packet ∷ sent) = IsHonest file c r packet × AllHonest file c r sent
@@ -28,23 +30,27 @@ IsHonest-later file c c' r r' (data_block n body) further more honest = (omega (
 IsHonest-later file c c' r r' (ack n) further more honest = omega arith
 IsHonest-later file c c' r r' (error code text) further more honest = honest
 
+-- the same for all of them
 AllHonest-later : (file : List ℕ) (c c' r r' : ℕ) (sent : List Packet) → c ≤ c' → r ≤ r' → AllHonest file c r sent → AllHonest file c' r' sent
 AllHonest-later file c c' r r' [] further more honest = tt
 AllHonest-later file c c' r r' (packet ∷ sent) further more honest =
     (IsHonest-later file c c' r r' packet further more honest.0, AllHonest-later file c c' r r' sent further more honest.1)
 
+-- one more such packet is sent
 AllHonest-push : (file : List ℕ) (c r : ℕ) (sent : List Packet) (packet : Packet) → AllHonest file c r sent → IsHonest file c r packet → AllHonest file c r (sent ++ packet ∷ [])
 AllHonest-push file c r [] packet honest new = (new, tt)
 AllHonest-push file c r (first ∷ sent) packet honest new = (honest.0, AllHonest-push file c r sent packet honest.1 new)
 
 -- a sender goes on, and may send its block
-pub AllHonest-data : (file : List ℕ) (c c' r : ℕ) (sent : List Packet) (out : Option Packet) → c ≤ c' → AllHonest file c r sent → IfSome out (λ p. p ≡ data_packet file c') → AllHonest file c' r (sent_after sent out)
+pub AllHonest-data : (file : List ℕ) (c c' r : ℕ) (sent : List Packet) (out : Option Packet) → c ≤ c' → AllHonest file c r sent →
+    IfSome out (λ p. p ≡ data_packet file c') → AllHonest file c' r (sent_after sent out)
 AllHonest-data file c c' r sent None further honest sends = AllHonest-later file c c' r r sent further (omega arith) honest
 AllHonest-data file c c' r sent (Some p) further honest sends =
     AllHonest-push file c' r sent p (AllHonest-later file c c' r r sent further (omega arith) honest) (subst (IsHonest file c' r) (sym sends) (omega arith, refl))
 
 -- a receiver goes on, and may acknowledge its block
-pub AllHonest-ack : (file : List ℕ) (c r r' : ℕ) (sent : List Packet) (out : Option Packet) → r ≤ r' → AllHonest file c r sent → IfSome out (λ p. p ≡ ack r') → AllHonest file c r' (sent_after sent out)
+pub AllHonest-ack : (file : List ℕ) (c r r' : ℕ) (sent : List Packet) (out : Option Packet) → r ≤ r' → AllHonest file c r sent →
+    IfSome out (λ p. p ≡ ack r') → AllHonest file c r' (sent_after sent out)
 AllHonest-ack file c r r' sent None more honest sends = AllHonest-later file c c r r' sent (omega arith) more honest
 AllHonest-ack file c r r' sent (Some p) more honest sends =
     let new : r' ≤ r' = omega arith in
@@ -72,7 +78,8 @@ count-acks sent n None sends = refl
 count-acks sent n (Some p) sends = ap (λ (q : Packet). count_by is_data (sent ++ q ∷ [])) sends ∙ count-ack sent n
 
 -- one DATA for each block
-pub once_acked : (sent : List Packet) (resent : ℕ) (s : Sender) (a : SendAnswer) → count_by is_data sent ≡ s.current + resent → GoesOn s a → count_by is_data (sent_after sent a.out) ≡ a.sender.current + resent
+pub once_acked : (sent : List Packet) (resent : ℕ) (s : Sender) (a : SendAnswer) → count_by is_data sent ≡ s.current + resent →
+    GoesOn s a → count_by is_data (sent_after sent a.out) ≡ a.sender.current + resent
 once_acked sent resent s a once (inl stays) =
     ap (λ o. count_by is_data (sent_after sent o)) stays.0 ∙ once ∙ ap (λ n. n + resent) (sym stays.1)
 once_acked sent resent s a once (inr next) =
@@ -80,7 +87,8 @@ once_acked sent resent s a once (inr next) =
     ap (λ o. count_by is_data (sent_after sent o)) next.0 ∙ omega (arith, more, once, next.1)
 
 -- and one for each time-out that made it send
-pub once_again : (sent : List Packet) (resent : ℕ) (s : Sender) (a : SendAnswer) → count_by is_data sent ≡ s.current + resent → SendsAgain s a → count_by is_data (sent_after sent a.out) ≡ a.sender.current + resent_after resent a.out
+pub once_again : (sent : List Packet) (resent : ℕ) (s : Sender) (a : SendAnswer) → count_by is_data sent ≡ s.current + resent →
+    SendsAgain s a → count_by is_data (sent_after sent a.out) ≡ a.sender.current + resent_after resent a.out
 once_again sent resent s a once (same, inl none) =
     ap (λ o. count_by is_data (sent_after sent o)) none ∙ omega (arith, once, same, ap (resent_after resent) none)
 once_again sent resent s a once (same, inr again) =

@@ -23,11 +23,13 @@ pub record ReadsBack (p : Packet) : Type 0 where
   pub fields : HasPacketFields p
   pub decoded : decode_bytes (encode p) ≡ Ok p
 
+-- a DATA whose block number fits in two bytes reads back
 pub data-reads_back : (file : List ℕ) (k : ℕ) → k < 2 ^ 16 → ReadsBack (data_packet file k)
 data-reads_back file k fits =
     let fields : HasPacketFields (data_packet file k) = (fits, length-block_of-le file k) in
     record { fields = fields; decoded = decode_bytes-encode (data_packet file k) fields (omega (arith, length-block_of-le file k)) }
 
+-- an ACK whose block number fits in two bytes reads back
 pub ack-reads_back : (n : ℕ) → n < 2 ^ 16 → ReadsBack (ack n)
 ack-reads_back n fits = record { fields = fits; decoded = decode_bytes-encode (ack n) fits (omega arith) }
 
@@ -52,9 +54,11 @@ pub record KeepsSender (s : Sender) (a : SendAnswer) : Type 0 where
   pub sends : IfSome a.out (λ p. p ≡ data_packet s.file a.sender.current)
   pub fits : IsSender s → IsSender a.sender
 
+-- a sender that does nothing
 stays_keeps : (s : Sender) → KeepsSender s (record { sender = s; out = None })
 stays_keeps s = record { file = refl; onward = omega arith; within = λ w. w; sends = tt; fits = λ h. h }
 
+-- a sender that only changes its state
 ends_keeps : (state : SendState) (s : Sender) → KeepsSender s (record { sender = record s { state = state }; out = None })
 ends_keeps state s =
     record {
@@ -65,6 +69,7 @@ ends_keeps state s =
       fits = λ h. record { size = h.size; counted = h.counted; within = h.within; patient = h.patient };
     }
 
+-- the current block was acknowledged
 goes_on_keeps : (last : Bool) (s : Sender) → (s.current == block_count s.file) ≡ last → KeepsSender s (sender_goes_on last s)
 goes_on_keeps true s is_last = ends_keeps sending.Finished s
 goes_on_keeps false s is_last =
@@ -78,6 +83,7 @@ goes_on_keeps false s is_last =
       fits = λ h. record { size = h.size; counted = omega arith; within = next h.within; patient = omega arith };
     }
 
+-- an ACK, of the current block or another
 acked_keeps : (current : Bool) (s : Sender) → KeepsSender s (sender_acked current s)
 acked_keeps true s = goes_on_keeps (s.current == block_count s.file) s refl
 acked_keeps false s = stays_keeps s
@@ -87,9 +93,11 @@ ack_in_keeps sending.Running n s = acked_keeps (n == s.current) s
 ack_in_keeps sending.Finished n s = stays_keeps s
 ack_in_keeps sending.TimedOut n s = stays_keeps s
 
+-- an ACK keeps the sender's file and bounds, and makes it send at most its current block
 pub sender_ack-keeps : (n : ℕ) (s : Sender) → KeepsSender s (sender_ack n s)
 sender_ack-keeps n s = ack_in_keeps s.state n s
 
+-- a time-out, the last one or not
 missed_keeps : (last : Bool) (s : Sender) → (s.misses + 1 == MISSES) ≡ last → KeepsSender s (sender_missed last s)
 missed_keeps true s is_last = ends_keeps sending.TimedOut s
 missed_keeps false s is_last =
@@ -107,9 +115,11 @@ timeout_in_keeps sending.Running s = missed_keeps (s.misses + 1 == MISSES) s ref
 timeout_in_keeps sending.Finished s = stays_keeps s
 timeout_in_keeps sending.TimedOut s = stays_keeps s
 
+-- a time-out keeps the sender's file and bounds, and makes it send at most its current block
 pub sender_timeout-keeps : (s : Sender) → KeepsSender s (sender_timeout s)
 sender_timeout-keeps s = timeout_in_keeps s.state s
 
+-- a new sender of a file that is not too long is within its bounds
 pub IsSender-start : (file : List ℕ) → length file ≤ MAX_FILE → IsSender (sender_start file)
 IsSender-start file short =
     record { size = short; counted = omega arith; within = omega arith; patient = omega arith }
@@ -118,9 +128,11 @@ IsSender-start file short =
 pub current-fits : (s : Sender) → IsSender s → s.current < 2 ^ 16
 current-fits s fits = omega (arith, fits.size, fits.within)
 
+-- the DATA with which a sender begins reads back
 pub start-reads_back : (file : List ℕ) → length file ≤ MAX_FILE → ReadsBack (data_packet file 1)
 start-reads_back file short = data-reads_back file 1 (omega arith)
 
+-- if what is sent is the DATA of a block whose number fits in two bytes, it reads back
 reads_back_from : (file : List ℕ) (k : ℕ) (out : Option Packet) → k < 2 ^ 16 → IfSome out (λ p. p ≡ data_packet file k) → IfSome out ReadsBack
 reads_back_from file k None fits sends = tt
 reads_back_from file k (Some p) fits sends = subst ReadsBack (sym sends) (data-reads_back file k fits)
@@ -131,10 +143,12 @@ sends-reads_back s a k fits = reads_back_from s.file a.sender.current a.out (cur
 
 -- ---- exactly what is sent
 
+-- the current block was acknowledged: nothing is sent if it is the last, and otherwise the next one
 goes_on_sends : (last : Bool) (s : Sender) → GoesOn s (sender_goes_on last s)
 goes_on_sends true s = inl (refl, refl)
 goes_on_sends false s = inr (refl, refl)
 
+-- an ACK of another block makes it send nothing
 acked_sends : (current : Bool) (s : Sender) → GoesOn s (sender_acked current s)
 acked_sends true s = goes_on_sends (s.current == block_count s.file) s
 acked_sends false s = inl (refl, refl)
@@ -144,9 +158,11 @@ ack_in_sends sending.Running n s = acked_sends (n == s.current) s
 ack_in_sends sending.Finished n s = inl (refl, refl)
 ack_in_sends sending.TimedOut n s = inl (refl, refl)
 
+-- an ACK makes a sender send nothing or the next block, never the current one again
 pub sender_ack-sends : (n : ℕ) (s : Sender) → GoesOn s (sender_ack n s)
 sender_ack-sends n s = ack_in_sends s.state n s
 
+-- the last time-out makes it send nothing, and each before it the current block
 missed_sends : (last : Bool) (s : Sender) → SendsAgain s (sender_missed last s)
 missed_sends true s = (refl, inl refl)
 missed_sends false s = (refl, inr refl)
@@ -156,6 +172,7 @@ timeout_in_sends sending.Running s = missed_sends (s.misses + 1 == MISSES) s
 timeout_in_sends sending.Finished s = (refl, inl refl)
 timeout_in_sends sending.TimedOut s = (refl, inl refl)
 
+-- a time-out makes a sender send nothing or the current block again
 pub sender_timeout-sends : (s : Sender) → SendsAgain s (sender_timeout s)
 sender_timeout-sends s = timeout_in_sends s.state s
 
@@ -166,10 +183,12 @@ abbrev pub FinishesBy : (n : ℕ) → Sender → SendAnswer → Type 0
 FinishesBy n s a =
     a.sender.state ≡ sending.Finished → (s.state ≡ sending.Finished) ⊎ ((n ≡ s.current) × (n ≡ block_count s.file))
 
+-- it is finished once the last block is acknowledged
 goes_on_finishes : (n : ℕ) (last : Bool) (s : Sender) → n ≡ s.current → (s.current == block_count s.file) ≡ last → FinishesBy n s (sender_goes_on last s)
 goes_on_finishes n true s same is_last finished = inr (same, same ∙ eqb-true _ _ is_last)
 goes_on_finishes n false s same is_last finished = absurd cc
 
+-- an ACK of another block does not finish it
 acked_finishes : (n : ℕ) (current : Bool) (s : Sender) → (n == s.current) ≡ current → FinishesBy n s (sender_acked current s)
 acked_finishes n true s is_current = goes_on_finishes n (s.current == block_count s.file) s (eqb-true _ _ is_current) refl
 acked_finishes n false s is_current = λ finished. inl finished
@@ -183,6 +202,7 @@ ack_in_finishes sending.TimedOut n s = λ finished. inl finished
 pub sender_ack-finishes : (n : ℕ) (s : Sender) → FinishesBy n s (sender_ack n s)
 sender_ack-finishes n s = ack_in_finishes s.state n s
 
+-- a time-out in which a sender gives up or sends again does not finish it
 missed_finishes : (last : Bool) (s : Sender) → (sender_missed last s).sender.state ≡ sending.Finished → s.state ≡ sending.Finished
 missed_finishes true s finished = absurd cc
 missed_finishes false s finished = absurd cc
@@ -205,9 +225,11 @@ pub record KeepsReceiver (r next : Receiver) (out : Option Packet) : Type 0 wher
   pub sends : IfSome out (λ p. p ≡ ack next.count)
   pub fits : IsReceiver r → IsReceiver next
 
+-- a receiver that does nothing
 same_keeps : (r : Receiver) → KeepsReceiver r r None
 same_keeps r = record { onward = omega arith; sends = tt; fits = λ h. h }
 
+-- a block other than the next one
 again_keeps : (last : Bool) (r : Receiver) → KeepsReceiver r (receiver_again last r).receiver (sent_of (receiver_again last r).result)
 again_keeps true r = record { onward = omega arith; sends = refl; fits = λ h. h }
 again_keeps false r = same_keeps r
@@ -217,8 +239,12 @@ before_last : (n : ℕ) (body : List ℕ) → is_past n body ≡ false → lengt
 before_last n body before full last = grind (arith, nat_tests)
 
 -- the bounds after a block that was taken, by whether it is full
-module _ (n : ℕ) (body : List ℕ) (r : Receiver) (h : IsReceiver r) (short : length body ≤ BLOCK_SIZE) (running : r.state ≡ receiving.Running) (is_next : n ≡ r.count + 1) (before : is_past n body ≡ false) where
-  taken_size : (full : Bool) → (length body == BLOCK_SIZE) ≡ full → (file : Option (List ℕ)) → IfSome file (HasReceivedSize r.state r.count) → IfSome (receiver_appends file body) (HasReceivedSize (state_after full) (r.count + 1))
+module _ (n : ℕ) (body : List ℕ) (r : Receiver) (h : IsReceiver r) (short : length body ≤ BLOCK_SIZE)
+    (running : r.state ≡ receiving.Running) (is_next : n ≡ r.count + 1) (before : is_past n body ≡ false) where
+  -- its length fits its count and its state
+  taken_size : (full : Bool) → (length body == BLOCK_SIZE) ≡ full → (file : Option (List ℕ)) →
+      IfSome file (HasReceivedSize r.state r.count) →
+      IfSome (receiver_appends file body) (HasReceivedSize (state_after full) (r.count + 1))
   taken_size full is_full None size = tt
   taken_size true is_full (Some bytes) size =
       let old : length bytes ≡ BLOCK_SIZE * r.count = subst (λ s. HasReceivedSize s r.count bytes) running size in
@@ -229,16 +255,19 @@ module _ (n : ℕ) (body : List ℕ) (r : Receiver) (h : IsReceiver r) (short : 
       let other : length body ≡ BLOCK_SIZE → ⊥ = eqb-false _ _ is_full in
       omega (arith, length-append bytes body)
 
+  -- a file that is present grows, and stays present
   taken_held : (file : Option (List ℕ)) → IsSome file → IsSome (receiver_appends file body)
   taken_held None held = held
   taken_held (Some bytes) held = refl
 
+  -- unless this block is short there is room for another
   taken_room : (full : Bool) → (length body == BLOCK_SIZE) ≡ full → state_after full ≡ receiving.Running → r.count + 1 < MAX_BLOCKS
   taken_room true is_full goes_on =
       let other : n ≡ MAX_BLOCKS → ⊥ = before_last n body before (eqb-true _ _ is_full) in
       omega (arith, h.room running)
   taken_room false is_full goes_on = absurd cc
 
+  -- so the receiver is within its bounds
   taken_fits : IsReceiver (receiver_takes granted body r).receiver
   taken_fits =
       record {
@@ -250,30 +279,45 @@ module _ (n : ℕ) (body : List ℕ) (r : Receiver) (h : IsReceiver r) (short : 
         dally = λ _. omega arith;
       }
 
-takes_keeps : (n : ℕ) (body : List ℕ) (r : Receiver) → length body ≤ BLOCK_SIZE → r.state ≡ receiving.Running → n ≡ r.count + 1 → is_past n body ≡ false → (verdict : Verdict) → KeepsReceiver r (receiver_takes verdict body r).receiver (sent_of (receiver_takes verdict body r).result)
+-- the next block, whether or not memory was granted
+takes_keeps : (n : ℕ) (body : List ℕ) (r : Receiver) → length body ≤ BLOCK_SIZE → r.state ≡ receiving.Running → n ≡ r.count + 1 →
+    is_past n body ≡ false → (verdict : Verdict) →
+    KeepsReceiver r (receiver_takes verdict body r).receiver (sent_of (receiver_takes verdict body r).result)
 takes_keeps n body r short running is_next before granted =
     record { onward = omega arith; sends = refl; fits = λ h. taken_fits n body r h short running is_next before }
 takes_keeps n body r short running is_next before refused = same_keeps r
 
-next_keeps : (n : ℕ) (body : List ℕ) (r : Receiver) → length body ≤ BLOCK_SIZE → r.state ≡ receiving.Running → n ≡ r.count + 1 → (past : Bool) → is_past n body ≡ past → (verdict : Verdict) → KeepsReceiver r (receiver_next past verdict body r).receiver (sent_of (receiver_next past verdict body r).result)
+-- the next block, where it may be one too many
+next_keeps : (n : ℕ) (body : List ℕ) (r : Receiver) → length body ≤ BLOCK_SIZE → r.state ≡ receiving.Running → n ≡ r.count + 1 →
+    (past : Bool) → is_past n body ≡ past → (verdict : Verdict) →
+    KeepsReceiver r (receiver_next past verdict body r).receiver (sent_of (receiver_next past verdict body r).result)
 next_keeps n body r short running is_next true is verdict = same_keeps r
 next_keeps n body r short running is_next false is verdict = takes_keeps n body r short running is_next is verdict
 
-running_keeps : (n : ℕ) (body : List ℕ) (r : Receiver) → length body ≤ BLOCK_SIZE → r.state ≡ receiving.Running → (verdict : Verdict) (next : Bool) → (n == r.count + 1) ≡ next → KeepsReceiver r (receiver_running next verdict n body r).receiver (sent_of (receiver_running next verdict n body r).result)
+-- any block while the receiver is running
+running_keeps : (n : ℕ) (body : List ℕ) (r : Receiver) → length body ≤ BLOCK_SIZE → r.state ≡ receiving.Running →
+    (verdict : Verdict) (next : Bool) → (n == r.count + 1) ≡ next →
+    KeepsReceiver r (receiver_running next verdict n body r).receiver (sent_of (receiver_running next verdict n body r).result)
 running_keeps n body r short running verdict true is_next = next_keeps n body r short running (eqb-true _ _ is_next) (is_past n body) refl verdict
 running_keeps n body r short running verdict false is_next = again_keeps (is_last_come n r) r
 
-data_in_keeps : (state : RecvState) (n : ℕ) (body : List ℕ) (r : Receiver) → length body ≤ BLOCK_SIZE → r.state ≡ state → (verdict : Verdict) → KeepsReceiver r (receiver_data_in state verdict n body r).receiver (sent_of (receiver_data_in state verdict n body r).result)
+data_in_keeps : (state : RecvState) (n : ℕ) (body : List ℕ) (r : Receiver) → length body ≤ BLOCK_SIZE → r.state ≡ state →
+    (verdict : Verdict) → KeepsReceiver r (receiver_data_in state verdict n body r).receiver
+    (sent_of (receiver_data_in state verdict n body r).result)
 data_in_keeps receiving.Running n body r short is verdict = running_keeps n body r short is verdict (n == r.count + 1) refl
 data_in_keeps receiving.Complete n body r short is verdict = again_keeps (is_last_come n r) r
 data_in_keeps receiving.TimedOut n body r short is verdict = same_keeps r
 data_in_keeps receiving.Over n body r short is verdict = same_keeps r
 
-pub receiver_data-keeps : (verdict : Verdict) (n : ℕ) (body : List ℕ) (r : Receiver) → length body ≤ BLOCK_SIZE → KeepsReceiver r (receiver_data verdict n body r).receiver (sent_of (receiver_data verdict n body r).result)
+-- a DATA whose body is no longer than a block keeps the receiver within its bounds
+pub receiver_data-keeps : (verdict : Verdict) (n : ℕ) (body : List ℕ) (r : Receiver) → length body ≤ BLOCK_SIZE →
+    KeepsReceiver r (receiver_data verdict n body r).receiver (sent_of (receiver_data verdict n body r).result)
 receiver_data-keeps verdict n body r short = data_in_keeps r.state n body r short refl verdict
 
 -- it no longer waits, in a state in which nothing more is received
-stops_keeps : (state : RecvState) (r : Receiver) → state ≢ receiving.Running → state ≢ receiving.Complete → (IsReceiver r → IfSome r.file (HasReceivedSize state r.count)) → KeepsReceiver r (receiver_waits r.misses state None r).receiver None
+stops_keeps : (state : RecvState) (r : Receiver) → state ≢ receiving.Running → state ≢ receiving.Complete →
+    (IsReceiver r → IfSome r.file (HasReceivedSize state r.count)) →
+    KeepsReceiver r (receiver_waits r.misses state None r).receiver None
 stops_keeps state r idle done size =
     record {
       onward = omega arith;
@@ -289,7 +333,8 @@ stops_keeps state r idle done size =
     }
 
 -- it still waits, in its current state
-waits_keeps : (state : RecvState) (out : Option Packet) (r : Receiver) → r.state ≡ state → IfSome out (λ p. p ≡ ack r.count) → (IsReceiver r → r.misses + 1 < MISSES) → (IsReceiver r → state ≡ receiving.Complete → r.misses + 1 < DALLY)
+waits_keeps : (state : RecvState) (out : Option Packet) (r : Receiver) → r.state ≡ state → IfSome out (λ p. p ≡ ack r.count) →
+    (IsReceiver r → r.misses + 1 < MISSES) → (IsReceiver r → state ≡ receiving.Complete → r.misses + 1 < DALLY)
     → KeepsReceiver r (receiver_waits (r.misses + 1) state out r).receiver out
 waits_keeps state out r is sends patient dally =
     record {
@@ -305,6 +350,7 @@ waits_keeps state out r is sends patient dally =
       };
     }
 
+-- a time-out while blocks are missing
 missed_receiver : (last : Bool) (r : Receiver) → r.state ≡ receiving.Running → (r.misses + 1 == MISSES) ≡ last → KeepsReceiver r (receiver_missed last r).receiver (receiver_missed last r).out
 missed_receiver true r running is_last =
     stops_keeps receiving.TimedOut r (λ e. cc) (λ e. cc) (λ h. subst (λ s. IfSome r.file (HasReceivedSize s r.count)) running h.size)
@@ -312,6 +358,7 @@ missed_receiver false r running is_last =
     let other : r.misses + 1 ≡ MISSES → ⊥ = eqb-false _ _ is_last in
     waits_keeps receiving.Running (Some (ack r.count)) r running refl (λ h. omega (arith, h.patient, other)) (λ h e. absurd cc)
 
+-- a time-out while it dallies
 dallied_receiver : (last : Bool) (r : Receiver) → r.state ≡ receiving.Complete → (r.misses + 1 == DALLY) ≡ last → KeepsReceiver r (receiver_dallied last r).receiver (receiver_dallied last r).out
 dallied_receiver true r complete is_last =
     stops_keeps receiving.Over r (λ e. cc) (λ e. cc) (λ h. subst (λ s. IfSome r.file (HasReceivedSize s r.count)) complete h.size)
@@ -325,9 +372,11 @@ timeout_in_receiver receiving.Complete r is = dallied_receiver (r.misses + 1 == 
 timeout_in_receiver receiving.TimedOut r is = same_keeps r
 timeout_in_receiver receiving.Over r is = same_keeps r
 
+-- a time-out keeps the receiver within its bounds
 pub receiver_timeout-keeps : (r : Receiver) → KeepsReceiver r (receiver_timeout r).receiver (receiver_timeout r).out
 receiver_timeout-keeps r = timeout_in_receiver r.state r refl
 
+-- the file is handed out by a receiver that no longer runs
 gives_keeps : (r : Receiver) → (r.state ≡ receiving.Running → ⊥) → KeepsReceiver r (receiver_gives r).receiver None
 gives_keeps r ended =
     record {
@@ -349,9 +398,11 @@ take_in_keeps receiving.Complete r is = gives_keeps r (λ e. cc)
 take_in_keeps receiving.TimedOut r is = same_keeps r
 take_in_keeps receiving.Over r is = gives_keeps r (λ e. cc)
 
+-- a request for its file keeps the receiver within its bounds
 pub receiver_take-keeps : (r : Receiver) → KeepsReceiver r (receiver_take r).receiver None
 receiver_take-keeps r = take_in_keeps r.state r refl
 
+-- a new receiver is within its bounds
 pub IsReceiver-start : IsReceiver receiver_start
 IsReceiver-start =
     record { size = refl; held = λ _. refl; room = λ _. omega arith; within = omega arith; patient = omega arith; dally = λ e. absurd cc }
@@ -361,6 +412,7 @@ acks_back_from : (n : ℕ) (out : Option Packet) → n < 2 ^ 16 → IfSome out (
 acks_back_from n None fits sends = tt
 acks_back_from n (Some p) fits sends = subst ReadsBack (sym sends) (ack-reads_back n fits)
 
+-- whatever a receiver within its bounds sends reads back
 pub acks-reads_back : (r next : Receiver) (out : Option Packet) → KeepsReceiver r next out → IsReceiver r → IfSome out ReadsBack
 acks-reads_back r next out k fits =
     let after = k.fits fits in

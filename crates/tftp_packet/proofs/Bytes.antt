@@ -18,6 +18,7 @@ pub number_first : (bytes : List ℕ) → 2 ≤ length bytes → IsBytes bytes �
 number_first bytes long fits =
     sym (ap (λ (front : List ℕ). front ++ drop 2 bytes) (big_bytes-big_number bytes long fits) ∙ take-append-drop 2 bytes)
 
+-- two bytes are a number below 2^16
 pub big_number-fits : (bytes : List ℕ) → IsBytes bytes → big_number 2 bytes < 2 ^ 16
 big_number-fits bytes fits = big_from-lt 0 2 bytes fits
 

@@ -1,4 +1,4 @@
--- A file and its blocks.
+-- A file and its blocks: their lengths, and that they make the file again.
 use Rattle.std.proofs.Math.Nat.{min_comm}
 use Rattle.std.proofs.lemmas.List.{take_min}
 use Rattle.std.proofs.Common.{◌≡◌, ℕ, zero, suc, ◌+◌, ◌-◌, ◌*◌, ◌^◌, ◌<◌, ◌≤◌, min, List, [], ◌∷◌, ◌++◌, length, take, drop, refl, ap, sym, ◌∙◌, arith, length-take, length-drop, append-nil}
@@ -9,6 +9,7 @@ use Rattle.std.specs.List.{concat}
 use Rattle.tftp_packet.specs.declared.sizes.TheConstants.{BLOCK_SIZE}
 use Rattle.tftp_packet.specs.Blocks.{block_count, block_of, first_blocks, blocks_to, blocks_of}
 
+-- a block has BLOCK_SIZE bytes, or what is left of the file
 pub length-block_of : (file : List ℕ) (k : ℕ) → length (block_of file k) ≡ min BLOCK_SIZE (length file - BLOCK_SIZE * (k - 1))
 unfolding block_of
 length-block_of file k =
@@ -32,6 +33,7 @@ first_blocks-more file r =
 pub full_block : (file : List ℕ) (k : ℕ) → 1 ≤ k → length (block_of file k) ≡ BLOCK_SIZE → k < block_count file
 full_block file k counted full = omega (arith, length-block_of file k)
 
+-- each block before the last is full
 pub block_before : (file : List ℕ) (k : ℕ) → 1 ≤ k → k < block_count file → length (block_of file k) ≡ BLOCK_SIZE
 block_before file k counted before = omega (arith, length-block_of file k)
 
@@ -39,6 +41,7 @@ block_before file k counted before = omega (arith, length-block_of file k)
 pub short_block : (file : List ℕ) (k : ℕ) → 1 ≤ k → length (block_of file k) < BLOCK_SIZE → block_count file ≤ k
 short_block file k counted short = omega (arith, length-block_of file k)
 
+-- the last block is short
 pub last_block : (file : List ℕ) (k : ℕ) → block_count file ≤ k → length (block_of file k) < BLOCK_SIZE
 last_block file k last = omega (arith, length-block_of file k)
 
@@ -60,28 +63,36 @@ joined_first file (suc r) =
     ∙ first_blocks-more file r
     ∙ ap (first_blocks file) (sym next)
 
+-- all blocks, one after another, are the file
 pub joined : (file : List ℕ) → concat (blocks_of file) ≡ file
 joined file = joined_first file (block_count file) ∙ take_all (BLOCK_SIZE * block_count file) file (omega arith)
 
+-- a file of this length or less has fewer than 2^16 blocks, so two bytes hold each number
 pub numbered : (file : List ℕ) → length file ≤ 33553919 → block_count file < 2 ^ 16
 numbered file fits = omega arith
 
 -- ---- a block from a file in one piece
 
+-- the first BLOCK_SIZE bytes of what follows the blocks before it are a block
 block_of-rest : (file rest : List ℕ) (k number : ℕ) → number ≡ k → rest ≡ drop (BLOCK_SIZE * (number - 1)) file → take BLOCK_SIZE rest ≡ block_of file k
 unfolding block_of
 block_of-rest file rest k number number-is rest-is =
     ap (take BLOCK_SIZE) rest-is ∙ ap (λ (n : ℕ). take BLOCK_SIZE (drop (BLOCK_SIZE * (n - 1)) file)) number-is
 
 -- `count` bytes of a rest that begins with the block were copied to the start of a buffer
-pub copied_prefix : (file rest out copied : List ℕ) (k count : ℕ) → count ≡ min (length rest) BLOCK_SIZE → copied ≡ take count rest → take BLOCK_SIZE rest ≡ block_of file k → (count ≡ length (block_of file k)) × (take count (copied ++ out) ≡ block_of file k)
+pub copied_prefix : (file rest out copied : List ℕ) (k count : ℕ) → count ≡ min (length rest) BLOCK_SIZE →
+    copied ≡ take count rest → take BLOCK_SIZE rest ≡ block_of file k →
+    (count ≡ length (block_of file k)) × (take count (copied ++ out) ≡ block_of file k)
 copied_prefix file rest out copied k count count-is copied-is is_block =
     let block = ap (λ n. take n rest) count-is ∙ (ap (λ n. take n rest) (min_comm (length rest) BLOCK_SIZE) ∙ take_min BLOCK_SIZE rest) ∙ is_block in
     let size : count ≡ length (take count rest) = omega (arith, length-take count rest) in
     (size ∙ ap length block, take_at copied out count (ap length copied-is ∙ sym size) ∙ copied-is ∙ block)
 
 -- the same for a file in one piece
-pub copied_block : (file held rest out copied : List ℕ) (k number count : ℕ) → held ≡ file → number ≡ k → rest ≡ take (length held - BLOCK_SIZE * (number - 1)) (drop (BLOCK_SIZE * (number - 1)) held) → count ≡ min (length rest) BLOCK_SIZE → copied ≡ take count rest → (count ≡ length (block_of file k)) × (take count (copied ++ out) ≡ block_of file k)
+pub copied_block : (file held rest out copied : List ℕ) (k number count : ℕ) → held ≡ file → number ≡ k →
+    rest ≡ take (length held - BLOCK_SIZE * (number - 1)) (drop (BLOCK_SIZE * (number - 1)) held) →
+    count ≡ min (length rest) BLOCK_SIZE → copied ≡ take count rest →
+    (count ≡ length (block_of file k)) × (take count (copied ++ out) ≡ block_of file k)
 copied_block file held rest out copied k number count held-is number-is rest-is count-is copied-is =
     let after = rest-is ∙ take_rest held (BLOCK_SIZE * (number - 1)) ∙ ap (drop (BLOCK_SIZE * (number - 1))) held-is in
     copied_prefix file rest out copied k count count-is copied-is (block_of-rest file rest k number number-is after)

@@ -18,6 +18,7 @@ use Rattle.tftp_packet.proofs.Zeros.{zero_count-ended, before_zero-ended, after_
 
 -- ---- bytes with a fault
 
+-- bytes with a fault are decoded as this fault
 pub decode_bytes-fault : (bytes : List ℕ) (e : PacketFault) → HasPacketFault bytes e → decode_bytes bytes ≡ Err e
 unfolding decode_bytes
 decode_bytes-fault bytes Short fault = grind (arith, nat_tests)
@@ -33,6 +34,7 @@ decode_bytes-fault bytes BadError fault = grind (arith, nat_tests)
 after_number : (n : ℕ) (rest : List ℕ) → n < 2 ^ 16 → big_number 2 (big_bytes 2 n ++ rest) ≡ n
 after_number n rest fits = big_number-reads_back 2 n rest fits
 
+-- bytes that fit in a datagram are decoded by their opcode
 decode_bytes-after : (opcode : ℕ) (rest : List ℕ) → opcode < 2 ^ 16 → length (big_bytes 2 opcode ++ rest) ≤ MAX_DATAGRAM → decode_bytes (big_bytes 2 opcode ++ rest) ≡ packet_from opcode rest
 unfolding decode_bytes
 decode_bytes-after opcode rest fits size =
@@ -40,6 +42,7 @@ decode_bytes-after opcode rest fits size =
     let number = after_number opcode rest fits in
     grind (arith, nat_tests)
 
+-- a request is read up to the zero byte that ends its mode
 request_of-ended : (make : List ℕ → List ℕ → Packet) (name mode rest : List ℕ) → HasNoZero name → HasNoZero mode → request_of make (name ++ 0 ∷ (mode ++ 0 ∷ rest)) ≡ Ok (make name mode)
 request_of-ended make name mode rest name_ends mode_ends =
     let after = mode ++ 0 ∷ rest in
@@ -49,6 +52,7 @@ request_of-ended make name mode rest name_ends mode_ends =
     ∙ ap (λ (m : List ℕ). Ok (make name (before_zero m))) (after_zero-ended name after name_ends)
     ∙ ap (λ (m : List ℕ). Ok (make name m)) (before_zero-ended mode rest mode_ends)
 
+-- an ERROR is read up to the zero byte that ends its text
 error_of-ended : (code : ℕ) (text rest : List ℕ) → code < 2 ^ 16 → HasNoZero text → error_of (big_bytes 2 code ++ (text ++ 0 ∷ rest)) ≡ Ok (error code text)
 error_of-ended code text rest fits ends =
     let some : zero_count (text ++ 0 ∷ rest) ≡ 0 → ⊥ = λ e. absurd (omega (arith, zero_count-ended text rest)) in
@@ -56,6 +60,7 @@ error_of-ended code text rest fits ends =
     ∙ ap (λ (n : ℕ). Ok (error n (before_zero (text ++ 0 ∷ rest)))) (after_number code (text ++ 0 ∷ rest) fits)
     ∙ ap (λ (t : List ℕ). Ok (error code t)) (before_zero-ended text rest ends)
 
+-- a DATA is its block number and all bytes after it
 data_of-block : (block : ℕ) (body : List ℕ) → block < 2 ^ 16 → data_of (big_bytes 2 block ++ body) ≡ Ok (data_block block body)
 data_of-block block body fits =
     let long : 2 ≤ length (big_bytes 2 block ++ body) = omega arith in
@@ -91,6 +96,7 @@ decode_bytes-packet (error code text) bytes packet =
 
 -- ---- bytes are a packet or have a fault
 
+-- the bytes are a packet, or have a fault
 abbrev IsEither : List ℕ → Type 0
 IsEither bytes = ((p : Packet) × IsPacket p bytes) ⊎ ((e : PacketFault) × HasPacketFault bytes e)
 
@@ -108,10 +114,14 @@ module _ (bytes : List ℕ) (fits : IsBytes bytes) (size : length bytes ≤ MAX_
       begins.split ∙ ap (λ (xs : List ℕ). big_bytes 2 opcode ++ xs) (number_first (drop 2 bytes) (omega (arith, length-drop 2 bytes)) (IsBytes-drop 2 bytes fits))
       ∙ ap (λ (xs : List ℕ). big_bytes 2 opcode ++ (big_bytes 2 (big_number 2 (drop 2 bytes)) ++ xs)) (drop-drop 2 2 bytes)
 
+  -- the number after the opcode is below 2^16
   second_fits : big_number 2 (drop 2 bytes) < 2 ^ 16
   second_fits = big_number-fits (drop 2 bytes) (IsBytes-drop 2 bytes fits)
 
-  request_either : (make : List ℕ → List ℕ → Packet) → ((name mode more : List ℕ) → HasNoZero name → HasNoZero mode → drop 2 bytes ≡ name ++ 0 ∷ (mode ++ 0 ∷ more) → IsPacket (make name mode) bytes) → (IsCutRequest bytes → HasPacketFault bytes BadRequest) → IsEither bytes
+  -- bytes with a request's opcode are that request, or a cut one
+  request_either : (make : List ℕ → List ℕ → Packet) →
+      ((name mode more : List ℕ) → HasNoZero name → HasNoZero mode → drop 2 bytes ≡ name ++ 0 ∷ (mode ++ 0 ∷ more) →
+      IsPacket (make name mode) bytes) → (IsCutRequest bytes → HasPacketFault bytes BadRequest) → IsEither bytes
   request_either make whole cut =
       ⊎_elim
       (λ none. inr (BadRequest, cut (omega (arith, none.0))))
@@ -122,18 +132,21 @@ module _ (bytes : List ℕ) (fits : IsBytes bytes) (size : length bytes ≤ MAX_
       (zero_cases name.rest))
       (zero_cases (drop 2 bytes))
 
+  -- opcode 1, an RRQ
   read_either : Begins 1 → IsEither bytes
   read_either begins =
       request_either read
       (λ name mode more name_ends mode_ends e. record { fields = (name_ends, mode_ends); size = size; form = (more, begins.split ∙ ap (λ (xs : List ℕ). big_bytes 2 1 ++ xs) e) })
       (λ cut. ((inl begins.first, cut), (begins.long, size)))
 
+  -- opcode 2, a WRQ
   write_either : Begins 2 → IsEither bytes
   write_either begins =
       request_either write
       (λ name mode more name_ends mode_ends e. record { fields = (name_ends, mode_ends); size = size; form = (more, begins.split ∙ ap (λ (xs : List ℕ). big_bytes 2 2 ++ xs) e) })
       (λ cut. ((inr begins.first, cut), (begins.long, size)))
 
+  -- opcode 3, a DATA
   data_either : Begins 3 → IsEither bytes
   data_either begins =
       ⊎_elim
@@ -141,6 +154,7 @@ module _ (bytes : List ℕ) (fits : IsBytes bytes) (size : length bytes ≤ MAX_
       (λ long. inl (data_block (big_number 2 (drop 2 bytes)) (drop 4 bytes), record { fields = (second_fits, omega (arith, length-drop 4 bytes)); size = size; form = second_number 3 begins long }))
       (cases_lt (length bytes) 4)
 
+  -- opcode 4, an ACK
   ack_either : Begins 4 → IsEither bytes
   ack_either begins =
       ⊎_elim
@@ -151,6 +165,7 @@ module _ (bytes : List ℕ) (fits : IsBytes bytes) (size : length bytes ≤ MAX_
       (λ other. inr (BadBlock, (inr (begins.first, other), (begins.long, size))))
       (cases_eq (length bytes) 4)
 
+  -- opcode 5, an ERROR
   error_either : Begins 5 → IsEither bytes
   error_either begins =
       ⊎_elim
@@ -161,6 +176,7 @@ module _ (bytes : List ℕ) (fits : IsBytes bytes) (size : length bytes ≤ MAX_
       inl (error (big_number 2 (drop 2 bytes)) text.text, record { fields = (second_fits, text.none); size = size; form = (text.rest, form) }))
       (zero_cases (drop 4 bytes))
 
+  -- any opcode
   opcode_either : (opcode : ℕ) → Begins opcode → IsEither bytes
   opcode_either zero begins = inr (BadOpcode, (inl (omega (arith, begins.first)), (begins.long, size)))
   opcode_either (suc zero) begins = read_either begins
@@ -170,6 +186,7 @@ module _ (bytes : List ℕ) (fits : IsBytes bytes) (size : length bytes ≤ MAX_
   opcode_either (suc (suc (suc (suc (suc zero))))) begins = error_either begins
   opcode_either (suc (suc (suc (suc (suc (suc n)))))) begins = inr (BadOpcode, (inr (omega (arith, begins.first)), (begins.long, size)))
 
+-- any bytes are a packet or have a fault
 pub packet_or_fault : (bytes : List ℕ) → IsBytes bytes → IsEither bytes
 packet_or_fault bytes fits =
     ⊎_elim
@@ -183,6 +200,7 @@ packet_or_fault bytes fits =
 
 -- ---- the relation and the function
 
+-- what bytes are decoded as is the packet that they are
 pub decoded_packet : (bytes : List ℕ) (p : Packet) → IsBytes bytes → decode_bytes bytes ≡ Ok p → IsPacket p bytes
 decoded_packet bytes p fits e =
     ⊎_elim
@@ -195,6 +213,7 @@ decoded_packet bytes p fits e =
     absurd cc)
     (packet_or_fault bytes fits)
 
+-- a fault that is returned is a fault of the bytes
 pub decoded_fault : (bytes : List ℕ) (d : PacketFault) → IsBytes bytes → decode_bytes bytes ≡ Err d → HasPacketFault bytes d
 decoded_fault bytes d fits e =
     ⊎_elim
@@ -207,18 +226,21 @@ decoded_fault bytes d fits e =
     subst (λ q. HasPacketFault bytes q) same found.1)
     (packet_or_fault bytes fits)
 
+-- bytes are at most one packet
 pub one_packet : (bytes : List ℕ) (p q : Packet) → IsPacket p bytes → IsPacket q bytes → p ≡ q
 one_packet bytes p q first second =
     let one = decode_bytes-packet p bytes first in
     let other = decode_bytes-packet q bytes second in
     cc
 
+-- bytes have at most one fault
 pub one_fault : (bytes : List ℕ) (d e : PacketFault) → HasPacketFault bytes d → HasPacketFault bytes e → d ≡ e
 one_fault bytes d e first second =
     let one = decode_bytes-fault bytes d first in
     let other = decode_bytes-fault bytes e second in
     cc
 
+-- bytes that are a packet have no fault
 pub packet_without_fault : (bytes : List ℕ) (p : Packet) (e : PacketFault) → IsPacket p bytes → HasPacketFault bytes e → ⊥
 packet_without_fault bytes p e packet fault =
     let one = decode_bytes-packet p bytes packet in
@@ -239,6 +261,7 @@ length-encode (data_block block body) = omega arith
 length-encode (ack block) = refl
 length-encode (error code text) = omega (arith, length-append text (0 ∷ []))
 
+-- an encoded packet has the form of that packet
 encode-form : (p : Packet) → HasForm p (encode p)
 unfolding encode
 encode-form (read name mode) = ([], refl)
@@ -247,6 +270,7 @@ encode-form (data_block block body) = refl
 encode-form (ack block) = refl
 encode-form (error code text) = ([], refl)
 
+-- a packet whose fields are in range is encoded as bytes that are this packet
 pub IsPacket-encode : (p : Packet) → HasPacketFields p → packet_size p ≤ MAX_DATAGRAM → IsPacket p (encode p)
 IsPacket-encode p fields size =
     record { fields = fields; size = omega (arith, length-encode p); form = encode-form p }

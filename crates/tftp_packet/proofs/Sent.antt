@@ -1,4 +1,4 @@
--- Decoding any bytes, and the ERROR packets that are sent.
+-- The body of a DATA that is decoded is no longer than a block, and each ERROR that is sent reads back.
 use Rattle.std.proofs.Common.{◌≡◌, ℕ, ◌+◌, ◌≤◌, Bool, true, false, ◌==◌, nat_lt, cond, List, length, drop, Result, Ok, Err, IfOk, refl, subst, arith, length-drop}
 use Rattle.std.proofs.lemmas.Bool.{ltb-false}
 use Rattle.byteorder.specs.Endian.{big_number}
@@ -14,6 +14,7 @@ use Rattle.tftp_packet.proofs.Packets.{decode_bytes-encode}
 
 -- ---- how long the body of a DATA is
 
+-- the body of a DATA is no longer than a block
 abbrev HasShortBody : Packet → Type 0
 HasShortBody (read name mode) = Unit {0}
 HasShortBody (write name mode) = Unit {0}
@@ -34,6 +35,7 @@ either_short false x y first second = second
 
 -- what follows the opcode
 module _ (rest : List ℕ) (size : length rest ≤ BLOCK_SIZE + 2) where
+  -- a DATA
   data_short : IsShort (data_of rest)
   data_short =
       either_short (nat_lt (length rest) 2) (Err BadBlock) (Ok (data_block (big_number 2 rest) (drop 2 rest))) (none_short BadBlock) (record { short = omega (arith, length-drop 2 rest) })
@@ -50,6 +52,7 @@ module _ (rest : List ℕ) (size : length rest ≤ BLOCK_SIZE + 2) where
   error_short : IsShort (error_of rest)
   error_short = either_short (zero_count (drop 2 rest) == 0) (Err BadError) _ (none_short BadError) (record { short = tt })
 
+  -- whatever the opcode
   packet_short : (opcode : ℕ) → IsShort (packet_from opcode rest)
   packet_short opcode =
       either_short (opcode == 1) _ _ read_short
@@ -57,23 +60,27 @@ module _ (rest : List ℕ) (size : length rest ≤ BLOCK_SIZE + 2) where
       (either_short (opcode == 3) _ _ data_short
       (either_short (opcode == 4) _ _ ack_short (either_short (opcode == 5) _ _ error_short (none_short BadOpcode)))))
 
+-- bytes that fit in a datagram: a longer body would make them too long
 long_short : (bytes : List ℕ) (b : Bool) → nat_lt MAX_DATAGRAM (length bytes) ≡ b → IsShort (cond b (Err TooLong) (packet_from (big_number 2 bytes) (drop 2 bytes)))
 long_short bytes true is = none_short TooLong
 long_short bytes false is =
     let size : length bytes ≤ MAX_DATAGRAM = ltb-false _ _ is in
     packet_short (drop 2 bytes) (omega (arith, length-drop 2 bytes)) (big_number 2 bytes)
 
+-- the body of any decoded packet is short
 decode_short : (bytes : List ℕ) → IsShort (decode_bytes bytes)
 unfolding decode_bytes
 decode_short bytes =
     either_short (nat_lt (length bytes) 2) (Err Short) _ (none_short Short)
     (long_short bytes (nat_lt MAX_DATAGRAM (length bytes)) refl)
 
+-- the body of a decoded DATA is no longer than a block
 pub data_size : (bytes : List ℕ) (n : ℕ) (body : List ℕ) → decode_bytes bytes ≡ Ok (data_block n body) → length body ≤ BLOCK_SIZE
 data_size bytes n body e = (subst IsShort e (decode_short bytes)).short
 
 -- ---- the refusals
 
+-- the fields of each ERROR that is sent are in range
 refusal-fields : (refusal : Refusal) → HasPacketFields (refusal_packet refusal)
 refusal-fields OctetOnly = (omega arith, refl)
 refusal-fields NoSuchFile = (omega arith, refl)

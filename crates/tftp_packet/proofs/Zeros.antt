@@ -27,6 +27,7 @@ zero_count-ended text rest =
 first_zero-suc : (n : ℕ) (xs : List ℕ) → position_or_len is_zero (suc n ∷ xs) ≡ 1 + position_or_len is_zero xs
 first_zero-suc n xs = rw (is_zero-suc n) refl
 
+-- the first zero byte is the one that ends the text
 first_zero-ended : (text rest : List ℕ) → HasNoZero text → position_or_len is_zero (text ++ 0 ∷ rest) ≡ length text
 first_zero-ended [] rest none = refl
 first_zero-ended (zero ∷ text) rest none = absurd (omega (arith, none, zero_count-zero text))
@@ -34,9 +35,11 @@ first_zero-ended (suc n ∷ text) rest none =
     let later = first_zero-ended text rest (sym (zero_count-suc n text) ∙ none) in
     first_zero-suc n (text ++ 0 ∷ rest) ∙ omega (arith, later)
 
+-- what comes before the first zero byte is the text that it ends
 pub before_zero-ended : (text rest : List ℕ) → HasNoZero text → before_zero (text ++ 0 ∷ rest) ≡ text
 before_zero-ended text rest none = take_at text (0 ∷ rest) _ (sym (first_zero-ended text rest none))
 
+-- what comes after the first zero byte is what follows the text
 pub after_zero-ended : (text rest : List ℕ) → HasNoZero text → after_zero (text ++ 0 ∷ rest) ≡ rest
 after_zero-ended text rest none =
     let behind = first_zero-ended text rest none in
@@ -52,6 +55,7 @@ pub record IsEnded (bytes : List ℕ) : Type 0 where
   pub none : HasNoZero text
   pub split : bytes ≡ text ++ 0 ∷ rest
 
+-- bytes have no zero byte, or are a text that one ends and what follows it
 pub zero_cases : (bytes : List ℕ) → (HasNoZero bytes × (position_or_len is_zero bytes ≡ length bytes)) ⊎ IsEnded bytes
 zero_cases [] = inl (refl, refl)
 zero_cases (zero ∷ bytes) = inr (record { text = []; rest = bytes; none = refl; split = refl })
@@ -68,6 +72,7 @@ ended_position : (bytes : List ℕ) → IsEnded bytes → position_or_len is_zer
 ended_position bytes e =
     rw e.split (omega (arith, first_zero-ended e.text e.rest e.none, length-append e.text (0 ∷ e.rest)))
 
+-- if no zero byte is found, there is none
 pub no_position : (bytes : List ℕ) → position is_zero bytes ≡ None → HasNoZero bytes
 no_position bytes nowhere =
     ⊎_elim
@@ -77,6 +82,7 @@ no_position bytes nowhere =
     absurd cc)
     (zero_cases bytes)
 
+-- after the first zero byte there is one fewer
 pub some_position : (bytes : List ℕ) (i : ℕ) → position is_zero bytes ≡ Some i → zero_count bytes ≡ zero_count (after_zero bytes) + 1
 some_position bytes i somewhere =
     ⊎_elim

@@ -17,6 +17,7 @@ even_by a b Less is up down = absurd (up (sym is))
 even_by a b Equal is up down = rank_tie a b (sym is)
 even_by a b Greater is up down = let back = rank_total.antisymm (rank_of b) (rank_of a) in absurd (down (rw (← is) at back))
 
+-- of two bodies, if neither is better they are equal
 even : (a b : List ℕ) → (IsBelow (rank_of a) (rank_of b) → ⊥) → (IsBelow (rank_of b) (rank_of a) → ⊥) → a ≡ b
 even a b up down = even_by a b (rank_cmp (rank_of a) (rank_of b)) refl up down
 
@@ -70,17 +71,23 @@ held_by_best IsMember es of f member =
     let k = of.every f member in
     record { holder = k.entry; member = k.present; same = k.key_is; no_worse = (of.best k.entry k.present).least f member (sym k.key_is) }
 
+-- a larger set holds what a smaller one does
 pub held_in : (IsFew IsMany : KeyedBody → Type 0) → ((e : KeyedBody) → IsFew e → IsMany e) → (f : KeyedBody) → IsHeld IsFew f → IsHeld IsMany f
 held_in IsFew IsMany more f h = record { holder = h.holder; member = more h.holder h.member; same = h.same; no_worse = h.no_worse }
 
 -- sets with the same members have the same best
-pub same_best : (IsFirst IsSecond : KeyedBody → Type 0) (es : List KeyedBody) → IsBestOf IsFirst es → ((e : KeyedBody) → IsFirst e → IsSecond e) → ((e : KeyedBody) → IsSecond e → IsFirst e) → IsBestOf IsSecond es
+pub same_best : (IsFirst IsSecond : KeyedBody → Type 0) (es : List KeyedBody) → IsBestOf IsFirst es →
+    ((e : KeyedBody) → IsFirst e → IsSecond e) → ((e : KeyedBody) → IsSecond e → IsFirst e) → IsBestOf IsSecond es
 same_best IsFirst IsSecond es of there back = widen IsFirst IsSecond es of there (λ f second. held_itself IsFirst f (back f second))
 
 -- a collection is its own best
 pub own_best : (es : List KeyedBody) → IsRising es → IsBestOf (Contains es) es
 own_best es rising = record {
   rising = rising;
-  best = λ e has. record { member = has; least = λ f also same below. rank_itself (rank_of e.body) (subst (λ (x : KeyedBody). IsBelow (rank_of x.body) (rank_of e.body)) (one_entry es f e rising also has same) below) };
+  best = λ e has. record {
+    member = has;
+    least = λ f also same below. rank_itself (rank_of e.body)
+        (subst (λ (x : KeyedBody). IsBelow (rank_of x.body) (rank_of e.body)) (one_entry es f e rising also has same) below);
+  };
   every = λ f has. record { entry = f; present = has; key_is = refl };
 }

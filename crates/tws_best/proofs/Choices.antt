@@ -1,4 +1,4 @@
--- The function returns what is best.
+-- The function `best_of` returns what is best.
 use Rattle.std.proofs.Common.{◌≡◌, ◌⊎◌, Bool, true, false, List, [], ◌∷◌, refl, ap, sym, ◌∙◌, subst, inl, inr, if◌then◌else◌}
 use Rattle.std.specs.declared.cmp.Ordering.{Ordering}
 use Rattle.std.specs.declared.cmp.Ordering.TheVariants.{Less, Equal, Greater}
@@ -29,16 +29,28 @@ is_less Equal e = absurd cc
 is_less Greater e = absurd cc
 
 -- of two with the same key, the better one stays
-one_stays : (stays goes : KeyedBody) (es : List KeyedBody) → goes.key ≡ stays.key → IsRising (stays ∷ es) → (IsBelow (rank_of goes.body) (rank_of stays.body) → ⊥) → (IsAll : KeyedBody → Type 0) → IsAll stays → ((f : KeyedBody) → Contains es f → IsAll f) → ((f : KeyedBody) → IsAll f → (f ≡ goes) ⊎ Contains (stays ∷ es) f) → IsBestOf IsAll (stays ∷ es)
+one_stays : (stays goes : KeyedBody) (es : List KeyedBody) → goes.key ≡ stays.key → IsRising (stays ∷ es) →
+    (IsBelow (rank_of goes.body) (rank_of stays.body) → ⊥) → (IsAll : KeyedBody → Type 0) → IsAll stays →
+    ((f : KeyedBody) → Contains es f → IsAll f) → ((f : KeyedBody) → IsAll f → (f ≡ goes) ⊎ Contains (stays ∷ es) f) →
+    IsBestOf IsAll (stays ∷ es)
 one_stays stays goes es same rising no_worse IsAll here there cases =
     widen (Contains (stays ∷ es)) IsAll (stays ∷ es) (own_best (stays ∷ es) rising)
     (λ f has. elim (Contains-cases stays es f has) [ inl is ↦ subst IsAll is here | inr later ↦ there f later ])
     (λ f all. elim (cases f all) [
-      | inl is ↦ (record { holder = stays; member = Contains-here stays es; same = sym same ∙ ap (λ (g : KeyedBody). g.key) (sym is); no_worse = subst (λ (g : KeyedBody). IsBelow (rank_of g.body) (rank_of stays.body) → ⊥) (sym is) no_worse })
+      | inl is ↦ (record {
+        holder = stays;
+        member = Contains-here stays es;
+        same = sym same ∙
+            ap (λ (g : KeyedBody). g.key) (sym is);
+        no_worse =
+            subst (λ (g : KeyedBody). IsBelow (rank_of g.body) (rank_of stays.body) → ⊥) (sym is) no_worse;
+      })
       | inr has ↦ held_itself (Contains (stays ∷ es)) f has
     ])
 
-better_stays : (b : Bool) (x e : KeyedBody) (es : List KeyedBody) → b ≡ is_lt (rank_cmp (rank_of x.body) (rank_of e.body)) → x.key ≡ e.key → IsRising (e ∷ es) → IsBestOf (Contains (x ∷ (e ∷ es))) ((if b then x else e) ∷ es)
+-- the same, by a test that was made
+better_stays : (b : Bool) (x e : KeyedBody) (es : List KeyedBody) → b ≡ is_lt (rank_cmp (rank_of x.body) (rank_of e.body)) →
+    x.key ≡ e.key → IsRising (e ∷ es) → IsBestOf (Contains (x ∷ (e ∷ es))) ((if b then x else e) ∷ es)
 better_stays true x e es is same rising =
     let less = is_less (rank_cmp (rank_of x.body) (rank_of e.body)) (sym is) in
     one_stays x e es (sym same) (rises_instead x e es same rising)
@@ -93,7 +105,9 @@ goes_after x e es rest greater rising of =
       ];
     }
 
-placed_best : (o : Ordering) (x e : KeyedBody) (es rest : List KeyedBody) → o ≡ key_cmp x.key e.key → IsRising (e ∷ es) → IsBestOf (Contains (x ∷ es)) rest → IsBestOf (Contains (x ∷ (e ∷ es))) (placed o x e es rest)
+-- wherever the entry goes, the list is the best of it and the others
+placed_best : (o : Ordering) (x e : KeyedBody) (es rest : List KeyedBody) → o ≡ key_cmp x.key e.key → IsRising (e ∷ es) →
+    IsBestOf (Contains (x ∷ es)) rest → IsBestOf (Contains (x ∷ (e ∷ es))) (placed o x e es rest)
 placed_best Less x e es rest is rising of = own_best (x ∷ (e ∷ es)) (rises_before x e es (sym is) rising)
 placed_best Equal x e es rest is rising of = better_stays (is_lt (rank_cmp (rank_of x.body) (rank_of e.body))) x e es refl (key_tie x.key e.key (sym is)) rising
 placed_best Greater x e es rest is rising of = goes_after x e es rest (sym is) rising of

@@ -15,22 +15,28 @@ use Rattle.tws_best.specs.Bodies.{BodyPair, keyed_bodies}
 use Rattle.tws_best.proofs.Members.{Contains-none, Contains-here, Contains-there, Contains-cases}
 use Rattle.tws_best.proofs.Orders.{key_tie, key_itself}
 
+-- a pair of a map as an entry
 abbrev pub entry : Key → List ℕ → KeyedBody
 entry key body = record { key = key; body = body }
 
 -- ---- keys in order
 
+-- a key below all keys is below those of all entries
 all_above : (k : Key) (ps : List BodyPair) → AllByRecursion (λ q. key_cmp k q ≡ Less) (keys_of ps) → AllByRecursion (λ (f : KeyedBody). key_cmp k f.key ≡ Less) (keyed_bodies ps)
 all_above k [] all = tt
 all_above k (p ∷ ps) all = (all.0, all_above k ps all.1)
 
+-- the keys of a map's entries rise
 pub rising_of : (ps : List BodyPair) → IsStrictlySortedBy key_cmp (keys_of ps) → IsRising (keyed_bodies ps)
 rising_of [] sorted = tt
 rising_of (p ∷ ps) sorted = (all_above p.0 ps (sorted_head key_cmp p.0 (keys_of ps) sorted), rising_of ps (sorted_tail key_cmp p.0 (keys_of ps) sorted))
 
 -- ---- the lookup
 
-found_at : (o : Ordering) (k : Key) (b : List ℕ) (p : BodyPair) (ps : List BodyPair) → o ≡ key_cmp k p.0 → lookup (is_at (key_cmp k)) (p ∷ ps) ≡ Some b → (lookup (is_at (key_cmp k)) ps ≡ Some b → Contains (keyed_bodies ps) (entry k b)) → Contains (keyed_bodies (p ∷ ps)) (entry k b)
+found_at : (o : Ordering) (k : Key) (b : List ℕ) (p : BodyPair) (ps : List BodyPair) → o ≡ key_cmp k p.0 →
+    lookup (is_at (key_cmp k)) (p ∷ ps) ≡ Some b →
+    (lookup (is_at (key_cmp k)) ps ≡ Some b → Contains (keyed_bodies ps) (entry k b)) →
+    Contains (keyed_bodies (p ∷ ps)) (entry k b)
 found_at Less k b p ps is some rest =
     Contains-there (entry p.0 p.1) (keyed_bodies ps) (entry k b) (rest (sym (lookup_tail (is_at (key_cmp k)) p ps (ap is_eq (sym is))) ∙ some))
 found_at Equal k b p ps is some rest =

@@ -8,6 +8,7 @@ pub mod Choices
 pub mod Found
 pub mod Changes
 pub mod Taking
+pub mod Merges
 pub mod Solved
 pub mod BodyTexts
 pub mod Results

@@ -3,6 +3,7 @@ use Rattle.std.proofs.Common.{◌≡◌, ◌⊎◌, List, [], ◌∷◌, length,
 use Rattle.std.specs.List.{Contains, AllByRecursion}
 use Rattle.std.proofs.lemmas.List.Elements.{Contains-append_right, Contains-append_cases, Contains-push_cases}
 
+-- lists of any type
 module _ {X : Type 0} where
   pub Contains-none : (x : X) → Contains [] x → ⊥
   Contains-none x (k, lt, is) = omega arith

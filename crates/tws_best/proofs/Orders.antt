@@ -1,4 +1,4 @@
--- What follows from the orders of keys, ranks and entries.
+-- What follows from the orders of keys, ranks and entries: they are total, and only what is equal ties.
 use Rattle.std.proofs.Common.{◌≡◌, ◌≢◌, ℕ, true, false, List, refl, ap, sym, subst, ◌∙◌}
 use Rattle.std.specs.declared.cmp.Ordering.{Ordering}
 use Rattle.std.specs.declared.cmp.Ordering.TheVariants.{Less, Equal, Greater}
@@ -13,9 +13,11 @@ use Rattle.tws_best.specs.Best.{key_cmp}
 
 -- ---- keys
 
+-- the order of keys is total
 pub key_total : IsTotalOrder key_cmp
 key_total = then_total (on_total (λ (k : Key). k.number) nat_cmp_total) (on_total (λ (k : Key). k.password) nat_list_cmp_total)
 
+-- two comparisons in a row find no difference only if neither does
 then_Equal : (r s : Ordering) → ordering_then r s ≡ Equal → (r ≡ Equal) × (s ≡ Equal)
 then_Equal Less s e = absurd cc
 then_Equal Equal s e = (refl, e)
@@ -68,6 +70,7 @@ gt_reverse Less e = absurd cc
 gt_reverse Equal e = refl
 gt_reverse Greater e = refl
 
+-- if one rank is not better, the other is not worse
 not_above : (x y : Ranking) → (IsBelow y x → ⊥) → is_gt (rank_cmp x y) ≡ false
 not_above x y not = ap is_gt (rank_total.antisymm x y) ∙ reverse_gt (rank_cmp y x) (not_less (rank_cmp y x) not)
 

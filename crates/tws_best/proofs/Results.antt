@@ -1,4 +1,4 @@
--- What follows from a result.
+-- What follows from a result: a property that it has gives way to a weaker one.
 use Rattle.std.proofs.Common.{Result, Ok, Err, OnOk, OnErr}
 
 pub on_ok : {T E P Q : Type 0} (r : Result T E) → (P → Q) → OnOk r P → OnOk r Q

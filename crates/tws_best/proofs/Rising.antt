@@ -28,6 +28,7 @@ one_entry (d ∷ ds) e f rising has_e has_f same =
 both_below : (e f : KeyedBody) → key_cmp e.key f.key ≡ Less → key_cmp f.key e.key ≡ Less → ⊥
 both_below e f up down = key_apart e.key e.key (key_total.trans e.key f.key e.key up down) refl
 
+-- of rising lists with the same entries the first ones are equal
 heads : (d e : KeyedBody) (ds es : List KeyedBody) → IsRising (d ∷ ds) → IsRising (e ∷ es) → Contains (e ∷ es) d → Contains (d ∷ ds) e → d ≡ e
 heads d e ds es rising_d rising_e has_d has_e =
     elim (Contains-cases e es d has_d) [
@@ -38,6 +39,7 @@ heads d e ds es rising_d rising_e has_d has_e =
       ]
     ]
 
+-- and what follows the first ones has the same entries
 tails : (d e : KeyedBody) (ds es : List KeyedBody) (f : KeyedBody) → d ≡ e → IsRising (d ∷ ds) → Contains ds f → Contains (e ∷ es) f → Contains es f
 tails d e ds es f same rising has_f has =
     elim (Contains-cases e es f has) [

@@ -7,7 +7,7 @@ use Rattle.tws_file.specs.Text.{Record, Solution, pad, set, bare, solution}
 use Rattle.tws_file.specs.Record.{record_of, records_of}
 use Rattle.tws_best.specs.Best.{KeyedBody, keyed_body, solved_in}
 
-solved_in-append : (rs ss : List Record) → solved_in (rs ++ ss) ≡ solved_in rs ++ solved_in ss
+pub solved_in-append : (rs ss : List Record) → solved_in (rs ++ ss) ≡ solved_in rs ++ solved_in ss
 solved_in-append [] ss = refl
 solved_in-append (pad ∷ rs) ss = solved_in-append rs ss
 solved_in-append (set rest ∷ rs) ss = solved_in-append rs ss
@@ -15,7 +15,9 @@ solved_in-append (bare key ∷ rs) ss = solved_in-append rs ss
 solved_in-append (solution s ∷ rs) ss = let rest = solved_in-append rs ss in cc
 
 -- one more record
-pub solved_more : {A : Type 0} (records : List (stored.Record A)) (i : ℕ) (one : stored.Record A) → i < length records → one ≡ get_or records i one → solved_in (records_of (take (i + 1) records)) ≡ solved_in (records_of (take i records)) ++ solved_in (record_of one ∷ [])
+pub solved_more : {A : Type 0} (records : List (stored.Record A)) (i : ℕ) (one : stored.Record A) → i < length records →
+    one ≡ get_or records i one → solved_in (records_of (take (i + 1) records)) ≡ solved_in (records_of (take i records)) ++
+    solved_in (record_of one ∷ [])
 solved_more records i one inside is =
     ap (λ rs. solved_in (records_of rs)) (take_more records i one inside ∙ ap (λ r. take i records ++ r ∷ []) (sym is))
     ∙ ap solved_in (map-append record_of (take i records) (one ∷ []))
@@ -38,6 +40,7 @@ mapped_more f xs i x inside is = map_more f xs i x inside ∙ ap (λ y. map f (t
 
 -- one more record, if the solutions before it were found
 module _ {A : Type 0} (so_far before all items : List KeyedBody) (item : stored.Record A) (more : all ≡ so_far ++ solved_in (record_of item ∷ [])) (is_so_far : before ≡ so_far) where
+  -- it is a solution, which comes last
   pub step_solution : (s : Solution) → item ≡ Solved s → items ≡ before ++ keyed_body s ∷ [] → items ≡ all
   step_solution s is items_is =
       items_is
@@ -45,6 +48,7 @@ module _ {A : Type 0} (so_far before all items : List KeyedBody) (item : stored.
       ∙ ap (λ (r : stored.Record A). so_far ++ solved_in (record_of r ∷ [])) (sym is)
       ∙ sym more
 
+  -- it is no solution, and nothing is added
   pub step_other : ((s : Solution) → item ≡ Solved s → ⊥) → items ≡ before → items ≡ all
   step_other not items_is =
       items_is ∙ is_so_far ∙ sym (append-nil so_far) ∙ ap (λ (es : List KeyedBody). so_far ++ es) (sym (not_solved item not)) ∙ sym more

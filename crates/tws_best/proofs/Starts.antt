@@ -14,6 +14,7 @@ pub starts_length : (at : ℕ) (bodies : List (List ℕ)) → length (starts_fro
 starts_length at [] = refl
 starts_length at (b ∷ bs) = ap suc (starts_length (at + length (body_text b)) bs)
 
+-- the offset of record i is where the texts of the bodies before it end
 pub start_at : (at : ℕ) (bodies : List (List ℕ)) (i : ℕ) → i < length bodies → get_or (starts_from at bodies) i 0 ≡ at + length (texts (take i bodies))
 start_at at [] i inside = absurd (omega arith)
 start_at at (b ∷ bs) zero inside = omega arith
@@ -28,11 +29,13 @@ starts_push at (b ∷ bs) body =
     let size : (at + length (body_text b)) + length (texts bs) ≡ at + length (texts (b ∷ bs)) = omega (arith, length-append (body_text b) (texts bs)) in
     ap (λ (ns : List ℕ). at ∷ ns) (rest ∙ ap (λ n. starts_from (at + length (body_text b)) bs ++ n ∷ []) size)
 
+-- one more body adds its size field and its own length
 pub texts_push : (bodies : List (List ℕ)) (body : List ℕ) → length (texts (bodies ++ body ∷ [])) ≡ length (texts bodies) + length (body_text body)
 texts_push bodies body =
     ap length (flat_map-append body_text bodies (body ∷ []) ∙ ap (λ (xs : List ℕ). texts bodies ++ xs) (append-nil (body_text body)))
     ∙ length-append (texts bodies) (body_text body)
 
+-- more bodies have a longer text
 rises : (bodies : List (List ℕ)) (i j : ℕ) → i ≤ j → length (texts (take i bodies)) ≤ length (texts (take j bodies))
 rises bodies zero j le = omega arith
 rises bodies (suc i) zero le = absurd (omega arith)
@@ -40,6 +43,7 @@ rises [] (suc i) (suc j) le = omega arith
 rises (b ∷ bs) (suc i) (suc j) le =
     omega (arith, rises bs i j (omega (arith, le)), length-append (body_text b) (texts (take i bs)), length-append (body_text b) (texts (take j bs)))
 
+-- the offsets rise
 pub starts_rise : (at : ℕ) (bodies : List (List ℕ)) → IsNonDecreasingBy (λ n. n) (starts_from at bodies)
 starts_rise at bodies i j d le inside =
     let count = starts_length at bodies in
@@ -49,24 +53,31 @@ starts_rise at bodies i j d le inside =
 
 -- ---- the record with the byte at an offset
 
+-- the record at `index` starts at `start`, and the offset is in it or at its end
 record IsFound (bodies : List (List ℕ)) (offset index start : ℕ) : Type 0 where
   inside : index < length bodies
   low : start ≤ offset
   within : offset ≤ start + length (body_text (get_or bodies index []))
   is : start ≡ 8 + length (texts (take index bodies))
 
+-- if an offset after the header is within the text, there is a body
 some_body : (bodies : List (List ℕ)) (offset : ℕ) → 8 < offset → offset ≤ 8 + length (texts bodies) → 0 < length bodies
 some_body [] offset past last = absurd (omega arith)
 some_body (b ∷ bs) offset past last = omega arith
 
 -- the place after the offsets that are not above this one
-module _ (bodies : List (List ℕ)) (starts : List ℕ) (offset place : ℕ) (starts-is : starts ≡ starts_from 8 bodies) (past : 8 < offset) (last : offset ≤ 8 + length (texts bodies)) (bound : place ≤ length starts) (point : IsPartitionPoint (λ y. leb y offset ≡ true) (λ y. leb y offset ≡ false) starts place) where
+module _ (bodies : List (List ℕ)) (starts : List ℕ) (offset place : ℕ) (starts-is : starts ≡ starts_from 8 bodies)
+    (past : 8 < offset) (last : offset ≤ 8 + length (texts bodies)) (bound : place ≤ length starts)
+    (point : IsPartitionPoint (λ y. leb y offset ≡ true) (λ y. leb y offset ≡ false) starts place) where
+  -- as many offsets as bodies
   count : length starts ≡ length bodies
   count = ap length starts-is ∙ starts_length 8 bodies
 
+  -- each offset is where its record starts
   start-is : (i : ℕ) → i < length bodies → get_or starts i 0 ≡ 8 + length (texts (take i bodies))
   start-is i inside = ap (λ (ns : List ℕ). get_or ns i 0) starts-is ∙ start_at 8 bodies i inside
 
+  -- the place is not the first one, as the first record starts before the offset
   place_past : 0 < place
   place_past = elim (cases_lt 0 place) [
     | inl lt ↦ lt
@@ -75,13 +86,16 @@ module _ (bodies : List (List ℕ)) (starts : List ℕ) (offset place : ℕ) (st
         absurd (omega (arith, above, start-is 0 some)))
   ]
 
+  -- the record before the place is the one that the offset is in
   found_there : (index : ℕ) → index + 1 ≡ place → IsFound bodies offset index (get_or starts index 0)
   found_there index next =
       let inside : index < length bodies = omega (arith, bound, count) in
       let is = start-is index inside in
       let low = leb-true (get_or starts index 0) offset (point.0 index 0 (omega arith) (omega arith)) in
       let size : length (texts (take (index + 1) bodies)) ≡ length (texts (take index bodies)) + length (body_text (get_or bodies index [])) =
-      ap length (texts_more bodies index (get_or bodies index []) inside (get_or_default bodies index [] (get_or bodies index []) inside)) ∙ length-append (texts (take index bodies)) (body_text (get_or bodies index [])) in
+      ap length (texts_more bodies index (get_or bodies index []) inside
+      (get_or_default bodies index [] (get_or bodies index []) inside)) ∙
+      length-append (texts (take index bodies)) (body_text (get_or bodies index [])) in
       record {
         inside = inside;
         low = low;
@@ -105,7 +119,10 @@ pub record IsFoundIn (s : Frozen) (starts : List ℕ) (offset place : ℕ) : Typ
   pub within : offset ≤ get_or starts (place - 1) 0 + length (body_text (get_or s.bodies (place - 1) []))
   pub is : get_or starts (place - 1) 0 ≡ record_start s (place - 1)
 
-pub found_in : (own s : Frozen) (starts : List ℕ) (offset place : ℕ) → own ≡ s → starts ≡ starts_from 8 own.bodies → 8 < offset → offset ≤ length (frozen_text s) → place ≤ length starts → IsPartitionPoint (λ y. leb y offset ≡ true) (λ y. leb y offset ≡ false) starts place → IsFoundIn s starts offset place
+-- the place where a search among the offsets ends gives that record
+pub found_in : (own s : Frozen) (starts : List ℕ) (offset place : ℕ) → own ≡ s → starts ≡ starts_from 8 own.bodies → 8 < offset →
+    offset ≤ length (frozen_text s) → place ≤ length starts →
+    IsPartitionPoint (λ y. leb y offset ≡ true) (λ y. leb y offset ≡ false) starts place → IsFoundIn s starts offset place
 found_in own s starts offset place own-is starts-are past last bound point =
     let are = starts-are ∙ ap (λ v. starts_from 8 v.bodies) own-is in
     let reach : offset ≤ 8 + length (texts s.bodies) = omega (arith, last) in
@@ -130,7 +147,8 @@ all_noted old new left next all given body new-is given-is left-is all-is =
     ∙ all-is
 
 -- one more start
-pub start_noted : (bodies more : List (List ℕ)) (starts next : List ℕ) (len : ℕ) (body : List ℕ) → more ≡ bodies ++ body ∷ [] → starts ≡ starts_from 8 bodies → len ≡ 8 + length (texts bodies) → next ≡ starts ++ len ∷ [] → next ≡ starts_from 8 more
+pub start_noted : (bodies more : List (List ℕ)) (starts next : List ℕ) (len : ℕ) (body : List ℕ) → more ≡ bodies ++ body ∷ [] →
+    starts ≡ starts_from 8 bodies → len ≡ 8 + length (texts bodies) → next ≡ starts ++ len ∷ [] → next ≡ starts_from 8 more
 start_noted bodies more starts next len body more-is starts-is len-is next-is =
     next-is
     ∙ ap (λ (ns : List ℕ). ns ++ len ∷ []) starts-is
@@ -138,7 +156,9 @@ start_noted bodies more starts next len body more-is starts-is len-is next-is =
     ∙ sym (starts_push 8 bodies body)
     ∙ ap (starts_from 8) (sym more-is)
 
-pub len_noted : (bodies more : List (List ℕ)) (len size : ℕ) (body : List ℕ) → more ≡ bodies ++ body ∷ [] → len ≡ 8 + length (texts bodies) → size ≡ length (body_text body) → len + size ≡ 8 + length (texts more)
+-- with one more body the length is still that of the text
+pub len_noted : (bodies more : List (List ℕ)) (len size : ℕ) (body : List ℕ) → more ≡ bodies ++ body ∷ [] →
+    len ≡ 8 + length (texts bodies) → size ≡ length (body_text body) → len + size ≡ 8 + length (texts more)
 len_noted bodies more len size body more-is len-is size-is =
     let longer : length (texts more) ≡ length (texts bodies) + length (body_text body) = ap (λ (bs : List (List ℕ)). length (texts bs)) more-is ∙ texts_push bodies body in
     omega arith

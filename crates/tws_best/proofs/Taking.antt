@@ -15,7 +15,7 @@ use Rattle.tws_best.specs.Rank.{rank_of, IsBelow}
 use Rattle.tws_best.specs.Best.{KeyedBody, IsKeyedBody, IsBestOf, IsRising, AreCollected, key_cmp, keyed_body, solved_in}
 use Rattle.tws_best.specs.Bodies.{BodyPair, keyed_bodies}
 use Rattle.tws_best.specs.Choice.{placed, better_of, put_in}
-use Rattle.tws_best.specs.Steps.{IsHeld, IsBetter, Stays, Enters, Takes}
+use Rattle.tws_best.specs.Steps.{IsHeld, IsBetter, Stays, Enters, Takes, IsTaken}
 use Rattle.tws_best.proofs.Members.{Contains-none, Contains-here, Contains-there, Contains-cases, all_at, all_from}
 use Rattle.tws_best.proofs.Orders.{key_tie, no_better}
 use Rattle.tws_best.proofs.Rising.{one_entry}
@@ -27,23 +27,32 @@ use Rattle.tws_best.proofs.Found.{entry, found, not_found, rising_of}
 -- ---- whether a solution enters
 
 -- what is found for the key is the only entry that has it
-pub held_by_found : (ps : List BodyPair) (k : Key) (b old : List ℕ) → lookup (is_at (key_cmp k)) ps ≡ Some old → (IsBelow (rank_of b) (rank_of old) → ⊥) → IsHeld (Contains (keyed_bodies ps)) (entry k b)
+pub held_by_found : (ps : List BodyPair) (k : Key) (b old : List ℕ) → lookup (is_at (key_cmp k)) ps ≡ Some old →
+    (IsBelow (rank_of b) (rank_of old) → ⊥) → IsHeld (Contains (keyed_bodies ps)) (entry k b)
 held_by_found ps k b old is not = record { holder = entry k old; member = found k old ps is; same = refl; no_worse = not }
 
-pub better_than_found : (ps : List BodyPair) (k : Key) (b old : List ℕ) → IsRising (keyed_bodies ps) → lookup (is_at (key_cmp k)) ps ≡ Some old → IsBelow (rank_of b) (rank_of old) → IsBetter (keyed_bodies ps) (entry k b)
+-- a better body than the one found is better than any with its key
+pub better_than_found : (ps : List BodyPair) (k : Key) (b old : List ℕ) → IsRising (keyed_bodies ps) →
+    lookup (is_at (key_cmp k)) ps ≡ Some old → IsBelow (rank_of b) (rank_of old) → IsBetter (keyed_bodies ps) (entry k b)
 better_than_found ps k b old rising is below = λ e has same.
     let one = one_entry (keyed_bodies ps) (entry k old) e rising (found k old ps is) has (sym same) in
     subst (λ (f : KeyedBody). IsBelow (rank_of b) (rank_of f.body)) one below
 
+-- if no body is found for a key, any body is better than any with its key
 pub better_than_none : (ps : List BodyPair) (k : Key) (b : List ℕ) → lookup (is_at (key_cmp k)) ps ≡ None → IsBetter (keyed_bodies ps) (entry k b)
 better_than_none ps k b none = λ e has same. absurd (not_found k ps none e has same)
 
 -- ---- the map after it
 
+-- the better of two takes the other's place
 chosen : (x e : KeyedBody) (es : List KeyedBody) → IsBelow (rank_of x.body) (rank_of e.body) → better_of x e ∷ es ≡ x ∷ es
 chosen x e es below = ap (λ (o : Ordering). (if is_lt o then x else e) ∷ es) below
 
-put_at : (o : Ordering) (k : Key) (b : List ℕ) (p : BodyPair) (ps : List BodyPair) → o ≡ key_cmp k p.0 → IsBetter (keyed_bodies (p ∷ ps)) (entry k b) → put_in (entry k b) (keyed_bodies ps) ≡ keyed_bodies (insert_entry key_cmp ps k b) → placed o (entry k b) (entry p.0 p.1) (keyed_bodies ps) (put_in (entry k b) (keyed_bodies ps)) ≡ keyed_bodies (match_ordering o ((k, b) ∷ (p ∷ ps)) ((p.0, b) ∷ ps) (p ∷ insert_entry key_cmp ps k b))
+put_at : (o : Ordering) (k : Key) (b : List ℕ) (p : BodyPair) (ps : List BodyPair) → o ≡ key_cmp k p.0 →
+    IsBetter (keyed_bodies (p ∷ ps)) (entry k b) →
+    put_in (entry k b) (keyed_bodies ps) ≡ keyed_bodies (insert_entry key_cmp ps k b) →
+    placed o (entry k b) (entry p.0 p.1) (keyed_bodies ps) (put_in (entry k b) (keyed_bodies ps)) ≡ keyed_bodies
+    (match_ordering o ((k, b) ∷ (p ∷ ps)) ((p.0, b) ∷ ps) (p ∷ insert_entry key_cmp ps k b))
 put_at Less k b p ps is better rest = refl
 put_at Equal k b p ps is better rest =
     let tie : k ≡ p.0 = key_tie k p.0 (sym is) in
@@ -58,16 +67,20 @@ put_inserts k b (p ∷ ps) better =
     let rest = put_inserts k b ps (λ e has. better e (Contains-there (entry p.0 p.1) (keyed_bodies ps) e has)) in
     put_at (key_cmp k p.0) k b p ps refl better rest
 
+-- a solution's key and body are its entry
 pub entry_same : (s : Solution) (key : Key) (b : List ℕ) → key ≡ s.key → b ≡ body_of (solution s) → entry key b ≡ keyed_body s
 entry_same s key b key-is b-is = ap (λ (x : List ℕ). entry key x) b-is ∙ ap (λ (k : Key). entry k (body_of (solution s))) key-is
 
 -- a better solution that was inserted has entered
-pub enters_by : {E : Type 0} (r : Result (Unit {0}) E) (k : Key) (b : List ℕ) (ps new : List BodyPair) (was is : ℕ) → (IsRising (keyed_bodies ps) → IsBetter (keyed_bodies ps) (entry k b)) → OnOk r (new ≡ insert_entry key_cmp ps k b) → OnOk r (is ≡ was + 1) → OnOk r (IsStrictlySortedBy key_cmp (keys_of ps)) → OnOk r (Takes (entry k b) ps new was is)
+pub enters_by : {E : Type 0} (r : Result (Unit {0}) E) (k : Key) (b : List ℕ) (ps new : List BodyPair) (was is : ℕ) →
+    (IsRising (keyed_bodies ps) → IsBetter (keyed_bodies ps) (entry k b)) → OnOk r (new ≡ insert_entry key_cmp ps k b) →
+    OnOk r (is ≡ was + 1) → OnOk r (IsStrictlySortedBy key_cmp (keys_of ps)) → OnOk r (Takes (entry k b) ps new was is)
 enters_by (Ok u) k b ps new was is better inserted count sorted = inr (record { better = better (rising_of ps sorted); inserted = inserted; some = λ none. omega arith })
 enters_by (Err e) k b ps new was is better inserted count sorted = tt
 
 -- ---- the best so far
 
+-- the best with one more entry at the end of the list
 pushed_best : (x : KeyedBody) (es new : List KeyedBody) → IsBestOf (Contains (x ∷ es)) new → IsBestOf (Contains (es ++ x ∷ [])) new
 pushed_best x es new of =
     same_best (Contains (x ∷ es)) (Contains (es ++ x ∷ [])) new of
@@ -83,6 +96,7 @@ pushed_best x es new of =
       ]
     ])
 
+-- if an entry is no better than what is there, the list stays the best
 held_best : (x : KeyedBody) (es : List KeyedBody) → IsRising es → IsHeld (Contains es) x → IsBestOf (Contains (es ++ x ∷ [])) es
 held_best x es rising held =
     widen (Contains es) (Contains (es ++ x ∷ [])) es (own_best es rising)
@@ -96,6 +110,7 @@ held_best x es rising held =
     ])
 
 module _ (first so_far : List KeyedBody) (x : KeyedBody) (es new : List KeyedBody) (of : IsBestOf (Contains (first ++ so_far)) es) where
+  -- with one more solution it is still the best of all
   with_more : IsBestOf (Contains (es ++ x ∷ [])) new → IsBestOf (Contains (first ++ (so_far ++ x ∷ []))) new
   with_more next =
       subst (λ (all : List KeyedBody). IsBestOf (Contains all) new) (append_assoc first so_far (x ∷ []))
@@ -111,18 +126,9 @@ module _ (first so_far : List KeyedBody) (x : KeyedBody) (es new : List KeyedBod
       ((next.best k.entry k.present).least x (Contains-append_right es (x ∷ []) x (Contains-here x [])) (sym k.key_is))
       (better h.holder h.member (h.same ∙ k.key_is))
 
--- what holds after each solution of a file: the bodies are the best so far, and nothing was noted or something changed
-pub record IsTaken (first : List BodyPair) (solved : List KeyedBody) (now : List BodyPair) (count : ℕ) : Type 0 where
-  pub best : IsBestOf (Contains (keyed_bodies first ++ solved)) (keyed_bodies now)
-  pub changed : (count ≡ 0) ⊎ (keyed_bodies now ≢ keyed_bodies first)
-
-pub taken_none : (first : List BodyPair) (count : ℕ) → IsRising (keyed_bodies first) → count ≡ 0 → IsTaken first [] first count
-taken_none first count rising none = record {
-  best = subst (λ (es : List KeyedBody). IsBestOf (Contains es) (keyed_bodies first)) (sym (append-nil (keyed_bodies first))) (own_best (keyed_bodies first) rising);
-  changed = inl none;
-}
-
-stays : (first : List BodyPair) (so_far : List KeyedBody) (x : KeyedBody) (old new : List BodyPair) (was is : ℕ) → IsTaken first so_far old was → Stays x old new was is → IsTaken first (so_far ++ x ∷ []) new is
+-- a solution that is no better changes nothing
+stays : (first : List BodyPair) (so_far : List KeyedBody) (x : KeyedBody) (old new : List BodyPair) (was is : ℕ) →
+    IsTaken first so_far old was → Stays x old new was is → IsTaken first (so_far ++ x ∷ []) new is
 stays first so_far x old new was is t s =
     let best = with_more (keyed_bodies first) so_far x (keyed_bodies old) (keyed_bodies old) t.best (held_best x (keyed_bodies old) t.best.rising s.held) in
     let same = ap keyed_bodies s.same in
@@ -134,17 +140,23 @@ stays first so_far x old new was is t s =
       ];
     }
 
-enters : (first : List BodyPair) (so_far : List KeyedBody) (x : KeyedBody) (old new : List BodyPair) (was is : ℕ) → IsTaken first so_far old was → Enters x old new is → IsTaken first (so_far ++ x ∷ []) new is
+-- a better one takes its place
+enters : (first : List BodyPair) (so_far : List KeyedBody) (x : KeyedBody) (old new : List BodyPair) (was is : ℕ) →
+    IsTaken first so_far old was → Enters x old new is → IsTaken first (so_far ++ x ∷ []) new is
 enters first so_far x old new was is t s =
     let inserted = put_inserts x.key x.body old s.better ∙ ap keyed_bodies (sym s.inserted) in
-    let put : IsBestOf (Contains (x ∷ keyed_bodies old)) (keyed_bodies new) = subst (λ (es : List KeyedBody). IsBestOf (Contains (x ∷ keyed_bodies old)) es) inserted (put_best x (keyed_bodies old) t.best.rising) in
+    let put : IsBestOf (Contains (x ∷ keyed_bodies old)) (keyed_bodies new) =
+    subst (λ (es : List KeyedBody). IsBestOf (Contains (x ∷ keyed_bodies old)) es) inserted
+    (put_best x (keyed_bodies old) t.best.rising) in
     let next = pushed_best x (keyed_bodies old) (keyed_bodies new) put in
     record {
       best = with_more (keyed_bodies first) so_far x (keyed_bodies old) (keyed_bodies new) t.best next;
       changed = inr (differs (keyed_bodies first) so_far x (keyed_bodies old) (keyed_bodies new) t.best s.better next);
     }
 
-pub taken_more : (first : List BodyPair) (so_far : List KeyedBody) (x : KeyedBody) (old new : List BodyPair) (was is : ℕ) → IsTaken first so_far old was → Takes x old new was is → IsTaken first (so_far ++ x ∷ []) new is
+-- after one more solution, better or not, it still holds
+pub taken_more : (first : List BodyPair) (so_far : List KeyedBody) (x : KeyedBody) (old new : List BodyPair) (was is : ℕ) →
+    IsTaken first so_far old was → Takes x old new was is → IsTaken first (so_far ++ x ∷ []) new is
 taken_more first so_far x old new was is t takes = elim takes [
   | inl s ↦ stays first so_far x old new was is t s
   | inr s ↦ enters first so_far x old new was is t s
@@ -167,6 +179,7 @@ best_moved old solved moved new order of =
 
 -- ---- what a collection has are solutions, with each key only once
 
+-- the solutions among records are solutions
 pub solved_entries : (rs : List Record) → AllByRecursion IsRecord rs → AllByRecursion IsKeyedBody (solved_in rs)
 solved_entries [] fits = tt
 solved_entries (pad ∷ rs) fits = solved_entries rs fits.1

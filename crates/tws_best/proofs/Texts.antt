@@ -13,16 +13,19 @@ records_from : (es : List KeyedBody) → AllByRecursion IsKeyedBody es → List 
 records_from [] fits = []
 records_from (e ∷ es) fits = solution fits.0.solved ∷ records_from es fits.1
 
+-- they are records
 records_fit : (es : List KeyedBody) (fits : AllByRecursion IsKeyedBody es) → AllByRecursion IsRecord (records_from es fits)
 unfolding records_from
 records_fit [] fits = tt
 records_fit (e ∷ es) fits = (fits.0.fits, records_fit es fits.1)
 
+-- their solutions are these entries
 records_solve : (es : List KeyedBody) (fits : AllByRecursion IsKeyedBody es) → solved_in (records_from es fits) ≡ es
 unfolding records_from
 records_solve [] fits = refl
 records_solve (e ∷ es) fits = let first = fits.0.is in let rest = records_solve es fits.1 in cc
 
+-- their texts are those of the entries
 records_text : (es : List KeyedBody) (fits : AllByRecursion IsKeyedBody es) → flat_map record_text (records_from es fits) ≡ flat_map keyed_body_text es
 unfolding records_from
 records_text [] fits = refl
@@ -42,6 +45,7 @@ two_zeros (suc (suc i)) = omega arith
 pub file_from : (c : Collected) → IsCollected c → File
 file_from c fits = record { «ruleset» = c.ruleset; word = 0 ∷ 0 ∷ []; extra = []; records = records_from c.entries fits.solved }
 
+-- the collection's text is that file's
 pub is_text : (c : Collected) (fits : IsCollected c) → IsText (collection_text c) (file_from c fits)
 unfolding file_from
 is_text c fits = record {
@@ -49,15 +53,18 @@ is_text c fits = record {
   text = ap (λ (x : List ℕ). header_text c.ruleset (0 ∷ 0 ∷ []) [] ++ x) (sym (records_text c.entries fits.solved));
 }
 
+-- the solutions of a ruleset among records of that ruleset
 own_solutions : (rules : Ruleset) (rs : List Record) → solved_by rules rules rs ≡ solved_in rs
 own_solutions Lynx rs = refl
 own_solutions Ms rs = refl
 
+-- its solutions are the collection's entries
 pub file_solves : (c : Collected) (fits : IsCollected c) → solutions_of c.ruleset (file_from c fits ∷ []) ≡ c.entries
 unfolding file_from
 file_solves c fits =
     append-nil (solved_by c.ruleset c.ruleset (records_from c.entries fits.solved)) ∙ own_solutions c.ruleset (records_from c.entries fits.solved) ∙ records_solve c.entries fits.solved
 
+-- its ruleset is the collection's
 pub file_rules : (c : Collected) (fits : IsCollected c) → (file_from c fits).ruleset ≡ c.ruleset
 unfolding file_from
 file_rules c fits = refl
@@ -73,6 +80,7 @@ pub read_back : (c d : Collected) (f : File) → IsCollected c → IsText (colle
 read_back c d f fits text rules best =
     let same : f ≡ file_from c fits = one_file (collection_text c) f (file_from c fits) text (is_text c fits) in
     let rules-is : d.ruleset ≡ c.ruleset = rules ∙ ap (λ (g : File). g.ruleset) same ∙ file_rules c fits in
-    let solves : solutions_of f.ruleset (f ∷ []) ≡ c.entries = ap (λ (g : File). solutions_of g.ruleset (g ∷ [])) same ∙ ap (λ k. solutions_of k (file_from c fits ∷ [])) (file_rules c fits) ∙ file_solves c fits in
+    let solves : solutions_of f.ruleset (f ∷ []) ≡ c.entries = ap (λ (g : File). solutions_of g.ruleset (g ∷ [])) same ∙
+    ap (λ k. solutions_of k (file_from c fits ∷ [])) (file_rules c fits) ∙ file_solves c fits in
     let of : IsBestOf (Contains c.entries) d.entries = subst (λ (es : List KeyedBody). IsBestOf (Contains es) d.entries) solves best in
     collected_is d c rules-is (one_map (Contains c.entries) d.entries c.entries of (own_best c.entries fits.rising))

@@ -19,6 +19,7 @@ after_twelve password moves ticks a b flags start p q r s four =
     let size : 12 ≡ length (a ∷ b ∷ password) + 6 = omega (arith, four) in
     ap (λ n. drop n ((a ∷ b ∷ password) ++ rest)) size ∙ drop-append-add (a ∷ b ∷ password) rest 6
 
+-- the ticks in a solution's body are the solution's
 pub ticks_in : (s : Solution) → IsSolution s → ticks_of (body_of (solution s)) ≡ s.ticks
 ticks_in s fits =
     ap (little_number 4) (after_twelve s.key.password s.moves (little_bytes 4 s.ticks) (s.key.number % 256) (s.key.number / 256 % 256) s.flags s.start _ _ _ _ fits.fields.key.fits.password_length)
@@ -36,7 +37,10 @@ decided Less b eq = refl
 decided Equal b eq = absurd cc
 decided Greater b eq = refl
 
-module _ (s : Solution) (old : List ℕ) (t z o : Ordering) (fits : IsSolution s) (t-is : t ≡ nat_cmp s.ticks (ticks_of old)) (z-is : z ≡ nat_cmp (length (body_of (solution s))) (length old)) (o-is : o ≡ ordering_then t z) where
+-- a solution compared with a body by ticks, size and bytes, in this order
+module _ (s : Solution) (old : List ℕ) (t z o : Ordering) (fits : IsSolution s) (t-is : t ≡ nat_cmp s.ticks (ticks_of old))
+    (z-is : z ≡ nat_cmp (length (body_of (solution s))) (length old)) (o-is : o ≡ ordering_then t z) where
+  -- the ranks compare by ticks and size, and then by the bytes
   rank_is : rank_cmp (rank_of (body_of (solution s))) (rank_of old) ≡ ordering_then o (slice_cmp nat_cmp (body_of (solution s)) old)
   rank_is =
       let b = slice_cmp nat_cmp (body_of (solution s)) old in

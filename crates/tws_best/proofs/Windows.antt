@@ -27,7 +27,8 @@ part_pushed xs ys room count fits room-is count-is =
     ∙ ap (λ k. take k (xs ++ ys)) whole
 
 -- a record is its size and its body
-pub head_pushed : (block first size rest body second : List ℕ) (skip : ℕ) → skip ≤ length size → rest ≡ drop skip size → first ≡ take 512 (block ++ rest) → second ≡ take 512 (first ++ body) → second ≡ take 512 (block ++ drop skip (size ++ body))
+pub head_pushed : (block first size rest body second : List ℕ) (skip : ℕ) → skip ≤ length size → rest ≡ drop skip size →
+    first ≡ take 512 (block ++ rest) → second ≡ take 512 (first ++ body) → second ≡ take 512 (block ++ drop skip (size ++ body))
 head_pushed block first size rest body second skip inside rest-is first-is second-is =
     second-is
     ∙ ap (λ (xs : List ℕ). take 512 (xs ++ body)) first-is
@@ -36,7 +37,9 @@ head_pushed block first size rest body second skip inside rest-is first-is secon
     ∙ ap (λ (xs : List ℕ). take 512 (block ++ (xs ++ body))) rest-is
     ∙ ap (λ (xs : List ℕ). take 512 (block ++ xs)) (sym (drop-append-le skip size body inside))
 
-pub tail_pushed : (block size rest body second : List ℕ) (skip : ℕ) → length size ≡ 4 → 4 ≤ skip → rest ≡ drop (skip - 4) body → second ≡ take 512 (block ++ rest) → second ≡ take 512 (block ++ drop skip (size ++ body))
+-- what is left of a record whose size field, or more, comes before the block
+pub tail_pushed : (block size rest body second : List ℕ) (skip : ℕ) → length size ≡ 4 → 4 ≤ skip → rest ≡ drop (skip - 4) body →
+    second ≡ take 512 (block ++ rest) → second ≡ take 512 (block ++ drop skip (size ++ body))
 tail_pushed block size rest body second skip four past rest-is second-is =
     let whole : length size + (skip - 4) ≡ skip = omega arith in
     second-is
@@ -44,15 +47,18 @@ tail_pushed block size rest body second skip four past rest-is second-is =
 
 -- ---- bodies one after the other
 
+-- one more body's text
 pub texts_more : (bodies : List (List ℕ)) (i : ℕ) (body : List ℕ) → i < length bodies → body ≡ get_or bodies i body → texts (take (i + 1) bodies) ≡ texts (take i bodies) ++ body_text body
 texts_more bodies i body inside is =
     ap texts (take_more bodies i body inside ∙ ap (λ (b : List ℕ). take i bodies ++ b ∷ []) (sym is))
     ∙ flat_map-append body_text (take i bodies) (body ∷ [])
     ∙ ap (λ (xs : List ℕ). texts (take i bodies) ++ xs) (append-nil (body_text body))
 
+-- nothing more comes after the last body
 pub none_pushed : (block : List ℕ) → length block ≤ 512 → block ≡ take 512 (block ++ [])
 none_pushed block fits = sym (take_all 512 block fits) ∙ ap (take 512) (sym (append-nil block))
 
+-- the block so far has the bodies before the one at `i`
 module _ (start block : List ℕ) (bodies : List (List ℕ)) (i : ℕ) (so_far : block ≡ take 512 (start ++ texts (take i bodies))) where
   -- one more body
   pub body_pushed : (body next : List ℕ) → i < length bodies → body ≡ get_or bodies i body → next ≡ take 512 (block ++ body_text body) → next ≡ take 512 (start ++ texts (take (i + 1) bodies))
@@ -75,6 +81,7 @@ module _ (start block : List ℕ) (bodies : List (List ℕ)) (i : ℕ) (so_far :
 
 -- ---- from an offset in a record on
 
+-- from an offset inside a record on, the text is what is left of the record, and the records after it
 window : (head : List ℕ) (bodies : List (List ℕ)) (i r : ℕ) → length head ≡ 8 → i < length bodies → r ≤ length (body_text (get_or bodies i []))
     → drop (8 + length (texts (take i bodies)) + r) (head ++ texts bodies) ≡ drop r (body_text (get_or bodies i [])) ++ texts (drop (i + 1) bodies)
 window head bodies i r eight inside within =
@@ -92,7 +99,8 @@ window head bodies i r eight inside within =
     ∙ drop-append-le r (body_text body) rest within
 
 -- the block that begins with the header
-pub first_block : (head given first second : List ℕ) (bodies : List (List ℕ)) (k : ℕ) → k ≡ 1 → given ≡ head → first ≡ take 512 given → second ≡ take 512 (first ++ texts bodies) → second ≡ block_of (head ++ texts bodies) k
+pub first_block : (head given first second : List ℕ) (bodies : List (List ℕ)) (k : ℕ) → k ≡ 1 → given ≡ head →
+    first ≡ take 512 given → second ≡ take 512 (first ++ texts bodies) → second ≡ block_of (head ++ texts bodies) k
 unfolding block_of
 first_block head given first second bodies k one given-is first-is second-is =
     let start : 512 * (k - 1) ≡ 0 = omega arith in
@@ -102,7 +110,8 @@ first_block head given first second bodies k one given-is first-is second-is =
     ∙ sym (ap (λ n. take 512 (drop n (head ++ texts bodies))) start)
 
 -- a block that begins in a record
-pub later_block : (head body first second : List ℕ) (bodies rest : List (List ℕ)) (i r k : ℕ) → length head ≡ 8 → i < length bodies → r ≤ length (body_text (get_or bodies i [])) → 512 * (k - 1) ≡ 8 + length (texts (take i bodies)) + r
+pub later_block : (head body first second : List ℕ) (bodies rest : List (List ℕ)) (i r k : ℕ) → length head ≡ 8 →
+    i < length bodies → r ≤ length (body_text (get_or bodies i [])) → 512 * (k - 1) ≡ 8 + length (texts (take i bodies)) + r
     → body ≡ get_or bodies i [] → rest ≡ drop (i + 1) bodies → first ≡ take 512 (drop r (body_text body)) → second ≡ take 512 (first ++ texts rest) → second ≡ block_of (head ++ texts bodies) k
 unfolding block_of
 later_block head body first second bodies rest i r k eight inside within offset body-is rest-is first-is second-is =

@@ -8,3 +8,4 @@ pub mod Collection
 pub mod Frozen
 pub mod Snapshot
 pub mod Steps
+pub mod Merge

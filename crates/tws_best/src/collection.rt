@@ -1,10 +1,15 @@
-ghost use Rattle.std.specs.Prelude.{◌≡◌, ◌≢◌, ◌↔◌, [], ◌∷◌, ◌++◌, ◌<◌, ◌^◌, length, false, Ok, IsOk, Contains, IsTrue, IfOk, IfErr, IfSome, IfNone, OnOk, OnErr, MatchBool};
+ghost use Rattle.std.specs.Prelude.{◌≡◌, ◌≢◌, ◌↔◌, List, [], ◌∷◌, ◌++◌, ◌<◌, ◌^◌, length, false, Ok, IsOk, Contains, IsTrue, IfOk, IfErr, IfSome, IfNone, OnOk, OnErr, MatchBool};
 ghost use Rattle.std.specs.Io.KnownBytes.{Appends};
 ghost use Rattle.byte_output.specs.Output.{AppendsPrefix};
-ghost use Rattle.tws_best.specs.Best.{IsBestOf, IsCollected, HasBody, HasKey, solutions_of, collection_text};
+ghost use Rattle.std.specs.List.{AllByRecursion};
+ghost use Rattle.tws_file.specs.Text.{IsRecord};
+ghost use Rattle.tws_file.specs.Record.{records_of};
+ghost use Rattle.tws_best.specs.Best.{IsBestOf, IsCollected, HasBody, HasKey, solutions_of, solved_in, collection_text};
+ghost use Rattle.tws_best.specs.Bodies.{BodyPair, pairs_of};
+ghost use Rattle.tws_best.specs.Steps.{LeadsBack};
 ghost use Rattle.tws_best.specs.Frozen.{frozen, frozen_text};
 
-use crate::merging::{Bodies, add};
+use crate::merging::{Bodies, Changes, add, undo};
 use crate::snapshot::Snapshot;
 use crate::text::{bodies_len, write_parts};
 use byte_output::OutFault;
@@ -13,7 +18,7 @@ use std::clone::Clone;
 use std::collections::BTreeMap;
 use std::io::Write;
 use std::marker::Model;
-use tws_file::{Key, Ruleset, TwsFile};
+use tws_file::{Key, Record, Ruleset, TwsFile};
 
 /// The best solution of each level number and password, over all files that were merged.
 #[derive(Drop)]
@@ -81,7 +86,44 @@ impl<A: Allocator + Copy> Collection<A> {
         if self.ruleset != file.ruleset {
             return Ok(false);
         }
-        add(self.alloc, &mut self.best, file.records.as_slice())
+        let mut done = Vec::new(self.alloc);
+        self.add(&mut done, file.records.as_slice())?;
+        Ok(!done.is_empty())
+    }
+
+    // No changes yet.
+    pub(crate) fn no_changes(&self) -> Changes<A>
+        ensures none { result.items ≡ [] }
+        ensures fits { IsCollected self.now }
+    {
+        let _ruleset = self.ruleset;
+        Vec::new(self.alloc)
+    }
+
+    // Adds the solutions among the records, and notes the changes. On error all changes are undone.
+    pub(crate) fn add<B: Allocator>(
+        &mut self,
+        done: &mut Changes<A>,
+        records: &[Record<B>],
+    ) -> Result<(), AllocError>
+        requires records { AllByRecursion IsRecord (records_of records.now) }
+        requires leads { (first : List BodyPair) × LeadsBack first done.old.items (pairs_of self.old.entries) }
+        ensures rules { self.new.ruleset ≡ self.old.ruleset }
+        ensures best { OnOk result (IsBestOf (Contains (self.old.entries ++ solved_in (records_of records.now))) self.new.entries) }
+        ensures leads { (first : List BodyPair) → LeadsBack first done.old.items (pairs_of self.old.entries) → LeadsBack first done.new.items (pairs_of self.new.entries) }
+        ensures none { OnErr result (done.new.items ≡ []) }
+        ensures fits { IsCollected self.new }
+    {
+        add(self.alloc, &mut self.best, done, records)
+    }
+
+    // Undoes the changes. Does not allocate.
+    pub(crate) fn undo(&mut self, done: Changes<A>)
+        requires { (first : List BodyPair) × LeadsBack first done.items (pairs_of self.old.entries) }
+        ensures rules { self.new.ruleset ≡ self.old.ruleset }
+        ensures first { (first : List BodyPair) → LeadsBack first done.items (pairs_of self.old.entries) → pairs_of self.new.entries ≡ first }
+    {
+        undo(&mut self.best, done)
     }
 
     /// Returns an equal collection. The bodies are shared, not copied.

@@ -4,7 +4,7 @@
 //! Read `specs/Best.antt` first: it defines what is best of a set, by the rank of a solution, and a collection's text.
 //! `specs/Rank.antt` defines the rank, `specs/Frozen.antt` a snapshot.
 //!
-//! `merging` merges all of a file that is better, or nothing; `text` writes a collection; `body` is what collections and
+//! `merge` merges records part after part, and `merging` takes those that are better or undoes all; `text` writes a collection; `body` is what collections and
 //! snapshots share; `block` is a block of a snapshot's text.
 #![tactic(auto)]
 
@@ -12,6 +12,7 @@ mod block;
 mod body;
 mod collection;
 mod laws;
+mod merge;
 mod merging;
 mod rank;
 mod snapshot;
@@ -22,5 +23,6 @@ pub use laws::{
     best_of_best, collection_of_none, exactly_the_best, files_as_a_set, one_best, one_collection,
     one_more_text, one_rank, ranks_in_order, read_back, some_best, texts_as_a_set, ticks_in_body,
 };
+pub use merge::Merge;
 pub use rank::Rank;
 pub use snapshot::Snapshot;

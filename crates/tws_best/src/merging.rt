@@ -1,4 +1,5 @@
-//! Merging the solutions of a file into the best bodies so far: takes all that are better, or none.
+//! Merging solutions into the best bodies so far: takes all that are better, and notes each change, so that all can be
+//! undone.
 
 ghost use Rattle.std.specs.Prelude.{◌≡◌, ◌≢◌, ◌⊎◌, ◌∷◌, [], ◌+◌, ◌++◌, List, length, map, Contains, Option, IfOk, IfSome, IfNone, OnOk, OnErr, MatchBool};
 ghost use Rattle.std.specs.List.{AllByRecursion};
@@ -8,18 +9,19 @@ ghost use Rattle.tws_file.specs.Record.{records_of};
 ghost use Rattle.tws_file.specs.Text.{IsRecord};
 ghost use Rattle.tws_best.specs.Best.{AreCollected, IsBestOf, keyed_body, key_cmp, solved_in};
 ghost use Rattle.tws_best.specs.Bodies.{BodyPair, keyed_bodies};
-ghost use Rattle.tws_best.specs.Steps.{Takes, Undoes, CanGoBack, back_to};
+ghost use Rattle.tws_best.specs.Steps.{Takes, Undoes, LeadsBack, CanGoBack, back_to};
 
 use crate::body::Body;
 use std::alloc::{AllocError, Allocator};
 use std::collections::BTreeMap;
+use std::mem;
 use tws_file::{Key, Record, Solution};
 
 // The best body so far at each key.
 pub(crate) type Bodies<A> = BTreeMap<Key, Body<A>, A>;
 
 // Each key that was changed, with what it had before.
-type Changes<A> = Vec<(Key, Option<Body<A>>), A>;
+pub(crate) type Changes<A> = Vec<(Key, Option<Body<A>>), A>;
 
 // Sets the body of a key, and notes the change before it is made.
 fn replace<A: Allocator + Copy>(
@@ -106,16 +108,31 @@ fn take_all<A: Allocator + Copy, B: Allocator>(
     done: &mut Changes<A>,
     solutions: &[(Key, &Solution<B>)],
 ) -> Result<(), AllocError>
-    requires collected { AreCollected (keyed_bodies best.old.entries) }
-    requires none { done.old.items ≡ [] }
+    requires leads { (first : List BodyPair) × LeadsBack first done.old.items best.old.entries }
     ensures best { OnOk result (IsBestOf (Contains (keyed_bodies best.old.entries ++ map (λ s. keyed_body s.1.now) solutions.now)) (keyed_bodies best.new.entries)) }
-    ensures changed { OnOk result ((done.new.items ≡ []) ⊎ (keyed_bodies best.new.entries ≢ keyed_bodies best.old.entries)) }
-    ensures undo { Undoes best.old.entries done.new.items best.new.entries }
+    ensures leads { (first : List BodyPair) → LeadsBack first done.old.items best.old.entries → OnOk result (LeadsBack first done.new.items best.new.entries) }
+    ensures undo { (first : List BodyPair) → Undoes first done.old.items best.old.entries → Undoes first done.new.items best.new.entries }
 {
     for (_, solution) in solutions {
         take(alloc, best, done, solution)?;
     }
     Ok(())
+}
+
+// Takes those of the solutions among the records that are better than the best so far.
+fn take_records<A: Allocator + Copy, B: Allocator>(
+    alloc: A,
+    best: &mut Bodies<A>,
+    done: &mut Changes<A>,
+    records: &[Record<B>],
+) -> Result<(), AllocError>
+    requires leads { (first : List BodyPair) × LeadsBack first done.old.items best.old.entries }
+    ensures best { OnOk result (IsBestOf (Contains (keyed_bodies best.old.entries ++ solved_in (records_of records.now))) (keyed_bodies best.new.entries)) }
+    ensures leads { (first : List BodyPair) → LeadsBack first done.old.items best.old.entries → OnOk result (LeadsBack first done.new.items best.new.entries) }
+    ensures undo { (first : List BodyPair) → Undoes first done.old.items best.old.entries → Undoes first done.new.items best.new.entries }
+{
+    let solutions = sorted_solutions(alloc, records)?;
+    take_all(alloc, best, done, solutions.as_slice())
 }
 
 // Restores what a key had. If that was a body, the key has a body now, so nothing grows.
@@ -134,7 +151,7 @@ fn go_back<A: Allocator + Copy>(best: &mut Bodies<A>, key: Key, old: Option<Body
 }
 
 // Undoes the changes, the last one first. Does not allocate.
-fn undo<A: Allocator + Copy>(best: &mut Bodies<A>, done: Changes<A>)
+pub(crate) fn undo<A: Allocator + Copy>(best: &mut Bodies<A>, done: Changes<A>)
     requires { (first : List BodyPair) × Undoes first done.items best.old.entries }
     ensures { (first : List BodyPair) → Undoes first done.items best.old.entries → best.new.entries ≡ first }
 {
@@ -144,25 +161,24 @@ fn undo<A: Allocator + Copy>(best: &mut Bodies<A>, done: Changes<A>)
     }
 }
 
-// Adds the solutions among the records: the best of all remain. Returns whether anything changed.
+// Adds the solutions among the records: the best of all remain. On error all changes are undone, which does not
+// allocate.
 pub(crate) fn add<A: Allocator + Copy, B: Allocator>(
     alloc: A,
     best: &mut Bodies<A>,
+    done: &mut Changes<A>,
     records: &[Record<B>],
-) -> Result<bool, AllocError>
-    requires collected { AreCollected (keyed_bodies best.old.entries) }
-    requires records { AllByRecursion IsRecord (records_of records.now) }
+) -> Result<(), AllocError>
+    requires leads { (first : List BodyPair) × LeadsBack first done.old.items best.old.entries }
     ensures best { OnOk result (IsBestOf (Contains (keyed_bodies best.old.entries ++ solved_in (records_of records.now))) (keyed_bodies best.new.entries)) }
-    ensures changed { IfOk result (λ changed. MatchBool changed (keyed_bodies best.new.entries ≢ keyed_bodies best.old.entries) (keyed_bodies best.new.entries ≡ keyed_bodies best.old.entries)) }
-    ensures err { OnErr result (best.new.entries ≡ best.old.entries) }
-    ensures fits { AreCollected (keyed_bodies best.new.entries) }
+    ensures leads { (first : List BodyPair) → LeadsBack first done.old.items best.old.entries → LeadsBack first done.new.items best.new.entries }
+    ensures none { OnErr result (done.new.items ≡ []) }
 {
-    let solutions = sorted_solutions(alloc, records)?;
-    let mut done = Vec::new(alloc);
-    match take_all(alloc, best, &mut done, solutions.as_slice()) {
-        Ok(()) => Ok(!done.is_empty()),
+    match take_records(alloc, best, done, records) {
+        Ok(()) => Ok(()),
         Err(fault) => {
-            undo(best, done);
+            let changes = mem::replace(done, Vec::new(alloc));
+            undo(best, changes);
             Err(fault)
         }
     }

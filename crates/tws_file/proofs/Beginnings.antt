@@ -21,46 +21,58 @@ text_size rest more r fits split =
 
 -- ---- a cut record
 
+-- a cut record begins with no record's text, not even one whose moves are cut
 cut_begins_no_shape : (rest : List ℕ) → IsRecordCut rest → (r : Record) (more : List ℕ) → IsShaped r → rest ≢ record_text r ++ more
 cut_begins_no_shape rest cut r more fits split =
     let size = text_size rest more r fits split in
     ⊎_elim (λ short. omega (arith, size.1)) (λ long. omega (arith, long.2, size.0, size.1)) cut
 
+-- so it begins with no record
 pub cut_begins_none : (rest : List ℕ) → IsRecordCut rest → BeginsNoRecord rest
 cut_begins_none rest cut r more fits = cut_begins_no_shape rest cut r more (shape r fits)
 
 -- ---- a size that no record has
 
+-- no size is both bad and one that records have
 bad_or_size : (n : ℕ) → IsBadSize n → IsSize n → ⊥
 bad_or_size n bad size =
-    ⊎_elim (λ none. ⊎_elim (λ a. omega (arith, a.0)) (λ b. omega (arith, b.0)) bad) (λ more. ⊎_elim (λ six. ⊎_elim (λ a. omega (arith, a.1)) (λ b. omega (arith, b.0)) bad) (λ long. ⊎_elim (λ a. omega (arith, a.1)) (λ b. omega (arith, b.1)) bad) more) size
+    ⊎_elim (λ none. ⊎_elim (λ a. omega (arith, a.0)) (λ b. omega (arith, b.0)) bad)
+    (λ more. ⊎_elim (λ six. ⊎_elim (λ a. omega (arith, a.1)) (λ b. omega (arith, b.0)) bad)
+    (λ long. ⊎_elim (λ a. omega (arith, a.1)) (λ b. omega (arith, b.1)) bad) more) size
 
+-- bytes with a bad size begin with no record's text, not even one whose moves are cut
 bad_begins_no_shape : (rest : List ℕ) → HasBadSize rest → (r : Record) (more : List ℕ) → IsShaped r → rest ≢ record_text r ++ more
 bad_begins_no_shape rest bad r more fits split =
     let size = text_size rest more r fits split in
     bad_or_size (little_number 4 rest) bad.1 (subst IsSize (sym size.0) (body_size r fits).0)
 
+-- so they begin with no record
 pub bad_begins_none : (rest : List ℕ) → HasBadSize rest → BeginsNoRecord rest
 bad_begins_none rest bad r more fits = bad_begins_no_shape rest bad r more (shape r fits)
 
 -- ---- cut moves
 
+-- a solution whose moves are cut is not a record
 not_whole : (s : Solution) (r : Record) (at : ℕ) → IsCutAt s.moves at → r ≡ solution s → IsRecord r → ⊥
 not_whole s r at cut same fits =
     let whole = (subst IsRecord same fits).whole in
     cut_spells_nothing s.moves at whole.0 cut whole.1
 
+-- bytes that begin with such a solution begin with no record
 pub cut_moves_begin_none : (rest : List ℕ) (at : ℕ) → HasCutMoves rest at → BeginsNoRecord rest
 cut_moves_begin_none rest at moves r more fits split =
     let same = shaped_texts r (solution moves.solved) more moves.more (shape r fits) moves.fields (sym split ∙ moves.split) in
     not_whole moves.solved r at moves.cut same.0 fits
 
+-- a solution whose moves are cut is not itself cut
 pub moves_or_cut : (rest : List ℕ) (at : ℕ) → HasCutMoves rest at → IsRecordCut rest → ⊥
 moves_or_cut rest at moves cut = cut_begins_no_shape rest cut (solution moves.solved) moves.more moves.fields moves.split
 
+-- the size of a solution whose moves are cut is not a bad one
 pub moves_or_bad : (rest : List ℕ) (at : ℕ) → HasCutMoves rest at → HasBadSize rest → ⊥
 moves_or_bad rest at moves bad = bad_begins_no_shape rest bad (solution moves.solved) moves.more moves.fields moves.split
 
+-- a solution's moves; other records have none
 abbrev moves_of_record : Record → List ℕ
 moves_of_record (solution s) = s.moves
 moves_of_record r = []
@@ -83,10 +95,14 @@ cut_moves-append rest more at moves = record {
 
 -- ---- after records
 
+-- bytes that have a size field are not empty
 none_is_short : (rest : List ℕ) → 4 ≤ length rest → rest ≢ []
 none_is_short rest long none = omega (arith, long, ap length none)
 
-module _ (bytes rest : List ℕ) (start offset : ℕ) (prefix : List Record) (fits : AllByRecursion IsRecord prefix) (split : bytes ≡ flat_map record_text prefix ++ rest) (place : offset + length rest ≡ start + length bytes) where
+-- the bytes are the texts of some records, and a rest
+module _ (bytes rest : List ℕ) (start offset : ℕ) (prefix : List Record) (fits : AllByRecursion IsRecord prefix)
+    (split : bytes ≡ flat_map record_text prefix ++ rest) (place : offset + length rest ≡ start + length bytes) where
+  -- if the rest begins no record, the records stop there
   stops_here : 4 ≤ length rest → BeginsNoRecord rest → StopsAfter bytes start offset rest
   stops_here long no_record = record {
     prefix = prefix;

@@ -14,7 +14,8 @@ use Rattle.tws_file.specs.Steps.{MovesFailAt, SolutionFails}
 use Rattle.tws_file.proofs.Numbers.{little_bytes-little_number_4}
 
 -- a number in four bytes at an offset, and what follows it
-number_at : (at n : ℕ) (bytes here more : List ℕ) → at + 4 ≤ length bytes → IsBytes bytes → here ≡ drop at bytes → n ≡ little_number 4 here → more ≡ drop (at + 4) bytes → little_bytes 4 n ++ more ≡ drop at bytes
+number_at : (at n : ℕ) (bytes here more : List ℕ) → at + 4 ≤ length bytes → IsBytes bytes → here ≡ drop at bytes →
+    n ≡ little_number 4 here → more ≡ drop (at + 4) bytes → little_bytes 4 n ++ more ≡ drop at bytes
 number_at at n bytes here more long fits here-is n-is more-is =
     let four = little_bytes-little_number_4 (drop at bytes) (omega (arith, length-drop at bytes)) (IsBytes-drop at bytes fits) in
     ap (λ (m : ℕ). little_bytes 4 m ++ more) (n-is ∙ ap (little_number 4) here-is)
@@ -23,7 +24,8 @@ number_at at n bytes here more long fits here-is n-is more-is =
     ∙ take-append-drop 4 (drop at bytes)
 
 -- flags, start, seed, ticks and moves
-pub solved_from : (rest a b moves : List ℕ) (seed ticks : ℕ) → IsBytes rest → 10 ≤ length rest → a ≡ drop 2 rest → b ≡ drop 6 rest → seed ≡ little_number 4 a → ticks ≡ little_number 4 b → moves ≡ drop 10 rest
+pub solved_from : (rest a b moves : List ℕ) (seed ticks : ℕ) → IsBytes rest → 10 ≤ length rest → a ≡ drop 2 rest →
+    b ≡ drop 6 rest → seed ≡ little_number 4 a → ticks ≡ little_number 4 b → moves ≡ drop 10 rest
     → slice_index rest 0 ∷ slice_index rest 1 ∷ (little_bytes 4 seed ++ (little_bytes 4 ticks ++ moves)) ≡ rest
 solved_from rest a b moves seed ticks fits long a-is b-is seed-is ticks-is moves-is =
     let later = number_at 6 ticks rest b moves (omega arith) fits b-is ticks-is moves-is in
@@ -34,10 +36,15 @@ solved_from rest a b moves seed ticks fits long a-is b-is seed-is ticks-is moves
 
 -- ---- a solution from its fields
 
-module _ (key : Key) (rest a b moves : List ℕ) (seed ticks : ℕ) (level : IsLevel key) (fits : IsBytes rest) (long : 10 ≤ length rest) (size : 6 + length rest < 2 ^ 32) (seed_fits : seed < 2 ^ 32) (ticks_fit : ticks < 2 ^ 32) (moves-is : moves ≡ drop 10 rest) where
+-- a body with the key of a level and ten bytes or more after it
+module _ (key : Key) (rest a b moves : List ℕ) (seed ticks : ℕ) (level : IsLevel key) (fits : IsBytes rest)
+    (long : 10 ≤ length rest) (size : 6 + length rest < 2 ^ 32) (seed_fits : seed < 2 ^ 32) (ticks_fit : ticks < 2 ^ 32)
+    (moves-is : moves ≡ drop 10 rest) where
+  -- the solution with these fields
   abbrev pub solved : Solution
   solved = record { key = key; flags = slice_index rest 0; start = slice_index rest 1; seed = seed; ticks = ticks; moves = moves }
 
+  -- its fields are in range
   pub fields_fit : HasSolutionFields solved
   fields_fit = record {
     key = level;
@@ -49,11 +56,13 @@ module _ (key : Key) (rest a b moves : List ℕ) (seed ticks : ℕ) (level : IsL
     size = omega (arith, size, ap length moves-is, length-drop 10 rest);
   }
 
+  -- if its moves are whole, it is a solution
   pub solution_fits : IsSpelling moves → IsSolution solved
   solution_fits whole = record { fields = fields_fit; whole = whole }
 
   -- moves that are cut are those of a solution with these fields
-  pub solution_cut : (offset : ℕ) (e : FileFault) → a ≡ drop 2 rest → b ≡ drop 6 rest → seed ≡ little_number 4 a → ticks ≡ little_number 4 b → MovesFailAt moves offset e → SolutionFails (key_bytes key ++ rest) offset e
+  pub solution_cut : (offset : ℕ) (e : FileFault) → a ≡ drop 2 rest → b ≡ drop 6 rest → seed ≡ little_number 4 a →
+      ticks ≡ little_number 4 b → MovesFailAt moves offset e → SolutionFails (key_bytes key ++ rest) offset e
   solution_cut offset (ShortHeader n) a-is b-is seed-is ticks-is fault = fault
   solution_cut offset BadSignature a-is b-is seed-is ticks-is fault = fault
   solution_cut offset (BadRuleset code) a-is b-is seed-is ticks-is fault = fault

@@ -21,7 +21,9 @@ cmp_parts (x ∷ xs) (z ∷ zs) ys ws same =
     ap (ordering_then (nat_cmp x z)) (cmp_parts xs zs ys ws (omega (arith, same)))
     ∙ then_as_one (nat_cmp x z) (slice_cmp nat_cmp xs zs) (slice_cmp nat_cmp ys ws)
 
+-- two texts, each in two parts of which the first have the same length
 module _ (first rest body head tail bytes : List ℕ) (body-is : first ++ rest ≡ body) (bytes-is : head ++ tail ≡ bytes) (same : length first ≡ length head) where
+  -- the first parts are compared, and then the others
   whole-is : slice_cmp nat_cmp body bytes ≡ ordering_then (slice_cmp nat_cmp first head) (slice_cmp nat_cmp rest tail)
   whole-is = sym (ap (λ xs. slice_cmp nat_cmp xs bytes) body-is) ∙ (sym (ap (slice_cmp nat_cmp (first ++ rest)) bytes-is) ∙ cmp_parts first head rest tail same)
 

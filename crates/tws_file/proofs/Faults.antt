@@ -17,6 +17,7 @@ record HasHeader (bytes : List ℕ) : Type 0 where
   known : (slice_index bytes 4 ≡ 1) ⊎ (slice_index bytes 4 ≡ 2)
   whole : 8 + slice_index bytes 7 ≤ length bytes
 
+-- a ruleset's code is 1 or 2
 code_known : (rules : Ruleset) → (ruleset_code rules ≡ 1) ⊎ (ruleset_code rules ≡ 2)
 code_known Lynx = inl refl
 code_known Ms = inr refl
@@ -25,6 +26,7 @@ code_known Ms = inr refl
 abbrev header_bytes : ℕ → List ℕ → ℕ → List ℕ → List ℕ
 header_bytes code word count rest = 0x35 ∷ 0x33 ∷ 0x9B ∷ 0x99 ∷ code ∷ (word ++ (count ∷ rest))
 
+-- header bytes with a known code, and as many bytes after them as they say, begin with a whole header
 header_is : (code : ℕ) (word : List ℕ) (count : ℕ) (rest : List ℕ) → length word ≡ 2 → (code ≡ 1) ⊎ (code ≡ 2) → count ≤ length rest → HasHeader (header_bytes code word count rest)
 header_is code [] count rest len known long = absurd (omega arith)
 header_is code (a ∷ []) count rest len known long = absurd (omega arith)
@@ -32,6 +34,7 @@ header_is code (a ∷ b ∷ []) count rest len known long =
     record { signed = record { long = omega arith; signed = refl }; known = known; whole = omega arith }
 header_is code (a ∷ b ∷ c ∷ word) count rest len known long = absurd (omega arith)
 
+-- a file's text begins with a whole header
 header_of_text : (f : File) (rest : List ℕ) → IsFile f → HasHeader (text_of f ++ rest)
 header_of_text f rest fits =
     let records = flat_map record_text f.records in
@@ -43,42 +46,52 @@ header_of_text f rest fits =
 
 -- ---- a whole header has no fault
 
+-- a whole header is not a short one
 short_header : (bytes : List ℕ) (n : ℕ) → HasHeader bytes → HasFileFault bytes (ShortHeader n) → ⊥
 short_header bytes n header fault = ⊎_elim (λ short. absurd (omega (arith, header.signed.long))) (λ cut. absurd (omega (arith, header.whole, cut.cut))) fault.1
 
+-- bytes with the signature have no bad one
 bad_signature : (bytes : List ℕ) → IsSigned bytes → HasFileFault bytes BadSignature → ⊥
 bad_signature bytes signed fault = fault.1 signed.signed
 
+-- a code that is 1 or 2 is not an unknown one
 unknown_ruleset : (bytes : List ℕ) (code : ℕ) → (slice_index bytes 4 ≡ 1) ⊎ (slice_index bytes 4 ≡ 2) → HasFileFault bytes (BadRuleset code) → ⊥
 unknown_ruleset bytes code known fault = ⊎_elim (λ one. fault.2.0 (fault.1 ∙ one)) (λ two. fault.2.1 (fault.1 ∙ two)) known
 
 -- ---- where the records stop
 
+-- bytes whose records stop somewhere begin with a whole header
 stop_header : (bytes : List ℕ) (offset : ℕ) (rest : List ℕ) → StopsAt bytes offset rest → HasHeader bytes
 stop_header bytes offset rest stop = subst HasHeader (sym stop.split) (header_of_text stop.prefix rest stop.fits)
 
+-- records stop at one place only
 one_stop : (bytes : List ℕ) (o p : ℕ) (x y : List ℕ) → StopsAt bytes o x → StopsAt bytes p y → (o ≡ p) × (x ≡ y)
 one_stop bytes o p x y s t =
     let same = text_parts s.prefix t.prefix x y s.fits t.fits s.no_record t.no_record (sym s.split ∙ t.split) in
     (s.place ∙ ap (λ (f : File). length (text_of f)) same.0 ∙ sym t.place, same.1)
 
+-- a record with a bad size is not cut
 bad_or_cut : (rest : List ℕ) → HasBadSize rest → IsRecordCut rest → ⊥
 bad_or_cut rest bad cut = ⊎_elim (λ short. absurd (omega (arith, bad.0))) (λ whole. whole.1 bad.1) cut
 
+-- bytes do not have both a cut record and a bad size
 cut_and_bad : (bytes : List ℕ) (o p : ℕ) → HasFileFault bytes (ShortRecord o) → HasFileFault bytes (BadSize p) → ⊥
 cut_and_bad bytes o p cut bad =
     bad_or_cut bad.0 bad.2 (subst IsRecordCut (one_stop bytes o p cut.0 bad.0 cut.1 bad.1).1 cut.2)
 
 -- ---- where moves are cut
 
+-- nor both a cut record and cut moves
 cut_and_moves : (bytes : List ℕ) (o p : ℕ) → HasFileFault bytes (ShortRecord o) → StopsInMoves bytes p → ⊥
 cut_and_moves bytes o p cut moves =
     moves_or_cut moves.rest moves.at moves.moves (subst IsRecordCut (one_stop bytes o moves.offset cut.0 moves.rest cut.1 moves.stop).1 cut.2)
 
+-- nor both a bad size and cut moves
 bad_and_moves : (bytes : List ℕ) (o p : ℕ) → HasFileFault bytes (BadSize o) → StopsInMoves bytes p → ⊥
 bad_and_moves bytes o p bad moves =
     moves_or_bad moves.rest moves.at moves.moves (subst HasBadSize (one_stop bytes o moves.offset bad.0 moves.rest bad.1 moves.stop).1 bad.2)
 
+-- moves are cut at one place only
 one_moves_stop : (bytes : List ℕ) (o p : ℕ) → StopsInMoves bytes o → StopsInMoves bytes p → o ≡ p
 one_moves_stop bytes o p first second =
     let same = one_stop bytes first.offset second.offset first.rest second.rest first.stop second.stop in
@@ -87,6 +100,7 @@ one_moves_stop bytes o p first second =
 
 -- ---- one fault
 
+-- bytes have at most one fault
 pub one_fault : (bytes : List ℕ) (d e : FileFault) → HasFileFault bytes d → HasFileFault bytes e → d ≡ e
 one_fault bytes (ShortHeader m) (ShortHeader n) p q = ap ShortHeader (p.0 ∙ sym q.0)
 one_fault bytes (ShortHeader m) BadSignature p q = ⊎_elim (λ short. absurd (omega (arith, q.0))) (λ cut. absurd (bad_signature bytes cut.signed q)) p.1
@@ -129,13 +143,16 @@ one_fault bytes d Memory p q = absurd q
 
 -- ---- a text has none
 
+-- a file's text begins with a whole header
 text_header : (bytes : List ℕ) (f : File) → IsText bytes f → HasHeader bytes
 text_header bytes f text = subst HasHeader (append-nil (text_of f) ∙ sym text.text) (header_of_text f [] text.fits)
 
+-- the records of a file's text do not stop before its end
 text_goes_on : (bytes : List ℕ) (f : File) (offset : ℕ) (rest : List ℕ) → IsText bytes f → StopsAt bytes offset rest → ⊥
 text_goes_on bytes f offset rest text stop =
     stop.some (sym (text_parts f stop.prefix [] rest text.fits stop.fits nothing_begins stop.no_record (append-nil (text_of f) ∙ sym text.text ∙ stop.split)).1)
 
+-- a file's text has no fault
 pub text_without_fault : (bytes : List ℕ) (f : File) (e : FileFault) → IsText bytes f → HasFileFault bytes e → ⊥
 text_without_fault bytes f (ShortHeader n) text fault = short_header bytes n (text_header bytes f text) fault
 text_without_fault bytes f BadSignature text fault = bad_signature bytes (text_header bytes f text).signed fault

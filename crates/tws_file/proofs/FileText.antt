@@ -10,21 +10,25 @@ use Rattle.byte_output.proofs.Lists.{append_parts}
 use Rattle.tws_moves.proofs.Codes.{one_cut}
 use Rattle.tws_file.proofs.RecordText.{record_texts}
 
+-- the code of a ruleset determines it
 ruleset_code-injective : (q r : Ruleset) → ruleset_code q ≡ ruleset_code r → q ≡ r
 ruleset_code-injective Lynx Lynx e = refl
 ruleset_code-injective Lynx Ms e = absurd (omega arith)
 ruleset_code-injective Ms Lynx e = absurd (omega arith)
 ruleset_code-injective Ms Ms e = refl
 
+-- the text of a file's header
 abbrev header_of : File → List ℕ
 header_of f = header_text f.ruleset f.word f.extra
 
+-- two files have the same header, and the same bytes follow it
 record HasSameHeader (f g : File) (x y : List ℕ) : Type 0 where
   rules : f.ruleset ≡ g.ruleset
   word : f.word ≡ g.word
   extra : f.extra ≡ g.extra
   rest : x ≡ y
 
+-- texts that begin with whole headers have the same header and the same rest
 header_parts : (f g : File) (x y : List ℕ) → IsFile f → IsFile g → header_of f ++ x ≡ header_of g ++ y → HasSameHeader f g x y
 header_parts f g x y ff fg e =
     let code : ruleset_code f.ruleset ≡ ruleset_code g.ruleset = cc in
@@ -37,9 +41,11 @@ header_parts f g x y ff fg e =
     let extra = append_parts f.extra g.extra x y count rest in
     record { rules = ruleset_code-injective f.ruleset g.ruleset code; word = word.0; extra = extra.0; rest = extra.1 }
 
+-- an empty rest begins no record
 pub nothing_begins : BeginsNoRecord []
 nothing_begins r more fits e = absurd cc
 
+-- two files whose texts, each followed by a rest that begins no record, are equal are the same file
 pub text_parts : (f g : File) (x y : List ℕ) → IsFile f → IsFile g → BeginsNoRecord x → BeginsNoRecord y → text_of f ++ x ≡ text_of g ++ y → (f ≡ g) × (x ≡ y)
 text_parts f g x y ff fg nx ny e =
     let records_f = flat_map record_text f.records in

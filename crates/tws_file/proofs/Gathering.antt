@@ -11,6 +11,7 @@ use Rattle.tws_file.specs.Record.{record_of, records_of}
 
 -- ---- of moves
 
+-- the lines of these moves
 abbrev pub of_moves : List Move → List ℕ
 of_moves moves = flat_map move_line moves
 
@@ -22,10 +23,13 @@ of_moves-one m = append-nil (move_line m)
 
 -- ---- of records
 
+-- the listing of records, with or without their moves
 module _ {A : Type 0} (with_moves : Bool) where
+  -- the lines of these records
   abbrev pub of_records : List (stored.Record A) → List ℕ
   of_records rs = flat_map (record_lines with_moves) (records_of rs)
 
+  -- the lines of one record
   abbrev pub of_record : stored.Record A → List ℕ
   of_record r = record_lines with_moves (record_of r)
 
@@ -37,7 +41,9 @@ module _ {A : Type 0} (with_moves : Bool) where
 
 -- ---- the texts of records
 
+-- the texts of records
 module _ {A : Type 0} where
+  -- the texts of these records
   abbrev pub texts : List (stored.Record A) → List ℕ
   texts rs = flat_map record_text (records_of rs)
 
@@ -50,6 +56,7 @@ module _ {A : Type 0} where
   pub texts-one : (r : stored.Record A) → texts (r ∷ []) ≡ text_of_record r
   texts-one r = append-nil (text_of_record r)
 
+  -- a record within the list has a text
   record_at : (rs : List (stored.Record A)) (i : ℕ) (r : stored.Record A) → AllByRecursion IsRecord (records_of rs) → i < length rs → IsRecord (record_of (get_or rs i r))
   record_at [] i r fits inside = absurd (omega arith)
   record_at (x ∷ rs) zero r fits inside = fits.0

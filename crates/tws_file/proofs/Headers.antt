@@ -14,7 +14,8 @@ two_bytes a b fa fb (suc zero) = fb
 two_bytes a b fa fb (suc (suc i)) = omega arith
 
 -- `count` bytes of the rest are the further header bytes
-pub header_from : (bytes : List ℕ) (rules : Ruleset) (rest extra records : List ℕ) (count : ℕ) → IsBytes bytes → 8 ≤ length bytes → take 4 bytes ≡ signature → ruleset_code rules ≡ slice_index bytes 4 → count ≡ slice_index bytes 7
+pub header_from : (bytes : List ℕ) (rules : Ruleset) (rest extra records : List ℕ) (count : ℕ) → IsBytes bytes →
+    8 ≤ length bytes → take 4 bytes ≡ signature → ruleset_code rules ≡ slice_index bytes 4 → count ≡ slice_index bytes 7
     → rest ≡ drop 8 bytes → count ≤ length rest → extra ≡ take count rest → records ≡ drop count rest
     → BeginsWithHeader bytes rules (slice_index bytes 5 ∷ slice_index bytes 6 ∷ []) extra records
 header_from bytes rules rest extra records count fits long signed code seven rest-is room extra-is records-is =

@@ -17,6 +17,7 @@ little_number_4-append bytes more long =
     ∙ ap (little_number 4) (take-append-le 4 bytes more long)
     ∙ little_from-take 0 4 4 bytes (omega arith)
 
+-- a bad size stays one when more bytes follow
 bad_size-append : (rest more : List ℕ) → HasBadSize rest → HasBadSize (rest ++ more)
 bad_size-append rest more bad =
     (omega (arith, bad.0, length-append rest more), subst IsBadSize (sym (little_number_4-append rest more bad.0)) bad.1)
@@ -25,13 +26,22 @@ still_some : (rest more : List ℕ) → rest ≢ [] → rest ++ more ≢ []
 still_some [] more some none = some refl
 still_some (b ∷ rest) more some none = absurd cc
 
+-- a lasting fault of bytes is one of these and any further bytes
 pub lasting-append : (bytes more : List ℕ) (e : FileFault) → IsLasting e → HasFileFault bytes e → HasFileFault (bytes ++ more) e
 lasting-append bytes more (ShortHeader n) lasts fault = absurd lasts
 lasting-append bytes more BadSignature lasts fault =
     (omega (arith, fault.0, length-append bytes more), λ signed. fault.1 (sym (take-append-le 4 bytes more (omega (arith, fault.0))) ∙ signed))
 lasting-append bytes more (BadRuleset code) lasts fault =
-    let header = fault.0 in
-    (record { long = omega (arith, header.long, length-append bytes more); signed = take-append-le 4 bytes more (omega (arith, header.long)) ∙ header.signed }, fault.1 ∙ sym (get_or-append bytes more 0 4 (omega (arith, header.long))), fault.2)
+    let header = fault.0 in (
+      record {
+        long = omega (arith, header.long, length-append bytes more);
+        signed =
+            take-append-le 4 bytes more (omega (arith, header.long)) ∙ header.signed;
+      },
+      fault.1 ∙
+          sym (get_or-append bytes more 0 4 (omega (arith, header.long))),
+      fault.2,
+    )
 lasting-append bytes more (ShortRecord o) lasts fault = absurd lasts
 lasting-append bytes more (BadSize o) lasts fault =
     let rest = fault.0 in
@@ -88,6 +98,7 @@ takes_stopped r (MoveCut place) bytes piece view taken =
     rw (← view) (was.0, lasting-append bytes piece (MoveCut place) was.0 was.1)
 takes_stopped r Memory bytes piece view taken = tt
 
+-- what a reader returns at the end is what reading all its bytes at once returns
 pub joined_from : (r : Reading) (bytes : List ℕ) (result : Result File FileFault) → HasTaken r bytes → Finishes r result → IsAnswer bytes result
 joined_from (reading xs) bytes result taken finishes = subst (λ (b : List ℕ). IsAnswer b result) taken finishes
 joined_from (stopped fault) bytes result taken finishes = rw finishes taken.1

@@ -11,5 +11,8 @@ pub mod Gathering
 pub mod Pieces
 pub mod ReadSoFar
 pub mod Lasting
+pub mod Continuing
+pub mod InParts
 pub mod Packs
 pub mod Readable
+pub mod Rules

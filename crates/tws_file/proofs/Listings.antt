@@ -15,7 +15,9 @@ use Rattle.tws_file.specs.Listing.{hex, hex_byte}
 -- ---- hexadecimal digits
 
 -- one more byte
-pub hex-more : (bytes : List ℕ) (i : ℕ) → i < length bytes → get_or bytes i 0 < 256 → hex (take i bytes) ++ padded_integral (format_spec 32 0 4 2 (2 ^ 64 - 1)) false [] (digits 16 false (get_or bytes i 0)) ≡ hex (take (i + 1) bytes)
+pub hex-more : (bytes : List ℕ) (i : ℕ) → i < length bytes → get_or bytes i 0 < 256 →
+    hex (take i bytes) ++ padded_integral (format_spec 32 0 4 2 (2 ^ 64 - 1)) false [] (digits 16 false (get_or bytes i 0)) ≡ hex
+    (take (i + 1) bytes)
 hex-more bytes i inside fits =
     ap (λ (xs : List ℕ). hex (take i bytes) ++ xs) (fmt.hex_byte false (get_or bytes i 0) fits)
     ∙ flat_map_more hex_byte [] (take i bytes) (get_or bytes i 0)
@@ -26,6 +28,7 @@ hex-more bytes i inside fits =
 letter_is_ascii : (b : ℕ) → is_ascii_alphabetic b ≡ true → b < 128
 letter_is_ascii b e = grind (arith, nat_tests)
 
+-- a password of letters is ASCII text
 letters_are_ascii : (bytes : List ℕ) → list_all is_ascii_alphabetic bytes ≡ true → IsAscii bytes
 letters_are_ascii [] e = IsAscii-nil
 letters_are_ascii (b ∷ bytes) e =

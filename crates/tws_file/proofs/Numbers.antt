@@ -6,10 +6,12 @@ use Rattle.byteorder.specs.Numbers.{little_number-reads_back, little_from-take}
 use Rattle.byte_output.specs.Bytes.{IsBytes}
 use Rattle.byte_output.proofs.Bytes.{IsBytes-take}
 
+-- two bytes are the bytes of their number
 pub little_bytes-little_number_2 : (bytes : List ℕ) → 2 ≤ length bytes → IsBytes bytes → little_bytes 2 (little_number 2 bytes) ≡ take 2 bytes
 little_bytes-little_number_2 bytes long fits =
     le_bytes_2 (take 2 bytes) (little_number 2 bytes) (omega (arith, length-take 2 bytes)) (IsBytes-take 2 bytes fits) (omega (arith, little_from-take 0 2 2 bytes (omega arith)))
 
+-- four bytes are the bytes of their number
 pub little_bytes-little_number_4 : (bytes : List ℕ) → 4 ≤ length bytes → IsBytes bytes → little_bytes 4 (little_number 4 bytes) ≡ take 4 bytes
 little_bytes-little_number_4 bytes long fits =
     le_bytes_4 (take 4 bytes) (little_number 4 bytes) (omega (arith, length-take 4 bytes)) (IsBytes-take 4 bytes fits) (omega (arith, little_from-take 0 4 4 bytes (omega arith)))

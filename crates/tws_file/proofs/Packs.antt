@@ -15,9 +15,11 @@ use Rattle.tws_file.specs.Steps.{solved_after_key}
 
 -- ---- packed values have a text
 
+-- the packed moves of a solution are the same moves
 packed_spells : (s : Solution) (fits : IsSolution s) → Spells (packed_bytes s.moves) fits.whole.0
 packed_spells s fits = (packed_shortest s.moves fits.whole.0 fits.whole.1).spells
 
+-- a packed solution is a solution
 pub packed_solution_fits : (s : Solution) → IsSolution s → IsSolution (packed_solution s)
 packed_solution_fits s fits = record {
   fields = record {
@@ -32,16 +34,19 @@ packed_solution_fits s fits = record {
   whole = (fits.whole.0, packed_spells s fits);
 }
 
+-- a packed record is a record
 packed_record_fits : (r : Record) → IsRecord r → IsRecord (packed_record r)
 packed_record_fits pad fits = fits
 packed_record_fits (set rest) fits = fits
 packed_record_fits (bare key) fits = fits
 packed_record_fits (solution s) fits = packed_solution_fits s fits
 
+-- so are all of them
 packed_records_fit : (rs : List Record) → AllByRecursion IsRecord rs → AllByRecursion IsRecord (map packed_record rs)
 packed_records_fit [] fits = tt
 packed_records_fit (r ∷ rs) fits = (packed_record_fits r fits.0, packed_records_fit rs fits.1)
 
+-- a packed file has a text
 pub packed_file_fits : (file : File) → IsFile file → IsFile (packed_file file)
 packed_file_fits file fits = record {
   word = fits.word;
@@ -51,15 +56,20 @@ packed_file_fits file fits = record {
   records = packed_records_fit file.records fits.records;
 }
 
-pub packed_parts_fit : (file : File) (extra : List ℕ) (records : List Record) → IsFile file → extra ≡ file.extra → records ≡ map packed_record file.records → IsFile (record { «ruleset» = file.ruleset; word = file.word; extra = extra; records = records })
+-- a file put together from packed records and copied header bytes has a text
+pub packed_parts_fit : (file : File) (extra : List ℕ) (records : List Record) → IsFile file → extra ≡ file.extra →
+    records ≡ map packed_record file.records →
+    IsFile (record { «ruleset» = file.ruleset; word = file.word; extra = extra; records = records })
 packed_parts_fit file extra records fits extra-is records-is = rw (extra-is, records-is) (packed_file_fits file fits)
 
 -- ---- packing again changes nothing
 
+-- packing a packed solution changes nothing
 twice_solution : (s : Solution) → IsSolution s → packed_solution (packed_solution s) ≡ packed_solution s
 twice_solution s fits =
     ap (λ (moves : List ℕ). record { key = s.key; flags = s.flags; start = s.start; seed = s.seed; ticks = s.ticks; moves = moves }) (packed_once s.moves fits.whole.0 fits.whole.1)
 
+-- nor does packing a packed record
 twice_record : (r : Record) → IsRecord r → packed_record (packed_record r) ≡ packed_record r
 twice_record pad fits = refl
 twice_record (set rest) fits = refl
@@ -72,6 +82,7 @@ twice_records (r ∷ rs) fits =
     ap (λ (x : Record). x ∷ map packed_record (map packed_record rs)) (twice_record r fits.0)
     ∙ ap (λ (xs : List Record). packed_record r ∷ xs) (twice_records rs fits.1)
 
+-- packing a packed file changes nothing
 pub packed_twice : (file : File) → IsFile file → packed_file (packed_file file) ≡ packed_file file
 packed_twice file fits =
     ap (λ (rs : List Record). record { «ruleset» = file.ruleset; word = file.word; extra = file.extra; records = rs }) (twice_records file.records fits.records)
@@ -84,6 +95,7 @@ body_length s = omega (arith, length-append s.key.password (solved_after_key s))
 text_length : (r : Record) → length (record_text r) ≡ 4 + length (body_of r)
 text_length r = omega arith
 
+-- no packed record is longer
 no_longer_record : (r : Record) → IsRecord r → length (record_text (packed_record r)) ≤ length (record_text r)
 no_longer_record pad fits = omega arith
 no_longer_record (set rest) fits = omega arith
@@ -91,11 +103,20 @@ no_longer_record (bare key) fits = omega arith
 no_longer_record (solution s) fits =
     omega (arith, text_length (solution s), text_length (solution (packed_solution s)), body_length s, body_length (packed_solution s), packed_no_longer s.moves fits.whole.0 fits.whole.1)
 
+-- nor are all of them together
 no_longer_records : (rs : List Record) → AllByRecursion IsRecord rs → length (flat_map record_text (map packed_record rs)) ≤ length (flat_map record_text rs)
 no_longer_records [] fits = omega arith
 no_longer_records (r ∷ rs) fits =
-    omega (arith, no_longer_record r fits.0, no_longer_records rs fits.1, length-append (record_text r) (flat_map record_text rs), length-append (record_text (packed_record r)) (flat_map record_text (map packed_record rs)))
+    omega (
+      arith,
+      no_longer_record r fits.0,
+      no_longer_records rs fits.1,
+      length-append (record_text r)
+          (flat_map record_text rs),
+      length-append (record_text (packed_record r)) (flat_map record_text (map packed_record rs)),
+    )
 
+-- a packed file's text is no longer than the file's
 pub packed_no_longer_text : (file : File) → IsFile file → length (text_of (packed_file file)) ≤ length (text_of file)
 packed_no_longer_text file fits =
     let header = header_text file.ruleset file.word file.extra in
@@ -103,11 +124,13 @@ packed_no_longer_text file fits =
 
 -- ---- the same moves, in the fewest bytes
 
+-- packing keeps a solution's moves
 pub packed_moves : (s : Solution) → IsSolution s → moves_in (packed_solution s).moves ≡ moves_in s.moves
 packed_moves s fits =
     let moves = fits.whole.0 in
     sym (moves_in_spelled (packed_bytes s.moves) moves (packed_spells s fits)) ∙ moves_in_spelled s.moves moves fits.whole.1
 
+-- no fewer bytes spell them
 pub packed_is_shortest : (s : Solution) → IsSolution s → IsShortest (packed_solution s).moves (moves_in s.moves)
 packed_is_shortest s fits =
     let moves = fits.whole.0 in
@@ -115,7 +138,9 @@ packed_is_shortest s fits =
 
 -- ---- one more record
 
+-- packing record by record
 module _ {A B : Type 0} where
+  -- the first i records are packed, and then one more
   pub packed_more : (packed pushed : List (stored.Record A)) (records : List (stored.Record B)) (i : ℕ) (one : stored.Record B) (p : stored.Record A)
       → records_of packed ≡ map packed_record (records_of (take i records)) → i < length records → one ≡ get_or records i one → record_of p ≡ packed_record (record_of one) → pushed ≡ packed ++ p ∷ []
       → records_of pushed ≡ map packed_record (records_of (take (i + 1) records))

@@ -28,6 +28,7 @@ some_count n none = omega (arith, ap length none, length-append (codes "records 
 
 -- the first part was gathered after nothing
 module _ (old new : Option (List ℕ)) (header body before start : List ℕ) (n : ℕ) (start-is : start ≡ before ++ header) (before-is : before ≡ []) where
+  -- with the header gathered first, the text is the whole listing
   whole-is : start ++ body ++ count_line n ≡ header ++ body ++ count_line n
   whole-is = ap (λ (x : List ℕ). x ++ body ++ count_line n) (start-is ∙ ap (λ (x : List ℕ). x ++ header) before-is)
 

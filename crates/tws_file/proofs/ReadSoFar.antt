@@ -1,7 +1,7 @@
 -- The file that was read so far, and the bytes after it.
-use Rattle.std.proofs.Common.{◌≡◌, ◌≢◌, ℕ, ◌+◌, ◌-◌, List, [], ◌∷◌, ◌++◌, length, drop, Option, None, Some, Result, Ok, Err, refl, ap, sym, subst, ◌∙◌, append_assoc, append-nil, arith, inl, inr, ⊎_elim, length-append}
+use Rattle.std.proofs.Common.{◌≡◌, ◌≢◌, ℕ, ◌-◌, List, [], ◌∷◌, ◌++◌, length, drop, Option, None, Some, Result, Ok, Err, refl, ap, sym, subst, ◌∙◌, append_assoc, append-nil, arith, inl, inr, ⊎_elim, length-append}
 use Rattle.std.specs.List.{flat_map, AllByRecursion}
-use Rattle.std.proofs.Math.Seq.{drop-append_seam, take-append_seam}
+use Rattle.std.proofs.Math.Seq.{drop-append_seam}
 use Rattle.std.proofs.lemmas.List.Concat.{flat_map-append}
 use Rattle.byte_output.proofs.Lists.{all_append}
 use Rattle.tws_file.specs.declared.file_fault.FileFault.{FileFault}
@@ -9,7 +9,7 @@ use Rattle.tws_file.specs.declared.file_fault.FileFault.TheVariants.{ShortHeader
 use Rattle.tws_file.specs.declared.«ruleset».Ruleset.{Ruleset}
 use Rattle.tws_file.specs.Text.{File, Record, IsRecord, IsFile, IsText, header_text, text_of, record_text}
 use Rattle.tws_file.specs.Fault.{HasFileFault, IsLasting, StopsAt, IsRecordCut, FailsWith, IsReadAs}
-use Rattle.tws_file.specs.Reader.{Reading, reading, stopped, reading_from, Pushes, PushFails, HasTaken, TakesPiece, Finishes, IsAnswer, HasNoLasting}
+use Rattle.tws_file.specs.Reader.{Reading, reading, stopped, Pushes, PushFails, TakesPiece, IsAnswer}
 use Rattle.tws_file.specs.Steps.{BeginsWithHeader, StopsAfter, RecordsFail, FailsForGood, IsAt, IsLeft, text_so_far, Advances}
 use Rattle.tws_file.proofs.Beginnings.{cut_begins_none}
 use Rattle.tws_file.proofs.Faults.{one_fault, text_without_fault}
@@ -21,6 +21,7 @@ use Rattle.tws_file.proofs.FileText.{one_file}
 abbrev pub with_more : File → List Record → File
 with_more file more = record { «ruleset» = file.ruleset; word = file.word; extra = file.extra; records = file.records ++ more }
 
+-- a file with more records is a file
 pub with_more_fits : (file : File) (more : List Record) → IsFile file → AllByRecursion IsRecord more → IsFile (with_more file more)
 with_more_fits file more fits fits_more = record {
   word = fits.word;
@@ -30,13 +31,15 @@ with_more_fits file more fits fits_more = record {
   records = all_append IsRecord file.records more fits.records fits_more;
 }
 
+-- its text goes on with the texts of those records
 pub with_more_text : (file : File) (more : List Record) → text_of (with_more file more) ≡ text_of file ++ flat_map record_text more
 with_more_text file more =
     ap (λ (xs : List ℕ). header_text file.ruleset file.word file.extra ++ xs) (flat_map-append record_text file.records more)
     ∙ sym (append_assoc (header_text file.ruleset file.word file.extra) (flat_map record_text file.records) (flat_map record_text more))
 
 -- a stop in the bytes after a file is also one in all the bytes
-stop_after : (file : File) (bytes left_over : List ℕ) (offset place : ℕ) → IsFile file → offset ≡ length (text_of file) → StopsAfter bytes offset place left_over → StopsAt (text_of file ++ bytes) place left_over
+stop_after : (file : File) (bytes left_over : List ℕ) (offset place : ℕ) → IsFile file → offset ≡ length (text_of file) →
+    StopsAfter bytes offset place left_over → StopsAt (text_of file ++ bytes) place left_over
 stop_after file bytes left_over offset place fits offset-is stop =
     let texts = flat_map record_text stop.prefix in
     let whole = with_more_text file stop.prefix in
@@ -77,6 +80,7 @@ more_fails file bytes offset Memory fits offset-is fault = inr refl
 abbrev pub without_records : Ruleset → List ℕ → List ℕ → File
 without_records rules word extra = record { «ruleset» = rules; word = word; extra = extra; records = [] }
 
+-- a header that was read makes a file without records
 pub without_records_fits : (bytes word extra rest : List ℕ) (rules : Ruleset) → BeginsWithHeader bytes rules word extra rest → IsFile (without_records rules word extra)
 without_records_fits bytes word extra rest rules header = record {
   word = header.word_bytes;
@@ -86,26 +90,22 @@ without_records_fits bytes word extra rest rules header = record {
   records = tt;
 }
 
+-- the bytes are its text and what follows it
 pub header_split : (bytes word extra rest : List ℕ) (rules : Ruleset) → BeginsWithHeader bytes rules word extra rest → bytes ≡ text_of (without_records rules word extra) ++ rest
 header_split bytes word extra rest rules header =
     header.split ∙ ap (λ (xs : List ℕ). xs ++ rest) (sym (append-nil (header_text rules word extra)))
 
--- records that fail after a header are a fault of all the bytes
-pub start_fails : (bytes word extra rest : List ℕ) (rules : Ruleset) (e : FileFault) → BeginsWithHeader bytes rules word extra rest → RecordsFail rest (length bytes - length rest) e → FailsForGood bytes e
-start_fails bytes word extra rest rules e header fault =
-    let file = without_records rules word extra in
-    let split = header_split bytes word extra rest rules header in
-    subst (λ (xs : List ℕ). FailsForGood xs e) (sym split) (more_fails file rest (length bytes - length rest) e (without_records_fits bytes word extra rest rules header) (omega (arith, ap length split, length-append (text_of file) rest)) fault)
-
 -- ---- a step
 
-drop_texts : (bytes texts rest : List ℕ) → bytes ≡ texts ++ rest → drop (length bytes - length rest) bytes ≡ rest
+-- what is left of the bytes is what follows the texts that were read
+pub drop_texts : (bytes texts rest : List ℕ) → bytes ≡ texts ++ rest → drop (length bytes - length rest) bytes ≡ rest
 drop_texts bytes texts rest split =
     let count : length bytes - length rest ≡ length texts = omega (arith, ap length split, length-append texts rest) in
     ap (λ (n : ℕ). drop n bytes) count ∙ ap (drop (length texts)) split ∙ drop-append_seam texts rest
 
 -- the first file, and what is left after it
-pub first_advance : (file : File) (offset : ℕ) (bytes rest : List ℕ) → IsAt None offset → IsFile file → bytes ≡ text_of file ++ rest → IsRecordCut rest → Advances None (Some file) offset bytes (length bytes - length rest)
+pub first_advance : (file : File) (offset : ℕ) (bytes rest : List ℕ) → IsAt None offset → IsFile file →
+    bytes ≡ text_of file ++ rest → IsRecordCut rest → Advances None (Some file) offset bytes (length bytes - length rest)
 first_advance file offset bytes rest begin fits split cut =
     let left = drop_texts bytes (text_of file) rest split in
     let count : length bytes - length rest ≡ length (text_of file) = omega (arith, ap length split, length-append (text_of file) rest) in
@@ -114,11 +114,11 @@ first_advance file offset bytes rest begin fits split cut =
       text = split ∙ ap (λ (xs : List ℕ). text_of file ++ xs) (sym left);
       at = (fits, omega (arith, begin, count));
       left = subst IsRecordCut (sym left) cut;
-      undone = refl;
     }
 
 -- more records, and what is left after them
-pub next_advance : (file : File) (offset : ℕ) (bytes rest : List ℕ) (more : List Record) → IsFile file → offset ≡ length (text_of file) → AllByRecursion IsRecord more → bytes ≡ flat_map record_text more ++ rest → IsRecordCut rest
+pub next_advance : (file : File) (offset : ℕ) (bytes rest : List ℕ) (more : List Record) → IsFile file →
+    offset ≡ length (text_of file) → AllByRecursion IsRecord more → bytes ≡ flat_map record_text more ++ rest → IsRecordCut rest
     → Advances (Some file) (Some (with_more file more)) offset bytes (length bytes - length rest)
 next_advance file offset bytes rest more fits offset-is fits_more split cut =
     let texts = flat_map record_text more in
@@ -126,10 +126,10 @@ next_advance file offset bytes rest more fits offset-is fits_more split cut =
     let left = drop_texts bytes texts rest split in
     record {
       within = omega arith;
-      text = ap (λ (xs : List ℕ). text_of file ++ xs) split ∙ sym (append_assoc (text_of file) texts rest) ∙ ap (λ (xs : List ℕ). xs ++ rest) (sym whole) ∙ ap (λ (xs : List ℕ). text_of (with_more file more) ++ xs) (sym left);
+      text = ap (λ (xs : List ℕ). text_of file ++ xs) split ∙ sym (append_assoc (text_of file) texts rest) ∙
+          ap (λ (xs : List ℕ). xs ++ rest) (sym whole) ∙ ap (λ (xs : List ℕ). text_of (with_more file more) ++ xs) (sym left);
       at = (with_more_fits file more fits fits_more, omega (arith, offset-is, ap length split, length-append texts rest, ap length whole, length-append (text_of file) texts));
       left = subst IsRecordCut (sym left) cut;
-      undone = ap (λ (rs : List Record). Some (record { «ruleset» = file.ruleset; word = file.word; extra = file.extra; records = rs })) (take-append_seam file.records more);
     }
 
 -- ---- the end
@@ -139,10 +139,12 @@ pub cut_after : (file : File) (rest : List ℕ) (offset : ℕ) → IsFile file �
 cut_after file rest offset fits offset-is some cut =
     (rest, record { prefix = file; fits = fits; split = refl; place = offset-is; some = some; no_record = cut_begins_none rest cut }, cut)
 
-text_alone : (file : File) → IsFile file → IsText (text_of file ++ []) file
+pub text_alone : (file : File) → IsFile file → IsText (text_of file ++ []) file
 text_alone file fits = record { fits = fits; text = append-nil (text_of file) }
 
-no_lasting_after : (file : File) (rest : List ℕ) (offset : ℕ) (e : FileFault) → IsFile file → offset ≡ length (text_of file) → IsRecordCut rest → IsLasting e → HasFileFault (text_of file ++ rest) e → ⊥
+-- a file's text and a record that is cut have no lasting fault
+no_lasting_after : (file : File) (rest : List ℕ) (offset : ℕ) (e : FileFault) → IsFile file → offset ≡ length (text_of file) →
+    IsRecordCut rest → IsLasting e → HasFileFault (text_of file ++ rest) e → ⊥
 no_lasting_after file [] offset e fits offset-is cut lasts fault = text_without_fault (text_of file ++ []) file e (text_alone file fits) fault
 no_lasting_after file (b ∷ rest) offset e fits offset-is cut lasts fault =
     let some : b ∷ rest ≢ [] = λ none. absurd cc in
@@ -150,30 +152,20 @@ no_lasting_after file (b ∷ rest) offset e fits offset-is cut lasts fault =
     absurd (subst IsLasting same lasts)
 
 -- if nothing whole is left to read, there is no lasting fault
-no_lasting : (so_far : Option File) (rest : List ℕ) (offset : ℕ) → IsAt so_far offset → IsLeft so_far rest → (e : FileFault) → IsLasting e → HasFileFault (text_so_far so_far ++ rest) e → ⊥
+pub no_lasting : (so_far : Option File) (rest : List ℕ) (offset : ℕ) → IsAt so_far offset → IsLeft so_far rest → (e : FileFault) → IsLasting e → HasFileFault (text_so_far so_far ++ rest) e → ⊥
 no_lasting None rest offset at left e lasts fault =
     absurd (subst IsLasting (one_fault rest e (ShortHeader (length rest)) fault left) lasts)
 no_lasting (Some file) rest offset at left e lasts fault =
     no_lasting_after file rest offset e at.0 at.1 left lasts fault
 
--- without a fault the reading goes on
-pub stays_on : (fault : Option FileFault) (so_far : Option File) (rest : List ℕ) (offset : ℕ) → fault ≡ None → IsAt so_far offset → (fault ≡ None → IsLeft so_far rest) → HasNoLasting (reading_from fault so_far rest)
-stays_on None so_far rest offset none at left = no_lasting so_far rest offset at (left none)
-stays_on (Some e) so_far rest offset none at left = absurd cc
-
--- after a step the reading goes on
-pub goes_on : (fault : Option FileFault) (old new : Option File) (bytes rest : List ℕ) (offset count : ℕ) → fault ≡ None → Advances old new offset bytes count → rest ≡ drop count bytes → HasNoLasting (reading_from fault new rest)
-goes_on None old new bytes rest offset count none step rest-is =
-    no_lasting new rest (offset + count) step.at (subst (λ (xs : List ℕ). IsLeft new xs) (sym rest-is) step.left)
-goes_on (Some e) old new bytes rest offset count none step rest-is = absurd cc
-
 -- ---- a fault that stops the reading
 
 -- the fault of bytes for which memory did not run out
-lasting_of : (bytes : List ℕ) (e : FileFault) → e ≢ Memory → FailsForGood bytes e → IsLasting e × HasFileFault bytes e
+pub lasting_of : (bytes : List ℕ) (e : FileFault) → e ≢ Memory → FailsForGood bytes e → IsLasting e × HasFileFault bytes e
 lasting_of bytes e some fails = ⊎_elim (λ lasts. lasts) (λ memory. absurd (some memory)) fails
 
-stops_at : (bytes piece : List ℕ) (e : FileFault) (new : Reading) → new ≡ stopped e → IsLasting e × HasFileFault (bytes ++ piece) e → PushFails bytes piece e new
+-- a push that fails with a lasting fault stops the reader
+pub stops_at : (bytes piece : List ℕ) (e : FileFault) (new : Reading) → new ≡ stopped e → IsLasting e × HasFileFault (bytes ++ piece) e → PushFails bytes piece e new
 stops_at bytes piece (ShortHeader n) new is fails = absurd fails.0
 stops_at bytes piece BadSignature new is fails = (is, fails.1)
 stops_at bytes piece (BadRuleset code) new is fails = (is, fails.1)
@@ -182,7 +174,8 @@ stops_at bytes piece (BadSize o) new is fails = (is, fails.1)
 stops_at bytes piece (MoveCut place) new is fails = (is, fails.1)
 stops_at bytes piece Memory new is fails = absurd fails.0
 
-takes_at : (bytes : List ℕ) (e : FileFault) → IsLasting e × HasFileFault bytes e → TakesPiece (Err e) bytes (stopped e)
+-- a reader that stopped with the fault of its bytes has taken them
+pub takes_at : (bytes : List ℕ) (e : FileFault) → IsLasting e × HasFileFault bytes e → TakesPiece (Err e) bytes (stopped e)
 takes_at bytes (ShortHeader n) fails = absurd fails.0
 takes_at bytes BadSignature fails = fails
 takes_at bytes (BadRuleset code) fails = fails
@@ -190,35 +183,6 @@ takes_at bytes (ShortRecord o) fails = absurd fails.0
 takes_at bytes (BadSize o) fails = fails
 takes_at bytes (MoveCut place) fails = fails
 takes_at bytes Memory fails = tt
-
--- of all bytes, those that were read first
-whole_fails : (so_far : Option File) (rest piece : List ℕ) (e : FileFault) → e ≢ Memory → FailsForGood (text_so_far so_far ++ (rest ++ piece)) e → IsLasting e × HasFileFault (text_so_far so_far ++ rest ++ piece) e
-whole_fails so_far rest piece e some fails =
-    lasting_of (text_so_far so_far ++ rest ++ piece) e some (subst (λ (xs : List ℕ). FailsForGood xs e) (sym (append_assoc (text_so_far so_far) rest piece)) fails)
-
-pub push_stops : (r : Reading) (fault : Option FileFault) (so_far : Option File) (rest piece : List ℕ) (e : FileFault) → reading_from fault so_far rest ≡ r → fault ≡ None → e ≢ Memory → FailsForGood (text_so_far so_far ++ (rest ++ piece)) e → Pushes r piece (Err e) (stopped e)
-push_stops r None so_far rest piece e view none some fails =
-    rw (← view) (stops_at (text_so_far so_far ++ rest) piece e (stopped e) refl (whole_fails so_far rest piece e some fails))
-push_stops r (Some f) so_far rest piece e view none some fails = absurd cc
-
-pub piece_stops : (r : Reading) (fault : Option FileFault) (so_far : Option File) (rest piece : List ℕ) (e : FileFault) → reading_from fault so_far rest ≡ r → fault ≡ None → e ≢ Memory → FailsForGood (text_so_far so_far ++ (rest ++ piece)) e → (bytes : List ℕ) → HasTaken r bytes → TakesPiece (Err e) (bytes ++ piece) (stopped e)
-piece_stops r None so_far rest piece e view none some fails bytes taken =
-    let same : text_so_far so_far ++ rest ≡ bytes = subst (λ (s : Reading). HasTaken s bytes) (sym view) taken in
-    subst (λ (xs : List ℕ). TakesPiece (Err e) (xs ++ piece) (stopped e)) same (takes_at (text_so_far so_far ++ rest ++ piece) e (whole_fails so_far rest piece e some fails))
-piece_stops r (Some f) so_far rest piece e view none some fails bytes taken = absurd cc
-
--- ---- the answer at the end
-
--- what a reader returns at the end
-pub finishes_short : (r : Reading) (fault : Option FileFault) (so_far : Option File) (rest : List ℕ) (n : ℕ) → reading_from fault so_far rest ≡ r → fault ≡ None → so_far ≡ None → (fault ≡ None → IsLeft so_far rest) → n ≡ length rest → Finishes r (Err (ShortHeader n))
-finishes_short r None None rest n view none before left n-is = rw (← view, n-is) (left refl)
-finishes_short r None (Some file) rest n view none before left n-is = absurd cc
-finishes_short r (Some e) so_far rest n view none before left n-is = absurd cc
-
-pub finishes_cut : (r : Reading) (fault : Option FileFault) (so_far : Option File) (file : File) (rest : List ℕ) (offset : ℕ) → reading_from fault so_far rest ≡ r → fault ≡ None → so_far ≡ Some file → (fault ≡ None → IsLeft so_far rest) → IsAt so_far offset → rest ≢ [] → Finishes r (Err (ShortRecord offset))
-finishes_cut r None None file rest offset view none is left at some = absurd cc
-finishes_cut r None (Some other) file rest offset view none is left at some = rw (← view) (cut_after other rest offset at.0 at.1 some (left refl))
-finishes_cut r (Some e) so_far file rest offset view none is left at some = absurd cc
 
 -- ---- reading in one piece
 

@@ -43,9 +43,11 @@ same_list (x ∷ xs) (y ∷ ys) =
 
 -- ---- the key of a body
 
+-- the key in the first six bytes of a body
 abbrev key_in : List ℕ → Key
 key_in body = record { number = little_number 2 body; password = take 4 (drop 2 body) }
 
+-- its number fits in two bytes, and its password is four bytes
 key_in_fits : (body : List ℕ) → IsBytes body → 6 ≤ length body → IsKey (key_in body)
 key_in_fits body fits long = record {
   number = little_from-lt 0 2 body fits;
@@ -53,15 +55,18 @@ key_in_fits body fits long = record {
   password_length = omega (arith, length-take 4 (drop 2 body), length-drop 2 body);
 }
 
+-- its bytes are those six
 key_in_bytes : (body : List ℕ) → IsBytes body → 6 ≤ length body → key_bytes (key_in body) ≡ take 6 body
 key_in_bytes body fits long =
     ap (λ (xs : List ℕ). xs ++ take 4 (drop 2 body)) (little_bytes-little_number_2 body (omega arith) fits)
     ∙ sym (take-add 2 4 body)
 
+-- its bytes and what follows them are the body
 key_then_rest : (body : List ℕ) → IsBytes body → 6 ≤ length body → key_bytes (key_in body) ++ drop 6 body ≡ body
 key_then_rest body fits long =
     ap (λ (xs : List ℕ). xs ++ drop 6 body) (key_in_bytes body fits long) ∙ take-append-drop 6 body
 
+-- a key is that of the set or of a level
 set_or_level : (key : Key) → IsKey key → (key ≡ set_key) ⊎ (IsLevel key)
 set_or_level key fits =
     let make : ℕ → List ℕ → Key = λ n p. record { number = n; password = p } in
@@ -81,6 +86,7 @@ data InBody (body : List ℕ) : Type 0 where
   whole_body : (r : Record) → IsRecord r → body_of r ≡ body → InBody body
   cut_body : (s : Solution) (at : ℕ) → HasSolutionFields s → body_of (solution s) ≡ body → IsCutAt s.moves at → InBody body
 
+-- a body of 16 bytes or more with a level's key is that of a solution, or its moves are cut
 solution_in : (body : List ℕ) → IsBytes body → 16 ≤ length body → length body < 2 ^ 32 → IsLevel (key_in body) → InBody body
 solution_in body fits long size level =
     let rest = drop 6 body in
@@ -90,7 +96,9 @@ solution_in body fits long size level =
     let rest_fits : IsBytes rest = IsBytes-drop 6 body fits in
     let rest_long : 10 ≤ length rest = omega (arith, length-drop 6 body) in
     let rest_size : 6 + length rest < 2 ^ 32 = omega (arith, length-drop 6 body, size) in
-    let fields = fields_fit (key_in body) rest (drop 2 rest) (drop 6 rest) moves seed ticks level rest_fits rest_long rest_size (little_from-lt 0 4 (drop 2 rest) (IsBytes-drop 2 rest rest_fits)) (little_from-lt 0 4 (drop 6 rest) (IsBytes-drop 6 rest rest_fits)) refl in
+    let fields = fields_fit (key_in body) rest (drop 2 rest) (drop 6 rest) moves seed ticks level rest_fits rest_long rest_size
+    (little_from-lt 0 4 (drop 2 rest) (IsBytes-drop 2 rest rest_fits))
+    (little_from-lt 0 4 (drop 6 rest) (IsBytes-drop 6 rest rest_fits)) refl in
     let s : Solution = record { key = key_in body; flags = slice_index rest 0; start = slice_index rest 1; seed = seed; ticks = ticks; moves = moves } in
     let bytes : body_of (solution s) ≡ body =
     ap (λ (xs : List ℕ). key_bytes (key_in body) ++ xs) (solved_from rest (drop 2 rest) (drop 6 rest) moves seed ticks rest_fits rest_long refl refl refl refl refl)
@@ -100,6 +108,7 @@ solution_in body fits long size level =
       | inr cut ↦ cut_body s cut.0 fields bytes cut.1
     ]
 
+-- a body with the key of the set is that of a record of the set
 set_in : (body : List ℕ) → IsBytes body → 6 ≤ length body → (drop 6 body ≡ []) ⊎ (10 ≤ length (drop 6 body)) → length body < 2 ^ 32 → key_in body ≡ set_key → InBody body
 set_in body fits long sizes size is_set =
     whole_body (set (drop 6 body))
@@ -113,10 +122,12 @@ none_left body six = empty (drop 6 body) (omega (arith, length-drop 6 body))
     empty [] none = refl
     empty (x ∷ xs) none = absurd (omega (arith, none))
 
+-- an empty body is that of a pad
 none_in : (body : List ℕ) → length body ≡ 0 → InBody body
 none_in [] none = whole_body pad tt refl
 none_in (b ∷ rest) none = absurd (omega (arith, none))
 
+-- a body of six bytes is that of a bare record or of the set
 six_in : (body : List ℕ) → IsBytes body → length body < 2 ^ 32 → length body ≡ 6 → InBody body
 six_in body fits size six =
     let long : 6 ≤ length body = omega (arith, six) in
@@ -126,6 +137,7 @@ six_in body fits size six =
       | inr level ↦ whole_body (bare (key_in body)) level (sym (append-nil (key_bytes (key_in body))) ∙ ap (λ (xs : List ℕ). key_bytes (key_in body) ++ xs) (sym none) ∙ key_then_rest body fits long)
     ]
 
+-- a body of 16 bytes or more is that of a solution or of the set
 long_in : (body : List ℕ) → IsBytes body → length body < 2 ^ 32 → 16 ≤ length body → InBody body
 long_in body fits size long =
     let six : 6 ≤ length body = omega (arith, long) in
@@ -134,6 +146,7 @@ long_in body fits size long =
       | inr level ↦ solution_in body fits long size level
     ]
 
+-- a body of any size that records have is that of some record, or its moves are cut
 in_body : (body : List ℕ) → IsBytes body → length body < 2 ^ 32 → (length body ≡ 0) ⊎ (length body ≡ 6) ⊎ (16 ≤ length body) → InBody body
 in_body body fits size sizes =
     ⊎_elim (none_in body) (λ (more : (length body ≡ 6) ⊎ (16 ≤ length body)). ⊎_elim (six_in body fits size) (long_in body fits size) more) sizes
@@ -150,6 +163,7 @@ data Sizes (n : ℕ) : Type 0 where
   bad_size : IsBadSize n → Sizes n
   good_size : ¬ IsBadSize n → (n ≡ 0) ⊎ (n ≡ 6) ⊎ (16 ≤ n) → Sizes n
 
+-- a size is a bad one, or 0, 6, or at least 16
 size_kind : (n : ℕ) → Sizes n
 size_kind n =
     elim (cases_lt n 1) [
@@ -174,6 +188,7 @@ body_after_size rest body more fits long size parts =
     ∙ ap (λ (xs : List ℕ). little_bytes 4 (length body) ++ xs) (sym parts)
     ∙ sym (append_assoc (little_bytes 4 (length body)) body more)
 
+-- bytes begin with a record, or with one that is cut, has a bad size or has cut moves
 begins : (rest : List ℕ) → IsBytes rest → Begins rest
 begins rest fits =
     let n = little_number 4 rest in
@@ -191,7 +206,15 @@ begins rest fits =
               let small : length body < 2 ^ 32 = omega (arith, len, little_from-lt 0 4 rest fits) in
               elim (in_body body (IsBytes-take n (drop 4 rest) (IsBytes-drop 4 rest fits)) small (subst (λ (k : ℕ). (k ≡ 0) ⊎ (k ≡ 6) ⊎ (16 ≤ k)) (sym len) sizes)) [
                 | whole_body r fine bytes ↦ begins_whole r more fine (split ∙ ap (λ (xs : List ℕ). (little_bytes 4 (length xs) ++ xs) ++ more) (sym bytes))
-                | cut_body s at fields bytes cut ↦ begins_moves at (record { solved = s; more = more; fields = fields; split = split ∙ ap (λ (xs : List ℕ). (little_bytes 4 (length xs) ++ xs) ++ more) (sym bytes); cut = cut })
+                | cut_body s at fields bytes cut ↦
+                    begins_moves at (record {
+                      solved = s;
+                      more = more;
+                      fields = fields;
+                      split = split ∙
+                          ap (λ (xs : List ℕ). (little_bytes 4 (length xs) ++ xs) ++ more) (sym bytes);
+                      cut = cut;
+                    })
               ]
         ]
       ]
@@ -199,26 +222,34 @@ begins rest fits =
 
 -- ---- all records
 
+-- the bytes are a file's text, or have a fault
 abbrev Answers : List ℕ → Type 0
 Answers bytes = IsReadable bytes ⊎ ((e : FileFault) × HasFileFault bytes e)
 
-stops : (file : File) (rest : List ℕ) → IsFile file → rest ≢ [] → ((r : Record) (more : List ℕ) → IsRecord r → rest ≢ record_text r ++ more) → StopsAt (text_of file ++ rest) (length (text_of file)) rest
+-- if what follows a file's text begins no record, the records stop there
+stops : (file : File) (rest : List ℕ) → IsFile file → rest ≢ [] →
+    ((r : Record) (more : List ℕ) → IsRecord r → rest ≢ record_text r ++ more) →
+    StopsAt (text_of file ++ rest) (length (text_of file)) rest
 stops file rest fits some none = record { prefix = file; fits = fits; split = refl; place = refl; some = some; no_record = none }
 
+-- after a record fewer bytes are left
 shorter : (rest more : List ℕ) (r : Record) (n : ℕ) → rest ≡ record_text r ++ more → length rest ≤ suc n → length more ≤ n
 shorter rest more r n split enough =
     omega (arith, enough, ap length split, length-append (record_text r) more, length-append (little_bytes 4 (length (body_of r))) (body_of r))
 
+-- a record after a file makes a longer file
 one_more : (file : File) (rest more : List ℕ) (r : Record) → rest ≡ record_text r ++ more → text_of (with_more file (r ∷ [])) ++ more ≡ text_of file ++ rest
 one_more file rest more r split =
     ap (λ (xs : List ℕ). xs ++ more) (with_more_text file (r ∷ []) ∙ ap (λ (xs : List ℕ). text_of file ++ xs) (append-nil (record_text r)))
     ∙ append_assoc (text_of file) (record_text r) more
     ∙ ap (λ (xs : List ℕ). text_of file ++ xs) (sym split)
 
+-- what is left of bytes is bytes
 rest_fits : (text more rest : List ℕ) → rest ≡ text ++ more → IsBytes rest → IsBytes more
 rest_fits text more rest split fits =
     subst IsBytes (ap (drop (length text)) split ∙ drop-append_seam text more) (IsBytes-drop (length text) rest fits)
 
+-- what follows a file's text, record by record, ends or has a fault
 walk : (n : ℕ) (file : File) (rest : List ℕ) → length rest ≤ n → IsFile file → IsBytes rest → Answers (text_of file ++ rest)
 walk n file [] enough fits bytes = inl (file, record { fits = fits; text = append-nil (text_of file) })
 walk zero file (b ∷ rest) enough fits bytes = absurd (omega arith)
@@ -227,7 +258,18 @@ walk (suc n) file (b ∷ rest) enough fits bytes =
     elim (begins (b ∷ rest) bytes) [
       | begins_cut cut ↦ inr (ShortRecord (length (text_of file)), cut_after file (b ∷ rest) (length (text_of file)) fits refl some cut)
       | begins_bad bad ↦ inr (BadSize (length (text_of file)), (b ∷ rest, stops file (b ∷ rest) fits some (bad_begins_none (b ∷ rest) bad), bad))
-      | begins_moves at moves ↦ inr (MoveCut (length (text_of file) + 20 + at), record { offset = length (text_of file); rest = b ∷ rest; at = at; stop = stops file (b ∷ rest) fits some (cut_moves_begin_none (b ∷ rest) at moves); moves = moves; place_is = refl })
+      | begins_moves at moves ↦
+          inr (
+            MoveCut (length (text_of file) + 20 + at),
+            record {
+              offset = length (text_of file);
+              rest = b ∷ rest;
+              at = at;
+              stop = stops file (b ∷ rest) fits some (cut_moves_begin_none (b ∷ rest) at moves);
+              moves = moves;
+              place_is = refl;
+            },
+          )
       | begins_whole r more fine split ↦
           subst Answers (one_more file (b ∷ rest) more r split)
           (walk n (with_more file (r ∷ [])) more (shorter (b ∷ rest) more r n split enough) (with_more_fits file (r ∷ []) fits (fine, tt)) (rest_fits (record_text r) more (b ∷ rest) split bytes))
@@ -235,6 +277,7 @@ walk (suc n) file (b ∷ rest) enough fits bytes =
 
 -- ---- the header
 
+-- bytes with the signature and a known ruleset are a file's text, or have a fault
 after_header : (bytes : List ℕ) (rules : Ruleset) → IsBytes bytes → IsSigned bytes → ruleset_code rules ≡ slice_index bytes 4 → (slice_index bytes 4 ≡ 1) ⊎ (slice_index bytes 4 ≡ 2) → Answers bytes
 after_header bytes rules fits signed code known =
     let count = slice_index bytes 7 in
@@ -246,9 +289,12 @@ after_header bytes rules fits signed code known =
           let header = header_from bytes rules rest (take count rest) (drop count rest) count fits signed.long signed.signed code refl refl (omega (arith, room, length-drop 8 bytes)) refl refl in
           let file = without_records rules word (take count rest) in
           subst Answers (sym (header_split bytes word (take count rest) (drop count rest) rules header))
-          (walk (length (drop count rest)) file (drop count rest) (omega arith) (without_records_fits bytes word (take count rest) (drop count rest) rules header) (IsBytes-drop count rest (IsBytes-drop 8 bytes fits)))
+          (walk (length (drop count rest)) file (drop count rest) (omega arith)
+          (without_records_fits bytes word (take count rest) (drop count rest) rules header)
+          (IsBytes-drop count rest (IsBytes-drop 8 bytes fits)))
     ]
 
+-- any bytes are a file's text, or have a fault
 pub readable_or_fault : (bytes : List ℕ) → IsBytes bytes → IsReadable bytes ⊎ ((e : FileFault) × HasFileFault bytes e)
 readable_or_fault bytes fits =
     elim (cases_lt (length bytes) 8) [

@@ -19,6 +19,7 @@ key_is j k number password =
     let whole : make j.number j.password ≡ make k.number k.password = cc in
     whole
 
+-- a key's bytes determine it, whatever follows them
 pub key_parts : (j k : Key) (x y : List ℕ) → IsKey j → IsKey k → key_bytes j ++ x ≡ key_bytes k ++ y → (j ≡ k) × (x ≡ y)
 key_parts j k x y fj fk e =
     let number = append_parts (little_bytes 2 j.number) (little_bytes 2 k.number) (j.password ++ x) (k.password ++ y) refl e in
@@ -29,6 +30,7 @@ key_parts j k x y fj fk e =
 
 -- ---- bodies
 
+-- the body of a solution determines it
 solution-injective : (s t : Solution) → HasSolutionFields s → HasSolutionFields t → body_of (solution s) ≡ body_of (solution t) → s ≡ t
 solution-injective s t fs ft e =
     let key = key_parts s.key t.key (solved_after_key s) (solved_after_key t) fs.key.fits ft.key.fits e in
@@ -53,6 +55,7 @@ zeros_are_bytes (suc (suc zero)) = omega arith
 zeros_are_bytes (suc (suc (suc zero))) = omega arith
 zeros_are_bytes (suc (suc (suc (suc i)))) = omega arith
 
+-- the key of the set has a number and a password that fit
 pub set_key_fits : IsKey set_key
 set_key_fits = record { number = omega arith; password = zeros_are_bytes; password_length = refl }
 
@@ -63,6 +66,7 @@ no_level key x y level e = level.named (sym (key_parts set_key key x y set_key_f
 key_alone : (key : Key) → key_bytes key ++ [] ≡ key_bytes key
 key_alone key = append-nil (key_bytes key)
 
+-- a record's body determines it, even if its moves are cut
 pub body_of-injective : (q r : Record) → IsShaped q → IsShaped r → body_of q ≡ body_of r → q ≡ r
 body_of-injective pad pad fq fr e = refl
 body_of-injective pad (set y) fq fr e = absurd cc
@@ -87,9 +91,11 @@ body_of-injective (solution s) (solution t) fq fr e = ap solution (solution-inje
 
 -- ---- texts
 
+-- after its key a record of the set has nothing, or ten bytes or more
 set_size : (rest : List ℕ) → IsSet rest → (length rest ≡ 0) ⊎ (10 ≤ length rest)
 set_size rest fits = ⊎_elim (λ none. inl (ap length none)) inr fits.long
 
+-- the body of a record has one of the sizes of bodies, and its size fits in four bytes
 pub body_size : (r : Record) → IsShaped r → IsSize (length (body_of r)) × (length (body_of r) < 2 ^ 32)
 body_size pad fits = (inl refl, omega arith)
 body_size (set rest) fits =
@@ -100,6 +106,7 @@ body_size (solution s) fits =
     let len : length (body_of (solution s)) ≡ 16 + length s.moves = omega (arith, fits.key.fits.password_length, length-append s.key.password (solved_after_key s)) in
     (inr (inr (omega (arith, len))), omega (arith, len, fits.size))
 
+-- no record's text is a prefix of another's, even if their moves may be cut
 pub shaped_texts : IsCode IsShaped record_text
 shaped_texts q r x y fq fr e =
     let size = append_parts (little_bytes 4 (length (body_of q))) (little_bytes 4 (length (body_of r))) (body_of q ++ x) (body_of r ++ y) refl e in
@@ -107,11 +114,13 @@ shaped_texts q r x y fq fr e =
     let parts = append_parts (body_of q) (body_of r) x y same size.1 in
     (body_of-injective q r fq fr parts.0, parts.1)
 
+-- a record whose moves are whole is also one whose moves may be cut
 pub shape : (r : Record) → IsRecord r → IsShaped r
 shape pad fits = tt
 shape (set rest) fits = fits
 shape (bare key) fits = fits
 shape (solution s) fits = fits.fields
 
+-- no record's text is a prefix of another's
 pub record_texts : IsCode IsRecord record_text
 record_texts q r x y fq fr e = shaped_texts q r x y (shape q fq) (shape r fr) e

@@ -6,6 +6,7 @@ pub mod Solution
 pub mod Record
 pub mod TwsFile
 pub mod Steps
+pub mod PartReader
 pub mod Reader
 pub mod Listing
 pub mod Packing

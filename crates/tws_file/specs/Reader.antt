@@ -1,11 +1,12 @@
 -- Reading a file that arrives piece by piece.
-use Rattle.std.specs.Prelude.{◌≡◌, ◌≢◌, ℕ, ◌+◌, ◌<◌, ◌≤◌, ◌^◌, List, [], ◌++◌, length, Option, None, Some, Result, Ok, Err}
+use Rattle.std.specs.Prelude.{◌≡◌, ℕ, ◌+◌, ◌<◌, ◌≤◌, ◌^◌, List, ◌++◌, length, Option, None, Some, Result, Ok, Err}
 use Rattle.tws_file.specs.declared.file_fault.FileFault.{FileFault}
 use Rattle.tws_file.specs.declared.file_fault.FileFault.TheVariants.{ShortHeader, BadSignature, BadRuleset, ShortRecord, BadSize, MoveCut, Memory}
 use Rattle.tws_file.specs.declared.reader.Reader.TheInside.{Inside}
 use Rattle.tws_file.specs.Text.{File, IsText}
 use Rattle.tws_file.specs.Fault.{HasFileFault, IsLasting}
-use Rattle.tws_file.specs.Steps.{IsAt, IsLeft, text_so_far}
+use Rattle.tws_file.specs.PartReader.{HasRead}
+use Rattle.tws_file.specs.Steps.{text_so_far, file_so_far}
 
 pub data Reading : Type 0 where
   -- these bytes have arrived
@@ -78,16 +79,13 @@ reading_from (Some fault) so_far rest = stopped fault
 reading_from None so_far rest = reading (text_so_far so_far ++ rest)
 
 abbrev pub reading_of : {A : Type 0} → Inside A → Reading
-reading_of r = reading_from r.fault r.so_far r.rest.items
+reading_of r = reading_from r.parts.fault (file_so_far r.parts.head r.records) r.parts.rest
 
 abbrev pub KeepsLasting : Option FileFault → Type 0
 KeepsLasting None = Unit {0}
 KeepsLasting (Some fault) = IsLasting fault
 
--- Without a fault nothing whole is left to read; with one nothing else is kept.
+-- without a fault, the reader in parts has handed out these records
 pub record IsReader {A : Type 0} (r : Inside A) : Type 0 where
-  pub fault : KeepsLasting r.fault
-  pub dropped : r.fault ≢ None → (r.so_far ≡ None) × (r.rest.items ≡ [])
-  pub at : IsAt r.so_far r.offset
-  pub left : r.fault ≡ None → IsLeft r.so_far r.rest.items
-  pub counted : r.fault ≡ None → r.offset + length r.rest.items < 2 ^ 64
+  pub fault : KeepsLasting r.parts.fault
+  pub read : r.parts.fault ≡ None → HasRead r.parts r.records (text_so_far (file_so_far r.parts.head r.records) ++ r.parts.rest)

@@ -1,5 +1,5 @@
 -- Definitions for the private steps of reading and of listing. Callers need none of them.
-use Rattle.std.specs.Prelude.{◌≡◌, ◌≢◌, ◌⊎◌, Option, None, Some, ℕ, ◌+◌, ◌<◌, ◌≤◌, ◌^◌, List, [], ◌∷◌, ◌++◌, length, take, drop}
+use Rattle.std.specs.Prelude.{◌≡◌, ◌≢◌, ◌⊎◌, Bool, true, false, Option, None, Some, is_some, ℕ, ◌+◌, ◌<◌, ◌≤◌, ◌^◌, List, [], ◌∷◌, ◌++◌, length, drop}
 use Rattle.std.specs.List.{flat_map, AllByRecursion}
 use Rattle.byteorder.specs.Endian.{little_bytes}
 use Rattle.tws_file.specs.declared.file_fault.FileFault.{FileFault}
@@ -128,22 +128,54 @@ abbrev pub IsLeft : Option File → List ℕ → Type 0
 IsLeft None rest = IsShort rest
 IsLeft (Some file) rest = IsRecordCut rest
 
--- how many records were read, if the header was read
-abbrev pub record_count : Option File → Option ℕ
-record_count None = None
-record_count (Some file) = Some (length file.records)
-
--- what was read when there were `count` records
-abbrev pub taken_back : Option ℕ → Option File → Option File
-taken_back None file = None
-taken_back (Some count) None = None
-taken_back (Some count) (Some file) = Some (record { «ruleset» = file.ruleset; word = file.word; extra = file.extra; records = take count file.records })
-
 -- `count` of these bytes, which begin at `offset`, were read
 pub record Advances (old new : Option File) (offset : ℕ) (bytes : List ℕ) (count : ℕ) : Type 0 where
   pub within : count ≤ length bytes
   pub text : text_so_far old ++ bytes ≡ text_so_far new ++ drop count bytes
   pub at : IsAt new (offset + count)
   pub left : IsLeft new (drop count bytes)
-  -- what was read can be undone
-  pub undone : taken_back (record_count old) new ≡ old
+
+-- ---- records that are handed out
+
+-- the file with these records
+abbrev pub with_records : File → List Record → File
+with_records head records = record { «ruleset» = head.ruleset; word = head.word; extra = head.extra; records = records }
+
+-- the file so far: the header, if it is whole, and these records
+abbrev pub file_so_far : Option File → List Record → Option File
+file_so_far None records = None
+file_so_far (Some head) records = Some (with_records head records)
+
+-- the bytes are the text of a file without records, and a rest
+pub record BeginsWithHead (bytes : List ℕ) (head : File) (rest : List ℕ) : Type 0 where
+  pub fits : IsFile (with_records head [])
+  pub split : bytes ≡ text_of (with_records head []) ++ rest
+
+-- `count` of these bytes were read, as records that were appended to a list
+pub record ReadsOn (old new : List Record) (bytes : List ℕ) (count : ℕ) : Type 0 where
+  pub more : List Record
+  pub appended : new ≡ old ++ more
+  pub fits : AllByRecursion IsRecord more
+  pub within : count ≤ length bytes
+  pub split : bytes ≡ flat_map record_text more ++ drop count bytes
+  pub cut : IsRecordCut (drop count bytes)
+
+-- the header as it was before the bytes in which it was read
+abbrev pub header_back : Bool → Option File → Option File
+header_back true head = head
+header_back false head = None
+
+-- `count` of these bytes, which begin at `offset`, were read, whichever records came before
+pub record Continues (was is : Option File) (old new : List Record) (offset : ℕ) (bytes : List ℕ) (count : ℕ) : Type 0 where
+  pub more : List Record
+  pub appended : new ≡ old ++ more
+  pub fits : AllByRecursion IsRecord more
+  pub within : count ≤ length bytes
+  pub some : is ≡ None → (was ≡ None) × (more ≡ [])
+  pub undone : header_back (is_some was) is ≡ was
+  pub step : (records : List Record) → (was ≡ None → records ≡ []) → IsAt (file_so_far was records) offset → Advances (file_so_far was records) (file_so_far is (records ++ more)) offset bytes count
+
+-- reading these bytes, which begin at `offset`, failed, whichever records came before
+abbrev pub FailsAfter : Option File → (offset : ℕ) → List ℕ → FileFault → Type 0
+FailsAfter head offset bytes e =
+    (records : List Record) → IsAt (file_so_far head records) offset → FailsForGood (text_so_far (file_so_far head records) ++ bytes) e

@@ -20,6 +20,7 @@ mod laws;
 mod lines;
 mod listing;
 mod packing;
+mod part_reader;
 mod reader;
 mod reading;
 mod record;
@@ -40,6 +41,7 @@ pub use laws::{
 };
 pub use listing::show;
 pub use packing::pack;
+pub use part_reader::PartReader;
 pub use reader::{Reader, read_file};
 pub use record::Record;
 pub use records::Records;

@@ -30,11 +30,15 @@ impl<A: Allocator> Records<A> {
         Records { records }
     }
 
-    /// Appends records. On error nothing changes.
+    /// Appends records. The first ones are not copied. On error nothing changes.
     pub(crate) fn append(&mut self, more: Vec<Record<A>, A>) -> Result<(), AllocError>
         ensures ok { OnOk result (self.new ≡ self.old ++ records_of more.items) }
         ensures err { OnErr result (self.new ≡ self.old) }
     {
+        if self.is_empty() {
+            *self = Records::of(more);
+            return Ok(());
+        }
         let mut more = more;
         self.records.append(&mut more)
     }

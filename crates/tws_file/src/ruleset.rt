@@ -1,6 +1,7 @@
-ghost use Rattle.std.specs.Prelude.{◌≡◌, ◌≢◌, IfSome, IfNone};
+ghost use Rattle.std.specs.Prelude.{◌≡◌, ◌≢◌, ◌≤◌, ℕ, List, Some, take, IfSome, IfNone};
 ghost use Rattle.tws_file.specs.Fields.{ruleset_code};
 ghost use Rattle.tws_file.specs.Names.{file_name_of, ruleset_named};
+ghost use Rattle.tws_file.specs.Text.{File, IsText};
 
 use std::fmt;
 
@@ -34,6 +35,17 @@ impl Ruleset {
             2 => Some(Ruleset::Ms),
             _ => None,
         }
+    }
+
+    /// The ruleset of the solution file that begins with these bytes, of which there are five at least, unless the file
+    /// has fewer. Of bytes that begin no file it is any ruleset, or `None`.
+    pub fn of_file(start: &[u8]) -> Option<Self>
+        ensures { (file : File) (bytes : List ℕ) (n : ℕ) → IsText bytes file → 5 ≤ n → start.now ≡ take n bytes → result ≡ Some file.«ruleset» }
+    {
+        if start.len() < 5 {
+            return None;
+        }
+        Ruleset::from_code(start[4])
     }
 
     /// The name under which the collection of this ruleset is fetched and kept, in ASCII.

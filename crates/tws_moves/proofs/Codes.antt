@@ -12,7 +12,8 @@ module _ {X : Type 0} (IsWord : X → Type 0) (word : X → List ℕ) where
   BeginsNoWord xs = (u : X) (more : List ℕ) → IsWord u → xs ≢ word u ++ more
 
   -- Words up to where no word begins: there is only one list of them, and only one rest.
-  pub one_cut : IsCode → (us vs : List X) (x y : List ℕ) → AllByRecursion IsWord us → AllByRecursion IsWord vs → BeginsNoWord x → BeginsNoWord y → flat_map word us ++ x ≡ flat_map word vs ++ y → (us ≡ vs) × (x ≡ y)
+  pub one_cut : IsCode → (us vs : List X) (x y : List ℕ) → AllByRecursion IsWord us → AllByRecursion IsWord vs → BeginsNoWord x →
+      BeginsNoWord y → flat_map word us ++ x ≡ flat_map word vs ++ y → (us ≡ vs) × (x ≡ y)
   one_cut code [] [] x y fa fb nx ny e = (refl, e)
   one_cut code [] (v ∷ vs) x y fa fb nx ny e =
       absurd (nx v (flat_map word vs ++ y) fb.0 (e ∙ append_assoc (word v) (flat_map word vs) y))
@@ -26,7 +27,8 @@ module _ {X : Type 0} (IsWord : X → Type 0) (word : X → List ℕ) where
       (cc, rest.1)
 
   -- Words at the start of a text are no longer than the words up to where no word begins.
-  pub longest_cut : IsCode → (us vs : List X) (x y : List ℕ) → AllByRecursion IsWord us → AllByRecursion IsWord vs → BeginsNoWord y → flat_map word us ++ x ≡ flat_map word vs ++ y → length (flat_map word us) ≤ length (flat_map word vs)
+  pub longest_cut : IsCode → (us vs : List X) (x y : List ℕ) → AllByRecursion IsWord us → AllByRecursion IsWord vs →
+      BeginsNoWord y → flat_map word us ++ x ≡ flat_map word vs ++ y → length (flat_map word us) ≤ length (flat_map word vs)
   longest_cut code [] vs x y fa fb ny e = omega arith
   longest_cut code (u ∷ us) [] x y fa fb ny e =
       absurd (ny u (flat_map word us ++ x) fa.0 (sym e ∙ append_assoc (word u) (flat_map word us) x))

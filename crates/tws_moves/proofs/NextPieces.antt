@@ -13,11 +13,14 @@ use Rattle.tws_moves.proofs.Least.{alone_first, held_if_plain, direction_if_plai
 
 -- ---- the bytes of a number
 
+-- the bytes of a number, lowest first: one byte, and those of the number without it
 pub little_step : (count n : ℕ) → 1 ≤ count → little_bytes count n ≡ n % 256 ∷ little_bytes (count - 1) (n / 256)
 little_step zero n some = absurd (omega arith)
 little_step (suc count) n some = let e : count ≡ suc count - 1 = omega arith in ap (λ (k : ℕ). n % 256 ∷ little_bytes k (n / 256)) e
 
-pub pushed_more : (bytes more whole : List ℕ) (count next n : ℕ) → bytes ++ little_bytes count n ≡ whole → more ≡ bytes ++ (n % 256) ∷ [] → 1 ≤ count → next ≡ count - 1 → more ++ little_bytes next (n / 256) ≡ whole
+-- one more byte of a number was appended, and the rest of its bytes are still to be
+pub pushed_more : (bytes more whole : List ℕ) (count next n : ℕ) → bytes ++ little_bytes count n ≡ whole →
+    more ≡ bytes ++ (n % 256) ∷ [] → 1 ≤ count → next ≡ count - 1 → more ++ little_bytes next (n / 256) ≡ whole
 pushed_more bytes more whole count next n so_far more-is some next-is =
     ap (λ (xs : List ℕ). xs ++ little_bytes next (n / 256)) more-is
     ∙ append_assoc bytes ((n % 256) ∷ []) (little_bytes next (n / 256))
@@ -25,6 +28,7 @@ pushed_more bytes more whole count next n so_far more-is some next-is =
     ∙ ap (λ (xs : List ℕ). bytes ++ xs) (sym (little_step count n some))
     ∙ so_far
 
+-- once no bytes of the number are left, all are appended
 pub pushed_all : (bytes whole : List ℕ) (count n : ℕ) → bytes ++ little_bytes count n ≡ whole → count ≡ 0 → bytes ≡ whole
 pushed_all bytes whole count n so_far none =
     sym (append-nil bytes) ∙ ap (λ (k : ℕ). bytes ++ little_bytes k n) (sym none) ∙ so_far
@@ -41,7 +45,10 @@ few_apart waits i inside few = few_alone (drop i waits) (omega (arith, length-dr
     few_alone (a ∷ b ∷ []) some few = refl
     few_alone (a ∷ b ∷ c ∷ ws) some few = absurd (omega arith)
 
-module _ (waits : List Wait) (i : ℕ) (a b c : Wait) (inside : i + 3 ≤ length waits) (a-is : a ≡ slice_index_or waits i a) (b-is : b ≡ slice_index_or waits (i + 1) b) (c-is : c ≡ slice_index_or waits (i + 2) c) where
+-- the next three waits, as they are read from the list
+module _ (waits : List Wait) (i : ℕ) (a b c : Wait) (inside : i + 3 ≤ length waits) (a-is : a ≡ slice_index_or waits i a)
+    (b-is : b ≡ slice_index_or waits (i + 1) b) (c-is : c ≡ slice_index_or waits (i + 2) c) where
+  -- what is left begins with these three
   cells : drop i waits ≡ a ∷ b ∷ c ∷ drop (i + 3) waits
   cells =
       let one = drop_more waits i a (omega arith) in
@@ -56,11 +63,13 @@ module _ (waits : List Wait) (i : ℕ) (a b c : Wait) (inside : i + 3 ≤ length
       ∙ ap (λ (ws : List Wait). a ∷ b ∷ ws) (three ∙ ap (λ (w : Wait). w ∷ drop (i + 2 + 1) waits) (sym c-is))
       ∙ ap (λ (k : ℕ). a ∷ b ∷ c ∷ drop k waits) last
 
+  -- unless all three are plain steps, the first is alone
   pub three_apart : (is_plain a && is_plain b && is_plain c) ≡ false → BeginsAlone (drop i waits)
   three_apart e =
       let first : BeginsAlone (a ∷ b ∷ c ∷ drop (i + 3) waits) = rw e in
       subst BeginsAlone (sym cells) first
 
+  -- three plain steps are the next piece
   pub three_next : (size number count : ℕ) → size ≡ 1 → number ≡ three_byte a b c → count ≡ 3 → (is_plain a && is_plain b && is_plain c) ≡ true → IsNextPiece (drop i waits) size number count
   three_next size number count size-is number-is count-is e =
       let rest = drop (i + 3) waits in
@@ -79,7 +88,10 @@ module _ (waits : List Wait) (i : ℕ) (a b c : Wait) (inside : i + 3 ≤ length
 
 -- ---- one wait
 
-pub alone_next : (waits : List Wait) (i : ℕ) (w : Wait) (size number count : ℕ) → i < length waits → w ≡ slice_index_or waits i w → BeginsAlone (drop i waits) → HasLayout w → little_bytes size number ≡ alone w → count ≡ 1 → IsNextPiece (drop i waits) size number count
+-- a wait that is alone and held by a layout is the next piece
+pub alone_next : (waits : List Wait) (i : ℕ) (w : Wait) (size number count : ℕ) → i < length waits →
+    w ≡ slice_index_or waits i w → BeginsAlone (drop i waits) → HasLayout w → little_bytes size number ≡ alone w → count ≡ 1 →
+    IsNextPiece (drop i waits) size number count
 alone_next waits i w size number count inside w-is apart held bytes count-is =
     let rest = drop (i + 1) waits in
     let cells : drop i waits ≡ w ∷ rest = drop_more waits i w inside ∙ ap (λ (v : Wait). v ∷ rest) (sym w-is) in
@@ -99,10 +111,14 @@ module _ (waits : List Wait) (i : ℕ) (w : Wait) (inside : i < length waits) (w
       let cells : drop i waits ≡ w ∷ drop (i + 1) waits = drop_more waits i w inside ∙ ap (λ (v : Wait). v ∷ drop (i + 1) waits) (sym w-is) in
       subst BeginsAlone (sym cells) (alone_first w (drop (i + 1) waits) other)
 
-  pub other_next : {X : Type 0} (piece : Option X) (size number count : X → ℕ) → is_plain w ≡ false → IfSome piece (λ p. HasLayout w) → IfSome piece (λ p. little_bytes (size p) (number p) ≡ alone w) → IfSome piece (λ p. count p ≡ 1) → IfSome piece (λ p. IsNextPiece (drop i waits) (size p) (number p) (count p))
+  -- if a piece was computed for it, that is the next piece
+  pub other_next : {X : Type 0} (piece : Option X) (size number count : X → ℕ) → is_plain w ≡ false →
+      IfSome piece (λ p. HasLayout w) → IfSome piece (λ p. little_bytes (size p) (number p) ≡ alone w) →
+      IfSome piece (λ p. count p ≡ 1) → IfSome piece (λ p. IsNextPiece (drop i waits) (size p) (number p) (count p))
   other_next None size number count other held bytes one = tt
   other_next (Some p) size number count other held bytes one = alone_next waits i w (size p) (number p) (count p) inside w-is (plain_apart other) held bytes one
 
+  -- if none was computed, no layout holds the wait at this index
   pub other_none : {X : Type 0} (piece : Option X) → IfNone piece (HasLayout w → ⊥) → IfNone piece ((v : Wait) → HasLayout (slice_index_or waits i v) → ⊥)
   other_none None unheld = λ v held.
       let first = drop_more waits i v inside in
@@ -113,7 +129,9 @@ module _ (waits : List Wait) (i : ℕ) (w : Wait) (inside : i < length waits) (w
 
 -- ---- all pieces
 
-pub writes_more : (waits : List Wait) (bytes more : List ℕ) (i size number count : ℕ) → WritesSoFar waits bytes i → IsNextPiece (drop i waits) size number count → more ≡ bytes ++ little_bytes size number → WritesSoFar waits more (i + count)
+-- the next piece was appended: the spelling is written up to the wait after it
+pub writes_more : (waits : List Wait) (bytes more : List ℕ) (i size number count : ℕ) → WritesSoFar waits bytes i →
+    IsNextPiece (drop i waits) size number count → more ≡ bytes ++ little_bytes size number → WritesSoFar waits more (i + count)
 writes_more waits bytes more i size number count so_far next more-is = record {
   within = omega (arith, so_far.within, next.within, length-drop i waits);
   held = all_take_more HasLayout i count waits so_far.held next.held;
@@ -124,12 +142,15 @@ writes_more waits bytes more i size number count so_far next more-is = record {
       ∙ ap (λ (xs : List ℕ). xs ++ waits_bytes (drop (i + count) waits)) (sym more-is);
 }
 
+-- once all waits are written
 module _ (waits : List Wait) (bytes : List ℕ) (i : ℕ) (so_far : WritesSoFar waits bytes i) (over : length waits ≤ i) where
+  -- some layout holds each of them
   pub all_held : AllByRecursion HasLayout waits
   all_held =
       let whole : take i waits ≡ waits = ap (λ (n : ℕ). take n waits) (let e : i ≡ length waits = omega (arith, so_far.within) in e) ∙ take-length waits in
       subst (AllByRecursion HasLayout) whole so_far.held
 
+  -- the bytes are their whole spelling
   pub all_written : bytes ≡ waits_bytes waits
   all_written =
       let none : drop i waits ≡ [] = nil_from_length (drop i waits) (omega (arith, length-drop i waits)) in

@@ -1,4 +1,4 @@
--- The number of a piece.
+-- The number of a piece: its bytes as one little-endian number, read or written eight bytes at once.
 use Rattle.std.proofs.Common.{◌≡◌, ℕ, zero, suc, ◌+◌, ◌*◌, ◌/◌, ◌%◌, ◌^◌, ◌<◌, ◌≤◌, List, [], ◌∷◌, ◌++◌, length, take, take-take, length-take, drop, refl, ap, sym, ◌∙◌, arith}
 use Rattle.std.proofs.Math.Nat.{div-one, div-div-eq-div-mul, mod-one, zero-mod, pow-suc}
 use Rattle.std.proofs.lemmas.Nat.{mod-pow-add}
@@ -11,6 +11,7 @@ use Rattle.byte_output.specs.Bytes.{IsBytes}
 use Rattle.byte_output.proofs.Bytes.{IsBytes-take}
 use Rattle.tws_moves.specs.Bytes.{number_of, bits, little_bytes}
 
+-- five bytes or fewer are a number of at most 40 bits
 number_bound : (bytes : List ℕ) → IsBytes bytes → length bytes ≤ 5 → number_of bytes < 2 ^ 40
 number_bound [] fits short = omega arith
 number_bound (a ∷ []) fits short = omega (arith, fits 0)
@@ -20,6 +21,7 @@ number_bound (a ∷ b ∷ c ∷ d ∷ []) fits short = omega (arith, fits 0, fit
 number_bound (a ∷ b ∷ c ∷ d ∷ e ∷ []) fits short = omega (arith, fits 0, fits 1, fits 2, fits 3, fits 4)
 number_bound (a ∷ b ∷ c ∷ d ∷ e ∷ f ∷ bytes) fits short = absurd (omega arith)
 
+-- what is left of five bytes or fewer is a number of at most 40 bits
 pub number_bound_from : (bytes : List ℕ) (i : ℕ) → IsBytes bytes → length bytes ≤ 5 → number_of (drop i bytes) < 2 ^ 40
 number_bound_from bytes zero fits short = number_bound bytes fits short
 number_bound_from [] (suc i) fits short = omega arith
@@ -56,6 +58,7 @@ first_number count bytes fits few many =
     ∙ first_bits count (take 8 bytes) (IsBytes-take 8 bytes fits)
     ∙ ap number_of (take-take count 8 bytes few)
 
+-- the first bytes, five or fewer, are a number of at most 40 bits
 pub first_bound : (count : ℕ) (bytes : List ℕ) → IsBytes bytes → count ≤ 5 → number_of (take count bytes) < 2 ^ 40
 first_bound count bytes fits few = number_bound (take count bytes) (IsBytes-take count bytes fits) (omega (arith, length-take count bytes))
 
@@ -79,7 +82,8 @@ pub first_bytes : (count n : ℕ) → count ≤ 8 → take count (bytes_low_firs
 first_bytes count n few = take-bytes_low_first 0 8 count n few ∙ low_bytes 0 count n ∙ ap (little_bytes count) (div-one n)
 
 -- eight bytes are appended, and only the first of them are kept
-pub pushed_first : (old long new eight : List ℕ) (count n before : ℕ) → before ≡ length old → eight ≡ bytes_low_first 0 8 n → long ≡ old ++ eight → new ≡ take (before + count) long → count ≤ 8 → new ≡ old ++ little_bytes count n
+pub pushed_first : (old long new eight : List ℕ) (count n before : ℕ) → before ≡ length old → eight ≡ bytes_low_first 0 8 n →
+    long ≡ old ++ eight → new ≡ take (before + count) long → count ≤ 8 → new ≡ old ++ little_bytes count n
 pushed_first old long new eight count n before before-is eight-is long-is new-is few =
     new-is
     ∙ ap (λ at. take (at + count) long) before-is

@@ -18,6 +18,7 @@ pieces_are_code (a ∷ p) (b ∷ q) x y fp fq e =
     let head : a ≡ b = cc in
     append_parts (a ∷ p) (b ∷ q) x y (omega (arith, fp.whole, fq.whole, ap piece_length head)) e
 
+-- no piece is a prefix of no bytes
 pub none_begins_none : BeginsNoWord IsPiece itself []
 none_begins_none [] more fits e = absurd fits.whole
 none_begins_none (a ∷ p) more fits e = absurd cc
@@ -31,6 +32,7 @@ cut_begins_none (b ∷ rest) cut (a ∷ p) more fits e =
     let tail : rest ≡ p ++ more = cc in
     absurd (omega (arith, cut, fits.whole, ap piece_length head, ap length tail, length-append p more))
 
+-- each layout has at least one byte
 layout_some : (l : Layout) (first : ℕ) → 1 ≤ layout_length l first
 layout_some layout.ThreeSteps first = omega arith
 layout_some layout.ShortStep first = omega arith

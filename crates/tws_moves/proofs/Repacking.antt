@@ -25,7 +25,10 @@ pending_apart (pending.Two a b) w rest other =
     alone_third (plain_step a) (plain_step b) w rest other
     ∙ ap (λ (xs : List ℕ). alone (plain_step a) ++ xs) (alone_second (plain_step b) w rest other ∙ ap (λ (xs : List ℕ). alone (plain_step b) ++ xs) (alone_first w rest other))
 
-pub packs_apart : (old more bytes new : List ℕ) (before : Pending) (w : Wait) → is_plain w ≡ false → more ≡ old ++ waits_bytes (pending_waits before) → bytes ≡ alone w → new ≡ more ++ bytes → Packs old before (w ∷ []) new pending.None
+-- pending steps are written out before a wait that is not a plain step, and then that wait
+pub packs_apart : (old more bytes new : List ℕ) (before : Pending) (w : Wait) → is_plain w ≡ false →
+    more ≡ old ++ waits_bytes (pending_waits before) → bytes ≡ alone w → new ≡ more ++ bytes →
+    Packs old before (w ∷ []) new pending.None
 packs_apart old more bytes new before w other more-is bytes-is new-is = record {
   fits = tt;
   bytes = λ rest.
@@ -49,7 +52,9 @@ packs_join old mid new before between after v w first second = record {
 
 -- ---- a step in one byte
 
+-- a byte in the layout of a short step
 module _ (b t : ℕ) (t-is : t ≡ b / 32) (low : b % 4 ≡ 1) (small : b < 256) where
+  -- the one wait that it holds
   pub short_waits : waits_of (b ∷ []) ≡ record { ticks = t; act = Step (b / 4 % 8) } ∷ []
   short_waits =
       let make : ℕ → ℕ → List Wait = λ t d. record { ticks = t; act = Step d } ∷ [] in
@@ -58,6 +63,7 @@ module _ (b t : ℕ) (t-is : t ≡ b / 32) (low : b % 4 ≡ 1) (small : b < 256)
       let whole : make (bits 5 3 (number_of (b ∷ []))) (bits 2 3 (number_of (b ∷ []))) ≡ make t (b / 4 % 8) = cc in
       waits_in layout.ShortStep (number_of (b ∷ [])) b [] (short_first b low) refl ∙ whole
 
+  -- the byte is the shortest for that wait
   pub short_alone : b ∷ [] ≡ alone (record { ticks = t; act = Step (b / 4 % 8) })
   short_alone =
       let byte : b ≡ (1 + 4 * (b / 4 % 8) + 2 ^ 5 * t) % 256 = omega (arith, low, t-is) in
@@ -65,7 +71,9 @@ module _ (b t : ℕ) (t-is : t ≡ b / 32) (low : b % 4 ≡ 1) (small : b < 256)
 
 -- ---- three plain steps in a byte
 
-pub three_steps : (old new : List ℕ) (d e f byte : ℕ) → d < 4 → e < 4 → f < 4 → byte ≡ 4 * d + 16 * e + 64 * f → new ≡ old ++ byte ∷ [] → Packs old pending.None (plain_step d ∷ plain_step e ∷ plain_step f ∷ []) new pending.None
+-- with no step pending, three plain steps are packed into one byte
+pub three_steps : (old new : List ℕ) (d e f byte : ℕ) → d < 4 → e < 4 → f < 4 → byte ≡ 4 * d + 16 * e + 64 * f →
+    new ≡ old ++ byte ∷ [] → Packs old pending.None (plain_step d ∷ plain_step e ∷ plain_step f ∷ []) new pending.None
 three_steps old new d e f byte first second third byte-is new-is = record {
   fits = tt;
   bytes = λ rest.
@@ -77,7 +85,9 @@ three_steps old new d e f byte first second third byte-is new-is = record {
 
 -- ---- pieces
 
-pub packs_piece : (bytes piece after old new : List ℕ) (before next : Pending) → IsPiece piece → bytes ≡ piece ++ after → Packs old before (waits_of piece) new next → PacksPieces bytes after old before new next
+-- one piece is packed
+pub packs_piece : (bytes piece after old new : List ℕ) (before next : Pending) → IsPiece piece → bytes ≡ piece ++ after →
+    Packs old before (waits_of piece) new next → PacksPieces bytes after old before new next
 packs_piece bytes piece after old new before next one split packs = record {
   pieces = piece ∷ [];
   so_far = record { fits = (one, tt); split = split ∙ ap (λ (xs : List ℕ). xs ++ after) (sym (append-nil piece)) };
@@ -85,22 +95,29 @@ packs_piece bytes piece after old new before next one split packs = record {
 }
 
 module _ (bytes rest after : List ℕ) where
-  pub packs_more : (old mid new : List ℕ) (before between next : Pending) → PacksPieces bytes rest old before mid between → PacksPieces rest after mid between new next → PacksPieces bytes after old before new next
+  -- some pieces are packed, and then more
+  pub packs_more : (old mid new : List ℕ) (before between next : Pending) → PacksPieces bytes rest old before mid between →
+      PacksPieces rest after mid between new next → PacksPieces bytes after old before new next
   packs_more old mid new before between next first second = record {
     pieces = first.pieces ++ second.pieces;
     so_far = are_more bytes rest after first.pieces second.pieces first.so_far second.so_far;
-    packs = subst (λ (ws : List Wait). Packs old before ws new next) (sym (flat_map-append waits_of first.pieces second.pieces)) (packs_join old mid new before between next (flat_map waits_of first.pieces) (flat_map waits_of second.pieces) first.packs second.packs);
+    packs = subst (λ (ws : List Wait). Packs old before ws new next) (sym (flat_map-append waits_of first.pieces second.pieces))
+        (packs_join old mid new before between next (flat_map waits_of first.pieces)
+        (flat_map waits_of second.pieces) first.packs second.packs);
   }
 
 -- ---- all pieces
 
+-- all pieces are packed, and no bytes are left
 module _ (bytes rest packed whole : List ℕ) (left : Pending) (all : PacksPieces bytes rest [] pending.None packed left) (none : length rest < 1) where
   spells : Spells bytes (moves_from 0 (flat_map waits_of all.pieces))
   spells = spells_so_far bytes rest all.pieces all.so_far none
 
+  -- the bytes are a spelling
   pub packs_spelling : IsSpelling bytes
   packs_spelling = (moves_from 0 (flat_map waits_of all.pieces), spells)
 
+  -- with the pending steps after it, what was written is the packed bytes
   pub packs_all : whole ≡ packed ++ waits_bytes (pending_waits left) → whole ≡ packed_bytes bytes
   packs_all whole-is =
       let waits = flat_map waits_of all.pieces in

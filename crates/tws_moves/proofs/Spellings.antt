@@ -19,9 +19,11 @@ use Rattle.tws_moves.proofs.Ticks.{moves_of_waits, moves_alone, moves_from-appen
 
 -- ---- one list of moves
 
+-- bytes spell at most one list of moves
 pub one_reading : (bytes : List ℕ) (m n : List Move) → Spells bytes m → Spells bytes n → m ≡ n
 one_reading bytes m n sm sn =
-    let same = one_cut IsPiece itself pieces_are_code sm.pieces sn.pieces [] [] sm.fits sn.fits none_begins_none none_begins_none (append-nil (join sm.pieces) ∙ sym sm.joined ∙ sn.joined ∙ sym (append-nil (join sn.pieces))) in
+    let same = one_cut IsPiece itself pieces_are_code sm.pieces sn.pieces [] [] sm.fits sn.fits none_begins_none none_begins_none
+    (append-nil (join sm.pieces) ∙ sym sm.joined ∙ sn.joined ∙ sym (append-nil (join sn.pieces))) in
     moves_alone (flat_map waits_of sm.pieces) m sm.made
     ∙ ap (λ (ps : List (List ℕ)). moves_from 0 (flat_map waits_of ps)) same.0
     ∙ sym (moves_alone (flat_map waits_of sn.pieces) n sn.made)
@@ -44,31 +46,40 @@ pieces_in_join (suc steps) ((first ∷ tail) ∷ pieces) fits enough =
 pub moves_in_spelled : (bytes : List ℕ) (moves : List Move) → Spells bytes moves → moves ≡ moves_in bytes
 moves_in_spelled bytes moves spells =
     moves_alone (flat_map waits_of spells.pieces) moves spells.made
-    ∙ ap (λ (ps : List (List ℕ)). moves_from 0 (flat_map waits_of ps)) (sym (pieces_in_join (length bytes) spells.pieces spells.fits (omega (arith, ap length spells.joined))) ∙ ap (pieces_in (length bytes)) (sym spells.joined))
+    ∙ ap (λ (ps : List (List ℕ)). moves_from 0 (flat_map waits_of ps))
+    (sym (pieces_in_join (length bytes) spells.pieces spells.fits (omega (arith, ap length spells.joined))) ∙
+    ap (pieces_in (length bytes)) (sym spells.joined))
 
+-- pieces in a row spell the moves that their waits make
 pub spells_pieces : (bytes : List ℕ) (pieces : List (List ℕ)) → AllByRecursion IsPiece pieces → bytes ≡ join pieces → Spells bytes (moves_from 0 (flat_map waits_of pieces))
 spells_pieces bytes pieces fits joined =
     record { pieces = pieces; fits = fits; joined = joined; made = moves_of_waits (flat_map waits_of pieces) }
 
+-- the bytes were cut into pieces up to a rest
 module _ (bytes rest : List ℕ) (pieces : List (List ℕ)) (so_far : ArePieces bytes rest pieces) where
+  -- the position of the rest is the length of the pieces
   at_join : length bytes - length rest ≡ length (join pieces)
   at_join = omega (arith, ap length so_far.split, length-append (join pieces) rest)
 
   -- ---- nothing is left
 
+  -- if nothing is left, the bytes are the pieces
   spelled_whole : length rest < 1 → bytes ≡ join pieces
   spelled_whole none = so_far.split ∙ ap (λ (xs : List ℕ). join pieces ++ xs) (nil_from_length rest (omega (arith, none))) ∙ append-nil (join pieces)
 
+  -- if nothing is left, the bytes spell the moves of the pieces
   pub spells_so_far : length rest < 1 → Spells bytes (moves_from 0 (flat_map waits_of pieces))
   spells_so_far none = spells_pieces bytes pieces so_far.fits (spelled_whole none)
 
   -- ---- what is left is cut
 
+  -- the bytes before the rest spell some moves
   prefix_spelled : IsSpelling (take (length (join pieces)) bytes)
   prefix_spelled =
       let prefix : take (length (join pieces)) bytes ≡ join pieces = ap (take (length (join pieces))) so_far.split ∙ take-append_seam (join pieces) rest in
       (moves_from 0 (flat_map waits_of pieces), spells_pieces (take (length (join pieces)) bytes) pieces so_far.fits prefix)
 
+  -- if the rest is cut, no longer prefix spells any
   longest_prefix : IsPieceCut rest → (n : ℕ) → n ≤ length bytes → IsSpelling (take n bytes) → n ≤ length (join pieces)
   longest_prefix cut n within spelled =
       let other = spelled.1 in
@@ -76,6 +87,7 @@ module _ (bytes rest : List ℕ) (pieces : List (List ℕ)) (so_far : ArePieces 
       let shorter = longest_cut IsPiece itself pieces_are_code other.pieces pieces (drop n bytes) rest other.fits so_far.fits (cut_begins_none rest cut) whole in
       omega (arith, shorter, ap length other.joined, length-take n bytes)
 
+  -- so the bytes are cut where the rest begins
   pub cut_place : IsPieceCut rest → 1 ≤ length rest → IsCutAt bytes (length bytes - length rest)
   cut_place cut some =
       rw at_join (record {
@@ -84,6 +96,7 @@ module _ (bytes rest : List ℕ) (pieces : List (List ℕ)) (so_far : ArePieces 
         longest = λ n within spelled. longest_prefix cut n within spelled;
       })
 
+  -- a read that stops at the rest returns where the bytes are cut
   pub cut_at : (e : MovesFault) → e ≡ Cut (length bytes - length rest) → IsPieceCut rest → 1 ≤ length rest → IsCut bytes e
   cut_at e e-is cut some = subst (IsCut bytes) (sym e-is) (cut_place cut some)
 
@@ -93,6 +106,7 @@ cut_spells_nothing bytes at moves cut spells =
     let too_long = cut.longest (length bytes) (omega arith) (subst IsSpelling (sym (take-length bytes)) (moves, spells)) in
     omega (arith, too_long, cut.within)
 
+-- bytes that are cut spell no moves
 pub cut_is_no_spelling : (bytes : List ℕ) (e : MovesFault) (moves : List Move) → IsCut bytes e → Spells bytes moves → ⊥
 cut_is_no_spelling bytes (Cut at) moves cut spells = cut_spells_nothing bytes at moves cut spells
 cut_is_no_spelling bytes Memory moves cut spells = cut
@@ -108,33 +122,44 @@ one_place bytes m n first second =
 
 -- ---- one more piece
 
+-- one more piece adds its bytes
 more_texts : (pieces : List (List ℕ)) (piece : List ℕ) → join (pieces ++ piece ∷ []) ≡ join pieces ++ piece
 more_texts pieces piece = flat_map-append itself pieces (piece ∷ []) ∙ ap (λ (xs : List ℕ). join pieces ++ xs) (append-nil piece)
 
+-- and adds its waits
 more_waits : (pieces : List (List ℕ)) (piece : List ℕ) → flat_map waits_of (pieces ++ piece ∷ []) ≡ flat_map waits_of pieces ++ waits_of piece
 more_waits pieces piece = flat_map-append waits_of pieces (piece ∷ []) ∙ ap (λ (ws : List Wait). flat_map waits_of pieces ++ ws) (append-nil (waits_of piece))
 
+-- a piece after pieces: all are pieces
 one_more : (pieces : List (List ℕ)) (piece : List ℕ) → AllByRecursion IsPiece pieces → IsPiece piece → AllByRecursion IsPiece (pieces ++ piece ∷ [])
 one_more [] piece fits one = (one, tt)
 one_more (p ∷ pieces) piece fits one = (fits.0, one_more pieces piece fits.1 one)
 
+-- the rest begins with a piece
 module _ (bytes rest piece after : List ℕ) (one : IsPiece piece) (split : rest ≡ piece ++ after) where
+  -- the pieces so far and this one are the pieces up to what follows it
   pieces_more : (pieces : List (List ℕ)) → ArePieces bytes rest pieces → ArePieces bytes after (pieces ++ piece ∷ [])
   pieces_more pieces so_far = record {
     fits = one_more pieces piece so_far.fits one;
     split = so_far.split ∙ ap (λ (xs : List ℕ). join pieces ++ xs) split ∙ sym (append_assoc (join pieces) piece after) ∙ ap (λ (xs : List ℕ). xs ++ after) (sym (more_texts pieces piece));
   }
 
-  pub reads_more : (moves pushed : List Move) (tick next : ℕ) → ReadsSoFar bytes rest moves tick → pushed ≡ moves ++ moves_from tick (waits_of piece) → next ≡ tick_after tick (waits_of piece) → ReadsSoFar bytes after pushed next
+  -- its moves come after those read so far
+  pub reads_more : (moves pushed : List Move) (tick next : ℕ) → ReadsSoFar bytes rest moves tick →
+      pushed ≡ moves ++ moves_from tick (waits_of piece) → next ≡ tick_after tick (waits_of piece) →
+      ReadsSoFar bytes after pushed next
   reads_more moves pushed tick next reads pushed-is next-is =
       let waits = flat_map waits_of reads.pieces in
       record {
         pieces = reads.pieces ++ piece ∷ [];
         so_far = pieces_more reads.pieces reads.so_far;
-        moves_are = pushed-is ∙ ap (λ (ms : List Move). ms ++ moves_from tick (waits_of piece)) reads.moves_are ∙ ap (λ (t : ℕ). moves_from 0 waits ++ moves_from t (waits_of piece)) reads.tick_is ∙ sym (moves_from-append 0 waits (waits_of piece)) ∙ ap (moves_from 0) (sym (more_waits reads.pieces piece));
+        moves_are = pushed-is ∙ ap (λ (ms : List Move). ms ++ moves_from tick (waits_of piece)) reads.moves_are ∙
+            ap (λ (t : ℕ). moves_from 0 waits ++ moves_from t (waits_of piece)) reads.tick_is ∙
+            sym (moves_from-append 0 waits (waits_of piece)) ∙ ap (moves_from 0) (sym (more_waits reads.pieces piece));
         tick_is = next-is ∙ ap (λ (t : ℕ). tick_after t (waits_of piece)) reads.tick_is ∙ sym (tick_after-append 0 waits (waits_of piece)) ∙ ap (tick_after 0) (sym (more_waits reads.pieces piece));
       }
 
+-- counting begins with one piece
 pub counts_piece : (bytes piece after : List ℕ) (count : ℕ) → IsPiece piece → bytes ≡ piece ++ after → count ≡ length (waits_of piece) → CountsSoFar bytes after count
 counts_piece bytes piece after count one split count-is = record {
   pieces = piece ∷ [];
@@ -144,11 +169,14 @@ counts_piece bytes piece after count one split count-is = record {
 
 -- ---- bytes that are one piece each
 
+-- pieces of one byte each, in a row, are the bytes
 join_singles : (bytes : List ℕ) → join (singles bytes) ≡ bytes
 join_singles [] = refl
 join_singles (b ∷ bytes) = ap (λ (xs : List ℕ). b ∷ xs) (join_singles bytes)
 
-pub counts_singles : (bytes prefix rest : List ℕ) (count : ℕ) → AllByRecursion IsPiece (singles prefix) → bytes ≡ prefix ++ rest → count ≡ length (flat_map waits_of (singles prefix)) → CountsSoFar bytes rest count
+-- counting begins with pieces of one byte each
+pub counts_singles : (bytes prefix rest : List ℕ) (count : ℕ) → AllByRecursion IsPiece (singles prefix) → bytes ≡ prefix ++ rest →
+    count ≡ length (flat_map waits_of (singles prefix)) → CountsSoFar bytes rest count
 counts_singles bytes prefix rest count fits split count-is = record {
   pieces = singles prefix;
   so_far = record { fits = fits; split = split ∙ ap (λ (xs : List ℕ). xs ++ rest) (sym (join_singles prefix)) };
@@ -158,6 +186,7 @@ counts_singles bytes prefix rest count fits split count-is = record {
 -- ---- pieces and then more pieces
 
 module _ (bytes rest after : List ℕ) where
+  -- pieces of the bytes, and then pieces of their rest
   pub are_more : (prefix more : List (List ℕ)) → ArePieces bytes rest prefix → ArePieces rest after more → ArePieces bytes after (prefix ++ more)
   are_more prefix more first second = record {
     fits = all_append IsPiece prefix more first.fits second.fits;
@@ -168,11 +197,21 @@ module _ (bytes rest after : List ℕ) where
         ∙ ap (λ (xs : List ℕ). xs ++ after) (sym (flat_map-append itself prefix more));
   }
 
+  -- their counts add up
   pub counts_more : (count more next : ℕ) → CountsSoFar bytes rest count → CountsSoFar rest after more → next ≡ count + more → CountsSoFar bytes after next
   counts_more count more next first second next-is = record {
     pieces = first.pieces ++ second.pieces;
     so_far = are_more first.pieces second.pieces first.so_far second.so_far;
-    count_is = omega (arith, next-is, first.count_is, second.count_is, ap length (flat_map-append waits_of first.pieces second.pieces), length-append (flat_map waits_of first.pieces) (flat_map waits_of second.pieces));
+    count_is = omega (
+      arith,
+      next-is,
+      first.count_is,
+      second.count_is,
+      ap length
+          (flat_map-append waits_of first.pieces second.pieces),
+      length-append (flat_map waits_of first.pieces)
+          (flat_map waits_of second.pieces),
+    );
   }
 
 -- ---- every list of bytes
@@ -185,6 +224,7 @@ IsBytes-cell first tail head fits (suc i) = fits i
 abbrev Pieces : List ℕ → Type 0
 Pieces bytes = (rest : List ℕ) × (pieces : List (List ℕ)) × ArePieces bytes rest pieces × IsPieceCut rest
 
+-- bytes long enough for the length that their first byte gives begin with a piece
 first_piece : (first : ℕ) (tail : List ℕ) → IsBytes (first ∷ tail) → piece_length first ≤ 1 + length tail → IsPiece (first ∷ take (piece_length first - 1) tail)
 first_piece first tail fits whole =
     let count = piece_length first - 1 in
@@ -193,6 +233,7 @@ first_piece first tail fits whole =
       whole = omega (arith, length-take count tail, whole, piece_some first);
     }
 
+-- a piece before bytes that are cut into pieces
 piece_then : (piece after bytes : List ℕ) → IsPiece piece → bytes ≡ piece ++ after → Pieces after → Pieces bytes
 piece_then piece after bytes one split later =
     let more : ArePieces bytes later.0 (piece ∷ later.1) = record {
@@ -201,9 +242,11 @@ piece_then piece after bytes one split later =
     } in
     (later.0, piece ∷ later.1, more, later.3)
 
+-- a rest shorter than its piece is left as it is
 nothing_more : (bytes : List ℕ) → IsPieceCut bytes → Pieces bytes
 nothing_more bytes cut = (bytes, [], record { fits = tt; split = refl }, cut)
 
+-- any bytes are pieces followed by a rest that is cut
 pieces_of : (fuel : ℕ) (bytes : List ℕ) → IsBytes bytes → length bytes ≤ fuel → Pieces bytes
 pieces_of fuel [] fits enough = nothing_more [] tt
 pieces_of zero (first ∷ tail) fits enough = absurd (omega arith)
@@ -211,9 +254,12 @@ pieces_of (suc fuel) (first ∷ tail) fits enough =
     let count = piece_length first - 1 in
     elim (cases_lt (1 + length tail) (piece_length first)) [
       | inl short ↦ nothing_more (first ∷ tail) short
-      | inr whole ↦ piece_then (first ∷ take count tail) (drop count tail) (first ∷ tail) (first_piece first tail fits whole) (ap (λ (xs : List ℕ). first ∷ xs) (sym (take-append-drop count tail))) (pieces_of fuel (drop count tail) (IsBytes-drop count tail (λ i. fits (suc i))) (omega (arith, length-drop count tail)))
+      | inr whole ↦ piece_then (first ∷ take count tail) (drop count tail) (first ∷ tail) (first_piece first tail fits whole)
+          (ap (λ (xs : List ℕ). first ∷ xs) (sym (take-append-drop count tail)))
+          (pieces_of fuel (drop count tail) (IsBytes-drop count tail (λ i. fits (suc i))) (omega (arith, length-drop count tail)))
     ]
 
+-- any bytes are a spelling, or are cut at some position
 pub cut_or_spelled : (bytes : List ℕ) → IsBytes bytes → IsSpelling bytes ⊎ ((at : ℕ) × IsCutAt bytes at)
 cut_or_spelled bytes fits =
     let found = pieces_of (length bytes) bytes fits (omega arith) in

@@ -9,9 +9,11 @@ use Rattle.tws_moves.specs.Move.{Move, Wait, AreMoves, moves_from, tick_after}
 abbrev ticks_to : List Wait → ℕ → ℕ
 ticks_to waits i = sum_by (λ (w : Wait). w.ticks) (take (i + 1) waits) + i
 
+-- the first move is made after its own wait
 first_ticks : (w : Wait) (ws : List Wait) → ticks_to (w ∷ ws) 0 ≡ w.ticks
 first_ticks w ws = omega arith
 
+-- each later one after one more tick, for the move before, and the waits since
 later_ticks : (w : Wait) (ws : List Wait) (i : ℕ) → ticks_to (w ∷ ws) (suc i) ≡ w.ticks + ticks_to ws i + 1
 later_ticks w ws i =
     let next : suc i + 1 ≡ suc (i + 1) = omega arith in
@@ -28,17 +30,20 @@ pub count_from : (tick : ℕ) (waits : List Wait) → length (moves_from tick wa
 count_from tick [] = refl
 count_from tick (w ∷ ws) = omega (arith, count_from (tick + w.ticks + 1) ws)
 
+-- the moves have the acts of the waits, in order
 act_from : (tick : ℕ) (waits : List Wait) (i : ℕ) (m : Move) (v : Wait) → i < length waits → (slice_index_or (moves_from tick waits) i m).act ≡ (slice_index_or waits i v).act
 act_from tick [] i m v inside = absurd (omega (arith, inside))
 act_from tick (w ∷ ws) zero m v inside = refl
 act_from tick (w ∷ ws) (suc i) m v inside = act_from (tick + w.ticks + 1) ws i m v (omega (arith, inside))
 
+-- a move's tick is the starting tick plus the ticks up to it
 at_from : (tick : ℕ) (waits : List Wait) (i : ℕ) (m : Move) → i < length waits → (slice_index_or (moves_from tick waits) i m).at ≡ tick + ticks_to waits i
 at_from tick [] i m inside = absurd (omega (arith, inside))
 at_from tick (w ∷ ws) zero m inside = omega (arith, first_ticks w ws)
 at_from tick (w ∷ ws) (suc i) m inside =
     omega (arith, at_from (tick + w.ticks + 1) ws i m (omega (arith, inside)), later_ticks w ws i)
 
+-- the moves by a running tick are those that the waits make from that tick on
 made_from : (tick : ℕ) (waits : List Wait) → Made tick waits (moves_from tick waits)
 made_from tick waits = record { count = count_from tick waits; act = act_from tick waits; at = at_from tick waits }
 
@@ -62,11 +67,13 @@ made_alone tick (w ∷ ws) (m ∷ ms) made =
 
 -- ---- from the first tick on
 
+-- waits make the moves that are counted by a running tick from 0
 pub moves_of_waits : (waits : List Wait) → AreMoves waits (moves_from 0 waits)
 moves_of_waits waits =
     let made = made_from 0 waits in
     record { count = made.count; act = made.act; at = λ i m inside. omega (arith, made.at i m inside) }
 
+-- waits make no other moves than those counted by a running tick from 0
 pub moves_alone : (waits : List Wait) (moves : List Move) → AreMoves waits moves → moves ≡ moves_from 0 waits
 moves_alone waits moves are = made_alone 0 waits moves (record { count = are.count; act = are.act; at = λ i m inside. omega (arith, are.at i m inside) })
 

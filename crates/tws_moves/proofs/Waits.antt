@@ -3,6 +3,7 @@ use Rattle.std.proofs.Common.{◌≡◌, ℕ, zero, suc, ◌+◌, ◌-◌, ◌<�
 use Rattle.tws_moves.specs.declared.act.Act.{Act}
 use Rattle.tws_moves.specs.Move.{Move, Wait, IsTimed, moves_from, waits_from}
 
+-- the waits of the moves that waits make are these waits
 pub waits_back : (tick : ℕ) (waits : List Wait) → waits_from tick (moves_from tick waits) ≡ waits
 waits_back tick [] = refl
 waits_back tick (w ∷ ws) =
@@ -21,9 +22,11 @@ timed_tail m ms timed i d inside =
     let next : suc i + 1 ≡ suc (i + 1) = omega arith in
     rw next at (timed (suc i) d (omega arith))
 
+-- what follows a move is made after its tick
 pub from_next : (m : Move) (ms : List Move) → IsTimed (m ∷ ms) → IsFrom (m.at + 1) ms
 from_next m ms timed d some = omega (arith, timed 0 d (omega arith))
 
+-- timed moves are the moves that their waits make
 pub moves_back : (tick : ℕ) (moves : List Move) → IsTimed moves → IsFrom tick moves → moves_from tick (waits_from tick moves) ≡ moves
 moves_back tick [] timed from = refl
 moves_back tick (m ∷ ms) timed from =
@@ -34,6 +37,7 @@ moves_back tick (m ∷ ms) timed from =
     let whole : make (tick + (m.at - tick)) (moves_from (tick + (m.at - tick) + 1) (waits_from (m.at + 1) ms)) ≡ make m.at ms = cc in
     whole
 
+-- the moves that waits make are timed
 pub timed_moves : (tick : ℕ) (waits : List Wait) → IsTimed (moves_from tick waits)
 timed_moves tick [] i m inside = absurd (omega (arith, inside))
 timed_moves tick (w ∷ []) i m inside = absurd (omega (arith, inside))
@@ -46,6 +50,7 @@ pub waits_length : (tick : ℕ) (moves : List Move) → length (waits_from tick 
 waits_length tick [] = refl
 waits_length tick (m ∷ ms) = omega (arith, waits_length (m.at + 1) ms)
 
+-- the waits of the first n moves are the first n waits
 pub waits_take : (tick n : ℕ) (moves : List Move) → waits_from tick (take n moves) ≡ take n (waits_from tick moves)
 waits_take tick zero moves = refl
 waits_take tick (suc n) [] = refl
@@ -59,20 +64,41 @@ timed_take n moves timed i m inside =
 
 -- ---- one wait
 
-later_wait : (tick : ℕ) (moves : List Move) (i : ℕ) (d e : Move) (w : Wait) → suc i < length moves → slice_index_or (waits_from tick moves) (suc i) w ≡ record { ticks = (slice_index_or moves (suc i) d).at - ((slice_index_or moves i e).at + 1); act = (slice_index_or moves (suc i) d).act }
+-- a later move's wait counts from the tick after the move before it
+later_wait : (tick : ℕ) (moves : List Move) (i : ℕ) (d e : Move) (w : Wait) → suc i < length moves →
+    slice_index_or (waits_from tick moves)
+    (suc i) w ≡ record {
+      ticks = (slice_index_or moves (suc i) d).at - ((slice_index_or moves i e).at + 1);
+      act =
+          (slice_index_or moves (suc i) d).act;
+    }
 later_wait tick [] i d e w inside = absurd (omega arith)
 later_wait tick (m ∷ []) i d e w inside = absurd (omega arith)
 later_wait tick (m ∷ n ∷ ms) zero d e w inside = refl
 later_wait tick (m ∷ n ∷ ms) (suc i) d e w inside = later_wait (m.at + 1) (n ∷ ms) i d e w (omega arith)
 
 -- the wait of the move at index i, counted from the tick after the previous move
-wait_at : (moves : List Move) (i : ℕ) (d e : Move) (w : Wait) → 1 ≤ i → i < length moves → slice_index_or (waits_from 0 moves) i w ≡ record { ticks = (slice_index_or moves i d).at - ((slice_index_or moves (i - 1) e).at + 1); act = (slice_index_or moves i d).act }
+wait_at : (moves : List Move) (i : ℕ) (d e : Move) (w : Wait) → 1 ≤ i → i < length moves →
+    slice_index_or (waits_from 0 moves) i w ≡ record {
+      ticks =
+          (slice_index_or moves i d).at - ((slice_index_or moves (i - 1) e).at + 1);
+      act = (slice_index_or moves i d).act;
+    }
 wait_at moves zero d e w later inside = absurd (omega arith)
 wait_at moves (suc i) d e w later inside =
     let before : i ≡ suc i - 1 = omega arith in
-    later_wait 0 moves i d e w inside ∙ ap (λ (j : ℕ). let v : Wait = record { ticks = (slice_index_or moves (suc i) d).at - ((slice_index_or moves j e).at + 1); act = (slice_index_or moves (suc i) d).act } in v) before
+    later_wait 0 moves i d e w inside ∙
+    ap (λ (j : ℕ). let v : Wait =
+    record {
+      ticks = (slice_index_or moves (suc i) d).at - ((slice_index_or moves j e).at + 1);
+      act =
+          (slice_index_or moves (suc i) d).act;
+    } in v) before
 
-pub wait_is : (moves : List Move) (i ticks : ℕ) (act : Act) (this before : Move) (w : Wait) → 1 ≤ i → i < length moves → this ≡ slice_index_or moves i this → before ≡ slice_index_or moves (i - 1) before → ticks ≡ this.at - before.at - 1 → act ≡ this.act → (let v : Wait = record { ticks = ticks; act = act } in v) ≡ slice_index_or (waits_from 0 moves) i w
+-- a wait computed from two neighbouring moves is the wait at that index
+pub wait_is : (moves : List Move) (i ticks : ℕ) (act : Act) (this before : Move) (w : Wait) → 1 ≤ i → i < length moves →
+    this ≡ slice_index_or moves i this → before ≡ slice_index_or moves (i - 1) before → ticks ≡ this.at - before.at - 1 →
+    act ≡ this.act → (let v : Wait = record { ticks = ticks; act = act } in v) ≡ slice_index_or (waits_from 0 moves) i w
 wait_is moves i ticks act this before w later inside this-is before-is ticks-is act-is =
     let make : ℕ → Act → Wait = λ t a. record { ticks = t; act = a } in
     let one : ticks ≡ (slice_index_or moves i this).at - ((slice_index_or moves (i - 1) before).at + 1) = omega (arith, ap (λ (m : Move). m.at) this-is, ap (λ (m : Move). m.at) before-is) in

@@ -6,6 +6,7 @@ use Rattle.clap.specs.declared.error.Error.{Error}
 use Rattle.clap.specs.declared.error.kind.ErrorKind.TheVariants.{OutOfMemory}
 use Rattle.clap.proofs.OnLiterals.{clap_on_literals}
 use Rattle.tws_tool.specs.declared.commands.Job.TheVariants.{Show, Pack, Serve}
+use Rattle.tws_tool.specs.declared.source.Source.TheVariants.{Standard}
 use Rattle.tws_tool.specs.declared.job.JobFault.{JobFault}
 use Rattle.tws_tool.specs.declared.job.JobFault.TheVariants.{Words, Memory}
 use Rattle.std.specs.Str.Parse.{IsNumeral, digits_value, without_leading_plus}
@@ -15,25 +16,30 @@ use Rattle.tws_tool.specs.CommandLine.{RefusesWords, WordsAskFor}
 
 -- ---- the command line is one for which `clap` states all that it finds, and why it refuses
 
+-- the command line is one whose matches the laws of `clap` give
 pub is_simple_app : (names : RulesetNames) → is_simple (tws_app names) ≡ true
 unfolding clap_on_literals
 is_simple_app names = refl
 
+-- no argument of the command line has a rule on another
 pub is_free_app : (names : RulesetNames) → is_simple_and_free (tws_app names) ≡ true
 unfolding clap_on_literals
 is_free_app names = refl
 
 module _ (app : App) (names : RulesetNames) (words : List Text) (app-is : app ≡ tws_app names) where
+  -- if it returned matches, the words have no fault
   pub no_fault : (r : Result ArgMatches Error) (found : ArgMatches) → r ≡ Ok found → (is_simple_and_free app ≡ true → FailsBy (fault_of app words) r) → fault_of (tws_app names) words ≡ []
   no_fault r found is fails =
       let free : is_simple_and_free app ≡ true = ap is_simple_and_free app-is ∙ is_free_app names in
       ap (λ (a : App). fault_of a words) (sym app-is) ∙ subst (FailsBy {T = ArgMatches} (fault_of app words)) is (fails free)
 
+  -- if it returned an error, that is one of the words' fault
   pub its_fault : (r : Result ArgMatches Error) (error : Error) → r ≡ Err error → (is_simple_and_free app ≡ true → FailsBy (fault_of app words) r) → HasKind (fault_of (tws_app names) words) error
   its_fault r error is fails =
       let free : is_simple_and_free app ≡ true = ap is_simple_and_free app-is ∙ is_free_app names in
       subst (λ (a : App). HasKind (fault_of a words) error) app-is (subst (FailsBy {T = ArgMatches} (fault_of app words)) is (fails free))
 
+  -- the command that it found is the one that the words name
   pub its_command : (found : ArgMatches) → HasMatchesOf app words found → subcommand_rows_of found ≡ subcommand_of (tws_app names) words
   its_command found has = (has (ap is_simple app-is ∙ is_simple_app names)).1 ∙ ap (λ (a : App). subcommand_of a words) app-is
 
@@ -48,18 +54,22 @@ refused words names error e are has gives =
 
 -- ---- examples
 
-pub asks_for_show : (names : RulesetNames) (program : Text) → WordsAskFor names (program ∷ codes "show" ∷ []) (Show (record { moves = false }))
+-- `tws show`
+pub asks_for_show : (names : RulesetNames) (program : Text) → WordsAskFor names (program ∷ codes "show" ∷ []) (Show (record { source = Standard; moves = false }))
 unfolding clap_on_literals
-asks_for_show names program = (refl, (_, refl, (refl, ((λ e. absurd cc), (λ e. refl), (λ e. refl)))))
+asks_for_show names program = (refl, (_, refl, (refl, record { source_is = tt; moves_are = ((λ e. absurd cc), (λ e. refl), (λ e. refl)) })))
 
-pub asks_for_moves : (names : RulesetNames) (program : Text) → WordsAskFor names (program ∷ codes "show" ∷ codes "--moves" ∷ []) (Show (record { moves = true }))
+-- `tws show --moves`
+pub asks_for_moves : (names : RulesetNames) (program : Text) → WordsAskFor names (program ∷ codes "show" ∷ codes "--moves" ∷ []) (Show (record { source = Standard; moves = true }))
 unfolding clap_on_literals
-asks_for_moves names program = (refl, (_, refl, (refl, ((λ e. refl), (λ e. absurd cc), (λ e. absurd cc)))))
+asks_for_moves names program = (refl, (_, refl, (refl, record { source_is = tt; moves_are = ((λ e. refl), (λ e. absurd cc), (λ e. absurd cc)) })))
 
-pub asks_for_pack : (names : RulesetNames) (program : Text) → WordsAskFor names (program ∷ codes "pack" ∷ []) Pack
+-- `tws pack`
+pub asks_for_pack : (names : RulesetNames) (program : Text) → WordsAskFor names (program ∷ codes "pack" ∷ codes "-" ∷ []) (Pack (record { source = Standard }))
 unfolding clap_on_literals
-asks_for_pack names program = (refl, (_, refl, refl))
+asks_for_pack names program = (refl, (_, refl, (refl, refl)))
 
+-- `tws serve`, with the default port, turns and transfers of one host, and no folder
 pub asks_for_serve : (names : RulesetNames) (program : Text) → WordsAskFor names (program ∷ codes "serve" ∷ []) (Serve (record { port = 6969; turns = 1000000000; per_host = 32; dir = None }))
 unfolding clap_on_literals
 asks_for_serve names program = (refl, (_, refl, (refl, record { port_is = refl; turns_are = refl; per_host_is = refl; dir_is = refl })))
@@ -68,7 +78,10 @@ asks_for_serve names program = (refl, (_, refl, (refl, record { port_is = refl; 
 pub counted_number : (most n : ℕ) (text : Text) → IsNumeral 10 (without_leading_plus text) → n ≡ digits_value 10 (without_leading_plus text) → 1 ≤ n → n ≤ most → IsNumberUpTo most text n
 counted_number most n text numeral value least greatest = record { numeral = numeral; value = value; least = least; greatest = greatest }
 
-pub asks_for_counted : (names : RulesetNames) (program : Text) → WordsAskFor names (program ∷ codes "serve" ∷ codes "--port" ∷ codes "80" ∷ codes "--turns=5" ∷ []) (Serve (record { port = 80; turns = 5; per_host = 32; dir = None }))
+-- `tws serve --port 80 --turns=5`
+pub asks_for_counted : (names : RulesetNames) (program : Text) →
+    WordsAskFor names (program ∷ codes "serve" ∷ codes "--port" ∷ codes "80" ∷ codes "--turns=5" ∷ [])
+    (Serve (record { port = 80; turns = 5; per_host = 32; dir = None }))
 unfolding clap_on_literals
 asks_for_counted names program = (
   refl,

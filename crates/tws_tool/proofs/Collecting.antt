@@ -29,6 +29,7 @@ reported_split (k ∷ knowns) known (t ∷ texts) reported =
     let rest = reported_split knowns known texts reported.1 in
     (t ∷ rest.0, rest.1, ap (λ (xs : List (List ℕ)). t ∷ xs) rest.2, (reported.0, rest.3), rest.4)
 
+-- the first i inputs have the first i texts
 reported_take : (i : ℕ) (knowns : List (Option (List ℕ))) (texts : List (List ℕ)) → AreReported knowns texts → AreReported (take i knowns) (take i texts)
 reported_take zero knowns texts reported = tt
 reported_take (suc i) [] [] reported = tt
@@ -42,6 +43,7 @@ reported_length [] (t ∷ texts) reported = absurd reported
 reported_length (k ∷ knowns) [] reported = absurd reported
 reported_length (k ∷ knowns) (t ∷ texts) reported = ap suc (reported_length knowns texts reported.1)
 
+-- the input at an index has the text at that index
 reported_at : (knowns : List (Option (List ℕ))) (texts : List (List ℕ)) (i : ℕ) (k : Option (List ℕ)) → AreReported knowns texts → i < length knowns → get_or knowns i k ≡ Some (get_or texts i [])
 reported_at [] texts i k reported inside = absurd (omega arith)
 reported_at (x ∷ knowns) [] i k reported inside = absurd reported
@@ -54,17 +56,21 @@ none_reported : (texts : List (List ℕ)) → AreReported [] texts → [] ≡ te
 none_reported [] reported = refl
 none_reported (t ∷ texts) reported = absurd reported
 
+-- of no texts, each is readable
 none_readable : (texts : List (List ℕ)) → AreReported [] texts → AllByRecursion IsReadable texts
 none_readable [] reported = tt
 none_readable (t ∷ texts) reported = absurd reported
 
+-- from no inputs the empty collection is collected
 pub collects_none : (rules : Ruleset) (c : Collected) → c.ruleset ≡ rules → c.entries ≡ [] → Collects rules [] c
 collects_none rules c rules-is none = record {
   readable = λ texts reported. none_readable texts reported;
   best = λ texts reported. subst (λ (ts : List (List ℕ)). IsCollectionOf rules ts c) (none_reported texts reported) (no_texts rules c rules-is none);
 }
 
-pub collects_more : (rules : Ruleset) (knowns : List (Option (List ℕ))) (known : Option (List ℕ)) (file : File) (c d : Collected) → Collects rules knowns c → IfSome known (λ (bytes : List ℕ). IsText bytes file)
+-- one more input, whose file is merged
+pub collects_more : (rules : Ruleset) (knowns : List (Option (List ℕ))) (known : Option (List ℕ)) (file : File)
+    (c d : Collected) → Collects rules knowns c → IfSome known (λ (bytes : List ℕ). IsText bytes file)
     → d.ruleset ≡ c.ruleset → IsBestOf (Contains (c.entries ++ solutions_of c.ruleset (file ∷ []))) d.entries → Collects rules (knowns ++ known ∷ []) d
 collects_more rules knowns known file c d so_far text same best = record {
   readable = λ texts reported.
@@ -79,7 +85,9 @@ collects_more rules knowns known file c d so_far text same best = record {
 
 -- ---- lists of inputs
 
+-- the loop over the inputs has come to the one at `i`, which is as it was before the loop
 module _ {R : Type 0} (reported : R → Option (List ℕ)) (now old : List R) (i : ℕ) (x : R) (others : drop i now ≡ drop i old) (inside : i < length old) (x-is : x ≡ get_or now i x) where
+  -- that input is the one of the list before the loop
   still : x ≡ get_or old i x
   still =
       let at : i ≡ i + 0 = omega arith in
@@ -110,7 +118,8 @@ module _ {R : Type 0} (reported : R → Option (List ℕ)) (now old : List R) (i
   input_fails rules c (Transfer why) so_far fails = absurd fails
 
 -- all inputs were collected
-pub all_collected : (R : Type 0) (reported : R → Option (List ℕ)) (files : List R) (i : ℕ) (rules : Ruleset) (c : Collected) → i ≡ length files → Collects rules (map reported (take i files)) c → Collects rules (map reported files) c
+pub all_collected : (R : Type 0) (reported : R → Option (List ℕ)) (files : List R) (i : ℕ) (rules : Ruleset) (c : Collected) →
+    i ≡ length files → Collects rules (map reported (take i files)) c → Collects rules (map reported files) c
 all_collected R reported files i rules c end so_far =
     subst (λ (xs : List R). Collects rules (map reported xs) c) (ap (λ (n : ℕ). take n files) end ∙ take-length files) so_far
 
@@ -119,16 +128,22 @@ all_collected R reported files i rules c end so_far =
 pub set_count : {R : Type 0} (now old : List R) (i : ℕ) (y : R) → length now ≡ length old → length (slice_set now i y) ≡ length old
 set_count now old i y count = length-set now i y ∙ count
 
+-- writing an input back leaves the inputs after it
 pub others_stay : {R : Type 0} (now old : List R) (i : ℕ) (y : R) → drop i now ≡ drop i old → drop (i + 1) (slice_set now i y) ≡ drop (i + 1) old
 others_stay now old i y others =
     drop-set-lt (i + 1) now i y (omega arith) ∙ sym (drop-drop 1 i now) ∙ ap (drop 1) others ∙ drop-drop 1 i old
 
-pub one_more_ended : {R : Type 0} (reported : R → Option (List ℕ)) (now : List R) (i : ℕ) (y : R) → i < length now → AllByRecursion (λ (r : R). IsAtEnd (reported r)) (take i now) → IsAtEnd (reported y) → AllByRecursion (λ (r : R). IsAtEnd (reported r)) (take (i + 1) (slice_set now i y))
+-- once it is read to its end, so are the inputs up to it
+pub one_more_ended : {R : Type 0} (reported : R → Option (List ℕ)) (now : List R) (i : ℕ) (y : R) → i < length now →
+    AllByRecursion (λ (r : R). IsAtEnd (reported r)) (take i now) → IsAtEnd (reported y) →
+    AllByRecursion (λ (r : R). IsAtEnd (reported r)) (take (i + 1) (slice_set now i y))
 one_more_ended {R} reported now i y inside ended last =
     subst (AllByRecursion (λ (r : R). IsAtEnd (reported r))) (sym (take_more_set now i y inside)) (all_append (λ (r : R). IsAtEnd (reported r)) (take i now) (y ∷ []) ended (last, tt))
 
 -- the inputs up to one that fails
-pub read_out : {R : Type 0} (reported : R → Option (List ℕ)) (now : List R) (i : ℕ) (y : R) (known : Option (List ℕ)) (e : ToolFault) → i < length now → AllByRecursion (λ (r : R). IsAtEnd (reported r)) (take i now) → ReadFails i known e → IsReadOut (reported y) e → AreReadOut reported (slice_set now i y) e
+pub read_out : {R : Type 0} (reported : R → Option (List ℕ)) (now : List R) (i : ℕ) (y : R) (known : Option (List ℕ))
+    (e : ToolFault) → i < length now → AllByRecursion (λ (r : R). IsAtEnd (reported r)) (take i now) → ReadFails i known e →
+    IsReadOut (reported y) e → AreReadOut reported (slice_set now i y) e
 read_out reported now i y known Read inside ended fails out = tt
 read_out reported now i y known Write inside ended fails out = tt
 read_out {R} reported now i y known (Unreadable index fault) inside ended fails out =
@@ -139,12 +154,54 @@ read_out reported now i y known (Transfer why) inside ended fails out = tt
 
 -- ---- by the exit status
 
-pub best_ran : (bytes_of : List ℕ → Option (List ℕ)) (arguments : BestArguments) (r : Result (Unit {0}) ToolFault) (old new : Option (List ℕ)) → OnOk r (BestWrites arguments.ruleset (best_knowns bytes_of arguments) old new)
+-- what `best` did, by the exit status
+pub best_ran : (bytes_of : List ℕ → Option (List ℕ)) (arguments : BestArguments) (r : Result (Unit {0}) ToolFault)
+    (old new : Option (List ℕ)) → OnOk r (BestWrites arguments.ruleset (best_knowns bytes_of arguments) old new)
     → IfErr r (BestFails arguments.ruleset (best_knowns bytes_of arguments) old new) → BestRan bytes_of arguments (answer_status r) old new
-best_ran bytes_of arguments (Ok done) old new writes fails = record { done = λ e. writes; failed = λ e. absurd (omega (arith, e)); unreadable = λ e. absurd (omega (arith, e)); never = λ e. omega (arith, e); few = omega arith }
-best_ran bytes_of arguments (Err Read) old new writes fails = record { done = λ e. absurd (omega (arith, e)); failed = λ e. inl fails; unreadable = λ e. absurd (omega (arith, e)); never = λ e. omega (arith, e); few = omega arith }
-best_ran bytes_of arguments (Err Write) old new writes fails = record { done = λ e. absurd (omega (arith, e)); failed = λ e. inr fails; unreadable = λ e. absurd (omega (arith, e)); never = λ e. omega (arith, e); few = omega arith }
-best_ran bytes_of arguments (Err (Unreadable index fault)) old new writes fails = record { done = λ e. absurd (omega (arith, e)); failed = λ e. absurd (omega (arith, e)); unreadable = λ e. (fails.0, (index, fault, fails.1)); never = λ e. omega (arith, e); few = omega arith }
-best_ran bytes_of arguments (Err Memory) old new writes fails = record { done = λ e. absurd (omega (arith, e)); failed = λ e. fails; unreadable = λ e. absurd (omega (arith, e)); never = λ e. omega (arith, e); few = omega arith }
+best_ran bytes_of arguments (Ok done) old new writes fails =
+    record {
+      done = λ e. writes;
+      failed = λ e. absurd (omega (arith, e));
+      unreadable = λ e. absurd (omega (arith, e));
+      never =
+          λ e. omega (arith, e);
+      few = omega arith;
+    }
+best_ran bytes_of arguments (Err Read) old new writes fails =
+    record {
+      done = λ e. absurd (omega (arith, e));
+      failed = λ e. inl fails;
+      unreadable = λ e. absurd (omega (arith, e));
+      never =
+          λ e. omega (arith, e);
+      few = omega arith;
+    }
+best_ran bytes_of arguments (Err Write) old new writes fails =
+    record {
+      done = λ e. absurd (omega (arith, e));
+      failed = λ e. inr fails;
+      unreadable = λ e. absurd (omega (arith, e));
+      never =
+          λ e. omega (arith, e);
+      few = omega arith;
+    }
+best_ran bytes_of arguments (Err (Unreadable index fault)) old new writes fails =
+    record {
+      done = λ e. absurd (omega (arith, e));
+      failed = λ e. absurd (omega (arith, e));
+      unreadable =
+          λ e. (fails.0, (index, fault, fails.1));
+      never = λ e. omega (arith, e);
+      few = omega arith;
+    }
+best_ran bytes_of arguments (Err Memory) old new writes fails =
+    record {
+      done = λ e. absurd (omega (arith, e));
+      failed = λ e. fails;
+      unreadable = λ e. absurd (omega (arith, e));
+      never =
+          λ e. omega (arith, e);
+      few = omega arith;
+    }
 best_ran bytes_of arguments (Err Socket) old new writes fails = absurd fails
 best_ran bytes_of arguments (Err (Transfer why)) old new writes fails = absurd fails

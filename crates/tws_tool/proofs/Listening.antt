@@ -1,16 +1,19 @@
 -- What `serve` did, by its result.
-use Rattle.std.proofs.Common.{[], ◌≡◌, ℕ, List, Option, None, Result, Ok, Err, OnOk, IfErr, refl, arith, ap, sym, subst, ◌∙◌, inl, inr, ⊎_elim}
+use Rattle.std.proofs.Common.{[], ◌≡◌, ℕ, ◌+◌, ◌<◌, ◌≤◌, Bool, true, false, List, Option, None, Result, Ok, Err, OnOk, IfErr, refl, arith, ap, sym, subst, ◌∙◌, inl, inr, ⊎_elim}
 use Rattle.archive_table.specs.declared.limits.TheConstants.{LIVE}
 use Rattle.archive_table.specs.Keeper.{Keeping, HasLoaded}
-use Rattle.archive_turns.specs.Turn.{Server, fresh_server}
+use Rattle.archive_turns.specs.Turn.{MakesMany, MakesPass, Server, count_if, fresh_server}
+use Rattle.archive_turns.specs.Wire.{Entry}
+use Rattle.archive_turns.proofs.Turns.{many_none, many_more}
 use Rattle.tws_tool.specs.declared.commands.serve.Passes.{Passes}
 use Rattle.tws_tool.specs.declared.tool_fault.ToolFault.{ToolFault}
 use Rattle.tws_tool.specs.declared.tool_fault.ToolFault.TheVariants.{Read, Write, Unreadable, Memory, Socket, Transfer}
-use Rattle.tws_tool.specs.Commands.Serve.{ArePassesFor, MakesPasses, ServeStops, Served, ServerServed, Serves}
+use Rattle.tws_tool.specs.Commands.Serve.{ArePassesFor, MakesPasses, count_of, pass_of, ServeStops, Served, ServerServed, Serves}
 use Rattle.tws_tool.specs.Faults.{answer_status, status_of}
 use Rattle.tws_tool.specs.Lines.{LineFails, serving_line, taken_line}
 
 module _ (old new : Option (List ℕ)) where
+  -- a line that was not written whole: the exit status is 2
   line_status : (line : List ℕ) (a b : Option (List ℕ)) (e : ToolFault) → LineFails line a b e → status_of e ≡ 2
   line_status line a b Read fails = absurd fails
   line_status line a b Write fails = refl
@@ -20,28 +23,60 @@ module _ (old new : Option (List ℕ)) where
   line_status line a b (Transfer why) fails = absurd fails
 
   module _ (port : ℕ) (Unmade Unkept : Type 0) (Made Done : (taken : ℕ) → Type 0) (unkept : Unmade → Unkept) (made : (taken : ℕ) → Made taken → Done taken) where
+    -- a server that made its turns and printed both lines
     pub serves_so : Serves port Made old new → Serves port Done old new
     serves_so s = record { taken = s.taken; made = made s.taken s.made; between = s.between; first = s.first; last = s.last }
 
+    -- a server that stopped, because of its port or a line
     pub stops_so : (e : ToolFault) → ServeStops port Unmade Made old new e → ServeStops port Unkept Done old new e
     stops_so e stops =
         ⊎_elim (λ (s : (e ≡ Socket) × (new ≡ old) × Unmade). inl (s.0, s.1, unkept s.2))
-        (λ fails. inr (⊎_elim (λ first. inl (unkept first.0, first.1)) (λ last. inr (record { taken = last.taken; made = made last.taken last.made; between = last.between; first = last.first; fails = last.fails })) fails))
+        (λ fails. inr (⊎_elim (λ first. inl (unkept first.0, first.1))
+        (λ last. inr (record {
+          taken = last.taken;
+          made = made last.taken last.made;
+          between = last.between;
+          first =
+              last.first;
+          fails = last.fails;
+        })) fails))
         stops
 
+  -- then the exit status is 2
   stops_status : (port : ℕ) (Unmade : Type 0) (Made : (taken : ℕ) → Type 0) (e : ToolFault) → ServeStops port Unmade Made old new e → status_of e ≡ 2
   stops_status port Unmade Made e stops =
-      ⊎_elim (λ (s : (e ≡ Socket) × (new ≡ old) × Unmade). ap status_of s.0) (λ fails. ⊎_elim (λ first. line_status (serving_line port) old new e first.1) (λ last. line_status (taken_line last.taken) last.between new e last.fails) fails) stops
+      ⊎_elim (λ (s : (e ≡ Socket) × (new ≡ old) × Unmade). ap status_of s.0)
+      (λ fails. ⊎_elim (λ first. line_status (serving_line port) old new e first.1)
+      (λ last. line_status (taken_line last.taken) last.between new e last.fails) fails) stops
 
   module _ (port turns per_host : ℕ) (kept now : Option (List Keeping)) where
-    pub served : (r : Result (Unit {0}) ToolFault) → OnOk r (Serves port (ServerServed port turns per_host kept now) old new) → IfErr r (ServeStops port (now ≡ kept) (ServerServed port turns per_host kept now) old new) → Served port turns per_host (answer_status r) kept now old new
-    served (Ok done) serves stops = record { done = λ e. serves; failed = λ e. absurd (omega (arith, e)); few = inl refl }
-    served (Err e) serves stops =
-        let two = stops_status port (now ≡ kept) (ServerServed port turns per_host kept now) e stops in
-        record { done = λ z. absurd (omega (arith, z, two)); failed = λ z. inr (e, stops); few = inr two }
+    usable_served : (r : Result (Unit {0}) ToolFault) →
+        OnOk r (Serves port (ServerServed port turns per_host true kept now) old new) →
+        IfErr r (ServeStops port (now ≡ kept) (ServerServed port turns per_host true kept now) old new)
+        → Served port turns per_host (answer_status r) true kept now old new
+    usable_served (Ok done) serves stops = record { done = λ e. (refl, serves); failed = λ e. absurd (omega (arith, e)); few = inl refl }
+    usable_served (Err e) serves stops =
+        let two = stops_status port (now ≡ kept) (ServerServed port turns per_host true kept now) e stops in
+        record { done = λ z. absurd (omega (arith, z, two)); failed = λ z. inr (inl (e, stops)); few = inr two }
+
+    unknown_served : (r : Result (Unit {0}) ToolFault) →
+        OnOk r (Serves port (ServerServed port turns per_host false kept now) old new) →
+        IfErr r (ServeStops port (now ≡ kept) (ServerServed port turns per_host false kept now) old new)
+        → Served port turns per_host 2 false kept now old new
+    unknown_served (Ok done) serves stops = record { done = λ z. absurd (omega (arith, z)); failed = λ z. inr (inr (refl, serves)); few = inr refl }
+    unknown_served (Err e) serves stops = record { done = λ z. absurd (omega (arith, z)); failed = λ z. inr (inl (e, stops)); few = inr refl }
+
+    -- by whether the keeper is usable at the end
+    pub served : (usable : Bool) (status : ℕ) (r : Result (Unit {0}) ToolFault) → (usable ≡ true → status ≡ answer_status r) → (usable ≡ false → status ≡ 2)
+        → OnOk r (Serves port (ServerServed port turns per_host usable kept now) old new) → IfErr r (ServeStops port (now ≡ kept) (ServerServed port turns per_host usable kept now) old new)
+        → Served port turns per_host status usable kept now old new
+    served true status r is two serves stops = subst (λ (n : ℕ). Served port turns per_host n true kept now old new) (sym (is refl)) (usable_served r serves stops)
+    served false status r is two serves stops = subst (λ (n : ℕ). Served port turns per_host n false kept now old new) (sym (two refl)) (unknown_served r serves stops)
 
 -- a server that was loaded, once its limit is set
-pub limited_server : (loaded limited : Server) (port per_host : ℕ) (kept : Option (List Keeping)) → HasLoaded port kept loaded.table → loaded ≡ fresh_server LIVE loaded.table → limited ≡ record loaded { per_host = per_host } → HasLoaded port kept limited.table × (limited ≡ fresh_server per_host limited.table)
+pub limited_server : (loaded limited : Server) (port per_host : ℕ) (kept : Option (List Keeping)) →
+    HasLoaded port kept loaded.table → loaded ≡ fresh_server LIVE loaded.table → limited ≡ record loaded { per_host = per_host } →
+    HasLoaded port kept limited.table × (limited ≡ fresh_server per_host limited.table)
 limited_server loaded limited port per_host kept has fresh is =
     let set : Server → Server = λ s. record s { per_host = per_host } in
     let whole : limited ≡ fresh_server per_host loaded.table = is ∙ ap set fresh in
@@ -49,14 +84,44 @@ limited_server loaded limited port per_host kept has fresh is =
     (subst (HasLoaded port kept) table has, whole ∙ ap (fresh_server per_host) table)
 
 -- a server from its load on, which keeps nothing
-pub server_served : (port turns per_host : ℕ) (kept mid now : Option (List Keeping)) → mid ≡ kept → (passes : Passes) (first last : Server) → ArePassesFor turns passes → HasLoaded port kept first.table → first ≡ fresh_server per_host first.table
-    → (taken : ℕ) → MakesPasses passes first last taken None None mid now → ServerServed port turns per_host kept now taken
-server_served port turns per_host kept mid now same passes first last are loaded fresh taken made = record {
+pub server_served : (port turns per_host : ℕ) (usable : Bool) (kept mid now : Option (List Keeping)) → mid ≡ kept →
+    (passes : Passes) (first last : Server) → ArePassesFor turns passes → HasLoaded port kept first.table
+    → first ≡ fresh_server per_host first.table → (taken : ℕ) → MakesPasses passes usable first last taken None None mid now → ServerServed port turns per_host usable kept now taken
+server_served port turns per_host usable kept mid now same passes first last are loaded fresh taken made = record {
   first = first;
   last = last;
   loaded = loaded;
   fresh = fresh;
   passes = passes;
   passes_are = are;
-  made = subst (λ (k : Option (List Keeping)). MakesPasses passes first last taken None None k now) same made;
+  made = subst (λ (k : Option (List Keeping)). MakesPasses passes usable first last taken None None k now) same made;
 }
+
+-- ---- turns and rounds
+
+-- in the middle of them
+pub record MakesSome (passes : Passes) (count : ℕ) (old new : Server) (taken : ℕ) (before after : Option (List Entry)) (kept now : Option (List Keeping)) : Type 0 where
+  pub made : MakesMany (pass_of passes) count old new taken before after kept now
+  pub few : taken ≤ count
+
+pub some_none : (passes : Passes) (s : Server) (log : Option (List Entry)) (kept : Option (List Keeping)) → MakesSome passes 0 s s 0 log log kept kept
+some_none passes s log kept = record { made = many_none (pass_of passes) s log kept; few = omega arith }
+
+pub some_more : {before mid after : Option (List Entry)} {kept midst now : Option (List Keeping)} (passes : Passes)
+    (n taken count : ℕ) (old between new : Server) → MakesSome passes n old between taken before mid kept midst
+    → ((took : Bool) × MakesPass (pass_of passes) between new took mid after midst now × (count ≡ count_if took taken)) →
+    count ≤ taken + 1 → MakesSome passes (n + 1) old new count before after kept now
+some_more passes n taken count old between new so_far pass few =
+    record { made = many_more (pass_of passes) n taken count pass.0 old between new so_far.made pass.1 pass.2; few = omega (arith, so_far.few, few) }
+
+-- no pass is made with a keeper that is not usable
+pub passes_unmade : (passes : Passes) (usable : Bool) (s : Server) (log : Option (List Entry)) (kept : Option (List Keeping)) → usable ≡ false → MakesPasses passes usable s s 0 log log kept kept
+passes_unmade passes usable s log kept is = record { count = 0; most = omega arith; made = many_none (pass_of passes) s log kept; ends = inl is }
+
+-- a pass after which it is not
+pub passes_ended : {before mid after : Option (List Entry)} {kept midst now : Option (List Keeping)} (passes : Passes)
+    (usable : Bool) (n end taken count : ℕ) (old between new : Server) → end ≡ count_of passes → n < end →
+    MakesSome passes n old between taken before mid kept midst
+    → ((took : Bool) × MakesPass (pass_of passes) between new took mid after midst now × (count ≡ count_if took taken)) → usable ≡ false → MakesPasses passes usable old new count before after kept now
+passes_ended passes usable n end taken count old between new end-is few so_far pass is =
+    record { count = n + 1; most = omega (arith, end-is, few); made = many_more (pass_of passes) n taken count pass.0 old between new so_far.made pass.1 pass.2; ends = inl is }

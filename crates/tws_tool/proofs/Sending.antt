@@ -12,7 +12,8 @@ use Rattle.archive_turns.specs.declared.run_fault.RunFault.{RunFault}
 use Rattle.archive_turns.specs.declared.run_fault.RunFault.TheVariants as run
 use Rattle.archive_turns.specs.Turn.{Replies}
 use Rattle.archive_turns.specs.Wire.{Entry}
-use Rattle.archive_turns.specs.Run.{Run, PutAfter, RunsPut, begin_opened, begin_sized, put_result}
+use Rattle.archive_turns.specs.Run.{Run, RunMakes, PutAfter, begin_opened, begin_sized, put_result}
+use Rattle.archive_turns.specs.Rounds.{PutsInRounds}
 use Rattle.tws_tool.specs.declared.tool_fault.ToolFault.{ToolFault}
 use Rattle.tws_tool.specs.declared.tool_fault.ToolFault.TheVariants as tool
 use Rattle.tws_tool.specs.Faults.{answer_status, run_fault}
@@ -30,36 +31,43 @@ no_write_of cause.TimedOut len is = absurd cc
 no_write_of cause.TooLong len is = absurd cc
 no_write_of cause.Memory len is = absurd cc
 
+-- the result of a put is never a write fault, whatever its client's state
 no_write_result : (s : State) (len : ℕ) → put_result s len ≢ Err run.Write
 no_write_result state.Running len is = absurd cc
 no_write_result state.Sent len is = absurd cc
 no_write_result state.Got len is = absurd cc
 no_write_result (state.Failed why) len is = no_write_of why len is
 
+-- a put that opened a port does not begin with a write fault
 no_write_sized : (long : Bool) (server : Endpoint) (operation : Operation) (port : ℕ) (replies : Replies) → (begin_sized long server operation port replies).result ≢ Err run.Write
 no_write_sized true server operation port replies is = absurd cc
 no_write_sized false server operation port replies is = absurd cc
 
+-- no put begins with a write fault
 no_write_begun : (port : Option ℕ) (server : Endpoint) (operation : Operation) (replies : Replies) → (begin_opened port server operation replies).result ≢ Err run.Write
 no_write_begun None server operation replies is = absurd cc
 no_write_begun (Some port) server operation replies is = no_write_sized (is_too_long operation) server operation port replies is
 
+-- the fault of a result; any, if there is none
 abbrev fault_in : Result ℕ RunFault → RunFault
 fault_in (Ok len) = run.Write
 fault_in (Err e) = e
 
-no_write_after : (begun : Result Run RunFault) (turns len : ℕ) (mid after : Option (List Entry)) → begun ≢ Err run.Write → PutAfter begun turns len (Err run.Write) mid after → ⊥
-no_write_after (Ok r) turns len mid after never ends = no_write_result (state_of ends.last.client) len (sym ends.result_is)
-no_write_after (Err e) turns len mid after never ends = never (ap Err (ap fault_in (sym ends.0)))
+-- no put ends with a write fault
+no_write_after : (Makes : RunMakes) (begun : Result Run RunFault) (len : ℕ) (mid after : Option (List Entry)) → begun ≢ Err run.Write → PutAfter Makes begun len (Err run.Write) mid after → ⊥
+no_write_after Makes (Ok r) len mid after never ends = no_write_result (state_of ends.last.client) len (sym ends.result_is)
+no_write_after Makes (Err e) len mid after never ends = never (ap Err (ap fault_in (sym ends.0)))
 
-pub no_write : (server : Endpoint) (file : List ℕ) (turns : ℕ) (before after : Option (List Entry)) → RunsPut server file turns (Err run.Write) before after → ⊥
-no_write server file turns before after runs =
-    no_write_after runs.begun turns _ runs.mid after (λ is. no_write_begun runs.begins.port server (put file) runs.begins.replies (sym runs.begins.result_is ∙ is)) runs.ends
+-- so no complete run of a put has one
+pub no_write : (server : Endpoint) (file : List ℕ) (rounds : ℕ) (before after : Option (List Entry)) → PutsInRounds server file rounds (Err run.Write) before after → ⊥
+no_write server file rounds before after runs =
+    no_write_after _ runs.begun _ runs.mid after (λ is. no_write_begun runs.begins.port server (put file) runs.begins.replies (sym runs.begins.result_is ∙ is)) runs.ends
 
 module _ (known : Option (List ℕ)) (server : Endpoint) (before after : Option (List Entry)) (old : Option (List ℕ)) where
+  -- by its fault
   fails_by : (why : RunFault) → PutRuns known server (Err why) before after → PutFails known server before after old old (run_fault why)
   fails_by run.Socket runs = (refl, runs)
-  fails_by (run.Transfer why) runs = (refl, runs)
+  fails_by (run.Transfer why) runs = (refl, inl runs)
   fails_by run.Memory runs = (refl, inr (inl runs))
   fails_by run.Write runs = absurd (no_write server runs.bytes _ before after runs.runs)
 
@@ -69,31 +77,35 @@ module _ (known : Option (List ℕ)) (server : Endpoint) (before after : Option 
 
 -- ---- a put that succeeded
 
+-- the number in a result; any, if there is none
 abbrev count_in : Result ℕ RunFault → ℕ
 count_in (Ok len) = len
 count_in (Err e) = 0
 
+-- a put that succeeds returns the length of its file
 count_of_result : (s : State) (n len : ℕ) → Ok n ≡ put_result s len → n ≡ len
 count_of_result state.Running n len is = absurd cc
 count_of_result state.Sent n len is = ap count_in is
 count_of_result state.Got n len is = absurd cc
 count_of_result (state.Failed why) n len is = absurd cc
 
-count_after : (begun : Result Run RunFault) (turns n len : ℕ) (mid after : Option (List Entry)) → PutAfter begun turns len (Ok n) mid after → n ≡ len
-count_after (Ok r) turns n len mid after ends = count_of_result (state_of ends.last.client) n len ends.result_is
-count_after (Err e) turns n len mid after ends = absurd (let bad = ends.0 in cc)
+-- so does a complete run
+count_after : (Makes : RunMakes) (begun : Result Run RunFault) (n len : ℕ) (mid after : Option (List Entry)) → PutAfter Makes begun len (Ok n) mid after → n ≡ len
+count_after Makes (Ok r) n len mid after ends = count_of_result (state_of ends.last.client) n len ends.result_is
+count_after Makes (Err e) n len mid after ends = absurd (let bad = ends.0 in cc)
 
 -- the line says how many bytes the whole input has
 pub put_says : (known : Option (List ℕ)) (server : Endpoint) (before after : Option (List Entry)) (old new : Option (List ℕ)) → Puts known server before after old new → SaysSent known old new
 put_says None server before after old new puts = tt
 put_says (Some bytes) server before after old new puts =
     let runs = puts.put.runs in
-    let count : puts.len ≡ length puts.put.bytes = count_after runs.begun _ puts.len (length puts.put.bytes) runs.mid after runs.ends in
+    let count : puts.len ≡ length puts.put.bytes = count_after _ runs.begun puts.len (length puts.put.bytes) runs.mid after runs.ends in
     let is : puts.put.bytes ≡ bytes = puts.put.whole.known_is in
     (subst IsReadable is puts.put.whole.readable, subst (λ (n : ℕ). Appends old new (sent_line n)) (count ∙ ap length is) puts.said)
 
 -- an input that a put reports as unreadable has that fault
-pub put_blames : (known : Option (List ℕ)) (server : Endpoint) (before after : Option (List Entry)) (old new : Option (List ℕ)) (e : ToolFault) → PutFails known server before after old new e → IsBlamed known e
+pub put_blames : (known : Option (List ℕ)) (server : Endpoint) (before after : Option (List Entry)) (old new : Option (List ℕ))
+    (e : ToolFault) → PutFails known server before after old new e → IsBlamed known e
 put_blames known server before after old new tool.Read fails = tt
 put_blames known server before after old new tool.Write fails = tt
 put_blames known server before after old new (tool.Unreadable index fault) fails = fails.3
@@ -104,6 +116,7 @@ put_blames known server before after old new (tool.Transfer why) fails = tt
 -- ---- by the exit status
 
 module _ (old new : Option (List ℕ)) where
+  -- a put that fails has written no line, or a proper prefix of it
   put_unsaid : (known : Option (List ℕ)) (server : Endpoint) (before after : Option (List Entry)) (e : ToolFault) → PutFails known server before after old new e → Unsaid sent_line old new e
   put_unsaid known server before after tool.Read fails = fails.1
   put_unsaid known server before after tool.Write fails = inr (fails.len, fails.prefix)
@@ -123,12 +136,14 @@ module _ (old new : Option (List ℕ)) where
   blamed known (Err (tool.Transfer why)) blames three = absurd (omega (arith, three))
 
   module _ (bytes_of : List ℕ → Option (List ℕ)) (arguments : PutArguments) where
+    -- what `put` did, by the exit status, if the address is one
     pub put_ran : (host : ℕ) (before after : Option (List Entry)) (r : Result (Unit {0}) ToolFault) → IsAddress (string_bytes arguments.target.address) host
         → OnOk r (Puts (put_known bytes_of arguments) (record { host = host; port = arguments.target.port }) before after old new)
         → IfErr r (PutFails (put_known bytes_of arguments) (record { host = host; port = arguments.target.port }) before after old new)
         → PutRan bytes_of arguments (answer_status r) before after old new
     put_ran host before after r is puts fails = record {
-      transfers = transfers old new (string_bytes arguments.target.address) sent_line host r is (map_ok r (λ p. (p.len, p.said)) puts) (map_err r (put_unsaid (put_known bytes_of arguments) _ before after) fails);
+      transfers = transfers old new (string_bytes arguments.target.address) sent_line host r is
+          (map_ok r (λ p. (p.len, p.said)) puts) (map_err r (put_unsaid (put_known bytes_of arguments) _ before after) fails);
       sent = at_zero r (map_ok r (put_says (put_known bytes_of arguments) _ before after old new) puts);
       unreadable = blamed (put_known bytes_of arguments) r (map_err r (put_blames (put_known bytes_of arguments) _ before after old new) fails);
       ended = λ other. (host, is, record { done = r; status_is = refl; puts = puts; fails = fails });
@@ -136,5 +151,15 @@ module _ (old new : Option (List ℕ)) where
     }
 
     -- nothing is sent to a text that is not an address
-    pub put_nowhere : (status : ℕ) (log : Option (List Entry)) → status ≡ 1 → Transfers (string_bytes arguments.target.address) sent_line status old new → PutRan bytes_of arguments status log log old new
-    put_nowhere status log one transfers = record { transfers = transfers; sent = λ e. absurd (omega (arith, e, one)); unreadable = λ e. absurd (omega (arith, e, one)); ended = λ other. absurd (other one); nowhere = λ e. refl }
+    pub put_nowhere : (status : ℕ) (log : Option (List Entry)) → status ≡ 1 →
+        Transfers (string_bytes arguments.target.address) sent_line status old new →
+        PutRan bytes_of arguments status log log old new
+    put_nowhere status log one transfers =
+        record {
+          transfers = transfers;
+          sent = λ e. absurd (omega (arith, e, one));
+          unreadable =
+              λ e. absurd (omega (arith, e, one));
+          ended = λ other. absurd (other one);
+          nowhere = λ e. refl;
+        }

@@ -9,17 +9,60 @@ use Rattle.tws_tool.specs.Faults.{IsReadOut, answer_status, status_of}
 use Rattle.tws_tool.specs.Lines.{Says, Transfers, Unsaid}
 use Rattle.tws_tool.specs.Written.{Ran, Writes, WriteFails}
 
-pub ran : (text : File → List ℕ) (r : Result (Unit {0}) ToolFault) (known left old new : Option (List ℕ)) → OnOk r (IsAtEnd left) → IfErr r (IsReadOut left) → OnOk r (Writes text known old new) → IfErr r (WriteFails text known old new) → Ran text (answer_status r) known left old new
-ran text (Ok done) known left old new end out writes fails = record { done = λ e. (end, writes); failed = λ e. absurd (omega (arith, e)); unreadable = λ e. absurd (omega (arith, e)); never = λ e. omega (arith, e); few = omega arith }
-ran text (Err Read) known left old new end out writes fails = record { done = λ e. absurd (omega (arith, e)); failed = λ e. inl fails; unreadable = λ e. absurd (omega (arith, e)); never = λ e. omega (arith, e); few = omega arith }
-ran text (Err Write) known left old new end out writes fails = record { done = λ e. absurd (omega (arith, e)); failed = λ e. inr fails; unreadable = λ e. absurd (omega (arith, e)); never = λ e. omega (arith, e); few = omega arith }
-ran text (Err (Unreadable index fault)) known left old new end out writes fails = record { done = λ e. absurd (omega (arith, e)); failed = λ e. absurd (omega (arith, e)); unreadable = λ e. (out, fails.0, (fault, fails.1.1)); never = λ e. omega (arith, e); few = omega arith }
-ran text (Err Memory) known left old new end out writes fails = record { done = λ e. absurd (omega (arith, e)); failed = λ e. fails; unreadable = λ e. absurd (omega (arith, e)); never = λ e. omega (arith, e); few = omega arith }
+-- what a command of one input did, by the exit status
+pub ran : (text : File → List ℕ) (r : Result (Unit {0}) ToolFault) (known left old new : Option (List ℕ)) →
+    OnOk r (IsAtEnd left) → IfErr r (IsReadOut left) → OnOk r (Writes text known old new) →
+    IfErr r (WriteFails text known old new) → Ran text (answer_status r) known left old new
+ran text (Ok done) known left old new end out writes fails =
+    record {
+      done = λ e. (end, writes);
+      failed = λ e. absurd (omega (arith, e));
+      unreadable = λ e. absurd (omega (arith, e));
+      never = λ e. omega (arith, e);
+      few = omega arith;
+    }
+ran text (Err Read) known left old new end out writes fails =
+    record {
+      done = λ e. absurd (omega (arith, e));
+      failed = λ e. inl fails;
+      unreadable = λ e. absurd (omega (arith, e));
+      never =
+          λ e. omega (arith, e);
+      few = omega arith;
+    }
+ran text (Err Write) known left old new end out writes fails =
+    record {
+      done = λ e. absurd (omega (arith, e));
+      failed = λ e. inr fails;
+      unreadable = λ e. absurd (omega (arith, e));
+      never =
+          λ e. omega (arith, e);
+      few = omega arith;
+    }
+ran text (Err (Unreadable index fault)) known left old new end out writes fails =
+    record {
+      done = λ e. absurd (omega (arith, e));
+      failed = λ e. absurd (omega (arith, e));
+      unreadable =
+          λ e. (out, fails.0, (fault, fails.1.1));
+      never = λ e. omega (arith, e);
+      few = omega arith;
+    }
+ran text (Err Memory) known left old new end out writes fails =
+    record {
+      done = λ e. absurd (omega (arith, e));
+      failed = λ e. fails;
+      unreadable = λ e. absurd (omega (arith, e));
+      never =
+          λ e. omega (arith, e);
+      few = omega arith;
+    }
 ran text (Err Socket) known left old new end out writes fails = absurd fails
 ran text (Err (Transfer why)) known left old new end out writes fails = absurd fails
 
 -- ---- by the exit status
 
+-- no fault has status 0
 status_some : (e : ToolFault) → status_of e ≢ 0
 status_some Read = λ is. omega (arith, is)
 status_some Write = λ is. omega (arith, is)
@@ -28,6 +71,7 @@ status_some Memory = λ is. omega (arith, is)
 status_some Socket = λ is. omega (arith, is)
 status_some (Transfer why) = λ is. omega (arith, is)
 
+-- no fault has status 1, that of a usage error
 status_no_usage : (e : ToolFault) → status_of e ≢ 1
 status_no_usage Read = λ is. omega (arith, is)
 status_no_usage Write = λ is. omega (arith, is)
@@ -41,6 +85,7 @@ pub at_zero : {P : Type 0} (r : Result (Unit {0}) ToolFault) → OnOk r P → an
 at_zero (Ok done) p zero = p
 at_zero (Err e) p zero = absurd (status_some e zero)
 
+-- no result of a command has the status of a usage error
 pub no_usage : (r : Result (Unit {0}) ToolFault) → answer_status r ≢ 1
 no_usage (Ok done) = λ is. omega (arith, is)
 no_usage (Err e) = status_no_usage e
@@ -57,21 +102,89 @@ map_err (Err e) f p = f e p
 pub line_some : (line text : List ℕ) → text ≡ line ++ 10 ∷ [] → text ≢ []
 line_some line text is = λ none. let bad : length text ≡ 0 = ap length none in omega (arith, bad, ap length is, length-append line (10 ∷ []))
 
+-- a command none of whose faults blames an input has not status 3
 pub none_blamed : (r : Result (Unit {0}) ToolFault) → IfErr r (λ e. status_of e ≢ 3) → answer_status r ≢ 3
 none_blamed (Ok done) other = λ e. omega (arith, e)
 none_blamed (Err e) other = other
 
 -- ---- transfers
 
+-- the output before and after
 module _ (old new : Option (List ℕ)) where
-  pub transfers : (address : List ℕ) (text : ℕ → List ℕ) (host : ℕ) (r : Result (Unit {0}) ToolFault) → IsAddress address host → OnOk r (Says text old new) → IfErr r (Unsaid text old new) → Transfers address text (answer_status r) old new
-  transfers address text host (Ok done) is says unsaid = record { done = λ e. says; failed = λ e. absurd (omega (arith, e)); other = λ a b. absurd (a refl); bad = (λ e. absurd (omega (arith, e)), λ none. absurd (none host is)); few = omega arith }
-  transfers address text host (Err Read) is says unsaid = record { done = λ e. absurd (omega (arith, e)); failed = λ e. inl unsaid; other = λ a b. unsaid; bad = (λ e. absurd (omega (arith, e)), λ none. absurd (none host is)); few = omega arith }
-  transfers address text host (Err Write) is says unsaid = record { done = λ e. absurd (omega (arith, e)); failed = λ e. unsaid; other = λ a b. absurd (b refl); bad = (λ e. absurd (omega (arith, e)), λ none. absurd (none host is)); few = omega arith }
-  transfers address text host (Err (Unreadable index fault)) is says unsaid = record { done = λ e. absurd (omega (arith, e)); failed = λ e. absurd (omega (arith, e)); other = λ a b. unsaid; bad = (λ e. absurd (omega (arith, e)), λ none. absurd (none host is)); few = omega arith }
-  transfers address text host (Err Memory) is says unsaid = record { done = λ e. absurd (omega (arith, e)); failed = λ e. unsaid; other = λ a b. absurd (b refl); bad = (λ e. absurd (omega (arith, e)), λ none. absurd (none host is)); few = omega arith }
-  transfers address text host (Err Socket) is says unsaid = record { done = λ e. absurd (omega (arith, e)); failed = λ e. inl unsaid; other = λ a b. unsaid; bad = (λ e. absurd (omega (arith, e)), λ none. absurd (none host is)); few = omega arith }
-  transfers address text host (Err (Transfer why)) is says unsaid = record { done = λ e. absurd (omega (arith, e)); failed = λ e. absurd (omega (arith, e)); other = λ a b. unsaid; bad = (λ e. absurd (omega (arith, e)), λ none. absurd (none host is)); few = omega arith }
+  -- what a transfer printed, by the exit status, if the address is one
+  pub transfers : (address : List ℕ) (text : ℕ → List ℕ) (host : ℕ) (r : Result (Unit {0}) ToolFault) → IsAddress address host →
+      OnOk r (Says text old new) → IfErr r (Unsaid text old new) → Transfers address text (answer_status r) old new
+  transfers address text host (Ok done) is says unsaid =
+      record {
+        done = λ e. says;
+        failed = λ e. absurd (omega (arith, e));
+        other = λ a b. absurd (a refl);
+        bad =
+            (λ e. absurd (omega (arith, e)), λ none. absurd (none host is));
+        few = omega arith;
+      }
+  transfers address text host (Err Read) is says unsaid =
+      record {
+        done = λ e. absurd (omega (arith, e));
+        failed = λ e. inl unsaid;
+        other = λ a b. unsaid;
+        bad =
+            (λ e. absurd (omega (arith, e)), λ none. absurd (none host is));
+        few = omega arith;
+      }
+  transfers address text host (Err Write) is says unsaid =
+      record {
+        done = λ e. absurd (omega (arith, e));
+        failed = λ e. unsaid;
+        other = λ a b. absurd (b refl);
+        bad =
+            (λ e. absurd (omega (arith, e)), λ none. absurd (none host is));
+        few = omega arith;
+      }
+  transfers address text host (Err (Unreadable index fault)) is says unsaid =
+      record {
+        done = λ e. absurd (omega (arith, e));
+        failed = λ e. absurd (omega (arith, e));
+        other = λ a b. unsaid;
+        bad =
+            (λ e. absurd (omega (arith, e)), λ none. absurd (none host is));
+        few = omega arith;
+      }
+  transfers address text host (Err Memory) is says unsaid =
+      record {
+        done = λ e. absurd (omega (arith, e));
+        failed = λ e. unsaid;
+        other = λ a b. absurd (b refl);
+        bad =
+            (λ e. absurd (omega (arith, e)), λ none. absurd (none host is));
+        few = omega arith;
+      }
+  transfers address text host (Err Socket) is says unsaid =
+      record {
+        done = λ e. absurd (omega (arith, e));
+        failed = λ e. inl unsaid;
+        other = λ a b. unsaid;
+        bad =
+            (λ e. absurd (omega (arith, e)), λ none. absurd (none host is));
+        few = omega arith;
+      }
+  transfers address text host (Err (Transfer why)) is says unsaid =
+      record {
+        done = λ e. absurd (omega (arith, e));
+        failed = λ e. absurd (omega (arith, e));
+        other = λ a b. unsaid;
+        bad =
+            (λ e. absurd (omega (arith, e)), λ none. absurd (none host is));
+        few = omega arith;
+      }
 
+  -- what a transfer printed if the address is none: nothing, at status 1
   pub no_address : (address : List ℕ) (text : ℕ → List ℕ) (status : ℕ) → status ≡ 1 → new ≡ old → ((host : ℕ) → IsAddress address host → ⊥) → Transfers address text status old new
-  no_address address text status one same none = record { done = λ e. absurd (omega (arith, e, one)); failed = λ e. absurd (omega (arith, e, one)); other = λ a b. same; bad = (λ e. none, λ n. one); few = omega (arith, one) }
+  no_address address text status one same none =
+      record {
+        done = λ e. absurd (omega (arith, e, one));
+        failed = λ e. absurd (omega (arith, e, one));
+        other = λ a b. same;
+        bad = (λ e. none, λ n. one);
+        few = omega (arith, one);
+      }

@@ -5,6 +5,7 @@ use Rattle.tws_file.specs.declared.file_fault.FileFault.{FileFault}
 use Rattle.tws_file.specs.declared.file_fault.FileFault.TheVariants.{ShortHeader, BadSignature, BadRuleset, ShortRecord, BadSize, MoveCut, Memory}
 use Rattle.tws_file.specs.Reader.{Reading, HasTaken, TakesPiece}
 
+-- one piece is taken, and then another
 pub Consumes-then : (old mid new : Option (List ℕ)) (x y : List ℕ) → Consumes old mid x → Consumes mid new y → Consumes old new (x ++ y)
 Consumes-then None mid new x y p q = tt
 Consumes-then (Some xs) None new x y p q = absurd p

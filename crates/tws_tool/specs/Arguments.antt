@@ -1,5 +1,5 @@
 -- The arguments that several commands share, as `clap` reads them, and what was given for an argument.
-use Rattle.std.specs.Prelude.{◌≡◌, ◌≤◌, ℕ, Bool, true, false, List, [], ◌∷◌, map, Option, Some, None, string_bytes, codes}
+use Rattle.std.specs.Prelude.{◌≡◌, ◌≢◌, ◌≤◌, ℕ, Bool, true, false, List, [], ◌∷◌, map, Option, Some, None, string_bytes, codes}
 use Rattle.std.specs.Borrow.{Bor}
 use Rattle.std.specs.Str.Parse.{IsNumeral, digits_value, without_leading_plus}
 use Rattle.clap.specs.Words.{Row, Rule, Text, first_of, new_rule, one_of}
@@ -7,6 +7,8 @@ use Rattle.clap.specs.declared.builder.value_parser.ValueParser.TheVariants as p
 use Rattle.tws_file.specs.declared.«ruleset».Ruleset.{Ruleset}
 use Rattle.tws_file.specs.Listing.{ruleset_name}
 use Rattle.tws_tool.specs.declared.limits.TheConstants.{PORT, MAX_PORT}
+use Rattle.tws_tool.specs.declared.source.Source.{Source}
+use Rattle.tws_tool.specs.declared.source.Source.TheVariants.{Standard, Named}
 use Rattle.tws_tool.specs.declared.target.Target.{Target}
 
 -- ---- the arguments
@@ -29,6 +31,10 @@ address_rule = record (new_rule (codes "address")) { value_names = 1; required =
 -- `FILE`
 abbrev pub file_rule : Rule
 file_rule = record (new_rule (codes "file")) { value_names = 1; required = true }
+
+-- `[FILE]`
+abbrev pub source_rule : Rule
+source_rule = record (new_rule (codes "file")) { value_names = 1 }
 
 -- an option with a number from 1 to `most`, and what the number is if none is given
 pub record NumberOption : Type 0 where
@@ -74,6 +80,16 @@ HasNumber option rows n = IsNumberOr option.default option.most (first_of option
 
 abbrev pub HasRuleset : List Row → Ruleset → Type 0
 HasRuleset rows rules = first_of (codes "ruleset") rows ≡ Some (ruleset_name rules)
+
+-- standard input if no file was named, or `-`
+abbrev pub IsSource : Option Text → Source → Type 0
+IsSource None Standard = Unit {0}
+IsSource None (Named file) = ⊥
+IsSource (Some name) Standard = name ≡ codes "-"
+IsSource (Some name) (Named file) = (name ≡ string_bytes file) × (name ≢ codes "-")
+
+abbrev pub HasSource : List Row → Source → Type 0
+HasSource rows source = IsSource (first_of source_rule.id rows) source
 
 -- what was found for the arguments that `put` and `get` share
 pub record HasTarget (rows : List Row) (target : Target) : Type 0 where

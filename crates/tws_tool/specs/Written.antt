@@ -1,10 +1,12 @@
 -- What a command of one input writes: a text of the file that was read, such as its listing.
-use Rattle.std.specs.Prelude.{◌≡◌, ◌≢◌, ◌⊎◌, ℕ, ◌≤◌, List, Option, IfSome}
+use Rattle.std.specs.Prelude.{◌≡◌, ◌≢◌, ◌⊎◌, ℕ, ◌≤◌, List, Option, IfSome, string_bytes}
 use Rattle.std.specs.Io.KnownBytes.{Appends, IsAtEnd}
 use Rattle.tws_file.specs.Text.{File, IsText}
 use Rattle.byte_output.specs.Output.{AppendsPrefix}
 use Rattle.tws_tool.specs.declared.tool_fault.ToolFault.{ToolFault}
 use Rattle.tws_tool.specs.declared.tool_fault.ToolFault.TheVariants.{Read, Write, Unreadable, Memory, Socket, Transfer}
+use Rattle.tws_tool.specs.declared.source.Source.{Source}
+use Rattle.tws_tool.specs.declared.source.Source.TheVariants.{Standard, Named}
 use Rattle.tws_tool.specs.Faults.{ReadFails}
 use Rattle.tws_tool.specs.Inputs.{IsUnreadable}
 
@@ -32,3 +34,17 @@ pub record Ran (text : File → List ℕ) (status : ℕ) (known left old new : O
   pub unreadable : status ≡ 3 → IsAtEnd left × (new ≡ old) × IsUnreadable known
   pub never : status ≢ 1
   pub few : status ≤ 3
+
+-- the same over a file that is opened by its name
+pub record FileRan (text : File → List ℕ) (status : ℕ) (known old new : Option (List ℕ)) : Type 0 where
+  pub done : status ≡ 0 → Writes text known old new
+  pub failed : status ≡ 2 → (new ≡ old) ⊎ WritesPrefix text known old new
+  pub unreadable : status ≡ 3 → (new ≡ old) × IsUnreadable known
+  pub never : status ≢ 1
+  pub few : status ≤ 3
+
+-- A command with one input, by where the input is read from. Given are what is known of the bytes of the file with each
+-- name, and what holds if standard input was not read.
+abbrev pub RanFrom : Source → (bytes_of : List ℕ → Option (List ℕ)) → (Unread : Type 0) → (File → List ℕ) → (status : ℕ) → (known left old new : Option (List ℕ)) → Type 0
+RanFrom Standard bytes_of Unread text status known left old new = Ran text status known left old new
+RanFrom (Named name) bytes_of Unread text status known left old new = Unread × FileRan text status (bytes_of (string_bytes name)) old new

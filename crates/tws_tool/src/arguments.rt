@@ -4,9 +4,10 @@ ghost use Rattle.std.specs.Prelude.{◌≡◌, ◌≢◌, ℕ, false, Some, None
 ghost use Rattle.clap.specs.Matches.{found_of};
 ghost use Rattle.clap.specs.Words.{rows_of, rule_of, first_of};
 ghost use Rattle.tws_file.specs.Listing.{ruleset_name};
-ghost use Rattle.tws_tool.specs.Arguments.{AreRulesetNames, Answers, HasNumber, HasRuleset, HasTarget, IsNumberUpTo, IsNumberOr, address_rule, file_rule, number_rule, port_option, ruleset_rule};
+ghost use Rattle.tws_tool.specs.Arguments.{AreRulesetNames, Answers, HasNumber, HasRuleset, HasSource, HasTarget, IsNumberUpTo, IsNumberOr, address_rule, file_rule, number_rule, port_option, ruleset_rule, source_rule};
 
 use crate::limits::{MAX_PORT, PORT};
+use crate::source::Source;
 use crate::target::Target;
 use clap::builder::ValueParser;
 use clap::{Arg, ArgMatches};
@@ -55,6 +56,15 @@ pub(crate) fn file_argument<'a>(alloc: Global, help: &'a str) -> Arg<'a>
         .help(help)
 }
 
+pub(crate) fn source_argument<'a>(alloc: Global) -> Arg<'a>
+    ensures rule { rule_of result ≡ source_rule }
+    ensures local { result.global ≡ false }
+{
+    Arg::new(alloc, "file").value_name("FILE").help(
+        "The solution file; standard input if none is given, or if it is -",
+    )
+}
+
 pub(crate) fn port_argument<'a>(alloc: Global) -> Arg<'a>
     ensures rule { rule_of result ≡ number_rule port_option }
     ensures local { result.global ≡ false }
@@ -87,6 +97,17 @@ pub(crate) fn string_given(
     match text_given(words, name) {
         Some(text) => Ok(Some(String::from_str(alloc, text)?)),
         None => Ok(None),
+    }
+}
+
+/// Where the one input is to be read from.
+pub(crate) fn source_given(alloc: Global, words: &ArgMatches) -> Result<Source, AllocError>
+    ensures { IfOk result (HasSource (rows_of (found_of words.now))) }
+{
+    match text_given(words, "file") {
+        None => Ok(Source::Standard),
+        Some("-") => Ok(Source::Standard),
+        Some(name) => Ok(Source::Named(String::from_str(alloc, name)?)),
     }
 }
 

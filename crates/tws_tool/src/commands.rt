@@ -5,7 +5,7 @@ ghost use Rattle.std.specs.Prelude.{◌≡◌, ◌≤◌, Ok, IfOk};
 ghost use Rattle.clap.specs.Matches.{found_of};
 ghost use Rattle.clap.specs.Words.{app_of, rows_of};
 ghost use Rattle.tws_tool.specs.Arguments.{Answers};
-ghost use Rattle.tws_tool.specs.Commands.{AsksFor, JobRuns, files_app, tws_app};
+ghost use Rattle.tws_tool.specs.Commands.{AsksFor, JobRuns, files_app, one_file_app, tws_app};
 
 mod best;
 mod get;
@@ -15,11 +15,11 @@ mod serve;
 mod show;
 
 use crate::file_system::FileSystem;
-use archive_turns::Wire;
+use archive_turns::ReadyWire;
 pub use best::{BestArguments, run_best};
 use clap::{ArgMatches, Command};
 pub use get::{GetArguments, get_file};
-pub use pack::run_pack;
+pub use pack::{PackArguments, run_pack};
 pub use put::{PutArguments, put_file};
 pub use serve::{Passes, ServeArguments, serve_archive};
 pub use show::{ShowArguments, run_show};
@@ -34,10 +34,10 @@ use std::time::Clock;
 /// What the program is asked to do.
 #[derive(Drop)]
 pub enum Job {
-    /// To list the solution file on standard input.
+    /// To list a solution file.
     Show(ShowArguments),
-    /// To write the solution file on standard input with its moves in the fewest bytes.
-    Pack,
+    /// To write a solution file with its moves in the fewest bytes.
+    Pack(PackArguments),
     /// To write the collection of the best solutions of several files.
     Best(BestArguments),
     /// To serve the archive.
@@ -48,18 +48,25 @@ pub enum Job {
     Get(GetArguments),
 }
 
-// The program with only its commands on files.
-fn file_commands<'a>(alloc: Global, names: &'a [&'a str]) -> Result<Command<'a>, AllocError>
-    ensures { IfOk result (λ command. app_of command ≡ files_app names.entry) }
+// The program with only its commands on one file.
+fn one_file_commands<'a>(alloc: Global) -> Result<Command<'a>, AllocError>
+    ensures { IfOk result (λ command. app_of command ≡ one_file_app) }
 {
     let show = show::command(alloc)?;
     let command = Command::new(alloc, "tws")
         .about("Lists, packs and collects Tile World solution files, and archives them by TFTP")
         .subcommand_required(true)
-        .subcommand(show)?
-        .subcommand(pack::command(alloc))?;
+        .subcommand(show)?;
+    let pack = pack::command(alloc)?;
+    command.subcommand(pack)
+}
+
+// The program with only its commands on files.
+fn file_commands<'a>(alloc: Global, names: &'a [&'a str]) -> Result<Command<'a>, AllocError>
+    ensures { IfOk result (λ command. app_of command ≡ files_app names.entry) }
+{
     let best = best::command(alloc, names)?;
-    command.subcommand(best)
+    one_file_commands(alloc)?.subcommand(best)
 }
 
 /// The command line of the program, with these names of the rulesets.
@@ -83,8 +90,8 @@ pub(crate) fn asked(
     ensures { IfOk result (Answers (AsksFor (name.now, rows_of (found_of words.now)))) }
 {
     match name {
-        "show" => Ok(Some(Job::Show(show::asked(words)))),
-        "pack" => Ok(Some(Job::Pack)),
+        "show" => Ok(Some(Job::Show(show::asked(alloc, words)?))),
+        "pack" => Ok(Some(Job::Pack(pack::asked(alloc, words)?))),
         "best" => Ok(best::asked(alloc, words)?.map(Job::Best)),
         "serve" => Ok(serve::asked(alloc, words)?.map(Job::Serve)),
         "put" => Ok(put::asked(alloc, words)?.map(Job::Put)),
@@ -96,7 +103,7 @@ pub(crate) fn asked(
 /// Does a job, and returns the status.
 pub(crate) fn run_job<
     S: FileSystem,
-    N: Wire,
+    N: ReadyWire,
     P: Files<File = File> + Net + Clock + RandomSource + AllocGlobal + Copy,
     R: Read,
     W: Write,
@@ -118,8 +125,8 @@ pub(crate) fn run_job<
     ensures silent { result ≡ 0 → errors.new ≡ errors.old }
 {
     match job {
-        Job::Show(arguments) => show::run(alloc, arguments, input, out, errors),
-        Job::Pack => pack::run(alloc, input, out, errors),
+        Job::Show(arguments) => show::run(system, alloc, arguments, input, out, errors),
+        Job::Pack(arguments) => pack::run(system, alloc, arguments, input, out, errors),
         Job::Best(arguments) => best::run(system, alloc, arguments, out, errors),
         Job::Serve(arguments) => serve::run(rt, alloc, arguments, out, errors),
         Job::Put(arguments) => put::run(system, wire, alloc, arguments, out, errors),

@@ -32,6 +32,8 @@ mod limits;
 mod line;
 mod program;
 mod reporting;
+mod served_keeper;
+mod source;
 mod status;
 mod target;
 mod tool_fault;
@@ -39,18 +41,20 @@ mod tool_fault;
 pub use address::Address;
 pub use archive_host::{DirKeeper, HostFolder, OpenFault, UdpWire};
 pub use archive_turns::{
-    Entry, GetRun, MemoryWire, PutRun, RunFault, Server, Wire, WireFault, run_get, run_put,
-    serve_rounds, serve_turns,
+    Entry, GetRun, MemoryWire, PutRun, ReadyWire, RunFault, Server, Wire, WireFault, get_in_rounds,
+    put_in_rounds, run_get, run_put, serve_rounds, serve_turns,
 };
 pub use commands::{
-    BestArguments, GetArguments, Job, Passes, PutArguments, ServeArguments, ShowArguments,
-    get_file, put_file, run_best, run_pack, run_show, serve_archive,
+    BestArguments, GetArguments, Job, PackArguments, Passes, PutArguments, ServeArguments,
+    ShowArguments, get_file, put_file, run_best, run_pack, run_show, serve_archive,
 };
 pub use file_system::FileSystem;
 pub use input::INPUT_READS;
 pub use job::{JobFault, job_of};
 pub use laws::{limit_values, words_of_commands};
-pub use limits::{PER_HOST, PORT, TURNS};
+pub use limits::{PER_HOST, PORT, ROUNDS, TURNS};
 pub use program::{run_words, run_words_with};
+pub use served_keeper::ServedKeeper;
+pub use source::Source;
 pub use target::Target;
 pub use tool_fault::ToolFault;

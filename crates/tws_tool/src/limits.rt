@@ -4,9 +4,12 @@ pub const PORT: u16 = 6969;
 /// The greatest port.
 pub(crate) const MAX_PORT: u16 = 65535;
 
-/// The most turns that a server may be given, and that a client makes: with quiet turns of 5 ms, two months. A server
-/// that is given this many runs until it is stopped.
+/// The most turns that a server may be given: with quiet turns of 5 ms, two months. A server that is given this many runs
+/// until it is stopped.
 pub const TURNS: u64 = 1_000_000_000;
+
+/// The most rounds that a client makes, each of which waits a second at most.
+pub const ROUNDS: u64 = 1_000_000_000;
 
 /// How many transfers one host may have, if `serve` is not told otherwise: half of the places.
 pub const PER_HOST: u64 = 32;

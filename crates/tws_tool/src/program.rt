@@ -13,7 +13,7 @@ use crate::job::{JobFault, job_of};
 use crate::reporting::report;
 use crate::tool_fault::ToolFault;
 use archive_host::UdpWire;
-use archive_turns::Wire;
+use archive_turns::ReadyWire;
 use std::alloc::Global;
 use std::fs::File;
 use std::io::{Read, Write};
@@ -25,7 +25,7 @@ use std::time::Clock;
 // Does a job, or reports why there is none, and returns the status.
 fn run_answer<
     S: FileSystem,
-    N: Wire,
+    N: ReadyWire,
     P: Files<File = File> + Net + Clock + RandomSource + AllocGlobal + Copy,
     R: Read,
     W: Write,
@@ -62,7 +62,7 @@ fn run_answer<
 /// 4 for a failed transfer.
 pub fn run_words_with<
     S: FileSystem,
-    N: Wire,
+    N: ReadyWire,
     P: Files<File = File> + Net + Clock + RandomSource + AllocGlobal + Copy,
     R: Read,
     W: Write,

@@ -3,20 +3,18 @@
 ghost use Rattle.std.specs.Prelude.{◌≡◌, ◌≢◌, ◌≤◌, ℕ, List, None, Some, true, length};
 ghost use Rattle.std.specs.Map.{remove_entry};
 ghost use Rattle.tftp_packet.specs.Packet.{ack, data_block, error, read, write};
-ghost use Rattle.tws_file.specs.Reader.{IsAnswer};
 ghost use Rattle.archive_table.specs.Table.{empty_step, transfer_at, IsTable, closes, table_datagram, grant_of, all, unkept, at_port, with_live, Merges, refusal_dgram};
 ghost use Rattle.archive_table.specs.Steps.{packet_live, file_done, reply_grant};
 ghost use Rattle.archive_table.specs.Keeper.{StepKeeps};
 
 use crate::end::End;
-use crate::incoming::Whole;
 use crate::keeper::Keeper;
 use crate::keeping::merge_file;
 use crate::step::Step;
 use crate::table::Table;
 use crate::taken::Taken;
 use std::alloc::Allocator;
-use tftp_ends::SendState;
+use tftp_ends::{Received, SendState};
 use tftp_packet::{Dgram, Endpoint, Packet, Refusal, decode};
 
 // The functions that make a step. It is created once and written in place, since each of them would copy it to return
@@ -81,22 +79,20 @@ impl<A: Allocator + Copy> Table<A> {
         keeper: &mut K,
         port: u16,
         peer: Endpoint,
-        whole: Whole<A>,
+        file: Received<A>,
         ack: Option<Dgram>,
         step: &mut Step<A>,
     )
         requires acks { reply_grant ack ≡ all }
-        requires read { IsAnswer whole.file whole.read }
         requires new { step.old ≡ empty_step }
-        ensures server { self.new ≡ (file_done (grant_of step.new.out) self.new.maps port peer whole.file ack self.old).server }
-        ensures step { step.new ≡ (file_done (grant_of step.new.out) self.new.maps port peer whole.file ack self.old).step }
+        ensures server { self.new ≡ (file_done (grant_of step.new.out) self.new.maps port peer file ack self.old).server }
+        ensures step { step.new ≡ (file_done (grant_of step.new.out) self.new.maps port peer file ack self.old).step }
         ensures merges { Merges step.new.taken self.old.maps self.new.maps }
-        ensures keeps { StepKeeps (grant_of step.new.out) (Some (record { peer = peer; file = whole.file })) self.old.maps self.new.maps (K.log keeper.old) (K.log keeper.new) }
+        ensures keeps { StepKeeps (grant_of step.new.out) (Some (record { peer = peer; file = file })) self.old.maps self.new.maps (K.log keeper.old) (K.log keeper.new) }
         ensures untouched { grant_of step.new.out ≢ unkept → self.new.maps ≡ self.old.maps → keeper.new ≡ keeper.old }
         ensures fits { IsTable self.new }
     {
-        let Whole { file, read } = whole;
-        match merge_file(&mut self.lynx, &mut self.ms, keeper, &read) {
+        match merge_file(self.alloc, &mut self.lynx, &mut self.ms, keeper, &file) {
             Ok(()) => {
                 step.set_out(port, peer, ack);
                 step.taken = Some(Taken { peer, file });
@@ -139,9 +135,9 @@ impl<A: Allocator + Copy> Table<A> {
         let came = incoming.on_data(n, body);
         match came {
             Err(fault) => self.fail(port, peer, fault.refusal(), step),
-            Ok((ack, whole)) => match whole {
+            Ok((ack, file)) => match file {
                 None => step.set_out(port, peer, ack),
-                Some(whole) => self.on_file(keeper, port, peer, whole, ack, step),
+                Some(file) => self.on_file(keeper, port, peer, file, ack, step),
             },
         }
     }

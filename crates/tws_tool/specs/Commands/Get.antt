@@ -8,9 +8,10 @@ use Rattle.tftp_packet.specs.declared.endpoint.Endpoint.{Endpoint}
 use Rattle.archive_turns.specs.declared.run_fault.RunFault.{RunFault}
 use Rattle.archive_turns.specs.declared.run_fault.RunFault.TheVariants as run
 use Rattle.archive_turns.specs.Wire.{Entry}
-use Rattle.archive_turns.specs.Run.{RunsGet}
+use Rattle.archive_turns.specs.Run.{Run}
+use Rattle.archive_turns.specs.Rounds.{GetsInRounds, MakesDally}
 use Rattle.tws_tool.specs.declared.commands.get.GetArguments.{GetArguments}
-use Rattle.tws_tool.specs.declared.limits.TheConstants.{TURNS}
+use Rattle.tws_tool.specs.declared.limits.TheConstants.{ROUNDS}
 use Rattle.tws_tool.specs.declared.tool_fault.ToolFault.{ToolFault}
 use Rattle.tws_tool.specs.declared.tool_fault.ToolFault.TheVariants.{Read, Write, Unreadable, Memory, Socket, Transfer}
 use Rattle.tws_tool.specs.Address.{IsAddress}
@@ -32,20 +33,28 @@ pub record AsksToGet (rows : List Row) (arguments : GetArguments) : Type 0 where
 
 -- ---- what it does
 
--- the collection was fetched into the file, and the line that reports it was written
+-- the collection was fetched into the file, and then the client dallied
+pub record IsFetched (server : Endpoint) (rules : Ruleset) (len : ℕ) (before after : Option (List Entry)) (written now : Option (List ℕ)) : Type 0 where
+  pub run : Run
+  pub last : Run
+  pub mid : Option (List Entry)
+  pub got : GetsInRounds server rules ROUNDS (Ok (len, run)) before mid written now
+  pub dallied : MakesDally ROUNDS run last mid after
+
+-- it was fetched, and the line that reports it was written
 pub record Gets (server : Endpoint) (rules : Ruleset) (before after : Option (List Entry)) (written now old new : Option (List ℕ)) : Type 0 where
   pub len : ℕ
-  pub got : RunsGet server rules TURNS (Ok len) before after written now
+  pub got : IsFetched server rules len before after written now
   pub said : Appends old new (got_line len)
 
 -- a get that failed, before anything was printed
 abbrev pub GetRuns : (server : Endpoint) (rules : Ruleset) (before after : Option (List Entry)) (written now old new : Option (List ℕ)) → RunFault → Type 0
-GetRuns server rules before after written now old new why = (new ≡ old) × RunsGet server rules TURNS (Err why) before after written now
+GetRuns server rules before after written now old new why = (new ≡ old) × GetsInRounds server rules ROUNDS (Err why) before after written now
 
 -- a get that was done but not reported: the line was not written whole
 pub record GetUnsaid (server : Endpoint) (rules : Ruleset) (before after : Option (List Entry)) (written now : Option (List ℕ)) (Left : List ℕ → Type 0) : Type 0 where
   pub len : ℕ
-  pub got : RunsGet server rules TURNS (Ok len) before after written now
+  pub got : IsFetched server rules len before after written now
   pub left : Left (got_line len)
 
 abbrev pub GetFails : (server : Endpoint) (rules : Ruleset) (before after : Option (List Entry)) (written now old new : Option (List ℕ)) → ToolFault → Type 0

@@ -1,17 +1,19 @@
 -- The command `put`: what it does over any wire, any file and any output.
-use Rattle.std.specs.Prelude.{◌≡◌, ◌≢◌, ◌⊎◌, ℕ, List, length, Option, IfSome, Result, Ok, Err, OnOk, IfErr, string_bytes, codes}
-use Rattle.std.specs.Io.KnownBytes.{Appends}
+use Rattle.std.specs.Prelude.{◌≡◌, ◌≢◌, ◌⊎◌, ℕ, ◌<◌, ◌≤◌, List, length, Option, IfSome, Result, Ok, Err, OnOk, IfErr, string_bytes, codes}
+use Rattle.std.specs.Io.KnownBytes.{Appends, Consumes}
 use Rattle.clap.specs.Words.{App, Row, Text, new_app, with_rule}
 use Rattle.byte_output.specs.Output.{AppendsPrefix}
 use Rattle.tws_file.specs.Text.{IsReadable}
 use Rattle.tws_file.specs.Fault.{HasFileFault}
 use Rattle.tftp_packet.specs.declared.endpoint.Endpoint.{Endpoint}
+use Rattle.tftp_ends.specs.declared.limits.TheConstants.{MAX_FILE}
+use Rattle.archive_client.specs.declared.cause.Cause.TheVariants as cause
 use Rattle.archive_turns.specs.declared.run_fault.RunFault.{RunFault}
 use Rattle.archive_turns.specs.declared.run_fault.RunFault.TheVariants as run
 use Rattle.archive_turns.specs.Wire.{Entry}
-use Rattle.archive_turns.specs.Run.{RunsPut}
+use Rattle.archive_turns.specs.Rounds.{PutsInRounds}
 use Rattle.tws_tool.specs.declared.commands.put.PutArguments.{PutArguments}
-use Rattle.tws_tool.specs.declared.limits.TheConstants.{TURNS}
+use Rattle.tws_tool.specs.declared.limits.TheConstants.{ROUNDS}
 use Rattle.tws_tool.specs.declared.tool_fault.ToolFault.{ToolFault}
 use Rattle.tws_tool.specs.declared.tool_fault.ToolFault.TheVariants.{Read, Write, Unreadable, Memory, Socket, Transfer}
 use Rattle.tws_tool.specs.Address.{IsAddress}
@@ -33,16 +35,45 @@ AsksToPut rows arguments = HasTarget rows arguments.target
 
 -- ---- what it does
 
--- the whole input is these bytes, which are a file's text
+-- at most so many bytes of an input were read
+pub record ReadsAtMost (most : ℕ) (old new : Option (List ℕ)) : Type 0 where
+  pub bytes : List ℕ
+  pub consumed : Consumes old new bytes
+  pub few : length bytes ≤ most
+
+-- the bytes, if they are known, are more than a file may have
+abbrev pub IsLong : (known : Option (List ℕ)) → Type 0
+IsLong known = IfSome known (λ (bytes : List ℕ). MAX_FILE < length bytes)
+
+-- an input was not read to its end, perhaps because it is too long
+abbrev pub InputFails : (known : Option (List ℕ)) → ToolFault → Type 0
+InputFails known Read = Unit {0}
+InputFails known Write = ⊥
+InputFails known (Unreadable index fault) = ⊥
+InputFails known Memory = Unit {0}
+InputFails known Socket = ⊥
+InputFails known (Transfer why) = (why ≡ cause.TooLong) × IsLong known
+
+-- it is not a file's text either
+abbrev pub WholeFails : (known : Option (List ℕ)) → ToolFault → Type 0
+WholeFails known Read = Unit {0}
+WholeFails known Write = ⊥
+WholeFails known (Unreadable index fault) = (index ≡ 0) × IfSome known (λ (bytes : List ℕ). HasFileFault bytes fault)
+WholeFails known Memory = Unit {0}
+WholeFails known Socket = ⊥
+WholeFails known (Transfer why) = (why ≡ cause.TooLong) × IsLong known
+
+-- the whole input is these bytes, which are the text of a file that can be sent
 pub record IsWholeInput (known : Option (List ℕ)) (bytes : List ℕ) : Type 0 where
   pub known_is : IfSome known (λ (xs : List ℕ). bytes ≡ xs)
   pub readable : IsReadable bytes
+  pub short : length bytes ≤ MAX_FILE
 
 -- a complete run of a put of these bytes, with this result
 pub record PutRuns (known : Option (List ℕ)) (server : Endpoint) (result : Result ℕ RunFault) (before after : Option (List Entry)) : Type 0 where
   pub bytes : List ℕ
   pub whole : IsWholeInput known bytes
-  pub runs : RunsPut server bytes TURNS result before after
+  pub runs : PutsInRounds server bytes ROUNDS result before after
 
 -- the whole input was put, and the line that reports it was written
 pub record Puts (known : Option (List ℕ)) (server : Endpoint) (before after : Option (List Entry)) (old new : Option (List ℕ)) : Type 0 where
@@ -56,14 +87,14 @@ pub record PutUnsaid (known : Option (List ℕ)) (server : Endpoint) (before aft
   pub put : PutRuns known server (Ok len) before after
   pub prefix : AppendsPrefix old new (sent_line len)
 
--- Nothing is sent over the wire if the input is not read to its end or is not a solution file.
+-- Nothing is sent over the wire if the input is too long, is not read to its end, or is not a solution file.
 abbrev pub PutFails : (known : Option (List ℕ)) (server : Endpoint) (before after : Option (List Entry)) (old new : Option (List ℕ)) → ToolFault → Type 0
 PutFails known server before after old new Read = (after ≡ before) × (new ≡ old)
 PutFails known server before after old new Write = PutUnsaid known server before after old new
 PutFails known server before after old new (Unreadable index fault) = (after ≡ before) × (new ≡ old) × (index ≡ 0) × IfSome known (λ (bytes : List ℕ). HasFileFault bytes fault)
 PutFails known server before after old new Memory = (new ≡ old) × ((after ≡ before) ⊎ PutRuns known server (Err run.Memory) before after ⊎ ((len : ℕ) × PutRuns known server (Ok len) before after))
 PutFails known server before after old new Socket = (new ≡ old) × PutRuns known server (Err run.Socket) before after
-PutFails known server before after old new (Transfer why) = (new ≡ old) × PutRuns known server (Err (run.Transfer why)) before after
+PutFails known server before after old new (Transfer why) = (new ≡ old) × (PutRuns known server (Err (run.Transfer why)) before after ⊎ ((why ≡ cause.TooLong) × (after ≡ before) × IsLong known))
 
 -- the whole input is a file's text, and the line with its length was written
 abbrev pub SaysSent : (known old new : Option (List ℕ)) → Type 0

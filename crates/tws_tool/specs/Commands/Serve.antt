@@ -1,10 +1,10 @@
 -- The command `serve`: what it does and prints.
-use Rattle.std.specs.Prelude.{◌≡◌, ◌⊎◌, ℕ, ◌<◌, ◌≤◌, ◌^◌, ◌-◌, List, [], Option, Some, None, option_map, string_bytes, codes}
+use Rattle.std.specs.Prelude.{◌≡◌, ◌⊎◌, ℕ, ◌<◌, ◌≤◌, ◌^◌, ◌-◌, Bool, true, false, List, [], Option, Some, None, option_map, string_bytes, codes}
 use Rattle.std.specs.Io.KnownBytes.{Appends}
 use Rattle.clap.specs.Words.{App, Row, Rule, Text, first_of, new_app, new_rule, with_rule}
 use Rattle.archive_table.specs.Keeper.{Keeping, HasLoaded}
 use Rattle.archive_table.specs.declared.limits.TheConstants.{LIVE}
-use Rattle.archive_turns.specs.Turn.{MakesRounds, MakesTurns, Server, fresh_server}
+use Rattle.archive_turns.specs.Turn.{IsRound, IsTurn, MakesMany, Pass, Server, fresh_server}
 use Rattle.archive_turns.specs.Wire.{Entry}
 use Rattle.tws_tool.specs.declared.commands.serve.Passes.{Passes}
 use Rattle.tws_tool.specs.declared.commands.serve.Passes.TheVariants.{Turns, Rounds}
@@ -61,10 +61,20 @@ pub record ServesUnsaid (port : ℕ) (Made : (taken : ℕ) → Type 0) (old new 
 abbrev pub ServeFails : (port : ℕ) (Unmade : Type 0) (Made : (taken : ℕ) → Type 0) (old new : Option (List ℕ)) → ToolFault → Type 0
 ServeFails port Unmade Made old new e = (Unmade × LineFails (serving_line port) old new e) ⊎ ServesUnsaid port Made old new e
 
--- so many turns or rounds were made, of which `taken` took a file
-abbrev pub MakesPasses : Passes → (old new : Server) (taken : ℕ) (before after : Option (List Entry)) (kept now : Option (List Keeping)) → Type 0
-MakesPasses (Turns turns) old new taken before after kept now = MakesTurns turns old new taken before after kept now
-MakesPasses (Rounds rounds) old new taken before after kept now = MakesRounds rounds old new taken before after kept now
+abbrev pub count_of : Passes → ℕ
+count_of (Turns turns) = turns
+count_of (Rounds rounds) = rounds
+
+abbrev pub pass_of : Passes → Pass
+pass_of (Turns turns) = IsTurn
+pass_of (Rounds rounds) = IsRound
+
+-- So many turns or rounds were made, of which `taken` took a file; fewer only if the keeper is not usable any more.
+pub record MakesPasses (passes : Passes) (usable : Bool) (old new : Server) (taken : ℕ) (before after : Option (List Entry)) (kept now : Option (List Keeping)) : Type 0 where
+  pub count : ℕ
+  pub most : count ≤ count_of passes
+  pub made : MakesMany (pass_of passes) count old new taken before after kept now
+  pub ends : (usable ≡ false) ⊎ (count ≡ count_of passes)
 
 -- what a server makes that is given this many turns: if they are the most there are, rounds, more of them than any server
 -- will live to make
@@ -73,14 +83,14 @@ ArePassesFor turns passes = ((turns < TURNS) × (passes ≡ Turns turns)) ⊎ ((
 
 -- a server was loaded, and made its turns or rounds, in which one host had at most so many transfers: what was kept before
 -- and after, and how many files were taken
-pub record ServerServed (port turns per_host : ℕ) (kept now : Option (List Keeping)) (taken : ℕ) : Type 0 where
+pub record ServerServed (port turns per_host : ℕ) (usable : Bool) (kept now : Option (List Keeping)) (taken : ℕ) : Type 0 where
   pub first : Server
   pub last : Server
   pub loaded : HasLoaded port kept first.table
   pub fresh : first ≡ fresh_server per_host first.table
   pub passes : Passes
   pub passes_are : ArePassesFor turns passes
-  pub made : MakesPasses passes first last taken None None kept now
+  pub made : MakesPasses passes usable first last taken None None kept now
 
 -- ---- by the exit status
 
@@ -88,12 +98,13 @@ pub record ServerServed (port turns per_host : ℕ) (kept now : Option (List Kee
 abbrev pub ServeStops : (port : ℕ) (Unmade : Type 0) (Made : (taken : ℕ) → Type 0) (old new : Option (List ℕ)) → ToolFault → Type 0
 ServeStops port Unmade Made old new e = ((e ≡ Socket) × (new ≡ old) × Unmade) ⊎ ServeFails port Unmade Made old new e
 
--- what `serve` on this port did, with this many turns and transfers of one host: what its keeper had and has
-pub record Served (port turns per_host status : ℕ) (kept now : Option (List Keeping)) (old new : Option (List ℕ)) : Type 0 where
-  pub done : status ≡ 0 → Serves port (ServerServed port turns per_host kept now) old new
-  pub failed : status ≡ 2 → ((new ≡ old) × (now ≡ kept)) ⊎ ((e : ToolFault) × ServeStops port (now ≡ kept) (ServerServed port turns per_host kept now) old new e)
+-- What `serve` on this port did, with this many turns and transfers of one host: what its keeper had and has, and whether it
+-- is usable. Once it is not, the server ends with status 2.
+pub record Served (port turns per_host status : ℕ) (usable : Bool) (kept now : Option (List Keeping)) (old new : Option (List ℕ)) : Type 0 where
+  pub done : status ≡ 0 → (usable ≡ true) × Serves port (ServerServed port turns per_host usable kept now) old new
+  pub failed : status ≡ 2 → ((new ≡ old) × (now ≡ kept)) ⊎ ((e : ToolFault) × ServeStops port (now ≡ kept) (ServerServed port turns per_host usable kept now) old new e) ⊎ ((usable ≡ false) × Serves port (ServerServed port turns per_host usable kept now) old new)
   pub few : (status ≡ 0) ⊎ (status ≡ 2)
 
 -- what it did; nothing is known of what its folder keeps
 abbrev pub ServeRan : ServeArguments → (status : ℕ) → (old new : Option (List ℕ)) → Type 0
-ServeRan arguments status old new = Served arguments.port arguments.turns arguments.per_host status None None old new
+ServeRan arguments status old new = (usable : Bool) × Served arguments.port arguments.turns arguments.per_host status usable None None old new

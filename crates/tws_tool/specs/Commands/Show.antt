@@ -4,8 +4,8 @@ use Rattle.clap.specs.Words.{App, Row, Rule, Text, new_app, new_rule, with_rule}
 use Rattle.clap.specs.declared.builder.action.ArgAction.TheVariants.{SetTrue}
 use Rattle.tws_file.specs.Listing.{listing_of}
 use Rattle.tws_tool.specs.declared.commands.show.ShowArguments.{ShowArguments}
-use Rattle.tws_tool.specs.Arguments.{HasFlag}
-use Rattle.tws_tool.specs.Written.{Ran}
+use Rattle.tws_tool.specs.Arguments.{HasFlag, HasSource, source_rule}
+use Rattle.tws_tool.specs.Written.{RanFrom}
 
 abbrev pub show_name : Text
 show_name = codes "show"
@@ -13,14 +13,16 @@ show_name = codes "show"
 abbrev pub moves_rule : Rule
 moves_rule = record (new_rule (codes "moves")) { long = Some (codes "moves"); action = Some SetTrue }
 
--- `show [--moves]`
+-- `show [--moves] [FILE]`
 abbrev pub show_app : App
-show_app = with_rule (new_app show_name) moves_rule
+show_app = with_rule (with_rule (new_app show_name) source_rule) moves_rule
 
 -- what was found for its arguments
-abbrev pub AsksToShow : List Row → ShowArguments → Type 0
-AsksToShow rows arguments = HasFlag moves_rule rows arguments.moves
+pub record AsksToShow (rows : List Row) (arguments : ShowArguments) : Type 0 where
+  pub source_is : HasSource rows arguments.source
+  pub moves_are : HasFlag moves_rule rows arguments.moves
 
--- what it did, by the exit status: what standard input had and has left, and the output before and after
-abbrev pub ShowRan : ShowArguments → (status : ℕ) → (known left old new : Option (List ℕ)) → Type 0
-ShowRan arguments status known left old new = Ran (listing_of arguments.moves) status known left old new
+-- What it did, by the exit status, given what is known of the bytes of the file with each name, and what holds if
+-- standard input was not read: what standard input had and has left, and the output before and after.
+abbrev pub ShowRan : (bytes_of : List ℕ → Option (List ℕ)) → (Unread : Type 0) → ShowArguments → (status : ℕ) → (known left old new : Option (List ℕ)) → Type 0
+ShowRan bytes_of Unread arguments status known left old new = RanFrom arguments.source bytes_of Unread (listing_of arguments.moves) status known left old new

@@ -14,12 +14,12 @@ use crate::arguments::{
     address_argument, file_argument, port_argument, ruleset_argument, ruleset_given, target_given,
 };
 use crate::file_system::{FileSystem, create};
-use crate::limits::TURNS;
+use crate::limits::ROUNDS;
 use crate::line::write_line;
 use crate::reporting::{bad_address, finish};
 use crate::target::Target;
 use crate::tool_fault::ToolFault;
-use archive_turns::{Wire, run_get};
+use archive_turns::{ReadyWire, get_in_rounds};
 use clap::{ArgMatches, Command};
 use std::alloc::{AllocError, Global};
 use std::io::Write;
@@ -60,14 +60,15 @@ pub(crate) fn asked(alloc: Global, words: &ArgMatches) -> Result<Option<GetArgum
     Ok(Some(GetArguments { ruleset, target }))
 }
 
-/// Fetches the collection of this ruleset from the archive into a file, in at most `TURNS` turns; then prints its
-/// length in bytes. `server` is the archive's host and request port.
+/// Fetches the collection of this ruleset from the archive into a file, in at most `ROUNDS` rounds; then prints its length
+/// in bytes, and goes on to acknowledge a repeated last block, for two seconds at most. `server` is the archive's host
+/// and request port.
 ///
 /// # Errors
 ///
 /// `Socket` if no port was opened, and `Transfer` with the cause of the failed transfer: then nothing is written to the
 /// file. `Write` if a writer fails, and `Memory` if an allocation was refused.
-pub fn get_file<N: Wire, F: Write, W: Write>(
+pub fn get_file<N: ReadyWire, F: Write, W: Write>(
     alloc: Global,
     wire: &mut N,
     server: Endpoint,
@@ -80,12 +81,14 @@ pub fn get_file<N: Wire, F: Write, W: Write>(
     // Holds also for a writer without ghost contents.
     ensures unwritten { IfErr result (Unless (out.new ≡ out.old)) }
 {
-    let len = run_get(alloc, wire, server, ruleset, TURNS, file)?;
-    write_line(alloc, "got ", len, " bytes", out)
+    let (len, mut run) = get_in_rounds(alloc, wire, server, ruleset, ROUNDS, file)?;
+    let said = write_line(alloc, "got ", len, " bytes", out);
+    run.dally(wire, ROUNDS);
+    said
 }
 
 // Fetches a collection into the file of this name, which is created before a port is opened.
-fn fetch<S: FileSystem, N: Wire, W: Write>(
+fn fetch<S: FileSystem, N: ReadyWire, W: Write>(
     system: &S,
     wire: &mut N,
     alloc: Global,
@@ -111,7 +114,7 @@ fn fetch<S: FileSystem, N: Wire, W: Write>(
 }
 
 /// Runs `get` over this wire, and returns the status.
-pub(crate) fn run<S: FileSystem, N: Wire, W: Write, E: Write>(
+pub(crate) fn run<S: FileSystem, N: ReadyWire, W: Write, E: Write>(
     system: &S,
     wire: &mut N,
     alloc: Global,

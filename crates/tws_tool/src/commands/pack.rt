@@ -1,29 +1,48 @@
 //! The command `pack`.
 
-ghost use Rattle.std.specs.Prelude.{◌≡◌, ◌≢◌, false, OnOk, IfErr};
+ghost use Rattle.std.specs.Prelude.{◌≡◌, ◌≢◌, false, OnOk, IfOk, IfErr};
 ghost use Rattle.std.specs.Io.KnownBytes.{IsAtEnd};
-ghost use Rattle.clap.specs.Words.{app_of};
+ghost use Rattle.clap.specs.Matches.{found_of};
+ghost use Rattle.clap.specs.Words.{app_of, rows_of};
 ghost use Rattle.clap.specs.declared.builder.command.Command.TheViews.{out-Command};
 ghost use Rattle.tws_file.specs.Packing.{packed_text};
-ghost use Rattle.tws_tool.specs.Commands.Pack.{PackRan, pack_app};
+ghost use Rattle.tws_tool.specs.Commands.Pack.{AsksToPack, PackRan, pack_app};
 ghost use Rattle.tws_tool.specs.Faults.{IsReadOut};
 ghost use Rattle.tws_tool.specs.Written.{Writes, WriteFails};
 
+use crate::arguments::{source_argument, source_given};
+use crate::file_system::{FileSystem, open};
 use crate::input::read_input;
 use crate::reporting::finish;
+use crate::source::Source;
 use crate::tool_fault::ToolFault;
-use clap::Command;
-use std::alloc::Global;
+use clap::{ArgMatches, Command};
+use std::alloc::{AllocError, Global};
 use std::io::{Read, Write};
+use std::slice;
 use tws_file::{pack, write_file};
 
-pub(crate) fn command<'a>(alloc: Global) -> Command<'a>
-    ensures app { app_of result ≡ pack_app }
-    ensures local { (out-Command result).has_globals ≡ false }
+/// What `pack` is asked for.
+#[derive(Drop)]
+pub struct PackArguments {
+    /// The solution file.
+    pub source: Source,
+}
+
+pub(crate) fn command<'a>(alloc: Global) -> Result<Command<'a>, AllocError>
+    ensures app { IfOk result (λ command. app_of command ≡ pack_app) }
+    ensures local { IfOk result (λ command. (out-Command command).has_globals ≡ false) }
 {
-    Command::new(alloc, "pack").about(
-        "Write the solution file on standard input with its moves in the fewest bytes",
-    )
+    Command::new(alloc, "pack")
+        .about("Write a solution file with its moves in the fewest bytes")
+        .arg(source_argument(alloc))
+}
+
+pub(crate) fn asked(alloc: Global, words: &ArgMatches) -> Result<PackArguments, AllocError>
+    ensures { IfOk result (AsksToPack (rows_of (found_of words.now))) }
+{
+    let source = source_given(alloc, words)?;
+    Ok(PackArguments { source })
 }
 
 /// Reads a solution file to its end, and writes it with each solution's moves in the fewest bytes.
@@ -51,17 +70,39 @@ pub fn run_pack<R: Read, W: Write>(
     Ok(())
 }
 
-/// Runs `pack`, and returns the status.
-pub(crate) fn run<R: Read, W: Write, E: Write>(
+// The same over the file of this name.
+fn pack_file<S: FileSystem, W: Write>(
+    system: &S,
     alloc: Global,
+    name: &str,
+    out: &mut W,
+) -> Result<(), ToolFault>
+    ensures packed { OnOk result (Writes packed_text (S.bytes_of system.now name.now) (W.contents out.old) (W.contents out.new)) }
+    ensures fails { IfErr result (WriteFails packed_text (S.bytes_of system.now name.now) (W.contents out.old) (W.contents out.new)) }
+    ensures unwritten { IfErr result (λ e. e ≢ ToolFault.Write → out.new ≡ out.old) }
+{
+    let mut file = open(system, name)?;
+    run_pack(alloc, &mut file, out)
+}
+
+/// Runs `pack`, and returns the status.
+pub(crate) fn run<S: FileSystem, R: Read, W: Write, E: Write>(
+    system: &S,
+    alloc: Global,
+    arguments: &PackArguments,
     input: &mut R,
     out: &mut W,
     errors: &mut E,
 ) -> u8
-    ensures ran { PackRan result (R.remaining input.old) (R.remaining input.new) (W.contents out.old) (W.contents out.new) }
+    ensures ran { PackRan (S.bytes_of system.now) (input.new ≡ input.old) arguments.now result (R.remaining input.old) (R.remaining input.new) (W.contents out.old) (W.contents out.new) }
     ensures unreadable { result ≡ 3 → out.new ≡ out.old }
     ensures silent { result ≡ 0 → errors.new ≡ errors.old }
 {
-    let done = run_pack(alloc, input, out);
-    finish(done, &[], errors)
+    match &arguments.source {
+        Source::Standard => finish(run_pack(alloc, input, out), &[], errors),
+        Source::Named(name) => {
+            let done = pack_file(system, alloc, name.as_str(), out);
+            finish(done, slice::from_ref(name), errors)
+        }
+    }
 }

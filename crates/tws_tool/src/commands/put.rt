@@ -1,34 +1,37 @@
 //! The command `put`.
 
-ghost use Rattle.std.specs.Prelude.{◌≡◌, ◌≢◌, ◌⊎◌, false, Ok, Err, OnOk, IfOk, IfErr, IfSome, string_bytes};
+ghost use Rattle.std.specs.Prelude.{◌≡◌, ◌≢◌, ◌⊎◌, ◌≤◌, ◌+◌, length, false, Ok, Err, OnOk, IfOk, IfErr, IfSome, string_bytes};
 ghost use Rattle.std.specs.Io.KnownBytes.{IsAtEnd};
 ghost use Rattle.clap.specs.Matches.{found_of};
 ghost use Rattle.clap.specs.Words.{app_of, rows_of};
 ghost use Rattle.clap.specs.declared.builder.command.Command.TheViews.{out-Command};
-ghost use Rattle.archive_turns.specs.Run.{RunsPut};
+ghost use Rattle.archive_turns.specs.Rounds.{PutsInRounds};
 ghost use Rattle.tws_file.specs.Text.{IsReadable};
 ghost use Rattle.tws_file.specs.Fault.{HasFileFault};
-ghost use Rattle.tws_tool.specs.declared.limits.TheConstants.{TURNS};
+ghost use Rattle.tftp_ends.specs.declared.limits.TheConstants.{MAX_FILE};
+ghost use Rattle.tws_tool.specs.declared.limits.TheConstants.{ROUNDS};
 ghost use Rattle.tws_tool.specs.Address.{IsAddress};
 ghost use Rattle.tws_tool.specs.Arguments.{Answers};
-ghost use Rattle.tws_tool.specs.Commands.Put.{AsksToPut, IsWholeInput, PutFails, PutRan, PutRuns, Puts, put_app};
-ghost use Rattle.tws_tool.specs.Faults.{IsReadFault, IsReadOut, ReadFails, run_fault};
+ghost use Rattle.tws_tool.specs.Commands.Put.{AsksToPut, InputFails, IsWholeInput, PutFails, PutRan, PutRuns, Puts, ReadsAtMost, WholeFails, put_app};
+ghost use Rattle.tws_tool.specs.Faults.{IsReadOut, run_fault};
 ghost use Rattle.tws_tool.specs.Lines.{Unless};
 
 use crate::address::Address;
 use crate::arguments::{address_argument, file_argument, port_argument, target_given};
 use crate::file_system::{FileSystem, open};
 use crate::input::INPUT_READS;
-use crate::limits::TURNS;
+use crate::limits::ROUNDS;
 use crate::line::write_line;
 use crate::reporting::{bad_address, finish};
 use crate::target::Target;
 use crate::tool_fault::ToolFault;
-use archive_turns::{RunFault, Wire, run_put};
+use archive_client::Cause;
+use archive_turns::{ReadyWire, RunFault, put_in_rounds};
 use clap::{ArgMatches, Command};
 use std::alloc::{AllocError, Global};
 use std::io::{Read, Write};
 use std::slice;
+use tftp_ends::MAX_FILE;
 use tftp_packet::Endpoint;
 use tws_file::read_file;
 
@@ -60,11 +63,14 @@ pub(crate) fn asked(alloc: Global, words: &ArgMatches) -> Result<Option<PutArgum
     Ok(Some(PutArguments { target }))
 }
 
-// Reads all bytes of an input, in at most `INPUT_READS` reads.
+// Reads all bytes of an input, in at most `INPUT_READS` reads. One that is longer than a file may be is left once it is
+// known to be.
 fn read_bytes<R: Read>(alloc: Global, input: &mut R) -> Result<Vec<u8>, ToolFault>
     ensures bytes { IfOk result (λ bytes. IfSome (R.remaining input.old) (λ xs. bytes.items ≡ xs)) }
+    ensures short { IfOk result (λ bytes. length bytes.items ≤ MAX_FILE) }
     ensures end { OnOk result (IsAtEnd (R.remaining input.new)) }
-    ensures fault { IfErr result IsReadFault }
+    ensures fault { IfErr result (InputFails (R.remaining input.old)) }
+    ensures most { ReadsAtMost (MAX_FILE + 65536) (R.remaining input.old) (R.remaining input.new) }
 {
     let mut bytes = Vec::new(alloc);
     let mut piece = [0; 1 << 16];
@@ -76,6 +82,9 @@ fn read_bytes<R: Read>(alloc: Global, input: &mut R) -> Result<Vec<u8>, ToolFaul
             return Ok(bytes);
         }
         bytes.extend_from_slice(&piece[..count])?;
+        if bytes.len() as u64 > MAX_FILE {
+            return Err(ToolFault::Transfer(Cause::TooLong));
+        }
     }
     Err(ToolFault::Read)
 }
@@ -85,7 +94,8 @@ fn read_whole<R: Read>(alloc: Global, input: &mut R) -> Result<Vec<u8>, ToolFaul
     ensures whole { IfOk result (λ bytes. IsWholeInput (R.remaining input.old) bytes.items) }
     ensures end { OnOk result (IsAtEnd (R.remaining input.new)) }
     ensures unreadable { IfErr result (IsReadOut (R.remaining input.new)) }
-    ensures fault { IfErr result (ReadFails 0 (R.remaining input.old)) }
+    ensures fault { IfErr result (WholeFails (R.remaining input.old)) }
+    ensures most { ReadsAtMost (MAX_FILE + 65536) (R.remaining input.old) (R.remaining input.new) }
 {
     let bytes = read_bytes(alloc, input)?;
     match read_file(alloc, &bytes) {
@@ -94,15 +104,16 @@ fn read_whole<R: Read>(alloc: Global, input: &mut R) -> Result<Vec<u8>, ToolFaul
     }
 }
 
-/// Reads a solution file to its end, and sends it to the archive in at most `TURNS` turns; then prints its length in
-/// bytes. `server` is the archive's host and request port.
+/// Reads a solution file to its end, and sends it to the archive in at most `ROUNDS` rounds; then prints its length
+/// in bytes. `server` is the archive's host and request port.
 ///
 /// # Errors
 ///
-/// `Read` if the reader fails or does not end within `INPUT_READS` reads, and `Unreadable` with index 0 and the fault
-/// of the bytes: then nothing is sent. `Socket` if no port was opened, and `Transfer` with the cause of the failed
+/// `Read` if the reader fails, `Transfer(TooLong)` if the file has more than
+/// `MAX_FILE` bytes, of which no more than 65,536 are read, and `Unreadable` with index 0 and the fault of the bytes:
+/// then nothing is sent. `Socket` if no port was opened, and `Transfer` with the cause of the failed
 /// transfer. `Write` if the writer fails, after the file was sent. `Memory` if an allocation was refused.
-pub fn put_file<R: Read, N: Wire, W: Write>(
+pub fn put_file<R: Read, N: ReadyWire, W: Write>(
     alloc: Global,
     input: &mut R,
     wire: &mut N,
@@ -111,18 +122,19 @@ pub fn put_file<R: Read, N: Wire, W: Write>(
 ) -> Result<(), ToolFault>
     ensures end { OnOk result (IsAtEnd (R.remaining input.new)) }
     ensures unreadable { IfErr result (IsReadOut (R.remaining input.new)) }
+    ensures most { ReadsAtMost (MAX_FILE + 65536) (R.remaining input.old) (R.remaining input.new) }
     ensures sent { OnOk result (Puts (R.remaining input.old) server (N.log wire.old) (N.log wire.new) (W.contents out.old) (W.contents out.new)) }
     ensures fails { IfErr result (PutFails (R.remaining input.old) server (N.log wire.old) (N.log wire.new) (W.contents out.old) (W.contents out.new)) }
     // Holds also for a writer without ghost contents.
     ensures unwritten { IfErr result (Unless (out.new ≡ out.old)) }
 {
     let bytes = read_whole(alloc, input)?;
-    let len = run_put(wire, server, bytes, TURNS)?;
+    let len = put_in_rounds(wire, server, bytes, ROUNDS)?;
     write_line(alloc, "sent ", len, " bytes", out)
 }
 
 // Sends the file of this name.
-fn send<S: FileSystem, N: Wire, W: Write>(
+fn send<S: FileSystem, N: ReadyWire, W: Write>(
     system: &S,
     wire: &mut N,
     alloc: Global,
@@ -140,7 +152,7 @@ fn send<S: FileSystem, N: Wire, W: Write>(
 }
 
 /// Runs `put` over this wire, and returns the status.
-pub(crate) fn run<S: FileSystem, N: Wire, W: Write, E: Write>(
+pub(crate) fn run<S: FileSystem, N: ReadyWire, W: Write, E: Write>(
     system: &S,
     wire: &mut N,
     alloc: Global,

@@ -1,21 +1,24 @@
 //! The command `serve`.
 
-ghost use Rattle.std.specs.Prelude.{◌≡◌, ◌⊎◌, ◌++◌, false, None, OnOk, IfOk, IfErr};
+ghost use Rattle.std.specs.Prelude.{◌≡◌, ◌⊎◌, ◌++◌, ◌<◌, ◌≤◌, ◌+◌, Bool, true, false, None, OnOk, IfOk, IfErr};
 ghost use Rattle.clap.specs.Matches.{found_of};
 ghost use Rattle.clap.specs.Words.{app_of, rows_of, rule_of};
 ghost use Rattle.clap.specs.declared.builder.command.Command.TheViews.{out-Command};
 ghost use Rattle.tws_tool.specs.Arguments.{Answers, number_rule};
-ghost use Rattle.tws_tool.specs.Commands.Serve.{ArePassesFor, AsksToServe, MakesPasses, ServeFails, ServeRan, ServeStops, Served, Serves, dir_rule, per_host_option, serve_app, turns_option};
+ghost use Rattle.archive_turns.specs.Turn.{MakesPass, count_if};
+ghost use Rattle.tws_tool.specs.Faults.{answer_status};
+ghost use Rattle.tws_tool.specs.Commands.Serve.{ArePassesFor, AsksToServe, MakesPasses, ServeFails, ServeRan, ServeStops, Served, Serves, count_of, dir_rule, pass_of, per_host_option, serve_app, turns_option};
 
 use crate::arguments::{number_given, port_argument, port_given, string_given};
 use crate::limits::{PER_HOST, TURNS};
 use crate::line::write_line;
 use crate::reporting::finish;
+use crate::served_keeper::ServedKeeper;
 use crate::status::FAILED;
 use crate::tool_fault::ToolFault;
 use archive_host::{DirKeeper, HostFolder, OpenFault, UdpWire};
 use archive_table::{Keeper, LIVE, NoKeeper};
-use archive_turns::{ReadyWire, Server, serve_rounds, serve_turns};
+use archive_turns::{ReadyWire, Server};
 use clap::builder::ValueParser;
 use clap::{Arg, ArgMatches, Command};
 use std::alloc::{AllocError, Global};
@@ -126,28 +129,66 @@ fn passes_for(turns: u64) -> Passes
     }
 }
 
-// Makes these turns or rounds of a server. Returns how many files were taken.
-fn make_passes<N: ReadyWire, K: Keeper>(
+// How many turns or rounds these are.
+fn count_of(passes: Passes) -> u64
+    ensures { result ≡ count_of passes }
+{
+    match passes {
+        Passes::Turns(turns) => turns,
+        Passes::Rounds(rounds) => rounds,
+    }
+}
+
+// Makes one turn or round of a server. Returns how many files were taken, of which there were `taken` before.
+fn make_pass<N: ReadyWire, K: Keeper>(
+    wire: &mut N,
+    keeper: &mut K,
+    server: &mut Server,
+    passes: Passes,
+    taken: u64,
+) -> u64
+    requires { taken < u64.MAX }
+    ensures pass { (took : Bool) × MakesPass (pass_of passes) server.old server.new took (N.log wire.old) (N.log wire.new) (K.log keeper.old) (K.log keeper.new) × (result ≡ count_if took taken) }
+    ensures few { result ≤ taken + 1 }
+{
+    let took = match passes {
+        Passes::Turns(_) => server.turn(wire, keeper),
+        Passes::Rounds(_) => server.round(wire, keeper),
+    };
+    if took { taken + 1 } else { taken }
+}
+
+// Makes these turns or rounds of a server, as long as its keeper is usable. Returns how many files were taken.
+fn make_passes<N: ReadyWire, K: ServedKeeper>(
     wire: &mut N,
     keeper: &mut K,
     server: &mut Server,
     passes: Passes,
 ) -> u64
-    ensures { MakesPasses passes server.old server.new result (N.log wire.old) (N.log wire.new) (K.log keeper.old) (K.log keeper.new) }
+    ensures made { MakesPasses passes (K.usable keeper.new) server.old server.new result (N.log wire.old) (N.log wire.new) (K.log keeper.old) (K.log keeper.new) }
+    ensures unusable { K.usable keeper.old ≡ false → (result ≡ 0) × (server.new ≡ server.old) × (K.log keeper.new ≡ K.log keeper.old) }
 {
-    match passes {
-        Passes::Turns(turns) => serve_turns(wire, keeper, server, turns),
-        Passes::Rounds(rounds) => serve_rounds(wire, keeper, server, rounds),
+    let mut taken = 0;
+    if !keeper.is_usable() {
+        return taken;
     }
+    for _pass in 0..count_of(passes) {
+        taken = make_pass(wire, keeper, server, passes, taken);
+        if !keeper.is_usable() {
+            return taken;
+        }
+    }
+    taken
 }
 
 /// Prints that a server serves on this port, makes these turns or rounds of it, and prints how many files were taken.
+/// Once its keeper is not usable it makes none any more.
 ///
 /// # Errors
 ///
 /// `Write` if the writer fails, and `Memory` if out of memory for a line. If that is the first line no turn or round
-/// was made, otherwise all of them were.
-pub fn serve_archive<N: ReadyWire, K: Keeper, W: Write>(
+/// was made.
+pub fn serve_archive<N: ReadyWire, K: ServedKeeper, W: Write>(
     alloc: Global,
     wire: &mut N,
     keeper: &mut K,
@@ -156,8 +197,8 @@ pub fn serve_archive<N: ReadyWire, K: Keeper, W: Write>(
     passes: Passes,
     out: &mut W,
 ) -> Result<(), ToolFault>
-    ensures served { OnOk result (Serves port (λ taken. MakesPasses passes server.old server.new taken (N.log wire.old) (N.log wire.new) (K.log keeper.old) (K.log keeper.new)) (W.contents out.old) (W.contents out.new)) }
-    ensures fails { IfErr result (ServeFails port ((server.new ≡ server.old) × (N.log wire.new ≡ N.log wire.old) × (K.log keeper.new ≡ K.log keeper.old)) (λ taken. MakesPasses passes server.old server.new taken (N.log wire.old) (N.log wire.new) (K.log keeper.old) (K.log keeper.new)) (W.contents out.old) (W.contents out.new)) }
+    ensures served { OnOk result (Serves port (λ taken. MakesPasses passes (K.usable keeper.new) server.old server.new taken (N.log wire.old) (N.log wire.new) (K.log keeper.old) (K.log keeper.new)) (W.contents out.old) (W.contents out.new)) }
+    ensures fails { IfErr result (ServeFails port ((server.new ≡ server.old) × (N.log wire.new ≡ N.log wire.old) × (K.log keeper.new ≡ K.log keeper.old)) (λ taken. MakesPasses passes (K.usable keeper.new) server.old server.new taken (N.log wire.old) (N.log wire.new) (K.log keeper.old) (K.log keeper.new)) (W.contents out.old) (W.contents out.new)) }
 {
     write_line(alloc, "serving on port ", port as u64, "", out)?;
     let taken = make_passes(wire, keeper, server, passes);
@@ -181,8 +222,16 @@ fn not_opened<E: Write>(fault: OpenFault, name: &str, errors: &mut E) -> u8
     status
 }
 
+// Reports that it is not known whether the folder kept a collection, and returns the status.
+fn not_known<E: Write>(name: &str, errors: &mut E) -> u8
+    ensures { result ≡ 2 }
+{
+    let _ = writeln!(errors, "tws: {name}: not known whether kept");
+    FAILED
+}
+
 // Opens the server's request port, and serves there.
-fn listen_and_serve<P: Net + Clock + RandomSource + AllocGlobal + Copy, K: Keeper, W: Write>(
+fn listen_and_serve<P: Net + Clock + RandomSource + AllocGlobal + Copy, K: ServedKeeper, W: Write>(
     rt: P,
     alloc: Global,
     keeper: &mut K,
@@ -192,8 +241,8 @@ fn listen_and_serve<P: Net + Clock + RandomSource + AllocGlobal + Copy, K: Keepe
     out: &mut W,
 ) -> Result<(), ToolFault>
     requires { server.old.table.request ≡ port }
-    ensures served { OnOk result (Serves port (λ taken. MakesPasses passes server.old server.new taken None None (K.log keeper.old) (K.log keeper.new)) (W.contents out.old) (W.contents out.new)) }
-    ensures stops { IfErr result (ServeStops port (K.log keeper.new ≡ K.log keeper.old) (λ taken. MakesPasses passes server.old server.new taken None None (K.log keeper.old) (K.log keeper.new)) (W.contents out.old) (W.contents out.new)) }
+    ensures served { OnOk result (Serves port (λ taken. MakesPasses passes (K.usable keeper.new) server.old server.new taken None None (K.log keeper.old) (K.log keeper.new)) (W.contents out.old) (W.contents out.new)) }
+    ensures stops { IfErr result (ServeStops port (K.log keeper.new ≡ K.log keeper.old) (λ taken. MakesPasses passes (K.usable keeper.new) server.old server.new taken None None (K.log keeper.old) (K.log keeper.new)) (W.contents out.old) (W.contents out.new)) }
 {
     let Ok(mut wire) = UdpWire::listen(rt, port) else {
         return Err(ToolFault::Socket);
@@ -201,8 +250,32 @@ fn listen_and_serve<P: Net + Clock + RandomSource + AllocGlobal + Copy, K: Keepe
     serve_archive(alloc, &mut wire, keeper, server, port, passes, out)
 }
 
+// Reports why a server failed, if it did, and whether its keeper was usable to the end; returns the status.
+fn end_serving<E: Write>(
+    done: Result<(), ToolFault>,
+    usable: bool,
+    name: &str,
+    errors: &mut E,
+) -> u8
+    ensures usable { usable ≡ true → result ≡ answer_status done }
+    ensures unknown { usable ≡ false → result ≡ 2 }
+    ensures silent { result ≡ 0 → errors.new ≡ errors.old }
+{
+    let status = finish(done, &[], errors);
+    if usable {
+        status
+    } else {
+        not_known(name, errors)
+    }
+}
+
 // Serves with this keeper, whose name its faults are reported with, and returns the status.
-fn serve_with<P: Net + Clock + RandomSource + AllocGlobal + Copy, K: Keeper, W: Write, E: Write>(
+fn serve_with<
+    P: Net + Clock + RandomSource + AllocGlobal + Copy,
+    K: ServedKeeper,
+    W: Write,
+    E: Write,
+>(
     rt: P,
     alloc: Global,
     arguments: &ServeArguments,
@@ -211,7 +284,7 @@ fn serve_with<P: Net + Clock + RandomSource + AllocGlobal + Copy, K: Keeper, W: 
     out: &mut W,
     errors: &mut E,
 ) -> u8
-    ensures served { Served arguments.now.port arguments.now.turns arguments.now.per_host result (K.log keeper.old) (K.log keeper.new) (W.contents out.old) (W.contents out.new) }
+    ensures served { Served arguments.now.port arguments.now.turns arguments.now.per_host result (K.usable keeper.new) (K.log keeper.old) (K.log keeper.new) (W.contents out.old) (W.contents out.new) }
     ensures status { (result ≡ 0) ⊎ (result ≡ 2) }
     ensures silent { result ≡ 0 → errors.new ≡ errors.old }
 {
@@ -221,7 +294,7 @@ fn serve_with<P: Net + Clock + RandomSource + AllocGlobal + Copy, K: Keeper, W: 
         Ok(mut server) => {
             server.limit_per_host(arguments.per_host as usize);
             let done = listen_and_serve(rt, alloc, keeper, &mut server, port, passes, out);
-            finish(done, &[], errors)
+            end_serving(done, keeper.is_usable(), name, errors)
         }
         Err(_) => not_loaded(name, errors),
     }

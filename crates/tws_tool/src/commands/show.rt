@@ -10,17 +10,23 @@ ghost use Rattle.tws_tool.specs.Commands.Show.{AsksToShow, ShowRan, show_app};
 ghost use Rattle.tws_tool.specs.Faults.{IsBeforeOutput, IsReadOut};
 ghost use Rattle.tws_tool.specs.Written.{Writes, WriteFails};
 
+use crate::arguments::{source_argument, source_given};
+use crate::file_system::{FileSystem, open};
 use crate::input::read_input;
 use crate::reporting::finish;
+use crate::source::Source;
 use crate::tool_fault::ToolFault;
 use clap::{Arg, ArgAction, ArgMatches, Command};
 use std::alloc::{AllocError, Global};
 use std::io::{Read, Write};
+use std::slice;
 use tws_file::show;
 
 /// What `show` is asked for.
 #[derive(Drop)]
 pub struct ShowArguments {
+    /// The solution file.
+    pub source: Source,
     /// With a line for each move.
     pub moves: bool,
 }
@@ -34,15 +40,17 @@ pub(crate) fn command<'a>(alloc: Global) -> Result<Command<'a>, AllocError>
         .action(ArgAction::SetTrue)
         .help("With a line for each move");
     Command::new(alloc, "show")
-        .about("List the solution file on standard input")
+        .about("List a solution file")
+        .arg(source_argument(alloc))?
         .arg(moves)
 }
 
-pub(crate) fn asked(words: &ArgMatches) -> ShowArguments
-    ensures { AsksToShow (rows_of (found_of words.now)) result }
+pub(crate) fn asked(alloc: Global, words: &ArgMatches) -> Result<ShowArguments, AllocError>
+    ensures { IfOk result (AsksToShow (rows_of (found_of words.now))) }
 {
+    let source = source_given(alloc, words)?;
     let moves = words.get_flag("moves");
-    ShowArguments { moves }
+    Ok(ShowArguments { source, moves })
 }
 
 /// Reads a solution file to its end, and writes its listing, with a line for each move if `moves` is set.
@@ -70,18 +78,41 @@ pub fn run_show<R: Read, W: Write>(
     Ok(())
 }
 
+// The same over the file of this name.
+fn show_file<S: FileSystem, W: Write>(
+    system: &S,
+    alloc: Global,
+    name: &str,
+    out: &mut W,
+    moves: bool,
+) -> Result<(), ToolFault>
+    ensures listed { OnOk result (Writes (listing_of moves) (S.bytes_of system.now name.now) (W.contents out.old) (W.contents out.new)) }
+    ensures fails { IfErr result (WriteFails (listing_of moves) (S.bytes_of system.now name.now) (W.contents out.old) (W.contents out.new)) }
+    ensures unwritten { IfErr result (λ e. IsBeforeOutput e → out.new ≡ out.old) }
+{
+    let mut file = open(system, name)?;
+    run_show(alloc, &mut file, out, moves)
+}
+
 /// Runs `show`, and returns the status.
-pub(crate) fn run<R: Read, W: Write, E: Write>(
+pub(crate) fn run<S: FileSystem, R: Read, W: Write, E: Write>(
+    system: &S,
     alloc: Global,
     arguments: &ShowArguments,
     input: &mut R,
     out: &mut W,
     errors: &mut E,
 ) -> u8
-    ensures ran { ShowRan arguments.now result (R.remaining input.old) (R.remaining input.new) (W.contents out.old) (W.contents out.new) }
+    ensures ran { ShowRan (S.bytes_of system.now) (input.new ≡ input.old) arguments.now result (R.remaining input.old) (R.remaining input.new) (W.contents out.old) (W.contents out.new) }
     ensures unreadable { result ≡ 3 → out.new ≡ out.old }
     ensures silent { result ≡ 0 → errors.new ≡ errors.old }
 {
-    let done = run_show(alloc, input, out, arguments.moves);
-    finish(done, &[], errors)
+    let moves = arguments.moves;
+    match &arguments.source {
+        Source::Standard => finish(run_show(alloc, input, out, moves), &[], errors),
+        Source::Named(name) => {
+            let done = show_file(system, alloc, name.as_str(), out, moves);
+            finish(done, slice::from_ref(name), errors)
+        }
+    }
 }

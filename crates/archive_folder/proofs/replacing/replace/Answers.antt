@@ -6,7 +6,9 @@ use Rattle.archive_folder.proofs.replacing.replace.Goals as goal
 pub returns-in-Err-clause-any_moment : goal.returns-in-Err-clause-any_moment
 returns-in-Err-clause-any_moment g c = λ modelled.
     let F = g.F.Folder in
-    replaces_by F.reads F.holds F.leaves F.moment F.left_since c.args.folder.now c.write_draft.new.folder (Kept c.args.ruleset) (collection_text c.args.collection.now) (c.write_draft.ensures.others modelled (Kept c.args.ruleset) (kept_is_no_draft c.args.ruleset))
+    replaces_by F.reads F.holds F.leaves F.moment F.left_since c.args.folder.now c.write_draft.new.folder (Kept c.args.ruleset)
+    (collection_text c.args.collection.now)
+    (c.write_draft.ensures.others modelled (Kept c.args.ruleset) (kept_is_no_draft c.args.ruleset))
 
 pub returns-in-Err-clause-not_kept : goal.returns-in-Err-clause-not_kept
 returns-in-Err-clause-not_kept g c = λ modelled fault is. c.write_draft.ensures.others modelled (Kept c.args.ruleset) (kept_is_no_draft c.args.ruleset)

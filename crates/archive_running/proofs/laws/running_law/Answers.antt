@@ -1,5 +1,6 @@
 use Rattle.archive_running.proofs.Running.{run-mirrors, run-happens, run-merged, run-clients, run-headline, run-sent, run-fetched}
 use Rattle.archive_running.proofs.Sampling.{sends, fetches}
+use Rattle.archive_running.proofs.RoundSampling.{serves-on}
 use Rattle.archive_running.proofs.laws.running_law.Goals as goal
 
 pub returns-clause-mirrors : goal.returns-clause-mirrors
@@ -29,3 +30,6 @@ returns-clause-sends c = sends
 
 pub returns-clause-fetches : goal.returns-clause-fetches
 returns-clause-fetches c = fetches
+
+pub returns-clause-restarts : goal.returns-clause-restarts
+returns-clause-restarts c = serves-on

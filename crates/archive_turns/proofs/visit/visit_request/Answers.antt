@@ -5,7 +5,8 @@ use Rattle.archive_turns.proofs.visit.visit_request.Goals as goal
 
 pub returns-then-is_admitted-clause-visit : goal.returns-then-is_admitted-clause-visit
 returns-then-is_admitted-clause-visit g c =
-    request_after _ _ _ _ _ _ _ _ _ c.request.ensures (sym c.is_admitted.ensures ∙ c.if-is_admitted.true) (grows_come _ _ _ _ _ c.in-Ok-Some.field-0-is c.in-Ok-Some.ensures.log) c.answer_request.ensures.visit
+    request_after _ _ _ _ _ _ _ _ _ c.request.ensures (sym c.is_admitted.ensures ∙ c.if-is_admitted.true)
+    (grows_come _ _ _ _ _ c.in-Ok-Some.field-0-is c.in-Ok-Some.ensures.log) c.answer_request.ensures.visit
 
 pub returns-else-is_admitted-clause-visit : goal.returns-else-is_admitted-clause-visit
 returns-else-is_admitted-clause-visit g c =

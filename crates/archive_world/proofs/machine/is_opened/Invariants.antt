@@ -1,5 +1,5 @@
 use Rattle.std.proofs.Common.{◌≡◌, ◌≤◌, false, length, drop}
-use Rattle.archive_world.specs.Reuse.{was_opened}
+use Rattle.archive_theorem.specs.Reuse.{was_opened}
 use Rattle.archive_world.proofs.machine.is_opened.Given as goal
 
 -- no opening from here on is for this peer at this port

@@ -1,5 +1,5 @@
 use Rattle.std.proofs.Common.{◌≡◌, ◌≤◌, false, length, drop}
-use Rattle.archive_world.specs.Reuse.{has_strayed}
+use Rattle.archive_theorem.specs.Reuse.{has_strayed}
 use Rattle.archive_world.proofs.machine.is_strayed.Given as goal
 
 -- no datagram from here on comes from the endpoint

@@ -1,5 +1,5 @@
 use Rattle.std.proofs.Common.{ap, ◌∙◌, arith}
-use Rattle.archive_world.specs.World.{World}
+use Rattle.archive_theorem.specs.World.{World}
 use Rattle.archive_world.proofs.Replaying.{happened-start, one-more, ends-at}
 use Rattle.archive_world.proofs.schedule.happen_all.Goals as goal
 
@@ -13,7 +13,9 @@ loop-i-init g c =
 
 pub returns-in-Err : goal.returns-in-Err
 returns-in-Err g c =
-    ends-at c.args.events.now c.loop-i.i c.index-events-i.result c.loop-i-test.true c.index-events-i.is (g.K.Keeper.log c.args.keeper.now) (g.K.Keeper.log c.loop-i.keeper) (g.K.Keeper.log c.happen.new.keeper) c.loop-i.machine c.happen.new.machine c.loop-i.invariant.so_far c.fault_at.result c.in-Err.fault c.fault_at.ensures c.in-Err.ensures
+    ends-at c.args.events.now c.loop-i.i c.index-events-i.result c.loop-i-test.true c.index-events-i.is (g.K.Keeper.log c.args.keeper.now)
+    (g.K.Keeper.log c.loop-i.keeper) (g.K.Keeper.log c.happen.new.keeper) c.loop-i.machine c.happen.new.machine
+    c.loop-i.invariant.so_far c.fault_at.result c.in-Err.fault c.fault_at.ensures c.in-Err.ensures
 
 pub loop-i-preserved : goal.loop-i-preserved
 loop-i-preserved g c =
@@ -21,5 +23,7 @@ loop-i-preserved g c =
     record {
       within = omega arith;
       request = made.0 ∙ c.loop-i.invariant.request;
-      so_far = one-more c.args.events.now c.loop-i.i c.index-events-i.result c.loop-i-test.true c.index-events-i.is (g.K.Keeper.log c.args.keeper.now) (g.K.Keeper.log c.loop-i.keeper) (g.K.Keeper.log c.happen.new.keeper) c.loop-i.machine c.happen.new.machine c.loop-i.invariant.so_far made;
+      so_far = one-more c.args.events.now c.loop-i.i c.index-events-i.result c.loop-i-test.true c.index-events-i.is
+          (g.K.Keeper.log c.args.keeper.now) (g.K.Keeper.log c.loop-i.keeper) (g.K.Keeper.log c.happen.new.keeper) c.loop-i.machine
+          c.happen.new.machine c.loop-i.invariant.so_far made;
     }

@@ -1,5 +1,5 @@
 use Rattle.std.proofs.Common.{◌≡◌, ◌≤◌, ◌-◌, length, take}
-use Rattle.archive_world.specs.World.{server_endpoint}
+use Rattle.archive_theorem.specs.World.{server_endpoint}
 use Rattle.archive_world.specs.View.{events_of}
 use Rattle.archive_world.specs.Replays.{IsReady, HasHappened}
 use Rattle.archive_world.proofs.schedule.happen_all.Given as goal
@@ -9,7 +9,8 @@ abbrev pub invariant-loop-i : goal.invariant-loop-i
 invariant-loop-i g l = record {
   within : l.i ≤ length l.events;
   request : l.machine.server.request ≡ server_endpoint.port;
-  so_far : IsReady (g.K.Keeper.log l.initial.keeper) (events_of l.events) → HasHappened (events_of (take l.i l.events)) (g.K.Keeper.log l.initial.keeper) (g.K.Keeper.log l.keeper) l.machine;
+  so_far : IsReady (g.K.Keeper.log l.initial.keeper) (events_of l.events) →
+      HasHappened (events_of (take l.i l.events)) (g.K.Keeper.log l.initial.keeper) (g.K.Keeper.log l.keeper) l.machine;
 }
 
 abbrev pub decreases-loop-i : goal.decreases-loop-i

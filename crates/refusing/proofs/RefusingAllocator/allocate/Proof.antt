@@ -1,4 +1,5 @@
--- It counts the request, and returns `Err` or what the inner allocator returns. Assumes `Logic`.
+-- `allocate` meets its contract: it counts the request, and returns `Err` or what the inner allocator returns. Assumes
+-- `Logic`.
 use Rattle.std.proofs.Common.{◌≡◌, ℕ, ◌+◌, ◌^◌, ◌<◌, Bool, true, false, List, [], ◌∷◌, Ok, Err, refl, w64, Bor}
 use Rattle.std.proofs.Words.{word_in, word_out}
 use Rattle.std.proofs.VecSteps.Shapes.{after}
@@ -48,6 +49,7 @@ use Rattle.refusing.specs.contracts.RefusingAllocator.allocate.Key as key
 use Rattle.refusing.proofs.RefusingAllocator.allocate.Statement as stated
 use Rattle.refusing.proofs.RefusingAllocator.allocate.Code as code
 
+-- the function's code and signature, for an inner allocator
 module _ (Z : Al) where
   abbrev args : Args
   args = bounded (a_type ∷ []) (Z.row, tt) (dcons Z.d (dcons Z.drops dnil))
@@ -58,25 +60,33 @@ module _ (Z : Al) where
   abbrev self : Slot 2
   self = RefOf (0 ∷ []) tt (plain (λ _. wrapper.the_row (param 0 Z.row))) (λ _. tt)
 
+  -- its contract, as stated
   abbrev ended : Ended
   ended = F.ended Z.row Z.g Z.d Z.drops
 
+  -- nothing that it borrows changes
   abbrev stayed : Stays ended.signature.params ended.kept
   stayed = (stay_dropped self yes, (stay_dropped (plain (λ _. usize)) yes, (stay_dropped (plain (λ _. usize)) yes, tt)))
 
+-- what the two calls in its body promise: those of the inner allocator and of `is_refused`
 module _ (Z : Al) {M : Type 1} {𝓤 : Ura M} (𝓛 : Logic 𝓤) (at_mem : Memory → SProp 𝓤) (run : Routine → Fun 𝓤) (𝓣 : Tables 𝓤 𝓛.H) (tk : Triple 𝓤 (𝓣.C (takes_key Z)) (Takes Z 𝓛 at_mem run)) (asked : Triple 𝓤 (𝓣.C c_sym.name) (Asks 𝓛 at_mem run)) where
   open 𝓛 use {H, A}
 
+  -- the clauses of its contract
   abbrev held : Clauses 𝓤 (ended Z)
   held = F.clauses Z.row Z.g Z.d Z.drops 𝓛 at_mem run
 
+  -- a call: a borrowed allocator, and a request of `n` bytes aligned to `a`
   module _ (κ₁ κ₂ : Lft) (q₁ q₂ : Share) (inn : κ₁ ⊑ κ₂) (r : Bor (wrapper.the_row Z.row).Denot) (n a : ℕ) (τ : Ty) where
+    -- its arguments, bound to the names of the contract
     abbrev bound : (walk_of 𝓛 (ended Z) (stayed Z) held).Ghost
     bound = (((κ₁, (κ₂, tt)), (q₁, (q₂, tt)), (inn, tt), (r, (n, (a, tt))), (shr_vals r, (vint w64 n ∷ [], (vint w64 a ∷ [], tt)))), τ)
 
+    -- its arguments as the code passes them
     abbrev vs : List Val
     vs = vptr r.ref_ptr.0 r.ref_ptr.1 ∷ vint w64 n ∷ vint w64 a ∷ []
 
+    -- what the contract promises of the result
     abbrev Post : Val → SProp 𝓤
     Post = (walk_of 𝓛 (ended Z) (stayed Z) held).post bound
 
@@ -90,6 +100,7 @@ module _ (Z : Al) {M : Type 1} {𝓤 : Ura M} (𝓛 : Logic 𝓤) (at_mem : Memo
         use0 𝓛 (‵ (Answer.own_val (Err (record {})) (answer_val false 0 0 ∷ []))) (Answer-err 𝓛) $ nothing ! $ nothing ! $ fjoin ! $ nothing ! $ fjoin ! $ nothing ! $ fjoin ! $ join ! $
         move ! (2 ∷ 3 ∷ []) $ join ! $ join ! $ done !
 
+    -- a block from the inner allocator, returned as it is, meets it
     succeeds : (b o : ℕ) → ent 𝓤 (mean 𝓛 (‵ (froom τ b o) ⊛ ‵ (token Z r.now.inner τ (block_ptr b o)) ⊛ ‵ (flft κ₁ q₁) ⊛ Tokens)) (Post (answer_val true b o))
     succeeds b o =
         qed 𝓛 (‵ (froom τ b o) ∷ ‵ (token Z r.now.inner τ (block_ptr b o)) ∷ ‵ (flft κ₁ q₁) ∷ Tokens ∷ []) ∵ fjoin ! $
@@ -97,6 +108,7 @@ module _ (Z : Al) {M : Type 1} {𝓤 : Ura M} (𝓛 : Logic 𝓤) (at_mem : Memo
         use0 𝓛 (‵ (Answer.own_val (Ok (block_ptr b o)) (answer_val true b o ∷ []))) (Answer-Ok 𝓛 b o) $ nothing ! $ nothing ! $ fjoin ! $ nothing ! $ fjoin ! $ nothing ! $ fjoin ! $ join ! $
         move ! (2 ∷ 3 ∷ []) $ join ! $ join ! $ done !
 
+    -- the body, executed step by step, ends in one of these two
     walk : n < 2 ^ 64 → a < 2 ^ 64 → ent 𝓤 ((walk_of 𝓛 (ended Z) (stayed Z) held).pre bound) (WpFn 𝓤 H 𝓣.C 𝓣.Λ (here Z) vs Post)
     walk fn fa =
         let h : Z.row.Denot = r.now.inner in
@@ -132,6 +144,7 @@ module _ (Z : Al) {M : Type 1} {𝓤 : Ura M} (𝓛 : Logic 𝓤) (at_mem : Memo
         (λ b o e. lands_as ! e refl (Answer-typed true b o) $ returns ! (look_at ! 0 refl) $ free_all ! refl $ by ! (succeeds b o))
         (λ e. lands_as ! e refl (Answer-typed false 0 0) $ returns ! (look_at ! 0 refl) $ free_all ! refl $ by ! fails))))))))))
 
+-- the theorem for any inner allocator
 pub allocate_spec : {M : Type 1} → stated.statement M
 unfolding tables_of
 allocate_spec 𝓤 𝓛 𝓜 𝓡 wired Y L g d d' met _ =

@@ -12,14 +12,18 @@ loop-body-init g c = record {
 pub returns-then-end-eq-BLOCK_SIZE-clause-bytes : goal.returns-then-end-eq-BLOCK_SIZE-clause-bytes
 returns-then-end-eq-BLOCK_SIZE-clause-bytes g c =
     let so_far = c.loop-body in
-    full_block (take c.args.len c.args.block.now) (take so_far.end so_far.block) c.args.bodies.now so_far.body-index so_far.invariant.bytes (omega (arith, so_far.invariant.size, length-take so_far.end so_far.block, c.if-end-eq-BLOCK_SIZE.true))
+    full_block (take c.args.len c.args.block.now)
+    (take so_far.end so_far.block) c.args.bodies.now so_far.body-index so_far.invariant.bytes
+    (omega (arith, so_far.invariant.size, length-take so_far.end so_far.block, c.if-end-eq-BLOCK_SIZE.true))
 
 pub loop-body-preserved : goal.loop-body-preserved
 loop-body-preserved g c =
     let before = c.loop-body in
     let next = c.put_record-end in
     record {
-      bytes = body_pushed (take c.args.len c.args.block.now) (take before.end before.block) c.args.bodies.now before.body-index before.invariant.bytes c.body-item.result (take next.result next.new.block) c.loop-body-test.true c.body-item.is next.ensures.bytes;
+      bytes = body_pushed (take c.args.len c.args.block.now)
+          (take before.end before.block) c.args.bodies.now before.body-index before.invariant.bytes c.body-item.result
+          (take next.result next.new.block) c.loop-body-test.true c.body-item.is next.ensures.bytes;
       most = next.ensures.most;
       size = next.array_long;
     }

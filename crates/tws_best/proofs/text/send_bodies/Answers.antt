@@ -20,7 +20,9 @@ returns-in_err-send_body-clause-err g c =
     let mid = g.W.Write.contents c.loop-body.out in
     let new = g.W.Write.contents c.send_body.new.out in
     let more = rest_more deref c.loop-body.body-iterator c.next.new.self c.next.result c.in-Some.body c.in-Some.is c.next.ensures.steps in
-    at_err c.from_residual.result (body_cut old mid new (c.args.buffer.now ++ texts (values c.args.best.now)) c.loop-body.buffer c.in-Some.body.now c.next.new.self c.loop-body.body-iterator more c.loop-body.invariant c.in_err-send_body.ensures.err)
+    at_err c.from_residual.result
+    (body_cut old mid new (c.args.buffer.now ++
+    texts (values c.args.best.now)) c.loop-body.buffer c.in-Some.body.now c.next.new.self c.loop-body.body-iterator more c.loop-body.invariant c.in_err-send_body.ensures.err)
 
 pub loop-body-preserved : goal.loop-body-preserved
 loop-body-preserved g c =
@@ -28,7 +30,8 @@ loop-body-preserved g c =
     let mid = g.W.Write.contents c.loop-body.out in
     let new = g.W.Write.contents c.send_body.new.out in
     let more = rest_more deref c.loop-body.body-iterator c.next.new.self c.next.result c.in-Some.body c.in-Some.is c.next.ensures.steps in
-    body_sent old mid new (c.args.buffer.now ++ texts (values c.args.best.now)) c.loop-body.buffer c.in-Some.body.now c.next.new.self c.loop-body.body-iterator more c.loop-body.invariant c.send_body.new.buffer c.in_ok-send_body.ensures.ok
+    body_sent old mid new (c.args.buffer.now ++
+    texts (values c.args.best.now)) c.loop-body.buffer c.in-Some.body.now c.next.new.self c.loop-body.body-iterator more c.loop-body.invariant c.send_body.new.buffer c.in_ok-send_body.ensures.ok
 
 pub returns-clause-ok : goal.returns-clause-ok
 returns-clause-ok g c =

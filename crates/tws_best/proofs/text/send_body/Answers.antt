@@ -24,7 +24,9 @@ returns-clause-ok g c =
     let left = c.send-2.new.self in
     let body = c.args.body.now in
     let pushed = ap (λ (x : List ℕ). b ++ x) c.size_bytes.ensures in
-    on_ok c.send-2.result (λ second. both_sent old mid new b (little_bytes 4 (length body)) body (b ++ c.size_bytes.result) first pushed c.in_ok-send.ensures.ok left (subst (λ (x : List ℕ). Sends mid new (first ++ x) left) c.as_slice.ensures.bytes second)) c.send-2.ensures.ok
+    on_ok c.send-2.result (λ second. both_sent old mid new b (little_bytes 4 (length body)) body
+    (b ++ c.size_bytes.result) first pushed c.in_ok-send.ensures.ok left
+    (subst (λ (x : List ℕ). Sends mid new (first ++ x) left) c.as_slice.ensures.bytes second)) c.send-2.ensures.ok
 
 pub returns-clause-err : goal.returns-clause-err
 returns-clause-err g c =
@@ -35,4 +37,7 @@ returns-clause-err g c =
     let first = c.send.new.self in
     let body = c.args.body.now in
     let pushed = ap (λ (x : List ℕ). b ++ x) c.size_bytes.ensures in
-    on_err c.send-2.result (λ second. both_prefix old mid new b (little_bytes 4 (length body)) body (b ++ c.size_bytes.result) first pushed c.in_ok-send.ensures.ok (subst (λ (x : List ℕ). AppendsPrefix mid new (first ++ x)) c.as_slice.ensures.bytes second)) c.send-2.ensures.err
+    on_err c.send-2.result
+    (λ second. both_prefix old mid new b (little_bytes 4 (length body)) body
+    (b ++ c.size_bytes.result) first pushed c.in_ok-send.ensures.ok
+    (subst (λ (x : List ℕ). AppendsPrefix mid new (first ++ x)) c.as_slice.ensures.bytes second)) c.send-2.ensures.err

@@ -10,7 +10,11 @@ pub returns-in_err-push_move-clause-err : goal.returns-in_err-push_move-clause-e
 returns-in_err-push_move-clause-err g c =
     let old = g.W.Write.contents c.args.out.now in
     let now = g.W.Write.contents c.loop-one.out in
-    at_err c.from_residual.result (_, Sends-of-all of_moves move_line of_moves-append of_moves-one old now now (string_bytes c.args.text.now) c.args.moves.now c.loop-one.one-index (string_bytes c.loop-one.text) c.loop-one.invariant)
+    at_err c.from_residual.result (
+      _,
+      Sends-of-all of_moves move_line of_moves-append of_moves-one old now now
+          (string_bytes c.args.text.now) c.args.moves.now c.loop-one.one-index (string_bytes c.loop-one.text) c.loop-one.invariant,
+    )
 
 pub returns-in_err-send_if_large-clause-err : goal.returns-in_err-send_if_large-clause-err
 returns-in_err-send_if_large-clause-err g c =
@@ -20,8 +24,13 @@ returns-in_err-send_if_large-clause-err g c =
     let start = string_bytes c.args.text.now in
     let i = c.loop-one.one-index in
     let pushed = string_bytes c.push_move.new.text in
-    let gathered = line_gathered of_moves move_line of_moves-append of_moves-one old mid new start c.args.moves.now i (string_bytes c.loop-one.text) pushed c.one-item.result c.loop-one.invariant c.loop-one-test.true c.one-item.is c.in_ok-push_move.ensures in
-    at_err c.from_residual-in_err-send_if_large.result (some_of_prefix old new (start ++ of_moves c.args.moves.now) (prefix_of_all of_moves move_line of_moves-append of_moves-one old mid new start c.args.moves.now (i + 1) (prefix_then old mid new (start ++ of_moves (take (i + 1) c.args.moves.now)) pushed gathered c.in_err-send_if_large.ensures.err)))
+    let gathered = line_gathered of_moves move_line of_moves-append of_moves-one old mid new start c.args.moves.now i
+    (string_bytes c.loop-one.text) pushed c.one-item.result c.loop-one.invariant c.loop-one-test.true c.one-item.is c.in_ok-push_move.ensures in
+    at_err c.from_residual-in_err-send_if_large.result
+    (some_of_prefix old new (start ++ of_moves c.args.moves.now)
+    (prefix_of_all of_moves move_line of_moves-append of_moves-one old mid new start c.args.moves.now (i + 1)
+    (prefix_then old mid new
+    (start ++ of_moves (take (i + 1) c.args.moves.now)) pushed gathered c.in_err-send_if_large.ensures.err)))
 
 pub loop-one-preserved : goal.loop-one-preserved
 loop-one-preserved g c =
@@ -31,5 +40,6 @@ loop-one-preserved g c =
     let start = string_bytes c.args.text.now in
     let i = c.loop-one.one-index in
     let pushed = string_bytes c.push_move.new.text in
-    let gathered = line_gathered of_moves move_line of_moves-append of_moves-one old mid new start c.args.moves.now i (string_bytes c.loop-one.text) pushed c.one-item.result c.loop-one.invariant c.loop-one-test.true c.one-item.is c.in_ok-push_move.ensures in
+    let gathered = line_gathered of_moves move_line of_moves-append of_moves-one old mid new start c.args.moves.now i
+    (string_bytes c.loop-one.text) pushed c.one-item.result c.loop-one.invariant c.loop-one-test.true c.one-item.is c.in_ok-push_move.ensures in
     Sends-then old mid new (start ++ of_moves (take (i + 1) c.args.moves.now)) pushed gathered (string_bytes c.send_if_large.new.text) c.in_ok-send_if_large.ensures.ok

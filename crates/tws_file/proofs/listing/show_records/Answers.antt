@@ -16,7 +16,9 @@ returns-in_err-show_record-clause-err g c =
     let records = c.args.records.now in
     let buffer = string_bytes c.loop-record.text in
     let this = c.record-item.result in
-    let gathered = line_gathered (of_records w) (of_record w) (of_records-append w) (of_records-one w) old mid new start records i buffer (buffer ++ of_record w this) this c.loop-record.invariant c.loop-record-test.true c.record-item.is refl in
+    let gathered = line_gathered (of_records w) (of_record w) (of_records-append w)
+    (of_records-one w) old mid new start records i buffer
+    (buffer ++ of_record w this) this c.loop-record.invariant c.loop-record-test.true c.record-item.is refl in
     let shown = some_then old mid new (start ++ of_records w (take (i + 1) records)) (buffer ++ of_record w this) gathered c.in_err-show_record.ensures.err in
     at_err c.from_residual.result (_, Sends-of-all (of_records w) (of_record w) (of_records-append w) (of_records-one w) old new new start records (i + 1) shown.0 shown.1)
 
@@ -31,5 +33,7 @@ loop-record-preserved g c =
     let records = c.args.records.now in
     let buffer = string_bytes c.loop-record.text in
     let this = c.record-item.result in
-    let gathered = line_gathered (of_records w) (of_record w) (of_records-append w) (of_records-one w) old mid new start records i buffer (buffer ++ of_record w this) this c.loop-record.invariant c.loop-record-test.true c.record-item.is refl in
+    let gathered = line_gathered (of_records w) (of_record w) (of_records-append w)
+    (of_records-one w) old mid new start records i buffer
+    (buffer ++ of_record w this) this c.loop-record.invariant c.loop-record-test.true c.record-item.is refl in
     Sends-then old mid new (start ++ of_records w (take (i + 1) records)) (buffer ++ of_record w this) gathered (string_bytes c.show_record.new.text) c.in_ok-show_record.ensures.ok

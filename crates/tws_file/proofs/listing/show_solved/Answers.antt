@@ -12,13 +12,21 @@ use Rattle.tws_file.proofs.listing.show_solved.Goals as goal
 
 pub returns-in-Ok-clause-ok : goal.returns-in-Ok-clause-ok
 returns-in-Ok-clause-ok g c =
-    let shown = c.deref.ensures.value ∙ moves_in_spelled c.as_slice.result.now c.in-Ok.moves.items c.in-Ok.ensures.read ∙ ap moves_in (c.as_slice.ensures.list ∙ ap (λ (s : Solution). s.moves) c.s.view_is) in
-    on_ok_weaker c.show_moves.result (λ p. subst (λ (moves : List Move). Sends (g.W.Write.contents c.args.out.now) (g.W.Write.contents c.show_moves.new.out) (string_bytes c.args.text.now ++ flat_map move_line moves) (string_bytes c.show_moves.new.text)) shown p) c.show_moves.ensures.ok
+    let shown = c.deref.ensures.value ∙ moves_in_spelled c.as_slice.result.now c.in-Ok.moves.items c.in-Ok.ensures.read ∙
+    ap moves_in (c.as_slice.ensures.list ∙ ap (λ (s : Solution). s.moves) c.s.view_is) in
+    on_ok_weaker c.show_moves.result
+    (λ p. subst (λ (moves : List Move). Sends (g.W.Write.contents c.args.out.now) (g.W.Write.contents c.show_moves.new.out)
+    (string_bytes c.args.text.now ++ flat_map move_line moves)
+    (string_bytes c.show_moves.new.text)) shown p) c.show_moves.ensures.ok
 
 pub returns-in-Ok-clause-err : goal.returns-in-Ok-clause-err
 returns-in-Ok-clause-err g c =
-    let shown = c.deref.ensures.value ∙ moves_in_spelled c.as_slice.result.now c.in-Ok.moves.items c.in-Ok.ensures.read ∙ ap moves_in (c.as_slice.ensures.list ∙ ap (λ (s : Solution). s.moves) c.s.view_is) in
-    on_err_weaker c.show_moves.result (λ p. subst (λ (moves : List Move). SendsSome (g.W.Write.contents c.args.out.now) (g.W.Write.contents c.show_moves.new.out) (string_bytes c.args.text.now ++ flat_map move_line moves)) shown p) c.show_moves.ensures.err
+    let shown = c.deref.ensures.value ∙ moves_in_spelled c.as_slice.result.now c.in-Ok.moves.items c.in-Ok.ensures.read ∙
+    ap moves_in (c.as_slice.ensures.list ∙ ap (λ (s : Solution). s.moves) c.s.view_is) in
+    on_err_weaker c.show_moves.result
+    (λ p. subst (λ (moves : List Move). SendsSome (g.W.Write.contents c.args.out.now)
+    (g.W.Write.contents c.show_moves.new.out)
+    (string_bytes c.args.text.now ++ flat_map move_line moves)) shown p) c.show_moves.ensures.err
 
 pub returns-in-Err-Memory-clause-err : goal.returns-in-Err-Memory-clause-err
 returns-in-Err-Memory-clause-err g c = some_none _ _

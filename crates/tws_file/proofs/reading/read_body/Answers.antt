@@ -5,4 +5,5 @@ use Rattle.tws_file.proofs.reading.read_body.Goals as goal
 
 pub returns-then-is_set-clause-bytes : goal.returns-then-is_set-clause-bytes
 returns-then-is_set-clause-bytes g c =
-    set_from c.args.body.now c.of-rest.result c.read_key-key.result c.read_key-key.ensures.bytes (search rules) (c.of-rest.ensures.list ∙ c.in_ok-from_slice.ensures.items ∙ take_rest c.args.body.now 6)
+    set_from c.args.body.now c.of-rest.result c.read_key-key.result c.read_key-key.ensures.bytes (search rules)
+    (c.of-rest.ensures.list ∙ c.in_ok-from_slice.ensures.items ∙ take_rest c.args.body.now 6)

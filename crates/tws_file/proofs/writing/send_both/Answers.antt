@@ -16,7 +16,8 @@ returns-clause-ok g c =
     let mid = g.W.Write.contents c.send.new.out in
     let new = g.W.Write.contents c.send-2.new.out in
     let pushed = c.args.buffer.now ++ c.args.head.now in
-    on_ok_weaker c.send-2.result (λ p. both_sent old mid new c.args.buffer.now c.args.head.now c.args.tail.now pushed c.send.new.self refl c.in_ok-send.ensures.ok c.send-2.new.self p) c.send-2.ensures.ok
+    on_ok_weaker c.send-2.result
+    (λ p. both_sent old mid new c.args.buffer.now c.args.head.now c.args.tail.now pushed c.send.new.self refl c.in_ok-send.ensures.ok c.send-2.new.self p) c.send-2.ensures.ok
 
 pub returns-clause-err : goal.returns-clause-err
 returns-clause-err g c =

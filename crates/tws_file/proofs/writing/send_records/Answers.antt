@@ -18,8 +18,11 @@ returns-in_err-send_both-clause-err g c =
     let records = c.args.records.now in
     let text-is = ap (λ x. x ++ c.tail.result.now) c.as_slice.ensures ∙ ap (λ x. c.head.result ++ x) c.tail.ensures ∙ c.head.ensures in
     let pushed = c.loop-record.buffer ++ (c.as_slice.result.now ++ c.tail.result.now) in
-    let gathered = line_gathered texts text_of_record texts-append texts-one old mid new start records i c.loop-record.buffer pushed c.record-item.result c.loop-record.invariant c.loop-record-test.true c.record-item.is (ap (λ x. c.loop-record.buffer ++ x) text-is) in
-    at_err c.from_residual.result (prefix_of_all texts text_of_record texts-append texts-one old mid new start records (i + 1) (prefix_then old mid new (start ++ texts (take (i + 1) records)) pushed gathered c.in_err-send_both.ensures.err))
+    let gathered = line_gathered texts text_of_record texts-append texts-one old mid new start records i c.loop-record.buffer pushed c.record-item.result c.loop-record.invariant c.loop-record-test.true c.record-item.is
+    (ap (λ x. c.loop-record.buffer ++ x) text-is) in
+    at_err c.from_residual.result
+    (prefix_of_all texts text_of_record texts-append texts-one old mid new start records (i + 1)
+    (prefix_then old mid new (start ++ texts (take (i + 1) records)) pushed gathered c.in_err-send_both.ensures.err))
 
 pub loop-record-preserved : goal.loop-record-preserved
 loop-record-preserved g c =
@@ -31,5 +34,6 @@ loop-record-preserved g c =
     let records = c.args.records.now in
     let text-is = ap (λ x. x ++ c.tail.result.now) c.as_slice.ensures ∙ ap (λ x. c.head.result ++ x) c.tail.ensures ∙ c.head.ensures in
     let pushed = c.loop-record.buffer ++ (c.as_slice.result.now ++ c.tail.result.now) in
-    let gathered = line_gathered texts text_of_record texts-append texts-one old mid new start records i c.loop-record.buffer pushed c.record-item.result c.loop-record.invariant c.loop-record-test.true c.record-item.is (ap (λ x. c.loop-record.buffer ++ x) text-is) in
+    let gathered = line_gathered texts text_of_record texts-append texts-one old mid new start records i c.loop-record.buffer pushed c.record-item.result c.loop-record.invariant c.loop-record-test.true c.record-item.is
+    (ap (λ x. c.loop-record.buffer ++ x) text-is) in
     Sends-then old mid new (start ++ texts (take (i + 1) records)) pushed gathered c.send_both.new.buffer c.in_ok-send_both.ensures.ok

@@ -24,7 +24,9 @@ returns-in_err-send_records-clause-err g c =
     let pushed = c.new-buffer.result ++ (c.as_slice.result.now ++ c.args.extra.now) in
     let pushed-is = after_nothing c.new-buffer.result c.as_slice.result.now c.header_head-head.result c.args.extra.now header c.new-buffer.ensures c.as_slice.ensures c.header_head-head.ensures in
     let new = g.W.Write.contents c.send_records.new.out in
-    at_err c.from_residual-in_err-send_records.result (both_prefix old mid new [] header (texts c.args.records.now) pushed c.send_both.new.buffer pushed-is c.in_ok-send_both.ensures.ok c.in_err-send_records.ensures.err)
+    at_err c.from_residual-in_err-send_records.result
+    (both_prefix old mid new [] header
+    (texts c.args.records.now) pushed c.send_both.new.buffer pushed-is c.in_ok-send_both.ensures.ok c.in_err-send_records.ensures.err)
 
 pub returns-clause-ok : goal.returns-clause-ok
 returns-clause-ok g c =

@@ -12,5 +12,9 @@ returns g c =
     let wait : Wait = record { ticks = c.from.result; act = Step (byte / 4 % 8) } in
     let more = c.push_to.new.packed.items in
     let new = c.push.new.self.items in
-    subst (λ (ws : List Wait). Packs c.args.packed.now.items c.args.pending ws new pending.None) (sym (short_waits byte c.from.result c.from.ensures c.requires.short (omega (arith, c.ranges.byte.fits))))
-    (packs_apart c.args.packed.now.items more (byte ∷ []) new c.args.pending wait (sym c.is_plain.ensures ∙ c.if-is_plain.false) c.in_ok-push_to.ensures (short_alone byte c.from.result c.from.ensures c.requires.short (omega (arith, c.ranges.byte.fits))) c.in_ok-push.ensures.items)
+    subst (λ (ws : List Wait). Packs c.args.packed.now.items c.args.pending ws new pending.None)
+    (sym (short_waits byte c.from.result c.from.ensures c.requires.short (omega (arith, c.ranges.byte.fits))))
+    (packs_apart c.args.packed.now.items more (byte ∷ []) new c.args.pending wait
+    (sym c.is_plain.ensures ∙ c.if-is_plain.false) c.in_ok-push_to.ensures
+    (short_alone byte c.from.result c.from.ensures c.requires.short
+    (omega (arith, c.ranges.byte.fits))) c.in_ok-push.ensures.items)

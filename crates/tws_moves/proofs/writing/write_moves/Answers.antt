@@ -31,7 +31,9 @@ returns-clause-written g c =
 pub returns-clause-shortest : goal.returns-clause-shortest
 returns-clause-shortest g c =
     let written = returns-clause-written g c in
-    rw written (held_shortest c.args.moves.now c.requires (all_held (waits_from 0 c.args.moves.now) c.loop-index.bytes.items c.loop-index.index c.loop-index.invariant (omega (arith, waits_length 0 c.args.moves.now))))
+    rw written (held_shortest c.args.moves.now c.requires
+    (all_held (waits_from 0 c.args.moves.now) c.loop-index.bytes.items c.loop-index.index c.loop-index.invariant
+    (omega (arith, waits_length 0 c.args.moves.now))))
 
 pub returns-clause-accepts : goal.returns-clause-accepts
 returns-clause-accepts g c = λ others spells. omega (arith, ap length (returns-clause-written g c), spelled_least others c.args.moves.now spells)

@@ -25,7 +25,9 @@ invariant_of-self-2 g c =
     let was : found_at (get room) keys ≡ c.args.self.now = ap (λ p. found_at (get p) keys) c.reserve.ensures.rest_kept ∙ c.self.view_is in
     let free : lookup (at_port c.args.port) keys ≡ None = free_port keys room held (at_port c.args.port) (ap (lookup (at_port c.args.port)) was ∙ c.requires.free) in
     let same = c.insert_reserved.ensures.key ∙ sym c.vacant_key-key.ensures.value in
-    subst (λ (es : List (ℕ × ℕ)). AreHeld es c.insert_reserved.new.self) (sym (c.in_ok-insert.ensures.inserted ∙ ap (λ (k : ℕ). insert_entry nat_cmp keys c.args.port k) (sym same))) (held_inserted keys room held c.insert_reserved.new.self c.insert_reserved.result c.args.port c.args.value c.insert_reserved.ensures.was_vacant c.insert_reserved.ensures.updates free c.insert_reserved.ensures.len)
+    subst (λ (es : List (ℕ × ℕ)). AreHeld es c.insert_reserved.new.self)
+    (sym (c.in_ok-insert.ensures.inserted ∙ ap (λ (k : ℕ). insert_entry nat_cmp keys c.args.port k) (sym same)))
+    (held_inserted keys room held c.insert_reserved.new.self c.insert_reserved.result c.args.port c.args.value c.insert_reserved.ensures.was_vacant c.insert_reserved.ensures.updates free c.insert_reserved.ensures.len)
 
 pub returns-clause-inserted : goal.returns-clause-inserted
 returns-clause-inserted g c =

@@ -15,7 +15,9 @@ remove-requires-in-Some g c = placed c.self.inside.keys c.self.inside.slots c.se
 pub invariant_of-self : goal.invariant_of-self
 invariant_of-self g c =
     subst (λ (es : List (ℕ × ℕ)). AreHeld es c.remove-in-Some.new.self) (sym c.remove.ensures.left)
-    (held_removed c.self.inside.keys c.self.inside.slots c.self.invariant c.remove-in-Some.new.self c.in-Some.key (at_port c.args.port) (sym c.remove.ensures.key ∙ c.in-Some.is) c.remove-in-Some.ensures.updates c.remove-in-Some.ensures.len)
+    (held_removed c.self.inside.keys c.self.inside.slots c.self.invariant c.remove-in-Some.new.self c.in-Some.key
+    (at_port c.args.port) (sym c.remove.ensures.key ∙
+    c.in-Some.is) c.remove-in-Some.ensures.updates c.remove-in-Some.ensures.len)
 
 pub invariant_of-self-in_default : goal.invariant_of-self-in_default
 invariant_of-self-in_default g c =
@@ -26,7 +28,8 @@ invariant_of-self-in_default g c =
 pub returns-in-Some : goal.returns-in-Some
 returns-in-Some g c =
     ap (found_at (get c.remove-in-Some.new.self)) c.remove.ensures.left
-    ∙ found_removed c.self.inside.keys c.self.inside.slots c.self.invariant c.remove-in-Some.new.self c.in-Some.key (at_port c.args.port) (sym c.remove.ensures.key ∙ c.in-Some.is) c.remove-in-Some.ensures.updates
+    ∙ found_removed c.self.inside.keys c.self.inside.slots c.self.invariant c.remove-in-Some.new.self c.in-Some.key
+    (at_port c.args.port) (sym c.remove.ensures.key ∙ c.in-Some.is) c.remove-in-Some.ensures.updates
     ∙ ap (remove_entry (at_port c.args.port)) c.self.view_is
 
 pub returns-in_default : goal.returns-in_default

@@ -17,9 +17,13 @@ returns-in-Ok-Error-clause-step g c =
 pub returns-in-Ok-Read-clause-step : goal.returns-in-Ok-Read-clause-step
 returns-in-Ok-Read-clause-step g c =
     let is = ap (λ p. decoded_of (Ok p)) (sym c.in-Ok-Read.field-0-is) ∙ c.in-Ok-Read.ensures.function in
-    ap (λ (a : TableAnswer). a.step) (c.on_misplaced_request.ensures.reads c.in-Ok-Read.field-0-0.now c.in-Ok-Read.field-0-1.now ∙ packet_come _ _ c.args.port c.args.from c.args.bytes.now c.args.self.now _ is)
+    ap (λ (a : TableAnswer). a.step)
+    (c.on_misplaced_request.ensures.reads c.in-Ok-Read.field-0-0.now c.in-Ok-Read.field-0-1.now ∙
+    packet_come _ _ c.args.port c.args.from c.args.bytes.now c.args.self.now _ is)
 
 pub returns-in-Ok-Write-clause-step : goal.returns-in-Ok-Write-clause-step
 returns-in-Ok-Write-clause-step g c =
     let is = ap (λ p. decoded_of (Ok p)) (sym c.in-Ok-Write.field-0-is) ∙ c.in-Ok-Write.ensures.function in
-    ap (λ (a : TableAnswer). a.step) (c.on_misplaced_request-in-Ok-Write.ensures.writes c.in-Ok-Write.field-0-0.now c.in-Ok-Write.field-0-1.now ∙ packet_come _ _ c.args.port c.args.from c.args.bytes.now c.args.self.now _ is)
+    ap (λ (a : TableAnswer). a.step)
+    (c.on_misplaced_request-in-Ok-Write.ensures.writes c.in-Ok-Write.field-0-0.now c.in-Ok-Write.field-0-1.now ∙
+    packet_come _ _ c.args.port c.args.from c.args.bytes.now c.args.self.now _ is)

@@ -4,7 +4,9 @@ use Rattle.archive_table.proofs.Serving.{none_fits}
 use Rattle.archive_table.proofs.table.Table.new.Goals as goal
 
 pub invariant_of-result : goal.invariant_of-result
-invariant_of-result g c = none_fits _ (ap (λ (d : Collected). d.«ruleset») c.of.ensures ∙ c.new.ensures.rules) (ap (λ (d : Collected). d.«ruleset») c.of-2.ensures ∙ c.new-2.ensures.rules) c.new-3.ensures
+invariant_of-result g c = none_fits _ (ap (λ (d : Collected). d.«ruleset») c.of.ensures ∙ c.new.ensures.rules)
+    (ap (λ (d : Collected). d.«ruleset») c.of-2.ensures ∙ c.new-2.ensures.rules) c.new-3.ensures
 
 pub returns-clause-fits : goal.returns-clause-fits
-returns-clause-fits g c = none_fits _ (ap (λ (d : Collected). d.«ruleset») c.of.ensures ∙ c.new.ensures.rules) (ap (λ (d : Collected). d.«ruleset») c.of-2.ensures ∙ c.new-2.ensures.rules) c.new-3.ensures
+returns-clause-fits g c = none_fits _ (ap (λ (d : Collected). d.«ruleset») c.of.ensures ∙ c.new.ensures.rules)
+    (ap (λ (d : Collected). d.«ruleset») c.of-2.ensures ∙ c.new-2.ensures.rules) c.new-3.ensures

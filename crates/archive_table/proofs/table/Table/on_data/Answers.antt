@@ -14,8 +14,8 @@ invariant_of-self-in-Err g c = set_fits c.args.port _ (table_of c.self.inside) c
 pub invariant_of-self-in-None : goal.invariant_of-self-in-None
 invariant_of-self-in-None g c = set_fits c.args.port _ (table_of c.self.inside) c.self.invariant c.on_data-came.ensures.fits
 
-pub invariant_of-self-in-Some-whole : goal.invariant_of-self-in-Some-whole
-invariant_of-self-in-Some-whole g c = set_fits c.args.port _ (table_of c.self.inside) c.self.invariant c.on_data-came.ensures.fits
+pub invariant_of-self-in-Some-file : goal.invariant_of-self-in-Some-file
+invariant_of-self-in-Some-file g c = set_fits c.args.port _ (table_of c.self.inside) c.self.invariant c.on_data-came.ensures.fits
 
 pub returns-in-None-clause-fits : goal.returns-in-None-clause-fits
 returns-in-None-clause-fits g c = set_fits c.args.port _ (table_of c.self.inside) c.self.invariant c.on_data-came.ensures.fits
@@ -23,7 +23,9 @@ returns-in-None-clause-fits g c = set_fits c.args.port _ (table_of c.self.inside
 pub returns-in-Err-clause-keeps : goal.returns-in-Err-clause-keeps
 returns-in-Err-clause-keeps g c =
     let grant = ap (λ (t : Step). grant_of t.out) c.fail.ensures.step ∙ ap (λ (w : Refusal). dgram_grant (refusal_dgram w)) c.refusal.ensures in
-    keeps_same (grant_of c.fail.new.step.out) _ c.args.self.now.maps c.fail.new.self.maps _ _ (λ e. fault_grant c.in-Err.fault (sym grant ∙ e)) (ap (λ (s : Table). s.maps) (c.fail.ensures.server) ∙ ap (λ (s : Table). s.maps) c.self.view_is) refl
+    keeps_same (grant_of c.fail.new.step.out) _ c.args.self.now.maps c.fail.new.self.maps _ _
+    (λ e. fault_grant c.in-Err.fault (sym grant ∙ e))
+    (ap (λ (s : Table). s.maps) (c.fail.ensures.server) ∙ ap (λ (s : Table). s.maps) c.self.view_is) refl
 
 pub returns-in-None-clause-keeps : goal.returns-in-None-clause-keeps
 returns-in-None-clause-keeps g c =

@@ -8,12 +8,12 @@ use Rattle.archive_table.proofs.table.Table.on_file.Goals as goal
 
 pub returns-in-Err-clause-keeps : goal.returns-in-Err-clause-keeps
 returns-in-Err-clause-keeps g c =
-    let file = c.args.whole.file in
+    let file = c.args.file in
     let wanted = Some (record { peer = c.args.peer; file = file }) in
     let was = g.K.Keeper.log c.args.keeper.now in
     let now = g.K.Keeper.log c.merge_file.new.keeper in
     let grant : grant_of c.fail.new.step.out ≡ dgram_grant (refusal_dgram c.in-Err.why) = ap (λ (t : Step). grant_of t.out) c.fail.ensures.step in
-    let refused : RefusesFile c.in-Err.why file c.args.self.now.maps was now = subst (λ (s : Table). RefusesFile c.in-Err.why file s.maps was now) c.self.view_is (c.in-Err.ensures.unkept file c.requires.read) in
+    let refused : RefusesFile c.in-Err.why file c.args.self.now.maps was now = subst (λ (s : Table). RefusesFile c.in-Err.why file s.maps was now) c.self.view_is c.in-Err.ensures.unkept in
     subst (λ (g : Grant). StepKeeps g wanted c.args.self.now.maps c.fail.new.self.maps was now) (sym grant)
     (refused_keeps c.in-Err.why c.args.peer file c.args.self.now.maps c.fail.new.self.maps was now refused)
 

@@ -4,8 +4,8 @@ use Rattle.archive_turns.proofs.Running.{some_none, some_more}
 use Rattle.archive_turns.proofs.run.Run.turns.Goals as goal
 
 pub loop-turn-init : goal.loop-turn-init
-loop-turn-init g c = some_none _ _
+loop-turn-init g c = some_none _ _ _ _
 
 pub loop-turn-preserved : goal.loop-turn-preserved
 loop-turn-preserved g c =
-    some_more _ _ _ _ c.loop-turn.invariant (ap (λ (x : Client). is_over x) (sym c.client.ensures) ∙ sym c.is_over.ensures ∙ c.if-is_over.false) c.turn.ensures
+    some_more _ _ _ _ _ _ c.loop-turn.invariant (ap (λ (x : Client). is_over x) (sym c.client.ensures) ∙ sym c.is_over.ensures ∙ c.if-is_over.false) c.turn.ensures

@@ -11,5 +11,7 @@ returns-in_default g c =
 pub returns : goal.returns
 returns g c =
     on-ok c.answer.result
-    (λ is. waited c.args.e c.args.self.now (world_of c.self.inside) c.answer.new.self c.self.view_is c.self.inside.clients.items c.wait_at.new.clients.items c.in_ok-answered.answered.sent c.in_ok-answered.answered.file c.in_ok-answered.answered.out refl c.in_ok-answered.ensures is)
+    (λ is. waited c.args.e c.args.self.now (world_of c.self.inside) c.answer.new.self c.self.view_is c.self.inside.clients.items
+    c.wait_at.new.clients.items c.in_ok-answered.answered.sent c.in_ok-answered.answered.file c.in_ok-answered.answered.out refl
+    c.in_ok-answered.ensures is)
     c.answer.ensures

@@ -10,4 +10,5 @@ returns-then-i-len g c =
 pub returns-else-i-len : goal.returns-else-i-len
 returns-else-i-len g c =
     c.as_slice-else-i-len.ensures.value
-    ∙ chunk_last c.args.self.now c.self.inside.full.items c.self.inside.last.items c.args.i (sym c.self.view_is) c.self.invariant.whole c.self.invariant.within (omega (arith, c.self.inside.full.ok.0)) c.requires
+    ∙ chunk_last c.args.self.now c.self.inside.full.items c.self.inside.last.items c.args.i
+    (sym c.self.view_is) c.self.invariant.whole c.self.invariant.within (omega (arith, c.self.inside.full.ok.0)) c.requires

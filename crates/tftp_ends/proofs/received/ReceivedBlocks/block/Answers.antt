@@ -21,8 +21,12 @@ slice_bounds-rest-start g c =
 
 pub returns-clause-count : goal.returns-clause-count
 returns-clause-count g c =
-    (copied_chunk c.args.self.now c.chunk-chunk.result.now _ [] c.copy_from_slice.new.self (BLOCK_SIZE * (c.from.result - 1)) c.args.k c.min-count.result (omega (arith, c.from.ensures)) c.chunk-chunk.ensures refl c.min-count.ensures c.copy_from_slice.ensures.after).0
+    (copied_chunk c.args.self.now c.chunk-chunk.result.now _ [] c.copy_from_slice.new.self
+    (BLOCK_SIZE * (c.from.result - 1)) c.args.k c.min-count.result
+    (omega (arith, c.from.ensures)) c.chunk-chunk.ensures refl c.min-count.ensures c.copy_from_slice.ensures.after).0
 
 pub returns-clause-bytes : goal.returns-clause-bytes
 returns-clause-bytes g c =
-    (copied_chunk c.args.self.now c.chunk-chunk.result.now _ _ c.copy_from_slice.new.self (BLOCK_SIZE * (c.from.result - 1)) c.args.k c.min-count.result (omega (arith, c.from.ensures)) c.chunk-chunk.ensures refl c.min-count.ensures c.copy_from_slice.ensures.after).1
+    (copied_chunk c.args.self.now c.chunk-chunk.result.now _ _ c.copy_from_slice.new.self
+    (BLOCK_SIZE * (c.from.result - 1)) c.args.k c.min-count.result
+    (omega (arith, c.from.ensures)) c.chunk-chunk.ensures refl c.min-count.ensures c.copy_from_slice.ensures.after).1

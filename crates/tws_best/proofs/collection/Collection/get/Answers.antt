@@ -12,4 +12,5 @@ returns-in-Some-clause-found g c =
 
 pub returns-in-None-clause-absent : goal.returns-in-None-clause-absent
 returns-in-None-clause-absent g c = λ h.
-    not_found c.args.key c.self.inside.best.entries (sym c.in-None.ensures.value) h.entry (subst (λ (es : List KeyedBody). Contains es h.entry) (ap (λ v. v.entries) (sym c.self.view_is)) h.present) h.key_is
+    not_found c.args.key c.self.inside.best.entries (sym c.in-None.ensures.value) h.entry
+    (subst (λ (es : List KeyedBody). Contains es h.entry) (ap (λ v. v.entries) (sym c.self.view_is)) h.present) h.key_is

@@ -11,8 +11,10 @@ of-requires g c =
 
 pub returns-clause-value : goal.returns-clause-value
 returns-clause-value g c =
-    is_frozen c.args.self.now c.self.inside.ruleset c.self.inside.best.entries (ap (λ v. v.ruleset) c.self.view_is) (ap (λ v. v.entries) c.self.view_is) c.of.result c.of.ensures.rules c.of.ensures.bodies
+    is_frozen c.args.self.now c.self.inside.ruleset c.self.inside.best.entries (ap (λ v. v.ruleset) c.self.view_is)
+    (ap (λ v. v.entries) c.self.view_is) c.of.result c.of.ensures.rules c.of.ensures.bodies
 
 pub returns-clause-text : goal.returns-clause-text
 returns-clause-text g c =
-    has_text c.args.self.now c.self.inside.ruleset c.self.inside.best.entries (ap (λ v. v.ruleset) c.self.view_is) (ap (λ v. v.entries) c.self.view_is) c.of.result c.of.ensures.rules c.of.ensures.bodies
+    has_text c.args.self.now c.self.inside.ruleset c.self.inside.best.entries (ap (λ v. v.ruleset) c.self.view_is)
+    (ap (λ v. v.entries) c.self.view_is) c.of.result c.of.ensures.rules c.of.ensures.bodies

@@ -23,7 +23,10 @@ returns-else-k-eq1-clause-bytes g c =
     let slice = c.deref.result.now in
     let first = take c.put_record-first.result c.put_record-first.new.block in
     let same = ap (λ v. length v.bodies) c.self.view_is in
-    later_block (collection_header c.args.self.now.ruleset) body first (take c.put_bodies-else-k-eq1.result c.put_bodies-else-k-eq1.new.block) c.args.self.now.bodies (take (length slice - (i + 1)) (drop (i + 1) slice)) i r c.args.k refl c.find-index.ensures.inside c.find-index.ensures.within
+    later_block (collection_header c.args.self.now.ruleset) body first
+    (take c.put_bodies-else-k-eq1.result c.put_bodies-else-k-eq1.new.block) c.args.self.now.bodies
+    (take (length slice - (i + 1))
+    (drop (i + 1) slice)) i r c.args.k refl c.find-index.ensures.inside c.find-index.ensures.within
     (ap (λ n. 512 * (n - 1)) (sym c.from.ensures) ∙ c.find-index.ensures.is)
     (c.index.ensures ∙ get_or_default held i body [] (omega (arith, c.find-index.ensures.inside, same)) ∙ ap (λ v. get_or v.bodies i []) c.self.view_is)
     (take_rest slice (i + 1) ∙ ap (drop (i + 1)) (c.deref.ensures.value ∙ ap (λ v. v.bodies) c.self.view_is))

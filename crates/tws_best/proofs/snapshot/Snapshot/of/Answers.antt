@@ -16,7 +16,8 @@ loop-body-preserved g c =
     let pushed = c.in_ok-push-2.ensures.items ∙ ap (λ b. before.bodies.items ++ b ∷ []) c.in_ok-clone.ensures.cases in
     let size : 4 + c.from.result ≡ length (body_text body) = omega (arith, c.from.ensures, c.size.ensures) in
     record {
-      all = all_noted before.bodies.items more before.body-iterator c.next.new.self (values c.args.best.now) given body c.in_ok-push-2.ensures.items c.in_ok-clone.ensures.cases left before.invariant.all;
+      all = all_noted before.bodies.items more before.body-iterator c.next.new.self
+          (values c.args.best.now) given body c.in_ok-push-2.ensures.items c.in_ok-clone.ensures.cases left before.invariant.all;
       starts = start_noted before.bodies.items more before.starts.items c.push.new.self.items before.len body pushed before.invariant.starts before.invariant.len c.in_ok-push.ensures.items;
       len = len_noted before.bodies.items more before.len (4 + c.from.result) body pushed before.invariant.len size;
     }

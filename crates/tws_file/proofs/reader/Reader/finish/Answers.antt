@@ -1,20 +1,27 @@
-use Rattle.std.proofs.Common.{◌∙◌, rules}
-use Rattle.tws_file.proofs.ReadSoFar.{finishes_short, finishes_cut}
+use Rattle.std.proofs.Common.{◌≡◌, ℕ, List, Some, sym, subst}
+use Rattle.tws_file.specs.declared.file_fault.FileFault.{FileFault}
+use Rattle.tws_file.specs.Text.{Record, IsText}
+use Rattle.tws_file.specs.TwsFile.{file_of}
+use Rattle.tws_file.specs.PartReader.{HasRead}
+use Rattle.tws_file.specs.Steps.{with_records}
+use Rattle.tws_file.proofs.InParts.{end_ok, end_err, finishes_fault, finishes_whole}
 use Rattle.tws_file.proofs.Lasting.{joined_from}
 use Rattle.tws_file.proofs.reader.Reader.finish.Goals as goal
 
-pub returns-in-None-clause-finishes : goal.returns-in-None-clause-finishes
-returns-in-None-clause-finishes g c =
+pub returns-in-Err-clause-finishes : goal.returns-in-Err-clause-finishes
+returns-in-Err-clause-finishes g c =
     let r = c.self.inside in
-    finishes_short c.args.self r.fault r.so_far r.rest.items c.len.result c.self.view_is c.in_default.is c.in-None.is c.self.invariant.left (c.len.ensures ∙ r.rest.ok.0)
+    finishes_fault r.parts r.records c.args.self c.in-Err.fault c.self.view_is c.self.invariant.read c.in-Err.ensures.ends c.in-Err.ensures.kept
 
-pub returns-in-None-clause-joined : goal.returns-in-None-clause-joined
-returns-in-None-clause-joined g c = λ bytes taken. joined_from c.args.self bytes _ taken (returns-in-None-clause-finishes g c)
+pub returns-in-Err-clause-joined : goal.returns-in-Err-clause-joined
+returns-in-Err-clause-joined g c = λ bytes taken. joined_from c.args.self bytes _ taken (returns-in-Err-clause-finishes g c)
 
-pub returns-in-Some-2-clause-finishes : goal.returns-in-Some-2-clause-finishes
-returns-in-Some-2-clause-finishes g c =
+pub returns-in-Ok-clause-finishes : goal.returns-in-Ok-clause-finishes
+returns-in-Ok-clause-finishes g c =
     let r = c.self.inside in
-    finishes_cut c.args.self r.fault r.so_far c.in-Some-2.field-0 r.rest.items r.offset c.self.view_is c.in_default.is c.in-Some-2.is c.self.invariant.left c.self.invariant.at (λ none. search rules)
+    let ends = subst (λ h. (rs : List Record) (bytes : List ℕ) → HasRead r.parts rs bytes → IsText bytes (with_records h rs)) (sym c.header.view_is) c.in-Ok.ensures.ends in
+    let kept = subst (λ h. (k : FileFault) → r.parts.fault ≡ Some k → end_ok h ≡ end_err k) (sym c.header.view_is) c.in-Ok.ensures.kept in
+    (finishes_whole r.parts r.records c.args.self (file_of c.header.inside) c.self.view_is c.self.invariant.read ends kept).1
 
-pub returns-in-Some-2-clause-joined : goal.returns-in-Some-2-clause-joined
-returns-in-Some-2-clause-joined g c = λ bytes taken. joined_from c.args.self bytes _ taken (returns-in-Some-2-clause-finishes g c)
+pub returns-in-Ok-clause-joined : goal.returns-in-Ok-clause-joined
+returns-in-Ok-clause-joined g c = λ bytes taken. joined_from c.args.self bytes _ taken (returns-in-Ok-clause-finishes g c)

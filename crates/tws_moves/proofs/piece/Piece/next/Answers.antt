@@ -8,7 +8,9 @@ pub returns-then-not-is_plain-clause-next : goal.returns-then-not-is_plain-claus
 returns-then-not-is_plain-clause-next c =
     let value = c.is_plain.ensures in
     let test = c.if-not-is_plain.true in
-    other_next (waits_from 0 c.args.moves.now) c.args.index c.of-wait.result (omega (arith, waits_length 0 c.args.moves.now)) c.of-wait.ensures c.alone.result _ _ _ (sym value ∙ test) c.alone.ensures.held c.alone.ensures.bytes c.alone.ensures.moves
+    other_next (waits_from 0 c.args.moves.now) c.args.index c.of-wait.result
+    (omega (arith, waits_length 0 c.args.moves.now)) c.of-wait.ensures c.alone.result _ _ _
+    (sym value ∙ test) c.alone.ensures.held c.alone.ensures.bytes c.alone.ensures.moves
 
 pub returns-then-not-is_plain-clause-none : goal.returns-then-not-is_plain-clause-none
 returns-then-not-is_plain-clause-none c =

@@ -26,7 +26,8 @@ returns-in_err-file-clause-unreadable g c =
     let p = err_from_is_err_and c.from_residual.result c.from_residual.ensures.1 in
     let before = c.loop-index in
     let reported : g.row.R.Denot → Option (List ℕ) = λ file. g.R.Read.remaining file in
-    rw (p.1, p.2) (read_out reported before.files before.index c.read_input.new.input _ _ (omega (arith, c.loop-index-test.true, before.invariant.count)) before.invariant.ended c.in_err-file.ensures.fault c.in_err-file.ensures.unreadable)
+    rw (p.1, p.2) (read_out reported before.files before.index c.read_input.new.input _ _
+    (omega (arith, c.loop-index-test.true, before.invariant.count)) before.invariant.ended c.in_err-file.ensures.fault c.in_err-file.ensures.unreadable)
 
 pub loop-index-preserved : goal.loop-index-preserved
 loop-index-preserved g c =
@@ -36,7 +37,8 @@ loop-index-preserved g c =
     let knowns = map reported (take before.index c.args.files.now) in
     let text = subst (λ file. IfSome (g.R.Read.remaining file) (λ bytes. IsText bytes c.in_ok-file.file)) (sym c.index-files-index.is) c.in_ok-file.ensures.file.text in
     let merged = c.merge.new.self in
-    let more = collects_more c.args.ruleset knowns (reported c.index-files-index.result) c.in_ok-file.file before.collection merged before.invariant.so_far text c.merge.ensures.rules c.in_ok-merge.ensures.best in
+    let more = collects_more c.args.ruleset knowns
+    (reported c.index-files-index.result) c.in_ok-file.file before.collection merged before.invariant.so_far text c.merge.ensures.rules c.in_ok-merge.ensures.best in
     record {
       count = set_count before.files c.args.files.now before.index c.read_input.new.input before.invariant.count;
       others = others_stay before.files c.args.files.now before.index c.read_input.new.input before.invariant.others;

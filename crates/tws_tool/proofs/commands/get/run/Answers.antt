@@ -27,4 +27,5 @@ returns-in-Some-clause-ran g c =
     let text : c.as_str.result.now ≡ typed = search rules in
     let is = subst (λ t. IsAddress t c.in-Some.address.host) text c.in-Some.ensures.some in
     let fetches = c.fetch-done.ensures in
-    subst (λ (n : ℕ). GetRan created_of arguments n before after old new) (sym c.finish.ensures.status) (get_ran old new created_of arguments c.in-Some.address.host before after c.fetch-done.result is fetches.got fetches.fails)
+    subst (λ (n : ℕ). GetRan created_of arguments n before after old new) (sym c.finish.ensures.status)
+    (get_ran old new created_of arguments c.in-Some.address.host before after c.fetch-done.result is fetches.got fetches.fails)

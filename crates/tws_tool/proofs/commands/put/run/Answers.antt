@@ -27,4 +27,5 @@ returns-in-Some-clause-ran g c =
     let text : c.as_str.result.now ≡ typed = search rules in
     let is = subst (λ t. IsAddress t c.in-Some.address.host) text c.in-Some.ensures.some in
     let sends = c.send-done.ensures in
-    subst (λ (n : ℕ). PutRan bytes_of arguments n before after old new) (sym c.finish.ensures.status) (put_ran old new bytes_of arguments c.in-Some.address.host before after c.send-done.result is sends.sent sends.fails)
+    subst (λ (n : ℕ). PutRan bytes_of arguments n before after old new) (sym c.finish.ensures.status)
+    (put_ran old new bytes_of arguments c.in-Some.address.host before after c.send-done.result is sends.sent sends.fails)

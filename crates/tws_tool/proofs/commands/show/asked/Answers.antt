@@ -6,4 +6,7 @@ use Rattle.tws_tool.proofs.commands.show.asked.Goals as goal
 pub returns : goal.returns
 returns c =
     let text = one_text-rows (found_of c.args.words.now) (codes "moves") in
-    ((λ e. c.get_flag-moves.ensures.value (text ∙ e)), (λ e. c.get_flag-moves.ensures.other (text ∙ e)), (λ e. c.get_flag-moves.ensures.none (text ∙ e)))
+    record {
+      source_is = c.in_ok-source.ensures;
+      moves_are = ((λ e. c.get_flag-moves.ensures.value (text ∙ e)), (λ e. c.get_flag-moves.ensures.other (text ∙ e)), (λ e. c.get_flag-moves.ensures.none (text ∙ e)));
+    }

@@ -1,0 +1,251 @@
+-- Whole calls are moves of the archive, turn by turn.
+use Rattle.std.proofs.Common.{◌≡◌, ◌≢◌, ℕ, Bool, true, false, cond, nat_le, List, ◌++◌, length, Contains, Option, Some, Result, Ok, Err, refl, ap, sym, ◌∙◌, subst}
+use Rattle.std.specs.Map.{lookup}
+use Rattle.tftp_packet.specs.declared.endpoint.Endpoint.{Endpoint}
+use Rattle.tws_file.specs.declared.«ruleset».Ruleset.{Ruleset}
+use Rattle.archive_table.specs.Table.{Table, Maps, is_same}
+use Rattle.archive_table.specs.Keeper.{Keeping}
+use Rattle.archive_client.specs.Client.{Operation, put, get, is_over}
+use Rattle.archive_turns.specs.declared.run_fault.RunFault.{RunFault}
+use Rattle.archive_turns.specs.Wire.{Entry}
+use Rattle.archive_turns.specs.Turn.{Receipt, datagram, nothing, fault, Server, Pass, IsTurn, IsRound, next_visit, turn_next, ready_next, ServesTurns}
+use Rattle.archive_turns.specs.Turn as turns
+use Rattle.archive_turns.specs.Run.{Run, RunAnswers, run_waited, run_received, run_turn, IsRunTurn, MakesRunTurns, Runs, begin_opened, Begins, PutAfter, GetAfter, put_result, WritesGot}
+use Rattle.archive_turns.specs.Run as runs
+use Rattle.tftp_ends.specs.Ends.{Verdict}
+use Rattle.archive_theorem.specs.World.{Begun, server_endpoint}
+use Rattle.archive_theorem.specs.Headline.{IsOwn, AreOver}
+use Rattle.archive_theorem.specs.Traces.{Member}
+use Rattle.archive_theorem.proofs.Places.{Has, Has-extends, Has-from_contains, Has-last, Extends-push}
+use Rattle.archive_theorem.proofs.Owning.{one_operation, same_put, same_get}
+use Rattle.archive_theorem.proofs.Endpoints.{exact_endpoint, same_endpoint}
+use Rattle.archive_theorem.proofs.Keyed.{lookup-written}
+use Rattle.archive_running.specs.Members.{visit_members, late_members}
+use Rattle.archive_running.specs.Archive.{Archive, Brings, after_server, own_endpoint, Moves, server_turns, server_rounds, server_restarts, client_begins, client_rounds, client_turns, Reaches}
+use Rattle.archive_running.specs.Archive as archive
+use Rattle.archive_running.specs.Calls.{Moment, IsReached, ServesAt, world_at, Meanwhile, still, others, LeavesServer, AfterPass, after_turn, after_round, PassesHappen, LeavesClient, RunTurnsHappen, after_begun, PutHappens, GetHappens, PutWasTaken, GetWasWritten}
+use Rattle.archive_running.proofs.Running.{run-mirrors, run-sent, run-fetched}
+
+-- ---- others move
+
+meanwhile-reached : (texts : List (List ℕ)) (maps : Maps) {Leaves : Archive → Archive → Type 0} {first last : Moment} →
+    Meanwhile Leaves first last → IsReached texts maps first → IsReached texts maps last
+meanwhile-reached texts maps (still m) reached = reached
+meanwhile-reached texts maps (others before move leaves) reached = archive.more (meanwhile-reached texts maps before reached) move
+
+server-left : {first last : Moment} → Meanwhile LeavesServer first last → LeavesServer first.archive last.archive
+server-left (still m) = (refl, refl)
+server-left (others before move leaves) =
+    let rest = server-left before in
+    (leaves.0 ∙ rest.0, leaves.1 ∙ rest.1)
+
+client-left : (e : Endpoint) {first last : Moment} → Meanwhile (LeavesClient e) first last → LeavesClient e first.archive last.archive
+client-left e (still m) = refl
+client-left e (others before move leaves) = leaves ∙ client-left e before
+
+-- what has begun stays
+begun-stays : {a b : Archive} {added : List Member} → Moves a b added → (x : Begun) → Has a.begun x → Has b.begun x
+begun-stays (server_turns a last timers per_host new took calls now t brings) x has = has
+begun-stays (server_rounds a last timers per_host new took calls now t brings) x has = has
+begun-stays (server_restarts a maps now loaded) x has = has
+begun-stays (client_begins a host operation port replies r away is) x has = Has-extends a.begun _ x (Extends-push a.begun _) has
+begun-stays (client_turns a host old new calls t away is brings) x has = has
+begun-stays (client_rounds a host pace old new calls t away is brings) x has = has
+
+meanwhile-begun : {Leaves : Archive → Archive → Type 0} {first last : Moment} → Meanwhile Leaves first last →
+    (x : Begun) → Has first.archive.begun x → Has last.archive.begun x
+meanwhile-begun (still m) x has = has
+meanwhile-begun (others before move leaves) x has = begun-stays move x (meanwhile-begun before x has)
+
+-- ---- the server
+
+-- an archive that differs in what the server and its keeper have
+abbrev with_server : Archive → Table → Option (List Keeping) → Archive
+with_server a s k = record { server = s; clients = a.clients; begun = a.begun; taken = a.taken; net = a.net; kept = k }
+
+turn-moves : {old new : Server} {took : Bool} {calls : List Entry} {kept now : Option (List Keeping)} (t : IsTurn old new took calls kept now) (a : Archive) →
+    a.server ≡ old.table → a.kept ≡ kept → Brings server_endpoint.host calls a →
+    Moves a (after_server new.table (next_visit (turn_next old) t.pass.answers old.table).taken calls now a)
+    (visit_members (turn_next old) t.pass.answers old.table ++ late_members t.pass.late)
+turn-moves {old} {new} {took} {calls} {kept} {now} t a server keeper brings =
+    let visit = next_visit (turn_next old) t.pass.answers old.table in
+    let added = visit_members (turn_next old) t.pass.answers old.table ++ late_members t.pass.late in
+    let Moved : Table → Option (List Keeping) → Type 0 =
+    λ s k. Brings server_endpoint.host calls (with_server a s k) → Moves (with_server a s k) (after_server new.table visit.taken calls now a) added in
+    let here : Moved old.table kept = λ b. server_turns (with_server a old.table kept) old.last old.timers old.per_host new took calls now t b in
+    let kept_there : Moved old.table a.kept = subst (Moved old.table) (sym keeper) here in
+    subst (λ (s : Table). Moved s a.kept) (sym server) kept_there brings
+
+round-moves : {old new : Server} {took : Bool} {calls : List Entry} {kept now : Option (List Keeping)} (t : IsRound old new took calls kept now) (a : Archive) →
+    a.server ≡ old.table → a.kept ≡ kept → Brings server_endpoint.host calls a →
+    Moves a (after_server new.table (next_visit (ready_next t.ready old.table) t.pass.answers old.table).taken calls now a)
+    (visit_members (ready_next t.ready old.table) t.pass.answers old.table ++ late_members t.pass.late)
+round-moves {old} {new} {took} {calls} {kept} {now} t a server keeper brings =
+    let visit = next_visit (ready_next t.ready old.table) t.pass.answers old.table in
+    let added = visit_members (ready_next t.ready old.table) t.pass.answers old.table ++ late_members t.pass.late in
+    let Moved : Table → Option (List Keeping) → Type 0 =
+    λ s k. Brings server_endpoint.host calls (with_server a s k) → Moves (with_server a s k) (after_server new.table visit.taken calls now a) added in
+    let here : Moved old.table kept = λ b. server_rounds (with_server a old.table kept) old.last old.timers old.per_host new took calls now t b in
+    let kept_there : Moved old.table a.kept = subst (Moved old.table) (sym keeper) here in
+    subst (λ (s : Table). Moved s a.kept) (sym server) kept_there brings
+
+module _ (texts : List (List ℕ)) (maps : Maps) where
+  serves-meanwhile : (table : Table) (kept : Option (List Keeping)) {first last : Moment} → Meanwhile LeavesServer first last →
+      ServesAt texts maps table kept first → ServesAt texts maps table kept last
+  serves-meanwhile table kept waits there =
+      let same = server-left waits in
+      (meanwhile-reached texts maps waits there.0, same.0 ∙ there.1, same.1 ∙ there.2)
+
+  module _ (Is : Pass) (after : AfterPass Is)
+      (one : (old new : Server) (took : Bool) (calls : List Entry) (kept now : Option (List Keeping)) (t : Is old new took calls kept now) (m : Moment) →
+      Brings server_endpoint.host calls m.archive → ServesAt texts maps old.table kept m → ServesAt texts maps new.table now
+      (after old new took calls kept now t m)) where
+    passes-serve : {count : ℕ} {old new : Server} {taken : ℕ} {calls : List Entry} {kept now : Option (List Keeping)}
+        (all : ServesTurns Is count old new taken calls kept now) {first last : Moment} →
+        PassesHappen Is after all first last → ServesAt texts maps old.table kept first → ServesAt texts maps new.table now last
+    passes-serve (turns.none s kept) waits there = serves-meanwhile s.table kept waits there
+    passes-serve (turns.more {mid = mid} {new = new} {added = added} {between = between} {now = now} took earlier made) h there =
+        serves-meanwhile new.table now h.others (one mid new took added between now made h.moment h.brings (passes-serve earlier h.before there))
+
+  turn-serves : (old new : Server) (took : Bool) (calls : List Entry) (kept now : Option (List Keeping)) (t : IsTurn old new took calls kept now) (m : Moment) →
+      Brings server_endpoint.host calls m.archive → ServesAt texts maps old.table kept m → ServesAt texts maps new.table now
+      (after_turn old new took calls kept now t m)
+  turn-serves old new took calls kept now t m brings there = (archive.more there.0 (turn-moves t m.archive there.1 there.2 brings), refl, refl)
+
+  round-serves : (old new : Server) (took : Bool) (calls : List Entry) (kept now : Option (List Keeping))
+      (t : IsRound old new took calls kept now) (m : Moment) →
+      Brings server_endpoint.host calls m.archive → ServesAt texts maps old.table kept m → ServesAt texts maps new.table now
+      (after_round old new took calls kept now t m)
+  round-serves old new took calls kept now t m brings there = (archive.more there.0 (round-moves t m.archive there.1 there.2 brings), refl, refl)
+
+  pub turns-serve : {count : ℕ} {old new : Server} {taken : ℕ} {calls : List Entry} {kept now : Option (List Keeping)}
+      (all : ServesTurns IsTurn count old new taken calls kept now) {first last : Moment} →
+      PassesHappen IsTurn after_turn all first last → ServesAt texts maps old.table kept first → ServesAt texts maps new.table now last
+  turns-serve = passes-serve IsTurn after_turn turn-serves
+
+  pub rounds-serve : {count : ℕ} {old new : Server} {taken : ℕ} {calls : List Entry} {kept now : Option (List Keeping)}
+      (all : ServesTurns IsRound count old new taken calls kept now) {first last : Moment} →
+      PassesHappen IsRound after_round all first last → ServesAt texts maps old.table kept first → ServesAt texts maps new.table now last
+  rounds-serve = passes-serve IsRound after_round round-serves
+
+-- ---- a client
+
+waited-port : (last : Bool) (r : Run) (ok : Bool) → (run_waited last r ok).run.port ≡ r.port
+waited-port true r ok = refl
+waited-port false r ok = refl
+
+received-port : (receipt : Receipt) (verdict : Verdict) (ok : Bool) (r : Run) → (run_received receipt verdict ok r).run.port ≡ r.port
+received-port (datagram from bytes) verdict ok r = refl
+received-port nothing verdict ok r = waited-port (nat_le r.left 1) r ok
+received-port fault verdict ok r = waited-port (nat_le r.left 1) r ok
+
+turn-port : {old new : Run} {calls : List Entry} → IsRunTurn old new calls → new.port ≡ old.port
+turn-port {old} t = ap (λ (r : Run). r.port) t.run ∙ received-port t.answers.receipt t.answers.verdict t.answers.sent old
+
+runs-port : {made : ℕ} {old new : Run} {calls : List Entry} → Runs IsRunTurn is_over made old new calls → new.port ≡ old.port
+runs-port (runs.none r) = refl
+runs-port (runs.more earlier running t) = turn-port t ∙ runs-port earlier
+
+runs-begun : (host : ℕ) {made : ℕ} {old new : Run} {calls : List Entry} (all : Runs IsRunTurn is_over made old new calls) (first last : Moment) →
+    RunTurnsHappen host all first last → (x : Begun) → Has first.archive.begun x → Has last.archive.begun x
+runs-begun host (runs.none r) first last waits x has = meanwhile-begun waits x has
+runs-begun host (runs.more earlier running t) first last h x has = meanwhile-begun h.others x (runs-begun host earlier first h.moment h.before x has)
+
+module _ (texts : List (List ℕ)) (maps : Maps) (host : ℕ) (away : host ≢ server_endpoint.host) where
+  -- the archive is there, and has this client
+  abbrev HasClient : Run → Moment → Type 0
+  HasClient r m = IsReached texts maps m × (lookup (is_same (own_endpoint host r)) m.archive.clients ≡ Some r.client)
+
+  client-meanwhile : (r : Run) {first last : Moment} → Meanwhile (LeavesClient (own_endpoint host r)) first last → HasClient r first → HasClient r last
+  client-meanwhile r waits there =
+      (meanwhile-reached texts maps waits there.0, client-left (own_endpoint host r) waits ∙ there.1)
+
+  runs-have : {made : ℕ} {old new : Run} {calls : List Entry} (all : Runs IsRunTurn is_over made old new calls) {first last : Moment} →
+      RunTurnsHappen host all first last → HasClient old first → HasClient new last
+  runs-have (runs.none r) waits there = client-meanwhile r waits there
+  runs-have (runs.more {mid = mid} {new = new} {added = added} earlier running t) {last = end} h there =
+      let then = runs-have earlier h.before there in
+      let e = own_endpoint host mid in
+      let next = archive.more then.0 (client_turns h.moment.archive host mid new added t away then.1 h.brings) in
+      let written = lookup-written is_same exact_endpoint h.moment.archive.clients e mid.client new.client then.1 in
+      let last = client-left e h.others ∙ written in (
+        meanwhile-reached texts maps h.others next,
+        ap (λ (port : ℕ). lookup (is_same (record { host = host; port = port })) end.archive.clients) (turn-port t) ∙ last,
+      )
+
+  begun-has : (operation : Operation) (r : Run) {before mid : Option (List Entry)} (b : Begins server_endpoint operation (Ok r) before mid) (first : Moment) →
+      IsReached texts maps first → HasClient r (after_begun host operation r (begin_opened b.port server_endpoint operation b.replies).calls first)
+  begun-has operation r b first reached =
+      let e = own_endpoint host r in (
+        archive.more reached (client_begins first.archive host operation b.port b.replies r away (sym b.result_is)),
+        ap (λ (t : Bool). cond t (Some r.client) (lookup (is_same e) first.archive.clients)) (same_endpoint e),
+      )
+
+  -- at the end the client is where it began
+  at_begin : {made : ℕ} {old new : Run} {calls : List Entry} → Runs IsRunTurn is_over made old new calls → (m : Moment) → HasClient new m →
+      lookup (is_same (own_endpoint host old)) m.archive.clients ≡ Some new.client
+  at_begin all m there =
+      ap (λ (port : ℕ). lookup (is_same (record { host = host; port = port })) m.archive.clients) (sym (runs-port all)) ∙ there.1
+
+  module _ (over : AreOver texts maps) (before mid after : Option (List Entry)) (first last : Moment) (reached : IsReached texts maps first) where
+    -- at the end the operation at an endpoint whose ports are its own is the one that began there
+    one-begun : {made : ℕ} {new : Run} {calls : List Entry} (r : Run) (operation : Operation) (begin_calls : List Entry) (all : Runs IsRunTurn is_over made r new calls) →
+        RunTurnsHappen host all (after_begun host operation r begin_calls first) last → IsReached texts maps last →
+        IsOwn (world_at texts maps last) (own_endpoint host r) → (b : Begun) → Contains (world_at texts maps last).begun b →
+        b.client ≡ own_endpoint host r → b.operation ≡ operation
+    one-begun r operation begin_calls all h there own b among client =
+        let w = world_at texts maps last in
+        let x : Begun = record { client = own_endpoint host r; operation = operation; taken = length first.archive.taken } in
+        let has = runs-begun host all (after_begun host operation r begin_calls first) last h x (Has-last first.archive.begun x) in
+        let mirrors = run-mirrors texts maps over last.archive last.members there in
+        let mine : Has w.begun x = subst (λ (l : List Begun). Has l x) (sym mirrors.begun) has in
+        ap (λ (y : Begun). y.operation) (one_operation w (own_endpoint host r) own b x (Has-from_contains w.begun b among) mine client refl)
+
+    pub put-happens : (file : List ℕ) (turns : ℕ) (result : Result ℕ RunFault) (begun : Result Run RunFault)
+        (b : Begins server_endpoint (put file) begun before mid)
+        (ends : PutAfter (MakesRunTurns turns) begun (length file) result mid after) → PutHappens host file turns result before mid after begun b ends first last →
+        IsReached texts maps last × ((n : ℕ) → result ≡ Ok n → PutWasTaken host file begun (world_at texts maps last))
+    put-happens file turns result (Ok r) b ends h =
+        let there = runs-have ends.made.runs.runs h (begun-has (put file) r b first reached) in
+        let e = own_endpoint host r in
+        let is = at_begin ends.made.runs.runs last there in (
+          there.0,
+          λ n ok. record {
+            run = r;
+            has_begun = refl;
+            taken = λ own.
+                let sent = run-sent texts maps over last.archive last.members there.0 e own ends.last.client (length file) n is (sym ends.result_is ∙ ok) in
+                let same =
+                one-begun r (put file) (begin_opened b.port server_endpoint (put file) b.replies).calls ends.made.runs.runs h there.0
+                own sent.began.0 sent.began.1 sent.began.2 in
+                (sent, same_put sent.file file (sym sent.began.3 ∙ same));
+          },
+        )
+    put-happens file turns result (Err f) b ends h =
+        (subst (IsReached texts maps) (sym h) reached, λ n ok. let clash : Err f ≡ Ok n = sym ends.0 ∙ ok in absurd cc)
+
+    pub get-happens : (rules : Ruleset) (turns : ℕ) (result : Result ℕ RunFault) (written now : Option (List ℕ))
+        (begun : Result Run RunFault) (b : Begins server_endpoint (get rules) begun before mid)
+        (ends : GetAfter begun turns result mid after written now) → GetHappens host rules turns result before mid after written now begun b ends first last →
+        IsReached texts maps last × ((len : ℕ) → result ≡ Ok len → GetWasWritten host rules begun len (world_at texts maps last) written now)
+    get-happens rules turns result written now (Ok r) b ends h =
+        let there = runs-have ends.made.runs.runs h (begun-has (get rules) r b first reached) in
+        let e = own_endpoint host r in
+        let is = at_begin ends.made.runs.runs last there in (
+          there.0,
+          λ len ok. record {
+            run = r;
+            has_begun = refl;
+            client = ends.last.client;
+            finished = λ own.
+                let fetched = run-fetched texts maps over last.archive last.members there.0 e own ends.last.client len written now is
+                (subst (λ (x : Result ℕ RunFault). WritesGot ends.last.client x written now) ok ends.got) in
+                let get_is = fetched.finished in
+                let same =
+                one-begun r (get rules) (begin_opened b.port server_endpoint (get rules) b.replies).calls ends.made.runs.runs h there.0
+                own get_is.began get_is.has_begun get_is.by in
+                (fetched, same_get get_is.rules rules (sym get_is.operation ∙ same));
+          },
+        )
+    get-happens rules turns result written now (Err f) b ends h =
+        (subst (IsReached texts maps) (sym h) reached, λ len ok. let clash : Err f ≡ Ok len = sym ends.0 ∙ ok in absurd cc)

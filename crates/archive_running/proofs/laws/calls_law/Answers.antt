@@ -1,0 +1,22 @@
+use Rattle.archive_running.proofs.Calling.{turns-serve, rounds-serve, put-happens, get-happens}
+use Rattle.archive_running.proofs.RoundSampling.{put-can}
+use Rattle.archive_running.proofs.laws.calls_law.Goals as goal
+
+pub returns-clause-turns : goal.returns-clause-turns
+returns-clause-turns c = λ texts maps turns old new taken before after kept now call first last happen there.
+    turns-serve texts maps call.served happen there
+
+pub returns-clause-rounds : goal.returns-clause-rounds
+returns-clause-rounds c = λ texts maps rounds old new taken before after kept now call first last happen there.
+    rounds-serve texts maps call.served happen there
+
+pub returns-clause-put : goal.returns-clause-put
+returns-clause-put c = λ texts maps over host away file turns result before after call first last happen reached.
+    put-happens texts maps host away over before call.mid after first last reached file turns result call.begun call.begins call.ends happen
+
+pub returns-clause-get : goal.returns-clause-get
+returns-clause-get c = λ texts maps over host away rules turns result before after written now call first last happen reached.
+    get-happens texts maps host away over before call.mid after first last reached rules turns result written now call.begun call.begins call.ends happen
+
+pub returns-clause-puts : goal.returns-clause-puts
+returns-clause-puts c = put-can

@@ -1,0 +1,159 @@
+-- Whole calls in the running archive: the turns that the contracts of `serve_turns`, `serve_rounds`, `run_put` and
+-- `run_get` list, each at a moment of its own, while others move in between.
+use Rattle.std.specs.Prelude.{◌≡◌, ◌≢◌, ℕ, Bool, List, ◌∷◌, [], ◌++◌, length, Option, Some, Result, Ok, Err}
+use Rattle.std.specs.Map.{lookup}
+use Rattle.tftp_packet.specs.declared.endpoint.Endpoint.{Endpoint}
+use Rattle.tws_file.specs.declared.«ruleset».Ruleset.{Ruleset}
+use Rattle.archive_table.specs.Table.{Table, Maps, empty_maps, is_same}
+use Rattle.archive_table.specs.Keeper.{Keeping}
+use Rattle.archive_client.specs.Client.{Client, Operation, put, get, is_over}
+use Rattle.archive_turns.specs.declared.run_fault.RunFault.{RunFault}
+use Rattle.archive_turns.specs.Wire.{Entry}
+use Rattle.archive_turns.specs.Turn.{Server, Pass, IsTurn, IsRound, next_visit, turn_next, ready_next, ServesTurns, none, more}
+use Rattle.archive_turns.specs.Run.{Run, IsRunTurn, MakesRunTurns, Runs, begin_opened, Begins, PutAfter, GetAfter, RunsPut}
+use Rattle.archive_turns.specs.Run as run
+use Rattle.archive_theorem.specs.World.{World, server_endpoint, start_from}
+use Rattle.archive_theorem.specs.Headline.{IsOwn, SentOnce}
+use Rattle.archive_theorem.specs.Traces.{Member, starts, trace_from}
+use Rattle.archive_running.specs.Members.{does, visit_members, late_members, client_members}
+use Rattle.archive_running.specs.Archive.{Archive, Brings, after_server, own_endpoint, after_begin, after_client_turn, Moves, Reaches, WritesFinished}
+
+-- a state of the archive, and the members of the trace that led to it
+pub record Moment : Type 0 where
+  pub archive : Archive
+  pub members : List Member
+
+-- the archive has come to this moment, from a server with these collections
+abbrev pub IsReached : (texts : List (List ℕ)) → Maps → Moment → Type 0
+IsReached texts maps m = Reaches texts maps m.archive m.members
+
+-- the world of the theorem at this moment
+abbrev pub world_at : (texts : List (List ℕ)) → Maps → Moment → World
+world_at texts maps m = trace_from m.members (start_from texts maps)
+
+-- the moment after one move
+abbrev pub then : Archive → (added : List Member) → Moment → Moment
+then a added m = record { archive = a; members = m.members ++ added }
+
+-- There its server has this table, and the keeper this log.
+abbrev pub ServesAt : (texts : List (List ℕ)) → Maps → Table → (kept : Option (List Keeping)) → Moment → Type 0
+ServesAt texts maps table kept m = IsReached texts maps m × (m.archive.server ≡ table) × (m.archive.kept ≡ kept)
+
+-- Others move, and each move leaves what `Leaves` says.
+pub data Meanwhile (Leaves : (old new : Archive) → Type 0) : (first last : Moment) → Type 0 where
+  still : (m : Moment) → Meanwhile Leaves m m
+  others : {first m : Moment} {a : Archive} {added : List Member} → Meanwhile Leaves first m → Moves m.archive a added →
+      Leaves m.archive a → Meanwhile Leaves first (then a added m)
+
+-- ---- a call of the server
+
+-- the server and its keeper stay as they are
+abbrev pub LeavesServer : (old new : Archive) → Type 0
+LeavesServer old new = (new.server ≡ old.server) × (new.kept ≡ old.kept)
+
+-- the moment after a turn or round
+abbrev pub AfterPass : Pass → Type 0
+AfterPass Is =
+    (old new : Server) (took : Bool) (calls : List Entry) (kept now : Option (List Keeping)) → Is old new took calls kept now → Moment → Moment
+
+abbrev pub after_turn : AfterPass IsTurn
+after_turn old new took calls kept now t m =
+    then (after_server new.table (next_visit (turn_next old) t.pass.answers old.table).taken calls now m.archive)
+    (visit_members (turn_next old) t.pass.answers old.table ++ late_members t.pass.late) m
+
+abbrev pub after_round : AfterPass IsRound
+after_round old new took calls kept now t m =
+    then (after_server new.table (next_visit (ready_next t.ready old.table) t.pass.answers old.table).taken calls now m.archive)
+    (visit_members (ready_next t.ready old.table) t.pass.answers old.table ++ late_members t.pass.late) m
+
+-- One more turn or round: it receives only what was sent before it or is a stranger's, and then others move.
+pub record PassHappens (Before : Moment → Type 0) (calls : List Entry) (after : Moment → Moment) (last : Moment) : Type 0 where
+  pub moment : Moment
+  pub before : Before moment
+  pub brings : Brings server_endpoint.host calls moment.archive
+  pub others : Meanwhile LeavesServer (after moment) last
+
+-- These turns or rounds happen, one after another, from the first moment to the last.
+abbrev pub PassesHappen : (Is : Pass) → AfterPass Is → {count : ℕ} {old new : Server} {taken : ℕ} {calls : List Entry} {kept now : Option (List Keeping)} →
+    ServesTurns Is count old new taken calls kept now → (first last : Moment) → Type 0
+PassesHappen Is after (none s kept) first last = Meanwhile LeavesServer first last
+PassesHappen Is after (more {mid = mid} {new = new} {added = added} {between = between} {now = now} took turns made) first last =
+    PassHappens (PassesHappen Is after turns first) added (after mid new took added between now made) last
+
+-- ---- a call of a client
+
+-- the client at this endpoint stays as it is
+abbrev pub LeavesClient : Endpoint → (old new : Archive) → Type 0
+LeavesClient e old new = lookup (is_same e) new.clients ≡ lookup (is_same e) old.clients
+
+-- one more turn of the client, and then others move
+pub record RunTurnHappens (Before : Moment → Type 0) (host : ℕ) (old new : Run) (calls : List Entry) (t : IsRunTurn old new calls) (last : Moment) : Type 0 where
+  pub moment : Moment
+  pub before : Before moment
+  pub brings : Brings host calls moment.archive
+  pub others : Meanwhile (LeavesClient (own_endpoint host old))
+      (then (after_client_turn host old new calls moment.archive) (client_members t.answers host old) moment) last
+
+-- These turns of the client happen, one after another.
+abbrev pub RunTurnsHappen : (host : ℕ) → {turns : ℕ} {old new : Run} {calls : List Entry} → Runs IsRunTurn is_over turns old new calls → (first last : Moment) → Type 0
+RunTurnsHappen host (run.none r) first last = Meanwhile (LeavesClient (own_endpoint host r)) first last
+RunTurnsHappen host (run.more {mid = mid} {new = new} {added = added} runs running t) first last =
+    RunTurnHappens (RunTurnsHappen host runs first) host mid new added t last
+
+-- the moment after the begin of a client
+abbrev pub after_begun : (host : ℕ) → Operation → Run → (calls : List Entry) → Moment → Moment
+after_begun host operation r calls m =
+    then (after_begin host operation r calls m.archive) (does (starts (own_endpoint host r) operation) ∷ []) m
+
+-- A call that has begun makes its turns; one that has not makes none.
+abbrev pub PutHappens : (host : ℕ) (file : List ℕ) (turns : ℕ) (result : Result ℕ RunFault) (before mid after : Option (List Entry))
+    (begun : Result Run RunFault) →
+    Begins server_endpoint (put file) begun before mid → PutAfter (MakesRunTurns turns) begun (length file) result mid after → (first last : Moment) → Type 0
+PutHappens host file turns result before mid after (Ok r) begins ends first last =
+    RunTurnsHappen host ends.made.runs.runs
+    (after_begun host (put file) r (begin_opened begins.port server_endpoint (put file) begins.replies).calls first) last
+PutHappens host file turns result before mid after (Err e) begins ends first last = last ≡ first
+
+-- the same for a get
+abbrev pub GetHappens : (host : ℕ) (rules : Ruleset) (turns : ℕ) (result : Result ℕ RunFault) (before mid after : Option (List Entry))
+    (written now : Option (List ℕ)) (begun : Result Run RunFault) →
+    Begins server_endpoint (get rules) begun before mid → GetAfter begun turns result mid after written now → (first last : Moment) → Type 0
+GetHappens host rules turns result before mid after written now (Ok r) begins ends first last =
+    RunTurnsHappen host ends.made.runs.runs
+    (after_begun host (get rules) r (begin_opened begins.port server_endpoint (get rules) begins.replies).calls first) last
+GetHappens host rules turns result before mid after written now (Err e) begins ends first last = last ≡ first
+
+-- ---- what is promised of a call that returned Ok
+
+-- It began at a port of its own; if the ports of that endpoint are its own, the file was taken exactly once from there.
+pub record PutWasTaken (host : ℕ) (file : List ℕ) (begun : Result Run RunFault) (w : World) : Type 0 where
+  pub run : Run
+  pub has_begun : begun ≡ Ok run
+  pub taken : IsOwn w (own_endpoint host run) → (s : SentOnce w.begun w.taken (own_endpoint host run)) × (s.file ≡ file)
+
+-- The same of a get: what it has written is a finished get of this ruleset.
+pub record GetWasWritten (host : ℕ) (rules : Ruleset) (begun : Result Run RunFault) (len : ℕ) (w : World) (written now : Option (List ℕ)) : Type 0 where
+  pub run : Run
+  pub has_begun : begun ≡ Ok run
+  pub client : Client
+  pub finished : IsOwn w (own_endpoint host run) → (f : WritesFinished (own_endpoint host run) client len w written now) × (f.finished.rules ≡ rules)
+
+-- ---- a sample
+
+-- A put of this file can happen as a whole call and return Ok, in an archive that has nothing at first, from an endpoint
+-- whose ports are its own.
+pub record PutCanHappen (file : List ℕ) : Type 0 where
+  pub host : ℕ
+  pub away : host ≢ server_endpoint.host
+  pub turns : ℕ
+  pub len : ℕ
+  pub before : List Entry
+  pub after : List Entry
+  pub call : RunsPut server_endpoint file turns (Ok len) (Some before) (Some after)
+  pub first : Moment
+  pub last : Moment
+  pub reached : IsReached [] empty_maps first
+  pub happens : PutHappens host file turns (Ok len) (Some before) call.mid (Some after) call.begun call.begins call.ends first last
+  pub run : Run
+  pub has_begun : call.begun ≡ Ok run
+  pub own : IsOwn (world_at [] empty_maps last) (own_endpoint host run)

@@ -1,0 +1,66 @@
+-- If each file that is taken is merged into the collections, they are the best over the files taken, and so can be
+-- kept.
+use Rattle.std.proofs.Common.{◌≡◌, ℕ, List, [], ◌∷◌, ◌++◌, sym, subst, inl, inr, append-nil}
+use Rattle.std.specs.List.{AllByRecursion}
+use Rattle.tws_file.specs.declared.«ruleset».Ruleset.{Ruleset}
+use Rattle.tws_file.specs.declared.«ruleset».Ruleset.TheVariants.{Lynx, Ms}
+use Rattle.tws_file.specs.Text.{Record, IsRecord}
+use Rattle.tws_best.specs.Best.{KeyedBody, IsKeyedBody, Collected, IsCollected, IsCollectionOf, IsSolutionIn, solved_by, solutions_of}
+use Rattle.tws_best.proofs.Members.{all_at, all_from}
+use Rattle.tws_best.proofs.Taking.{solved_entries}
+use Rattle.archive_table.specs.Table.{Maps, Taken, Grant, IsMerged, empty_maps}
+use Rattle.archive_theorem.specs.World.{World, WorldStep, start, happens, run_from, HasMerged, AllMerged}
+use Rattle.archive_theorem.proofs.Invariant.{AreBest, none-over, start_from-best}
+use Rattle.archive_theorem.proofs.Merging.{best-taken}
+use Rattle.archive_theorem.proofs.Remaining.{StepTakes, step-takes}
+
+-- ---- what can be kept
+
+-- the solutions of a file are solutions
+own_entries : (rules named : Ruleset) (rs : List Record) → AllByRecursion IsRecord rs → AllByRecursion IsKeyedBody (solved_by rules named rs)
+own_entries Lynx Lynx rs fits = solved_entries rs fits
+own_entries Lynx Ms rs fits = tt
+own_entries Ms Lynx rs fits = tt
+own_entries Ms Ms rs fits = solved_entries rs fits
+
+-- and so are those of several texts
+entry_in : (rules : Ruleset) (texts : List (List ℕ)) (e : KeyedBody) → IsSolutionIn rules texts e → IsKeyedBody e
+entry_in rules texts e s =
+    let rs = s.file.records in
+    let all_entries : AllByRecursion IsKeyedBody (solutions_of rules (s.file ∷ [])) =
+    subst (AllByRecursion IsKeyedBody) (sym (append-nil (solved_by rules s.file.ruleset rs)))
+    (own_entries rules s.file.ruleset rs s.is_text.fits.records) in
+    all_at IsKeyedBody (solutions_of rules (s.file ∷ [])) e all_entries s.present
+
+-- a collection over files is one that a keeper can have
+pub best-collected : (rules : Ruleset) (texts : List (List ℕ)) (c : Collected) → IsCollectionOf rules texts c → IsCollected c
+best-collected rules texts c of =
+    record {
+      rising = of.best.rising;
+      solved = all_from IsKeyedBody c.entries (λ e has. entry_in rules texts e (of.best.best e has).member);
+    }
+
+-- ---- a run
+
+-- a step that takes a file, or none
+step_by : (w v : World) (grant : Grant) → ((t : Taken) → v.taken ≡ w.taken ++ t ∷ [] → IsMerged t.file w.server.maps v.server.maps) →
+    StepTakes grant w v → AreBest w.taken w.server.maps → AreBest v.taken v.server.maps
+step_by w v grant merged (inl remain) best =
+    subst (λ (m : Maps). AreBest v.taken m) (sym remain.1) (subst (λ (ts : List Taken). AreBest ts w.server.maps) (sym remain.0) best)
+step_by w v grant merged (inr takes) best =
+    subst (λ (ts : List Taken). AreBest ts v.server.maps) (sym takes.1)
+    (best-taken w.taken takes.0 w.server.maps v.server.maps best (merged takes.0 takes.1))
+
+-- after a step the collections are the best over the files taken
+pub step-best : (w : World) (s : WorldStep) → HasMerged s w → AreBest w.taken w.server.maps → AreBest (happens s w).taken (happens s w).server.maps
+step-best w s merged best = step_by w (happens s w) s.grant merged (step-takes w s) best
+
+-- at the start the collections are the best over the files taken
+pub start-best : AreBest start.taken start.server.maps
+start-best = start_from-best [] empty_maps none-over
+
+-- after any steps the collections are the best over the files taken
+pub run_from-best : (steps : List WorldStep) (w : World) → AllMerged steps w → AreBest w.taken w.server.maps →
+    AreBest (run_from steps w).taken (run_from steps w).server.maps
+run_from-best [] w merged best = best
+run_from-best (s ∷ steps) w merged best = run_from-best steps (happens s w) merged.1 (step-best w s merged.0 best)

@@ -1,0 +1,157 @@
+-- The headline of each client follows from the invariant, and with it the headline if no port is reused.
+use Rattle.std.proofs.Common.{◌≡◌, ◌≢◌, ◌⊎◌, ℕ, List, [], Contains, Some, slice_get, refl, ap, sym, ◌∙◌, subst, inl, inr}
+use Rattle.tftp_packet.specs.declared.endpoint.Endpoint.{Endpoint}
+use Rattle.archive_table.specs.Table.{Maps, Taken, empty_maps}
+use Rattle.archive_client.specs.Client.{put}
+use Rattle.archive_theorem.specs.World.{Begun, to_write, Got, World, WorldStep, server_endpoint, start_from, start, run_from, run, AllMerged}
+use Rattle.archive_theorem.specs.Headline.{IsOwn, HasOwnPorts, HasOperation, AreOver, IsStrayFrom, TakenOnce, SentOnce, IsFinishedGet, ClientHeadline, ClientsHeadline, Headline}
+use Rattle.archive_theorem.proofs.Places.{Has-contains, Has-from_contains}
+use Rattle.archive_theorem.proofs.Claims.{HasBegun, HasPut, IsStranger, IsAskedBy, IsTaken, IsSent, IsGot}
+use Rattle.archive_theorem.proofs.Owning.{own-each, put_begun, get_begun}
+use Rattle.archive_theorem.proofs.ServerMoves.{begun_away}
+use Rattle.archive_theorem.proofs.Invariant.{Holds, none-over, start_from-holds}
+use Rattle.archive_theorem.proofs.Happening.{run_from-holds}
+use Rattle.archive_theorem.proofs.Strangers.{AreFromOthers, run-from_others}
+
+module _ (w : World) (h : Holds w) where
+  -- an operation that has begun, in the headline's terms
+  begun_there : (e : Endpoint) → HasBegun w e → HasOperation w.begun e
+  begun_there e b = (b.begun, Has-contains w.begun b.begun b.among, b.client)
+
+  -- ---- whatever ports are reused
+
+  -- a file was taken from a stranger or from an operation's endpoint
+  known : (t : Taken) (i : IsTaken w t) →
+      IsStranger w t.peer ⊎ IsAskedBy w (record { peer = t.peer; port = i.port; asked = to_write; taken = i.count }) to_write →
+      HasOperation w.begun t.peer ⊎ IsStrayFrom w.strays t.peer
+  known t i (inl stranger) = inr (stranger.datagram, Has-contains w.strays _ stranger.among, stranger.source)
+  known t i (inr asked) = inl (begun_there t.peer (put_begun w t.peer asked.0 asked.1))
+
+  -- the same for each file that was taken
+  taken_known : (t : Taken) → IsTaken w t → HasOperation w.begun t.peer ⊎ IsStrayFrom w.strays t.peer
+  taken_known t i = known t i (h.opened _ i.opened.among).whose
+
+  -- ---- a client whose ports are its own
+
+  module _ (e : Endpoint) (operation : HasOperation w.begun e) (own : IsOwn w e) where
+    -- it is not on the server's host
+    away : (x : Endpoint) → x ≡ e → x.host ≢ server_endpoint.host
+    away x same =
+        let begun : HasBegun w e = record { begun = operation.0; among = Has-from_contains w.begun operation.0 operation.1; client = operation.2 } in
+        λ ours. begun_away w h e begun (ap (λ (y : Endpoint). y.host) (sym same) ∙ ours)
+
+    -- a put of this file has begun there
+    abbrev PutBy : List ℕ → Type 0
+    PutBy file = (b : Begun) × Contains w.begun b × (b.client ≡ e) × (b.operation ≡ put file)
+
+    -- the same by the claims
+    put_by : (file : List ℕ) → HasPut w e file → PutBy file
+    put_by file p = (record { client = e; operation = put file; taken = p.count }, Has-contains w.begun _ p.among, refl, refl)
+
+    -- what was taken from there is the file of the put there
+    unchanged : (t : Taken) → IsTaken w t → t.peer ≡ e → PutBy t.file
+    unchanged t i same =
+        let from = i.whose (subst (IsOwn w) (sym same) own) in
+        put_by t.file (subst (λ (x : Endpoint). HasPut w x t.file) same from.began)
+
+    -- and was taken once
+    once : (i j : ℕ) (t u : Taken) → slice_get w.taken i ≡ Some t → slice_get w.taken j ≡ Some u → t.peer ≡ e → u.peer ≡ e → i ≡ j
+    once i j t u at_i at_j first second =
+        h.once i j t u at_i at_j (first ∙ sym second) (away t.peer first) (subst (IsOwn w) (sym first) own)
+
+    -- what counts as sent was taken exactly once
+    sent_once : IsSent w e → SentOnce w.begun w.taken e
+    sent_once s =
+        let there = s.is_taken own in
+        record {
+          file = s.file;
+          began = put_by s.file s.began;
+          position = there.among.position;
+          is_taken = there.among.is;
+          only = λ i t at_i same. once i there.among.position t _ at_i there.among.is same refl;
+        }
+
+    -- what was fetched is the collection at one of the client's own requests
+    finished : (g : Got) → IsGot w g → g.client ≡ e → IsFinishedGet w.begun w.taken w.opened g
+    finished g is same =
+        let f = is.whose (subst (IsOwn w) (sym same) own) in
+        record {
+          rules = is.rules;
+          began = _;
+          has_begun = Has-contains w.begun _ is.began.among;
+          by = refl;
+          operation = refl;
+          opening = _;
+          was_opened = Has-contains w.opened _ f.serves.opened.among;
+          peer = refl;
+          asked = refl;
+          since = f.since;
+          counted = f.serves.is_text.within;
+          best = f.serves.is_text.best;
+        }
+
+    -- so the headline holds for this client
+    client : ClientHeadline w e
+    client =
+        record {
+          unchanged = λ t among same. unchanged t (h.taken t (Has-from_contains w.taken t among) (away t.peer same)) same;
+          once = once;
+          sent = λ among. sent_once (h.sent e (Has-from_contains w.sent e among));
+          got = λ g among same. finished g (h.got g (Has-from_contains w.got g among)) same;
+        }
+
+  -- the headline holds for each client whose ports are its own
+  pub clients : ClientsHeadline w
+  clients =
+      record {
+        taken = λ t among other. taken_known t (h.taken t (Has-from_contains w.taken t among) other);
+        sent = λ e among. let s = h.sent e (Has-from_contains w.sent e among) in begun_there e (put_begun w e s.file s.began);
+        got = λ g among.
+            let is = h.got g (Has-from_contains w.got g among) in
+            begun_there g.client (get_begun w g.client is.rules is.count is.began);
+        lynx = (w.server.maps.lynx, h.best.lynx, refl);
+        ms = (w.server.maps.ms, h.best.ms, refl);
+        client = client;
+      }
+
+-- ---- if no port is reused, and the server had nothing at first
+
+module _ (w : World) (all : ClientsHeadline w) (others : AreFromOthers w.taken) (own : HasOwnPorts w) where
+  -- the headline holds for each operation
+  each : (e : Endpoint) → HasOperation w.begun e → ClientHeadline w e
+  each e operation = all.client e operation (own-each w own e operation)
+
+  -- each file is taken at most once, unchanged
+  taken_once : TakenOnce w.begun w.taken w.strays
+  taken_once =
+      record {
+        known = λ t among. all.taken t among (others t (Has-from_contains w.taken t among));
+        unchanged = λ t among operation. (each t.peer operation).unchanged t among refl;
+        once = λ i j t u at_i at_j operation same. (each t.peer operation).once i j t u at_i at_j refl (sym same);
+      }
+
+  -- so the headline holds
+  pub headline : Headline w
+  headline =
+      record {
+        taken = taken_once;
+        sent = λ e among. (each e (all.sent e among)).sent among;
+        lynx = all.lynx;
+        ms = all.ms;
+        got = λ g among. (each g.client (all.got g among)).got g among refl;
+      }
+
+-- after any steps of a server that begins with collections over these texts
+pub run_from-clients : (texts : List (List ℕ)) (maps : Maps) → AreOver texts maps → (steps : List WorldStep) →
+    AllMerged steps (start_from texts maps) → ClientsHeadline (run_from steps (start_from texts maps))
+run_from-clients texts maps over steps merged =
+    let w = start_from texts maps in
+    clients (run_from steps w) (run_from-holds steps w (start_from-holds texts maps over) merged)
+
+-- after any run
+pub run-clients : (steps : List WorldStep) → AllMerged steps start → ClientsHeadline (run steps)
+run-clients steps merged = run_from-clients [] empty_maps none-over steps merged
+
+-- after any run in which no port is reused
+pub run-headline : (steps : List WorldStep) → HasOwnPorts (run steps) → AllMerged steps start → Headline (run steps)
+run-headline steps own merged = headline (run steps) (run-clients steps merged) (run-from_others steps merged) own

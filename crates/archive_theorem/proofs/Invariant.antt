@@ -1,0 +1,109 @@
+-- The invariant of a world, which every event keeps, whoever reuses a port. Where it says that something has not
+-- happened, each step must be examined; all else lasts by itself.
+use Rattle.std.proofs.Common.{◌≡◌, ◌≢◌, ℕ, zero, suc, ◌≤◌, true, List, [], ◌∷◌, map, length, slice_get, None, Some, Ordering, Less, Equal, Greater, is_eq, nat_cmp, refl, ap, sym, subst}
+use Rattle.std.specs.Cmp.{nat_cmp_is}
+use Rattle.std.proofs.lemmas.Map.Lookups.{exact_unsigned}
+use Rattle.tftp_packet.specs.declared.endpoint.Endpoint.{Endpoint}
+use Rattle.tws_file.specs.declared.«ruleset».Ruleset.TheVariants.{Lynx, Ms}
+use Rattle.tws_best.proofs.Sets.{no_texts}
+use Rattle.archive_table.specs.Table.{Maps, Taken, Transfer, at_port, transfer_at, empty_maps}
+use Rattle.archive_client.specs.Client.{Client}
+use Rattle.archive_theorem.specs.World.{Datagram, Begun, Opening, Got, World, given, start_from, client_at, server_endpoint}
+use Rattle.archive_theorem.specs.Headline.{IsOwn, AreOver, files_of}
+use Rattle.archive_theorem.proofs.Places.{Has}
+use Rattle.archive_theorem.proofs.Keyed.{IsApart}
+use Rattle.archive_theorem.proofs.Claims.{HasBegun, IsHonest, IsBound, IsLive, IsUntaken, IsFaithful, MayBind, IsOpening, IsTaken, IsSent, IsGot}
+
+equal_from : (r : Ordering) → is_eq r ≡ true → r ≡ Equal
+equal_from Less e = absurd cc
+equal_from Equal e = refl
+equal_from Greater e = absurd cc
+
+-- the comparison of ports is exact
+pub exact_port : (a b : ℕ) → at_port a b ≡ true → a ≡ b
+exact_port a b e = exact_unsigned a b (equal_from (nat_cmp a b) e)
+
+-- a port passes the test with itself
+pub same_port : (a : ℕ) → at_port a a ≡ true
+same_port a = ap is_eq (sym (nat_cmp_is a a Equal refl))
+
+-- each collection is the best over the files taken
+abbrev pub AreBest : List Taken → Maps → Type 0
+AreBest taken maps = AreOver (files_of taken) maps
+
+-- two files from one peer on another host, whose ports are its own, are the same
+abbrev pub TakesOnce : World → Type 0
+TakesOnce w =
+    (i j : ℕ) (t u : Taken) → slice_get w.taken i ≡ Some t → slice_get w.taken j ≡ Some u → t.peer ≡ u.peer → t.peer.host ≢
+    server_endpoint.host → IsOwn w t.peer → i ≡ j
+
+-- an operation that has begun is not on the server's host, and counts no more files than are taken now
+pub record IsBegun (w : World) (b : Begun) : Type 0 where
+  pub away : b.client.host ≢ server_endpoint.host
+  pub counted : b.taken ≤ length w.taken
+
+-- the invariant
+pub record Holds (w : World) : Type 0 where
+  pub net : (d : Datagram) → Has w.net d → IsHonest w d
+  pub apart : IsApart at_port exact_port w.server.live
+  pub live : (port : ℕ) (t : Transfer) → transfer_at port w.server ≡ Some t → IsLive w port t
+  pub untaken : (port : ℕ) (t : Transfer) → transfer_at port w.server ≡ Some t → IsUntaken w port t
+  pub clients : (e : Endpoint) (c : Client) → client_at e w ≡ Some c → IsFaithful w e c
+  -- a client has sent a DATA or an ACK to no other port than the one that it is bound to
+  pub bound : (e : Endpoint) (c : Client) → client_at e w ≡ Some c → IsOwn w e → (port : ℕ) → IsBound w e port → MayBind c.phase port
+  -- a client binds to one port
+  pub one_port : (e : Endpoint) (p q : ℕ) → HasBegun w e → IsOwn w e → IsBound w e p → IsBound w e q → p ≡ q
+  pub begun : (b : Begun) → Has w.begun b → IsBegun w b
+  pub strays : (d : Datagram) → Has w.strays d → d.source.host ≢ server_endpoint.host
+  pub opened : (o : Opening) → Has w.opened o → IsOpening w o
+  -- what the server had at first is from its own host
+  pub taken : (t : Taken) → Has w.taken t → t.peer.host ≢ server_endpoint.host → IsTaken w t
+  pub once : TakesOnce w
+  pub sent : (e : Endpoint) → Has w.sent e → IsSent w e
+  pub got : (g : Got) → Has w.got g → IsGot w g
+  pub best : AreBest w.taken w.server.maps
+
+pub none_at : {A : Type 0} {P : Type 0} (x : A) → Has [] x → P
+none_at x h = let is : None ≡ Some x = h.is in absurd cc
+
+-- ---- the start
+
+-- a text that the server had at first counts as taken from its own host
+pub given-at : (texts : List (List ℕ)) (i : ℕ) (t : Taken) → slice_get (map given texts) i ≡ Some t → t.peer.host ≡ server_endpoint.host
+given-at [] i t is = absurd cc
+given-at (x ∷ texts) zero t is = let same : given x ≡ t = cc in ap (λ (u : Taken). u.peer.host) (sym same)
+given-at (x ∷ texts) (suc i) t is = given-at texts i t is
+
+-- the files of these are the texts
+given_files : (texts : List (List ℕ)) → files_of (map given texts) ≡ texts
+given_files [] = refl
+given_files (x ∷ texts) = ap (λ (l : List (List ℕ)). x ∷ l) (given_files texts)
+
+-- so the collections at first are the best over the files taken
+pub start_from-best : (texts : List (List ℕ)) (maps : Maps) → AreOver texts maps → AreBest (start_from texts maps).taken maps
+start_from-best texts maps over = subst (λ (l : List (List ℕ)). AreOver l maps) (sym (given_files texts)) over
+
+-- the empty collections are the best over no texts
+pub none-over : AreOver [] empty_maps
+none-over = record { lynx = no_texts Lynx _ refl refl; ms = no_texts Ms _ refl refl }
+
+-- the invariant holds at the start of a server with collections over these texts
+pub start_from-holds : (texts : List (List ℕ)) (maps : Maps) → AreOver texts maps → Holds (start_from texts maps)
+start_from-holds texts maps over =
+    record {
+      net = λ d h. none_at d h;
+      apart = tt;
+      live = λ port t e. absurd cc;
+      untaken = λ port t e. absurd cc;
+      clients = λ e c is. absurd cc;
+      bound = λ e c is. absurd cc;
+      one_port = λ e p q h. none_at h.begun h.among;
+      begun = λ b h. none_at b h;
+      strays = λ d h. none_at d h;
+      opened = λ o h. none_at o h;
+      taken = λ t h away. absurd (away (given-at texts h.position t h.is));
+      once = λ i j t u at_i at_j same away. absurd (away (given-at texts i t at_i));
+      sent = λ e h. none_at e h;
+      got = λ g h. none_at g h;
+      best = start_from-best texts maps over;
+    }

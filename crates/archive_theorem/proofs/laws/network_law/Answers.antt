@@ -1,0 +1,31 @@
+use Rattle.archive_theorem.proofs.Counting.{began-by}
+use Rattle.archive_theorem.proofs.Costs.{run-sends}
+use Rattle.archive_theorem.proofs.Entering.{strays-by}
+use Rattle.archive_theorem.proofs.Concluding.{run-clients, run-headline}
+use Rattle.archive_theorem.proofs.Fetching.{fetches-sent}
+use Rattle.archive_theorem.proofs.Totality.{run-total, run-one}
+use Rattle.archive_theorem.proofs.laws.network_law.Goals as goal
+
+pub returns-clause-clients : goal.returns-clause-clients
+returns-clause-clients c = run-clients
+
+pub returns-clause-headline : goal.returns-clause-headline
+returns-clause-headline c = run-headline
+
+pub returns-clause-since : goal.returns-clause-since
+returns-clause-since c = fetches-sent
+
+pub returns-clause-began : goal.returns-clause-began
+returns-clause-began c = began-by
+
+pub returns-clause-cost : goal.returns-clause-cost
+returns-clause-cost c = run-sends
+
+pub returns-clause-total : goal.returns-clause-total
+returns-clause-total c = run-total
+
+pub returns-clause-one : goal.returns-clause-one
+returns-clause-one c = run-one
+
+pub returns-clause-strays : goal.returns-clause-strays
+returns-clause-strays c = strays-by

@@ -1,0 +1,22 @@
+use Rattle.archive_theorem.proofs.Loading.{start-kept, step-stays_kept, loads-the_same}
+use Rattle.archive_theorem.proofs.Persisting.{run-kept, run-fails}
+use Rattle.archive_theorem.proofs.Lists.{run-list}
+use Rattle.archive_theorem.proofs.laws.restart_law.Goals as goal
+
+pub returns-clause-start : goal.returns-clause-start
+returns-clause-start c = start-kept
+
+pub returns-clause-step : goal.returns-clause-step
+returns-clause-step c = step-stays_kept
+
+pub returns-clause-load : goal.returns-clause-load
+returns-clause-load c = loads-the_same
+
+pub returns-clause-run : goal.returns-clause-run
+returns-clause-run c = run-kept
+
+pub returns-clause-fails : goal.returns-clause-fails
+returns-clause-fails c = run-fails
+
+pub returns-clause-list : goal.returns-clause-list
+returns-clause-list c = run-list

@@ -1,0 +1,12 @@
+use Rattle.archive_theorem.specs.World.{start_from}
+use Rattle.archive_theorem.proofs.Tracing.{trace-makes, trace-clients, trace-headline}
+use Rattle.archive_theorem.proofs.laws.trace_law.Goals as goal
+
+pub returns-clause-run : goal.returns-clause-run
+returns-clause-run c = λ texts maps members may. trace-makes members (start_from texts maps) may
+
+pub returns-clause-clients : goal.returns-clause-clients
+returns-clause-clients c = trace-clients
+
+pub returns-clause-headline : goal.returns-clause-headline
+returns-clause-headline c = trace-headline

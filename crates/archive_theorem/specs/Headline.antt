@@ -1,0 +1,157 @@
+-- What holds for every run, about the operations that began, the files that were taken, sent and fetched, and the
+-- collections.
+use Rattle.std.specs.Prelude.{◌≡◌, ◌≢◌, ◌⊎◌, ℕ, ◌≤◌, List, [], ◌∷◌, ◌++◌, map, take, length, slice_get, Contains, Some}
+use Rattle.tftp_packet.specs.declared.endpoint.Endpoint.{Endpoint}
+use Rattle.tws_file.specs.declared.«ruleset».Ruleset.{Ruleset}
+use Rattle.tws_file.specs.declared.«ruleset».Ruleset.TheVariants.{Lynx, Ms}
+use Rattle.tws_best.specs.Best.{Collected, IsCollectionOf, collection_text}
+use Rattle.archive_table.specs.Table.{Maps, Taken}
+use Rattle.archive_client.specs.Client.{put, get}
+use Rattle.archive_theorem.specs.World.{Datagram, Begun, begin, stray, WorldStep, run_from, run, Opening, to_read, Got, World, server_endpoint}
+
+-- ---- own ports: no port is reused
+
+-- an operation began at this endpoint
+abbrev pub HasOperation : List Begun → Endpoint → Type 0
+HasOperation begun e = (b : Begun) × Contains begun b × (b.client ≡ e)
+
+-- The ports of one endpoint are its own: at most one operation has begun there, no port of the server was opened for it
+-- twice, and no stranger has sent from it.
+pub record OwnsPorts (begun : List Begun) (opened : List Opening) (strays : List Datagram) (e : Endpoint) : Type 0 where
+  pub operations : (i j : ℕ) (b c : Begun) → slice_get begun i ≡ Some b → slice_get begun j ≡ Some c → b.client ≡ e → c.client ≡ e → i ≡ j
+  pub openings : (i j : ℕ) (o p : Opening) → slice_get opened i ≡ Some o → slice_get opened j ≡ Some p → o.peer ≡ e → p.peer ≡ e → o.port ≡ p.port → i ≡ j
+  pub stranger : (d : Datagram) → Contains strays d → d.source ≡ e → ⊥
+
+abbrev pub IsOwn : World → Endpoint → Type 0
+IsOwn w e = OwnsPorts w.begun w.opened w.strays e
+
+-- The same of all at once: no pair of endpoints serves two transfers, and no stranger takes the endpoint of an operation.
+pub record OwnPorts (begun : List Begun) (opened : List Opening) (strays : List Datagram) : Type 0 where
+  -- no two operations begin at one endpoint
+  pub operations : (i j : ℕ) (b c : Begun) → slice_get begun i ≡ Some b → slice_get begun j ≡ Some c → b.client ≡ c.client → i ≡ j
+  -- no two openings have the same peer and the same port
+  pub openings : (i j : ℕ) (o p : Opening) → slice_get opened i ≡ Some o → slice_get opened j ≡ Some p → o.peer ≡ p.peer → o.port ≡ p.port → i ≡ j
+  pub strangers : (d : Datagram) → Contains strays d → HasOperation begun d.source → ⊥
+
+abbrev pub HasOwnPorts : World → Type 0
+HasOwnPorts w = OwnPorts w.begun w.opened w.strays
+
+-- ---- the files that were taken, as texts
+
+abbrev pub files_of : List Taken → List (List ℕ)
+files_of taken = map (λ (t : Taken). t.file) taken
+
+-- the text of the best over the readable files of this ruleset among these, in whatever order they arrived
+abbrev pub IsBestOver : Ruleset → (files : List (List ℕ)) → (text : List ℕ) → Type 0
+IsBestOver rules files text = (c : Collected) × IsCollectionOf rules files c × (text ≡ collection_text c)
+
+-- ---- the four statements
+
+-- this endpoint is a stranger's
+abbrev pub IsStrayFrom : List Datagram → Endpoint → Type 0
+IsStrayFrom strays e = (d : Datagram) × Contains strays d × (d.source ≡ e)
+
+-- A file from the endpoint of an operation is taken at most once and unchanged: it is the file of the put there, and no
+-- other file is taken from there. Every other file that is taken is a stranger's.
+pub record TakenOnce (begun : List Begun) (taken : List Taken) (strays : List Datagram) : Type 0 where
+  pub known : (t : Taken) → Contains taken t → HasOperation begun t.peer ⊎ IsStrayFrom strays t.peer
+  pub unchanged : (t : Taken) → Contains taken t → HasOperation begun t.peer →
+      (b : Begun) × Contains begun b × (b.client ≡ t.peer) × (b.operation ≡ put t.file)
+  pub once : (i j : ℕ) (t u : Taken) → slice_get taken i ≡ Some t → slice_get taken j ≡ Some u → HasOperation begun t.peer → t.peer ≡ u.peer → i ≡ j
+
+-- A file that a client counts as sent is taken exactly once: there is a put at its endpoint, and only that one file is
+-- taken from there.
+pub record SentOnce (begun : List Begun) (taken : List Taken) (e : Endpoint) : Type 0 where
+  pub file : List ℕ
+  pub began : (b : Begun) × Contains begun b × (b.client ≡ e) × (b.operation ≡ put file)
+  pub position : ℕ
+  pub is_taken : slice_get taken position ≡ Some (record { peer = e; file = file })
+  pub only : (i : ℕ) (t : Taken) → slice_get taken i ≡ Some t → t.peer ≡ e → i ≡ position
+
+-- What a get has fetched is the collection of its ruleset over the first files taken, as many as were taken when a
+-- transfer to it was opened, and no fewer than when it began.
+pub record IsFinishedGet (begun : List Begun) (taken : List Taken) (opened : List Opening) (g : Got) : Type 0 where
+  pub rules : Ruleset
+  pub began : Begun
+  pub has_begun : Contains begun began
+  pub by : began.client ≡ g.client
+  pub operation : began.operation ≡ get rules
+  pub opening : Opening
+  pub was_opened : Contains opened opening
+  pub peer : opening.peer ≡ g.client
+  pub asked : opening.asked ≡ to_read rules
+  -- what was taken when the get began is in it
+  pub since : began.taken ≤ opening.taken
+  pub counted : opening.taken ≤ length taken
+  pub best : IsBestOver rules (files_of (take opening.taken taken)) g.file
+
+-- What holds for the client of one endpoint: whatever was taken from there is the file of the put there, and it was taken
+-- once; if the client counts it as sent, it was taken; and what the client has fetched is the collection at one of its
+-- own requests.
+pub record ClientHeadline (w : World) (e : Endpoint) : Type 0 where
+  pub unchanged : (t : Taken) → Contains w.taken t → t.peer ≡ e →
+      (b : Begun) × Contains w.begun b × (b.client ≡ e) × (b.operation ≡ put t.file)
+  pub once : (i j : ℕ) (t u : Taken) → slice_get w.taken i ≡ Some t → slice_get w.taken j ≡ Some u → t.peer ≡ e → u.peer ≡ e → i ≡ j
+  pub sent : Contains w.sent e → SentOnce w.begun w.taken e
+  pub got : (g : Got) → Contains w.got g → g.client ≡ e → IsFinishedGet w.begun w.taken w.opened g
+
+-- What holds whatever the network does and whoever reuses a port: each file taken is from the endpoint of an operation
+-- or of a stranger, if it is not a text that the server had at first; whoever counts a file as sent, or has fetched one,
+-- has begun an operation; each collection is the best over the files taken; and each client whose ports are its own has
+-- the headline, whatever others do.
+pub record ClientsHeadline (w : World) : Type 0 where
+  pub taken : (t : Taken) → Contains w.taken t → t.peer.host ≢ server_endpoint.host → HasOperation w.begun t.peer ⊎ IsStrayFrom w.strays t.peer
+  pub sent : (e : Endpoint) → Contains w.sent e → HasOperation w.begun e
+  pub got : (g : Got) → Contains w.got g → HasOperation w.begun g.client
+  pub lynx : IsBestOver Lynx (files_of w.taken) (collection_text w.server.maps.lynx)
+  pub ms : IsBestOver Ms (files_of w.taken) (collection_text w.server.maps.ms)
+  pub client : (e : Endpoint) → HasOperation w.begun e → IsOwn w e → ClientHeadline w e
+
+-- The collections of a server are the best over these texts.
+pub record AreOver (texts : List (List ℕ)) (maps : Maps) : Type 0 where
+  pub lynx : IsCollectionOf Lynx texts maps.lynx
+  pub ms : IsCollectionOf Ms texts maps.ms
+
+-- Whatever the network does: a put's file is taken at most once and unchanged, and exactly once if its client counts it
+-- as sent. The collections are the best over the files taken. A finished get is the collection at one of its own
+-- requests.
+pub record Headline (w : World) : Type 0 where
+  pub taken : TakenOnce w.begun w.taken w.strays
+  pub sent : (e : Endpoint) → Contains w.sent e → SentOnce w.begun w.taken e
+  pub lynx : IsBestOver Lynx (files_of w.taken) (collection_text w.server.maps.lynx)
+  pub ms : IsBestOver Ms (files_of w.taken) (collection_text w.server.maps.ms)
+  pub got : (g : Got) → Contains w.got g → IsFinishedGet w.begun w.taken w.opened g
+
+-- What was fetched is the best of this ruleset over the first `count` files taken, and the file that was sent from this
+-- endpoint is among them.
+pub record IsFetchedWith (rules : Ruleset) (taken : List Taken) (sent : Endpoint) (g : Got) : Type 0 where
+  pub count : ℕ
+  pub best : IsBestOver rules (files_of (take count taken)) g.file
+  pub file : List ℕ
+  pub among : Contains (take count taken) (record { peer = sent; file = file })
+
+-- What was counted as sent before a get began is in what it has fetched, if the ports of the get's endpoint are its own at
+-- the end, and those of the sender's when the get began.
+abbrev pub FetchesOwnSent : World → (before after : List WorldStep) → WorldStep → Type 0
+FetchesOwnSent w before after s =
+    (e : Endpoint) (rules : Ruleset) → s.event ≡ begin e (get rules) → IsOwn (run_from (before ++ s ∷ after) w) e → (x : Endpoint) → Contains (run_from before w).sent x → IsOwn (run_from before w) x → (g : Got) → Contains (run_from (before ++ s ∷ after) w).got g → g.client ≡ e → IsFetchedWith rules (run_from (before ++ s ∷ after) w).taken x g
+
+-- the same if no port is reused, from a server that has nothing at first
+abbrev pub FetchesSent : (before after : List WorldStep) → WorldStep → Type 0
+FetchesSent before after s =
+    (e : Endpoint) (rules : Ruleset) → s.event ≡ begin e (get rules) → (x : Endpoint) → Contains (run before).sent x → (g : Got) → Contains (run (before ++ s ∷ after)).got g → g.client ≡ e → IsFetchedWith rules (run (before ++ s ∷ after)).taken x g
+
+-- An operation that has begun in this run from a first world is that of an event, and it counts the files that were
+-- taken before that event.
+pub record BeganBy (w : World) (steps : List WorldStep) (b : Begun) : Type 0 where
+  pub before : List WorldStep
+  pub step : WorldStep
+  pub after : List WorldStep
+  pub split : steps ≡ before ++ step ∷ after
+  pub event : step.event ≡ begin b.client b.operation
+  pub counted : b.taken ≡ length (run_from before w).taken
+
+-- The datagram entered the network by one of these steps.
+abbrev pub StraysBy : List WorldStep → Datagram → Type 0
+StraysBy [] d = ⊥
+StraysBy (s ∷ steps) d = (s.event ≡ stray d) ⊎ StraysBy steps d

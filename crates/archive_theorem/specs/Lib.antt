@@ -1,0 +1,10 @@
+pub mod World
+pub mod Headline
+pub mod Traces
+pub mod Samples
+pub mod Reuse
+pub mod Restarts
+pub mod Durable
+pub mod Effects
+pub mod Freeing
+pub mod Progress

@@ -1,0 +1,5 @@
+mod Concluding
+mod Gathering
+mod Plain
+mod Numerals
+mod Readback

@@ -1,0 +1,4 @@
+pub mod Words
+pub mod Schedule
+pub mod Answer
+pub mod Spelling

@@ -1,0 +1,125 @@
+//! The words that a line begins with, and those of a begin.
+
+ghost use Rattle.std.specs.Prelude.{◌≡◌};
+ghost use Rattle.schedule_text.specs.Words.{verb_word, verb_in, word_count, kind_word, kind_in, ruleset_in};
+ghost use Rattle.tws_file.specs.Listing.{ruleset_name};
+
+use tws_file::Ruleset;
+
+/// The first word of a line.
+#[derive(Clone, Copy, Debug, PartialEq, Eq)]
+pub enum Verb {
+    Begin,
+    Deliver,
+    ClientTimeout,
+    ServerTimeout,
+    Stray,
+    Restart,
+}
+
+impl Verb {
+    fn word(self) -> &'static [u8]
+        ensures { result.now ≡ verb_word self }
+    {
+        match self {
+            Verb::Begin => b"begin",
+            Verb::Deliver => b"deliver",
+            Verb::ClientTimeout => b"client-timeout",
+            Verb::ServerTimeout => b"server-timeout",
+            Verb::Stray => b"stray",
+            Verb::Restart => b"restart",
+        }
+    }
+
+    /// How many words its line has.
+    pub(crate) fn word_count(self) -> usize
+        ensures { result ≡ word_count self }
+    {
+        match self {
+            Verb::Begin => 5,
+            Verb::Deliver => 3,
+            Verb::ClientTimeout => 3,
+            Verb::ServerTimeout => 2,
+            Verb::Stray => 6,
+            Verb::Restart => 1,
+        }
+    }
+
+    /// The verb that is this word, if one is.
+    pub(crate) fn from_word(word: &[u8]) -> Option<Self>
+        ensures { result ≡ verb_in word.now }
+    {
+        if word == Verb::Begin.word() {
+            return Some(Verb::Begin);
+        }
+        if word == Verb::Deliver.word() {
+            return Some(Verb::Deliver);
+        }
+        if word == Verb::ClientTimeout.word() {
+            return Some(Verb::ClientTimeout);
+        }
+        if word == Verb::ServerTimeout.word() {
+            return Some(Verb::ServerTimeout);
+        }
+        if word == Verb::Stray.word() {
+            return Some(Verb::Stray);
+        }
+        if word == Verb::Restart.word() {
+            return Some(Verb::Restart);
+        }
+        None
+    }
+}
+
+/// What a begin begins.
+#[derive(Clone, Copy, Debug, PartialEq, Eq)]
+pub enum Kind {
+    Put,
+    Get,
+}
+
+impl Kind {
+    fn word(self) -> &'static [u8]
+        ensures { result.now ≡ kind_word self }
+    {
+        match self {
+            Kind::Put => b"put",
+            Kind::Get => b"get",
+        }
+    }
+
+    /// The kind that is this word, if one is.
+    pub(crate) fn from_word(word: &[u8]) -> Option<Self>
+        ensures { result ≡ kind_in word.now }
+    {
+        if word == Kind::Put.word() {
+            return Some(Kind::Put);
+        }
+        if word == Kind::Get.word() {
+            return Some(Kind::Get);
+        }
+        None
+    }
+}
+
+fn name_of(ruleset: Ruleset) -> &'static [u8]
+    ensures { result.now ≡ ruleset_name «ruleset» }
+{
+    match ruleset {
+        Ruleset::Lynx => b"lynx",
+        Ruleset::Ms => b"ms",
+    }
+}
+
+/// The ruleset that has this name, if one has.
+pub(crate) fn ruleset_named(word: &[u8]) -> Option<Ruleset>
+    ensures { result ≡ ruleset_in word.now }
+{
+    if word == name_of(Ruleset::Lynx) {
+        return Some(Ruleset::Lynx);
+    }
+    if word == name_of(Ruleset::Ms) {
+        return Some(Ruleset::Ms);
+    }
+    None
+}

@@ -1,0 +1,422 @@
+#!/usr/bin/env python3
+"""Attacks servers and clients of this host, and checks the bound that each attack is held to: hostile.py PROGRAM FOLDER.
+
+Each row is a function. It prints what it measured; the last line counts the checks.
+"""
+import os
+import signal
+import socket
+import struct
+import subprocess
+import sys
+import threading
+import time
+
+PROGRAM, FOLDER = sys.argv[1], sys.argv[2]
+HEADER = bytes.fromhex("35339B9901000000")
+ACK_0 = b"\0\4\0\0"
+LAST_PORT = [46000]
+counts = {True: 0, False: 0}
+processes = []
+
+
+def check(name, holds):
+    counts[bool(holds)] += 1
+    if not holds:
+        print(f"check failed: {name}", flush=True)
+
+
+def record(level, password=b"BDHP", ticks=100, moves=b""):
+    body = struct.pack("<H4sBBII", level, password, 0, 0, 0, ticks) + moves
+    return struct.pack("<I", len(body)) + body
+
+
+def file(name, *records):
+    path = os.path.join(FOLDER, name)
+    with open(path, "wb") as out:
+        out.write(HEADER + b"".join(records))
+    return path
+
+
+def end(host="127.0.0.1", wait=10):
+    opened = socket.socket(socket.AF_INET, socket.SOCK_DGRAM)
+    opened.setsockopt(socket.SOL_SOCKET, socket.SO_RCVBUF, 1 << 20)
+    opened.bind((host, 0))
+    opened.settimeout(wait)
+    return opened
+
+
+def request(code, name):
+    return struct.pack(">H", code) + name + b"\0octet\0"
+
+
+WRQ, RRQ = request(2, b"a.tws"), request(1, b"lynx.tws")
+
+
+def run(*words):
+    process = subprocess.Popen([PROGRAM, *map(str, words)], stdin=subprocess.DEVNULL, stdout=subprocess.PIPE, stderr=subprocess.PIPE)
+    processes.append(process)
+    return process
+
+
+def done(process, seconds=100):
+    """Its status and all that it printed, and how long it took from now; status None if it did not end in time."""
+    began = time.monotonic()
+    try:
+        out, errors = process.communicate(timeout=seconds)
+        return process.returncode, out + errors, time.monotonic() - began
+    except subprocess.TimeoutExpired:
+        process.kill()
+        return None, b"", time.monotonic() - began
+
+
+class Server:
+    def __init__(self, *words):
+        while True:
+            LAST_PORT[0] += 1
+            self.port = LAST_PORT[0]
+            self.process = run("serve", "--port", self.port, *words)
+            if self.process.stdout.readline() == b"serving on port %d\n" % self.port:
+                return
+            self.process.wait()
+
+    def __enter__(self):
+        return self
+
+    def __exit__(self, *_):
+        self.process.kill()
+        self.process.wait()
+
+    def put(self, path):
+        return done(run("put", "127.0.0.1", path, "--port", self.port))
+
+    def get(self, name="got"):
+        return done(run("get", "127.0.0.1", "lynx", os.path.join(FOLDER, name), "--port", self.port))
+
+    def send(self, own, bytes_to_send):
+        own.sendto(bytes_to_send, ("127.0.0.1", self.port))
+
+    def begin(self, own, what):
+        """Sends a request, and returns the first answer and the port of the transfer."""
+        self.send(own, what)
+        answer, (_, port) = own.recvfrom(2000)
+        return answer, port
+
+
+def sockets_of(pid):
+    """The UDP ports that a process has open."""
+    inodes = set()
+    for name in os.listdir(f"/proc/{pid}/fd"):
+        try:
+            target = os.readlink(f"/proc/{pid}/fd/{name}")
+        except OSError:
+            continue
+        if target.startswith("socket:["):
+            inodes.add(target[8:-1])
+    with open("/proc/net/udp") as table:
+        rows = [line.split() for line in table.readlines()[1:]]
+    return {int(row[1].split(":")[1], 16) for row in rows if row[9] in inodes}
+
+
+class Flood:
+    """Sends junk to a port from several ends, so many datagrams a second, until it is left."""
+
+    def __init__(self, port, rate, hosts=("127.0.0.2",), ends=50, junk=b"\0\7junk"):
+        self.ends = [end(hosts[k % len(hosts)]) for k in range(ends)]
+        self.port, self.rate, self.junk = port, rate, junk
+        self.over = threading.Event()
+        self.sent = 0
+        self.thread = threading.Thread(target=self.flood, daemon=True)
+
+    def flood(self):
+        began = time.monotonic()
+        while not self.over.is_set():
+            while self.sent < (time.monotonic() - began) * self.rate:
+                try:
+                    self.ends[self.sent % len(self.ends)].sendto(self.junk, ("127.0.0.1", self.port))
+                except OSError:
+                    pass
+                self.sent += 1
+            time.sleep(0.0005)
+
+    def __enter__(self):
+        self.thread.start()
+        return self
+
+    def __exit__(self, *_):
+        self.over.set()
+        self.thread.join()
+        for own in self.ends:
+            own.close()
+
+
+# ---- the rows
+
+def what_waits_is_not_timed_out():
+    """Twelve last blocks arrive while the server stands still for two seconds: all twelve are acknowledged."""
+    with Server() as server:
+        ends = [end() for _ in range(12)]
+        ports = [server.begin(own, WRQ)[1] for own in ends]
+        server.process.send_signal(signal.SIGSTOP)
+        for k, (own, port) in enumerate(zip(ends, ports)):
+            own.sendto(b"\0\3\0\1" + HEADER + record(k + 1), ("127.0.0.1", port))
+        time.sleep(2)
+        server.process.send_signal(signal.SIGCONT)
+        answers = [own.recvfrom(2000)[0] for own in ends]
+        acked = sum(answer == b"\0\4\0\1" for answer in answers)
+        print(f"a server that stood still for 2 s: {acked} of 12 last blocks acknowledged")
+        check("last blocks that waited", acked == 12)
+
+
+def junk_costs_no_port():
+    """After 20,000 junk datagrams at the request port the next transfer has another port, and requests are served."""
+    with Server() as server:
+        own = end()
+        first = server.begin(own, WRQ)[1]
+        with Flood(server.port, 20_000) as flood:
+            while flood.sent < 20_000:
+                time.sleep(0.01)
+        opened = len(sockets_of(server.process.pid))
+        other = end()
+        second = server.begin(other, WRQ)[1]
+        print(f"20,000 junk datagrams at the request port: ports {first} and {second}, {opened} ports open")
+        check("junk opens no port", opened == 2)
+        check("a port that was just used", first != second)
+
+
+def one_host_does_not_close_the_archive():
+    """A host that asks for 64 transfers and continues none has 32 of them, and others are served at once."""
+    probe = socket.socket(socket.AF_INET, socket.SOCK_DGRAM)
+    try:
+        probe.connect(("192.0.2.1", 9))
+        host = probe.getsockname()[0]
+    except OSError:
+        host = "127.0.0.1"
+    if host.startswith("127."):
+        print("requests of one host: not tried, since this host has no other address than 127.x.x.x")
+        return
+    with Server() as server:
+        ends = [end(host) for _ in range(64)]
+        for own in ends:
+            own.sendto(WRQ, (host, server.port))
+        time.sleep(0.3)
+        opened = len(sockets_of(server.process.pid)) - 1
+        status, _, took = server.get()
+        print(f"64 requests of one host: {opened} transfers; another host's get took {took:.2f} s")
+        check("the transfers of one host", opened == 32)
+        check("another host's get", status == 0 and took < 1)
+
+
+def strangers_keep_no_transfer_alive():
+    """An ACK of a stranger every 0.4 s does not keep a transfer alive whose client is silent."""
+    with Server() as server:
+        own, stranger = end(), end(wait=0.4)
+        port = server.begin(own, RRQ)[1]
+        began = time.monotonic()
+        lived = 0.0
+        while time.monotonic() - began < 8:
+            stranger.sendto(b"\0\4\0\1", ("127.0.0.1", port))
+            try:
+                stranger.recvfrom(2000)
+                lived = time.monotonic() - began
+                time.sleep(0.4)
+            except OSError:
+                pass
+        print(f"a stranger's ACK every 0.4 s: the transfer lived for {lived:.1f} s")
+        check("a transfer that a stranger answers", 0 < lived < 7)
+
+
+def junk_is_no_progress():
+    """A get that nobody answers times out, whatever junk comes, from its server's host or from others."""
+    silent = end()
+    for host in ("127.0.0.1", "127.0.0.2"):
+        process = run("get", "127.0.0.1", "lynx", os.path.join(FOLDER, "none"), "--port", silent.getsockname()[1])
+        _, (_, port) = silent.recvfrom(2000)
+        with Flood(port, 250, hosts=(host,), ends=5):
+            status, text, took = done(process, 20)
+        print(f"250 junk datagrams a second from {host}: the get timed out after {took:.1f} s")
+        check(f"a get with junk from {host}", status == 4 and text == b"tws: transfer failed: timed out\n" and took < 6)
+        silent.settimeout(0.01)
+        try:
+            while True:
+                silent.recvfrom(2000)
+        except OSError:
+            silent.settimeout(10)
+
+
+def floods_slow_gets_down_no_more_than_threefold():
+    """A collection of 4 MB is fetched while junk floods the port of the client, the server's request port, or both."""
+    with Server() as server:
+        big = file("big.tws", *[record(level, moves=b"\0" * 1000) for level in range(1, 4001)])
+        check("the put of 4 MB", server.put(big)[0] == 0)
+        plain = min(server.get()[2] for _ in range(3))
+
+        def flooded(name, port_of):
+            worst, failed = 0.0, 0
+            for _ in range(4):
+                process = run("get", "127.0.0.1", "lynx", os.path.join(FOLDER, "got"), "--port", server.port)
+                port = port_of(process)
+                with Flood(port, 20_000):
+                    status, _, took = done(process, 60)
+                failed += status != 0
+                worst = max(worst, took)
+            print(f"4 MB while 20,000 junk datagrams a second come to {name}: {worst:.2f} s, without {plain:.2f} s, {failed} of 4 failed")
+            check(f"gets with junk at {name}", failed == 0)
+            check(f"the time of gets with junk at {name}", worst < 3 * plain + 1)
+
+        def client_port(process):
+            while not sockets_of(process.pid):
+                pass
+            return sockets_of(process.pid).pop()
+
+        def transfer_port(process):
+            for _ in range(1000):
+                ports = sockets_of(server.process.pid) - {server.port}
+                if ports:
+                    return ports.pop()
+            return server.port
+
+        flooded("the client's port", client_port)
+        flooded("the transfer's port", transfer_port)
+        flooded("the request port", lambda process: server.port)
+
+
+def sent_but_for_the_last(server, text):
+    """Puts all blocks of a file but the last one, one after another, and leaves the transfer there."""
+    own = end()
+    port = server.begin(own, WRQ)[1]
+    own.connect(("127.0.0.1", port))
+    for n in range(1, len(text) // 512 + 1):
+        own.send(struct.pack(">HH", 3, n) + text[512 * (n - 1):512 * n])
+        own.recv(600)
+    return own
+
+
+def memory_of(pid):
+    """The most memory that a process has had, in bytes."""
+    with open(f"/proc/{pid}/status") as status:
+        return next(int(line.split()[1]) * 1024 for line in status if line.startswith("VmHWM"))
+
+
+def uploads_cost_their_bytes():
+    """Uploads of pads, four bytes a record, take no more memory than the bytes that were received."""
+    text = HEADER + b"\0" * (33_553_919 - len(HEADER))
+    with Server() as server:
+        before = memory_of(server.process.pid)
+        ends = [sent_but_for_the_last(server, text) for _ in range(3)]
+        taken = memory_of(server.process.pid) - before
+        received = sum(len(text) // 512 * 512 for _ in ends)
+        print(f"3 uploads of pads: {taken / received:.2f} times the {received / 1e6:.0f} MB received")
+        check("the memory of pads", taken < 1.1 * received + 20e6)
+
+
+def a_put_that_changes_nothing_is_cheap():
+    """With a collection of 1.67 million records neither a put that changes nothing nor a refused get costs much."""
+    records = [record(level % 65535 + 1, password=b"%04d" % (level // 65535)) for level in range((33_553_919 - len(HEADER)) // 20)]
+    with Server() as server:
+        check("the put of 1.67 million records", server.put(file("most.tws", *records))[0] == 0)
+        check("a first get of them", server.get()[0] == 0)
+        block = HEADER + record(1, password=b"0000")
+        puts, gets = [], []
+        for _ in range(20):
+            own = end()
+            port = server.begin(own, WRQ)[1]
+            began = time.monotonic()
+            own.sendto(b"\0\3\0\1" + block, ("127.0.0.1", port))
+            own.recvfrom(600)
+            puts.append(time.monotonic() - began)
+            began = time.monotonic()
+            _, port = server.begin(own, RRQ)
+            gets.append(time.monotonic() - began)
+            own.sendto(b"\0\5\0\0\0", ("127.0.0.1", port))
+        puts.sort(), gets.sort()
+        print(f"1.67 million records: a put that changes nothing {1000 * puts[10]:.2f} ms, a request to read {1000 * gets[10]:.2f} ms")
+        check("a put that changes nothing", puts[10] < 0.01)
+        check("a request to read", gets[10] < 0.01)
+
+
+def gets_write_before_they_dally():
+    """A server that repeats its last block for ever: the file is written at once, and the get ends after two seconds."""
+    server = end()
+    got = os.path.join(FOLDER, "repeated")
+    process = run("get", "127.0.0.1", "lynx", got, "--port", server.getsockname()[1])
+    _, client = server.recvfrom(2000)
+    began = time.monotonic()
+    text = HEADER + record(1)
+    server.settimeout(0.1)
+    written = None
+    while process.poll() is None and time.monotonic() - began < 20:
+        server.sendto(b"\0\3\0\1" + text, client)
+        if written is None and os.path.exists(got) and os.path.getsize(got) == len(text):
+            written = time.monotonic() - began
+        try:
+            server.recvfrom(2000)
+        except OSError:
+            pass
+        time.sleep(0.1)
+    ended = time.monotonic() - began
+    print(f"a last block every 0.1 s for ever: written after {written or 99:.1f} s, ended after {ended:.1f} s")
+    check("the file is written at once", written is not None and written < 0.5)
+    check("the get ends", ended < 3 and process.wait() == 0)
+    with Server() as honest:
+        status, _, took = honest.get()
+        print(f"an ordinary get: {took:.2f} s")
+        check("an ordinary get", status == 0 and took < 1)
+
+
+def puts_stop_reading():
+    """A file without end is left once it is longer than a file may be."""
+    status, text, took = done(run("put", "127.0.0.1", "/dev/zero", "--port", 9))
+    print(f"put /dev/zero: {took:.2f} s")
+    check("a file without end", status == 4 and text == b"tws: transfer failed: too long\n" and took < 10)
+
+
+def drafts_that_are_no_files():
+    """A draft that is a FIFO, or a link to another file, is replaced, and nothing is written through it."""
+    other = os.path.join(FOLDER, "other")
+    with open(other, "wb") as out:
+        out.write(b"other")
+    for k, make in enumerate((os.mkfifo, lambda path: os.symlink(other, path))):
+        folder = os.path.join(FOLDER, f"drafts{k}")
+        os.mkdir(folder)
+        make(os.path.join(folder, "lynx.new"))
+        with Server("--dir", folder) as server:
+            path = file("one.tws", record(1))
+            status, _, took = server.put(path)
+            with open(os.path.join(folder, "lynx.tws"), "rb") as kept, open(path, "rb") as sent:
+                same = kept.read() == sent.read()
+            print(f"a draft that is {'a link' if k else 'a FIFO'}: the put took {took:.2f} s")
+            check("a draft that is no file", status == 0 and same and took < 5)
+    with open(other, "rb") as left:
+        check("nothing is written through a link", left.read() == b"other")
+
+
+def main():
+    rows = [
+        what_waits_is_not_timed_out,
+        junk_costs_no_port,
+        one_host_does_not_close_the_archive,
+        strangers_keep_no_transfer_alive,
+        junk_is_no_progress,
+        floods_slow_gets_down_no_more_than_threefold,
+        uploads_cost_their_bytes,
+        a_put_that_changes_nothing_is_cheap,
+        gets_write_before_they_dally,
+        puts_stop_reading,
+        drafts_that_are_no_files,
+    ]
+    try:
+        for row in rows:
+            try:
+                row()
+            except Exception as fault:
+                check(f"{row.__name__}: {fault!r}", False)
+    finally:
+        for process in processes:
+            if process.poll() is None:
+                process.kill()
+    print(f"{counts[True]} passed, {counts[False]} failed")
+    return counts[False] != 0
+
+
+sys.exit(main())
