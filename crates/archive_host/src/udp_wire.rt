@@ -43,7 +43,8 @@ pub struct UdpWire<R: Net + Clock + RandomSource + AllocGlobal + Copy> {
     given: Option<u16>,
     listens: bool,
     lap: u8,
-    // The time of the look that began the lap, if since then each port that may have a datagram was to be read.
+    // The time just before the look that began the lap, if since then each port that may have a datagram was to be read:
+    // the process may be stopped between the look and the clock, and what arrives then was not looked for.
     began: Option<u64>,
     time: u64,
     failures: u64,
@@ -251,13 +252,14 @@ impl<R: Net + Clock + RandomSource + AllocGlobal + Copy> UdpWire<R> {
         ensures failures { self.new.failures ≡ self.old.failures }
     {
         let millis = self.millis_left(until);
+        let began = self.now();
         let is_made = self.look(millis);
         self.lap = (self.lap + 1) % LAPS;
         self.began = None;
         if self.lap == 0 || self.ports.ready_least().is_none() {
             self.ports.mark_read();
             if is_made {
-                self.began = Some(self.now());
+                self.began = Some(began);
             }
         }
     }
