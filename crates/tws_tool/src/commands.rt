@@ -15,6 +15,7 @@ mod serve;
 mod show;
 
 use crate::file_system::FileSystem;
+use crate::limits::VERSION;
 use archive_turns::ReadyWire;
 pub use best::{BestArguments, run_best};
 use clap::{ArgMatches, Command};
@@ -55,6 +56,7 @@ fn one_file_commands<'a>(alloc: Global) -> Result<Command<'a>, AllocError>
     let show = show::command(alloc)?;
     let command = Command::new(alloc, "tws")
         .about("Lists, packs and collects Tile World solution files, and archives them by TFTP")
+        .version(VERSION)
         .subcommand_required(true)
         .subcommand(show)?;
     let pack = pack::command(alloc)?;
