@@ -4,6 +4,8 @@
 Each row is a function. It prints what it measured; the last line counts the checks.
 """
 import os
+import resource
+import shutil
 import signal
 import socket
 import struct
@@ -53,8 +55,8 @@ def request(code, name):
 WRQ, RRQ = request(2, b"a.tws"), request(1, b"lynx.tws")
 
 
-def run(*words):
-    process = subprocess.Popen([PROGRAM, *map(str, words)], stdin=subprocess.DEVNULL, stdout=subprocess.PIPE, stderr=subprocess.PIPE)
+def run(*words, **settings):
+    process = subprocess.Popen([PROGRAM, *map(str, words)], stdin=subprocess.DEVNULL, stdout=subprocess.PIPE, stderr=subprocess.PIPE, **settings)
     processes.append(process)
     return process
 
@@ -71,11 +73,11 @@ def done(process, seconds=100):
 
 
 class Server:
-    def __init__(self, *words):
+    def __init__(self, *words, **settings):
         while True:
             LAST_PORT[0] += 1
             self.port = LAST_PORT[0]
-            self.process = run("serve", "--port", self.port, *words)
+            self.process = run("serve", "--port", self.port, *words, **settings)
             if self.process.stdout.readline() == b"serving on port %d\n" % self.port:
                 return
             self.process.wait()
@@ -101,6 +103,27 @@ class Server:
         self.send(own, what)
         answer, (_, port) = own.recvfrom(2000)
         return answer, port
+
+
+def stop(process):
+    """Stops a process, and waits until it stands still."""
+    process.send_signal(signal.SIGSTOP)
+    while True:
+        with open(f"/proc/{process.pid}/stat") as status:
+            if status.read().rsplit(")", 1)[1].split()[0] == "T":
+                return
+        time.sleep(0.001)
+
+
+def drain(own):
+    """Reads all that has arrived."""
+    wait = own.gettimeout()
+    own.settimeout(0)
+    try:
+        while True:
+            own.recv(2000)
+    except OSError:
+        own.settimeout(wait)
 
 
 def sockets_of(pid):
@@ -157,7 +180,9 @@ def what_waits_is_not_timed_out():
     with Server() as server:
         ends = [end() for _ in range(12)]
         ports = [server.begin(own, WRQ)[1] for own in ends]
-        server.process.send_signal(signal.SIGSTOP)
+        stop(server.process)
+        for own in ends:
+            drain(own)
         for k, (own, port) in enumerate(zip(ends, ports)):
             own.sendto(b"\0\3\0\1" + HEADER + record(k + 1), ("127.0.0.1", port))
         time.sleep(2)
@@ -391,6 +416,96 @@ def drafts_that_are_no_files():
         check("nothing is written through a link", left.read() == b"other")
 
 
+def loaded(path):
+    with open(path, "rb") as text:
+        return text.read()
+
+
+def outgrows(name, fitting, more, *words):
+    """A put that would make a collection longer than the limit is refused. What was there is served, also after a restart,
+    and a put that fits is kept."""
+    folder = os.path.join(FOLDER, "outgrown")
+    os.makedirs(folder)
+    first, second, small = file("first.tws", *fitting), file("second.tws", *more), file("small.tws", record(1, b"TINY"))
+    kept = loaded(first)
+    refused = (4, b"tws: transfer failed: refused 0\n")
+
+    def served(server):
+        status, _, took = server.get()
+        return status == 0 and loaded(os.path.join(FOLDER, "got")) == kept and took < 5
+
+    with Server("--dir", folder, *words) as server:
+        check(f"{name}: a put that fits", server.put(first)[0] == 0)
+        check(f"{name}: a get before", served(server))
+        check(f"{name}: what would outgrow it is refused", server.put(second)[:2] == refused)
+        check(f"{name}: a get after", served(server))
+    check(f"{name}: what is kept", loaded(os.path.join(folder, "lynx.tws")) == kept)
+    with Server("--dir", folder, *words) as server:
+        check(f"{name}: a get after a restart", served(server))
+        check(f"{name}: a small put after that", server.put(small)[0] == 0)
+        check(f"{name}: it is kept", len(loaded(os.path.join(folder, "lynx.tws"))) == len(kept) + 20)
+    with Server(*words) as server:
+        check(f"{name}: a put without a folder", server.put(first)[0] == 0)
+        check(f"{name}: it is refused without a folder", server.put(second)[:2] == refused)
+        check(f"{name}: a get without a folder", served(server))
+    print(f"{name}: an upload that would outgrow it is refused, and {len(kept)} bytes stay served")
+    shutil.rmtree(folder)
+
+
+def no_collection_outgrows_what_can_be_served():
+    """Two files of distinct solutions that together have more bytes than the limit, or than can be served at all."""
+    few = [[record(level, bytes([letter]) * 4) for level in range(1, 6)] for letter in b"AB"]
+    outgrows("a limit of 150 bytes", few[0], few[1], "--limit", 150)
+    many = [[record(level, bytes([letter]) * 4, moves=b"\0" * 99_980) for level in range(1, 171)] for letter in b"AB"]
+    outgrows("the 33,553,919 bytes that can be served", many[0], many[1])
+
+
+def a_full_disk_loses_nothing():
+    """While the disk is full puts are refused, nothing partial is left, and what was there is served. Where no small file
+    system can be mounted, a limit on the size of the server's files stands for the disk."""
+    folder = os.path.join(FOLDER, "full")
+    os.mkdir(folder)
+    first = file("first.tws", *[record(level, b"AAAA", moves=b"\0" * 980) for level in range(1, 301)])
+    second = file("second.tws", *[record(level, b"BBBB", moves=b"\0" * 980) for level in range(1, 201)])
+    mounted = subprocess.run(["mount", "-t", "tmpfs", "-o", "size=1m", "tmpfs", folder], stderr=subprocess.DEVNULL).returncode == 0
+    filler = os.path.join(folder, "filler")
+    size = resource.RLIM_INFINITY, resource.RLIM_INFINITY
+
+    def confined():
+        signal.signal(signal.SIGXFSZ, signal.SIG_IGN)
+        resource.setrlimit(resource.RLIMIT_FSIZE, (400_000, size[1]))
+
+    def is_kept(text):
+        return loaded(os.path.join(folder, "lynx.tws")) == text and sorted(os.listdir(folder)) == ["lynx.tws"]
+
+    try:
+        with Server("--dir", folder, **({} if mounted else {"preexec_fn": confined})) as server:
+            check("a put while there is room", server.put(first)[0] == 0)
+            if mounted:
+                with open(filler, "wb") as full:
+                    full.write(b"\0" * 600_000)
+            check("a put on a full disk", server.put(second)[:2] == (4, b"tws: transfer failed: refused 0\n"))
+            check("a get on a full disk", server.get()[0] == 0 and loaded(os.path.join(FOLDER, "got")) == loaded(first))
+            if mounted:
+                os.remove(filler)
+            check("nothing partial is left", is_kept(loaded(first)))
+            if not mounted:
+                resource.prlimit(server.process.pid, resource.RLIMIT_FSIZE, size)
+            check("a put once there is room", server.put(second)[0] == 0)
+            both = HEADER + b"".join(r for pair in zip(records_of(first), [*records_of(second), *[b""] * 100]) for r in pair)
+            check("it is kept", is_kept(both) and server.get()[0] == 0 and loaded(os.path.join(FOLDER, "got")) == both)
+        print(f"a full disk{'' if mounted else ', as a limit on the size of files'}: the put is refused, and the next one is kept")
+    finally:
+        if mounted:
+            subprocess.run(["umount", folder])
+
+
+def records_of(path):
+    """The records of a file, of 1,000 bytes each."""
+    text = loaded(path)[len(HEADER):]
+    return [text[at:at + 1000] for at in range(0, len(text), 1000)]
+
+
 def main():
     rows = [
         what_waits_is_not_timed_out,
@@ -404,6 +519,8 @@ def main():
         gets_write_before_they_dally,
         puts_stop_reading,
         drafts_that_are_no_files,
+        no_collection_outgrows_what_can_be_served,
+        a_full_disk_loses_nothing,
     ]
     try:
         for row in rows:

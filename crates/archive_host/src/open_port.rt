@@ -28,15 +28,16 @@ pub(crate) struct OpenPort {
 }
 
 impl OpenPort {
-    /// Opens a port at every address of this host, and has the poll report what arrives there.
+    /// Opens a port at this address of this host, 0 for every address, and has the poll report what arrives there.
     ///
     /// # Errors
     ///
     /// Those of the system. The port is then not open.
-    pub(crate) fn open<N: Net>(net: &N, poll: &Poll, port: u16) -> io::Result<Self>
-        ensures { IfOk result (λ o. o.port ≡ port) }
+    pub(crate) fn open<N: Net>(net: &N, poll: &Poll, at: Endpoint) -> io::Result<Self>
+        ensures { IfOk result (λ o. o.port ≡ at.port) }
     {
-        let address = SocketAddr::from((Ipv4Addr::UNSPECIFIED, port));
+        let port = at.port;
+        let address = SocketAddr::from((Ipv4Addr::from_bits(at.host), port));
         let mut socket = UdpSocket::bind(net, address)?;
         let token = Token(port as usize);
         poll.registry()

@@ -27,7 +27,7 @@ const LOOKS: u32 = 1000;
 // In every `LAPS`th lap over the ports, those that were read are read again.
 const LAPS: u8 = 16;
 
-/// A wire over UDP and IPv4, whose ports are open at every address of this host. `receive` waits 5 ms at most, and not
+/// A wire over UDP and IPv4, whose ports are open at every address of this host, or at one. `receive` waits 5 ms at most, and not
 /// at all at the port that `wait` has just returned. For `wait`, a port that was just read is ready again only if no
 /// other is, or in every sixteenth lap over the ports, and it may turn out to have nothing. The clock is in
 /// milliseconds. The wire has no ghost log.
@@ -37,6 +37,8 @@ const LAPS: u8 = 16;
 #[derive(Drop)]
 pub struct UdpWire<R: Net + Clock + RandomSource + AllocGlobal + Copy> {
     rt: R,
+    // The address of this host at which ports are opened, 0 for every address.
+    host: u32,
     watch: Option<Watch>,
     ports: OpenPorts,
     deck: Option<PortDeck>,
@@ -66,12 +68,14 @@ fn seed<R: Clock + RandomSource>(rt: &R) -> [u8; 32] {
 }
 
 impl<R: Net + Clock + RandomSource + AllocGlobal + Copy> UdpWire<R> {
-    /// Returns a wire without ports. Does not allocate.
+    /// Returns a wire without ports, which opens them at every address of this host. Does not allocate.
     pub fn new(rt: R) -> Self
         ensures failures { result.failures ≡ 0 }
+        ensures host { result.host ≡ 0 }
     {
         UdpWire {
             rt,
+            host: 0,
             watch: None,
             ports: OpenPorts::new(rt.alloc()),
             deck: None,
@@ -84,17 +88,33 @@ impl<R: Net + Clock + RandomSource + AllocGlobal + Copy> UdpWire<R> {
         }
     }
 
-    /// Returns a wire that has this port. At port 0 the system chooses one, which no method names.
+    /// Returns a wire that has this port, at every address of this host. At port 0 the system chooses one, which no
+    /// method names.
     ///
     /// # Errors
     ///
     /// `Open` if the port cannot be opened.
     pub fn listen(rt: R, port: u16) -> Result<Self, WireFault>
         ensures failures { IfOk result (λ wire. wire.failures ≡ 0) }
+        ensures host { IfOk result (λ wire. wire.host ≡ 0) }
+        ensures fault { IfErr result (λ e. e ≡ WireFault.Open) }
+    {
+        Self::listen_at(rt, Endpoint { host: 0, port })
+    }
+
+    /// The same at one address of this host, 0 for every address: later ports are opened there too.
+    ///
+    /// # Errors
+    ///
+    /// `Open` if the port cannot be opened, also if this host does not have the address.
+    pub fn listen_at(rt: R, at: Endpoint) -> Result<Self, WireFault>
+        ensures failures { IfOk result (λ wire. wire.failures ≡ 0) }
+        ensures host { IfOk result (λ wire. wire.host ≡ at.host) }
         ensures fault { IfErr result (λ e. e ≡ WireFault.Open) }
     {
         let mut wire = Self::new(rt);
-        match wire.open_port(port) {
+        wire.host = at.host;
+        match wire.open_port(at.port) {
             Ok(()) => {
                 wire.listens = true;
                 Ok(wire)
@@ -117,6 +137,7 @@ impl<R: Net + Clock + RandomSource + AllocGlobal + Copy> UdpWire<R> {
     // Opens a port.
     fn open_port(&mut self, port: u16) -> io::Result<()>
         ensures failures { self.new.failures ≡ self.old.failures }
+        ensures host { self.new.host ≡ self.old.host }
     {
         if self.watch.is_none() {
             self.watch = Some(Watch::new(&self.rt, self.rt.alloc())?);
@@ -124,7 +145,8 @@ impl<R: Net + Clock + RandomSource + AllocGlobal + Copy> UdpWire<R> {
         let Some(watch) = &self.watch else {
             return Err(io::Error::from(ErrorKind::NotConnected));
         };
-        let open = watch.open(&self.rt, port)?;
+        let host = self.host;
+        let open = watch.open(&self.rt, Endpoint { host, port })?;
         match self.ports.push(open) {
             Ok(()) => Ok(()),
             Err(_) => Err(io::Error::from(ErrorKind::OutOfMemory)),

@@ -6,6 +6,7 @@ use std::io;
 use std::io::ErrorKind;
 use std::net::Net;
 use std::time::Duration;
+use tftp_packet::Endpoint;
 
 // The most reports that one look takes. The rest are left to the next look.
 const REPORTS: usize = 64;
@@ -31,13 +32,13 @@ impl Watch {
         }
     }
 
-    /// Opens a port and watches it.
+    /// Opens a port at this address of this host, 0 for every address, and watches it.
     ///
     /// # Errors
     ///
     /// Those of the system. The port is then not open.
-    pub(crate) fn open<N: Net>(&self, net: &N, port: u16) -> io::Result<OpenPort> {
-        OpenPort::open(net, &self.poll, port)
+    pub(crate) fn open<N: Net>(&self, net: &N, at: Endpoint) -> io::Result<OpenPort> {
+        OpenPort::open(net, &self.poll, at)
     }
 
     /// Waits until a datagram arrives at a port or `millis` milliseconds have passed, without limit if that is `None`,

@@ -19,6 +19,10 @@ fn serve_with_options(rt: HostRuntime) -> Result<(), Fail> {
         "70",
         "--per-host",
         "3",
+        "--limit",
+        "500",
+        "--address",
+        "127.0.0.2",
     ];
     let Ok(Job::Serve(arguments)) = job(&rt, &words)? else {
         return Err(Fail::new("another job"));
@@ -27,11 +31,14 @@ fn serve_with_options(rt: HostRuntime) -> Result<(), Fail> {
         port,
         turns,
         per_host,
+        limit,
+        address,
         dir,
     } = arguments;
-    let Some(dir) = dir else {
-        return Err(Fail::new("no folder"));
+    let (Some(address), Some(dir)) = (address, dir) else {
+        return Err(Fail::new("no address, or no folder"));
     };
-    assert_eq!(rt; (port, turns, per_host, dir.as_str()), (70, 7, 3, "kept"));
+    assert_eq!(rt; (port, turns, per_host, limit), (70, 7, 3, 500));
+    assert_eq!(rt; (address.as_str(), dir.as_str()), ("127.0.0.2", "kept"));
     Ok(())
 }

@@ -3,7 +3,7 @@ use Rattle.std.proofs.Common.{true, false, refl, subst, Result, Ok, Err, ⊎_eli
 use Rattle.clap.specs.Words.{App, FailsBy, HasKind, HasMatchesOf, Text, fault_of, is_simple, is_simple_and_free, kind_of, subcommand_of, subcommand_rows_of}
 use Rattle.clap.specs.declared.parser.matches.ArgMatches.{ArgMatches}
 use Rattle.clap.specs.declared.error.Error.{Error}
-use Rattle.clap.specs.declared.error.kind.ErrorKind.TheVariants.{OutOfMemory}
+use Rattle.clap.specs.declared.error.kind.ErrorKind.TheVariants.{DisplayVersion, OutOfMemory}
 use Rattle.clap.proofs.OnLiterals.{clap_on_literals}
 use Rattle.tws_tool.specs.declared.commands.Job.TheVariants.{Show, Pack, Serve}
 use Rattle.tws_tool.specs.declared.source.Source.TheVariants.{Standard}
@@ -70,9 +70,9 @@ unfolding clap_on_literals
 asks_for_pack names program = (refl, (_, refl, (refl, refl)))
 
 -- `tws serve`, with the default port, turns and transfers of one host, and no folder
-pub asks_for_serve : (names : RulesetNames) (program : Text) → WordsAskFor names (program ∷ codes "serve" ∷ []) (Serve (record { port = 6969; turns = 1000000000; per_host = 32; dir = None }))
+pub asks_for_serve : (names : RulesetNames) (program : Text) → WordsAskFor names (program ∷ codes "serve" ∷ []) (Serve (record { port = 6969; turns = 1000000000; per_host = 32; limit = 33553919; address = None; dir = None }))
 unfolding clap_on_literals
-asks_for_serve names program = (refl, (_, refl, (refl, record { port_is = refl; turns_are = refl; per_host_is = refl; dir_is = refl })))
+asks_for_serve names program = (refl, (_, refl, (refl, record { port_is = refl; turns_are = refl; per_host_is = refl; limit_is = refl; address_is = refl; dir_is = refl })))
 
 -- a number of digits only
 pub counted_number : (most n : ℕ) (text : Text) → IsNumeral 10 (without_leading_plus text) → n ≡ digits_value 10 (without_leading_plus text) → 1 ≤ n → n ≤ most → IsNumberUpTo most text n
@@ -81,7 +81,7 @@ counted_number most n text numeral value least greatest = record { numeral = num
 -- `tws serve --port 80 --turns=5`
 pub asks_for_counted : (names : RulesetNames) (program : Text) →
     WordsAskFor names (program ∷ codes "serve" ∷ codes "--port" ∷ codes "80" ∷ codes "--turns=5" ∷ [])
-    (Serve (record { port = 80; turns = 5; per_host = 32; dir = None }))
+    (Serve (record { port = 80; turns = 5; per_host = 32; limit = 33553919; address = None; dir = None }))
 unfolding clap_on_literals
 asks_for_counted names program = (
   refl,
@@ -94,8 +94,20 @@ asks_for_counted names program = (
         port_is = counted_number 65535 80 (codes "80") (omega arith, (omega arith, (omega arith, tt))) refl (omega arith) (omega arith);
         turns_are = counted_number 1000000000 5 (codes "5") (omega arith, (omega arith, tt)) refl (omega arith) (omega arith);
         per_host_is = refl;
+        limit_is = refl;
+        address_is = refl;
         dir_is = refl;
       },
     ),
   ),
 )
+
+-- `tws --version`
+pub asks_for_version : (names : RulesetNames) (program : Text) → fault_of (tws_app names) (program ∷ codes "--version" ∷ []) ≡ DisplayVersion ∷ []
+unfolding clap_on_literals
+asks_for_version names program = refl
+
+-- `tws -V`
+pub asks_for_v : (names : RulesetNames) (program : Text) → fault_of (tws_app names) (program ∷ codes "-V" ∷ []) ≡ DisplayVersion ∷ []
+unfolding clap_on_literals
+asks_for_v names program = refl

@@ -1,14 +1,15 @@
 -- What `serve` did, by its result.
-use Rattle.std.proofs.Common.{[], ◌≡◌, ℕ, ◌+◌, ◌<◌, ◌≤◌, Bool, true, false, List, Option, None, Result, Ok, Err, OnOk, IfErr, refl, arith, ap, sym, subst, ◌∙◌, inl, inr, ⊎_elim}
+use Rattle.std.proofs.Common.{◌≡◌, ℕ, ◌+◌, ◌<◌, ◌≤◌, Bool, true, false, List, Option, Some, None, Result, Ok, Err, OnOk, IfErr, ◌⊎◌, refl, arith, ap, sym, subst, ◌∙◌, inl, inr, ⊎_elim}
 use Rattle.archive_table.specs.declared.limits.TheConstants.{LIVE}
 use Rattle.archive_table.specs.Keeper.{Keeping, HasLoaded}
 use Rattle.archive_turns.specs.Turn.{MakesMany, MakesPass, Server, count_if, fresh_server}
 use Rattle.archive_turns.specs.Wire.{Entry}
 use Rattle.archive_turns.proofs.Turns.{many_none, many_more}
 use Rattle.tws_tool.specs.declared.commands.serve.Passes.{Passes}
+use Rattle.tws_tool.specs.declared.commands.serve.ServeArguments.{ServeArguments}
 use Rattle.tws_tool.specs.declared.tool_fault.ToolFault.{ToolFault}
 use Rattle.tws_tool.specs.declared.tool_fault.ToolFault.TheVariants.{Read, Write, Unreadable, Memory, Socket, Transfer}
-use Rattle.tws_tool.specs.Commands.Serve.{ArePassesFor, MakesPasses, count_of, pass_of, ServeStops, Served, ServerServed, Serves}
+use Rattle.tws_tool.specs.Commands.Serve.{ArePassesFor, HasHost, IsNoHost, MakesPasses, ServeRan, count_of, given_address, pass_of, ServeStops, Served, ServerServed, Serves}
 use Rattle.tws_tool.specs.Faults.{answer_status, status_of}
 use Rattle.tws_tool.specs.Lines.{LineFails, serving_line, taken_line}
 
@@ -96,6 +97,27 @@ server_served port turns per_host usable kept mid now same passes first last are
   passes_are = are;
   made = subst (λ (k : Option (List Keeping)). MakesPasses passes usable first last taken None None k now) same made;
 }
+
+-- ---- where it serves
+
+-- an address that was given is one
+some_host : (given : Option (List ℕ)) (host : ℕ) → HasHost given host → IsNoHost given → ⊥
+some_host None host is none = none
+some_host (Some address) host is none = none host is
+
+-- a server at the host of the address that was given
+pub serve_ran : (arguments : ServeArguments) (status host : ℕ) (old new : Option (List ℕ)) → HasHost (given_address arguments) host → (status ≡ 0) ⊎ (status ≡ 2)
+    → ((usable : Bool) × Served arguments.port arguments.turns arguments.per_host status usable None None old new) → ServeRan arguments status old new
+serve_ran arguments status host old new is few served = record {
+  bad =
+      (λ one. absurd (⊎_elim (λ zero_is. omega (arith, one, zero_is)) (λ two_is. omega (arith, one, two_is)) few), λ none. absurd (some_host (given_address arguments) host is none));
+  nowhere = λ one. absurd (⊎_elim (λ zero_is. omega (arith, one, zero_is)) (λ two_is. omega (arith, one, two_is)) few);
+  served = λ other. served;
+}
+
+-- nothing is served at a text that is no address
+pub serve_nowhere : (arguments : ServeArguments) (status : ℕ) (held : Option (List ℕ)) → status ≡ 1 → IsNoHost (given_address arguments) → ServeRan arguments status held held
+serve_nowhere arguments status held one none = record { bad = (λ is. none, λ is. one); nowhere = λ is. refl; served = λ other. absurd (other one) }
 
 -- ---- turns and rounds
 

@@ -4,6 +4,7 @@ use Rattle.clap.specs.Kinds.{IsAmong}
 use Rattle.clap.specs.Values.{kind_of}
 use Rattle.clap.specs.Words.{Row, Text, fault_of, subcommand_of, subcommand_rows_of}
 use Rattle.clap.specs.declared.parser.matches.ArgMatches.{ArgMatches}
+use Rattle.clap.specs.declared.error.kind.ErrorKind.{ErrorKind}
 use Rattle.clap.specs.declared.error.kind.ErrorKind.TheVariants.{InvalidSubcommand}
 use Rattle.tws_tool.specs.declared.commands.Job.{Job}
 use Rattle.tws_tool.specs.declared.job.JobFault.{JobFault}
@@ -34,3 +35,7 @@ AnswersWords words (Err why) = RefusesWords words why
 -- these arguments, after the program's name, ask for the job, whatever the name is
 abbrev pub AskFor : (arguments : List Text) → Job → Type 0
 AskFor arguments job = (names : RulesetNames) (program : Text) → WordsAskFor names (program ∷ arguments) job
+
+-- these arguments ask for no job, for this reason alone
+abbrev pub AskWhy : (arguments : List Text) → ErrorKind → Type 0
+AskWhy arguments why = (names : RulesetNames) (program : Text) → fault_of (tws_app names) (program ∷ arguments) ≡ why ∷ []

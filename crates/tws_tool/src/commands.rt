@@ -15,6 +15,7 @@ mod serve;
 mod show;
 
 use crate::file_system::FileSystem;
+use crate::limits::VERSION;
 use crate::overhearing::TransferWire;
 use crate::resolver::Resolver;
 pub use best::{BestArguments, run_best};
@@ -56,6 +57,7 @@ fn one_file_commands<'a>(alloc: Global) -> Result<Command<'a>, AllocError>
     let show = show::command(alloc)?;
     let command = Command::new(alloc, "tws")
         .about("Lists, packs and collects Tile World solution files, and archives them by TFTP")
+        .version(VERSION)
         .subcommand_required(true)
         .subcommand(show)?;
     let pack = pack::command(alloc)?;

@@ -1,7 +1,8 @@
 //! What holds for the commands, whatever they read. These functions do nothing: their contracts are theorems.
 
 ghost use Rattle.std.specs.Prelude.{◌≡◌, [], ◌∷◌, codes, None, true, false};
-ghost use Rattle.tws_tool.specs.CommandLine.{AskFor};
+ghost use Rattle.clap.specs.declared.error.kind.ErrorKind.TheVariants.{DisplayVersion};
+ghost use Rattle.tws_tool.specs.CommandLine.{AskFor, AskWhy};
 ghost use Rattle.tws_tool.specs.declared.commands.Job.TheVariants.{Show, Pack, Serve};
 ghost use Rattle.tws_tool.specs.declared.source.Source.TheVariants.{Standard};
 
@@ -18,11 +19,14 @@ pub fn limit_values()
     ensures per_host { PER_HOST ≡ 32 }
 {}
 
-/// What these arguments ask for: `show`, `show --moves`, `pack -`, `serve`, and `serve` with a port and turns.
+/// What these arguments ask for: `show`, `show --moves`, `pack -`, `serve`, `serve` with a port and turns, `--version`
+/// and `-V`.
 pub fn words_of_commands()
     ensures show { AskFor (codes "show" ∷ []) (Show (record { source = Standard; moves = false })) }
     ensures moves { AskFor (codes "show" ∷ codes "--moves" ∷ []) (Show (record { source = Standard; moves = true })) }
     ensures pack { AskFor (codes "pack" ∷ codes "-" ∷ []) (Pack (record { source = Standard })) }
-    ensures serve { AskFor (codes "serve" ∷ []) (Serve (record { port = 6969; turns = 1000000000; per_host = 32; dir = None })) }
-    ensures counted { AskFor (codes "serve" ∷ codes "--port" ∷ codes "80" ∷ codes "--turns=5" ∷ []) (Serve (record { port = 80; turns = 5; per_host = 32; dir = None })) }
+    ensures serve { AskFor (codes "serve" ∷ []) (Serve (record { port = 6969; turns = 1000000000; per_host = 32; limit = 33553919; address = None; dir = None })) }
+    ensures counted { AskFor (codes "serve" ∷ codes "--port" ∷ codes "80" ∷ codes "--turns=5" ∷ []) (Serve (record { port = 80; turns = 5; per_host = 32; limit = 33553919; address = None; dir = None })) }
+    ensures version { AskWhy (codes "--version" ∷ []) DisplayVersion }
+    ensures short { AskWhy (codes "-V" ∷ []) DisplayVersion }
 {}

@@ -56,7 +56,7 @@ pub use file_system::FileSystem;
 pub use input::INPUT_READS;
 pub use job::{JobFault, job_of};
 pub use laws::{limit_values, words_of_commands};
-pub use limits::{PER_HOST, PORT, ROUNDS, TURNS};
+pub use limits::{PER_HOST, PORT, ROUNDS, TURNS, VERSION};
 pub use overhearing::TransferWire;
 pub use program::{run_words, run_words_with};
 pub use resolver::Resolver;

@@ -1,6 +1,7 @@
 ghost use Rattle.std.specs.Prelude.{◌≡◌, Bool, true};
 
 use archive_folder::{Folder, FolderKeeper};
+use archive_limit::Limited;
 use archive_table::{Keeper, NoKeeper};
 
 /// A keeper that a server can serve with, which reports when that has to end.
@@ -27,5 +28,13 @@ impl<F: Folder> ServedKeeper for FolderKeeper<F> {
 
     fn is_usable(&self) -> bool {
         FolderKeeper::is_usable(self)
+    }
+}
+
+impl<K: ServedKeeper> ServedKeeper for Limited<K> {
+    ghost usable = { λ l. K.usable l.keeper };
+
+    fn is_usable(&self) -> bool {
+        self.keeper().is_usable()
     }
 }

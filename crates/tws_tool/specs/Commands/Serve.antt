@@ -1,7 +1,8 @@
 -- The command `serve`: what it does and prints.
-use Rattle.std.specs.Prelude.{◌≡◌, ◌⊎◌, ℕ, ◌<◌, ◌≤◌, ◌^◌, ◌-◌, Bool, true, false, List, [], Option, Some, None, option_map, string_bytes, codes}
+use Rattle.std.specs.Prelude.{◌≡◌, ◌≢◌, ◌⊎◌, ◌↔◌, ℕ, ◌<◌, ◌≤◌, ◌^◌, ◌-◌, Bool, true, false, List, Option, Some, None, option_map, string_bytes, codes}
 use Rattle.std.specs.Io.KnownBytes.{Appends}
 use Rattle.clap.specs.Words.{App, Row, Rule, Text, first_of, new_app, new_rule, with_rule}
+use Rattle.tftp_ends.specs.declared.limits.TheConstants.{MAX_FILE}
 use Rattle.archive_table.specs.Keeper.{Keeping, HasLoaded}
 use Rattle.archive_table.specs.declared.limits.TheConstants.{LIVE}
 use Rattle.archive_turns.specs.Turn.{IsRound, IsTurn, MakesMany, Pass, Server, fresh_server}
@@ -12,8 +13,9 @@ use Rattle.tws_tool.specs.declared.commands.serve.ServeArguments.{ServeArguments
 use Rattle.tws_tool.specs.declared.limits.TheConstants.{PER_HOST, TURNS}
 use Rattle.tws_tool.specs.declared.tool_fault.ToolFault.{ToolFault}
 use Rattle.tws_tool.specs.declared.tool_fault.ToolFault.TheVariants.{Socket}
+use Rattle.tws_tool.specs.Address.{IsAddress}
 use Rattle.tws_tool.specs.Arguments.{HasNumber, NumberOption, number_rule, port_option}
-use Rattle.tws_tool.specs.Lines.{LineFails, serving_line, taken_line}
+use Rattle.tws_tool.specs.Lines.{IsNoAddress, LineFails, serving_line, taken_line}
 
 abbrev pub serve_name : Text
 serve_name = codes "serve"
@@ -24,19 +26,35 @@ turns_option = record { name = codes "turns"; most = TURNS; default = TURNS }
 abbrev pub per_host_option : NumberOption
 per_host_option = record { name = codes "per-host"; most = LIVE; default = PER_HOST }
 
-abbrev pub dir_rule : Rule
-dir_rule = record (new_rule (codes "dir")) { long = Some (codes "dir"); value_names = 1 }
+abbrev pub limit_option : NumberOption
+limit_option = record { name = codes "limit"; most = MAX_FILE; default = MAX_FILE }
 
--- `serve [--port N] [--turns N] [--per-host N] [--dir DIR]`
+-- an option with a text
+abbrev pub text_rule : Text → Rule
+text_rule name = record (new_rule name) { long = Some name; value_names = 1 }
+
+abbrev pub bound_rule : Rule
+bound_rule = text_rule (codes "address")
+
+abbrev pub dir_rule : Rule
+dir_rule = text_rule (codes "dir")
+
+-- with only the options that are numbers
+abbrev pub numbers_app : App
+numbers_app =
+    with_rule (with_rule (with_rule (with_rule (new_app serve_name) (number_rule port_option)) (number_rule turns_option)) (number_rule per_host_option)) (number_rule limit_option)
+
+-- `serve [--port N] [--turns N] [--per-host N] [--limit BYTES] [--address A.B.C.D] [--dir DIR]`
 abbrev pub serve_app : App
-serve_app =
-    with_rule (with_rule (with_rule (with_rule (new_app serve_name) (number_rule port_option)) (number_rule turns_option)) (number_rule per_host_option)) dir_rule
+serve_app = with_rule (with_rule numbers_app bound_rule) dir_rule
 
 -- what was found for its arguments
 pub record AsksToServe (rows : List Row) (arguments : ServeArguments) : Type 0 where
   pub port_is : HasNumber port_option rows arguments.port
   pub turns_are : HasNumber turns_option rows arguments.turns
   pub per_host_is : HasNumber per_host_option rows arguments.per_host
+  pub limit_is : HasNumber limit_option rows arguments.limit
+  pub address_is : option_map string_bytes arguments.address ≡ first_of bound_rule.id rows
   pub dir_is : option_map string_bytes arguments.dir ≡ first_of dir_rule.id rows
 
 -- ---- what it does and prints
@@ -105,6 +123,24 @@ pub record Served (port turns per_host status : ℕ) (usable : Bool) (kept now :
   pub failed : status ≡ 2 → ((new ≡ old) × (now ≡ kept)) ⊎ ((e : ToolFault) × ServeStops port (now ≡ kept) (ServerServed port turns per_host usable kept now) old new e) ⊎ ((usable ≡ false) × Serves port (ServerServed port turns per_host usable kept now) old new)
   pub few : (status ≡ 0) ⊎ (status ≡ 2)
 
+-- ---- where it serves
+
+-- the host of the address that was given; 0, which is every address of this host, if none was
+abbrev pub HasHost : Option (List ℕ) → ℕ → Type 0
+HasHost None host = host ≡ 0
+HasHost (Some address) host = IsAddress address host
+
+-- what was given is no address
+abbrev pub IsNoHost : Option (List ℕ) → Type 0
+IsNoHost None = ⊥
+IsNoHost (Some address) = IsNoAddress address
+
+-- what was given for the address
+abbrev pub given_address : ServeArguments → Option (List ℕ)
+given_address arguments = option_map string_bytes arguments.address
+
 -- what it did; nothing is known of what its folder keeps
-abbrev pub ServeRan : ServeArguments → (status : ℕ) → (old new : Option (List ℕ)) → Type 0
-ServeRan arguments status old new = (usable : Bool) × Served arguments.port arguments.turns arguments.per_host status usable None None old new
+pub record ServeRan (arguments : ServeArguments) (status : ℕ) (old new : Option (List ℕ)) : Type 0 where
+  pub bad : (status ≡ 1) ↔ IsNoHost (given_address arguments)
+  pub nowhere : status ≡ 1 → new ≡ old
+  pub served : status ≢ 1 → (usable : Bool) × Served arguments.port arguments.turns arguments.per_host status usable None None old new

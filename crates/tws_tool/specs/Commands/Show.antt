@@ -1,5 +1,5 @@
 -- The command `show`.
-use Rattle.std.specs.Prelude.{◌≡◌, ℕ, true, List, Option, Some, codes}
+use Rattle.std.specs.Prelude.{ℕ, List, Option, Some, codes}
 use Rattle.clap.specs.Words.{App, Row, Rule, Text, new_app, new_rule, with_rule}
 use Rattle.clap.specs.declared.builder.action.ArgAction.TheVariants.{SetTrue}
 use Rattle.tws_file.specs.Listing.{listing_of}

@@ -1,22 +1,24 @@
 //! The command `serve`.
 
-ghost use Rattle.std.specs.Prelude.{◌≡◌, ◌⊎◌, ◌++◌, ◌<◌, ◌≤◌, ◌+◌, Bool, true, false, None, OnOk, IfOk, IfErr};
+ghost use Rattle.std.specs.Prelude.{◌≡◌, ◌⊎◌, ◌++◌, ◌<◌, ◌≤◌, ◌+◌, Bool, true, false, None, OnOk, IfOk, IfErr, IfSome, IfNone, option_map, string_bytes};
 ghost use Rattle.clap.specs.Matches.{found_of};
 ghost use Rattle.clap.specs.Words.{app_of, rows_of, rule_of};
 ghost use Rattle.clap.specs.declared.builder.command.Command.TheViews.{out-Command};
 ghost use Rattle.tws_tool.specs.Arguments.{Answers, number_rule};
 ghost use Rattle.archive_turns.specs.Turn.{MakesPass, count_if};
 ghost use Rattle.tws_tool.specs.Faults.{answer_status};
-ghost use Rattle.tws_tool.specs.Commands.Serve.{ArePassesFor, AsksToServe, MakesPasses, ServeFails, ServeRan, ServeStops, Served, Serves, count_of, dir_rule, pass_of, per_host_option, serve_app, turns_option};
+ghost use Rattle.tws_tool.specs.Commands.Serve.{ArePassesFor, AsksToServe, HasHost, IsNoHost, MakesPasses, ServeFails, ServeRan, ServeStops, Served, Serves, bound_rule, count_of, dir_rule, limit_option, numbers_app, pass_of, per_host_option, serve_app, turns_option};
 
+use crate::address::Address;
 use crate::arguments::{number_given, port_argument, port_given, string_given};
 use crate::limits::{PER_HOST, TURNS};
 use crate::line::write_line;
-use crate::reporting::finish;
+use crate::reporting::{bad_address, finish};
 use crate::served_keeper::ServedKeeper;
 use crate::status::FAILED;
 use crate::tool_fault::ToolFault;
 use archive_host::{DirKeeper, HostFolder, OpenFault, UdpWire};
+use archive_limit::Limited;
 use archive_table::{Keeper, LIVE, NoKeeper, NoObserver};
 use archive_turns::{ReadyWire, Server};
 use clap::builder::ValueParser;
@@ -28,6 +30,8 @@ use std::net::Net;
 use std::random::RandomSource;
 use std::rt::Files;
 use std::time::Clock;
+use tftp_ends::MAX_FILE;
+use tftp_packet::Endpoint;
 
 /// What `serve` is asked for.
 #[derive(Drop)]
@@ -38,6 +42,10 @@ pub struct ServeArguments {
     pub turns: u64,
     /// With at most this many transfers of one host.
     pub per_host: u64,
+    /// With collections whose texts have at most this many bytes.
+    pub limit: u64,
+    /// At this address of this host, as it was typed; at every address if none was.
+    pub address: Option<String>,
     /// With the collections kept in this folder.
     pub dir: Option<String>,
 }
@@ -64,6 +72,27 @@ fn per_host_argument<'a>(alloc: Global) -> Arg<'a>
         .help("At most this many transfers of one host, 32 if none is given")
 }
 
+fn limit_argument<'a>(alloc: Global) -> Arg<'a>
+    ensures rule { rule_of result ≡ number_rule limit_option }
+    ensures local { result.global ≡ false }
+{
+    Arg::new(alloc, "limit")
+        .long("limit")
+        .value_name("BYTES")
+        .value_parser(ValueParser::Unsigned(1, MAX_FILE))
+        .help("Keep no collection of more bytes; all that can be served if none is given")
+}
+
+fn bound_argument<'a>(alloc: Global) -> Arg<'a>
+    ensures rule { rule_of result ≡ bound_rule }
+    ensures local { result.global ≡ false }
+{
+    Arg::new(alloc, "address")
+        .long("address")
+        .value_name("ADDRESS")
+        .help("This IPv4 address of this host, every one if none is given")
+}
+
 fn dir_argument<'a>(alloc: Global) -> Arg<'a>
     ensures rule { rule_of result ≡ dir_rule }
     ensures local { result.global ≡ false }
@@ -74,8 +103,9 @@ fn dir_argument<'a>(alloc: Global) -> Arg<'a>
         .help("The folder that keeps the collections")
 }
 
-pub(crate) fn command<'a>(alloc: Global) -> Result<Command<'a>, AllocError>
-    ensures app { IfOk result (λ command. app_of command ≡ serve_app) }
+// The command with only its options that are numbers.
+fn numbers_command<'a>(alloc: Global) -> Result<Command<'a>, AllocError>
+    ensures app { IfOk result (λ command. app_of command ≡ numbers_app) }
     ensures local { IfOk result (λ command. (out-Command command).has_globals ≡ false) }
 {
     Command::new(alloc, "serve")
@@ -83,6 +113,15 @@ pub(crate) fn command<'a>(alloc: Global) -> Result<Command<'a>, AllocError>
         .arg(port_argument(alloc))?
         .arg(turns_argument(alloc))?
         .arg(per_host_argument(alloc))?
+        .arg(limit_argument(alloc))
+}
+
+pub(crate) fn command<'a>(alloc: Global) -> Result<Command<'a>, AllocError>
+    ensures app { IfOk result (λ command. app_of command ≡ serve_app) }
+    ensures local { IfOk result (λ command. (out-Command command).has_globals ≡ false) }
+{
+    numbers_command(alloc)?
+        .arg(bound_argument(alloc))?
         .arg(dir_argument(alloc))
 }
 
@@ -99,11 +138,17 @@ pub(crate) fn asked(alloc: Global, words: &ArgMatches) -> Result<Option<ServeArg
     let Some(per_host) = number_given(words, "per-host", PER_HOST, LIVE as u64) else {
         return Ok(None);
     };
+    let Some(limit) = number_given(words, "limit", MAX_FILE, MAX_FILE) else {
+        return Ok(None);
+    };
+    let address = string_given(alloc, words, "address")?;
     let dir = string_given(alloc, words, "dir")?;
     Ok(Some(ServeArguments {
         port,
         turns,
         per_host,
+        limit,
+        address,
         dir,
     }))
 }
@@ -230,24 +275,24 @@ fn not_known<E: Write>(name: &str, errors: &mut E) -> u8
     FAILED
 }
 
-// Opens the server's request port, and serves there.
+// Opens the server's request port at this address, and serves there.
 fn listen_and_serve<P: Net + Clock + RandomSource + AllocGlobal + Copy, K: ServedKeeper, W: Write>(
     rt: P,
     alloc: Global,
     keeper: &mut K,
     server: &mut Server,
-    port: u16,
+    at: Endpoint,
     passes: Passes,
     out: &mut W,
 ) -> Result<(), ToolFault>
-    requires { server.old.table.request ≡ port }
-    ensures served { OnOk result (Serves port (λ taken. MakesPasses passes (K.usable keeper.new) server.old server.new taken None None (K.log keeper.old) (K.log keeper.new)) (W.contents out.old) (W.contents out.new)) }
-    ensures stops { IfErr result (ServeStops port (K.log keeper.new ≡ K.log keeper.old) (λ taken. MakesPasses passes (K.usable keeper.new) server.old server.new taken None None (K.log keeper.old) (K.log keeper.new)) (W.contents out.old) (W.contents out.new)) }
+    requires { server.old.table.request ≡ at.port }
+    ensures served { OnOk result (Serves at.port (λ taken. MakesPasses passes (K.usable keeper.new) server.old server.new taken None None (K.log keeper.old) (K.log keeper.new)) (W.contents out.old) (W.contents out.new)) }
+    ensures stops { IfErr result (ServeStops at.port (K.log keeper.new ≡ K.log keeper.old) (λ taken. MakesPasses passes (K.usable keeper.new) server.old server.new taken None None (K.log keeper.old) (K.log keeper.new)) (W.contents out.old) (W.contents out.new)) }
 {
-    let Ok(mut wire) = UdpWire::listen(rt, port) else {
+    let Ok(mut wire) = UdpWire::listen_at(rt, at) else {
         return Err(ToolFault::Socket);
     };
-    serve_archive(alloc, &mut wire, keeper, server, port, passes, out)
+    serve_archive(alloc, &mut wire, keeper, server, at.port, passes, out)
 }
 
 // Reports why a server failed, if it did, and whether its keeper was usable to the end; returns the status.
@@ -269,7 +314,7 @@ fn end_serving<E: Write>(
     }
 }
 
-// Serves with this keeper, whose name its faults are reported with, and returns the status.
+// Serves at this address of this host with this keeper, whose name its faults are reported with, and returns the status.
 fn serve_with<
     P: Net + Clock + RandomSource + AllocGlobal + Copy,
     K: ServedKeeper,
@@ -279,6 +324,7 @@ fn serve_with<
     rt: P,
     alloc: Global,
     arguments: &ServeArguments,
+    host: u32,
     keeper: &mut K,
     name: &str,
     out: &mut W,
@@ -293,23 +339,26 @@ fn serve_with<
     match Server::load(alloc, port, keeper) {
         Ok(mut server) => {
             server.limit_per_host(arguments.per_host as usize);
-            let done = listen_and_serve(rt, alloc, keeper, &mut server, port, passes, out);
+            let at = Endpoint { host, port };
+            let done = listen_and_serve(rt, alloc, keeper, &mut server, at, passes, out);
             end_serving(done, keeper.is_usable(), name, errors)
         }
         Err(_) => not_loaded(name, errors),
     }
 }
 
-/// Runs `serve`, with the collections kept in the folder of this name, if there is one, and returns the status.
-pub(crate) fn run<
+// Serves at this address of this host, with the collections kept in the folder that was given, if one was, and returns
+// the status.
+fn serve_at<
     P: Files<File = File> + Net + Clock + RandomSource + AllocGlobal + Copy,
     W: Write,
     E: Write,
->(rt: P, alloc: Global, arguments: &ServeArguments, out: &mut W, errors: &mut E) -> u8
-    ensures ran { ServeRan arguments.now result (W.contents out.old) (W.contents out.new) }
+>(rt: P, alloc: Global, arguments: &ServeArguments, host: u32, out: &mut W, errors: &mut E) -> u8
+    ensures served { (usable : Bool) × Served arguments.now.port arguments.now.turns arguments.now.per_host result usable None None (W.contents out.old) (W.contents out.new) }
     ensures status { (result ≡ 0) ⊎ (result ≡ 2) }
     ensures silent { result ≡ 0 → errors.new ≡ errors.old }
 {
+    let limit = arguments.limit;
     match &arguments.dir {
         Some(dir) => {
             let name = dir.as_str();
@@ -317,9 +366,52 @@ pub(crate) fn run<
                 Ok(folder) => folder,
                 Err(fault) => return not_opened(fault, name, errors),
             };
-            let mut keeper = DirKeeper::new(folder);
-            serve_with(rt, alloc, arguments, &mut keeper, name, out, errors)
+            let mut keeper = Limited::new(DirKeeper::new(folder), limit);
+            serve_with(rt, alloc, arguments, host, &mut keeper, name, out, errors)
         }
-        None => serve_with(rt, alloc, arguments, &mut NoKeeper, "memory", out, errors),
+        None => {
+            let mut keeper = Limited::new(NoKeeper, limit);
+            serve_with(
+                rt,
+                alloc,
+                arguments,
+                host,
+                &mut keeper,
+                "memory",
+                out,
+                errors,
+            )
+        }
+    }
+}
+
+// The host of the address that was given; 0, which is every address of this host, if none was. `None` if it is none.
+fn host_given(address: &Option<String>) -> Option<u32>
+    ensures some { IfSome result (HasHost (option_map string_bytes address.now)) }
+    ensures none { IfNone result (IsNoHost (option_map string_bytes address.now)) }
+{
+    match address {
+        Some(text) => match Address::read(text.as_str()) {
+            Some(address) => Some(address.host),
+            None => None,
+        },
+        None => Some(0),
+    }
+}
+
+/// Runs `serve`, and returns the status.
+pub(crate) fn run<
+    P: Files<File = File> + Net + Clock + RandomSource + AllocGlobal + Copy,
+    W: Write,
+    E: Write,
+>(rt: P, alloc: Global, arguments: &ServeArguments, out: &mut W, errors: &mut E) -> u8
+    ensures ran { ServeRan arguments.now result (W.contents out.old) (W.contents out.new) }
+    ensures usage { result ≡ 1 → out.new ≡ out.old }
+    ensures status { result ≤ 2 }
+    ensures silent { result ≡ 0 → errors.new ≡ errors.old }
+{
+    match host_given(&arguments.address) {
+        Some(host) => serve_at(rt, alloc, arguments, host, out, errors),
+        None => bad_address(errors),
     }
 }

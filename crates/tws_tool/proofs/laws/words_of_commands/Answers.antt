@@ -1,4 +1,4 @@
-use Rattle.tws_tool.proofs.Asking.{asks_for_counted, asks_for_moves, asks_for_pack, asks_for_serve, asks_for_show}
+use Rattle.tws_tool.proofs.Asking.{asks_for_counted, asks_for_moves, asks_for_pack, asks_for_serve, asks_for_show, asks_for_v, asks_for_version}
 use Rattle.tws_tool.proofs.laws.words_of_commands.Goals as goal
 
 pub returns-clause-show : goal.returns-clause-show
@@ -15,3 +15,9 @@ returns-clause-serve c = asks_for_serve
 
 pub returns-clause-counted : goal.returns-clause-counted
 returns-clause-counted c = asks_for_counted
+
+pub returns-clause-version : goal.returns-clause-version
+returns-clause-version c = asks_for_version
+
+pub returns-clause-short : goal.returns-clause-short
+returns-clause-short c = asks_for_v

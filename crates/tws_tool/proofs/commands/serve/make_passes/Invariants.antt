@@ -1,4 +1,3 @@
-use Rattle.std.specs.Prelude.{◌≡◌, true}
 use Rattle.tws_tool.proofs.Listening.{MakesSome}
 use Rattle.tws_tool.proofs.commands.serve.make_passes.Given as goal
 
