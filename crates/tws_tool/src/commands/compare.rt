@@ -1,6 +1,6 @@
 //! The command `compare`: two solution files compared, or what is better in the first.
 
-ghost use Rattle.std.specs.Prelude.{◌≡◌, ◌≢◌, true, false, Ok, OnOk, IfOk, IfErr, string_bytes};
+ghost use Rattle.std.specs.Prelude.{◌≡◌, ◌≢◌, true, false, Ok, OnOk, IfOk, IfErr};
 ghost use Rattle.std.specs.Io.KnownBytes.{IsAtEnd};
 ghost use Rattle.clap.specs.Matches.{found_of};
 ghost use Rattle.clap.specs.Words.{app_of, rows_of, rule_of};
@@ -10,9 +10,9 @@ ghost use Rattle.tws_tool.specs.Commands.Compare.{AsksToCompare, CompareFails, C
 ghost use Rattle.tws_tool.specs.Faults.{status_of};
 
 use crate::arguments::string_given;
-use crate::file_system::{FileSystem, open};
+use crate::file_system::FileSystem;
 use crate::input::read_input;
-use crate::reporting::report;
+use crate::reporting::{report, report_file};
 use crate::status::{DONE, USAGE};
 use crate::tool_fault::ToolFault;
 use byte_output::put;
@@ -182,23 +182,6 @@ pub fn run_compare<R: Read, W: Write>(
     write_compared(alloc, is_better, mine, &theirs, out)
 }
 
-// The same over the files of these names.
-fn compare_files<S: FileSystem, W: Write>(
-    system: &S,
-    alloc: Global,
-    arguments: &CompareArguments,
-    out: &mut W,
-) -> Result<bool, ToolFault>
-    ensures compared { IfOk result (Compares arguments.now.better (S.bytes_of system.now (string_bytes arguments.now.mine)) (S.bytes_of system.now (string_bytes arguments.now.theirs)) (W.contents out.old) (W.contents out.new)) }
-    ensures fails { IfErr result (CompareFails arguments.now.better (S.bytes_of system.now (string_bytes arguments.now.mine)) (S.bytes_of system.now (string_bytes arguments.now.theirs)) (W.contents out.old) (W.contents out.new)) }
-    ensures unwritten { IfErr result (λ e. e ≢ ToolFault.Write → out.new ≡ out.old) }
-    ensures other { result ≡ Ok false → out.new ≡ out.old }
-{
-    let mut mine = open(system, arguments.mine.as_str())?;
-    let mut theirs = open(system, arguments.theirs.as_str())?;
-    run_compare(alloc, arguments.better, &mut mine, &mut theirs, out)
-}
-
 // Reports why the files were not compared, and returns the status. The input at fault is one of the two.
 fn report_input<E: Write>(fault: ToolFault, arguments: &CompareArguments, errors: &mut E) -> u8
     ensures { result ≡ status_of fault }
@@ -245,6 +228,16 @@ pub(crate) fn run<S: FileSystem, W: Write, E: Write>(
     ensures unreadable { result ≡ 3 → out.new ≡ out.old }
     ensures silent { result ≡ 0 → errors.new ≡ errors.old }
 {
-    let done = compare_files(system, alloc, arguments, out);
+    let mut mine = match system.open(arguments.mine.as_str()) {
+        Ok(file) => file,
+        Err(cause) => return report_file(ToolFault::Read, arguments.mine.as_str(), &cause, errors),
+    };
+    let mut theirs = match system.open(arguments.theirs.as_str()) {
+        Ok(file) => file,
+        Err(cause) => {
+            return report_file(ToolFault::Read, arguments.theirs.as_str(), &cause, errors);
+        }
+    };
+    let done = run_compare(alloc, arguments.better, &mut mine, &mut theirs, out);
     end(done, arguments, errors)
 }

@@ -14,9 +14,9 @@ ghost use Rattle.tws_tool.specs.Faults.{IsReadOut};
 ghost use Rattle.tws_tool.specs.Written.{Writes, WriteFails};
 
 use crate::arguments::{number_up_to, source_argument, source_given, text_given};
-use crate::file_system::{FileSystem, open};
+use crate::file_system::FileSystem;
 use crate::input::read_input;
-use crate::reporting::finish;
+use crate::reporting::{finish, report_file};
 use crate::source::Source;
 use crate::tool_fault::ToolFault;
 use clap::builder::ValueParser;
@@ -150,22 +150,6 @@ pub fn run_without<R: Read, W: Write>(
     Ok(())
 }
 
-// The same over the file of this name.
-fn write_without<S: FileSystem, W: Write>(
-    system: &S,
-    alloc: Global,
-    key: Key,
-    name: &str,
-    out: &mut W,
-) -> Result<(), ToolFault>
-    ensures left { OnOk result (Writes (text_without key) (S.bytes_of system.now name.now) (W.contents out.old) (W.contents out.new)) }
-    ensures fails { IfErr result (WriteFails (text_without key) (S.bytes_of system.now name.now) (W.contents out.old) (W.contents out.new)) }
-    ensures unwritten { IfErr result (λ e. e ≢ ToolFault.Write → out.new ≡ out.old) }
-{
-    let mut file = open(system, name)?;
-    run_without(alloc, key, &mut file, out)
-}
-
 /// Runs `without`, and returns the status.
 pub(crate) fn run<S: FileSystem, R: Read, W: Write, E: Write>(
     system: &S,
@@ -182,9 +166,12 @@ pub(crate) fn run<S: FileSystem, R: Read, W: Write, E: Write>(
     let key = arguments.key;
     match &arguments.source {
         Source::Standard => finish(run_without(alloc, key, input, out), &[], errors),
-        Source::Named(name) => {
-            let done = write_without(system, alloc, key, name.as_str(), out);
-            finish(done, slice::from_ref(name), errors)
-        }
+        Source::Named(name) => match system.open(name.as_str()) {
+            Ok(mut file) => {
+                let done = run_without(alloc, key, &mut file, out);
+                finish(done, slice::from_ref(name), errors)
+            }
+            Err(cause) => report_file(ToolFault::Read, name.as_str(), &cause, errors),
+        },
     }
 }
