@@ -10,6 +10,8 @@ mod clients;
 #[cfg(test)]
 mod collections;
 #[cfg(test)]
+mod comparisons;
+#[cfg(test)]
 mod downloads;
 #[cfg(test)]
 mod files;

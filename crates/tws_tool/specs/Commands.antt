@@ -2,7 +2,9 @@
 -- defined in a file of its own in `Commands/`.
 pub mod Show
 pub mod Pack
+pub mod Without
 pub mod Best
+pub mod Compare
 pub mod Serve
 pub mod Put
 pub mod Get
@@ -16,7 +18,9 @@ use Rattle.tws_tool.specs.declared.job.JobFault.TheVariants as fault
 use Rattle.tws_tool.specs.Arguments.{RulesetNames}
 use Rattle.tws_tool.specs.Commands.Show.{AsksToShow, ShowRan, show_app, show_name}
 use Rattle.tws_tool.specs.Commands.Pack.{AsksToPack, PackRan, pack_app, pack_name}
+use Rattle.tws_tool.specs.Commands.Without.{AsksForWithout, WithoutRan, without_app, without_name}
 use Rattle.tws_tool.specs.Commands.Best.{AsksForBest, BestRan, best_app, best_name}
+use Rattle.tws_tool.specs.Commands.Compare.{AsksToCompare, CompareRan, compare_app, compare_name}
 use Rattle.tws_tool.specs.Commands.Serve.{AsksToServe, ServeRan, serve_app, serve_name}
 use Rattle.tws_tool.specs.Commands.Put.{AsksToPut, PutRan, put_app, put_name}
 use Rattle.tws_tool.specs.Commands.Get.{AsksToGet, GetRan, get_app, get_name}
@@ -28,11 +32,11 @@ top_app = let plain : App = new_app (codes "tws") in record plain { top = record
 
 -- with only the commands on one file
 abbrev pub one_file_app : App
-one_file_app = with_subcommand (with_subcommand top_app show_app.top) pack_app.top
+one_file_app = with_subcommand (with_subcommand (with_subcommand top_app show_app.top) pack_app.top) without_app.top
 
 -- with only the commands on files
 abbrev pub files_app : RulesetNames → App
-files_app names = with_subcommand one_file_app (best_app names).top
+files_app names = with_subcommand (with_subcommand one_file_app (best_app names).top) compare_app.top
 
 abbrev pub tws_app : RulesetNames → App
 tws_app names = with_subcommand (with_subcommand (with_subcommand (files_app names) serve_app.top) put_app.top) (get_app names).top
@@ -41,7 +45,9 @@ tws_app names = with_subcommand (with_subcommand (with_subcommand (files_app nam
 abbrev pub AsksFor : Text × List Row → Job → Type 0
 AsksFor command (job.Show arguments) = (command.0 ≡ show_name) × AsksToShow command.1 arguments
 AsksFor command (job.Pack arguments) = (command.0 ≡ pack_name) × AsksToPack command.1 arguments
+AsksFor command (job.Without arguments) = (command.0 ≡ without_name) × AsksForWithout command.1 arguments
 AsksFor command (job.Best arguments) = (command.0 ≡ best_name) × AsksForBest command.1 arguments
+AsksFor command (job.Compare arguments) = (command.0 ≡ compare_name) × AsksToCompare command.1 arguments
 AsksFor command (job.Serve arguments) = (command.0 ≡ serve_name) × AsksToServe command.1 arguments
 AsksFor command (job.Put arguments) = (command.0 ≡ put_name) × AsksToPut command.1 arguments
 AsksFor command (job.Get arguments) = (command.0 ≡ get_name) × AsksToGet command.1 arguments
@@ -53,7 +59,9 @@ AsksFor command (job.Get arguments) = (command.0 ≡ get_name) × AsksToGet comm
 abbrev pub JobRuns : (known : Known) (now : List ℕ → Option (List ℕ)) → (Unread : Type 0) → Result Job JobFault → (status : ℕ) → (before after : Option (List Entry)) → (had left old new : Option (List ℕ)) → Type 0
 JobRuns known now Unread (Ok (job.Show arguments)) status before after had left old new = (after ≡ before) × (now ≡ known.bytes_of) × ShowRan known.bytes_of Unread arguments status had left old new
 JobRuns known now Unread (Ok (job.Pack arguments)) status before after had left old new = (after ≡ before) × (now ≡ known.bytes_of) × PackRan known.bytes_of Unread arguments status had left old new
+JobRuns known now Unread (Ok (job.Without arguments)) status before after had left old new = (after ≡ before) × (now ≡ known.bytes_of) × WithoutRan known.bytes_of Unread arguments status had left old new
 JobRuns known now Unread (Ok (job.Best arguments)) status before after had left old new = (after ≡ before) × (now ≡ known.bytes_of) × Unread × BestRan known.bytes_of arguments status old new
+JobRuns known now Unread (Ok (job.Compare arguments)) status before after had left old new = (after ≡ before) × (now ≡ known.bytes_of) × Unread × CompareRan known.bytes_of arguments status old new
 JobRuns known now Unread (Ok (job.Serve arguments)) status before after had left old new = (after ≡ before) × (now ≡ known.bytes_of) × Unread × ServeRan arguments status old new
 JobRuns known now Unread (Ok (job.Put arguments)) status before after had left old new = (now ≡ known.bytes_of) × Unread × PutRan known.bytes_of known.host_of arguments status before after old new
 JobRuns known now Unread (Ok (job.Get arguments)) status before after had left old new = Unread × GetRan known arguments status before after now old new

@@ -111,8 +111,8 @@ pub(crate) fn source_given(alloc: Global, words: &ArgMatches) -> Result<Source, 
     }
 }
 
-// Parses a number from 1 to `most`.
-fn number_up_to(text: &str, most: u64) -> Option<u64>
+/// Parses a number from 1 to `most`.
+pub(crate) fn number_up_to(text: &str, most: u64) -> Option<u64>
     ensures some { IfSome result (IsNumberUpTo most text.now) }
     ensures none { IfNone result ((n : ℕ) → IsNumberUpTo most text.now n → ⊥) }
 {

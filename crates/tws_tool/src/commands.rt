@@ -8,11 +8,13 @@ ghost use Rattle.tws_tool.specs.Arguments.{Answers};
 ghost use Rattle.tws_tool.specs.Commands.{AsksFor, JobRuns, files_app, one_file_app, tws_app};
 
 mod best;
+mod compare;
 mod get;
 mod pack;
 mod put;
 mod serve;
 mod show;
+mod without;
 
 use crate::file_system::FileSystem;
 use crate::limits::VERSION;
@@ -20,6 +22,7 @@ use crate::overhearing::TransferWire;
 use crate::resolver::Resolver;
 pub use best::{BestArguments, run_best};
 use clap::{ArgMatches, Command};
+pub use compare::{CompareArguments, run_compare};
 pub use get::{GetArguments, GetFault, get_file};
 pub use pack::{PackArguments, run_pack};
 pub use put::{PutArguments, put_file};
@@ -32,6 +35,7 @@ use std::net::Net;
 use std::random::RandomSource;
 use std::rt::Files;
 use std::time::Clock;
+pub use without::{WithoutArguments, run_without};
 
 /// What the program is asked to do.
 #[derive(Drop)]
@@ -40,8 +44,12 @@ pub enum Job {
     Show(ShowArguments),
     /// To write a solution file with its moves in the fewest bytes.
     Pack(PackArguments),
+    /// To write a solution file without the solutions of a level.
+    Without(WithoutArguments),
     /// To write the collection of the best solutions of several files.
     Best(BestArguments),
+    /// To compare two solution files.
+    Compare(CompareArguments),
     /// To serve the archive.
     Serve(ServeArguments),
     /// To send a solution file to an archive.
@@ -61,7 +69,9 @@ fn one_file_commands<'a>(alloc: Global) -> Result<Command<'a>, AllocError>
         .subcommand_required(true)
         .subcommand(show)?;
     let pack = pack::command(alloc)?;
-    command.subcommand(pack)
+    let command = command.subcommand(pack)?;
+    let without = without::command(alloc)?;
+    command.subcommand(without)
 }
 
 // The program with only its commands on files.
@@ -69,7 +79,9 @@ fn file_commands<'a>(alloc: Global, names: &'a [&'a str]) -> Result<Command<'a>,
     ensures { IfOk result (λ command. app_of command ≡ files_app names.entry) }
 {
     let best = best::command(alloc, names)?;
-    one_file_commands(alloc)?.subcommand(best)
+    let command = one_file_commands(alloc)?.subcommand(best)?;
+    let compare = compare::command(alloc)?;
+    command.subcommand(compare)
 }
 
 /// The command line of the program, with these names of the rulesets.
@@ -95,7 +107,9 @@ pub(crate) fn asked(
     match name {
         "show" => Ok(Some(Job::Show(show::asked(alloc, words)?))),
         "pack" => Ok(Some(Job::Pack(pack::asked(alloc, words)?))),
+        "without" => Ok(without::asked(alloc, words)?.map(Job::Without)),
         "best" => Ok(best::asked(alloc, words)?.map(Job::Best)),
+        "compare" => Ok(compare::asked(alloc, words)?.map(Job::Compare)),
         "serve" => Ok(serve::asked(alloc, words)?.map(Job::Serve)),
         "put" => Ok(put::asked(alloc, words)?.map(Job::Put)),
         "get" => Ok(get::asked(alloc, words)?.map(Job::Get)),
@@ -130,7 +144,9 @@ pub(crate) fn run_job<
     match job {
         Job::Show(arguments) => show::run(system, alloc, arguments, input, out, errors),
         Job::Pack(arguments) => pack::run(system, alloc, arguments, input, out, errors),
+        Job::Without(arguments) => without::run(system, alloc, arguments, input, out, errors),
         Job::Best(arguments) => best::run(system, alloc, arguments, out, errors),
+        Job::Compare(arguments) => compare::run(system, alloc, arguments, out, errors),
         Job::Serve(arguments) => serve::run(rt, alloc, arguments, out, errors),
         Job::Put(arguments) => put::run(system, wire, alloc, arguments, out, errors),
         Job::Get(arguments) => get::run(system, wire, alloc, arguments, out, errors),

@@ -14,6 +14,7 @@ pub mod calling_refusing;
 pub mod calling_tftp_ends;
 pub mod calling_tftp_packet;
 pub mod calling_tws_best;
+pub mod calling_tws_compare;
 pub mod calling_tws_file;
 pub mod calling_tws_moves;
 pub mod calling_tws_tool;

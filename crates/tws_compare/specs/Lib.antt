@@ -1,0 +1,7 @@
+pub mod Without
+pub mod Dropped
+pub mod Standing
+pub mod Sides
+pub mod Compare
+pub mod Counts
+pub mod Lines

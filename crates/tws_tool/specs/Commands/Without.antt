@@ -1,0 +1,46 @@
+-- The command `without`.
+use Rattle.std.specs.Prelude.{◌≡◌, ℕ, true, List, length, Option, Some, None, codes}
+use Rattle.std.specs.List.{list_all}
+use Rattle.std.specs.Char.{is_ascii_alphabetic}
+use Rattle.clap.specs.Words.{App, Row, Rule, Text, first_of, new_app, new_rule, with_rule}
+use Rattle.clap.specs.declared.builder.value_parser.ValueParser.TheVariants as parser
+use Rattle.tws_compare.specs.Without.{text_without}
+use Rattle.tws_tool.specs.declared.commands.without.WithoutArguments.{WithoutArguments}
+use Rattle.tws_tool.specs.Arguments.{HasSource, IsNumberUpTo, source_rule}
+use Rattle.tws_tool.specs.Written.{RanFrom}
+
+abbrev pub without_name : Text
+without_name = codes "without"
+
+-- `LEVEL`
+abbrev pub level_rule : Rule
+level_rule = record (new_rule (codes "level")) { value_names = 1; parser = Some (parser.Unsigned 1 65535); required = true }
+
+-- `PASSWORD`
+abbrev pub password_rule : Rule
+password_rule = record (new_rule (codes "password")) { value_names = 1; required = true }
+
+-- `without LEVEL PASSWORD [FILE]`
+abbrev pub without_app : App
+without_app = with_rule (with_rule (with_rule (new_app without_name) level_rule) password_rule) source_rule
+
+-- what was given is a level's number
+abbrev pub IsLevel : Option Text → ℕ → Type 0
+IsLevel (Some text) number = IsNumberUpTo 65535 text number
+IsLevel None number = ⊥
+
+-- what was given is a password of four letters
+abbrev pub IsPassword : Option Text → List ℕ → Type 0
+IsPassword (Some text) password = (password ≡ text) × (length text ≡ 4) × (list_all is_ascii_alphabetic text ≡ true)
+IsPassword None password = ⊥
+
+-- what was found for its arguments
+pub record AsksForWithout (rows : List Row) (arguments : WithoutArguments) : Type 0 where
+  pub level_is : IsLevel (first_of level_rule.id rows) arguments.key.number
+  pub password_is : IsPassword (first_of password_rule.id rows) arguments.key.password
+  pub source_is : HasSource rows arguments.source
+
+-- What it did, by the exit status, given what is known of the bytes of the file with each name, and what holds if
+-- standard input was not read: what standard input had and has left, and the output before and after.
+abbrev pub WithoutRan : (bytes_of : List ℕ → Option (List ℕ)) → (Unread : Type 0) → WithoutArguments → (status : ℕ) → (known left old new : Option (List ℕ)) → Type 0
+WithoutRan bytes_of Unread arguments status known left old new = RanFrom arguments.source bytes_of Unread (text_without arguments.key) status known left old new

@@ -1,0 +1,177 @@
+//! The command `without`: a solution file without the solutions of a level.
+
+ghost use Rattle.std.specs.Prelude.{◌≡◌, ◌≢◌, ℕ, List, Some, false, OnOk, IfOk, IfErr, IfSome, IfNone};
+ghost use Rattle.std.specs.List.{list_all};
+ghost use Rattle.std.specs.Char.{is_ascii_alphabetic};
+ghost use Rattle.std.specs.Io.KnownBytes.{IsAtEnd};
+ghost use Rattle.clap.specs.Matches.{found_of};
+ghost use Rattle.clap.specs.Words.{app_of, first_of, rows_of, rule_of};
+ghost use Rattle.clap.specs.declared.builder.command.Command.TheViews.{out-Command};
+ghost use Rattle.tws_compare.specs.Without.{text_without};
+ghost use Rattle.tws_tool.specs.Arguments.{Answers};
+ghost use Rattle.tws_tool.specs.Commands.Without.{AsksForWithout, IsLevel, IsPassword, WithoutRan, level_rule, password_rule, without_app};
+ghost use Rattle.tws_tool.specs.Faults.{IsReadOut};
+ghost use Rattle.tws_tool.specs.Written.{Writes, WriteFails};
+
+use crate::arguments::{number_up_to, source_argument, source_given, text_given};
+use crate::file_system::FileSystem;
+use crate::input::read_input;
+use crate::reporting::{finish, report_file};
+use crate::source::Source;
+use crate::tool_fault::ToolFault;
+use clap::builder::ValueParser;
+use clap::{Arg, ArgMatches, Command};
+use std::alloc::{AllocError, Global};
+use std::io::{Read, Write};
+use std::slice;
+use tws_compare::without;
+use tws_file::{Key, write_file};
+
+/// What `without` is asked for.
+#[derive(Drop)]
+pub struct WithoutArguments {
+    /// The level whose solutions are left out.
+    pub key: Key,
+    /// The solution file.
+    pub source: Source,
+}
+
+fn level_argument<'a>(alloc: Global) -> Arg<'a>
+    ensures rule { rule_of result ≡ level_rule }
+    ensures local { result.global ≡ false }
+{
+    Arg::new(alloc, "level")
+        .value_name("LEVEL")
+        .value_parser(ValueParser::Unsigned(1, u16::MAX as u64))
+        .required(true)
+        .help("The number of the level")
+}
+
+fn password_argument<'a>(alloc: Global) -> Arg<'a>
+    ensures rule { rule_of result ≡ password_rule }
+    ensures local { result.global ≡ false }
+{
+    Arg::new(alloc, "password")
+        .value_name("PASSWORD")
+        .required(true)
+        .help("The password of the level, four letters")
+}
+
+pub(crate) fn command<'a>(alloc: Global) -> Result<Command<'a>, AllocError>
+    ensures app { IfOk result (λ command. app_of command ≡ without_app) }
+    ensures local { IfOk result (λ command. (out-Command command).has_globals ≡ false) }
+{
+    Command::new(alloc, "without")
+        .about("Write a solution file without the solutions of a level")
+        .arg(level_argument(alloc))?
+        .arg(password_argument(alloc))?
+        .arg(source_argument(alloc))
+}
+
+// The number of the level that was given; `None` if it is none.
+fn level_given(words: &ArgMatches) -> Option<u16>
+    ensures { Answers (IsLevel (first_of level_rule.id (rows_of (found_of words.now)))) result }
+{
+    let text = text_given(words, "level")?;
+    let number = number_up_to(text, u16::MAX as u64)?;
+    Some(number as u16)
+}
+
+fn is_letters(bytes: &[u8]) -> bool
+    ensures { result ≡ list_all is_ascii_alphabetic bytes.now }
+{
+    bytes.iter().all(|b| b.is_ascii_alphabetic())
+}
+
+// The password that these letters are.
+fn password_of(text: &str) -> Option<[u8; 4]>
+    ensures some { IfSome result (IsPassword (Some text.now)) }
+    ensures none { IfNone result ((password : List ℕ) → IsPassword (Some text.now) password → ⊥) }
+{
+    let password = text.as_bytes().as_array::<4>()?;
+    if is_letters(password) {
+        Some(*password)
+    } else {
+        None
+    }
+}
+
+// The password that was given; `None` if it is none.
+fn password_given(words: &ArgMatches) -> Option<[u8; 4]>
+    ensures { Answers (IsPassword (first_of password_rule.id (rows_of (found_of words.now)))) result }
+{
+    match text_given(words, "password") {
+        Some(text) => password_of(text),
+        None => None,
+    }
+}
+
+/// What the arguments ask for; `None` if they name no level.
+pub(crate) fn asked(
+    alloc: Global,
+    words: &ArgMatches,
+) -> Result<Option<WithoutArguments>, AllocError>
+    ensures { IfOk result (Answers (AsksForWithout (rows_of (found_of words.now)))) }
+{
+    let Some(number) = level_given(words) else {
+        return Ok(None);
+    };
+    let Some(password) = password_given(words) else {
+        return Ok(None);
+    };
+    let source = source_given(alloc, words)?;
+    let key = Key { number, password };
+    Ok(Some(WithoutArguments { key, source }))
+}
+
+/// Reads a solution file to its end, and writes it without the solutions of a level.
+///
+/// # Errors
+///
+/// `Read` if the reader fails or does not end within `INPUT_READS` reads, and `Unreadable` with index 0 and the fault
+/// of the bytes: then nothing was written. `Write` if the writer fails: then a proper prefix of the file was written.
+/// `Memory` if an allocation was refused: then nothing was written.
+pub fn run_without<R: Read, W: Write>(
+    alloc: Global,
+    key: Key,
+    input: &mut R,
+    out: &mut W,
+) -> Result<(), ToolFault>
+    ensures end { OnOk result (IsAtEnd (R.remaining input.new)) }
+    ensures unreadable { IfErr result (IsReadOut (R.remaining input.new)) }
+    ensures left { OnOk result (Writes (text_without key) (R.remaining input.old) (W.contents out.old) (W.contents out.new)) }
+    ensures fails { IfErr result (WriteFails (text_without key) (R.remaining input.old) (W.contents out.old) (W.contents out.new)) }
+    // Holds also for a writer without ghost contents.
+    ensures unwritten { IfErr result (λ e. e ≢ ToolFault.Write → out.new ≡ out.old) }
+{
+    let file = read_input(alloc, 0, input)?;
+    let left = without(key, file);
+    write_file(&left, out)?;
+    Ok(())
+}
+
+/// Runs `without`, and returns the status.
+pub(crate) fn run<S: FileSystem, R: Read, W: Write, E: Write>(
+    system: &S,
+    alloc: Global,
+    arguments: &WithoutArguments,
+    input: &mut R,
+    out: &mut W,
+    errors: &mut E,
+) -> u8
+    ensures ran { WithoutRan (S.bytes_of system.now) (input.new ≡ input.old) arguments.now result (R.remaining input.old) (R.remaining input.new) (W.contents out.old) (W.contents out.new) }
+    ensures unreadable { result ≡ 3 → out.new ≡ out.old }
+    ensures silent { result ≡ 0 → errors.new ≡ errors.old }
+{
+    let key = arguments.key;
+    match &arguments.source {
+        Source::Standard => finish(run_without(alloc, key, input, out), &[], errors),
+        Source::Named(name) => match system.open(name.as_str()) {
+            Ok(mut file) => {
+                let done = run_without(alloc, key, &mut file, out);
+                finish(done, slice::from_ref(name), errors)
+            }
+            Err(cause) => report_file(ToolFault::Read, name.as_str(), &cause, errors),
+        },
+    }
+}
