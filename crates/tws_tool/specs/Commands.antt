@@ -3,6 +3,7 @@
 pub mod Show
 pub mod Pack
 pub mod Best
+pub mod Page
 pub mod Serve
 pub mod Put
 pub mod Get
@@ -17,6 +18,7 @@ use Rattle.tws_tool.specs.Arguments.{RulesetNames}
 use Rattle.tws_tool.specs.Commands.Show.{AsksToShow, ShowRan, show_app, show_name}
 use Rattle.tws_tool.specs.Commands.Pack.{AsksToPack, PackRan, pack_app, pack_name}
 use Rattle.tws_tool.specs.Commands.Best.{AsksForBest, BestRan, best_app, best_name}
+use Rattle.tws_tool.specs.Commands.Page.{AsksForPage, PageRan, page_app, page_name}
 use Rattle.tws_tool.specs.Commands.Serve.{AsksToServe, ServeRan, serve_app, serve_name}
 use Rattle.tws_tool.specs.Commands.Put.{AsksToPut, PutRan, put_app, put_name}
 use Rattle.tws_tool.specs.Commands.Get.{AsksToGet, GetRan, get_app, get_name}
@@ -31,7 +33,7 @@ one_file_app = with_subcommand (with_subcommand top_app show_app.top) pack_app.t
 
 -- with only the commands on files
 abbrev pub files_app : RulesetNames → App
-files_app names = with_subcommand one_file_app (best_app names).top
+files_app names = with_subcommand (with_subcommand one_file_app (best_app names).top) page_app.top
 
 abbrev pub tws_app : RulesetNames → App
 tws_app names = with_subcommand (with_subcommand (with_subcommand (files_app names) serve_app.top) put_app.top) (get_app names).top
@@ -41,6 +43,7 @@ abbrev pub AsksFor : Text × List Row → Job → Type 0
 AsksFor command (job.Show arguments) = (command.0 ≡ show_name) × AsksToShow command.1 arguments
 AsksFor command (job.Pack arguments) = (command.0 ≡ pack_name) × AsksToPack command.1 arguments
 AsksFor command (job.Best arguments) = (command.0 ≡ best_name) × AsksForBest command.1 arguments
+AsksFor command (job.Page arguments) = (command.0 ≡ page_name) × AsksForPage command.1 arguments
 AsksFor command (job.Serve arguments) = (command.0 ≡ serve_name) × AsksToServe command.1 arguments
 AsksFor command (job.Put arguments) = (command.0 ≡ put_name) × AsksToPut command.1 arguments
 AsksFor command (job.Get arguments) = (command.0 ≡ get_name) × AsksToGet command.1 arguments
@@ -54,6 +57,7 @@ abbrev pub JobRuns : (bytes_of created_of : List ℕ → Option (List ℕ)) → 
 JobRuns bytes_of created_of Unread (Ok (job.Show arguments)) status before after known left old new = (after ≡ before) × ShowRan bytes_of Unread arguments status known left old new
 JobRuns bytes_of created_of Unread (Ok (job.Pack arguments)) status before after known left old new = (after ≡ before) × PackRan bytes_of Unread arguments status known left old new
 JobRuns bytes_of created_of Unread (Ok (job.Best arguments)) status before after known left old new = (after ≡ before) × Unread × BestRan bytes_of arguments status old new
+JobRuns bytes_of created_of Unread (Ok (job.Page arguments)) status before after known left old new = (after ≡ before) × Unread × PageRan bytes_of arguments status old new
 JobRuns bytes_of created_of Unread (Ok (job.Serve arguments)) status before after known left old new = (after ≡ before) × Unread × ServeRan arguments status old new
 JobRuns bytes_of created_of Unread (Ok (job.Put arguments)) status before after known left old new = Unread × PutRan bytes_of arguments status before after old new
 JobRuns bytes_of created_of Unread (Ok (job.Get arguments)) status before after known left old new = Unread × GetRan created_of arguments status before after old new

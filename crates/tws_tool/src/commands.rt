@@ -10,6 +10,7 @@ ghost use Rattle.tws_tool.specs.Commands.{AsksFor, JobRuns, files_app, one_file_
 mod best;
 mod get;
 mod pack;
+mod page;
 mod put;
 mod serve;
 mod show;
@@ -20,9 +21,10 @@ pub use best::{BestArguments, run_best};
 use clap::{ArgMatches, Command};
 pub use get::{GetArguments, get_file};
 pub use pack::{PackArguments, run_pack};
+pub use page::{PageArguments, run_page};
 pub use put::{PutArguments, put_file};
 pub use serve::{Passes, ServeArguments, serve_archive};
-pub use show::{ShowArguments, run_show};
+pub use show::{ShowArguments, run_csv, run_show};
 use std::alloc::{AllocError, Global};
 use std::fs::File;
 use std::io::{Read, Write};
@@ -40,6 +42,8 @@ pub enum Job {
     Pack(PackArguments),
     /// To write the collection of the best solutions of several files.
     Best(BestArguments),
+    /// To write the solutions of several files as a page of HTML.
+    Page(PageArguments),
     /// To serve the archive.
     Serve(ServeArguments),
     /// To send a solution file to an archive.
@@ -66,7 +70,9 @@ fn file_commands<'a>(alloc: Global, names: &'a [&'a str]) -> Result<Command<'a>,
     ensures { IfOk result (λ command. app_of command ≡ files_app names.entry) }
 {
     let best = best::command(alloc, names)?;
-    one_file_commands(alloc)?.subcommand(best)
+    let command = one_file_commands(alloc)?.subcommand(best)?;
+    let page = page::command(alloc)?;
+    command.subcommand(page)
 }
 
 /// The command line of the program, with these names of the rulesets.
@@ -93,6 +99,7 @@ pub(crate) fn asked(
         "show" => Ok(Some(Job::Show(show::asked(alloc, words)?))),
         "pack" => Ok(Some(Job::Pack(pack::asked(alloc, words)?))),
         "best" => Ok(best::asked(alloc, words)?.map(Job::Best)),
+        "page" => Ok(Some(Job::Page(page::asked(alloc, words)?))),
         "serve" => Ok(serve::asked(alloc, words)?.map(Job::Serve)),
         "put" => Ok(put::asked(alloc, words)?.map(Job::Put)),
         "get" => Ok(get::asked(alloc, words)?.map(Job::Get)),
@@ -128,6 +135,7 @@ pub(crate) fn run_job<
         Job::Show(arguments) => show::run(system, alloc, arguments, input, out, errors),
         Job::Pack(arguments) => pack::run(system, alloc, arguments, input, out, errors),
         Job::Best(arguments) => best::run(system, alloc, arguments, out, errors),
+        Job::Page(arguments) => page::run(system, alloc, arguments, out, errors),
         Job::Serve(arguments) => serve::run(rt, alloc, arguments, out, errors),
         Job::Put(arguments) => put::run(system, wire, alloc, arguments, out, errors),
         Job::Get(arguments) => get::run(system, wire, alloc, arguments, out, errors),

@@ -45,8 +45,9 @@ pub use archive_turns::{
     put_in_rounds, run_get, run_put, serve_rounds, serve_turns,
 };
 pub use commands::{
-    BestArguments, GetArguments, Job, PackArguments, Passes, PutArguments, ServeArguments,
-    ShowArguments, get_file, put_file, run_best, run_pack, run_show, serve_archive,
+    BestArguments, GetArguments, Job, PackArguments, PageArguments, Passes, PutArguments,
+    ServeArguments, ShowArguments, get_file, put_file, run_best, run_csv, run_pack, run_page,
+    run_show, serve_archive,
 };
 pub use file_system::FileSystem;
 pub use input::INPUT_READS;
