@@ -55,14 +55,19 @@ refused words names error e are has gives =
 -- ---- examples
 
 -- `tws show`
-pub asks_for_show : (names : RulesetNames) (program : Text) → WordsAskFor names (program ∷ codes "show" ∷ []) (Show (record { source = Standard; moves = false }))
+pub asks_for_show : (names : RulesetNames) (program : Text) → WordsAskFor names (program ∷ codes "show" ∷ []) (Show (record { source = Standard; moves = false; csv = false }))
 unfolding clap_on_literals
-asks_for_show names program = (refl, (_, refl, (refl, record { source_is = tt; moves_are = ((λ e. absurd cc), (λ e. refl), (λ e. refl)) })))
+asks_for_show names program = (refl, (_, refl, (refl, record { source_is = tt; moves_are = ((λ e. absurd cc), (λ e. refl), (λ e. refl)); csv_is = ((λ e. absurd cc), (λ e. refl), (λ e. refl)) })))
 
 -- `tws show --moves`
-pub asks_for_moves : (names : RulesetNames) (program : Text) → WordsAskFor names (program ∷ codes "show" ∷ codes "--moves" ∷ []) (Show (record { source = Standard; moves = true }))
+pub asks_for_moves : (names : RulesetNames) (program : Text) → WordsAskFor names (program ∷ codes "show" ∷ codes "--moves" ∷ []) (Show (record { source = Standard; moves = true; csv = false }))
 unfolding clap_on_literals
-asks_for_moves names program = (refl, (_, refl, (refl, record { source_is = tt; moves_are = ((λ e. refl), (λ e. absurd cc), (λ e. absurd cc)) })))
+asks_for_moves names program = (refl, (_, refl, (refl, record { source_is = tt; moves_are = ((λ e. refl), (λ e. absurd cc), (λ e. absurd cc)); csv_is = ((λ e. absurd cc), (λ e. refl), (λ e. refl)) })))
+
+-- `tws show --csv`
+pub asks_for_csv : (names : RulesetNames) (program : Text) → WordsAskFor names (program ∷ codes "show" ∷ codes "--csv" ∷ []) (Show (record { source = Standard; moves = false; csv = true }))
+unfolding clap_on_literals
+asks_for_csv names program = (refl, (_, refl, (refl, record { source_is = tt; moves_are = ((λ e. absurd cc), (λ e. refl), (λ e. refl)); csv_is = ((λ e. refl), (λ e. absurd cc), (λ e. absurd cc)) })))
 
 -- `tws pack`
 pub asks_for_pack : (names : RulesetNames) (program : Text) → WordsAskFor names (program ∷ codes "pack" ∷ codes "-" ∷ []) (Pack (record { source = Standard }))

@@ -12,9 +12,8 @@ use Rattle.tws_best.specs.Best.{Collected, IsBestOf, IsCollectionOf, solutions_o
 use Rattle.tws_best.proofs.Sets.{no_texts, one_more_text}
 use Rattle.tws_tool.specs.declared.tool_fault.ToolFault.{ToolFault}
 use Rattle.tws_tool.specs.declared.tool_fault.ToolFault.TheVariants.{Read, Write, Unreadable, Memory, Socket, Transfer}
-use Rattle.tws_tool.specs.declared.commands.best.BestArguments.{BestArguments}
 use Rattle.tws_tool.specs.Faults.{ReadFails, IsReadOut, answer_status}
-use Rattle.tws_tool.specs.Commands.Best.{AreReported, Collects, CollectFails, IsFirstUnreadable, AreReadOut, BestFails, BestRan, BestWrites, best_knowns}
+use Rattle.tws_tool.specs.Commands.Best.{AreReported, Collects, CollectFails, IsFirstUnreadable, AreReadOut, FilesFail, FilesRan}
 
 -- ---- what is known
 
@@ -99,23 +98,23 @@ module _ {R : Type 0} (reported : R → Option (List ℕ)) (now old : List R) (i
       ap (map reported) (take_more old i x inside ∙ ap (λ (y : R). take i old ++ y ∷ []) (sym still))
       ∙ map-append reported (take i old) (x ∷ [])
 
-  -- the input fails, and those before it were collected
-  pub input_fails : (rules : Ruleset) (c : Collected) (e : ToolFault) → Collects rules (map reported (take i old)) c → ReadFails i (reported x) e → CollectFails (map reported old) e
-  input_fails rules c Read so_far fails = tt
-  input_fails rules c Write so_far fails = absurd fails
-  input_fails rules c (Unreadable index fault) so_far fails = λ texts are.
+  -- the input fails, and those before it are readable
+  pub input_fails : (e : ToolFault) → ((texts : List (List ℕ)) → AreReported (map reported (take i old)) texts → AllByRecursion IsReadable texts) → ReadFails i (reported x) e → CollectFails (map reported old) e
+  input_fails Read readable fails = tt
+  input_fails Write readable fails = absurd fails
+  input_fails (Unreadable index fault) readable fails = λ texts are.
       let size = reported_length (map reported old) texts are in
       let same = reported_at (map reported old) texts i (reported x) are (omega (arith, inside, length-map old reported)) in
       let this : reported x ≡ Some (get_or texts i []) = ap reported still ∙ sym (get_or-map reported old i x (reported x) inside) ∙ same in
       let front = subst (λ (ks : List (Option (List ℕ))). AreReported ks (take i texts)) (take-map reported i old) (reported_take i (map reported old) texts are) in
       subst (λ (n : ℕ). IsFirstUnreadable texts n fault) (sym fails.0) (record {
         within = omega (arith, inside, size, length-map old reported);
-        before = so_far.readable (take i texts) front;
+        before = readable (take i texts) front;
         has_fault = at_some (λ (bytes : List ℕ). HasFileFault bytes fault) (reported x) (get_or texts i []) this fails.1;
       })
-  input_fails rules c Memory so_far fails = tt
-  input_fails rules c Socket so_far fails = absurd fails
-  input_fails rules c (Transfer why) so_far fails = absurd fails
+  input_fails Memory readable fails = tt
+  input_fails Socket readable fails = absurd fails
+  input_fails (Transfer why) readable fails = absurd fails
 
 -- all inputs were collected
 pub all_collected : (R : Type 0) (reported : R → Option (List ℕ)) (files : List R) (i : ℕ) (rules : Ruleset) (c : Collected) →
@@ -154,11 +153,10 @@ read_out reported now i y known (Transfer why) inside ended fails out = tt
 
 -- ---- by the exit status
 
--- what `best` did, by the exit status
-pub best_ran : (bytes_of : List ℕ → Option (List ℕ)) (arguments : BestArguments) (r : Result (Unit {0}) ToolFault)
-    (old new : Option (List ℕ)) → OnOk r (BestWrites arguments.ruleset (best_knowns bytes_of arguments) old new)
-    → IfErr r (BestFails arguments.ruleset (best_knowns bytes_of arguments) old new) → BestRan bytes_of arguments (answer_status r) old new
-best_ran bytes_of arguments (Ok done) old new writes fails =
+-- what a command over several inputs did
+pub files_ran : (Whole Prefix : Type 0) (knowns : List (Option (List ℕ))) (r : Result (Unit {0}) ToolFault)
+    (old new : Option (List ℕ)) → OnOk r Whole → IfErr r (FilesFail Prefix knowns old new) → FilesRan Whole Prefix knowns (answer_status r) old new
+files_ran Whole Prefix knowns (Ok done) old new writes fails =
     record {
       done = λ e. writes;
       failed = λ e. absurd (omega (arith, e));
@@ -167,7 +165,7 @@ best_ran bytes_of arguments (Ok done) old new writes fails =
           λ e. omega (arith, e);
       few = omega arith;
     }
-best_ran bytes_of arguments (Err Read) old new writes fails =
+files_ran Whole Prefix knowns (Err Read) old new writes fails =
     record {
       done = λ e. absurd (omega (arith, e));
       failed = λ e. inl fails;
@@ -176,7 +174,7 @@ best_ran bytes_of arguments (Err Read) old new writes fails =
           λ e. omega (arith, e);
       few = omega arith;
     }
-best_ran bytes_of arguments (Err Write) old new writes fails =
+files_ran Whole Prefix knowns (Err Write) old new writes fails =
     record {
       done = λ e. absurd (omega (arith, e));
       failed = λ e. inr fails;
@@ -185,7 +183,7 @@ best_ran bytes_of arguments (Err Write) old new writes fails =
           λ e. omega (arith, e);
       few = omega arith;
     }
-best_ran bytes_of arguments (Err (Unreadable index fault)) old new writes fails =
+files_ran Whole Prefix knowns (Err (Unreadable index fault)) old new writes fails =
     record {
       done = λ e. absurd (omega (arith, e));
       failed = λ e. absurd (omega (arith, e));
@@ -194,7 +192,7 @@ best_ran bytes_of arguments (Err (Unreadable index fault)) old new writes fails 
       never = λ e. omega (arith, e);
       few = omega arith;
     }
-best_ran bytes_of arguments (Err Memory) old new writes fails =
+files_ran Whole Prefix knowns (Err Memory) old new writes fails =
     record {
       done = λ e. absurd (omega (arith, e));
       failed = λ e. fails;
@@ -203,5 +201,5 @@ best_ran bytes_of arguments (Err Memory) old new writes fails =
           λ e. omega (arith, e);
       few = omega arith;
     }
-best_ran bytes_of arguments (Err Socket) old new writes fails = absurd fails
-best_ran bytes_of arguments (Err (Transfer why)) old new writes fails = absurd fails
+files_ran Whole Prefix knowns (Err Socket) old new writes fails = absurd fails
+files_ran Whole Prefix knowns (Err (Transfer why)) old new writes fails = absurd fails

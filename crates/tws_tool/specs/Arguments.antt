@@ -1,7 +1,9 @@
 -- The arguments that several commands share, as `clap` reads them, and what was given for an argument.
-use Rattle.std.specs.Prelude.{◌≡◌, ◌≢◌, ◌≤◌, ℕ, Bool, true, false, List, [], ◌∷◌, map, Option, Some, None, string_bytes, codes}
+use Rattle.std.specs.Prelude.{◌≡◌, ◌≢◌, ◌≤◌, ℕ, Bool, true, false, List, [], ◌∷◌, map, unwrap_or, Option, Some, None, string_bytes, codes}
 use Rattle.std.specs.Borrow.{Bor}
 use Rattle.std.specs.Str.Parse.{IsNumeral, digits_value, without_leading_plus}
+use Rattle.clap.specs.Lexer.{usize_max}
+use Rattle.clap.specs.Walk.{all_of}
 use Rattle.clap.specs.Words.{Row, Rule, Text, first_of, new_rule, one_of}
 use Rattle.clap.specs.declared.builder.value_parser.ValueParser.TheVariants as parser
 use Rattle.tws_file.specs.declared.«ruleset».Ruleset.{Ruleset}
@@ -35,6 +37,10 @@ file_rule = record (new_rule (codes "file")) { value_names = 1; required = true 
 -- `[FILE]`
 abbrev pub source_rule : Rule
 source_rule = record (new_rule (codes "file")) { value_names = 1 }
+
+-- `FILE..`
+abbrev pub files_rule : Rule
+files_rule = record (new_rule (codes "files")) { value_names = 1; range = Some (record { start_inclusive = 1; end_inclusive = usize_max }); required = true }
 
 -- an option with a number from 1 to `most`, and what the number is if none is given
 pub record NumberOption : Type 0 where
@@ -90,6 +96,10 @@ IsSource (Some name) (Named file) = (name ≡ string_bytes file) × (name ≢ co
 
 abbrev pub HasSource : List Row → Source → Type 0
 HasSource rows source = IsSource (first_of source_rule.id rows) source
+
+-- these names of files, in order
+abbrev pub HasFiles : List Row → (names : List Text) → Type 0
+HasFiles rows names = names ≡ unwrap_or (all_of files_rule.id rows) []
 
 -- what was found for the arguments that `put` and `get` share
 pub record HasTarget (rows : List Row) (target : Target) : Type 0 where

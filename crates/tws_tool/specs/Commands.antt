@@ -5,6 +5,7 @@ pub mod Pack
 pub mod Without
 pub mod Best
 pub mod Compare
+pub mod Page
 pub mod Serve
 pub mod Put
 pub mod Get
@@ -21,6 +22,7 @@ use Rattle.tws_tool.specs.Commands.Pack.{AsksToPack, PackRan, pack_app, pack_nam
 use Rattle.tws_tool.specs.Commands.Without.{AsksForWithout, WithoutRan, without_app, without_name}
 use Rattle.tws_tool.specs.Commands.Best.{AsksForBest, BestRan, best_app, best_name}
 use Rattle.tws_tool.specs.Commands.Compare.{AsksToCompare, CompareRan, compare_app, compare_name}
+use Rattle.tws_tool.specs.Commands.Page.{AsksForPage, PageRan, page_app, page_name}
 use Rattle.tws_tool.specs.Commands.Serve.{AsksToServe, ServeRan, serve_app, serve_name}
 use Rattle.tws_tool.specs.Commands.Put.{AsksToPut, PutRan, put_app, put_name}
 use Rattle.tws_tool.specs.Commands.Get.{AsksToGet, GetRan, get_app, get_name}
@@ -36,7 +38,7 @@ one_file_app = with_subcommand (with_subcommand (with_subcommand top_app show_ap
 
 -- with only the commands on files
 abbrev pub files_app : RulesetNames → App
-files_app names = with_subcommand (with_subcommand one_file_app (best_app names).top) compare_app.top
+files_app names = with_subcommand (with_subcommand (with_subcommand one_file_app (best_app names).top) compare_app.top) page_app.top
 
 abbrev pub tws_app : RulesetNames → App
 tws_app names = with_subcommand (with_subcommand (with_subcommand (files_app names) serve_app.top) put_app.top) (get_app names).top
@@ -48,6 +50,7 @@ AsksFor command (job.Pack arguments) = (command.0 ≡ pack_name) × AsksToPack c
 AsksFor command (job.Without arguments) = (command.0 ≡ without_name) × AsksForWithout command.1 arguments
 AsksFor command (job.Best arguments) = (command.0 ≡ best_name) × AsksForBest command.1 arguments
 AsksFor command (job.Compare arguments) = (command.0 ≡ compare_name) × AsksToCompare command.1 arguments
+AsksFor command (job.Page arguments) = (command.0 ≡ page_name) × AsksForPage command.1 arguments
 AsksFor command (job.Serve arguments) = (command.0 ≡ serve_name) × AsksToServe command.1 arguments
 AsksFor command (job.Put arguments) = (command.0 ≡ put_name) × AsksToPut command.1 arguments
 AsksFor command (job.Get arguments) = (command.0 ≡ get_name) × AsksToGet command.1 arguments
@@ -62,6 +65,7 @@ JobRuns known now Unread (Ok (job.Pack arguments)) status before after had left 
 JobRuns known now Unread (Ok (job.Without arguments)) status before after had left old new = (after ≡ before) × (now ≡ known.bytes_of) × WithoutRan known.bytes_of Unread arguments status had left old new
 JobRuns known now Unread (Ok (job.Best arguments)) status before after had left old new = (after ≡ before) × (now ≡ known.bytes_of) × Unread × BestRan known.bytes_of arguments status old new
 JobRuns known now Unread (Ok (job.Compare arguments)) status before after had left old new = (after ≡ before) × (now ≡ known.bytes_of) × Unread × CompareRan known.bytes_of arguments status old new
+JobRuns known now Unread (Ok (job.Page arguments)) status before after had left old new = (after ≡ before) × (now ≡ known.bytes_of) × Unread × PageRan known.bytes_of arguments status old new
 JobRuns known now Unread (Ok (job.Serve arguments)) status before after had left old new = (after ≡ before) × (now ≡ known.bytes_of) × Unread × ServeRan arguments status old new
 JobRuns known now Unread (Ok (job.Put arguments)) status before after had left old new = (now ≡ known.bytes_of) × Unread × PutRan known.bytes_of known.host_of arguments status before after old new
 JobRuns known now Unread (Ok (job.Get arguments)) status before after had left old new = Unread × GetRan known arguments status before after now old new

@@ -1,10 +1,10 @@
 //! The arguments that several commands share, and what was given for an argument.
 
-ghost use Rattle.std.specs.Prelude.{◌≡◌, ◌≢◌, ℕ, false, Some, None, IfOk, IfSome, IfNone, option_map, string_bytes, codes};
+ghost use Rattle.std.specs.Prelude.{◌≡◌, ◌≢◌, ℕ, false, Some, None, IfOk, IfSome, IfNone, map, option_map, string_bytes, codes};
 ghost use Rattle.clap.specs.Matches.{found_of};
 ghost use Rattle.clap.specs.Words.{rows_of, rule_of, first_of};
 ghost use Rattle.tws_file.specs.Listing.{ruleset_name};
-ghost use Rattle.tws_tool.specs.Arguments.{AreRulesetNames, Answers, HasNumber, HasRuleset, HasSource, HasTarget, IsNumberUpTo, IsNumberOr, address_rule, file_rule, number_rule, port_option, ruleset_rule, source_rule};
+ghost use Rattle.tws_tool.specs.Arguments.{AreRulesetNames, Answers, HasFiles, HasNumber, HasRuleset, HasSource, HasTarget, IsNumberUpTo, IsNumberOr, address_rule, file_rule, files_rule, number_rule, port_option, ruleset_rule, source_rule};
 
 use crate::limits::{MAX_PORT, PORT};
 use crate::source::Source;
@@ -65,6 +65,17 @@ pub(crate) fn source_argument<'a>(alloc: Global) -> Arg<'a>
     )
 }
 
+pub(crate) fn files_argument<'a>(alloc: Global) -> Arg<'a>
+    ensures rule { rule_of result ≡ files_rule }
+    ensures local { result.global ≡ false }
+{
+    Arg::new(alloc, "files")
+        .value_name("FILE")
+        .num_args(1..)
+        .required(true)
+        .help("The solution files")
+}
+
 pub(crate) fn port_argument<'a>(alloc: Global) -> Arg<'a>
     ensures rule { rule_of result ≡ number_rule port_option }
     ensures local { result.global ≡ false }
@@ -109,6 +120,24 @@ pub(crate) fn source_given(alloc: Global, words: &ArgMatches) -> Result<Source, 
         Some("-") => Ok(Source::Standard),
         Some(name) => Ok(Source::Named(String::from_str(alloc, name)?)),
     }
+}
+
+// Copies of the texts.
+fn copied(alloc: Global, texts: &[&str]) -> Result<Vec<String>, AllocError>
+    ensures { IfOk result (λ copies. map string_bytes copies.items ≡ map (λ text. text.now) texts.now) }
+{
+    let mut copies = Vec::new(alloc);
+    for text in texts {
+        copies.push(String::from_str(alloc, text)?)?;
+    }
+    Ok(copies)
+}
+
+/// The names of the files that were given, in order.
+pub(crate) fn files_given(alloc: Global, words: &ArgMatches) -> Result<Vec<String>, AllocError>
+    ensures { IfOk result (λ files. HasFiles (rows_of (found_of words.now)) (map string_bytes files.items)) }
+{
+    copied(alloc, words.get_raw("files").unwrap_or(&[]))
 }
 
 /// Parses a number from 1 to `most`.

@@ -11,6 +11,7 @@ mod best;
 mod compare;
 mod get;
 mod pack;
+mod page;
 mod put;
 mod serve;
 mod show;
@@ -25,9 +26,10 @@ use clap::{ArgMatches, Command};
 pub use compare::{CompareArguments, run_compare};
 pub use get::{GetArguments, GetFault, get_file};
 pub use pack::{PackArguments, run_pack};
+pub use page::{PageArguments, run_page};
 pub use put::{PutArguments, put_file};
 pub use serve::{Passes, ServeArguments, serve_archive};
-pub use show::{ShowArguments, run_show};
+pub use show::{ShowArguments, run_csv, run_show};
 use std::alloc::{AllocError, Global};
 use std::fs::File;
 use std::io::{Read, Write};
@@ -50,6 +52,8 @@ pub enum Job {
     Best(BestArguments),
     /// To compare two solution files.
     Compare(CompareArguments),
+    /// To write the solutions of several files as a page of HTML.
+    Page(PageArguments),
     /// To serve the archive.
     Serve(ServeArguments),
     /// To send a solution file to an archive.
@@ -81,7 +85,9 @@ fn file_commands<'a>(alloc: Global, names: &'a [&'a str]) -> Result<Command<'a>,
     let best = best::command(alloc, names)?;
     let command = one_file_commands(alloc)?.subcommand(best)?;
     let compare = compare::command(alloc)?;
-    command.subcommand(compare)
+    let command = command.subcommand(compare)?;
+    let page = page::command(alloc)?;
+    command.subcommand(page)
 }
 
 /// The command line of the program, with these names of the rulesets.
@@ -110,6 +116,7 @@ pub(crate) fn asked(
         "without" => Ok(without::asked(alloc, words)?.map(Job::Without)),
         "best" => Ok(best::asked(alloc, words)?.map(Job::Best)),
         "compare" => Ok(compare::asked(alloc, words)?.map(Job::Compare)),
+        "page" => Ok(Some(Job::Page(page::asked(alloc, words)?))),
         "serve" => Ok(serve::asked(alloc, words)?.map(Job::Serve)),
         "put" => Ok(put::asked(alloc, words)?.map(Job::Put)),
         "get" => Ok(get::asked(alloc, words)?.map(Job::Get)),
@@ -147,6 +154,7 @@ pub(crate) fn run_job<
         Job::Without(arguments) => without::run(system, alloc, arguments, input, out, errors),
         Job::Best(arguments) => best::run(system, alloc, arguments, out, errors),
         Job::Compare(arguments) => compare::run(system, alloc, arguments, out, errors),
+        Job::Page(arguments) => page::run(system, alloc, arguments, out, errors),
         Job::Serve(arguments) => serve::run(rt, alloc, arguments, out, errors),
         Job::Put(arguments) => put::run(system, wire, alloc, arguments, out, errors),
         Job::Get(arguments) => get::run(system, wire, alloc, arguments, out, errors),

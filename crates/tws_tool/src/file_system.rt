@@ -55,17 +55,6 @@ pub trait FileSystem {
         ensures { Keeps (bytes_of self.old) (bytes_of self.new) };
 }
 
-/// Opens the file of this name.
-pub(crate) fn open<S: FileSystem>(system: &S, name: &str) -> Result<S::File, ToolFault>
-    ensures opened { IfOk result (λ file. S.File.remaining file ≡ S.bytes_of system.now name.now) }
-    ensures fault { IfErr result (λ e. e ≡ ToolFault.Read) }
-{
-    match system.open(name) {
-        Ok(file) => Ok(file),
-        Err(_) => Err(ToolFault::Read),
-    }
-}
-
 /// Why one of several files was not opened.
 #[derive(Drop)]
 pub(crate) enum NotOpened {

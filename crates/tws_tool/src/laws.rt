@@ -19,11 +19,12 @@ pub fn limit_values()
     ensures per_host { PER_HOST ≡ 32 }
 {}
 
-/// What these arguments ask for: `show`, `show --moves`, `pack -`, `serve`, `serve` with a port and turns, `--version`
-/// and `-V`.
+/// What these arguments ask for: `show`, `show --moves`, `show --csv`, `pack -`, `serve`, `serve` with a port and turns,
+/// `--version` and `-V`.
 pub fn words_of_commands()
-    ensures show { AskFor (codes "show" ∷ []) (Show (record { source = Standard; moves = false })) }
-    ensures moves { AskFor (codes "show" ∷ codes "--moves" ∷ []) (Show (record { source = Standard; moves = true })) }
+    ensures show { AskFor (codes "show" ∷ []) (Show (record { source = Standard; moves = false; csv = false })) }
+    ensures moves { AskFor (codes "show" ∷ codes "--moves" ∷ []) (Show (record { source = Standard; moves = true; csv = false })) }
+    ensures csv { AskFor (codes "show" ∷ codes "--csv" ∷ []) (Show (record { source = Standard; moves = false; csv = true })) }
     ensures pack { AskFor (codes "pack" ∷ codes "-" ∷ []) (Pack (record { source = Standard })) }
     ensures serve { AskFor (codes "serve" ∷ []) (Serve (record { port = 6969; turns = 1000000000; per_host = 32; limit = 33553919; address = None; dir = None })) }
     ensures counted { AskFor (codes "serve" ∷ codes "--port" ∷ codes "80" ∷ codes "--turns=5" ∷ []) (Serve (record { port = 80; turns = 5; per_host = 32; limit = 33553919; address = None; dir = None })) }

@@ -49,9 +49,9 @@ pub use archive_turns::{
     put_in_rounds, run_get, run_put, serve_rounds, serve_turns,
 };
 pub use commands::{
-    BestArguments, CompareArguments, GetArguments, GetFault, Job, PackArguments, Passes,
-    PutArguments, ServeArguments, ShowArguments, WithoutArguments, get_file, put_file, run_best,
-    run_compare, run_pack, run_show, run_without, serve_archive,
+    BestArguments, CompareArguments, GetArguments, GetFault, Job, PackArguments, PageArguments,
+    Passes, PutArguments, ServeArguments, ShowArguments, WithoutArguments, get_file, put_file,
+    run_best, run_compare, run_csv, run_pack, run_page, run_show, run_without, serve_archive,
 };
 pub use file_system::FileSystem;
 pub use input::INPUT_READS;

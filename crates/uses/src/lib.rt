@@ -17,4 +17,5 @@ pub mod calling_tws_best;
 pub mod calling_tws_compare;
 pub mod calling_tws_file;
 pub mod calling_tws_moves;
+pub mod calling_tws_tables;
 pub mod calling_tws_tool;

@@ -1,10 +1,8 @@
 -- The command `best`, which writes the collection over all its inputs.
-use Rattle.std.specs.Prelude.{◌≡◌, ◌≢◌, ◌⊎◌, ℕ, ◌+◌, ◌<◌, ◌≤◌, true, List, [], ◌∷◌, length, map, take, slice_index_or, unwrap_or, Option, Some, string_bytes, codes}
+use Rattle.std.specs.Prelude.{◌≡◌, ◌≢◌, ◌⊎◌, ℕ, ◌+◌, ◌<◌, ◌≤◌, List, [], ◌∷◌, length, map, take, slice_index_or, Option, Some, string_bytes, codes}
 use Rattle.std.specs.List.{AllByRecursion}
 use Rattle.std.specs.Io.KnownBytes.{Appends, IsAtEnd}
-use Rattle.clap.specs.Lexer.{usize_max}
-use Rattle.clap.specs.Walk.{all_of}
-use Rattle.clap.specs.Words.{App, Row, Rule, Text, new_app, new_rule, with_rule}
+use Rattle.clap.specs.Words.{App, Row, Text, new_app, with_rule}
 use Rattle.tws_file.specs.declared.file_fault.FileFault.{FileFault}
 use Rattle.tws_file.specs.declared.«ruleset».Ruleset.{Ruleset}
 use Rattle.tws_file.specs.Text.{IsReadable}
@@ -14,13 +12,10 @@ use Rattle.tws_best.specs.Best.{Collected, IsCollectionOf, collection_text}
 use Rattle.tws_tool.specs.declared.commands.best.BestArguments.{BestArguments}
 use Rattle.tws_tool.specs.declared.tool_fault.ToolFault.{ToolFault}
 use Rattle.tws_tool.specs.declared.tool_fault.ToolFault.TheVariants.{Read, Write, Unreadable, Memory, Socket, Transfer}
-use Rattle.tws_tool.specs.Arguments.{HasRuleset, RulesetNames, ruleset_rule}
+use Rattle.tws_tool.specs.Arguments.{HasFiles, HasRuleset, RulesetNames, files_rule, ruleset_rule}
 
 abbrev pub best_name : Text
 best_name = codes "best"
-
-abbrev pub files_rule : Rule
-files_rule = record (new_rule (codes "files")) { value_names = 1; range = Some (record { start_inclusive = 1; end_inclusive = usize_max }); required = true }
 
 -- `best RULESET FILE..`
 abbrev pub best_app : RulesetNames → App
@@ -29,7 +24,7 @@ best_app names = with_rule (with_rule (new_app best_name) (ruleset_rule names)) 
 -- what was found for its arguments
 pub record AsksForBest (rows : List Row) (arguments : BestArguments) : Type 0 where
   pub rules_are : HasRuleset rows arguments.ruleset
-  pub files_are : map string_bytes arguments.files.items ≡ unwrap_or (all_of files_rule.id rows) []
+  pub files_are : HasFiles rows (map string_bytes arguments.files.items)
 
 -- ---- what it writes
 
@@ -81,13 +76,17 @@ BestWrites rules knowns old new = (c : Collected) × Collects rules knowns c × 
 abbrev pub BestPrefix : Ruleset → List (Option (List ℕ)) → (old new : Option (List ℕ)) → Type 0
 BestPrefix rules knowns old new = (c : Collected) × Collects rules knowns c × AppendsPrefix old new (collection_text c)
 
+-- a command over these inputs did not write its text whole; `Prefix` says that it wrote a proper prefix
+abbrev pub FilesFail : (Prefix : Type 0) → List (Option (List ℕ)) → (old new : Option (List ℕ)) → ToolFault → Type 0
+FilesFail Prefix knowns old new Read = new ≡ old
+FilesFail Prefix knowns old new Write = Prefix
+FilesFail Prefix knowns old new (Unreadable index fault) = (new ≡ old) × CollectFails knowns (Unreadable index fault)
+FilesFail Prefix knowns old new Memory = (new ≡ old) ⊎ Prefix
+FilesFail Prefix knowns old new Socket = ⊥
+FilesFail Prefix knowns old new (Transfer why) = ⊥
+
 abbrev pub BestFails : Ruleset → List (Option (List ℕ)) → (old new : Option (List ℕ)) → ToolFault → Type 0
-BestFails rules knowns old new Read = new ≡ old
-BestFails rules knowns old new Write = BestPrefix rules knowns old new
-BestFails rules knowns old new (Unreadable index fault) = (new ≡ old) × CollectFails knowns (Unreadable index fault)
-BestFails rules knowns old new Memory = (new ≡ old) ⊎ BestPrefix rules knowns old new
-BestFails rules knowns old new Socket = ⊥
-BestFails rules knowns old new (Transfer why) = ⊥
+BestFails rules knowns old new = FilesFail (BestPrefix rules knowns old new) knowns old new
 
 -- ---- by the exit status
 
@@ -95,11 +94,16 @@ BestFails rules knowns old new (Transfer why) = ⊥
 abbrev pub best_knowns : (bytes_of : List ℕ → Option (List ℕ)) → BestArguments → List (Option (List ℕ))
 best_knowns bytes_of arguments = map (λ name. bytes_of (string_bytes name)) arguments.files.items
 
--- What it did, given what is known of the bytes of the file with each name: the collection of its files was written, or
--- nothing or a proper prefix of it; or one of them is unreadable.
-pub record BestRan (bytes_of : List ℕ → Option (List ℕ)) (arguments : BestArguments) (status : ℕ) (old new : Option (List ℕ)) : Type 0 where
-  pub done : status ≡ 0 → BestWrites arguments.ruleset (best_knowns bytes_of arguments) old new
-  pub failed : status ≡ 2 → (new ≡ old) ⊎ BestPrefix arguments.ruleset (best_knowns bytes_of arguments) old new
-  pub unreadable : status ≡ 3 → (new ≡ old) × HasUnreadable (best_knowns bytes_of arguments)
+-- what a command over these inputs did: it wrote its text, or nothing or a proper prefix of it; or an input is unreadable
+pub record FilesRan (Whole Prefix : Type 0) (knowns : List (Option (List ℕ))) (status : ℕ) (old new : Option (List ℕ)) : Type 0 where
+  pub done : status ≡ 0 → Whole
+  pub failed : status ≡ 2 → (new ≡ old) ⊎ Prefix
+  pub unreadable : status ≡ 3 → (new ≡ old) × HasUnreadable knowns
   pub never : status ≢ 1
   pub few : status ≤ 3
+
+-- what it did, given what is known of the bytes of the file with each name
+abbrev pub BestRan : (bytes_of : List ℕ → Option (List ℕ)) → BestArguments → (status : ℕ) → (old new : Option (List ℕ)) → Type 0
+BestRan bytes_of arguments status old new =
+    let knowns : List (Option (List ℕ)) = best_knowns bytes_of arguments in
+    FilesRan (BestWrites arguments.ruleset knowns old new) (BestPrefix arguments.ruleset knowns old new) knowns status old new

@@ -4,17 +4,17 @@ ghost use Rattle.std.specs.Prelude.{◌≡◌, ◌≢◌, false, map, string_byt
 ghost use Rattle.std.specs.List.{AllByRecursion};
 ghost use Rattle.std.specs.Io.KnownBytes.{IsAtEnd};
 ghost use Rattle.clap.specs.Matches.{found_of};
-ghost use Rattle.clap.specs.Words.{app_of, rows_of, rule_of};
+ghost use Rattle.clap.specs.Words.{app_of, rows_of};
 ghost use Rattle.clap.specs.declared.builder.command.Command.TheViews.{out-Command};
 ghost use Rattle.tws_tool.specs.Arguments.{Answers};
-ghost use Rattle.tws_tool.specs.Commands.Best.{AsksForBest, Collects, CollectFails, AreReadOut, BestWrites, BestFails, BestRan, best_app, files_rule};
+ghost use Rattle.tws_tool.specs.Commands.Best.{AsksForBest, Collects, CollectFails, AreReadOut, BestWrites, BestFails, BestRan, best_app};
 
-use crate::arguments::{ruleset_argument, ruleset_given};
+use crate::arguments::{files_argument, files_given, ruleset_argument, ruleset_given};
 use crate::file_system::{FileSystem, NotOpened, open_all};
 use crate::input::read_input;
 use crate::reporting::{finish, report, report_file};
 use crate::tool_fault::ToolFault;
-use clap::{Arg, ArgMatches, Command};
+use clap::{ArgMatches, Command};
 use std::alloc::{AllocError, Global};
 use std::io::{Read, Write};
 use tws_best::Collection;
@@ -29,17 +29,6 @@ pub struct BestArguments {
     pub files: Vec<String>,
 }
 
-fn files_argument<'a>(alloc: Global) -> Arg<'a>
-    ensures rule { rule_of result ≡ files_rule }
-    ensures local { result.global ≡ false }
-{
-    Arg::new(alloc, "files")
-        .value_name("FILE")
-        .num_args(1..)
-        .required(true)
-        .help("The solution files")
-}
-
 pub(crate) fn command<'a>(alloc: Global, names: &'a [&'a str]) -> Result<Command<'a>, AllocError>
     ensures app { IfOk result (λ command. app_of command ≡ best_app names.entry) }
     ensures local { IfOk result (λ command. (out-Command command).has_globals ≡ false) }
@@ -50,17 +39,6 @@ pub(crate) fn command<'a>(alloc: Global, names: &'a [&'a str]) -> Result<Command
         .arg(files_argument(alloc))
 }
 
-// Copies of the texts.
-fn copied(alloc: Global, texts: &[&str]) -> Result<Vec<String>, AllocError>
-    ensures { IfOk result (λ copies. map string_bytes copies.items ≡ map (λ text. text.now) texts.now) }
-{
-    let mut copies = Vec::new(alloc);
-    for text in texts {
-        copies.push(String::from_str(alloc, text)?)?;
-    }
-    Ok(copies)
-}
-
 /// What the arguments ask for; `None` if the ruleset is unknown.
 pub(crate) fn asked(alloc: Global, words: &ArgMatches) -> Result<Option<BestArguments>, AllocError>
     ensures { IfOk result (Answers (AsksForBest (rows_of (found_of words.now)))) }
@@ -68,7 +46,7 @@ pub(crate) fn asked(alloc: Global, words: &ArgMatches) -> Result<Option<BestArgu
     let Some(ruleset) = ruleset_given(words) else {
         return Ok(None);
     };
-    let files = copied(alloc, words.get_raw("files").unwrap_or(&[]))?;
+    let files = files_given(alloc, words)?;
     Ok(Some(BestArguments { ruleset, files }))
 }
 

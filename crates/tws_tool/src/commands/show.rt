@@ -3,10 +3,11 @@
 ghost use Rattle.std.specs.Prelude.{◌≡◌, false, OnOk, IfOk, IfErr};
 ghost use Rattle.std.specs.Io.KnownBytes.{IsAtEnd};
 ghost use Rattle.clap.specs.Matches.{found_of};
-ghost use Rattle.clap.specs.Words.{app_of, rows_of};
+ghost use Rattle.clap.specs.Words.{app_of, rows_of, rule_of};
 ghost use Rattle.clap.specs.declared.builder.command.Command.TheViews.{out-Command};
 ghost use Rattle.tws_file.specs.Listing.{listing_of};
-ghost use Rattle.tws_tool.specs.Commands.Show.{AsksToShow, ShowRan, show_app};
+ghost use Rattle.tws_tables.specs.Csv.{csv_of};
+ghost use Rattle.tws_tool.specs.Commands.Show.{AsksToShow, ShowRan, csv_rule, moves_rule, show_app, shown_text};
 ghost use Rattle.tws_tool.specs.Faults.{IsBeforeOutput, IsReadOut};
 ghost use Rattle.tws_tool.specs.Written.{Writes, WriteFails};
 
@@ -21,6 +22,7 @@ use std::alloc::{AllocError, Global};
 use std::io::{Read, Write};
 use std::slice;
 use tws_file::show;
+use tws_tables::write_csv;
 
 /// What `show` is asked for.
 #[derive(Drop)]
@@ -29,20 +31,39 @@ pub struct ShowArguments {
     pub source: Source,
     /// With a line for each move.
     pub moves: bool,
+    /// As comma-separated values, in which there are no lines for moves.
+    pub csv: bool,
+}
+
+fn moves_argument<'a>(alloc: Global) -> Arg<'a>
+    ensures rule { rule_of result ≡ moves_rule }
+    ensures local { result.global ≡ false }
+{
+    Arg::new(alloc, "moves")
+        .long("moves")
+        .action(ArgAction::SetTrue)
+        .help("With a line for each move")
+}
+
+fn csv_argument<'a>(alloc: Global) -> Arg<'a>
+    ensures rule { rule_of result ≡ csv_rule }
+    ensures local { result.global ≡ false }
+{
+    Arg::new(alloc, "csv")
+        .long("csv")
+        .action(ArgAction::SetTrue)
+        .help("The solutions as comma-separated values, with the number of moves of each")
 }
 
 pub(crate) fn command<'a>(alloc: Global) -> Result<Command<'a>, AllocError>
     ensures app { IfOk result (λ command. app_of command ≡ show_app) }
     ensures local { IfOk result (λ command. (out-Command command).has_globals ≡ false) }
 {
-    let moves = Arg::new(alloc, "moves")
-        .long("moves")
-        .action(ArgAction::SetTrue)
-        .help("With a line for each move");
     Command::new(alloc, "show")
         .about("List a solution file")
         .arg(source_argument(alloc))?
-        .arg(moves)
+        .arg(moves_argument(alloc))?
+        .arg(csv_argument(alloc))
 }
 
 pub(crate) fn asked(alloc: Global, words: &ArgMatches) -> Result<ShowArguments, AllocError>
@@ -50,7 +71,8 @@ pub(crate) fn asked(alloc: Global, words: &ArgMatches) -> Result<ShowArguments, 
 {
     let source = source_given(alloc, words)?;
     let moves = words.get_flag("moves");
-    Ok(ShowArguments { source, moves })
+    let csv = words.get_flag("csv");
+    Ok(ShowArguments { source, moves, csv })
 }
 
 /// Reads a solution file to its end, and writes its listing, with a line for each move if `moves` is set.
@@ -78,6 +100,48 @@ pub fn run_show<R: Read, W: Write>(
     Ok(())
 }
 
+/// Reads a solution file to its end, and writes its solutions as comma-separated values.
+///
+/// # Errors
+///
+/// Those of `run_show`, with the comma-separated values for the listing.
+pub fn run_csv<R: Read, W: Write>(
+    alloc: Global,
+    input: &mut R,
+    out: &mut W,
+) -> Result<(), ToolFault>
+    ensures end { OnOk result (IsAtEnd (R.remaining input.new)) }
+    ensures unreadable { IfErr result (IsReadOut (R.remaining input.new)) }
+    ensures written { OnOk result (Writes csv_of (R.remaining input.old) (W.contents out.old) (W.contents out.new)) }
+    ensures fails { IfErr result (WriteFails csv_of (R.remaining input.old) (W.contents out.old) (W.contents out.new)) }
+    // Holds also for a writer without ghost contents.
+    ensures unwritten { IfErr result (λ e. IsBeforeOutput e → out.new ≡ out.old) }
+{
+    let file = read_input(alloc, 0, input)?;
+    write_csv(alloc, &file, out)?;
+    Ok(())
+}
+
+// Reads a solution file to its end, and writes it as it is asked for.
+fn show_input<R: Read, W: Write>(
+    alloc: Global,
+    arguments: &ShowArguments,
+    input: &mut R,
+    out: &mut W,
+) -> Result<(), ToolFault>
+    ensures end { OnOk result (IsAtEnd (R.remaining input.new)) }
+    ensures unreadable { IfErr result (IsReadOut (R.remaining input.new)) }
+    ensures shown { OnOk result (Writes (shown_text arguments.now) (R.remaining input.old) (W.contents out.old) (W.contents out.new)) }
+    ensures fails { IfErr result (WriteFails (shown_text arguments.now) (R.remaining input.old) (W.contents out.old) (W.contents out.new)) }
+    ensures unwritten { IfErr result (λ e. IsBeforeOutput e → out.new ≡ out.old) }
+{
+    if arguments.csv {
+        run_csv(alloc, input, out)
+    } else {
+        run_show(alloc, input, out, arguments.moves)
+    }
+}
+
 /// Runs `show`, and returns the status.
 pub(crate) fn run<S: FileSystem, R: Read, W: Write, E: Write>(
     system: &S,
@@ -91,12 +155,11 @@ pub(crate) fn run<S: FileSystem, R: Read, W: Write, E: Write>(
     ensures unreadable { result ≡ 3 → out.new ≡ out.old }
     ensures silent { result ≡ 0 → errors.new ≡ errors.old }
 {
-    let moves = arguments.moves;
     match &arguments.source {
-        Source::Standard => finish(run_show(alloc, input, out, moves), &[], errors),
+        Source::Standard => finish(show_input(alloc, arguments, input, out), &[], errors),
         Source::Named(name) => match system.open(name.as_str()) {
             Ok(mut file) => {
-                let done = run_show(alloc, &mut file, out, moves);
+                let done = show_input(alloc, arguments, &mut file, out);
                 finish(done, slice::from_ref(name), errors)
             }
             Err(cause) => report_file(ToolFault::Read, name.as_str(), &cause, errors),

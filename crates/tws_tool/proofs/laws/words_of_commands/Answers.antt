@@ -1,4 +1,4 @@
-use Rattle.tws_tool.proofs.Asking.{asks_for_counted, asks_for_moves, asks_for_pack, asks_for_serve, asks_for_show, asks_for_v, asks_for_version}
+use Rattle.tws_tool.proofs.Asking.{asks_for_counted, asks_for_csv, asks_for_moves, asks_for_pack, asks_for_serve, asks_for_show, asks_for_v, asks_for_version}
 use Rattle.tws_tool.proofs.laws.words_of_commands.Goals as goal
 
 pub returns-clause-show : goal.returns-clause-show
@@ -6,6 +6,9 @@ returns-clause-show c = asks_for_show
 
 pub returns-clause-moves : goal.returns-clause-moves
 returns-clause-moves c = asks_for_moves
+
+pub returns-clause-csv : goal.returns-clause-csv
+returns-clause-csv c = asks_for_csv
 
 pub returns-clause-pack : goal.returns-clause-pack
 returns-clause-pack c = asks_for_pack

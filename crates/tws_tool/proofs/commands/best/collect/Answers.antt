@@ -19,7 +19,7 @@ returns-in_err-file-clause-fails g c =
     let before = c.loop-index in
     let reported : g.row.R.Denot → Option (List ℕ) = λ file. g.R.Read.remaining file in
     let fault = subst (λ file. ReadFails before.index (g.R.Read.remaining file) c.in_err-file.field-0.0) (sym c.index-files-index.is) c.in_err-file.ensures.fault in
-    rw (p.1, p.2) (input_fails reported before.files c.args.files.now before.index c.index-files-index.result before.invariant.others c.loop-index-test.true c.index-files-index.is c.args.ruleset before.collection _ before.invariant.so_far fault)
+    rw (p.1, p.2) (input_fails reported before.files c.args.files.now before.index c.index-files-index.result before.invariant.others c.loop-index-test.true c.index-files-index.is _ before.invariant.so_far.readable fault)
 
 pub returns-in_err-file-clause-unreadable : goal.returns-in_err-file-clause-unreadable
 returns-in_err-file-clause-unreadable g c =

@@ -1,0 +1,115 @@
+-- What stands in the text of a password's cell.
+use Rattle.std.proofs.Common.{◌≡◌, ℕ, suc, ◌+◌, ◌<◌, ◌/◌, ◌%◌, ◌==◌, ◌||◌, Bool, true, false, List, [], ◌∷◌, ◌++◌, length, refl, sym, ◌∙◌, arith, append_assoc, append-nil}
+use Rattle.std.specs.Prelude.{Contains, codes}
+use Rattle.std.specs.List.{flat_map, list_all, list_any}
+use Rattle.std.specs.Fmt.{digit_glyph}
+use Rattle.std.proofs.lemmas.Bool.{agree_below, agree_below_at, and_parts, cond_both, or_from, or_parts}
+use Rattle.std.proofs.lemmas.Bool.Decides.{nat_tests}
+use Rattle.std.proofs.lemmas.List.Folds.{list_any-append}
+use Rattle.std.proofs.lemmas.Str.{encode_ascii}
+use Rattle.byte_output.specs.Bytes.{IsBytes}
+use Rattle.tws_file.specs.Listing.{hex, hex_byte}
+use Rattle.tws_tables.specs.Escaping.{BeginsReference, escaped, escaped_char, is_mark, is_printable, references, shown_password}
+
+-- `&`
+abbrev is_ampersand : ℕ → Bool
+is_ampersand c = c == 38
+
+-- each `&` in the text begins a reference
+AreReferences : List ℕ → Type 0
+AreReferences text = (front rest : List ℕ) → text ≡ front ++ 38 ∷ rest → BeginsReference (38 ∷ rest)
+
+-- ---- one character more
+
+module _ (more : List ℕ) (all : AreReferences more) where
+  -- that is no `&`
+  after_other : (c : ℕ) → is_ampersand c ≡ false → AreReferences (c ∷ more)
+  unfolding AreReferences
+  after_other c other [] rest is = let same : c ≡ 38 = cc in absurd (cc (rw same at other))
+  after_other c other (f ∷ front) rest is = let tail : more ≡ front ++ 38 ∷ rest = cc in all front rest tail
+
+-- a text without `&`
+no_reference : (text : List ℕ) → list_any is_ampersand text ≡ false → AreReferences text
+unfolding AreReferences
+no_reference [] none [] rest is = absurd cc
+no_reference [] none (f ∷ front) rest is = absurd cc
+no_reference (c ∷ text) none front rest is =
+    let parts = or_parts (is_ampersand c) (list_any is_ampersand text) none in
+    after_other text (no_reference text parts.1) c parts.0 front rest is
+
+-- no `&` in a text, and then another text
+skipped : (text more : List ℕ) → list_any is_ampersand text ≡ false → AreReferences more → AreReferences (text ++ more)
+skipped [] more none all = all
+skipped (c ∷ text) more none all =
+    let parts = or_parts (is_ampersand c) (list_any is_ampersand text) none in
+    after_other (text ++ more) (skipped text more parts.1 all) c parts.0
+
+-- a reference, and then another text
+after_reference : (name more : List ℕ) → Contains references (38 ∷ name) → list_any is_ampersand name ≡ false → AreReferences more → AreReferences (38 ∷ (name ++ more))
+unfolding AreReferences
+after_reference name more known none all [] rest is = record { reference = 38 ∷ name; known = known; rest = more; text_is = sym is }
+after_reference name more known none all (f ∷ front) rest is = let tail : name ++ more ≡ front ++ 38 ∷ rest = cc in skipped name more none all front rest tail
+
+-- ---- characters
+
+-- a printable character is ASCII
+printable_small : (c : ℕ) → is_printable c ≡ true → c < 128
+printable_small c e = grind (arith, nat_tests)
+
+-- the text has no marks, and wherever it stands each `&` in it begins a reference
+record IsCellText (text : List ℕ) : Type 0 where
+  unmarked : list_any is_mark text ≡ false
+  before : (more : List ℕ) → AreReferences more → AreReferences (text ++ more)
+
+reference_text : (name : List ℕ) → Contains references (38 ∷ name) → list_any is_ampersand name ≡ false → list_any is_mark (38 ∷ name) ≡ false → IsCellText (38 ∷ name)
+reference_text name known none unmarked = record { unmarked = unmarked; before = λ more all. after_reference name more known none all }
+
+-- a text of no special characters
+plain_text : (text : List ℕ) → list_any is_mark text ≡ false → list_any is_ampersand text ≡ false → IsCellText text
+plain_text text unmarked none = record { unmarked = unmarked; before = λ more all. skipped text more none all }
+
+char_text : (c : ℕ) → is_printable c ≡ true → IsCellText (escaped_char c)
+char_text c printable =
+    cond_both (c == 60) _ _ IsCellText (λ e. reference_text (codes "lt;") (0, omega arith, refl) refl refl)
+    (λ less. cond_both (c == 62) _ _ IsCellText (λ e. reference_text (codes "gt;") (1, omega arith, refl) refl refl)
+    (λ greater. cond_both (c == 38) _ _ IsCellText (λ e. reference_text (codes "amp;") (2, omega arith, refl) refl refl)
+    (λ ampersand. cond_both (c == 34) _ _ IsCellText (λ e. reference_text (codes "quot;") (3, omega arith, refl) refl refl)
+    (λ quote. cond_both (c == 39) _ _ IsCellText (λ e. reference_text (codes "#39;") (4, omega arith, refl) refl refl)
+    (λ apostrophe. rw (encode_ascii c (printable_small c printable)) (plain_text (c ∷ []) (rw (less, greater, quote, apostrophe) refl) (rw ampersand refl)))))))
+
+-- ---- passwords
+
+chars_text : (chars : List ℕ) → list_all is_printable chars ≡ true → IsCellText (escaped chars)
+chars_text [] all = record { unmarked = refl; before = λ more references. references }
+chars_text (c ∷ chars) all =
+    let parts = and_parts (is_printable c) (list_all is_printable chars) all in
+    let first = char_text c parts.0 in
+    let others = chars_text chars parts.1 in
+    record {
+      unmarked = list_any-append is_mark (escaped_char c) (escaped chars) ∙ or_from (list_any is_mark (escaped_char c)) (list_any is_mark (escaped chars)) first.unmarked others.unmarked;
+      before = λ more references. rw (append_assoc (escaped_char c) (escaped chars) more) (first.before (escaped chars ++ more) (others.before more references));
+    }
+
+-- what no hexadecimal digit is, no digits are
+no_digits : (p : ℕ → Bool) → agree_below (λ d. p (digit_glyph false d)) (λ d. false) 16 ≡ true → (bytes : List ℕ) → IsBytes bytes → list_any p (hex bytes) ≡ false
+no_digits p none [] fits = refl
+no_digits p none (b ∷ bytes) fits =
+    let small : b < 256 = fits 0 in
+    let high : p (digit_glyph false (b / 16)) ≡ false = agree_below_at (λ d. p (digit_glyph false d)) (λ d. false) 16 (b / 16) none (omega (arith, small)) in
+    let low : p (digit_glyph false (b % 16)) ≡ false = agree_below_at (λ d. p (digit_glyph false d)) (λ d. false) 16 (b % 16) none (omega (arith, small)) in
+    or_from (p (digit_glyph false (b / 16))) _ high
+    (or_from (p (digit_glyph false (b % 16))) (list_any p (hex bytes)) low (no_digits p none bytes (λ i. fits (suc i))))
+
+-- the text of a password's cell
+password_cell : (password : List ℕ) → IsBytes password → IsCellText (shown_password password)
+password_cell password fits =
+    cond_both (list_all is_printable password) (escaped password) (codes "x" ++ hex password) IsCellText (chars_text password)
+    (λ other. plain_text (codes "x" ++ hex password) (no_digits is_mark refl password fits) (no_digits is_ampersand refl password fits))
+
+pub no_marks : (password : List ℕ) → IsBytes password → list_any is_mark (shown_password password) ≡ false
+no_marks password fits = (password_cell password fits).unmarked
+
+pub only_references : (password front rest : List ℕ) → IsBytes password → shown_password password ≡ front ++ 38 ∷ rest → BeginsReference (38 ∷ rest)
+unfolding AreReferences
+only_references password front rest fits is =
+    (password_cell password fits).before [] (no_reference [] refl) front rest (append-nil (shown_password password) ∙ is)

@@ -1,0 +1,4 @@
+pub mod Parts
+pub mod Gathered
+pub mod Wholes
+pub mod Escapes

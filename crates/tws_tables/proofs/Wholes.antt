@@ -1,0 +1,97 @@
+-- A text of a head, rows and an end, gathered part by part and written as it grows large.
+use Rattle.std.proofs.Common.{◌≡◌, ◌≢◌, ℕ, ◌∷◌, List, [], ◌++◌, Option, ap, sym, subst, ◌∙◌, append_assoc, append-nil, map, refl}
+use Rattle.std.specs.List.{flat_map}
+use Rattle.std.specs.Io.KnownBytes.{Appends}
+use Rattle.std.proofs.lemmas.List.Concat.{flat_map-append}
+use Rattle.tws_file.specs.declared.«ruleset».Ruleset.{Ruleset}
+use Rattle.tws_file.specs.Text.{File}
+use Rattle.byte_output.specs.Output.{Sends, AppendsPrefix}
+use Rattle.byte_output.proofs.Sending.{Sends-none, Sends-push, all_sent, prefix_more, prefix_sent, prefix_then}
+use Rattle.tws_tables.specs.Csv.{csv_line, csv_names}
+use Rattle.tws_tables.specs.Page.{page_end, section_head, section_of, table_end}
+
+-- ---- with an end
+
+module _ (old new : Option (List ℕ)) (start head rows last pushed : List ℕ) (pushed-is : pushed ≡ start ++ head) where
+  whole-is : pushed ++ rows ++ last ≡ start ++ (head ++ rows ++ last)
+  whole-is =
+      ap (λ (x : List ℕ). x ++ rows ++ last) pushed-is ∙ ap (λ (x : List ℕ). x ++ last) (append_assoc start head rows) ∙
+      append_assoc start (head ++ rows) last
+
+  -- nothing was written
+  pub none_written : last ≢ [] → AppendsPrefix old old (start ++ (head ++ rows ++ last))
+  none_written some =
+      subst (λ (x : List ℕ). AppendsPrefix old old x) (append_assoc start (head ++ rows) last)
+      (prefix_sent old old old (start ++ (head ++ rows)) (start ++ (head ++ rows)) (Sends-none old (start ++ (head ++ rows))) last some)
+
+  -- the rows were not gathered
+  pub rows_failed : AppendsPrefix old new (pushed ++ rows) → AppendsPrefix old new (start ++ (head ++ rows ++ last))
+  rows_failed p = subst (λ (x : List ℕ). AppendsPrefix old new x) whole-is (prefix_more old new (pushed ++ rows) p last)
+
+  module _ (left : List ℕ) (sends : Sends old new (pushed ++ rows) left) where
+    -- the end was not gathered
+    pub last_failed : last ≢ [] → AppendsPrefix old new (start ++ (head ++ rows ++ last))
+    last_failed some = subst (λ (x : List ℕ). AppendsPrefix old new x) whole-is (prefix_sent old new new (pushed ++ rows) left sends last some)
+
+    -- it was gathered too
+    pub all_gathered : (text : List ℕ) → text ≡ left ++ last → Sends old new (start ++ (head ++ rows ++ last)) text
+    all_gathered text text-is = rw (text-is, ← whole-is) (Sends-push old new new (pushed ++ rows) left sends last)
+
+-- ---- from an empty text on
+
+module _ (old new : Option (List ℕ)) (empty text : List ℕ) (empty-is : empty ≡ []) where
+  pub prefix_from_empty : AppendsPrefix old new (empty ++ text) → AppendsPrefix old new text
+  prefix_from_empty p = subst (λ (x : List ℕ). AppendsPrefix old new (x ++ text)) empty-is p
+
+  pub sends_from_empty : (left : List ℕ) → Sends old new (empty ++ text) left → Sends old new text left
+  sends_from_empty left s = subst (λ (x : List ℕ). Sends old new (x ++ text) left) empty-is s
+
+-- what was gathered is written, as the bytes of a text
+module _ (old mid new : Option (List ℕ)) (whole text bytes : List ℕ) (bytes-is : bytes ≡ text) (gathered : Sends old mid whole text) where
+  pub whole_written : Appends mid new bytes → Appends old new whole
+  whole_written p = all_sent old mid new whole text gathered (subst (λ (x : List ℕ). Appends mid new x) bytes-is p)
+
+  pub whole_failed : AppendsPrefix mid new bytes → AppendsPrefix old new whole
+  whole_failed p = prefix_then old mid new whole text gathered (subst (λ (x : List ℕ). AppendsPrefix mid new x) bytes-is p)
+
+-- ---- parts that are not empty
+
+pub names_some : (rows : List ℕ) → csv_line csv_names ++ rows ≢ []
+names_some rows none = absurd cc
+
+-- the names of the columns were gathered first, and then the rows
+pub names_gathered : (old mid : Option (List ℕ)) (rows empty pushed text : List ℕ) → empty ≡ [] → pushed ≡ empty ++ csv_line csv_names →
+    Sends old mid (pushed ++ rows) text → Sends old mid (csv_line csv_names ++ rows) text
+names_gathered old mid rows empty pushed text empty-is pushed-is s =
+    subst (λ (x : List ℕ). Sends old mid (x ++ rows) text) (pushed-is ∙ ap (λ (x : List ℕ). x ++ csv_line csv_names) empty-is) s
+
+pub table_end_some : table_end ≢ []
+unfolding table_end
+table_end_some none = absurd cc
+
+pub page_end_some : page_end ≢ []
+unfolding page_end
+page_end_some none = absurd cc
+
+-- ---- sections
+
+-- the head was gathered, with these counts
+pub head_counted : (rules : Ruleset) (start pushed : List ℕ) (solutions ticks m n : ℕ) → solutions ≡ m → ticks ≡ n → pushed ≡ start ++ section_head rules solutions ticks
+    → pushed ≡ start ++ section_head rules m n
+head_counted rules start pushed solutions ticks m n solutions-is ticks-is pushed-is =
+    pushed-is ∙ ap (λ (k : ℕ). start ++ section_head rules k ticks) solutions-is ∙ ap (λ (k : ℕ). start ++ section_head rules m k) ticks-is
+
+-- the sections of these files
+abbrev pub of_files : List File → List ℕ
+of_files files = flat_map section_of files
+
+pub of_files-append : (xs ys : List File) → of_files (xs ++ ys) ≡ of_files xs ++ of_files ys
+of_files-append xs ys = flat_map-append section_of xs ys
+
+pub of_files-one : (file : File) → of_files (file ∷ []) ≡ section_of file
+of_files-one file = append-nil (section_of file)
+
+-- the lines of what the members of a list become
+pub lines_of_map : {X Y : Type 0} (line : Y → List ℕ) (f : X → Y) (xs : List X) → flat_map (λ (x : X). line (f x)) xs ≡ flat_map line (map f xs)
+lines_of_map line f [] = refl
+lines_of_map line f (x ∷ xs) = ap (λ (ys : List ℕ). line (f x) ++ ys) (lines_of_map line f xs)

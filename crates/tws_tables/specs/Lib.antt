@@ -1,0 +1,5 @@
+pub mod Solved
+pub mod Csv
+pub mod Escaping
+pub mod Page
+pub mod Steps

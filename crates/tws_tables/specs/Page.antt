@@ -1,0 +1,67 @@
+-- The solutions of files as a page of HTML, with a table for each file.
+use Rattle.std.specs.Prelude.{ℕ, List, [], ◌∷◌, ◌++◌, length, codes, decimal}
+use Rattle.std.specs.List.{flat_map}
+use Rattle.tws_moves.specs.Spelling.{moves_in}
+use Rattle.tws_file.specs.declared.«ruleset».Ruleset.{Ruleset}
+use Rattle.tws_file.specs.declared.«ruleset».Ruleset.TheVariants.{Lynx, Ms}
+use Rattle.tws_file.specs.Listing.{line}
+use Rattle.tws_file.specs.Text.{File, Record, Solution}
+use Rattle.tws_tables.specs.declared.markup.TheConstants.{PAGE_HEAD, TABLE_HEAD, TABLE_END, PAGE_END}
+use Rattle.tws_tables.specs.Escaping.{shown_password}
+use Rattle.tws_tables.specs.Solved.{solutions_in, total_ticks, seconds_text}
+
+-- ---- the markup that every page has, which the constants spell
+
+unfoldable pub page_head : List ℕ
+page_head = PAGE_HEAD.now
+
+unfoldable pub table_head : List ℕ
+table_head = TABLE_HEAD.now
+
+unfoldable pub table_end : List ℕ
+table_end = TABLE_END.now
+
+unfoldable pub page_end : List ℕ
+page_end = PAGE_END.now
+
+-- ---- rows
+
+-- level, password, seconds, ticks, moves, bytes
+abbrev pub page_cells : Solution → List (List ℕ)
+page_cells s =
+    decimal s.key.number ∷ shown_password s.key.password ∷ seconds_text s.ticks ∷ decimal s.ticks ∷
+    decimal (length (moves_in s.moves)) ∷ decimal (length s.moves) ∷ []
+
+abbrev pub page_cell : List ℕ → List ℕ
+page_cell text = codes "<td>" ++ text ++ codes "</td>"
+
+abbrev pub page_row : Solution → List ℕ
+page_row s = line (codes "<tr>" ++ flat_map page_cell (page_cells s) ++ codes "</tr>")
+
+-- ---- tables
+
+abbrev pub title_of : Ruleset → List ℕ
+title_of Lynx = codes "Lynx"
+title_of Ms = codes "MS"
+
+-- the ruleset, the counts, and the names of the columns
+abbrev pub section_head : Ruleset → (solutions ticks : ℕ) → List ℕ
+section_head rules solutions ticks =
+    line (codes "<section>") ++
+    line (codes "<h2>" ++ title_of rules ++ codes "</h2>") ++
+    line (codes "<p>Solutions: " ++ decimal solutions ++ codes ", seconds in all: " ++ seconds_text ticks ++ codes "</p>") ++
+    table_head
+
+-- the table of these records' solutions, with its head
+abbrev pub section_with : Ruleset → List Record → List ℕ
+section_with rules records =
+    section_head rules (length (solutions_in records)) (total_ticks (solutions_in records)) ++
+    flat_map page_row (solutions_in records) ++ table_end
+
+abbrev pub section_of : File → List ℕ
+section_of file = section_with file.ruleset file.records
+
+-- ---- the page
+
+abbrev pub page_of : List File → List ℕ
+page_of files = page_head ++ flat_map section_of files ++ page_end

@@ -1,0 +1,17 @@
+ghost use Rattle.std.specs.Prelude.{Some};
+ghost use Rattle.tws_tables.specs.Solved.{seconds_text};
+
+use std::fmt;
+
+/// Displays a time, given in ticks, in seconds with two decimals. A second has 20 ticks.
+#[derive(Clone, Copy)]
+pub(crate) struct Seconds(pub(crate) u128);
+
+impl fmt::Display for Seconds {
+    ghost output = { λ s. Some (seconds_text s.0) };
+
+    fn fmt<W: fmt::Write>(&self, f: &mut fmt::Formatter<W>) -> fmt::Result {
+        let ticks = self.0;
+        write!(f, "{}.{}{}", ticks / 20, ticks % 20 / 2, ticks % 2 * 5)
+    }
+}
