@@ -16,3 +16,5 @@ mod moves_written;
 mod pieces;
 #[cfg(test)]
 mod snapshots;
+#[cfg(test)]
+mod tables;

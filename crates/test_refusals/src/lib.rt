@@ -30,6 +30,8 @@ mod runs;
 #[cfg(test)]
 mod table;
 #[cfg(test)]
+mod tables;
+#[cfg(test)]
 mod uploads;
 #[cfg(test)]
 mod wires;

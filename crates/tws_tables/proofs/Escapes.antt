@@ -91,7 +91,7 @@ chars_text (c ∷ chars) all =
     }
 
 -- what no hexadecimal digit is, no digits are
-no_digits : (p : ℕ → Bool) → agree_below (λ d. p (digit_glyph false d)) (λ d. false) 16 ≡ true → (bytes : List ℕ) → IsBytes bytes → list_any p (hex bytes) ≡ false
+pub no_digits : (p : ℕ → Bool) → agree_below (λ d. p (digit_glyph false d)) (λ d. false) 16 ≡ true → (bytes : List ℕ) → IsBytes bytes → list_any p (hex bytes) ≡ false
 no_digits p none [] fits = refl
 no_digits p none (b ∷ bytes) fits =
     let small : b < 256 = fits 0 in

@@ -2,3 +2,4 @@ pub mod Parts
 pub mod Gathered
 pub mod Wholes
 pub mod Escapes
+pub mod Unquoted

@@ -1,9 +1,20 @@
 //! What holds for each page and each table. These functions do nothing: their contracts are theorems.
 
 ghost use Rattle.std.specs.Prelude.{◌≡◌, ℕ, false, List, ◌∷◌, ◌++◌};
-ghost use Rattle.std.specs.List.{list_any};
+ghost use Rattle.std.specs.List.{flat_map, list_any};
+ghost use Rattle.csv.specs.Reading.{default_config, records};
+ghost use Rattle.csv.specs.Writing.{default_writer, row_text};
 ghost use Rattle.byte_output.specs.Bytes.{IsBytes};
+ghost use Rattle.tws_file.specs.Text.{File, IsFile};
+ghost use Rattle.tws_tables.specs.Csv.{csv_names, csv_of, csv_rows};
 ghost use Rattle.tws_tables.specs.Escaping.{BeginsReference, is_mark, shown_password};
+
+/// The comma-separated values of a file are what the library `csv` writes for the names of the columns and the fields of
+/// each solution, and it reads them back as these.
+pub fn comma_separated()
+    ensures written { (file : File) → IsFile file → csv_of file ≡ flat_map (row_text default_writer) (csv_names ∷ csv_rows file) }
+    ensures read_back { (file : File) → IsFile file → records default_config (csv_of file) ≡ csv_names ∷ csv_rows file }
+{}
 
 /// In the text of a password's cell no character that has a meaning in HTML stands for itself: there is no `<`, `>`, `"` or
 /// `'`, and each `&` begins one of five references.

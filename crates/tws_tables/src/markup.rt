@@ -15,6 +15,7 @@ pub(crate) const PAGE_HEAD: &str = "<!DOCTYPE html>
 body { margin: 0 auto; max-width: 46rem; padding: 1rem; font: 1rem/1.5 sans-serif; background: var(--ground); color: var(--ink); }
 h1 { font-size: 1.5rem; }
 h2 { font-size: 1.2rem; margin-top: 2rem; }
+section { overflow-x: auto; }
 table { width: 100%; border-collapse: collapse; font-variant-numeric: tabular-nums; }
 th, td { padding: 0.25rem 0.4rem; border-bottom: 1px solid var(--line); text-align: right; }
 th:nth-child(2), td:nth-child(2) { text-align: left; }
