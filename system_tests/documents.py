@@ -144,7 +144,7 @@ def files():
 def options():
     """The options of the program, by its command line."""
     sources = [path.read_text() for path in Path("crates/tws_tool/src").rglob("*.rt")]
-    return {f"--{name}" for text in sources for name in re.findall(r'\.long\(\s*"([\w-]+)"', text)} | {"--help"}
+    return {f"--{name}" for text in sources for name in re.findall(r'\.long\(\s*"([\w-]+)"', text)} | {"--help", "--version"}
 
 
 class Names:
