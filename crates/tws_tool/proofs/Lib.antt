@@ -2,6 +2,7 @@ pub mod Taking
 pub mod Statuses
 pub mod Collecting
 pub mod Paging
+pub mod Comparing
 pub mod Sending
 pub mod Fetching
 pub mod Listening

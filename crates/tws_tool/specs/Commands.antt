@@ -30,7 +30,7 @@ use Rattle.tws_tool.specs.Files.{Known}
 use Rattle.tws_tool.specs.Help.{Explained}
 
 abbrev pub top_app : App
-top_app = let plain : App = new_app (codes "tws") in record plain { top = record plain.top { has_version = true; subcommand_required = true } }
+top_app = let plain : App = new_app (codes "tws") in record plain { top = record plain.top { has_version = true; arg_required_else_help = true; subcommand_required = true } }
 
 -- with only the commands on one file
 abbrev pub one_file_app : App

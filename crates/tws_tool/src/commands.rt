@@ -5,7 +5,7 @@ ghost use Rattle.std.specs.Prelude.{◌≡◌, ◌≤◌, Ok, IfOk};
 ghost use Rattle.clap.specs.Matches.{found_of};
 ghost use Rattle.clap.specs.Words.{app_of, rows_of};
 ghost use Rattle.tws_tool.specs.Arguments.{Answers};
-ghost use Rattle.tws_tool.specs.Commands.{AsksFor, JobRuns, files_app, one_file_app, tws_app};
+ghost use Rattle.tws_tool.specs.Commands.{AsksFor, JobRuns, files_app, one_file_app, top_app, tws_app};
 
 mod best;
 mod compare;
@@ -62,16 +62,23 @@ pub enum Job {
     Get(GetArguments),
 }
 
+// The program without its commands.
+fn no_commands<'a>(alloc: Global) -> Command<'a>
+    ensures { app_of result ≡ top_app }
+{
+    Command::new(alloc, "tws")
+        .about("Lists, packs and collects Tile World solution files, and archives them by TFTP")
+        .version(VERSION)
+        .arg_required_else_help(true)
+        .subcommand_required(true)
+}
+
 // The program with only its commands on one file.
 fn one_file_commands<'a>(alloc: Global) -> Result<Command<'a>, AllocError>
     ensures { IfOk result (λ command. app_of command ≡ one_file_app) }
 {
     let show = show::command(alloc)?;
-    let command = Command::new(alloc, "tws")
-        .about("Lists, packs and collects Tile World solution files, and archives them by TFTP")
-        .version(VERSION)
-        .subcommand_required(true)
-        .subcommand(show)?;
+    let command = no_commands(alloc).subcommand(show)?;
     let pack = pack::command(alloc)?;
     let command = command.subcommand(pack)?;
     let without = without::command(alloc)?;

@@ -1,6 +1,6 @@
 //! The command `without`: a solution file without the solutions of a level.
 
-ghost use Rattle.std.specs.Prelude.{◌≡◌, ◌≢◌, ℕ, List, Some, false, OnOk, IfOk, IfErr, IfSome, IfNone};
+ghost use Rattle.std.specs.Prelude.{◌≡◌, ◌≢◌, ℕ, List, false, OnOk, IfOk, IfErr, IfSome, IfNone};
 ghost use Rattle.std.specs.List.{list_all};
 ghost use Rattle.std.specs.Char.{is_ascii_alphabetic};
 ghost use Rattle.std.specs.Io.KnownBytes.{IsAtEnd};
@@ -11,13 +11,14 @@ ghost use Rattle.tws_compare.specs.Without.{text_without};
 ghost use Rattle.tws_tool.specs.Arguments.{Answers};
 ghost use Rattle.tws_tool.specs.Commands.Without.{AsksForWithout, IsLevel, IsPassword, WithoutRan, level_rule, password_rule, without_app};
 ghost use Rattle.tws_tool.specs.Faults.{IsReadOut};
-ghost use Rattle.tws_tool.specs.Written.{Writes, WriteFails};
+ghost use Rattle.tws_tool.specs.Written.{RanFrom, Writes, WriteFails};
 
-use crate::arguments::{number_up_to, source_argument, source_given, text_given};
+use crate::arguments::{number_up_to, source_argument, source_given, string_given, text_given};
 use crate::file_system::FileSystem;
 use crate::input::read_input;
 use crate::reporting::{finish, report_file};
 use crate::source::Source;
+use crate::status::USAGE;
 use crate::tool_fault::ToolFault;
 use clap::builder::ValueParser;
 use clap::{Arg, ArgMatches, Command};
@@ -30,8 +31,10 @@ use tws_file::{Key, write_file};
 /// What `without` is asked for.
 #[derive(Drop)]
 pub struct WithoutArguments {
-    /// The level whose solutions are left out.
-    pub key: Key,
+    /// The number of the level whose solutions are left out.
+    pub level: u16,
+    /// Its password, as it was typed.
+    pub password: String,
     /// The solution file.
     pub source: Source,
 }
@@ -85,8 +88,8 @@ fn is_letters(bytes: &[u8]) -> bool
 
 // The password that these letters are.
 fn password_of(text: &str) -> Option<[u8; 4]>
-    ensures some { IfSome result (IsPassword (Some text.now)) }
-    ensures none { IfNone result ((password : List ℕ) → IsPassword (Some text.now) password → ⊥) }
+    ensures some { IfSome result (IsPassword text.now) }
+    ensures none { IfNone result ((password : List ℕ) → IsPassword text.now password → ⊥) }
 {
     let password = text.as_bytes().as_array::<4>()?;
     if is_letters(password) {
@@ -96,32 +99,25 @@ fn password_of(text: &str) -> Option<[u8; 4]>
     }
 }
 
-// The password that was given; `None` if it is none.
-fn password_given(words: &ArgMatches) -> Option<[u8; 4]>
-    ensures { Answers (IsPassword (first_of password_rule.id (rows_of (found_of words.now)))) result }
-{
-    match text_given(words, "password") {
-        Some(text) => password_of(text),
-        None => None,
-    }
-}
-
-/// What the arguments ask for; `None` if they name no level.
+/// What the arguments ask for; `None` if the number of the level is out of range.
 pub(crate) fn asked(
     alloc: Global,
     words: &ArgMatches,
 ) -> Result<Option<WithoutArguments>, AllocError>
     ensures { IfOk result (Answers (AsksForWithout (rows_of (found_of words.now)))) }
 {
-    let Some(number) = level_given(words) else {
+    let Some(level) = level_given(words) else {
         return Ok(None);
     };
-    let Some(password) = password_given(words) else {
+    let Some(password) = string_given(alloc, words, "password")? else {
         return Ok(None);
     };
     let source = source_given(alloc, words)?;
-    let key = Key { number, password };
-    Ok(Some(WithoutArguments { key, source }))
+    Ok(Some(WithoutArguments {
+        level,
+        password,
+        source,
+    }))
 }
 
 /// Reads a solution file to its end, and writes it without the solutions of a level.
@@ -150,6 +146,41 @@ pub fn run_without<R: Read, W: Write>(
     Ok(())
 }
 
+// Does the same with the input of this source, and returns the status.
+fn run_from<S: FileSystem, R: Read, W: Write, E: Write>(
+    system: &S,
+    alloc: Global,
+    key: Key,
+    source: &Source,
+    input: &mut R,
+    out: &mut W,
+    errors: &mut E,
+) -> u8
+    ensures ran { RanFrom source.now (S.bytes_of system.now) (input.new ≡ input.old) (text_without key) result (R.remaining input.old) (R.remaining input.new) (W.contents out.old) (W.contents out.new) }
+    ensures usage { result ≢ 1 }
+    ensures unreadable { result ≡ 3 → out.new ≡ out.old }
+    ensures silent { result ≡ 0 → errors.new ≡ errors.old }
+{
+    match source {
+        Source::Standard => finish(run_without(alloc, key, input, out), &[], errors),
+        Source::Named(name) => match system.open(name.as_str()) {
+            Ok(mut file) => {
+                let done = run_without(alloc, key, &mut file, out);
+                finish(done, slice::from_ref(name), errors)
+            }
+            Err(cause) => report_file(ToolFault::Read, name.as_str(), &cause, errors),
+        },
+    }
+}
+
+// Reports a password that is none, and returns the status.
+fn bad_password<E: Write>(errors: &mut E) -> u8
+    ensures { result ≡ 1 }
+{
+    let _ = writeln!(errors, "tws: bad password");
+    USAGE
+}
+
 /// Runs `without`, and returns the status.
 pub(crate) fn run<S: FileSystem, R: Read, W: Write, E: Write>(
     system: &S,
@@ -160,18 +191,17 @@ pub(crate) fn run<S: FileSystem, R: Read, W: Write, E: Write>(
     errors: &mut E,
 ) -> u8
     ensures ran { WithoutRan (S.bytes_of system.now) (input.new ≡ input.old) arguments.now result (R.remaining input.old) (R.remaining input.new) (W.contents out.old) (W.contents out.new) }
+    ensures usage { result ≡ 1 → (input.new ≡ input.old) × (out.new ≡ out.old) }
     ensures unreadable { result ≡ 3 → out.new ≡ out.old }
     ensures silent { result ≡ 0 → errors.new ≡ errors.old }
 {
-    let key = arguments.key;
-    match &arguments.source {
-        Source::Standard => finish(run_without(alloc, key, input, out), &[], errors),
-        Source::Named(name) => match system.open(name.as_str()) {
-            Ok(mut file) => {
-                let done = run_without(alloc, key, &mut file, out);
-                finish(done, slice::from_ref(name), errors)
-            }
-            Err(cause) => report_file(ToolFault::Read, name.as_str(), &cause, errors),
-        },
+    let source = &arguments.source;
+    match password_of(arguments.password.as_str()) {
+        Some(password) => {
+            let number = arguments.level;
+            let key = Key { number, password };
+            run_from(system, alloc, key, source, input, out, errors)
+        }
+        None => bad_password(errors),
     }
 }
