@@ -1,18 +1,15 @@
 // Given files: their solutions as comma-separated values, and as a page.
 use std::alloc::Allocator;
 use std::test::Fail;
-use test_samples::{EMPTY_LYNX, EMPTY_MS, HUNDRED, join, record};
-use tws_file::read_file;
+use test_samples::{EMPTY_MS, HUNDRED};
+use tws_file::{TwsFile, read_file};
 use tws_tables::{OutFault, write_csv, write_page};
 
 const NAMES: &str = "level,password,ticks,seconds,moves,bytes,flags,start,seed,ruleset\n";
 
-// Four moves in two bytes; a pad; and a password that means something in HTML, with the time of three ticks.
-fn two_levels<A: Allocator + Copy>(alloc: A) -> Result<Vec<u8, A>, Fail> {
-    let first = record(alloc, 1, b"BDHP", 4_294_967_295, 111, &[0x00, 0x61])?;
-    let second = record(alloc, 65535, b"<b>&", 0, 3, &[])?;
-    Ok(join(alloc, EMPTY_LYNX, &[&first, &[0; 4], &second])?)
-}
+// A solution with four moves in two bytes; a pad; and one whose password means something in HTML, in three ticks.
+const TWO: &[u8; 54] =
+    b"\x35\x33\x9B\x99\x01\0\0\0\x12\0\0\0\x01\0BDHP\0\0\xFF\xFF\xFF\xFF\x6F\0\0\0\0\x61\0\0\0\0\x10\0\0\0\xFF\xFF<b>&\0\0\0\0\0\0\x03\0\0\0";
 
 fn csv_text<A: Allocator + Copy>(alloc: A, bytes: &[u8]) -> Result<String<A>, Fail> {
     let file = read_file(alloc, bytes)?;
@@ -23,7 +20,7 @@ fn csv_text<A: Allocator + Copy>(alloc: A, bytes: &[u8]) -> Result<String<A>, Fa
 
 #[test]
 fn comma_separated_values(rt: HostRuntime) -> Result<(), Fail> {
-    let text = csv_text(rt.alloc(), &two_levels(rt.alloc())?)?;
+    let text = csv_text(rt.alloc(), TWO)?;
     let lines =
         "1,BDHP,111,5.55,4,2,00,00,4294967295,lynx\n65535,x3c623e26,3,0.15,0,0,00,00,0,lynx\n";
     assert_eq!(rt; text.strip_prefix(NAMES), Some(lines));
@@ -33,7 +30,9 @@ fn comma_separated_values(rt: HostRuntime) -> Result<(), Fail> {
 }
 
 fn page_text<A: Allocator + Copy>(alloc: A, bytes: &[u8]) -> Result<String<A>, Fail> {
-    let files = [read_file(alloc, bytes)?, read_file(alloc, EMPTY_MS)?];
+    let mut files = Vec::new(alloc);
+    files.push(read_file(alloc, bytes)?)?;
+    files.push(read_file(alloc, EMPTY_MS)?)?;
     let mut out = Vec::new(alloc);
     write_page(alloc, &files, &mut out)?;
     Ok(String::from_utf8(out)?)
@@ -68,7 +67,7 @@ const SECTIONS: &str = "<h2>Lynx</h2>
 
 #[test]
 fn a_page_of_two_files(rt: HostRuntime) -> Result<(), Fail> {
-    let page = page_text(rt.alloc(), &two_levels(rt.alloc())?)?;
+    let page = page_text(rt.alloc(), TWO)?;
     assert!(rt; page.starts_with("<!DOCTYPE html>\n<html lang=\"en\">\n"));
     let sections = page.split_once("<section>\n").map(|parts| parts.1);
     assert_eq!(rt; sections, Some(SECTIONS));
@@ -77,18 +76,18 @@ fn a_page_of_two_files(rt: HostRuntime) -> Result<(), Fail> {
 
 // A writer with less room than the text: what was written fills it.
 #[test]
-fn a_writer_that_fails(rt: HostRuntime) -> Result<(), Fail> {
+fn a_writer_without_room_for_values(rt: HostRuntime) -> Result<(), Fail> {
     let file = read_file(rt.alloc(), HUNDRED)?;
     let mut room = [0; 10];
     let done = write_csv(rt.alloc(), &file, &mut room.as_mut_slice());
-    assert_eq!(rt;
-        (done, room.as_slice()),
-        (Err(OutFault::Io), b"level,pass".as_slice())
-    );
-    let done = write_page(rt.alloc(), &[file], &mut room.as_mut_slice());
-    assert_eq!(rt;
-        (done, room.as_slice()),
-        (Err(OutFault::Io), b"<!DOCTYPE ".as_slice())
-    );
+    assert_eq!(rt; (done, &room), (Err(OutFault::Io), b"level,pass"));
+    Ok(())
+}
+
+#[test]
+fn a_writer_without_room_for_a_page(rt: HostRuntime) -> Result<(), Fail> {
+    let mut room = [0; 10];
+    let done = write_page(rt.alloc(), &[] as &[TwsFile], &mut room.as_mut_slice());
+    assert_eq!(rt; (done, &room), (Err(OutFault::Io), b"<!DOCTYPE "));
     Ok(())
 }
