@@ -252,7 +252,7 @@ def outgrows(name, fitting, more, *words):
     os.makedirs(folder)
     first, second, small = file("first.tws", *fitting), file("second.tws", *more), file("small.tws", record(1, b"TINY"))
     kept = loaded(first)
-    refused = (4, b"tws: transfer failed: refused 0\n")
+    refused = (4, b"tws: transfer failed: refused 0\ntws: the server says: not kept\n")
 
     def served(server):
         status, _, took = server.get()
@@ -308,7 +308,7 @@ def a_full_disk_loses_nothing():
             if mounted:
                 with open(filler, "wb") as full:
                     full.write(b"\0" * 600_000)
-            check("a put on a full disk", server.put(second)[:2] == (4, b"tws: transfer failed: refused 0\n"))
+            check("a put on a full disk", server.put(second)[:2] == (4, b"tws: transfer failed: refused 0\ntws: the server says: not kept\n"))
             check("a get on a full disk", server.get()[0] == 0 and loaded(os.path.join(FOLDER, "got")) == loaded(first))
             if mounted:
                 os.remove(filler)

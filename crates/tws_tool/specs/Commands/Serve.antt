@@ -13,9 +13,9 @@ use Rattle.tws_tool.specs.declared.commands.serve.ServeArguments.{ServeArguments
 use Rattle.tws_tool.specs.declared.limits.TheConstants.{PER_HOST, TURNS}
 use Rattle.tws_tool.specs.declared.tool_fault.ToolFault.{ToolFault}
 use Rattle.tws_tool.specs.declared.tool_fault.ToolFault.TheVariants.{Socket}
-use Rattle.tws_tool.specs.Address.{IsAddress}
+use Rattle.tws_tool.specs.Address.{IsAddress, IsNoAddress}
 use Rattle.tws_tool.specs.Arguments.{HasNumber, NumberOption, number_rule, port_option}
-use Rattle.tws_tool.specs.Lines.{IsNoAddress, LineFails, serving_line, taken_line}
+use Rattle.tws_tool.specs.Lines.{LineFails, serving_line, taken_line}
 
 abbrev pub serve_name : Text
 serve_name = codes "serve"
