@@ -8,169 +8,15 @@ import resource
 import shutil
 import signal
 import socket
-import struct
 import subprocess
 import sys
-import threading
 import time
 
-PROGRAM, FOLDER = sys.argv[1], sys.argv[2]
-HEADER = bytes.fromhex("35339B9901000000")
-ACK_0 = b"\0\4\0\0"
-LAST_PORT = [46000]
-counts = {True: 0, False: 0}
-processes = []
 
-
-def check(name, holds):
-    counts[bool(holds)] += 1
-    if not holds:
-        print(f"check failed: {name}", flush=True)
-
-
-def record(level, password=b"BDHP", ticks=100, moves=b""):
-    body = struct.pack("<H4sBBII", level, password, 0, 0, 0, ticks) + moves
-    return struct.pack("<I", len(body)) + body
-
-
-def file(name, *records):
-    path = os.path.join(FOLDER, name)
-    with open(path, "wb") as out:
-        out.write(HEADER + b"".join(records))
-    return path
-
-
-def end(host="127.0.0.1", wait=10):
-    opened = socket.socket(socket.AF_INET, socket.SOCK_DGRAM)
-    opened.setsockopt(socket.SOL_SOCKET, socket.SO_RCVBUF, 1 << 20)
-    opened.bind((host, 0))
-    opened.settimeout(wait)
-    return opened
-
-
-def request(code, name):
-    return struct.pack(">H", code) + name + b"\0octet\0"
-
-
-WRQ, RRQ = request(2, b"a.tws"), request(1, b"lynx.tws")
-
-
-def run(*words, **settings):
-    process = subprocess.Popen([PROGRAM, *map(str, words)], stdin=subprocess.DEVNULL, stdout=subprocess.PIPE, stderr=subprocess.PIPE, **settings)
-    processes.append(process)
-    return process
-
-
-def done(process, seconds=100):
-    """Its status and all that it printed, and how long it took from now; status None if it did not end in time."""
-    began = time.monotonic()
-    try:
-        out, errors = process.communicate(timeout=seconds)
-        return process.returncode, out + errors, time.monotonic() - began
-    except subprocess.TimeoutExpired:
-        process.kill()
-        return None, b"", time.monotonic() - began
-
-
-class Server:
-    def __init__(self, *words, **settings):
-        while True:
-            LAST_PORT[0] += 1
-            self.port = LAST_PORT[0]
-            self.process = run("serve", "--port", self.port, *words, **settings)
-            if self.process.stdout.readline() == b"serving on port %d\n" % self.port:
-                return
-            self.process.wait()
-
-    def __enter__(self):
-        return self
-
-    def __exit__(self, *_):
-        self.process.kill()
-        self.process.wait()
-
-    def put(self, path):
-        return done(run("put", "127.0.0.1", path, "--port", self.port))
-
-    def get(self, name="got"):
-        return done(run("get", "127.0.0.1", "lynx", os.path.join(FOLDER, name), "--port", self.port))
-
-    def send(self, own, bytes_to_send):
-        own.sendto(bytes_to_send, ("127.0.0.1", self.port))
-
-    def begin(self, own, what):
-        """Sends a request, and returns the first answer and the port of the transfer."""
-        self.send(own, what)
-        answer, (_, port) = own.recvfrom(2000)
-        return answer, port
-
-
-def stop(process):
-    """Stops a process, and waits until it stands still."""
-    process.send_signal(signal.SIGSTOP)
-    while True:
-        with open(f"/proc/{process.pid}/stat") as status:
-            if status.read().rsplit(")", 1)[1].split()[0] == "T":
-                return
-        time.sleep(0.001)
-
-
-def drain(own):
-    """Reads all that has arrived."""
-    wait = own.gettimeout()
-    own.settimeout(0)
-    try:
-        while True:
-            own.recv(2000)
-    except OSError:
-        own.settimeout(wait)
-
-
-def sockets_of(pid):
-    """The UDP ports that a process has open."""
-    inodes = set()
-    for name in os.listdir(f"/proc/{pid}/fd"):
-        try:
-            target = os.readlink(f"/proc/{pid}/fd/{name}")
-        except OSError:
-            continue
-        if target.startswith("socket:["):
-            inodes.add(target[8:-1])
-    with open("/proc/net/udp") as table:
-        rows = [line.split() for line in table.readlines()[1:]]
-    return {int(row[1].split(":")[1], 16) for row in rows if row[9] in inodes}
-
-
-class Flood:
-    """Sends junk to a port from several ends, so many datagrams a second, until it is left."""
-
-    def __init__(self, port, rate, hosts=("127.0.0.2",), ends=50, junk=b"\0\7junk"):
-        self.ends = [end(hosts[k % len(hosts)]) for k in range(ends)]
-        self.port, self.rate, self.junk = port, rate, junk
-        self.over = threading.Event()
-        self.sent = 0
-        self.thread = threading.Thread(target=self.flood, daemon=True)
-
-    def flood(self):
-        began = time.monotonic()
-        while not self.over.is_set():
-            while self.sent < (time.monotonic() - began) * self.rate:
-                try:
-                    self.ends[self.sent % len(self.ends)].sendto(self.junk, ("127.0.0.1", self.port))
-                except OSError:
-                    pass
-                self.sent += 1
-            time.sleep(0.0005)
-
-    def __enter__(self):
-        self.thread.start()
-        return self
-
-    def __exit__(self, *_):
-        self.over.set()
-        self.thread.join()
-        for own in self.ends:
-            own.close()
+from attacking import (
+    FOLDER, Flood, HEADER, RRQ, Server, WRQ, check, counts, done, drain, end, file, loaded, memory_of, processes,
+    record, request, run, sent_but_for_the_last, sockets_of, stop,
+)
 
 
 # ---- the rows
@@ -306,23 +152,6 @@ def floods_slow_gets_down_no_more_than_threefold():
         flooded("the request port", lambda process: server.port)
 
 
-def sent_but_for_the_last(server, text):
-    """Puts all blocks of a file but the last one, one after another, and leaves the transfer there."""
-    own = end()
-    port = server.begin(own, WRQ)[1]
-    own.connect(("127.0.0.1", port))
-    for n in range(1, len(text) // 512 + 1):
-        own.send(struct.pack(">HH", 3, n) + text[512 * (n - 1):512 * n])
-        own.recv(600)
-    return own
-
-
-def memory_of(pid):
-    """The most memory that a process has had, in bytes."""
-    with open(f"/proc/{pid}/status") as status:
-        return next(int(line.split()[1]) * 1024 for line in status if line.startswith("VmHWM"))
-
-
 def uploads_cost_their_bytes():
     """Uploads of pads, four bytes a record, take no more memory than the bytes that were received."""
     text = HEADER + b"\0" * (33_553_919 - len(HEADER))
@@ -416,11 +245,6 @@ def drafts_that_are_no_files():
         check("nothing is written through a link", left.read() == b"other")
 
 
-def loaded(path):
-    with open(path, "rb") as text:
-        return text.read()
-
-
 def outgrows(name, fitting, more, *words):
     """A put that would make a collection longer than the limit is refused. What was there is served, also after a restart,
     and a put that fits is kept."""
@@ -428,7 +252,7 @@ def outgrows(name, fitting, more, *words):
     os.makedirs(folder)
     first, second, small = file("first.tws", *fitting), file("second.tws", *more), file("small.tws", record(1, b"TINY"))
     kept = loaded(first)
-    refused = (4, b"tws: transfer failed: refused 0\n")
+    refused = (4, b"tws: transfer failed: refused 0\ntws: the server says: not kept\n")
 
     def served(server):
         status, _, took = server.get()
@@ -484,7 +308,7 @@ def a_full_disk_loses_nothing():
             if mounted:
                 with open(filler, "wb") as full:
                     full.write(b"\0" * 600_000)
-            check("a put on a full disk", server.put(second)[:2] == (4, b"tws: transfer failed: refused 0\n"))
+            check("a put on a full disk", server.put(second)[:2] == (4, b"tws: transfer failed: refused 0\ntws: the server says: not kept\n"))
             check("a get on a full disk", server.get()[0] == 0 and loaded(os.path.join(FOLDER, "got")) == loaded(first))
             if mounted:
                 os.remove(filler)

@@ -6,7 +6,7 @@ use Rattle.tws_tool.specs.declared.tool_fault.ToolFault.{ToolFault}
 use Rattle.tws_tool.specs.declared.tool_fault.ToolFault.TheVariants.{Read, Write, Unreadable, Memory, Socket, Transfer}
 use Rattle.tws_tool.specs.Faults.{IsReadOut, answer_status, status_of}
 use Rattle.tws_tool.specs.Lines.{Says, Transfers, Unsaid}
-use Rattle.tws_tool.specs.Written.{Ran, Writes, WriteFails}
+use Rattle.tws_tool.specs.Written.{FileRan, Ran, Writes, WriteFails}
 
 -- what a command of one input did, by the exit status
 pub ran : (text : File → List ℕ) (r : Result (Unit {0}) ToolFault) (known left old new : Option (List ℕ)) →
@@ -58,6 +58,17 @@ ran text (Err Memory) known left old new end out writes fails =
     }
 ran text (Err Socket) known left old new end out writes fails = absurd fails
 ran text (Err (Transfer why)) known left old new end out writes fails = absurd fails
+
+-- the same over a file that is opened by its name
+pub file_ran : (text : File → List ℕ) (status : ℕ) (known left old new : Option (List ℕ)) → Ran text status known left old new → FileRan text status known old new
+file_ran text status known left old new ran =
+    record {
+      done = λ e. (ran.done e).1;
+      failed = ran.failed;
+      unreadable = λ e. ((ran.unreadable e).1, (ran.unreadable e).2);
+      never = ran.never;
+      few = ran.few;
+    }
 
 -- ---- by the exit status
 

@@ -385,7 +385,8 @@ fn serve_at<
     }
 }
 
-// The host of the address that was given; 0, which is every address of this host, if none was. `None` if it is none.
+// The host of the address that was given; 0, which is every address of this host, if none was. `None` if what was given
+// is no address.
 fn host_given(address: &Option<String>) -> Option<u32>
     ensures some { IfSome result (HasHost (option_map string_bytes address.now)) }
     ensures none { IfNone result (IsNoHost (option_map string_bytes address.now)) }
