@@ -1,6 +1,7 @@
 use Rattle.std.proofs.Common.{rules, refl, ◌≡◌, ◌∙◌, ℕ, List, Option, ap, sym, subst, string_bytes}
 use Rattle.tws_tool.specs.declared.source.Source.{Source}
 use Rattle.tws_tool.specs.Commands.Show.{shown_text}
+use Rattle.tws_tool.specs.Faults.{answer_status}
 use Rattle.tws_tool.specs.Written.{FileRan, RanFrom}
 use Rattle.tws_tool.proofs.Statuses.{file_ran, ran}
 use Rattle.tws_tool.proofs.commands.show.run.Goals as goal
@@ -16,6 +17,9 @@ returns-in-Ok-clause-ran g c =
     let shown = c.show_input-done.ensures in
     let name : c.as_str.result.now ≡ string_bytes c.in-Named.name = search rules in
     let known : g.S.File.Read.remaining c.in-Ok.file ≡ bytes_of (string_bytes c.in-Named.name) = c.in-Ok.ensures ∙ ap bytes_of name in
-    let whole = file_ran text c.finish-in-Ok.result _ _ old new (subst (λ (n : ℕ). _) (sym c.finish-in-Ok.ensures.status) (ran text done _ _ old new shown.end shown.unreadable shown.shown shown.fails)) in
+    let had = g.S.File.Read.remaining c.in-Ok.file in
+    let left = g.S.File.Read.remaining c.show_input-done.new.input in
+    let whole = subst (λ (n : ℕ). FileRan text n had old new) (sym c.finish-in-Ok.ensures.status)
+    (file_ran text (answer_status done) had left old new (ran text done had left old new shown.end shown.unreadable shown.shown shown.fails)) in
     subst (λ (s : Source). RanFrom s bytes_of (c.args.input.now ≡ c.args.input.now) text c.finish-in-Ok.result given given old new) (sym c.in-Named.is)
     (refl, subst (λ (k : Option (List ℕ)). FileRan text c.finish-in-Ok.result k old new) known whole)
