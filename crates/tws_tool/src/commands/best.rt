@@ -29,12 +29,17 @@ pub struct BestArguments {
     pub files: Vec<String>,
 }
 
+// What the help of the command ends with.
+const HELP: &str =
+    "The best has the fewest ticks. The collection goes to standard output.\n\nExample: tws best lynx mine.tws yours.tws > best.tws";
+
 pub(crate) fn command<'a>(alloc: Global, names: &'a [&'a str]) -> Result<Command<'a>, AllocError>
     ensures app { IfOk result (λ command. app_of command ≡ best_app names.entry) }
     ensures local { IfOk result (λ command. (out-Command command).has_globals ≡ false) }
 {
     Command::new(alloc, "best")
         .about("Write the best solution of each level of several files")
+        .after_help(HELP)
         .arg(ruleset_argument(alloc, names))?
         .arg(files_argument(alloc))
 }

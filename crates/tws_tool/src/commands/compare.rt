@@ -54,6 +54,10 @@ fn theirs_argument<'a>(alloc: Global) -> Arg<'a>
         .help("The solution file to compare it with")
 }
 
+// What the help of the command ends with.
+const HELP: &str =
+    "Writes a line for each level number and password, and one with their counts.\n\nExample: tws compare mine.tws lynx.tws";
+
 pub(crate) fn command<'a>(alloc: Global) -> Result<Command<'a>, AllocError>
     ensures app { IfOk result (λ command. app_of command ≡ compare_app) }
     ensures local { IfOk result (λ command. (out-Command command).has_globals ≡ false) }
@@ -64,6 +68,7 @@ pub(crate) fn command<'a>(alloc: Global) -> Result<Command<'a>, AllocError>
         .help("Write your solutions that are better or new, as a solution file");
     Command::new(alloc, "compare")
         .about("Compare the best solutions of two solution files")
+        .after_help(HELP)
         .arg(mine_argument(alloc))?
         .arg(theirs_argument(alloc))?
         .arg(better)

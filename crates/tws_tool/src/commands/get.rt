@@ -39,12 +39,17 @@ pub struct GetArguments {
     pub target: Target,
 }
 
+// What the help of the command ends with.
+const HELP: &str =
+    "A file that is there stays as it is until the whole collection has come.\n\nExample: tws get 192.0.2.1 lynx best.tws";
+
 pub(crate) fn command<'a>(alloc: Global, names: &'a [&'a str]) -> Result<Command<'a>, AllocError>
     ensures app { IfOk result (λ command. app_of command ≡ get_app names.entry) }
     ensures local { IfOk result (λ command. (out-Command command).has_globals ≡ false) }
 {
     Command::new(alloc, "get")
         .about("Fetch an archive's collection")
+        .after_help(HELP)
         .arg(address_argument(alloc))?
         .arg(ruleset_argument(alloc, names))?
         .arg(file_argument(alloc, "The file to write"))?

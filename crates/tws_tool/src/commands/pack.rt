@@ -29,12 +29,17 @@ pub struct PackArguments {
     pub source: Source,
 }
 
+// What the help of the command ends with.
+const HELP: &str =
+    "Nothing but the bytes of the moves changes. The file goes to standard output.\n\nExample: tws pack mine.tws > packed.tws";
+
 pub(crate) fn command<'a>(alloc: Global) -> Result<Command<'a>, AllocError>
     ensures app { IfOk result (λ command. app_of command ≡ pack_app) }
     ensures local { IfOk result (λ command. (out-Command command).has_globals ≡ false) }
 {
     Command::new(alloc, "pack")
         .about("Write a solution file with its moves in the fewest bytes")
+        .after_help(HELP)
         .arg(source_argument(alloc))
 }
 

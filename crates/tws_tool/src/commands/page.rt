@@ -28,12 +28,17 @@ pub struct PageArguments {
     pub files: Vec<String>,
 }
 
+// What the help of the command ends with.
+const HELP: &str =
+    "The page needs no other file. It goes to standard output.\n\nExample: tws page lynx.tws ms.tws > best.html";
+
 pub(crate) fn command<'a>(alloc: Global) -> Result<Command<'a>, AllocError>
     ensures app { IfOk result (λ command. app_of command ≡ page_app) }
     ensures local { IfOk result (λ command. (out-Command command).has_globals ≡ false) }
 {
     Command::new(alloc, "page")
         .about("Write the solutions of several files as a page of HTML")
+        .after_help(HELP)
         .arg(files_argument(alloc))
 }
 

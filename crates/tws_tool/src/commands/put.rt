@@ -43,12 +43,17 @@ pub struct PutArguments {
     pub target: Target,
 }
 
+// What the help of the command ends with.
+const HELP: &str =
+    "The archive takes the whole file, and keeps what is better than what it has.\n\nExample: tws put 192.0.2.1 mine.tws";
+
 pub(crate) fn command<'a>(alloc: Global) -> Result<Command<'a>, AllocError>
     ensures app { IfOk result (λ command. app_of command ≡ put_app) }
     ensures local { IfOk result (λ command. (out-Command command).has_globals ≡ false) }
 {
     Command::new(alloc, "put")
         .about("Send a solution file to an archive")
+        .after_help(HELP)
         .arg(address_argument(alloc))?
         .arg(file_argument(alloc, "The solution file"))?
         .arg(port_argument(alloc))

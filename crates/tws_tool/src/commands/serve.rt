@@ -110,11 +110,16 @@ fn numbers_command<'a>(alloc: Global) -> Result<Command<'a>, AllocError>
 {
     Command::new(alloc, "serve")
         .about("Serve the archive by TFTP")
+        .after_help(HELP)
         .arg(port_argument(alloc))?
         .arg(turns_argument(alloc))?
         .arg(per_host_argument(alloc))?
         .arg(limit_argument(alloc))
 }
+
+// What the help of the command ends with.
+const HELP: &str =
+    "Takes files that are sent, and serves lynx.tws and ms.tws, until it is stopped.\n\nExample: tws serve --dir /var/lib/tws";
 
 pub(crate) fn command<'a>(alloc: Global) -> Result<Command<'a>, AllocError>
     ensures app { IfOk result (λ command. app_of command ≡ serve_app) }

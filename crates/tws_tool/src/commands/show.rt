@@ -55,12 +55,17 @@ fn csv_argument<'a>(alloc: Global) -> Arg<'a>
         .help("The solutions as comma-separated values, with the number of moves of each")
 }
 
+// What the help of the command ends with.
+const HELP: &str =
+    "Writes a line for the header, one for each record, and one for their number.\n\nExample: tws show --moves mine.tws";
+
 pub(crate) fn command<'a>(alloc: Global) -> Result<Command<'a>, AllocError>
     ensures app { IfOk result (λ command. app_of command ≡ show_app) }
     ensures local { IfOk result (λ command. (out-Command command).has_globals ≡ false) }
 {
     Command::new(alloc, "show")
         .about("List a solution file")
+        .after_help(HELP)
         .arg(source_argument(alloc))?
         .arg(moves_argument(alloc))?
         .arg(csv_argument(alloc))

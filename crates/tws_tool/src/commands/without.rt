@@ -60,12 +60,17 @@ fn password_argument<'a>(alloc: Global) -> Arg<'a>
         .help("The password of the level, four letters")
 }
 
+// What the help of the command ends with.
+const HELP: &str =
+    "Everything else stays as it is. The file goes to standard output.\n\nExample: tws without 1 BDHP lynx.tws > mended.tws";
+
 pub(crate) fn command<'a>(alloc: Global) -> Result<Command<'a>, AllocError>
     ensures app { IfOk result (λ command. app_of command ≡ without_app) }
     ensures local { IfOk result (λ command. (out-Command command).has_globals ≡ false) }
 {
     Command::new(alloc, "without")
         .about("Write a solution file without the solutions of a level")
+        .after_help(HELP)
         .arg(level_argument(alloc))?
         .arg(password_argument(alloc))?
         .arg(source_argument(alloc))
