@@ -2,7 +2,8 @@
 
 ghost use Rattle.std.specs.Prelude.{◌≡◌, ◌≢◌, ℕ, false, Some, None, IfOk, IfSome, IfNone, map, option_map, string_bytes, codes};
 ghost use Rattle.clap.specs.Matches.{found_of};
-ghost use Rattle.clap.specs.Words.{rows_of, rule_of, first_of};
+ghost use Rattle.clap.specs.declared.builder.command.Command.TheViews.{out-Command};
+ghost use Rattle.clap.specs.Words.{app_of, new_app, rows_of, rule_of, first_of};
 ghost use Rattle.tws_file.specs.Listing.{ruleset_name};
 ghost use Rattle.tws_tool.specs.Arguments.{AreRulesetNames, Answers, HasFiles, HasNumber, HasRuleset, HasSource, HasTarget, IsNumberUpTo, IsNumberOr, address_rule, file_rule, files_rule, number_rule, port_option, ruleset_rule, source_rule};
 
@@ -10,7 +11,7 @@ use crate::limits::{MAX_PORT, PORT};
 use crate::source::Source;
 use crate::target::Target;
 use clap::builder::ValueParser;
-use clap::{Arg, ArgMatches};
+use clap::{Arg, ArgMatches, Command};
 use std::alloc::{AllocError, Global};
 use tws_file::Ruleset;
 
@@ -21,6 +22,19 @@ pub(crate) fn ruleset_names() -> &'static [&'static str]
     ensures { AreRulesetNames result }
 {
     &RULESETS
+}
+
+/// A command without arguments: what its help begins and ends with.
+pub(crate) fn new_command<'a>(
+    alloc: Global,
+    name: &'a str,
+    about: &'a str,
+    more: &'a str,
+) -> Command<'a>
+    ensures app { app_of result ≡ new_app name.now }
+    ensures local { (out-Command result).has_globals ≡ false }
+{
+    Command::new(alloc, name).about(about).after_help(more)
 }
 
 // ---- the arguments

@@ -9,7 +9,7 @@ ghost use Rattle.clap.specs.declared.builder.command.Command.TheViews.{out-Comma
 ghost use Rattle.tws_tool.specs.Arguments.{Answers};
 ghost use Rattle.tws_tool.specs.Commands.Best.{AsksForBest, Collects, CollectFails, AreReadOut, BestWrites, BestFails, BestRan, best_app};
 
-use crate::arguments::{files_argument, files_given, ruleset_argument, ruleset_given};
+use crate::arguments::{files_argument, files_given, new_command, ruleset_argument, ruleset_given};
 use crate::file_system::{FileSystem, NotOpened, open_all};
 use crate::input::read_input;
 use crate::reporting::{finish, report, report_file};
@@ -29,7 +29,9 @@ pub struct BestArguments {
     pub files: Vec<String>,
 }
 
-// What the help of the command ends with.
+// What the help of the command begins and ends with.
+const ABOUT: &str = "Write the best solution of each level of several files";
+
 const HELP: &str =
     "The best has the fewest ticks. The collection goes to standard output.\n\nExample: tws best lynx mine.tws yours.tws > best.tws";
 
@@ -37,9 +39,7 @@ pub(crate) fn command<'a>(alloc: Global, names: &'a [&'a str]) -> Result<Command
     ensures app { IfOk result (λ command. app_of command ≡ best_app names.entry) }
     ensures local { IfOk result (λ command. (out-Command command).has_globals ≡ false) }
 {
-    Command::new(alloc, "best")
-        .about("Write the best solution of each level of several files")
-        .after_help(HELP)
+    new_command(alloc, "best", ABOUT, HELP)
         .arg(ruleset_argument(alloc, names))?
         .arg(files_argument(alloc))
 }

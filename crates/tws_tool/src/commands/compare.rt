@@ -9,7 +9,7 @@ ghost use Rattle.tws_tool.specs.Arguments.{Answers};
 ghost use Rattle.tws_tool.specs.Commands.Compare.{AsksToCompare, CompareFails, CompareRan, Compares, ComparesFiles, FilesFail, compare_app, compare_status, mine_rule, theirs_rule};
 ghost use Rattle.tws_tool.specs.Faults.{status_of};
 
-use crate::arguments::string_given;
+use crate::arguments::{new_command, string_given};
 use crate::file_system::FileSystem;
 use crate::input::read_input;
 use crate::reporting::{report, report_file};
@@ -54,7 +54,9 @@ fn theirs_argument<'a>(alloc: Global) -> Arg<'a>
         .help("The solution file to compare it with")
 }
 
-// What the help of the command ends with.
+// What the help of the command begins and ends with.
+const ABOUT: &str = "Compare the best solutions of two solution files";
+
 const HELP: &str =
     "Writes a line for each level number and password, and one with their counts.\n\nExample: tws compare mine.tws lynx.tws";
 
@@ -66,9 +68,7 @@ pub(crate) fn command<'a>(alloc: Global) -> Result<Command<'a>, AllocError>
         .long("better")
         .action(ArgAction::SetTrue)
         .help("Write your solutions that are better or new, as a solution file");
-    Command::new(alloc, "compare")
-        .about("Compare the best solutions of two solution files")
-        .after_help(HELP)
+    new_command(alloc, "compare", ABOUT, HELP)
         .arg(mine_argument(alloc))?
         .arg(theirs_argument(alloc))?
         .arg(better)

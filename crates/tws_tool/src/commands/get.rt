@@ -11,7 +11,8 @@ ghost use Rattle.tws_tool.specs.Lines.{Unless};
 
 use crate::address::locate;
 use crate::arguments::{
-    address_argument, file_argument, port_argument, ruleset_argument, ruleset_given, target_given,
+    address_argument, file_argument, new_command, port_argument, ruleset_argument, ruleset_given,
+    target_given,
 };
 use crate::file_system::FileSystem;
 use crate::limits::ROUNDS;
@@ -39,7 +40,9 @@ pub struct GetArguments {
     pub target: Target,
 }
 
-// What the help of the command ends with.
+// What the help of the command begins and ends with.
+const ABOUT: &str = "Fetch an archive's collection";
+
 const HELP: &str =
     "A file that is there stays as it is until the whole collection has come.\n\nExample: tws get 192.0.2.1 lynx best.tws";
 
@@ -47,9 +50,7 @@ pub(crate) fn command<'a>(alloc: Global, names: &'a [&'a str]) -> Result<Command
     ensures app { IfOk result (λ command. app_of command ≡ get_app names.entry) }
     ensures local { IfOk result (λ command. (out-Command command).has_globals ≡ false) }
 {
-    Command::new(alloc, "get")
-        .about("Fetch an archive's collection")
-        .after_help(HELP)
+    new_command(alloc, "get", ABOUT, HELP)
         .arg(address_argument(alloc))?
         .arg(ruleset_argument(alloc, names))?
         .arg(file_argument(alloc, "The file to write"))?

@@ -10,7 +10,7 @@ ghost use Rattle.tws_tool.specs.Commands.Pack.{AsksToPack, PackRan, pack_app};
 ghost use Rattle.tws_tool.specs.Faults.{IsReadOut};
 ghost use Rattle.tws_tool.specs.Written.{Writes, WriteFails};
 
-use crate::arguments::{source_argument, source_given};
+use crate::arguments::{new_command, source_argument, source_given};
 use crate::file_system::FileSystem;
 use crate::input::read_input;
 use crate::reporting::{finish, report_file};
@@ -29,7 +29,9 @@ pub struct PackArguments {
     pub source: Source,
 }
 
-// What the help of the command ends with.
+// What the help of the command begins and ends with.
+const ABOUT: &str = "Write a solution file with its moves in the fewest bytes";
+
 const HELP: &str =
     "Nothing but the bytes of the moves changes. The file goes to standard output.\n\nExample: tws pack mine.tws > packed.tws";
 
@@ -37,10 +39,7 @@ pub(crate) fn command<'a>(alloc: Global) -> Result<Command<'a>, AllocError>
     ensures app { IfOk result (λ command. app_of command ≡ pack_app) }
     ensures local { IfOk result (λ command. (out-Command command).has_globals ≡ false) }
 {
-    Command::new(alloc, "pack")
-        .about("Write a solution file with its moves in the fewest bytes")
-        .after_help(HELP)
-        .arg(source_argument(alloc))
+    new_command(alloc, "pack", ABOUT, HELP).arg(source_argument(alloc))
 }
 
 pub(crate) fn asked(alloc: Global, words: &ArgMatches) -> Result<PackArguments, AllocError>

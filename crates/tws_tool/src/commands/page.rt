@@ -10,7 +10,7 @@ ghost use Rattle.tws_tool.specs.Commands.Best.{AreReadOut, CollectFails};
 ghost use Rattle.tws_tool.specs.Commands.Page.{AreFiles, AsksForPage, PageFails, PageRan, PageWrites, page_app};
 ghost use Rattle.tws_tool.specs.Faults.{IsBeforeOutput};
 
-use crate::arguments::{files_argument, files_given};
+use crate::arguments::{files_argument, files_given, new_command};
 use crate::file_system::{FileSystem, NotOpened, open_all};
 use crate::input::read_input;
 use crate::reporting::{finish, report, report_file};
@@ -28,7 +28,9 @@ pub struct PageArguments {
     pub files: Vec<String>,
 }
 
-// What the help of the command ends with.
+// What the help of the command begins and ends with.
+const ABOUT: &str = "Write the solutions of several files as a page of HTML";
+
 const HELP: &str =
     "The page needs no other file. It goes to standard output.\n\nExample: tws page lynx.tws ms.tws > best.html";
 
@@ -36,10 +38,7 @@ pub(crate) fn command<'a>(alloc: Global) -> Result<Command<'a>, AllocError>
     ensures app { IfOk result (λ command. app_of command ≡ page_app) }
     ensures local { IfOk result (λ command. (out-Command command).has_globals ≡ false) }
 {
-    Command::new(alloc, "page")
-        .about("Write the solutions of several files as a page of HTML")
-        .after_help(HELP)
-        .arg(files_argument(alloc))
+    new_command(alloc, "page", ABOUT, HELP).arg(files_argument(alloc))
 }
 
 pub(crate) fn asked(alloc: Global, words: &ArgMatches) -> Result<PageArguments, AllocError>

@@ -16,7 +16,7 @@ ghost use Rattle.tws_tool.specs.Faults.{IsReadOut, run_fault};
 ghost use Rattle.tws_tool.specs.Lines.{Unless};
 
 use crate::address::locate;
-use crate::arguments::{address_argument, file_argument, port_argument, target_given};
+use crate::arguments::{address_argument, file_argument, new_command, port_argument, target_given};
 use crate::file_system::FileSystem;
 use crate::input::INPUT_READS;
 use crate::limits::ROUNDS;
@@ -43,7 +43,9 @@ pub struct PutArguments {
     pub target: Target,
 }
 
-// What the help of the command ends with.
+// What the help of the command begins and ends with.
+const ABOUT: &str = "Send a solution file to an archive";
+
 const HELP: &str =
     "The archive takes the whole file, and keeps what is better than what it has.\n\nExample: tws put 192.0.2.1 mine.tws";
 
@@ -51,9 +53,7 @@ pub(crate) fn command<'a>(alloc: Global) -> Result<Command<'a>, AllocError>
     ensures app { IfOk result (λ command. app_of command ≡ put_app) }
     ensures local { IfOk result (λ command. (out-Command command).has_globals ≡ false) }
 {
-    Command::new(alloc, "put")
-        .about("Send a solution file to an archive")
-        .after_help(HELP)
+    new_command(alloc, "put", ABOUT, HELP)
         .arg(address_argument(alloc))?
         .arg(file_argument(alloc, "The solution file"))?
         .arg(port_argument(alloc))

@@ -10,7 +10,7 @@ ghost use Rattle.tws_tool.specs.Faults.{answer_status};
 ghost use Rattle.tws_tool.specs.Commands.Serve.{ArePassesFor, AsksToServe, HasHost, IsNoHost, MakesPasses, ServeFails, ServeRan, ServeStops, Served, Serves, bound_rule, count_of, dir_rule, limit_option, numbers_app, pass_of, per_host_option, serve_app, turns_option};
 
 use crate::address::Address;
-use crate::arguments::{number_given, port_argument, port_given, string_given};
+use crate::arguments::{new_command, number_given, port_argument, port_given, string_given};
 use crate::limits::{PER_HOST, TURNS};
 use crate::line::write_line;
 use crate::reporting::{bad_address, finish};
@@ -108,16 +108,16 @@ fn numbers_command<'a>(alloc: Global) -> Result<Command<'a>, AllocError>
     ensures app { IfOk result (λ command. app_of command ≡ numbers_app) }
     ensures local { IfOk result (λ command. (out-Command command).has_globals ≡ false) }
 {
-    Command::new(alloc, "serve")
-        .about("Serve the archive by TFTP")
-        .after_help(HELP)
+    new_command(alloc, "serve", ABOUT, HELP)
         .arg(port_argument(alloc))?
         .arg(turns_argument(alloc))?
         .arg(per_host_argument(alloc))?
         .arg(limit_argument(alloc))
 }
 
-// What the help of the command ends with.
+// What the help of the command begins and ends with.
+const ABOUT: &str = "Serve the archive by TFTP";
+
 const HELP: &str =
     "Takes files that are sent, and serves lynx.tws and ms.tws, until it is stopped.\n\nExample: tws serve --dir /var/lib/tws";
 

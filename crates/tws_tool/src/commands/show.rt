@@ -11,7 +11,7 @@ ghost use Rattle.tws_tool.specs.Commands.Show.{AsksToShow, ShowRan, csv_rule, mo
 ghost use Rattle.tws_tool.specs.Faults.{IsBeforeOutput, IsReadOut};
 ghost use Rattle.tws_tool.specs.Written.{Writes, WriteFails};
 
-use crate::arguments::{source_argument, source_given};
+use crate::arguments::{new_command, source_argument, source_given};
 use crate::file_system::FileSystem;
 use crate::input::read_input;
 use crate::reporting::{finish, report_file};
@@ -55,7 +55,9 @@ fn csv_argument<'a>(alloc: Global) -> Arg<'a>
         .help("The solutions as comma-separated values, with the number of moves of each")
 }
 
-// What the help of the command ends with.
+// What the help of the command begins and ends with.
+const ABOUT: &str = "List a solution file";
+
 const HELP: &str =
     "Writes a line for the header, one for each record, and one for their number.\n\nExample: tws show --moves mine.tws";
 
@@ -63,9 +65,7 @@ pub(crate) fn command<'a>(alloc: Global) -> Result<Command<'a>, AllocError>
     ensures app { IfOk result (λ command. app_of command ≡ show_app) }
     ensures local { IfOk result (λ command. (out-Command command).has_globals ≡ false) }
 {
-    Command::new(alloc, "show")
-        .about("List a solution file")
-        .after_help(HELP)
+    new_command(alloc, "show", ABOUT, HELP)
         .arg(source_argument(alloc))?
         .arg(moves_argument(alloc))?
         .arg(csv_argument(alloc))

@@ -13,7 +13,9 @@ ghost use Rattle.tws_tool.specs.Commands.Without.{AsksForWithout, IsLevel, IsPas
 ghost use Rattle.tws_tool.specs.Faults.{IsReadOut};
 ghost use Rattle.tws_tool.specs.Written.{RanFrom, Writes, WriteFails};
 
-use crate::arguments::{number_up_to, source_argument, source_given, string_given, text_given};
+use crate::arguments::{
+    new_command, number_up_to, source_argument, source_given, string_given, text_given,
+};
 use crate::file_system::FileSystem;
 use crate::input::read_input;
 use crate::reporting::{finish, report_file};
@@ -60,7 +62,9 @@ fn password_argument<'a>(alloc: Global) -> Arg<'a>
         .help("The password of the level, four letters")
 }
 
-// What the help of the command ends with.
+// What the help of the command begins and ends with.
+const ABOUT: &str = "Write a solution file without the solutions of a level";
+
 const HELP: &str =
     "Everything else stays as it is. The file goes to standard output.\n\nExample: tws without 1 BDHP lynx.tws > mended.tws";
 
@@ -68,9 +72,7 @@ pub(crate) fn command<'a>(alloc: Global) -> Result<Command<'a>, AllocError>
     ensures app { IfOk result (λ command. app_of command ≡ without_app) }
     ensures local { IfOk result (λ command. (out-Command command).has_globals ≡ false) }
 {
-    Command::new(alloc, "without")
-        .about("Write a solution file without the solutions of a level")
-        .after_help(HELP)
+    new_command(alloc, "without", ABOUT, HELP)
         .arg(level_argument(alloc))?
         .arg(password_argument(alloc))?
         .arg(source_argument(alloc))
