@@ -1,4 +1,4 @@
-use Rattle.std.proofs.Common.{◌∙◌, ap, sym, codes}
+use Rattle.std.proofs.Common.{◌∙◌, sym, codes}
 use Rattle.clap.specs.Matches.{found_of}
 use Rattle.clap.proofs.WalkLemmas.{one_text-rows}
 use Rattle.tws_tool.proofs.commands.compare.asked.Goals as goal
