@@ -1,15 +1,15 @@
 -- What stands in the text of a password's cell.
-use Rattle.std.proofs.Common.{◌≡◌, ℕ, suc, ◌+◌, ◌<◌, ◌/◌, ◌%◌, ◌==◌, ◌||◌, Bool, true, false, List, [], ◌∷◌, ◌++◌, length, refl, sym, ◌∙◌, arith, append_assoc, append-nil}
+use Rattle.std.proofs.Common.{◌≡◌, ℕ, suc, ◌<◌, ◌/◌, ◌%◌, ◌==◌, Bool, true, false, List, [], ◌∷◌, ◌++◌, refl, sym, subst, inl, inr, ◌∙◌, arith, append_assoc, append-nil}
 use Rattle.std.specs.Prelude.{Contains, codes}
-use Rattle.std.specs.List.{flat_map, list_all, list_any}
+use Rattle.std.specs.List.{list_all, list_any}
 use Rattle.std.specs.Fmt.{digit_glyph}
-use Rattle.std.proofs.lemmas.Bool.{agree_below, agree_below_at, and_parts, cond_both, or_from, or_parts}
+use Rattle.std.proofs.lemmas.Bool.{agree_below, eqb-false, eqb-true, agree_below_at, and_parts, cond_both, or_from, or_parts}
 use Rattle.std.proofs.lemmas.Bool.Decides.{nat_tests}
 use Rattle.std.proofs.lemmas.List.Folds.{list_any-append}
 use Rattle.std.proofs.lemmas.Str.{encode_ascii}
 use Rattle.byte_output.specs.Bytes.{IsBytes}
-use Rattle.tws_file.specs.Listing.{hex, hex_byte}
-use Rattle.tws_tables.specs.Escaping.{BeginsReference, escaped, escaped_char, is_mark, is_printable, references, shown_password}
+use Rattle.tws_file.specs.Listing.{hex}
+use Rattle.tws_tables.specs.Escaping.{BeginsReference, IsReference, Shows, by_itself, by_reference, no_text, escaped, escaped_char, is_mark, is_printable, references, shown_password}
 
 -- `&`
 abbrev is_ampersand : ℕ → Bool
@@ -113,3 +113,35 @@ pub only_references : (password front rest : List ℕ) → IsBytes password → 
 unfolding AreReferences
 only_references password front rest fits is =
     (password_cell password fits).before [] (no_reference [] refl) front rest (append-nil (shown_password password) ∙ is)
+
+-- ---- what is shown
+
+-- wherever the text stands, it shows as the character
+ShowsAs : (char : ℕ) → List ℕ → Type 0
+ShowsAs char text = (more chars : List ℕ) → Shows more chars → Shows (text ++ more) (char ∷ chars)
+
+reference_shown : (name : List ℕ) (char : ℕ) (c : ℕ) → IsReference name char → (c == char) ≡ true → ShowsAs c name
+unfolding ShowsAs
+reference_shown name char c is same more chars shows =
+    let e : char ≡ c = sym (eqb-true c char same) in
+    subst (λ (d : ℕ). Shows (name ++ more) (d ∷ chars)) e (by_reference name char more chars is shows)
+
+char_shown : (c : ℕ) → is_printable c ≡ true → ShowsAs c (escaped_char c)
+unfolding ShowsAs
+char_shown c printable =
+    cond_both (c == 60) _ _ (ShowsAs c) (reference_shown (codes "&lt;") 60 c (inl (refl, refl)))
+    (λ less. cond_both (c == 62) _ _ (ShowsAs c) (reference_shown (codes "&gt;") 62 c (inr (inl (refl, refl))))
+    (λ greater. cond_both (c == 38) _ _ (ShowsAs c) (reference_shown (codes "&amp;") 38 c (inr (inr (inl (refl, refl)))))
+    (λ ampersand. cond_both (c == 34) _ _ (ShowsAs c) (reference_shown (codes "&quot;") 34 c (inr (inr (inr (inl (refl, refl))))))
+    (λ quote. cond_both (c == 39) _ _ (ShowsAs c) (reference_shown (codes "&#39;") 39 c (inr (inr (inr (inr (refl, refl))))))
+    (λ apostrophe. rw (encode_ascii c (printable_small c printable)) (λ more chars shows. by_itself c more chars (eqb-false c 38 ampersand) shows))))))
+
+chars_shown : (chars : List ℕ) → list_all is_printable chars ≡ true → Shows (escaped chars) chars
+unfolding ShowsAs
+chars_shown [] all = no_text
+chars_shown (c ∷ chars) all =
+    let parts = and_parts (is_printable c) (list_all is_printable chars) all in
+    char_shown c parts.0 (escaped chars) chars (chars_shown chars parts.1)
+
+pub shown_as_itself : (password : List ℕ) → list_all is_printable password ≡ true → Shows (shown_password password) password
+shown_as_itself password all = rw all (chars_shown password all)

@@ -1,5 +1,5 @@
 -- The rows of records, as the lines of a list.
-use Rattle.std.proofs.Common.{◌≡◌, ◌≢◌, ℕ, ◌+◌, ◌<◌, ◌≤◌, List, [], ◌∷◌, ◌++◌, length, take, get_or, ap, sym, ◌∙◌, arith, append-nil, length-append, refl}
+use Rattle.std.proofs.Common.{◌≡◌, ◌≢◌, ℕ, ◌+◌, ◌<◌, List, [], ◌∷◌, ◌++◌, length, take, get_or, ap, sym, ◌∙◌, arith, append-nil, length-append, refl}
 use Rattle.std.specs.Prelude.{codes}
 use Rattle.std.specs.List.{flat_map, join_with_byte}
 use Rattle.std.proofs.lemmas.List.{map-append, take_more}
@@ -7,7 +7,7 @@ use Rattle.std.proofs.lemmas.List.Concat.{flat_map-append}
 use Rattle.tws_file.specs.declared.record.Record as stored
 use Rattle.tws_file.specs.Listing.{line}
 use Rattle.tws_file.specs.Record.{record_of, records_of}
-use Rattle.tws_file.specs.Text.{Record, Solution, pad, set, bare, solution}
+use Rattle.tws_file.specs.Text.{Solution}
 use Rattle.tws_tables.specs.declared.row_format.RowFormat.{RowFormat}
 use Rattle.tws_tables.specs.declared.row_format.RowFormat.TheVariants.{Csv, Html}
 use Rattle.tws_tables.specs.Csv.{comma, csv_fields}

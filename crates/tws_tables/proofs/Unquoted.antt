@@ -1,11 +1,10 @@
 -- No field of comma-separated values needs quotes, so the lines are those that the library `csv` writes, which it reads
 -- back.
-use Rattle.std.proofs.Common.{◌≡◌, ℕ, zero, suc, ◌+◌, ◌-◌, ◌*◌, ◌<◌, ◌≤◌, ◌^◌, ◌/◌, ◌%◌, ◌==◌, ◌&&◌, Bool, true, false, List, [], ◌∷◌, ◌++◌, length, map, drop, refl, ap, sym, ◌∙◌, arith, append-nil, length-append}
+use Rattle.std.proofs.Common.{◌≡◌, ℕ, zero, suc, ◌+◌, ◌-◌, ◌*◌, ◌<◌, ◌≤◌, ◌^◌, ◌/◌, ◌%◌, ◌==◌, ◌&&◌, true, false, List, [], ◌∷◌, ◌++◌, length, map, drop, refl, ap, sym, ◌∙◌, arith, append-nil, length-append}
 use Rattle.std.specs.Prelude.{codes, decimal}
 use Rattle.std.specs.Char.{is_ascii_alphabetic}
-use Rattle.std.specs.Fmt.{digit_glyph}
 use Rattle.std.specs.List.{AllByRecursion, flat_map, join_with_byte, list_all, list_any}
-use Rattle.std.proofs.lemmas.Bool.{agree_below_at, and_cases, and_parts, both_ways, cond_both, or_from}
+use Rattle.std.proofs.lemmas.Bool.{agree_below_at, and_parts, cond_both, or_from}
 use Rattle.std.proofs.lemmas.Fmt.{decimal_by_steps}
 use Rattle.std.proofs.lemmas.List.Folds.{list_any-append}
 use Rattle.csv.specs.Reading.{default_config, records, records_from}

@@ -1,5 +1,5 @@
 -- A text of a head, rows and an end, gathered part by part and written as it grows large.
-use Rattle.std.proofs.Common.{◌≡◌, ◌≢◌, ℕ, ◌∷◌, List, [], ◌++◌, Option, ap, sym, subst, ◌∙◌, append_assoc, append-nil, map, refl}
+use Rattle.std.proofs.Common.{◌≡◌, ◌≢◌, ℕ, ◌∷◌, List, [], ◌++◌, Option, ap, subst, ◌∙◌, append_assoc, append-nil, map, refl}
 use Rattle.std.specs.List.{flat_map}
 use Rattle.std.specs.Io.KnownBytes.{Appends}
 use Rattle.std.proofs.lemmas.List.Concat.{flat_map-append}

@@ -1,5 +1,5 @@
 -- A password as the text of a cell of a page.
-use Rattle.std.specs.Prelude.{◌≡◌, ◌==◌, ◌||◌, ℕ, Bool, List, [], ◌∷◌, ◌++◌, codes, Contains, encode_utf8, if◌then◌else◌}
+use Rattle.std.specs.Prelude.{◌≡◌, ◌≢◌, ◌⊎◌, ◌==◌, ◌||◌, ℕ, Bool, List, [], ◌∷◌, ◌++◌, codes, Contains, encode_utf8, if◌then◌else◌}
 use Rattle.std.specs.List.{flat_map, list_all}
 use Rattle.std.specs.Int.{is_in_range}
 use Rattle.tws_file.specs.Listing.{hex}
@@ -40,3 +40,16 @@ pub record BeginsReference (text : List ℕ) : Type 0 where
   pub known : Contains references reference
   pub rest : List ℕ
   pub text_is : text ≡ reference ++ rest
+
+-- the reference shows as this character
+abbrev pub IsReference : (reference : List ℕ) → (char : ℕ) → Type 0
+IsReference reference char =
+    ((reference ≡ codes "&lt;") × (char ≡ 60)) ⊎ ((reference ≡ codes "&gt;") × (char ≡ 62)) ⊎
+    ((reference ≡ codes "&amp;") × (char ≡ 38)) ⊎ ((reference ≡ codes "&quot;") × (char ≡ 34)) ⊎
+    ((reference ≡ codes "&#39;") × (char ≡ 39))
+
+-- the text shows as these characters: a reference as its own, any other character as itself
+pub data Shows : (text chars : List ℕ) → Type 0 where
+  no_text : Shows [] []
+  by_reference : (reference : List ℕ) (char : ℕ) (text chars : List ℕ) → IsReference reference char → Shows text chars → Shows (reference ++ text) (char ∷ chars)
+  by_itself : (char : ℕ) (text chars : List ℕ) → char ≢ 38 → Shows text chars → Shows (char ∷ text) (char ∷ chars)

@@ -1,9 +1,9 @@
 -- Definitions for private steps. Callers need none of them.
-use Rattle.std.specs.Prelude.{ℕ, List, [], ◌∷◌, ◌++◌, length, codes, decimal}
+use Rattle.std.specs.Prelude.{ℕ, List, [], ◌∷◌, ◌++◌, codes, decimal}
 use Rattle.std.specs.List.{flat_map}
 use Rattle.tws_file.specs.declared.key.Key.{Key}
 use Rattle.tws_file.specs.declared.«ruleset».Ruleset.{Ruleset}
-use Rattle.tws_file.specs.Listing.{hex, line, password_text, ruleset_name}
+use Rattle.tws_file.specs.Listing.{hex, password_text, ruleset_name}
 use Rattle.tws_file.specs.Text.{Record, Solution}
 use Rattle.tws_tables.specs.declared.row_format.RowFormat.{RowFormat}
 use Rattle.tws_tables.specs.declared.row_format.RowFormat.TheVariants.{Csv, Html}

@@ -1,13 +1,13 @@
 //! What holds for each page and each table. These functions do nothing: their contracts are theorems.
 
-ghost use Rattle.std.specs.Prelude.{◌≡◌, ℕ, false, List, ◌∷◌, ◌++◌};
-ghost use Rattle.std.specs.List.{flat_map, list_any};
+ghost use Rattle.std.specs.Prelude.{◌≡◌, ℕ, true, false, List, ◌∷◌, ◌++◌};
+ghost use Rattle.std.specs.List.{flat_map, list_all, list_any};
 ghost use Rattle.csv.specs.Reading.{default_config, records};
 ghost use Rattle.csv.specs.Writing.{default_writer, row_text};
 ghost use Rattle.byte_output.specs.Bytes.{IsBytes};
 ghost use Rattle.tws_file.specs.Text.{File, IsFile};
 ghost use Rattle.tws_tables.specs.Csv.{csv_names, csv_of, csv_rows};
-ghost use Rattle.tws_tables.specs.Escaping.{BeginsReference, is_mark, shown_password};
+ghost use Rattle.tws_tables.specs.Escaping.{BeginsReference, Shows, is_mark, is_printable, shown_password};
 
 /// The comma-separated values of a file are what the library `csv` writes for the names of the columns and the fields of
 /// each solution, and it reads them back as these.
@@ -17,8 +17,9 @@ pub fn comma_separated()
 {}
 
 /// In the text of a password's cell no character that has a meaning in HTML stands for itself: there is no `<`, `>`, `"` or
-/// `'`, and each `&` begins one of five references.
+/// `'`, and each `&` begins one of five references. A password of printable characters shows as itself.
 pub fn escaped()
     ensures marks { (password : List ℕ) → IsBytes password → list_any is_mark (shown_password password) ≡ false }
+    ensures shown { (password : List ℕ) → list_all is_printable password ≡ true → Shows (shown_password password) password }
     ensures references { (password front rest : List ℕ) → IsBytes password → shown_password password ≡ front ++ 38 ∷ rest → BeginsReference (38 ∷ rest) }
 {}

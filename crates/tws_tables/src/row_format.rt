@@ -8,7 +8,7 @@ use tws_file::{Ruleset, Solution};
 
 /// How the row of a solution is written.
 #[derive(Clone, Copy)]
-pub enum RowFormat {
+pub(crate) enum RowFormat {
     /// As a line of comma-separated values, for a file of this ruleset.
     Csv(Ruleset),
     /// As a row of a table in a page.

@@ -2,7 +2,7 @@ use Rattle.std.proofs.Common.{List, ℕ, ◌++◌, ◌∙◌, ap, subst}
 use Rattle.std.proofs.lemmas.Result.{on_ok_weaker, on_err_weaker}
 use Rattle.std.specs.Io.KnownBytes.{Appends}
 use Rattle.byte_output.specs.Output.{AppendsPrefix}
-use Rattle.tws_file.specs.Text.{File, Record}
+use Rattle.tws_file.specs.Text.{Record}
 use Rattle.tws_file.specs.TwsFile.{file_of}
 use Rattle.tws_tables.specs.declared.row_format.RowFormat.TheVariants.{Csv}
 use Rattle.tws_tables.specs.Csv.{csv_fields, csv_line, csv_names, csv_of}
