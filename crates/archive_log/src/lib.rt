@@ -1,0 +1,21 @@
+//! The log of a server, and the history of what it took.
+//!
+//! Read `specs/Events.antt` first: which event a step is. `specs/Lines.antt` has the line of each event.
+#![tactic(auto)]
+
+mod cause;
+mod entry;
+mod event;
+mod history_fault;
+mod pairs;
+mod peer;
+mod printable;
+mod stamp;
+mod upload;
+
+pub use cause::Cause;
+pub use entry::Entry;
+pub use event::Event;
+pub use history_fault::HistoryFault;
+pub use stamp::Stamp;
+pub use upload::Upload;
