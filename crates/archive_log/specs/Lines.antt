@@ -63,6 +63,8 @@ history_fault_text history.Create = codes "not created"
 history_fault_text history.Write = codes "not written"
 history_fault_text history.Sync = codes "not synced"
 history_fault_text history.Rename = codes "not renamed"
+history_fault_text history.SyncFolder = codes "folder not synced"
+history_fault_text history.Memory = codes "out of memory"
 
 -- ---- lines
 

@@ -1,6 +1,7 @@
 ghost use Rattle.std.specs.Prelude.{Some};
 ghost use Rattle.archive_log.specs.Lines.{history_fault_text};
 
+use std::alloc::AllocError;
 use std::error::Error;
 use std::fmt;
 
@@ -19,6 +20,10 @@ pub enum HistoryFault {
     Sync,
     /// It could not be given its name.
     Rename,
+    /// It is there, but a crash may lose it: its name may not be on the disk.
+    SyncFolder,
+    /// Out of memory for its name.
+    Memory,
 }
 
 /// The fault in words.
@@ -33,7 +38,20 @@ impl fmt::Display for HistoryFault {
             HistoryFault::Write => "not written",
             HistoryFault::Sync => "not synced",
             HistoryFault::Rename => "not renamed",
+            HistoryFault::SyncFolder => "folder not synced",
+            HistoryFault::Memory => "out of memory",
         })
+    }
+}
+
+impl From<AllocError> for HistoryFault {
+    ghost use Rattle.std.specs.Prelude.{◌≡◌};
+    ghost use Rattle.archive_log.specs.declared.history_fault.HistoryFault.TheVariants.{Memory};
+
+    ghost from_gives = { λ _ e. e ≡ Memory };
+
+    fn from(_error: AllocError) -> Self {
+        HistoryFault::Memory
     }
 }
 

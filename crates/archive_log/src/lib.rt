@@ -6,10 +6,16 @@
 mod cause;
 mod entry;
 mod event;
+mod history;
 mod history_fault;
+mod history_folder;
+mod names;
 mod pairs;
 mod peer;
 mod printable;
+mod sent;
+mod session;
+mod sessions;
 mod stamp;
 mod upload;
 
@@ -17,5 +23,6 @@ pub use cause::Cause;
 pub use entry::Entry;
 pub use event::Event;
 pub use history_fault::HistoryFault;
+pub use history_folder::{CallFailed, HistoryFolder};
 pub use stamp::Stamp;
 pub use upload::Upload;

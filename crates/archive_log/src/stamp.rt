@@ -1,11 +1,12 @@
 //! Times as a log and the history spell them.
 
-ghost use Rattle.std.specs.Prelude.{◌≡◌};
+ghost use Rattle.std.specs.Prelude.{◌≡◌, IfOk, string_bytes};
 ghost use Rattle.archive_log.specs.Times.{IsStamp, compact};
 
 use arrayvec::ArrayString;
 use jiff::Timestamp;
 use jiff::fmt::temporal::DateTimePrinter;
+use std::alloc::{AllocError, Allocator};
 use std::marker::Model;
 use std::time::Clock;
 
@@ -44,5 +45,16 @@ impl Stamp {
         ensures { result.now ≡ self.now }
     {
         self.text.as_str()
+    }
+
+    /// The text without dashes and colons, as a name of a file begins: `20261127T091500.123Z`.
+    pub(crate) fn compact<A: Allocator + Copy>(&self, alloc: A) -> Result<String<A>, AllocError>
+        ensures { IfOk result (λ text. string_bytes text ≡ compact self.now) }
+    {
+        self.text
+            .as_str()
+            .chars()
+            .filter(|c| *c != '-' && *c != ':')
+            .collect(alloc)
     }
 }
