@@ -14,7 +14,9 @@ use Rattle.archive_log.specs.declared.session.Kind.{Kind}
 use Rattle.archive_log.specs.declared.session.Kind.TheVariants.{Put, Get}
 use Rattle.archive_log.specs.declared.session.Session.{Session}
 use Rattle.archive_log.specs.declared.upload.Upload.{Upload}
-use Rattle.archive_log.specs.declared.sessions.TheConstants.{LIVE}
+use Rattle.archive_table.specs.declared.limits.TheConstants.{LIVE}
+use Rattle.archive_table.specs.Table.{Step}
+use Rattle.archive_log.specs.Sent.{sent_of}
 
 -- ---- a session
 
@@ -95,3 +97,52 @@ set_at (Some i) (Some s) ss = slice_set ss i s
 
 abbrev pub gone_on : (port : ℕ) → (is_taken : Bool) → Sent → List Session → List Session
 gone_on port is_taken sent ss = set_at (place_of port ss) (option_map (went_on is_taken sent) (session_at port ss)) ss
+
+-- ---- the steps
+
+-- an ERROR from the request port
+abbrev pub refused_by : (from : Option Endpoint) → Refusal → Option Event
+refused_by (Some peer) why = Some (event.Refused peer why)
+refused_by None why = None
+
+abbrev pub refused_event : (from : Option Endpoint) → Sent → Option Event
+refused_event from Nothing = None
+refused_event from (Data block length rules) = None
+refused_event from (Ack block) = None
+refused_event from (Error why) = refused_by from why
+
+-- the end of a transfer, unless it goes on
+abbrev pub ended_if : (closed : Bool) → (now : ℕ) → (from : Option Endpoint) → Sent → Session → Option Event
+ended_if true now from sent s = ended_event now from sent s
+ended_if false now from sent s = None
+
+-- a step at a port where there is this session
+abbrev pub session_event : Option Session → (now : ℕ) → (from : Option Endpoint) → Sent → (closed : Bool) → Option Event
+session_event None now from sent closed = refused_event from sent
+session_event (Some s) now from sent closed = ended_if closed now from sent s
+
+abbrev pub millis_since : (now : ℕ) → Option Session → ℕ
+millis_since now None = 0
+millis_since now (Some s) = now - s.began
+
+-- Which event a step is. `session` is that of its port, `from` the sender of its datagram, and `upload` the file that it
+-- took.
+abbrev pub event_of : (now : ℕ) → (session : Option Session) → (from : Option Endpoint) → (upload : Option Upload) → Step → Option Event
+event_of now session from (Some upload) step = Some (event.Taken upload (millis_since now session))
+event_of now session from None step = session_event session now from (sent_of step.out) step.closed
+
+-- the sessions after a step
+abbrev pub opened_by : (now : ℕ) → Option Out → Sent → List Session → List Session
+opened_by now None sent ss = ss
+opened_by now (Some out) sent ss = opened_in (opened_session now out.from_port out.to sent) ss
+
+abbrev pub lasts_or_ends : (closed : Bool) → (port : ℕ) → (is_taken : Bool) → Sent → List Session → List Session
+lasts_or_ends true port is_taken sent ss = without port ss
+lasts_or_ends false port is_taken sent ss = gone_on port is_taken sent ss
+
+abbrev pub sessions_by : (opened : Bool) → (now port : ℕ) → (is_taken : Bool) → Step → List Session → List Session
+sessions_by true now port is_taken step ss = opened_by now step.out (sent_of step.out) ss
+sessions_by false now port is_taken step ss = lasts_or_ends step.closed port is_taken (sent_of step.out) ss
+
+abbrev pub sessions_after : (now port : ℕ) → (upload : Option Upload) → Step → List Session → List Session
+sessions_after now port upload step ss = sessions_by step.opened now port (is_some upload) step ss
