@@ -1,2 +1,3 @@
 mod Shown
 mod Recording
+mod Chunks

@@ -3,3 +3,4 @@ pub mod Times
 pub mod Sent
 pub mod Events
 pub mod History
+pub mod Reading

@@ -51,8 +51,8 @@ fn refusal_of(text: &[u8]) -> Option<Refusal>
     find_refusal(&REFUSALS, text)
 }
 
-// The ruleset of a file that begins with these bytes: its fifth byte.
-fn ruleset_of(start: &[u8]) -> Option<Ruleset>
+/// The ruleset of a file that begins with these bytes: its fifth byte.
+pub(crate) fn ruleset_of(start: &[u8]) -> Option<Ruleset>
     ensures { result ≡ ruleset_of start.now }
 {
     match start.get(4) {
