@@ -11,15 +11,15 @@ use log::kv::{Source, VisitSource};
 use log::{Log, Metadata, Record, kv};
 
 /// An event with its time, which is one line of the log.
-#[derive(Drop)]
+#[derive(Clone, Copy)]
 pub struct Entry<'a> {
-    pub time: Stamp,
+    pub time: &'a Stamp,
     pub event: Event<'a>,
 }
 
 /// The time and the pairs of the event.
 impl Source for Entry<'_> {
-    ghost pairs = { λ entry. Some (timed_pairs entry.time entry.event) };
+    ghost pairs = { λ entry. Some (timed_pairs entry.time.now entry.event) };
 
     fn visit<V: VisitSource>(&self, visitor: &mut V) -> Result<(), kv::Error> {
         visit_pair(visitor, "time", &self.time.as_str())?;
@@ -30,7 +30,7 @@ impl Source for Entry<'_> {
 impl Entry<'_> {
     /// The record of the entry, at the target `tws`. Its line is `line_of` the time and the event.
     pub fn record(&self) -> Record<'_, &str, &Self>
-        ensures { record_line (λ message. Some message.now) (λ entry. Some (timed_pairs entry.now.time entry.now.event)) (λ _. Some []) result ≡ Some (line_of self.now.time self.now.event) }
+        ensures { record_line (λ message. Some message.now) (λ entry. Some (timed_pairs entry.now.time.now entry.now.event)) (λ _. Some []) result ≡ Some (line_of self.now.time.now self.now.event) }
     {
         let metadata = Metadata::new(self.event.level(), "tws");
         Record::new(metadata, self.event.message(), self, ())

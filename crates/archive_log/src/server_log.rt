@@ -1,0 +1,157 @@
+//! The observer that writes the log and the history.
+
+ghost use Rattle.std.specs.Prelude.{◌≡◌, None, Some};
+
+use crate::entry::Entry;
+use crate::event::Event;
+use crate::history::record;
+use crate::history_fault::HistoryFault;
+use crate::history_folder::HistoryFolder;
+use crate::names::stem_of;
+use crate::sessions::Sessions;
+use crate::stamp::Stamp;
+use crate::upload::Upload;
+use archive_table::{Step, Table, Taken};
+use log::Log;
+use std::alloc::{Allocator, Global};
+use std::time::Clock;
+use tftp_packet::Endpoint;
+use tws_file::Ruleset;
+
+/// Writes a line to a log for each event of a server, and puts each file that changed a collection into a history, if
+/// there is one. Whatever it cannot write or has no memory for changes nothing else.
+#[derive(Drop)]
+pub struct ServerLog<C: Clock, L: Log, H: HistoryFolder, A: Allocator + Copy = Global> {
+    alloc: A,
+    clock: C,
+    log: L,
+    history: Option<H>,
+    sessions: Sessions,
+    /// The table's count of what became better, as it was after the last step.
+    bettered: u64,
+    taken: u64,
+    served: u64,
+}
+
+// Milliseconds of the clock that does not go back; 0 if it cannot be read.
+fn millis_now(clock: &impl Clock) -> u64 {
+    match clock.monotonic() {
+        Ok(time) => u64::try_from(time.as_millis()).unwrap_or(u64::MAX),
+        Err(_) => 0,
+    }
+}
+
+impl<C: Clock, L: Log, H: HistoryFolder, A: Allocator + Copy> ServerLog<C, L, H, A> {
+    /// A log of a server that has made no step yet.
+    pub fn new(alloc: A, clock: C, log: L, history: Option<H>) -> Self {
+        ServerLog {
+            alloc,
+            clock,
+            log,
+            history,
+            sessions: Sessions::new(),
+            bettered: 0,
+            taken: 0,
+            served: 0,
+        }
+    }
+
+    /// The folder of the history, if there is one.
+    pub fn history(&self) -> Option<&H> {
+        self.history.as_ref()
+    }
+
+    // Writes the line of an event.
+    fn report(&self, time: &Stamp, event: Event<'_>) {
+        Entry { time, event }.report(&self.log);
+    }
+
+    /// Reports that the server has started: the address and the port that it listens at, and its folder, if it has one.
+    pub fn started<T: Allocator + Copy>(
+        &self,
+        at: Endpoint,
+        folder: Option<&str>,
+        table: &Table<T>,
+    ) {
+        let event = Event::Started {
+            at,
+            lynx: table.collection(Ruleset::Lynx).len() as u64,
+            ms: table.collection(Ruleset::Ms).len() as u64,
+            folder,
+        };
+        self.report(&Stamp::now(&self.clock), event);
+    }
+
+    /// Reports that the server has stopped.
+    pub fn stopped(&self) {
+        let event = Event::Stopped {
+            taken: self.taken,
+            served: self.served,
+        };
+        self.report(&Stamp::now(&self.clock), event);
+    }
+
+    // Counts an event, of those that the last line has the numbers of.
+    fn count(&mut self, event: &Event<'_>) {
+        match event {
+            Event::Taken { .. } => self.taken = self.taken.saturating_add(1),
+            Event::GetFinished { .. } => self.served = self.served.saturating_add(1),
+            _ => {}
+        }
+    }
+
+    // Puts a file that changed a collection into the history.
+    fn keep<T: Allocator>(
+        &mut self,
+        time: &Stamp,
+        taken: &Taken<T>,
+        upload: &Upload,
+    ) -> Result<(), HistoryFault> {
+        let Some(ruleset) = upload.ruleset else {
+            return Ok(());
+        };
+        let Some(history) = &mut self.history else {
+            return Ok(());
+        };
+        if upload.better == 0 {
+            return Ok(());
+        }
+        let stem = stem_of(self.alloc, time, upload.peer, ruleset)?;
+        record(self.alloc, history, stem.as_str(), &taken.file)
+    }
+
+    // What is said of the file that a step took, if it took one.
+    fn upload<T: Allocator>(&mut self, step: &Step<T>, bettered: u64) -> Option<Upload> {
+        let better = bettered.saturating_sub(self.bettered);
+        self.bettered = bettered;
+        match &step.taken {
+            Some(taken) => Some(Upload::of(self.alloc, taken, better)),
+            None => None,
+        }
+    }
+
+    /// Reports a step that was made at a port, if it is an event. `from` is the sender of its datagram, and `bettered` the
+    /// table's count of what became better, after the step.
+    pub fn on_step<T: Allocator>(
+        &mut self,
+        port: u16,
+        from: Option<Endpoint>,
+        step: &Step<T>,
+        bettered: u64,
+    ) {
+        let now = millis_now(&self.clock);
+        let upload = self.upload(step, bettered);
+        let Some(event) = self.sessions.on_step(now, port, from, upload, step) else {
+            return;
+        };
+        let time = Stamp::now(&self.clock);
+        self.count(&event);
+        self.report(&time, event);
+        if let (Some(taken), Some(upload)) = (&step.taken, upload) {
+            if let Err(why) = self.keep(&time, taken, &upload) {
+                let peer = upload.peer;
+                self.report(&time, Event::NotRecorded { peer, why });
+            }
+        }
+    }
+}
