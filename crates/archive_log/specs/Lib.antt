@@ -4,3 +4,4 @@ pub mod Sent
 pub mod Events
 pub mod History
 pub mod Reading
+pub mod MemoryHistory
