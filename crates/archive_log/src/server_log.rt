@@ -1,7 +1,5 @@
 //! The observer that writes the log and the history.
 
-ghost use Rattle.std.specs.Prelude.{◌≡◌, None, Some};
-
 use crate::entry::Entry;
 use crate::event::Event;
 use crate::history::record;
@@ -11,7 +9,7 @@ use crate::names::stem_of;
 use crate::sessions::Sessions;
 use crate::stamp::Stamp;
 use crate::upload::Upload;
-use archive_table::{Step, Table, Taken};
+use archive_table::{Observer, Step, Table, Taken};
 use log::Log;
 use std::alloc::{Allocator, Global};
 use std::time::Clock;
@@ -130,9 +128,9 @@ impl<C: Clock, L: Log, H: HistoryFolder, A: Allocator + Copy> ServerLog<C, L, H,
         }
     }
 
-    /// Reports a step that was made at a port, if it is an event. `from` is the sender of its datagram, and `bettered` the
-    /// table's count of what became better, after the step.
-    pub fn on_step<T: Allocator>(
+    // Reports a step, if it is an event, and puts the file that it took into the history. `bettered` is the table's
+    // count after the step.
+    fn follow<T: Allocator>(
         &mut self,
         port: u16,
         from: Option<Endpoint>,
@@ -153,5 +151,18 @@ impl<C: Clock, L: Log, H: HistoryFolder, A: Allocator + Copy> ServerLog<C, L, H,
                 self.report(&time, Event::NotRecorded { peer, why });
             }
         }
+    }
+}
+
+/// A step is reported if it is an event, and the file that it took goes into the history if it changed a collection.
+impl<C: Clock, L: Log, H: HistoryFolder, A: Allocator + Copy> Observer for ServerLog<C, L, H, A> {
+    fn on_step<T: Allocator + Copy>(
+        &mut self,
+        port: u16,
+        from: Option<Endpoint>,
+        step: &Step<T>,
+        table: &Table<T>,
+    ) {
+        self.follow(port, from, step, table.bettered());
     }
 }
