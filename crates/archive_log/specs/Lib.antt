@@ -5,3 +5,4 @@ pub mod Events
 pub mod History
 pub mod Reading
 pub mod MemoryHistory
+pub mod ServerLog

@@ -31,5 +31,7 @@ pub use history_folder::{CallFailed, HistoryFolder};
 pub use host_history::HostHistory;
 pub use memory_history::MemoryHistory;
 pub use server_log::ServerLog;
+pub use session::{Kind, Session};
+pub use sessions::Sessions;
 pub use stamp::Stamp;
 pub use upload::Upload;

@@ -1,8 +1,11 @@
 //! The observer that writes the log and the history.
 
+ghost use Rattle.std.specs.Prelude.{◌≡◌, [], true, Some, option_copied};
+ghost use Rattle.archive_log.specs.ServerLog.{FollowsStep, IsUploadOf, KeepsTaken, files_of};
+
 use crate::entry::Entry;
 use crate::event::Event;
-use crate::history::record;
+use crate::history::record as record_in;
 use crate::history_fault::HistoryFault;
 use crate::history_folder::HistoryFolder;
 use crate::names::stem_of;
@@ -12,6 +15,7 @@ use crate::upload::Upload;
 use archive_table::{Observer, Step, Table, Taken};
 use log::Log;
 use std::alloc::{Allocator, Global};
+use std::marker::Model;
 use std::time::Clock;
 use tftp_packet::Endpoint;
 use tws_file::Ruleset;
@@ -39,9 +43,20 @@ fn millis_now(clock: &impl Clock) -> u64 {
     }
 }
 
+impl<C: Clock, L: Log, H: HistoryFolder, A: Allocator + Copy> Model for ServerLog<C, L, H, A> {
+    ghost use Rattle.archive_log.specs.ServerLog.{Logged};
+
+    ghost Value = { Logged H };
+
+    ghost view = { λ log. record { sessions = log.sessions; history = log.history } };
+}
+
 impl<C: Clock, L: Log, H: HistoryFolder, A: Allocator + Copy> ServerLog<C, L, H, A> {
     /// A log of a server that has made no step yet.
-    pub fn new(alloc: A, clock: C, log: L, history: Option<H>) -> Self {
+    pub fn new(alloc: A, clock: C, log: L, history: Option<H>) -> Self
+        ensures sessions { result.sessions ≡ [] }
+        ensures history { result.history ≡ history }
+    {
         ServerLog {
             alloc,
             clock,
@@ -55,8 +70,22 @@ impl<C: Clock, L: Log, H: HistoryFolder, A: Allocator + Copy> ServerLog<C, L, H,
     }
 
     /// The folder of the history, if there is one.
-    pub fn history(&self) -> Option<&H> {
+    pub fn history(&self) -> Option<&H>
+        ensures { option_copied result ≡ self.now.history }
+    {
         self.history.as_ref()
+    }
+
+    /// The folder of the history again, if there is one.
+    pub fn into_history(self) -> Option<H>
+    where
+        C: Drop,
+        L: Drop,
+        H: Drop,
+        ensures { result ≡ self.history }
+    {
+        let ServerLog { history, .. } = self;
+        history
     }
 
     // Writes the line of an event.
@@ -90,7 +119,9 @@ impl<C: Clock, L: Log, H: HistoryFolder, A: Allocator + Copy> ServerLog<C, L, H,
     }
 
     // Counts an event, of those that the last line has the numbers of.
-    fn count(&mut self, event: &Event<'_>) {
+    fn count(&mut self, event: &Event<'_>)
+        ensures { self.new ≡ self.old }
+    {
         match event {
             Event::Taken { .. } => self.taken = self.taken.saturating_add(1),
             Event::GetFinished { .. } => self.served = self.served.saturating_add(1),
@@ -98,34 +129,45 @@ impl<C: Clock, L: Log, H: HistoryFolder, A: Allocator + Copy> ServerLog<C, L, H,
         }
     }
 
-    // Puts a file that changed a collection into the history.
-    fn keep<T: Allocator>(
-        &mut self,
-        time: &Stamp,
-        taken: &Taken<T>,
-        upload: &Upload,
-    ) -> Result<(), HistoryFault> {
-        let Some(ruleset) = upload.ruleset else {
-            return Ok(());
-        };
-        let Some(history) = &mut self.history else {
-            return Ok(());
-        };
-        if upload.better == 0 {
-            return Ok(());
-        }
-        let stem = stem_of(self.alloc, time, upload.peer, ruleset)?;
-        record(self.alloc, history, stem.as_str(), &taken.file)
-    }
-
     // What is said of the file that a step took, if it took one.
-    fn upload<T: Allocator>(&mut self, step: &Step<T>, bettered: u64) -> Option<Upload> {
+    fn upload<T: Allocator>(&mut self, step: &Step<T>, bettered: u64) -> Option<Upload>
+        ensures same { self.new ≡ self.old }
+        ensures upload { IsUploadOf step.now.taken result }
+    {
         let better = bettered.saturating_sub(self.bettered);
         self.bettered = bettered;
         match &step.taken {
             Some(taken) => Some(Upload::of(self.alloc, taken, better)),
             None => None,
         }
+    }
+
+    // Puts a file that was taken into the history, or reports why it is not there.
+    fn record<T: Allocator>(&mut self, time: &Stamp, taken: &Taken<T>, upload: &Upload)
+        ensures sessions { self.new.sessions ≡ self.old.sessions }
+        ensures history { H.has_model ≡ true → KeepsTaken (Some taken.now) (files_of H.file_at self.old.history) (files_of H.file_at self.new.history) }
+    {
+        if let Err(why) = keep(self.alloc, &mut self.history, time, taken, upload) {
+            let peer = upload.peer;
+            self.report(time, Event::NotRecorded { peer, why });
+        }
+    }
+
+    // Reports an event, and puts the file that its step took into the history.
+    fn tell<T: Allocator>(&mut self, event: Event<'_>, step: &Step<T>, upload: Option<Upload>)
+        ensures sessions { self.new.sessions ≡ self.old.sessions }
+        ensures history { H.has_model ≡ true → KeepsTaken step.now.taken (files_of H.file_at self.old.history) (files_of H.file_at self.new.history) }
+    {
+        let time = Stamp::now(&self.clock);
+        self.count(&event);
+        self.report(&time, event);
+        let Some(taken) = &step.taken else {
+            return;
+        };
+        let Some(upload) = upload else {
+            return;
+        };
+        self.record(&time, taken, &upload);
     }
 
     // Reports a step, if it is an event, and puts the file that it took into the history. `bettered` is the table's
@@ -136,22 +178,39 @@ impl<C: Clock, L: Log, H: HistoryFolder, A: Allocator + Copy> ServerLog<C, L, H,
         from: Option<Endpoint>,
         step: &Step<T>,
         bettered: u64,
-    ) {
+    )
+        ensures sessions { FollowsStep port step.now self.old.sessions self.new.sessions }
+        ensures history { H.has_model ≡ true → KeepsTaken step.now.taken (files_of H.file_at self.old.history) (files_of H.file_at self.new.history) }
+    {
         let now = millis_now(&self.clock);
         let upload = self.upload(step, bettered);
-        let Some(event) = self.sessions.on_step(now, port, from, upload, step) else {
-            return;
-        };
-        let time = Stamp::now(&self.clock);
-        self.count(&event);
-        self.report(&time, event);
-        if let (Some(taken), Some(upload)) = (&step.taken, upload) {
-            if let Err(why) = self.keep(&time, taken, &upload) {
-                let peer = upload.peer;
-                self.report(&time, Event::NotRecorded { peer, why });
-            }
+        if let Some(event) = self.sessions.on_step(now, port, from, upload, step) {
+            self.tell(event, step, upload);
         }
     }
+}
+
+// Puts a file that changed a collection into the history, if there is one.
+fn keep<H: HistoryFolder, A: Allocator + Copy, T: Allocator>(
+    alloc: A,
+    history: &mut Option<H>,
+    time: &Stamp,
+    taken: &Taken<T>,
+    upload: &Upload,
+) -> Result<(), HistoryFault>
+    ensures { H.has_model ≡ true → KeepsTaken (Some taken.now) (files_of H.file_at history.old) (files_of H.file_at history.new) }
+{
+    let Some(ruleset) = upload.ruleset else {
+        return Ok(());
+    };
+    let Some(history) = history else {
+        return Ok(());
+    };
+    if upload.better == 0 {
+        return Ok(());
+    }
+    let stem = stem_of(alloc, time, upload.peer, ruleset)?;
+    record_in(alloc, history, stem.as_str(), &taken.file)
 }
 
 /// A step is reported if it is an event, and the file that it took goes into the history if it changed a collection.
@@ -162,7 +221,10 @@ impl<C: Clock, L: Log, H: HistoryFolder, A: Allocator + Copy> Observer for Serve
         from: Option<Endpoint>,
         step: &Step<T>,
         table: &Table<T>,
-    ) {
+    )
+        ensures sessions { FollowsStep port step.now self.old.sessions self.new.sessions }
+        ensures history { H.has_model ≡ true → KeepsTaken step.now.taken (files_of H.file_at self.old.history) (files_of H.file_at self.new.history) }
+    {
         self.follow(port, from, step, table.bettered());
     }
 }
