@@ -30,13 +30,17 @@ mod job;
 mod laws;
 mod limits;
 mod line;
+mod overhearing;
 mod program;
 mod reporting;
+mod resolver;
 mod served_keeper;
 mod source;
 mod status;
+mod system;
 mod target;
 mod tool_fault;
+mod words;
 
 pub use address::Address;
 pub use archive_host::{DirKeeper, HostFolder, OpenFault, UdpWire};
@@ -45,15 +49,17 @@ pub use archive_turns::{
     put_in_rounds, run_get, run_put, serve_rounds, serve_turns,
 };
 pub use commands::{
-    BestArguments, GetArguments, Job, PackArguments, Passes, PutArguments, ServeArguments,
-    ShowArguments, get_file, put_file, run_best, run_pack, run_show, serve_archive,
+    BestArguments, GetArguments, GetFault, Job, PackArguments, Passes, PutArguments,
+    ServeArguments, ShowArguments, get_file, put_file, run_best, run_pack, run_show, serve_archive,
 };
 pub use file_system::FileSystem;
 pub use input::INPUT_READS;
 pub use job::{JobFault, job_of};
 pub use laws::{limit_values, words_of_commands};
 pub use limits::{PER_HOST, PORT, ROUNDS, TURNS};
+pub use overhearing::TransferWire;
 pub use program::{run_words, run_words_with};
+pub use resolver::Resolver;
 pub use served_keeper::ServedKeeper;
 pub use source::Source;
 pub use target::Target;

@@ -11,9 +11,9 @@ ghost use Rattle.tws_tool.specs.Faults.{IsBeforeOutput, IsReadOut};
 ghost use Rattle.tws_tool.specs.Written.{Writes, WriteFails};
 
 use crate::arguments::{source_argument, source_given};
-use crate::file_system::{FileSystem, open};
+use crate::file_system::FileSystem;
 use crate::input::read_input;
-use crate::reporting::finish;
+use crate::reporting::{finish, report_file};
 use crate::source::Source;
 use crate::tool_fault::ToolFault;
 use clap::{Arg, ArgAction, ArgMatches, Command};
@@ -78,22 +78,6 @@ pub fn run_show<R: Read, W: Write>(
     Ok(())
 }
 
-// The same over the file of this name.
-fn show_file<S: FileSystem, W: Write>(
-    system: &S,
-    alloc: Global,
-    name: &str,
-    out: &mut W,
-    moves: bool,
-) -> Result<(), ToolFault>
-    ensures listed { OnOk result (Writes (listing_of moves) (S.bytes_of system.now name.now) (W.contents out.old) (W.contents out.new)) }
-    ensures fails { IfErr result (WriteFails (listing_of moves) (S.bytes_of system.now name.now) (W.contents out.old) (W.contents out.new)) }
-    ensures unwritten { IfErr result (λ e. IsBeforeOutput e → out.new ≡ out.old) }
-{
-    let mut file = open(system, name)?;
-    run_show(alloc, &mut file, out, moves)
-}
-
 /// Runs `show`, and returns the status.
 pub(crate) fn run<S: FileSystem, R: Read, W: Write, E: Write>(
     system: &S,
@@ -110,9 +94,12 @@ pub(crate) fn run<S: FileSystem, R: Read, W: Write, E: Write>(
     let moves = arguments.moves;
     match &arguments.source {
         Source::Standard => finish(run_show(alloc, input, out, moves), &[], errors),
-        Source::Named(name) => {
-            let done = show_file(system, alloc, name.as_str(), out, moves);
-            finish(done, slice::from_ref(name), errors)
-        }
+        Source::Named(name) => match system.open(name.as_str()) {
+            Ok(mut file) => {
+                let done = run_show(alloc, &mut file, out, moves);
+                finish(done, slice::from_ref(name), errors)
+            }
+            Err(cause) => report_file(ToolFault::Read, name.as_str(), &cause, errors),
+        },
     }
 }
