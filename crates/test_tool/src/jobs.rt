@@ -19,6 +19,9 @@ fn serve_with_options(rt: HostRuntime) -> Result<(), Fail> {
         "70",
         "--per-host",
         "3",
+        "--log",
+        "--history",
+        "sent",
     ];
     let Ok(Job::Serve(arguments)) = job(&rt, &words)? else {
         return Err(Fail::new("another job"));
@@ -28,10 +31,13 @@ fn serve_with_options(rt: HostRuntime) -> Result<(), Fail> {
         turns,
         per_host,
         dir,
+        log,
+        history,
     } = arguments;
-    let Some(dir) = dir else {
+    let (Some(dir), Some(history)) = (dir, history) else {
         return Err(Fail::new("no folder"));
     };
     assert_eq!(rt; (port, turns, per_host, dir.as_str()), (70, 7, 3, "kept"));
+    assert_eq!(rt; (log, history.as_str()), (true, "sent"));
     Ok(())
 }

@@ -69,10 +69,10 @@ pub asks_for_pack : (names : RulesetNames) (program : Text) → WordsAskFor name
 unfolding clap_on_literals
 asks_for_pack names program = (refl, (_, refl, (refl, refl)))
 
--- `tws serve`, with the default port, turns and transfers of one host, and no folder
-pub asks_for_serve : (names : RulesetNames) (program : Text) → WordsAskFor names (program ∷ codes "serve" ∷ []) (Serve (record { port = 6969; turns = 1000000000; per_host = 32; dir = None }))
+-- `tws serve`, with the default port, turns and transfers of one host, no folder, no log and no history
+pub asks_for_serve : (names : RulesetNames) (program : Text) → WordsAskFor names (program ∷ codes "serve" ∷ []) (Serve (record { port = 6969; turns = 1000000000; per_host = 32; dir = None; log = false; history = None }))
 unfolding clap_on_literals
-asks_for_serve names program = (refl, (_, refl, (refl, record { port_is = refl; turns_are = refl; per_host_is = refl; dir_is = refl })))
+asks_for_serve names program = (refl, (_, refl, (refl, record { port_is = refl; turns_are = refl; per_host_is = refl; dir_is = refl; log_is = ((λ e. absurd cc), (λ e. refl), (λ e. refl)); history_is = refl })))
 
 -- a number of digits only
 pub counted_number : (most n : ℕ) (text : Text) → IsNumeral 10 (without_leading_plus text) → n ≡ digits_value 10 (without_leading_plus text) → 1 ≤ n → n ≤ most → IsNumberUpTo most text n
@@ -81,7 +81,7 @@ counted_number most n text numeral value least greatest = record { numeral = num
 -- `tws serve --port 80 --turns=5`
 pub asks_for_counted : (names : RulesetNames) (program : Text) →
     WordsAskFor names (program ∷ codes "serve" ∷ codes "--port" ∷ codes "80" ∷ codes "--turns=5" ∷ [])
-    (Serve (record { port = 80; turns = 5; per_host = 32; dir = None }))
+    (Serve (record { port = 80; turns = 5; per_host = 32; dir = None; log = false; history = None }))
 unfolding clap_on_literals
 asks_for_counted names program = (
   refl,
@@ -95,6 +95,8 @@ asks_for_counted names program = (
         turns_are = counted_number 1000000000 5 (codes "5") (omega arith, (omega arith, tt)) refl (omega arith) (omega arith);
         per_host_is = refl;
         dir_is = refl;
+        log_is = ((λ e. absurd cc), (λ e. refl), (λ e. refl));
+        history_is = refl;
       },
     ),
   ),

@@ -105,7 +105,7 @@ pub(crate) fn asked(
 pub(crate) fn run_job<
     S: FileSystem + Resolver,
     N: TransferWire,
-    P: Files<File = File> + Net + Clock + RandomSource + AllocGlobal + Copy,
+    P: Files<File = File> + Net + Clock + RandomSource + Eprint + AllocGlobal + Copy,
     R: Read,
     W: Write,
     E: Write,

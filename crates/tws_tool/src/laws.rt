@@ -23,6 +23,6 @@ pub fn words_of_commands()
     ensures show { AskFor (codes "show" ∷ []) (Show (record { source = Standard; moves = false })) }
     ensures moves { AskFor (codes "show" ∷ codes "--moves" ∷ []) (Show (record { source = Standard; moves = true })) }
     ensures pack { AskFor (codes "pack" ∷ codes "-" ∷ []) (Pack (record { source = Standard })) }
-    ensures serve { AskFor (codes "serve" ∷ []) (Serve (record { port = 6969; turns = 1000000000; per_host = 32; dir = None })) }
-    ensures counted { AskFor (codes "serve" ∷ codes "--port" ∷ codes "80" ∷ codes "--turns=5" ∷ []) (Serve (record { port = 80; turns = 5; per_host = 32; dir = None })) }
+    ensures serve { AskFor (codes "serve" ∷ []) (Serve (record { port = 6969; turns = 1000000000; per_host = 32; dir = None; log = false; history = None })) }
+    ensures counted { AskFor (codes "serve" ∷ codes "--port" ∷ codes "80" ∷ codes "--turns=5" ∷ []) (Serve (record { port = 80; turns = 5; per_host = 32; dir = None; log = false; history = None })) }
 {}

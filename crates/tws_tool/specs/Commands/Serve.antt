@@ -2,6 +2,7 @@
 use Rattle.std.specs.Prelude.{◌≡◌, ◌⊎◌, ℕ, ◌<◌, ◌≤◌, ◌^◌, ◌-◌, Bool, true, false, List, [], Option, Some, None, option_map, string_bytes, codes}
 use Rattle.std.specs.Io.KnownBytes.{Appends}
 use Rattle.clap.specs.Words.{App, Row, Rule, Text, first_of, new_app, new_rule, with_rule}
+use Rattle.clap.specs.declared.builder.action.ArgAction.TheVariants.{SetTrue}
 use Rattle.archive_table.specs.Keeper.{Keeping, HasLoaded}
 use Rattle.archive_table.specs.declared.limits.TheConstants.{LIVE}
 use Rattle.archive_turns.specs.Turn.{IsRound, IsTurn, MakesMany, Pass, Server, fresh_server}
@@ -12,7 +13,7 @@ use Rattle.tws_tool.specs.declared.commands.serve.ServeArguments.{ServeArguments
 use Rattle.tws_tool.specs.declared.limits.TheConstants.{PER_HOST, TURNS}
 use Rattle.tws_tool.specs.declared.tool_fault.ToolFault.{ToolFault}
 use Rattle.tws_tool.specs.declared.tool_fault.ToolFault.TheVariants.{Socket}
-use Rattle.tws_tool.specs.Arguments.{HasNumber, NumberOption, number_rule, port_option}
+use Rattle.tws_tool.specs.Arguments.{HasFlag, HasNumber, NumberOption, number_rule, port_option}
 use Rattle.tws_tool.specs.Lines.{LineFails, serving_line, taken_line}
 
 abbrev pub serve_name : Text
@@ -24,13 +25,26 @@ turns_option = record { name = codes "turns"; most = TURNS; default = TURNS }
 abbrev pub per_host_option : NumberOption
 per_host_option = record { name = codes "per-host"; most = LIVE; default = PER_HOST }
 
-abbrev pub dir_rule : Rule
-dir_rule = record (new_rule (codes "dir")) { long = Some (codes "dir"); value_names = 1 }
+-- an option with a text
+abbrev pub text_rule : Text → Rule
+text_rule name = record (new_rule name) { long = Some name; value_names = 1 }
 
--- `serve [--port N] [--turns N] [--per-host N] [--dir DIR]`
+abbrev pub dir_rule : Rule
+dir_rule = text_rule (codes "dir")
+
+abbrev pub log_rule : Rule
+log_rule = record (new_rule (codes "log")) { long = Some (codes "log"); action = Some SetTrue }
+
+abbrev pub history_rule : Rule
+history_rule = text_rule (codes "history")
+
+-- with only the options that are numbers
+abbrev pub numbers_app : App
+numbers_app = with_rule (with_rule (with_rule (new_app serve_name) (number_rule port_option)) (number_rule turns_option)) (number_rule per_host_option)
+
+-- `serve [--port N] [--turns N] [--per-host N] [--dir DIR] [--log] [--history DIR]`
 abbrev pub serve_app : App
-serve_app =
-    with_rule (with_rule (with_rule (with_rule (new_app serve_name) (number_rule port_option)) (number_rule turns_option)) (number_rule per_host_option)) dir_rule
+serve_app = with_rule (with_rule (with_rule numbers_app dir_rule) log_rule) history_rule
 
 -- what was found for its arguments
 pub record AsksToServe (rows : List Row) (arguments : ServeArguments) : Type 0 where
@@ -38,6 +52,8 @@ pub record AsksToServe (rows : List Row) (arguments : ServeArguments) : Type 0 w
   pub turns_are : HasNumber turns_option rows arguments.turns
   pub per_host_is : HasNumber per_host_option rows arguments.per_host
   pub dir_is : option_map string_bytes arguments.dir ≡ first_of dir_rule.id rows
+  pub log_is : HasFlag log_rule rows arguments.log
+  pub history_is : option_map string_bytes arguments.history ≡ first_of history_rule.id rows
 
 -- ---- what it does and prints
 

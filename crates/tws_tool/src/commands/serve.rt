@@ -7,20 +7,23 @@ ghost use Rattle.clap.specs.declared.builder.command.Command.TheViews.{out-Comma
 ghost use Rattle.tws_tool.specs.Arguments.{Answers, number_rule};
 ghost use Rattle.archive_turns.specs.Turn.{MakesPass, count_if};
 ghost use Rattle.tws_tool.specs.Faults.{answer_status};
-ghost use Rattle.tws_tool.specs.Commands.Serve.{ArePassesFor, AsksToServe, MakesPasses, ServeFails, ServeRan, ServeStops, Served, Serves, count_of, dir_rule, pass_of, per_host_option, serve_app, turns_option};
+ghost use Rattle.tws_tool.specs.Commands.Serve.{ArePassesFor, AsksToServe, MakesPasses, ServeFails, ServeRan, ServeStops, Served, Serves, count_of, dir_rule, history_rule, log_rule, numbers_app, pass_of, per_host_option, serve_app, turns_option};
 
-use crate::arguments::{number_given, port_argument, port_given, string_given};
+use crate::arguments::{flag_given, number_given, port_argument, port_given, string_given};
 use crate::limits::{PER_HOST, TURNS};
 use crate::line::write_line;
 use crate::reporting::finish;
 use crate::served_keeper::ServedKeeper;
+use crate::served_observer::ServedObserver;
 use crate::status::FAILED;
 use crate::tool_fault::ToolFault;
 use archive_host::{DirKeeper, HostFolder, OpenFault, UdpWire};
-use archive_table::{Keeper, LIVE, NoKeeper, NoObserver};
+use archive_log::{HostHistory, ServerLog};
+use archive_table::{Keeper, LIVE, NoKeeper, NoObserver, Observer};
 use archive_turns::{ReadyWire, Server};
-use clap::builder::ValueParser;
+use clap::builder::{ArgAction, ValueParser};
 use clap::{Arg, ArgMatches, Command};
+use log::sink::Console;
 use std::alloc::{AllocError, Global};
 use std::fs::File;
 use std::io::Write;
@@ -28,6 +31,7 @@ use std::net::Net;
 use std::random::RandomSource;
 use std::rt::Files;
 use std::time::Clock;
+use tftp_packet::Endpoint;
 
 /// What `serve` is asked for.
 #[derive(Drop)]
@@ -40,6 +44,10 @@ pub struct ServeArguments {
     pub per_host: u64,
     /// With the collections kept in this folder.
     pub dir: Option<String>,
+    /// With a line on standard error for each event.
+    pub log: bool,
+    /// With each file that changes a collection kept in this folder.
+    pub history: Option<String>,
 }
 
 fn turns_argument<'a>(alloc: Global) -> Arg<'a>
@@ -74,16 +82,46 @@ fn dir_argument<'a>(alloc: Global) -> Arg<'a>
         .help("The folder that keeps the collections")
 }
 
-pub(crate) fn command<'a>(alloc: Global) -> Result<Command<'a>, AllocError>
-    ensures app { IfOk result (λ command. app_of command ≡ serve_app) }
+fn log_argument<'a>(alloc: Global) -> Arg<'a>
+    ensures rule { rule_of result ≡ log_rule }
+    ensures local { result.global ≡ false }
+{
+    Arg::new(alloc, "log")
+        .long("log")
+        .action(ArgAction::SetTrue)
+        .help("With a line on standard error for each event")
+}
+
+fn history_argument<'a>(alloc: Global) -> Arg<'a>
+    ensures rule { rule_of result ≡ history_rule }
+    ensures local { result.global ≡ false }
+{
+    Arg::new(alloc, "history")
+        .long("history")
+        .value_name("DIR")
+        .help("The folder that keeps each file that changes a collection")
+}
+
+// The command with only its options that are numbers.
+fn numbers_command<'a>(alloc: Global) -> Result<Command<'a>, AllocError>
+    ensures app { IfOk result (λ command. app_of command ≡ numbers_app) }
     ensures local { IfOk result (λ command. (out-Command command).has_globals ≡ false) }
 {
     Command::new(alloc, "serve")
         .about("Serve the archive by TFTP")
         .arg(port_argument(alloc))?
         .arg(turns_argument(alloc))?
-        .arg(per_host_argument(alloc))?
-        .arg(dir_argument(alloc))
+        .arg(per_host_argument(alloc))
+}
+
+pub(crate) fn command<'a>(alloc: Global) -> Result<Command<'a>, AllocError>
+    ensures app { IfOk result (λ command. app_of command ≡ serve_app) }
+    ensures local { IfOk result (λ command. (out-Command command).has_globals ≡ false) }
+{
+    numbers_command(alloc)?
+        .arg(dir_argument(alloc))?
+        .arg(log_argument(alloc))?
+        .arg(history_argument(alloc))
 }
 
 /// What the arguments ask for; `None` if a number is out of range.
@@ -100,11 +138,15 @@ pub(crate) fn asked(alloc: Global, words: &ArgMatches) -> Result<Option<ServeArg
         return Ok(None);
     };
     let dir = string_given(alloc, words, "dir")?;
+    let log = flag_given(words, "log");
+    let history = string_given(alloc, words, "history")?;
     Ok(Some(ServeArguments {
         port,
         turns,
         per_host,
         dir,
+        log,
+        history,
     }))
 }
 
@@ -139,10 +181,11 @@ fn count_of(passes: Passes) -> u64
     }
 }
 
-// Makes one turn or round of a server. Returns how many files were taken, of which there were `taken` before.
-fn make_pass<N: ReadyWire, K: Keeper>(
+// Makes one turn or round of a server. The observer is told of the steps of a round. Returns how many files were taken, of which there were `taken` before.
+fn make_pass<N: ReadyWire, K: Keeper, O: Observer>(
     wire: &mut N,
     keeper: &mut K,
+    observer: &mut O,
     server: &mut Server,
     passes: Passes,
     taken: u64,
@@ -153,15 +196,16 @@ fn make_pass<N: ReadyWire, K: Keeper>(
 {
     let took = match passes {
         Passes::Turns(_) => server.turn(wire, keeper),
-        Passes::Rounds(_) => server.round(wire, keeper, &mut NoObserver),
+        Passes::Rounds(_) => server.round(wire, keeper, observer),
     };
     if took { taken + 1 } else { taken }
 }
 
 // Makes these turns or rounds of a server, as long as its keeper is usable. Returns how many files were taken.
-fn make_passes<N: ReadyWire, K: ServedKeeper>(
+fn make_passes<N: ReadyWire, K: ServedKeeper, O: Observer>(
     wire: &mut N,
     keeper: &mut K,
+    observer: &mut O,
     server: &mut Server,
     passes: Passes,
 ) -> u64
@@ -173,7 +217,7 @@ fn make_passes<N: ReadyWire, K: ServedKeeper>(
         return taken;
     }
     for _pass in 0..count_of(passes) {
-        taken = make_pass(wire, keeper, server, passes, taken);
+        taken = make_pass(wire, keeper, observer, server, passes, taken);
         if !keeper.is_usable() {
             return taken;
         }
@@ -182,16 +226,17 @@ fn make_passes<N: ReadyWire, K: ServedKeeper>(
 }
 
 /// Prints that a server serves on this port, makes these turns or rounds of it, and prints how many files were taken.
-/// Once its keeper is not usable it makes none any more.
+/// Once its keeper is not usable it makes none any more. The observer is told of the steps of rounds.
 ///
 /// # Errors
 ///
 /// `Write` if the writer fails, and `Memory` if out of memory for a line. If that is the first line no turn or round
 /// was made.
-pub fn serve_archive<N: ReadyWire, K: ServedKeeper, W: Write>(
+pub fn serve_archive<N: ReadyWire, K: ServedKeeper, O: Observer, W: Write>(
     alloc: Global,
     wire: &mut N,
     keeper: &mut K,
+    observer: &mut O,
     server: &mut Server,
     port: u16,
     passes: Passes,
@@ -201,7 +246,7 @@ pub fn serve_archive<N: ReadyWire, K: ServedKeeper, W: Write>(
     ensures fails { IfErr result (ServeFails port ((server.new ≡ server.old) × (N.log wire.new ≡ N.log wire.old) × (K.log keeper.new ≡ K.log keeper.old)) (λ taken. MakesPasses passes (K.usable keeper.new) server.old server.new taken (N.log wire.old) (N.log wire.new) (K.log keeper.old) (K.log keeper.new)) (W.contents out.old) (W.contents out.new)) }
 {
     write_line(alloc, "serving on port ", port as u64, "", out)?;
-    let taken = make_passes(wire, keeper, server, passes);
+    let taken = make_passes(wire, keeper, observer, server, passes);
     write_line(alloc, "taken ", taken, "", out)
 }
 
@@ -231,10 +276,17 @@ fn not_known<E: Write>(name: &str, errors: &mut E) -> u8
 }
 
 // Opens the server's request port, and serves there.
-fn listen_and_serve<P: Net + Clock + RandomSource + AllocGlobal + Copy, K: ServedKeeper, W: Write>(
+fn listen_and_serve<
+    P: Net + Clock + RandomSource + AllocGlobal + Copy,
+    K: ServedKeeper,
+    O: ServedObserver,
+    W: Write,
+>(
     rt: P,
     alloc: Global,
+    folder: Option<&str>,
     keeper: &mut K,
+    observer: &mut O,
     server: &mut Server,
     port: u16,
     passes: Passes,
@@ -247,7 +299,12 @@ fn listen_and_serve<P: Net + Clock + RandomSource + AllocGlobal + Copy, K: Serve
     let Ok(mut wire) = UdpWire::listen(rt, port) else {
         return Err(ToolFault::Socket);
     };
-    serve_archive(alloc, &mut wire, keeper, server, port, passes, out)
+    observer.started(Endpoint { host: 0, port }, folder, server.table());
+    let done = serve_archive(
+        alloc, &mut wire, keeper, observer, server, port, passes, out,
+    );
+    observer.stopped();
+    done
 }
 
 // Reports why a server failed, if it did, and whether its keeper was usable to the end; returns the status.
@@ -269,9 +326,69 @@ fn end_serving<E: Write>(
     }
 }
 
+// The folder that the collections are kept in, if there is one.
+fn folder_of(arguments: &ServeArguments) -> Option<&str> {
+    match &arguments.dir {
+        Some(dir) => Some(dir.as_str()),
+        None => None,
+    }
+}
+
+// Reports that the folder of the history cannot be opened, and returns the status.
+fn no_history<E: Write>(name: &str, errors: &mut E) -> u8
+    ensures { result ≡ 2 }
+{
+    let _ = writeln!(errors, "tws: {name}: no folder");
+    FAILED
+}
+
 // Serves with this keeper, whose name its faults are reported with, and returns the status.
 fn serve_with<
     P: Net + Clock + RandomSource + AllocGlobal + Copy,
+    K: ServedKeeper,
+    O: ServedObserver,
+    W: Write,
+    E: Write,
+>(
+    rt: P,
+    alloc: Global,
+    arguments: &ServeArguments,
+    keeper: &mut K,
+    observer: &mut O,
+    name: &str,
+    out: &mut W,
+    errors: &mut E,
+) -> u8
+    ensures served { Served arguments.now.port arguments.now.turns arguments.now.per_host result (K.usable keeper.new) (K.log keeper.old) (K.log keeper.new) (W.contents out.old) (W.contents out.new) }
+    ensures status { (result ≡ 0) ⊎ (result ≡ 2) }
+    ensures silent { result ≡ 0 → errors.new ≡ errors.old }
+{
+    let port = arguments.port;
+    let passes = passes_for(arguments.turns);
+    let folder = folder_of(arguments);
+    match Server::load(alloc, port, keeper) {
+        Ok(mut server) => {
+            server.limit_per_host(arguments.per_host as usize);
+            let done = listen_and_serve(
+                rt,
+                alloc,
+                folder,
+                keeper,
+                observer,
+                &mut server,
+                port,
+                passes,
+                out,
+            );
+            end_serving(done, keeper.is_usable(), name, errors)
+        }
+        Err(_) => not_loaded(name, errors),
+    }
+}
+
+// The same with the log and the history that were asked for. Neither knows of turns.
+fn serve_logged<
+    P: Files<File = File> + Net + Clock + RandomSource + Eprint + AllocGlobal + Copy,
     K: ServedKeeper,
     W: Write,
     E: Write,
@@ -288,21 +405,38 @@ fn serve_with<
     ensures status { (result ≡ 0) ⊎ (result ≡ 2) }
     ensures silent { result ≡ 0 → errors.new ≡ errors.old }
 {
-    let port = arguments.port;
-    let passes = passes_for(arguments.turns);
-    match Server::load(alloc, port, keeper) {
-        Ok(mut server) => {
-            server.limit_per_host(arguments.per_host as usize);
-            let done = listen_and_serve(rt, alloc, keeper, &mut server, port, passes, out);
-            end_serving(done, keeper.is_usable(), name, errors)
-        }
-        Err(_) => not_loaded(name, errors),
+    let is_logged = arguments.log || arguments.history.is_some();
+    if !is_logged || arguments.turns < TURNS {
+        return serve_with(
+            rt,
+            alloc,
+            arguments,
+            keeper,
+            &mut NoObserver,
+            name,
+            out,
+            errors,
+        );
     }
+    let history = match &arguments.history {
+        Some(dir) => match HostHistory::open(rt, dir.as_str()) {
+            Ok(history) => Some(history),
+            Err(_) => return no_history(dir.as_str(), errors),
+        },
+        None => None,
+    };
+    let sink = if arguments.log {
+        Some(Console(rt))
+    } else {
+        None
+    };
+    let mut log = ServerLog::new(alloc, rt, sink, history);
+    serve_with(rt, alloc, arguments, keeper, &mut log, name, out, errors)
 }
 
 /// Runs `serve`, with the collections kept in the folder of this name, if there is one, and returns the status.
 pub(crate) fn run<
-    P: Files<File = File> + Net + Clock + RandomSource + AllocGlobal + Copy,
+    P: Files<File = File> + Net + Clock + RandomSource + Eprint + AllocGlobal + Copy,
     W: Write,
     E: Write,
 >(rt: P, alloc: Global, arguments: &ServeArguments, out: &mut W, errors: &mut E) -> u8
@@ -318,8 +452,8 @@ pub(crate) fn run<
                 Err(fault) => return not_opened(fault, name, errors),
             };
             let mut keeper = DirKeeper::new(folder);
-            serve_with(rt, alloc, arguments, &mut keeper, name, out, errors)
+            serve_logged(rt, alloc, arguments, &mut keeper, name, out, errors)
         }
-        None => serve_with(rt, alloc, arguments, &mut NoKeeper, "memory", out, errors),
+        None => serve_logged(rt, alloc, arguments, &mut NoKeeper, "memory", out, errors),
     }
 }
