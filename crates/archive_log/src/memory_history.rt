@@ -81,17 +81,6 @@ impl MemoryHistory {
         }
     }
 
-    /// How many names have a file.
-    pub fn count(&self) -> usize {
-        let mut count: usize = 0;
-        for change in self.changes.iter() {
-            if change.file.is_some() && self.file(change.name.as_str()).is_some() {
-                count = count.saturating_add(1);
-            }
-        }
-        count
-    }
-
     // The fault of a call.
     fn fail(&mut self) -> CallFailed
         ensures changes { self.new.changes ≡ self.old.changes }

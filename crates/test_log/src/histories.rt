@@ -15,6 +15,8 @@ const FIRST: &str = "20261127T091500.123Z-0.0.0.2-5000-lynx.tws";
 
 const SECOND: &str = "20261127T091500.123Z-0.0.0.2-5000-lynx-1.tws";
 
+const THIRD: &str = "20261127T091500.123Z-0.0.0.2-5000-lynx-2.tws";
+
 const DRAFT: &str = "20261127T091500.123Z-0.0.0.2-5000-lynx.tws.new";
 
 // A put of this last block by the first client.
@@ -30,8 +32,7 @@ fn is_file(history: &MemoryHistory, name: &str, wanted: &[u8]) -> bool {
     }
 }
 
-// What is under the two names, after four puts: of a solution, of the same, of a better one, and of bytes that are no
-// file. How many names have a file.
+// After four puts, of a solution, of the same, of a better one, and of bytes that are no file, there are two files.
 #[test]
 fn what_changes_a_collection(rt: HostRuntime) -> Result<(), Fail> {
     let alloc = rt.alloc();
@@ -58,7 +59,7 @@ fn what_changes_a_collection(rt: HostRuntime) -> Result<(), Fail> {
     };
     assert!(rt; is_file(&history, FIRST, HUNDRED));
     assert!(rt; is_file(&history, SECOND, NINETY));
-    assert_eq!(rt; history.count(), 2);
+    assert_eq!(rt; (history.file(THIRD), history.file(DRAFT)), (None, None));
     Ok(())
 }
 
