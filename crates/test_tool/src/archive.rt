@@ -1,7 +1,7 @@
 // The commands of the archive over wires in memory: what is sent, what is printed, and inputs that fail.
 use crate::streams::*;
 use archive_client::Cause;
-use archive_table::NoKeeper;
+use archive_table::{NoKeeper, NoObserver};
 use archive_turns::{Entry, MemoryWire, Server};
 use std::io;
 use std::test::Fail;
@@ -218,6 +218,7 @@ fn serve_two(
         rt.alloc(),
         wire,
         &mut NoKeeper,
+        &mut NoObserver,
         &mut server,
         6969,
         passes,

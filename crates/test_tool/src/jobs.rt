@@ -23,6 +23,9 @@ fn serve_with_options(rt: HostRuntime) -> Result<(), Fail> {
         "500",
         "--address",
         "127.0.0.2",
+        "--log",
+        "--history",
+        "sent",
     ];
     let Ok(Job::Serve(arguments)) = job(&rt, &words)? else {
         return Err(Fail::new("another job"));
@@ -34,11 +37,16 @@ fn serve_with_options(rt: HostRuntime) -> Result<(), Fail> {
         limit,
         address,
         dir,
+        log,
+        history,
     } = arguments;
-    let (Some(address), Some(dir)) = (address, dir) else {
+    let (Some(address), Some(dir), Some(history)) = (address, dir, history) else {
         return Err(Fail::new("no address, or no folder"));
     };
-    assert_eq!(rt; (port, turns, per_host, limit), (70, 7, 3, 500));
-    assert_eq!(rt; (address.as_str(), dir.as_str()), ("127.0.0.2", "kept"));
+    assert_eq!(rt; (port, turns, per_host, limit, log), (70, 7, 3, 500, true));
+    assert_eq!(rt;
+        (address.as_str(), dir.as_str(), history.as_str()),
+        ("127.0.0.2", "kept", "sent")
+    );
     Ok(())
 }

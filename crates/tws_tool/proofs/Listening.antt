@@ -6,7 +6,7 @@ use Rattle.archive_turns.specs.Turn.{MakesMany, MakesPass, Server, count_if, fre
 use Rattle.archive_turns.specs.Wire.{Entry}
 use Rattle.archive_turns.proofs.Turns.{many_none, many_more}
 use Rattle.tws_tool.specs.declared.commands.serve.Passes.{Passes}
-use Rattle.tws_tool.specs.declared.commands.serve.ServeArguments.{ServeArguments}
+use Rattle.tws_tool.specs.declared.commands.serve_arguments.ServeArguments.{ServeArguments}
 use Rattle.tws_tool.specs.declared.tool_fault.ToolFault.{ToolFault}
 use Rattle.tws_tool.specs.declared.tool_fault.ToolFault.TheVariants.{Read, Write, Unreadable, Memory, Socket, Transfer}
 use Rattle.tws_tool.specs.Commands.Serve.{ArePassesFor, HasHost, IsNoHost, MakesPasses, ServeRan, count_of, given_address, pass_of, ServeStops, Served, ServerServed, Serves}

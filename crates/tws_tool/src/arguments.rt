@@ -3,9 +3,9 @@
 ghost use Rattle.std.specs.Prelude.{◌≡◌, ◌≢◌, ℕ, false, Some, None, IfOk, IfSome, IfNone, map, option_map, string_bytes, codes};
 ghost use Rattle.clap.specs.Matches.{found_of};
 ghost use Rattle.clap.specs.declared.builder.command.Command.TheViews.{out-Command};
-ghost use Rattle.clap.specs.Words.{app_of, new_app, rows_of, rule_of, first_of};
+ghost use Rattle.clap.specs.Words.{app_of, new_app, rows_of, rule_of, first_of, one_of};
 ghost use Rattle.tws_file.specs.Listing.{ruleset_name};
-ghost use Rattle.tws_tool.specs.Arguments.{AreRulesetNames, Answers, HasFiles, HasNumber, HasRuleset, HasSource, HasTarget, IsNumberUpTo, IsNumberOr, address_rule, file_rule, files_rule, number_rule, port_option, ruleset_rule, source_rule};
+ghost use Rattle.tws_tool.specs.Arguments.{AreRulesetNames, Answers, HasFiles, HasNumber, HasRuleset, HasSource, HasTarget, IsFlag, IsNumberUpTo, IsNumberOr, address_rule, file_rule, files_rule, number_rule, port_option, ruleset_rule, source_rule};
 
 use crate::limits::{MAX_PORT, PORT};
 use crate::source::Source;
@@ -123,6 +123,13 @@ pub(crate) fn string_given(
         Some(text) => Ok(Some(String::from_str(alloc, text)?)),
         None => Ok(None),
     }
+}
+
+/// Whether this flag was given.
+pub(crate) fn flag_given(words: &ArgMatches, name: &str) -> bool
+    ensures { IsFlag (one_of name.now (rows_of (found_of words.now))) result }
+{
+    words.get_flag(name)
 }
 
 /// Where the one input is to be read from.

@@ -14,6 +14,7 @@ mod pack;
 mod page;
 mod put;
 mod serve;
+mod serve_arguments;
 mod show;
 mod without;
 
@@ -28,7 +29,8 @@ pub use get::{GetArguments, GetFault, get_file};
 pub use pack::{PackArguments, run_pack};
 pub use page::{PageArguments, run_page};
 pub use put::{PutArguments, put_file};
-pub use serve::{Passes, ServeArguments, serve_archive};
+pub use serve::{Passes, serve_archive};
+pub use serve_arguments::ServeArguments;
 pub use show::{ShowArguments, run_csv, run_show};
 use std::alloc::{AllocError, Global};
 use std::fs::File;
@@ -101,7 +103,7 @@ fn file_commands<'a>(alloc: Global, names: &'a [&'a str]) -> Result<Command<'a>,
 pub(crate) fn command<'a>(alloc: Global, names: &'a [&'a str]) -> Result<Command<'a>, AllocError>
     ensures { IfOk result (λ command. app_of command ≡ tws_app names.entry) }
 {
-    let serve = serve::command(alloc)?;
+    let serve = serve_arguments::command(alloc)?;
     let command = file_commands(alloc, names)?.subcommand(serve)?;
     let put = put::command(alloc)?;
     let command = command.subcommand(put)?;
@@ -124,7 +126,7 @@ pub(crate) fn asked(
         "best" => Ok(best::asked(alloc, words)?.map(Job::Best)),
         "compare" => Ok(compare::asked(alloc, words)?.map(Job::Compare)),
         "page" => Ok(Some(Job::Page(page::asked(alloc, words)?))),
-        "serve" => Ok(serve::asked(alloc, words)?.map(Job::Serve)),
+        "serve" => Ok(serve_arguments::asked(alloc, words)?.map(Job::Serve)),
         "put" => Ok(put::asked(alloc, words)?.map(Job::Put)),
         "get" => Ok(get::asked(alloc, words)?.map(Job::Get)),
         _ => Ok(None),
@@ -135,7 +137,7 @@ pub(crate) fn asked(
 pub(crate) fn run_job<
     S: FileSystem + Resolver,
     N: TransferWire,
-    P: Files<File = File> + Net + Clock + RandomSource + AllocGlobal + Copy,
+    P: Files<File = File> + Net + Clock + RandomSource + Eprint + AllocGlobal + Copy,
     R: Read,
     W: Write,
     E: Write,

@@ -35,6 +35,7 @@ mod program;
 mod reporting;
 mod resolver;
 mod served_keeper;
+mod served_observer;
 mod source;
 mod status;
 mod system;

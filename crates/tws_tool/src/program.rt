@@ -28,7 +28,7 @@ use std::time::Clock;
 fn run_answer<
     S: FileSystem + Resolver,
     N: TransferWire,
-    P: Files<File = File> + Net + Clock + RandomSource + AllocGlobal + Copy,
+    P: Files<File = File> + Net + Clock + RandomSource + Eprint + AllocGlobal + Copy,
     R: Read,
     W: Write,
     E: Write,
@@ -65,7 +65,7 @@ fn run_answer<
 pub fn run_words_with<
     S: FileSystem + Resolver,
     N: TransferWire,
-    P: Files<File = File> + Net + Clock + RandomSource + AllocGlobal + Copy,
+    P: Files<File = File> + Net + Clock + RandomSource + Eprint + AllocGlobal + Copy,
     R: Read,
     W: Write,
     E: Write,
@@ -101,7 +101,7 @@ pub fn run_words_with<
 
 /// The same with the system's files, resolver and sockets, which have no ghost contents or logs.
 pub fn run_words<
-    P: Files<File = File> + Net + Clock + RandomSource + AllocGlobal + Copy,
+    P: Files<File = File> + Net + Clock + RandomSource + Eprint + AllocGlobal + Copy,
     R: Read,
     W: Write,
     E: Write,

@@ -2,6 +2,7 @@
 use Rattle.std.specs.Prelude.{◌≡◌, ◌≢◌, ◌⊎◌, ◌↔◌, ℕ, ◌<◌, ◌≤◌, ◌^◌, ◌-◌, Bool, true, false, List, Option, Some, None, option_map, string_bytes, codes}
 use Rattle.std.specs.Io.KnownBytes.{Appends}
 use Rattle.clap.specs.Words.{App, Row, Rule, Text, first_of, new_app, new_rule, with_rule}
+use Rattle.clap.specs.declared.builder.action.ArgAction.TheVariants.{SetTrue}
 use Rattle.tftp_ends.specs.declared.limits.TheConstants.{MAX_FILE}
 use Rattle.archive_table.specs.Keeper.{Keeping, HasLoaded}
 use Rattle.archive_table.specs.declared.limits.TheConstants.{LIVE}
@@ -9,12 +10,12 @@ use Rattle.archive_turns.specs.Turn.{IsRound, IsTurn, MakesMany, Pass, Server, f
 use Rattle.archive_turns.specs.Wire.{Entry}
 use Rattle.tws_tool.specs.declared.commands.serve.Passes.{Passes}
 use Rattle.tws_tool.specs.declared.commands.serve.Passes.TheVariants.{Turns, Rounds}
-use Rattle.tws_tool.specs.declared.commands.serve.ServeArguments.{ServeArguments}
+use Rattle.tws_tool.specs.declared.commands.serve_arguments.ServeArguments.{ServeArguments}
 use Rattle.tws_tool.specs.declared.limits.TheConstants.{PER_HOST, TURNS}
 use Rattle.tws_tool.specs.declared.tool_fault.ToolFault.{ToolFault}
 use Rattle.tws_tool.specs.declared.tool_fault.ToolFault.TheVariants.{Socket}
 use Rattle.tws_tool.specs.Address.{IsAddress, IsNoAddress}
-use Rattle.tws_tool.specs.Arguments.{HasNumber, NumberOption, number_rule, port_option}
+use Rattle.tws_tool.specs.Arguments.{HasFlag, HasNumber, NumberOption, number_rule, port_option}
 use Rattle.tws_tool.specs.Lines.{LineFails, serving_line, taken_line}
 
 abbrev pub serve_name : Text
@@ -39,14 +40,24 @@ bound_rule = text_rule (codes "address")
 abbrev pub dir_rule : Rule
 dir_rule = text_rule (codes "dir")
 
+abbrev pub log_rule : Rule
+log_rule = record (new_rule (codes "log")) { long = Some (codes "log"); action = Some SetTrue }
+
+abbrev pub history_rule : Rule
+history_rule = text_rule (codes "history")
+
 -- with only the options that are numbers
 abbrev pub numbers_app : App
 numbers_app =
     with_rule (with_rule (with_rule (with_rule (new_app serve_name) (number_rule port_option)) (number_rule turns_option)) (number_rule per_host_option)) (number_rule limit_option)
 
--- `serve [--port N] [--turns N] [--per-host N] [--limit BYTES] [--address A.B.C.D] [--dir DIR]`
+-- with the options that say where it serves, and what keeps the collections
+abbrev pub places_app : App
+places_app = with_rule (with_rule numbers_app bound_rule) dir_rule
+
+-- `serve [--port N] [--turns N] [--per-host N] [--limit BYTES] [--address A.B.C.D] [--dir DIR] [--log] [--history DIR]`
 abbrev pub serve_app : App
-serve_app = with_rule (with_rule numbers_app bound_rule) dir_rule
+serve_app = with_rule (with_rule places_app log_rule) history_rule
 
 -- what was found for its arguments
 pub record AsksToServe (rows : List Row) (arguments : ServeArguments) : Type 0 where
@@ -56,6 +67,8 @@ pub record AsksToServe (rows : List Row) (arguments : ServeArguments) : Type 0 w
   pub limit_is : HasNumber limit_option rows arguments.limit
   pub address_is : option_map string_bytes arguments.address ≡ first_of bound_rule.id rows
   pub dir_is : option_map string_bytes arguments.dir ≡ first_of dir_rule.id rows
+  pub log_is : HasFlag log_rule rows arguments.log
+  pub history_is : option_map string_bytes arguments.history ≡ first_of history_rule.id rows
 
 -- ---- what it does and prints
 

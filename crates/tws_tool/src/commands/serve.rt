@@ -1,162 +1,33 @@
 //! The command `serve`.
 
 ghost use Rattle.std.specs.Prelude.{◌≡◌, ◌⊎◌, ◌++◌, ◌<◌, ◌≤◌, ◌+◌, Bool, true, false, None, OnOk, IfOk, IfErr, IfSome, IfNone, option_map, string_bytes};
-ghost use Rattle.clap.specs.Matches.{found_of};
-ghost use Rattle.clap.specs.Words.{app_of, rows_of, rule_of};
-ghost use Rattle.clap.specs.declared.builder.command.Command.TheViews.{out-Command};
-ghost use Rattle.tws_tool.specs.Arguments.{Answers, number_rule};
 ghost use Rattle.archive_turns.specs.Turn.{MakesPass, count_if};
 ghost use Rattle.tws_tool.specs.Faults.{answer_status};
-ghost use Rattle.tws_tool.specs.Commands.Serve.{ArePassesFor, AsksToServe, HasHost, IsNoHost, MakesPasses, ServeFails, ServeRan, ServeStops, Served, Serves, bound_rule, count_of, dir_rule, limit_option, numbers_app, pass_of, per_host_option, serve_app, turns_option};
+ghost use Rattle.tws_tool.specs.Commands.Serve.{ArePassesFor, HasHost, IsNoHost, MakesPasses, ServeFails, ServeRan, ServeStops, Served, Serves, count_of, pass_of};
 
 use crate::address::Address;
-use crate::arguments::{new_command, number_given, port_argument, port_given, string_given};
-use crate::limits::{PER_HOST, TURNS};
+use crate::commands::serve_arguments::ServeArguments;
+use crate::limits::TURNS;
 use crate::line::write_line;
 use crate::reporting::{bad_address, finish};
 use crate::served_keeper::ServedKeeper;
+use crate::served_observer::ServedObserver;
 use crate::status::FAILED;
 use crate::tool_fault::ToolFault;
 use archive_host::{DirKeeper, HostFolder, OpenFault, UdpWire};
 use archive_limit::Limited;
-use archive_table::{Keeper, LIVE, NoKeeper, NoObserver};
+use archive_log::{HostHistory, ServerLog};
+use archive_table::{Keeper, NoKeeper, NoObserver, Observer};
 use archive_turns::{ReadyWire, Server};
-use clap::builder::ValueParser;
-use clap::{Arg, ArgMatches, Command};
-use std::alloc::{AllocError, Global};
+use log::sink::Console;
+use std::alloc::Global;
 use std::fs::File;
 use std::io::Write;
 use std::net::Net;
 use std::random::RandomSource;
 use std::rt::Files;
 use std::time::Clock;
-use tftp_ends::MAX_FILE;
 use tftp_packet::Endpoint;
-
-/// What `serve` is asked for.
-#[derive(Drop)]
-pub struct ServeArguments {
-    /// On this port.
-    pub port: u16,
-    /// For this many turns.
-    pub turns: u64,
-    /// With at most this many transfers of one host.
-    pub per_host: u64,
-    /// With collections whose texts have at most this many bytes.
-    pub limit: u64,
-    /// At this address of this host, as it was typed; at every address if none was.
-    pub address: Option<String>,
-    /// With the collections kept in this folder.
-    pub dir: Option<String>,
-}
-
-fn turns_argument<'a>(alloc: Global) -> Arg<'a>
-    ensures rule { rule_of result ≡ number_rule turns_option }
-    ensures local { result.global ≡ false }
-{
-    Arg::new(alloc, "turns")
-        .long("turns")
-        .value_name("N")
-        .value_parser(ValueParser::Unsigned(1, TURNS))
-        .help("Stop after this many turns")
-}
-
-fn per_host_argument<'a>(alloc: Global) -> Arg<'a>
-    ensures rule { rule_of result ≡ number_rule per_host_option }
-    ensures local { result.global ≡ false }
-{
-    Arg::new(alloc, "per-host")
-        .long("per-host")
-        .value_name("N")
-        .value_parser(ValueParser::Unsigned(1, LIVE as u64))
-        .help("At most this many transfers of one host, 32 if none is given")
-}
-
-fn limit_argument<'a>(alloc: Global) -> Arg<'a>
-    ensures rule { rule_of result ≡ number_rule limit_option }
-    ensures local { result.global ≡ false }
-{
-    Arg::new(alloc, "limit")
-        .long("limit")
-        .value_name("BYTES")
-        .value_parser(ValueParser::Unsigned(1, MAX_FILE))
-        .help("Keep no collection of more bytes; all that can be served if none is given")
-}
-
-fn bound_argument<'a>(alloc: Global) -> Arg<'a>
-    ensures rule { rule_of result ≡ bound_rule }
-    ensures local { result.global ≡ false }
-{
-    Arg::new(alloc, "address")
-        .long("address")
-        .value_name("ADDRESS")
-        .help("This IPv4 address of this host, every one if none is given")
-}
-
-fn dir_argument<'a>(alloc: Global) -> Arg<'a>
-    ensures rule { rule_of result ≡ dir_rule }
-    ensures local { result.global ≡ false }
-{
-    Arg::new(alloc, "dir")
-        .long("dir")
-        .value_name("DIR")
-        .help("The folder that keeps the collections")
-}
-
-// The command with only its options that are numbers.
-fn numbers_command<'a>(alloc: Global) -> Result<Command<'a>, AllocError>
-    ensures app { IfOk result (λ command. app_of command ≡ numbers_app) }
-    ensures local { IfOk result (λ command. (out-Command command).has_globals ≡ false) }
-{
-    new_command(alloc, "serve", ABOUT, HELP)
-        .arg(port_argument(alloc))?
-        .arg(turns_argument(alloc))?
-        .arg(per_host_argument(alloc))?
-        .arg(limit_argument(alloc))
-}
-
-// What the help of the command begins and ends with.
-const ABOUT: &str = "Serve the archive by TFTP";
-
-const HELP: &str =
-    "Takes files that are sent, and serves lynx.tws and ms.tws, until it is stopped.\n\nExample: tws serve --dir /var/lib/tws";
-
-pub(crate) fn command<'a>(alloc: Global) -> Result<Command<'a>, AllocError>
-    ensures app { IfOk result (λ command. app_of command ≡ serve_app) }
-    ensures local { IfOk result (λ command. (out-Command command).has_globals ≡ false) }
-{
-    numbers_command(alloc)?
-        .arg(bound_argument(alloc))?
-        .arg(dir_argument(alloc))
-}
-
-/// What the arguments ask for; `None` if a number is out of range.
-pub(crate) fn asked(alloc: Global, words: &ArgMatches) -> Result<Option<ServeArguments>, AllocError>
-    ensures { IfOk result (Answers (AsksToServe (rows_of (found_of words.now)))) }
-{
-    let Some(port) = port_given(words) else {
-        return Ok(None);
-    };
-    let Some(turns) = number_given(words, "turns", TURNS, TURNS) else {
-        return Ok(None);
-    };
-    let Some(per_host) = number_given(words, "per-host", PER_HOST, LIVE as u64) else {
-        return Ok(None);
-    };
-    let Some(limit) = number_given(words, "limit", MAX_FILE, MAX_FILE) else {
-        return Ok(None);
-    };
-    let address = string_given(alloc, words, "address")?;
-    let dir = string_given(alloc, words, "dir")?;
-    Ok(Some(ServeArguments {
-        port,
-        turns,
-        per_host,
-        limit,
-        address,
-        dir,
-    }))
-}
 
 /// What a server is to make: turns, or rounds that wait for ready ports.
 #[derive(Clone, Copy, Debug, PartialEq, Eq)]
@@ -189,10 +60,11 @@ fn count_of(passes: Passes) -> u64
     }
 }
 
-// Makes one turn or round of a server. Returns how many files were taken, of which there were `taken` before.
-fn make_pass<N: ReadyWire, K: Keeper>(
+// Makes one turn or round of a server. The observer is told of the steps of a round. Returns how many files were taken, of which there were `taken` before.
+fn make_pass<N: ReadyWire, K: Keeper, O: Observer>(
     wire: &mut N,
     keeper: &mut K,
+    observer: &mut O,
     server: &mut Server,
     passes: Passes,
     taken: u64,
@@ -203,15 +75,16 @@ fn make_pass<N: ReadyWire, K: Keeper>(
 {
     let took = match passes {
         Passes::Turns(_) => server.turn(wire, keeper),
-        Passes::Rounds(_) => server.round(wire, keeper, &mut NoObserver),
+        Passes::Rounds(_) => server.round(wire, keeper, observer),
     };
     if took { taken + 1 } else { taken }
 }
 
 // Makes these turns or rounds of a server, as long as its keeper is usable. Returns how many files were taken.
-fn make_passes<N: ReadyWire, K: ServedKeeper>(
+fn make_passes<N: ReadyWire, K: ServedKeeper, O: Observer>(
     wire: &mut N,
     keeper: &mut K,
+    observer: &mut O,
     server: &mut Server,
     passes: Passes,
 ) -> u64
@@ -223,7 +96,7 @@ fn make_passes<N: ReadyWire, K: ServedKeeper>(
         return taken;
     }
     for _pass in 0..count_of(passes) {
-        taken = make_pass(wire, keeper, server, passes, taken);
+        taken = make_pass(wire, keeper, observer, server, passes, taken);
         if !keeper.is_usable() {
             return taken;
         }
@@ -232,16 +105,17 @@ fn make_passes<N: ReadyWire, K: ServedKeeper>(
 }
 
 /// Prints that a server serves on this port, makes these turns or rounds of it, and prints how many files were taken.
-/// Once its keeper is not usable it makes none any more.
+/// Once its keeper is not usable it makes none any more. The observer is told of the steps of rounds.
 ///
 /// # Errors
 ///
 /// `Write` if the writer fails, and `Memory` if out of memory for a line. If that is the first line no turn or round
 /// was made.
-pub fn serve_archive<N: ReadyWire, K: ServedKeeper, W: Write>(
+pub fn serve_archive<N: ReadyWire, K: ServedKeeper, O: Observer, W: Write>(
     alloc: Global,
     wire: &mut N,
     keeper: &mut K,
+    observer: &mut O,
     server: &mut Server,
     port: u16,
     passes: Passes,
@@ -251,7 +125,7 @@ pub fn serve_archive<N: ReadyWire, K: ServedKeeper, W: Write>(
     ensures fails { IfErr result (ServeFails port ((server.new ≡ server.old) × (N.log wire.new ≡ N.log wire.old) × (K.log keeper.new ≡ K.log keeper.old)) (λ taken. MakesPasses passes (K.usable keeper.new) server.old server.new taken (N.log wire.old) (N.log wire.new) (K.log keeper.old) (K.log keeper.new)) (W.contents out.old) (W.contents out.new)) }
 {
     write_line(alloc, "serving on port ", port as u64, "", out)?;
-    let taken = make_passes(wire, keeper, server, passes);
+    let taken = make_passes(wire, keeper, observer, server, passes);
     write_line(alloc, "taken ", taken, "", out)
 }
 
@@ -281,10 +155,17 @@ fn not_known<E: Write>(name: &str, errors: &mut E) -> u8
 }
 
 // Opens the server's request port at this address, and serves there.
-fn listen_and_serve<P: Net + Clock + RandomSource + AllocGlobal + Copy, K: ServedKeeper, W: Write>(
+fn listen_and_serve<
+    P: Net + Clock + RandomSource + AllocGlobal + Copy,
+    K: ServedKeeper,
+    O: ServedObserver,
+    W: Write,
+>(
     rt: P,
     alloc: Global,
+    folder: Option<&str>,
     keeper: &mut K,
+    observer: &mut O,
     server: &mut Server,
     at: Endpoint,
     passes: Passes,
@@ -297,7 +178,12 @@ fn listen_and_serve<P: Net + Clock + RandomSource + AllocGlobal + Copy, K: Serve
     let Ok(mut wire) = UdpWire::listen_at(rt, at) else {
         return Err(ToolFault::Socket);
     };
-    serve_archive(alloc, &mut wire, keeper, server, at.port, passes, out)
+    observer.started(at, folder, server.table());
+    let done = serve_archive(
+        alloc, &mut wire, keeper, observer, server, at.port, passes, out,
+    );
+    observer.stopped();
+    done
 }
 
 // Reports why a server failed, if it did, and whether its keeper was usable to the end; returns the status.
@@ -319,9 +205,70 @@ fn end_serving<E: Write>(
     }
 }
 
+// The folder that the collections are kept in, if there is one.
+fn folder_of(arguments: &ServeArguments) -> Option<&str> {
+    match &arguments.dir {
+        Some(dir) => Some(dir.as_str()),
+        None => None,
+    }
+}
+
+// Reports that the folder of the history cannot be opened, and returns the status.
+fn no_history<E: Write>(name: &str, errors: &mut E) -> u8
+    ensures { result ≡ 2 }
+{
+    let _ = writeln!(errors, "tws: {name}: no folder");
+    FAILED
+}
+
 // Serves at this address of this host with this keeper, whose name its faults are reported with, and returns the status.
 fn serve_with<
     P: Net + Clock + RandomSource + AllocGlobal + Copy,
+    K: ServedKeeper,
+    O: ServedObserver,
+    W: Write,
+    E: Write,
+>(
+    rt: P,
+    alloc: Global,
+    arguments: &ServeArguments,
+    host: u32,
+    keeper: &mut K,
+    observer: &mut O,
+    name: &str,
+    out: &mut W,
+    errors: &mut E,
+) -> u8
+    ensures served { Served arguments.now.port arguments.now.turns arguments.now.per_host result (K.usable keeper.new) (K.log keeper.old) (K.log keeper.new) (W.contents out.old) (W.contents out.new) }
+    ensures status { (result ≡ 0) ⊎ (result ≡ 2) }
+    ensures silent { result ≡ 0 → errors.new ≡ errors.old }
+{
+    let port = arguments.port;
+    let passes = passes_for(arguments.turns);
+    let folder = folder_of(arguments);
+    match Server::load(alloc, port, keeper) {
+        Ok(mut server) => {
+            server.limit_per_host(arguments.per_host as usize);
+            let done = listen_and_serve(
+                rt,
+                alloc,
+                folder,
+                keeper,
+                observer,
+                &mut server,
+                Endpoint { host, port },
+                passes,
+                out,
+            );
+            end_serving(done, keeper.is_usable(), name, errors)
+        }
+        Err(_) => not_loaded(name, errors),
+    }
+}
+
+// The same with the log and the history that were asked for. Neither knows of turns.
+fn serve_logged<
+    P: Files<File = File> + Net + Clock + RandomSource + Eprint + AllocGlobal + Copy,
     K: ServedKeeper,
     W: Write,
     E: Write,
@@ -339,23 +286,42 @@ fn serve_with<
     ensures status { (result ≡ 0) ⊎ (result ≡ 2) }
     ensures silent { result ≡ 0 → errors.new ≡ errors.old }
 {
-    let port = arguments.port;
-    let passes = passes_for(arguments.turns);
-    match Server::load(alloc, port, keeper) {
-        Ok(mut server) => {
-            server.limit_per_host(arguments.per_host as usize);
-            let at = Endpoint { host, port };
-            let done = listen_and_serve(rt, alloc, keeper, &mut server, at, passes, out);
-            end_serving(done, keeper.is_usable(), name, errors)
-        }
-        Err(_) => not_loaded(name, errors),
+    let is_logged = arguments.log || arguments.history.is_some();
+    if !is_logged || arguments.turns < TURNS {
+        return serve_with(
+            rt,
+            alloc,
+            arguments,
+            host,
+            keeper,
+            &mut NoObserver,
+            name,
+            out,
+            errors,
+        );
     }
+    let history = match &arguments.history {
+        Some(dir) => match HostHistory::open(rt, dir.as_str()) {
+            Ok(history) => Some(history),
+            Err(_) => return no_history(dir.as_str(), errors),
+        },
+        None => None,
+    };
+    let sink = if arguments.log {
+        Some(Console(rt))
+    } else {
+        None
+    };
+    let mut log = ServerLog::new(alloc, rt, sink, history);
+    serve_with(
+        rt, alloc, arguments, host, keeper, &mut log, name, out, errors,
+    )
 }
 
 // Serves at this address of this host, with the collections kept in the folder that was given, if one was, and returns
 // the status.
 fn serve_at<
-    P: Files<File = File> + Net + Clock + RandomSource + AllocGlobal + Copy,
+    P: Files<File = File> + Net + Clock + RandomSource + Eprint + AllocGlobal + Copy,
     W: Write,
     E: Write,
 >(rt: P, alloc: Global, arguments: &ServeArguments, host: u32, out: &mut W, errors: &mut E) -> u8
@@ -372,11 +338,11 @@ fn serve_at<
                 Err(fault) => return not_opened(fault, name, errors),
             };
             let mut keeper = Limited::new(DirKeeper::new(folder), limit);
-            serve_with(rt, alloc, arguments, host, &mut keeper, name, out, errors)
+            serve_logged(rt, alloc, arguments, host, &mut keeper, name, out, errors)
         }
         None => {
             let mut keeper = Limited::new(NoKeeper, limit);
-            serve_with(
+            serve_logged(
                 rt,
                 alloc,
                 arguments,
@@ -407,7 +373,7 @@ fn host_given(address: &Option<String>) -> Option<u32>
 
 /// Runs `serve`, and returns the status.
 pub(crate) fn run<
-    P: Files<File = File> + Net + Clock + RandomSource + AllocGlobal + Copy,
+    P: Files<File = File> + Net + Clock + RandomSource + Eprint + AllocGlobal + Copy,
     W: Write,
     E: Write,
 >(rt: P, alloc: Global, arguments: &ServeArguments, out: &mut W, errors: &mut E) -> u8

@@ -1,0 +1,4 @@
+mod Shown
+mod Recording
+mod Chunks
+mod Changes

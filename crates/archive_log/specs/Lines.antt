@@ -1,0 +1,126 @@
+-- The lines of the log: one for each event.
+use Rattle.std.specs.Prelude.{ℕ, ◌&&◌, nat_le, List, [], ◌∷◌, ◌++◌, map, Option, None, Some, option_map, codes, decimal, if◌then◌else◌}
+use Rattle.std.specs.Int.{w32, to_be_bytes}
+use Rattle.std.specs.Net.Text.{ipv4_text}
+use Rattle.log.specs.declared.level.Level.{Level}
+use Rattle.log.specs.declared.level.Level.TheVariants as level
+use Rattle.log.specs.Kv.{Pair}
+use Rattle.log.specs.Line.{header_text, pairs_text}
+use Rattle.tftp_packet.specs.declared.endpoint.Endpoint.{Endpoint}
+use Rattle.tftp_packet.specs.declared.refusal.Refusal.{Refusal}
+use Rattle.tftp_packet.specs.declared.refusal.Refusal.TheVariants as refusal
+use Rattle.tftp_packet.specs.Refusal.{refusal_text}
+use Rattle.tws_file.specs.declared.«ruleset».Ruleset.{Ruleset}
+use Rattle.tws_file.specs.declared.file_fault.FileFault.{FileFault}
+use Rattle.tws_file.specs.declared.file_fault.FileFault.TheVariants as fault
+use Rattle.tws_file.specs.Listing.{ruleset_name}
+use Rattle.archive_log.specs.declared.cause.Cause.{Cause}
+use Rattle.archive_log.specs.declared.cause.Cause.TheVariants.{Refused, PeerError, TimedOut}
+use Rattle.archive_log.specs.declared.history_fault.HistoryFault.{HistoryFault}
+use Rattle.archive_log.specs.declared.history_fault.HistoryFault.TheVariants as history
+use Rattle.archive_log.specs.declared.upload.Upload.{Upload}
+use Rattle.archive_log.specs.declared.event.Event.{Event}
+use Rattle.archive_log.specs.declared.event.Event.TheVariants as event
+
+-- ---- values
+
+-- the byte itself if it is printable ASCII, else a question mark
+abbrev pub shown_byte : ℕ → ℕ
+shown_byte b = if nat_le 32 b && nat_le b 126 then b else 63
+
+-- a text in printable ASCII alone
+abbrev pub shown : List ℕ → List ℕ
+shown bytes = map shown_byte bytes
+
+-- `127.0.0.1:5000`
+abbrev pub peer_text : Endpoint → List ℕ
+peer_text e = ipv4_text (to_be_bytes w32 e.host) ++ codes ":" ++ decimal e.port
+
+abbrev pub ruleset_text : Option Ruleset → List ℕ
+ruleset_text None = codes "none"
+ruleset_text (Some rules) = ruleset_name rules
+
+-- the name of a file's fault
+abbrev pub fault_text : Option FileFault → List ℕ
+fault_text None = codes "none"
+fault_text (Some (fault.ShortHeader n)) = codes "ShortHeader"
+fault_text (Some fault.BadSignature) = codes "BadSignature"
+fault_text (Some (fault.BadRuleset n)) = codes "BadRuleset"
+fault_text (Some (fault.ShortRecord n)) = codes "ShortRecord"
+fault_text (Some (fault.BadSize n)) = codes "BadSize"
+fault_text (Some (fault.MoveCut n)) = codes "MoveCut"
+fault_text (Some fault.Memory) = codes "Memory"
+
+abbrev pub cause_text : Cause → List ℕ
+cause_text (Refused why) = shown (refusal_text why)
+cause_text PeerError = codes "error from the peer"
+cause_text TimedOut = codes "timed out"
+
+abbrev pub history_fault_text : HistoryFault → List ℕ
+history_fault_text history.NoFreeName = codes "no free name"
+history_fault_text history.LookUp = codes "not looked up"
+history_fault_text history.Create = codes "not created"
+history_fault_text history.Write = codes "not written"
+history_fault_text history.Sync = codes "not synced"
+history_fault_text history.Rename = codes "not renamed"
+history_fault_text history.SyncFolder = codes "folder not synced"
+history_fault_text history.Memory = codes "out of memory"
+
+-- ---- lines
+
+abbrev pub message_of : Event → List ℕ
+message_of (event.Started at lynx ms folder) = codes "started"
+message_of (event.Refused peer why) = codes "request refused"
+message_of (event.Taken upload millis) = codes "put taken"
+message_of (event.PutFailed peer block why) = codes "put failed"
+message_of (event.GetFailed peer rules block why) = codes "get failed"
+message_of (event.GetFinished peer rules bytes millis) = codes "get finished"
+message_of (event.NotRecorded peer why) = codes "not recorded"
+message_of (event.Stopped taken served) = codes "stopped"
+
+-- a put that failed, and one whose file is unreadable
+abbrev pub failed_level : Cause → Level
+failed_level (Refused refusal.NotKept) = level.Error
+failed_level _ = level.Warn
+
+abbrev pub taken_level : Option FileFault → Level
+taken_level None = level.Info
+taken_level (Some e) = level.Warn
+
+abbrev pub level_of : Event → Level
+level_of (event.Started at lynx ms folder) = level.Info
+level_of (event.Refused peer why) = level.Warn
+level_of (event.Taken upload millis) = taken_level upload.fault
+level_of (event.PutFailed peer block why) = failed_level why
+level_of (event.GetFailed peer rules block why) = level.Warn
+level_of (event.GetFinished peer rules bytes millis) = level.Info
+level_of (event.NotRecorded peer why) = level.Error
+level_of (event.Stopped taken served) = level.Info
+
+-- the folder stands last, as its name may have any length and spaces
+abbrev pub folder_pairs : Option (List ℕ) → List Pair
+folder_pairs None = []
+folder_pairs (Some folder) = (codes "folder", shown folder) ∷ []
+
+abbrev pub pairs_of : Event → List Pair
+pairs_of (event.Started at lynx ms folder) =
+    (codes "at", peer_text at) ∷ (codes "lynx", decimal lynx) ∷ (codes "ms", decimal ms) ∷ folder_pairs (option_map (λ f. f.now) folder)
+pairs_of (event.Refused peer why) = (codes "peer", peer_text peer) ∷ (codes "why", shown (refusal_text why)) ∷ []
+pairs_of (event.Taken upload millis) =
+    (codes "peer", peer_text upload.peer) ∷ (codes "bytes", decimal upload.bytes) ∷ (codes "ruleset", ruleset_text upload.«ruleset»)
+    ∷ (codes "fault", fault_text upload.fault) ∷ (codes "better", decimal upload.better) ∷ (codes "millis", decimal millis) ∷ []
+pairs_of (event.PutFailed peer block why) =
+    (codes "peer", peer_text peer) ∷ (codes "block", decimal block) ∷ (codes "why", cause_text why) ∷ []
+pairs_of (event.GetFailed peer rules block why) =
+    (codes "peer", peer_text peer) ∷ (codes "ruleset", ruleset_text rules) ∷ (codes "block", decimal block) ∷ (codes "why", cause_text why) ∷ []
+pairs_of (event.GetFinished peer rules bytes millis) =
+    (codes "peer", peer_text peer) ∷ (codes "ruleset", ruleset_text rules) ∷ (codes "bytes", decimal bytes) ∷ (codes "millis", decimal millis) ∷ []
+pairs_of (event.NotRecorded peer why) = (codes "peer", peer_text peer) ∷ (codes "why", history_fault_text why) ∷ []
+pairs_of (event.Stopped taken served) = (codes "taken", decimal taken) ∷ (codes "served", decimal served) ∷ []
+
+abbrev pub timed_pairs : (time : List ℕ) → Event → List Pair
+timed_pairs time event = (codes "time", time) ∷ pairs_of event
+
+-- `[INFO  tws] put taken time=2026-11-27T09:15:00.123Z peer=127.0.0.1:5000 ..`
+abbrev pub line_of : (time : List ℕ) → Event → List ℕ
+line_of time event = header_text (level_of event) (codes "tws") ++ message_of event ++ pairs_text (timed_pairs time event)

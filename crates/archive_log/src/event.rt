@@ -1,0 +1,113 @@
+ghost use Rattle.std.specs.Prelude.{◌≡◌};
+ghost use Rattle.archive_log.specs.Lines.{message_of, level_of, taken_level, failed_level};
+
+use crate::cause::Cause;
+use crate::history_fault::HistoryFault;
+use crate::upload::Upload;
+use log::Level;
+use tftp_packet::{Endpoint, Refusal};
+use tws_file::{FileFault, Ruleset};
+
+/// What happened at a server, as its operator may want to know it.
+#[derive(Clone, Copy, Debug)]
+pub enum Event<'a> {
+    /// It started: the address and port that it listens at, how many solutions its collections have, and its folder, if
+    /// it has one.
+    Started {
+        at: Endpoint,
+        lynx: u64,
+        ms: u64,
+        folder: Option<&'a str>,
+    },
+    /// A request was refused.
+    Refused {
+        peer: Endpoint,
+        why: Refusal,
+    },
+    /// A put was taken, so many milliseconds after its request.
+    Taken {
+        upload: Upload,
+        millis: u64,
+    },
+    /// A put failed, of which the server had acknowledged the blocks up to this one.
+    PutFailed {
+        peer: Endpoint,
+        block: u16,
+        why: Cause,
+    },
+    /// A get failed, of which this is the last block that was sent.
+    GetFailed {
+        peer: Endpoint,
+        ruleset: Option<Ruleset>,
+        block: u16,
+        why: Cause,
+    },
+    /// A get was finished: its peer replied to the last block, so many milliseconds after the request.
+    GetFinished {
+        peer: Endpoint,
+        ruleset: Option<Ruleset>,
+        bytes: u64,
+        millis: u64,
+    },
+    /// A file that was taken is not in the history.
+    NotRecorded {
+        peer: Endpoint,
+        why: HistoryFault,
+    },
+    /// The server stopped: how many files it took, and how many gets were finished.
+    Stopped {
+        taken: u64,
+        served: u64,
+    },
+}
+
+impl Event<'_> {
+    /// What happened, in words.
+    pub fn message(&self) -> &'static str
+        ensures { result.now ≡ message_of self.now }
+    {
+        match self {
+            Event::Started { .. } => "started",
+            Event::Refused { .. } => "request refused",
+            Event::Taken { .. } => "put taken",
+            Event::PutFailed { .. } => "put failed",
+            Event::GetFailed { .. } => "get failed",
+            Event::GetFinished { .. } => "get finished",
+            Event::NotRecorded { .. } => "not recorded",
+            Event::Stopped { .. } => "stopped",
+        }
+    }
+
+    /// How much it matters: a keep or a record that failed is an error, whatever else failed or was refused a warning.
+    pub fn level(&self) -> Level
+        ensures { result ≡ level_of self.now }
+    {
+        match self {
+            Event::Started { .. } | Event::GetFinished { .. } | Event::Stopped { .. } =>
+                Level::Info,
+            Event::Taken { upload, .. } => taken_level(upload.fault),
+            Event::Refused { .. } | Event::GetFailed { .. } => Level::Warn,
+            Event::PutFailed { why, .. } => failed_level(*why),
+            Event::NotRecorded { .. } => Level::Error,
+        }
+    }
+}
+
+// Whether a file that was taken is readable.
+fn taken_level(fault: Option<FileFault>) -> Level
+    ensures { result ≡ taken_level fault }
+{
+    match fault {
+        None => Level::Info,
+        Some(_) => Level::Warn,
+    }
+}
+
+fn failed_level(why: Cause) -> Level
+    ensures { result ≡ failed_level why }
+{
+    match why {
+        Cause::Refused(Refusal::NotKept) => Level::Error,
+        _ => Level::Warn,
+    }
+}

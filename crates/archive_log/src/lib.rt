@@ -1,0 +1,37 @@
+//! The log of a server, and the history of what it took.
+//!
+//! Read `specs/Events.antt` first: which event a step is. `specs/Lines.antt` has the line of each event.
+#![tactic(auto)]
+
+mod cause;
+mod entry;
+mod event;
+mod history;
+mod history_fault;
+mod history_folder;
+mod host_history;
+mod memory_history;
+mod names;
+mod pairs;
+mod peer;
+mod printable;
+mod sent;
+mod server_log;
+mod session;
+mod sessions;
+mod stamp;
+mod upload;
+
+pub use cause::Cause;
+pub use entry::Entry;
+pub use event::Event;
+pub use history::{NAMES, record};
+pub use history_fault::HistoryFault;
+pub use history_folder::{CallFailed, HistoryFolder};
+pub use host_history::HostHistory;
+pub use memory_history::MemoryHistory;
+pub use server_log::ServerLog;
+pub use session::{Kind, Session};
+pub use sessions::Sessions;
+pub use stamp::Stamp;
+pub use upload::Upload;

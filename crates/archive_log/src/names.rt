@@ -1,0 +1,47 @@
+//! The names of the files of a history.
+
+ghost use Rattle.std.specs.Prelude.{◌≡◌, IfOk, string_bytes};
+ghost use Rattle.archive_log.specs.History.{stem_text, numbered, draft_of};
+
+use crate::peer::host_address;
+use crate::stamp::Stamp;
+use std::alloc::{AllocError, Allocator};
+use tftp_packet::Endpoint;
+use tws_file::Ruleset;
+
+/// What the names of a file begin with that was taken from a peer: `20261127T091500.123Z-127.0.0.1-5000-lynx`.
+pub(crate) fn stem_of<A: Allocator + Copy>(
+    alloc: A,
+    time: &Stamp,
+    peer: Endpoint,
+    ruleset: Ruleset,
+) -> Result<String<A>, AllocError>
+    ensures { IfOk result (λ stem. string_bytes stem ≡ stem_text time.now peer «ruleset») }
+{
+    let moment = time.compact(alloc)?;
+    let host = host_address(peer);
+    let port = peer.port;
+    format!(in alloc; "{moment}-{host}-{port}-{ruleset}")
+}
+
+/// The name with this number, of which 0 is not written.
+pub(crate) fn numbered<A: Allocator + Copy>(
+    alloc: A,
+    stem: &str,
+    number: u32,
+) -> Result<String<A>, AllocError>
+    ensures { IfOk result (λ name. string_bytes name ≡ numbered stem.now number) }
+{
+    if number == 0 {
+        format!(in alloc; "{stem}.tws")
+    } else {
+        format!(in alloc; "{stem}-{number}.tws")
+    }
+}
+
+/// The name under which a file is written.
+pub(crate) fn draft_of<A: Allocator + Copy>(alloc: A, name: &str) -> Result<String<A>, AllocError>
+    ensures { IfOk result (λ draft. string_bytes draft ≡ draft_of name.now) }
+{
+    format!(in alloc; "{name}.new")
+}

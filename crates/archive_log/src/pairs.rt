@@ -1,0 +1,220 @@
+//! The pairs of an event, which its line shows.
+
+ghost use Rattle.std.specs.Prelude.{◌≡◌, codes, option_map, OnOk, IfSome};
+ghost use Rattle.std.specs.List.{FoldsTo};
+ghost use Rattle.archive_log.specs.Lines.{pairs_of, folder_pairs, peer_text, ruleset_text, fault_text};
+
+use crate::cause::Cause;
+use crate::event::Event;
+use crate::history_fault::HistoryFault;
+use crate::peer::peer_address;
+use crate::printable::Printable;
+use crate::upload::Upload;
+use log::kv;
+use log::kv::{Source, ToValue, VisitSource, display};
+use tftp_packet::{Endpoint, Refusal};
+use tws_file::{FileFault, Ruleset};
+
+// The name of a ruleset, or `none`.
+fn ruleset_word(ruleset: Option<Ruleset>) -> &'static str
+    ensures { result.now ≡ ruleset_text «ruleset» }
+{
+    match ruleset {
+        None => "none",
+        Some(Ruleset::Lynx) => "lynx",
+        Some(Ruleset::Ms) => "ms",
+    }
+}
+
+// The name of a fault, or `none`.
+fn fault_word(fault: Option<FileFault>) -> &'static str
+    ensures { result.now ≡ fault_text fault }
+{
+    match fault {
+        None => "none",
+        Some(FileFault::ShortHeader(_)) => "ShortHeader",
+        Some(FileFault::BadSignature) => "BadSignature",
+        Some(FileFault::BadRuleset(_)) => "BadRuleset",
+        Some(FileFault::ShortRecord(_)) => "ShortRecord",
+        Some(FileFault::BadSize(_)) => "BadSize",
+        Some(FileFault::MoveCut(_)) => "MoveCut",
+        Some(FileFault::Memory) => "Memory",
+    }
+}
+
+/// Hands one pair to the visitor.
+pub(crate) fn visit_pair<V: VisitSource, T: ToValue>(
+    visitor: &mut V,
+    key: &'static str,
+    value: &T,
+) -> Result<(), kv::Error>
+    ensures { OnOk result (IfSome (T.text value.now) (λ text. V.visit_pair_gives visitor.old (key.now, text) visitor.new)) }
+{
+    visitor.visit_pair(key, value.to_value())
+}
+
+// The pair that most lines begin with.
+fn visit_peer<V: VisitSource>(visitor: &mut V, peer: Endpoint) -> Result<(), kv::Error>
+    ensures { OnOk result (V.visit_pair_gives visitor.old (codes "peer", peer_text peer) visitor.new) }
+{
+    visit_pair(visitor, "peer", &display(peer_address(peer)))
+}
+
+fn visit_folder<V: VisitSource>(visitor: &mut V, folder: Option<&str>) -> Result<(), kv::Error>
+    ensures { OnOk result (FoldsTo V.visit_pair_gives visitor.old (folder_pairs (option_map (λ f. f.now) folder.entry)) visitor.new) }
+{
+    if let Some(folder) = folder {
+        visit_pair(
+            visitor,
+            "folder",
+            &display(Printable::of(folder.as_bytes())),
+        )?;
+    }
+    Ok(())
+}
+
+fn visit_started<V: VisitSource>(
+    visitor: &mut V,
+    at: Endpoint,
+    lynx: u64,
+    ms: u64,
+    folder: Option<&str>,
+) -> Result<(), kv::Error>
+    ensures { OnOk result (FoldsTo V.visit_pair_gives visitor.old (pairs_of (Event.Started at lynx ms folder.entry)) visitor.new) }
+{
+    visit_pair(visitor, "at", &display(peer_address(at)))?;
+    visit_pair(visitor, "lynx", &lynx)?;
+    visit_pair(visitor, "ms", &ms)?;
+    visit_folder(visitor, folder)?;
+    Ok(())
+}
+
+fn visit_refused<V: VisitSource>(
+    visitor: &mut V,
+    peer: Endpoint,
+    why: Refusal,
+) -> Result<(), kv::Error>
+    ensures { OnOk result (FoldsTo V.visit_pair_gives visitor.old (pairs_of (Event.Refused peer why)) visitor.new) }
+{
+    visit_peer(visitor, peer)?;
+    visit_pair(visitor, "why", &display(Printable::of(why.text())))?;
+    Ok(())
+}
+
+fn visit_taken<V: VisitSource>(
+    visitor: &mut V,
+    upload: &Upload,
+    millis: u64,
+) -> Result<(), kv::Error>
+    ensures { OnOk result (FoldsTo V.visit_pair_gives visitor.old (pairs_of (Event.Taken upload.now millis)) visitor.new) }
+{
+    visit_peer(visitor, upload.peer)?;
+    visit_pair(visitor, "bytes", &upload.bytes)?;
+    visit_pair(visitor, "ruleset", &ruleset_word(upload.ruleset))?;
+    visit_pair(visitor, "fault", &fault_word(upload.fault))?;
+    visit_pair(visitor, "better", &upload.better)?;
+    visit_pair(visitor, "millis", &millis)?;
+    Ok(())
+}
+
+fn visit_put_failed<V: VisitSource>(
+    visitor: &mut V,
+    peer: Endpoint,
+    block: u16,
+    why: Cause,
+) -> Result<(), kv::Error>
+    ensures { OnOk result (FoldsTo V.visit_pair_gives visitor.old (pairs_of (Event.PutFailed peer block why)) visitor.new) }
+{
+    visit_peer(visitor, peer)?;
+    visit_pair(visitor, "block", &block)?;
+    visit_pair(visitor, "why", &display(why))?;
+    Ok(())
+}
+
+fn visit_get_failed<V: VisitSource>(
+    visitor: &mut V,
+    peer: Endpoint,
+    ruleset: Option<Ruleset>,
+    block: u16,
+    why: Cause,
+) -> Result<(), kv::Error>
+    ensures { OnOk result (FoldsTo V.visit_pair_gives visitor.old (pairs_of (Event.GetFailed peer «ruleset» block why)) visitor.new) }
+{
+    visit_peer(visitor, peer)?;
+    visit_pair(visitor, "ruleset", &ruleset_word(ruleset))?;
+    visit_pair(visitor, "block", &block)?;
+    visit_pair(visitor, "why", &display(why))?;
+    Ok(())
+}
+
+fn visit_get_finished<V: VisitSource>(
+    visitor: &mut V,
+    peer: Endpoint,
+    ruleset: Option<Ruleset>,
+    bytes: u64,
+    millis: u64,
+) -> Result<(), kv::Error>
+    ensures { OnOk result (FoldsTo V.visit_pair_gives visitor.old (pairs_of (Event.GetFinished peer «ruleset» bytes millis)) visitor.new) }
+{
+    visit_peer(visitor, peer)?;
+    visit_pair(visitor, "ruleset", &ruleset_word(ruleset))?;
+    visit_pair(visitor, "bytes", &bytes)?;
+    visit_pair(visitor, "millis", &millis)?;
+    Ok(())
+}
+
+fn visit_not_recorded<V: VisitSource>(
+    visitor: &mut V,
+    peer: Endpoint,
+    why: HistoryFault,
+) -> Result<(), kv::Error>
+    ensures { OnOk result (FoldsTo V.visit_pair_gives visitor.old (pairs_of (Event.NotRecorded peer why)) visitor.new) }
+{
+    visit_peer(visitor, peer)?;
+    visit_pair(visitor, "why", &display(why))?;
+    Ok(())
+}
+
+fn visit_stopped<V: VisitSource>(visitor: &mut V, taken: u64, served: u64) -> Result<(), kv::Error>
+    ensures { OnOk result (FoldsTo V.visit_pair_gives visitor.old (pairs_of (Event.Stopped taken served)) visitor.new) }
+{
+    visit_pair(visitor, "taken", &taken)?;
+    visit_pair(visitor, "served", &served)?;
+    Ok(())
+}
+
+/// The pairs of its line, without the time.
+impl Source for Event<'_> {
+    ghost use Rattle.std.specs.Prelude.{Some};
+    ghost use Rattle.archive_log.specs.Lines.{pairs_of};
+
+    ghost pairs = { λ event. Some (pairs_of event) };
+
+    fn visit<V: VisitSource>(&self, visitor: &mut V) -> Result<(), kv::Error> {
+        match self {
+            Event::Started {
+                at,
+                lynx,
+                ms,
+                folder,
+            } => visit_started(visitor, *at, *lynx, *ms, *folder),
+            Event::Refused { peer, why } => visit_refused(visitor, *peer, *why),
+            Event::Taken { upload, millis } => visit_taken(visitor, upload, *millis),
+            Event::PutFailed { peer, block, why } => visit_put_failed(visitor, *peer, *block, *why),
+            Event::GetFailed {
+                peer,
+                ruleset,
+                block,
+                why,
+            } => visit_get_failed(visitor, *peer, *ruleset, *block, *why),
+            Event::GetFinished {
+                peer,
+                ruleset,
+                bytes,
+                millis,
+            } => visit_get_finished(visitor, *peer, *ruleset, *bytes, *millis),
+            Event::NotRecorded { peer, why } => visit_not_recorded(visitor, *peer, *why),
+            Event::Stopped { taken, served } => visit_stopped(visitor, *taken, *served),
+        }
+    }
+}

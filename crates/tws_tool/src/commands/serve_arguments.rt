@@ -1,0 +1,181 @@
+//! The arguments of the command `serve`.
+
+ghost use Rattle.std.specs.Prelude.{◌≡◌, false, IfOk};
+ghost use Rattle.clap.specs.Matches.{found_of};
+ghost use Rattle.clap.specs.Words.{app_of, rows_of, rule_of};
+ghost use Rattle.clap.specs.declared.builder.command.Command.TheViews.{out-Command};
+ghost use Rattle.tws_tool.specs.Arguments.{Answers, number_rule};
+ghost use Rattle.tws_tool.specs.Commands.Serve.{AsksToServe, bound_rule, dir_rule, history_rule, limit_option, log_rule, numbers_app, per_host_option, places_app, serve_app, turns_option};
+
+use crate::arguments::{
+    flag_given, new_command, number_given, port_argument, port_given, string_given,
+};
+use crate::limits::{PER_HOST, TURNS};
+use archive_table::LIVE;
+use clap::builder::{ArgAction, ValueParser};
+use clap::{Arg, ArgMatches, Command};
+use std::alloc::{AllocError, Global};
+use tftp_ends::MAX_FILE;
+
+/// What `serve` is asked for.
+#[derive(Drop)]
+pub struct ServeArguments {
+    /// On this port.
+    pub port: u16,
+    /// For this many turns.
+    pub turns: u64,
+    /// With at most this many transfers of one host.
+    pub per_host: u64,
+    /// With collections whose texts have at most this many bytes.
+    pub limit: u64,
+    /// At this address of this host, as it was typed; at every address if none was.
+    pub address: Option<String>,
+    /// With the collections kept in this folder.
+    pub dir: Option<String>,
+    /// With a line on standard error for each event.
+    pub log: bool,
+    /// With each file that changes a collection kept in this folder.
+    pub history: Option<String>,
+}
+
+fn turns_argument<'a>(alloc: Global) -> Arg<'a>
+    ensures rule { rule_of result ≡ number_rule turns_option }
+    ensures local { result.global ≡ false }
+{
+    Arg::new(alloc, "turns")
+        .long("turns")
+        .value_name("N")
+        .value_parser(ValueParser::Unsigned(1, TURNS))
+        .help("Stop after this many turns")
+}
+
+fn per_host_argument<'a>(alloc: Global) -> Arg<'a>
+    ensures rule { rule_of result ≡ number_rule per_host_option }
+    ensures local { result.global ≡ false }
+{
+    Arg::new(alloc, "per-host")
+        .long("per-host")
+        .value_name("N")
+        .value_parser(ValueParser::Unsigned(1, LIVE as u64))
+        .help("At most this many transfers of one host, 32 if none is given")
+}
+
+fn limit_argument<'a>(alloc: Global) -> Arg<'a>
+    ensures rule { rule_of result ≡ number_rule limit_option }
+    ensures local { result.global ≡ false }
+{
+    Arg::new(alloc, "limit")
+        .long("limit")
+        .value_name("BYTES")
+        .value_parser(ValueParser::Unsigned(1, MAX_FILE))
+        .help("Keep no collection of more bytes; all that can be served if none is given")
+}
+
+fn bound_argument<'a>(alloc: Global) -> Arg<'a>
+    ensures rule { rule_of result ≡ bound_rule }
+    ensures local { result.global ≡ false }
+{
+    Arg::new(alloc, "address")
+        .long("address")
+        .value_name("ADDRESS")
+        .help("This IPv4 address of this host, every one if none is given")
+}
+
+fn dir_argument<'a>(alloc: Global) -> Arg<'a>
+    ensures rule { rule_of result ≡ dir_rule }
+    ensures local { result.global ≡ false }
+{
+    Arg::new(alloc, "dir")
+        .long("dir")
+        .value_name("DIR")
+        .help("The folder that keeps the collections")
+}
+
+fn log_argument<'a>(alloc: Global) -> Arg<'a>
+    ensures rule { rule_of result ≡ log_rule }
+    ensures local { result.global ≡ false }
+{
+    Arg::new(alloc, "log")
+        .long("log")
+        .action(ArgAction::SetTrue)
+        .help("With a line on standard error for each event")
+}
+
+fn history_argument<'a>(alloc: Global) -> Arg<'a>
+    ensures rule { rule_of result ≡ history_rule }
+    ensures local { result.global ≡ false }
+{
+    Arg::new(alloc, "history")
+        .long("history")
+        .value_name("DIR")
+        .help("The folder that keeps each file that changes a collection")
+}
+
+// The command with only its options that are numbers.
+fn numbers_command<'a>(alloc: Global) -> Result<Command<'a>, AllocError>
+    ensures app { IfOk result (λ command. app_of command ≡ numbers_app) }
+    ensures local { IfOk result (λ command. (out-Command command).has_globals ≡ false) }
+{
+    new_command(alloc, "serve", ABOUT, HELP)
+        .arg(port_argument(alloc))?
+        .arg(turns_argument(alloc))?
+        .arg(per_host_argument(alloc))?
+        .arg(limit_argument(alloc))
+}
+
+// What the help of the command begins and ends with.
+const ABOUT: &str = "Serve the archive by TFTP";
+
+const HELP: &str =
+    "Takes files that are sent, and serves lynx.tws and ms.tws, until it is stopped.\n\nExample: tws serve --dir /var/lib/tws";
+
+// The command with the options that say where it serves, and what keeps the collections.
+fn places_command<'a>(alloc: Global) -> Result<Command<'a>, AllocError>
+    ensures app { IfOk result (λ command. app_of command ≡ places_app) }
+    ensures local { IfOk result (λ command. (out-Command command).has_globals ≡ false) }
+{
+    numbers_command(alloc)?
+        .arg(bound_argument(alloc))?
+        .arg(dir_argument(alloc))
+}
+
+pub(crate) fn command<'a>(alloc: Global) -> Result<Command<'a>, AllocError>
+    ensures app { IfOk result (λ command. app_of command ≡ serve_app) }
+    ensures local { IfOk result (λ command. (out-Command command).has_globals ≡ false) }
+{
+    places_command(alloc)?
+        .arg(log_argument(alloc))?
+        .arg(history_argument(alloc))
+}
+
+/// What the arguments ask for; `None` if a number is out of range.
+pub(crate) fn asked(alloc: Global, words: &ArgMatches) -> Result<Option<ServeArguments>, AllocError>
+    ensures { IfOk result (Answers (AsksToServe (rows_of (found_of words.now)))) }
+{
+    let Some(port) = port_given(words) else {
+        return Ok(None);
+    };
+    let Some(turns) = number_given(words, "turns", TURNS, TURNS) else {
+        return Ok(None);
+    };
+    let Some(per_host) = number_given(words, "per-host", PER_HOST, LIVE as u64) else {
+        return Ok(None);
+    };
+    let Some(limit) = number_given(words, "limit", MAX_FILE, MAX_FILE) else {
+        return Ok(None);
+    };
+    let address = string_given(alloc, words, "address")?;
+    let dir = string_given(alloc, words, "dir")?;
+    let log = flag_given(words, "log");
+    let history = string_given(alloc, words, "history")?;
+    Ok(Some(ServeArguments {
+        port,
+        turns,
+        per_host,
+        limit,
+        address,
+        dir,
+        log,
+        history,
+    }))
+}
