@@ -15,14 +15,17 @@ from pathlib import Path
 
 # Words in backticks that are no names of the tree: values of fields, words of standards, and commands of the system.
 WORDS = set("""
-BBBB BDHP CCCC abcd ABCD blksize lynx mail ms netascii octet timeout tsize windowsize
+BBBB BDHP CCCC abcd ABCD blksize localhost lynx mail ms netascii octet timeout tsize windowsize
 bash cachegrind callgrind curl free malloc memcpy perf python3 rustc strace tftp valgrind
 abbrev as case cc continue data elim false impl let match mod record requires ruleset suc true unfolding unsafe use using where zero
 Dec
 """.split())
 
-# Files that are no part of the tree: a server's, and Tile World's.
-FOREIGN_FILES = {"lynx.tws", "ms.tws", "upload.tws", "solution.c"}
+# Files that are no part of the tree: a server's, those of its history, and Tile World's.
+FOREIGN_FILES = {
+    "lynx.tws", "ms.tws", "upload.tws", "solution.c", "sent/0-lynx.tws",
+    "20261127T091501.004Z-127.0.0.1-5000-lynx.tws", "20261127T091501.004Z-203.0.113.7-5000-lynx.tws",
+}
 
 # Options of other programs, by the program.
 FOREIGN_OPTIONS = set("""
