@@ -36,7 +36,7 @@ last_kept-refused rules xs of text =
 -- ---- a log and the one below
 
 -- both have grown by the same entries
-pub same_more : (entries : List Keeping) (below after : Option (List Keeping)) (added : List Keeping) → LoadsSame entries below → KeeperGrows below after added → LoadsSame (entries ++ added) after
+same_more : (entries : List Keeping) (below after : Option (List Keeping)) (added : List Keeping) → LoadsSame entries below → KeeperGrows below after added → LoadsSame (entries ++ added) after
 same_more entries None None added same grows = tt
 same_more entries None (Some after) added same grows = absurd grows
 same_more entries (Some below) None added same grows = tt
@@ -47,7 +47,7 @@ same_more entries (Some below) (Some after) added same grows = λ rules.
     ∙ ap (last_kept rules) (sym grows)
 
 -- one was refused, which the log below does not have
-pub same_refused : (entries : List Keeping) (below : Option (List Keeping)) (of : Ruleset) (text : List ℕ) → LoadsSame entries below → LoadsSame (entries ++ keeping of text false ∷ []) below
+same_refused : (entries : List Keeping) (below : Option (List Keeping)) (of : Ruleset) (text : List ℕ) → LoadsSame entries below → LoadsSame (entries ++ keeping of text false ∷ []) below
 same_refused entries None of text same = tt
 same_refused entries (Some below) of text same = λ rules. last_kept-refused rules entries of text ∙ same rules
 
