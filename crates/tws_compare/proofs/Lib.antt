@@ -6,3 +6,4 @@ pub mod Ordered
 pub mod Loading
 pub mod Dropping
 pub mod Improving
+pub mod Shown

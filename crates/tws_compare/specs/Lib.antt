@@ -5,3 +5,4 @@ pub mod Sides
 pub mod Compare
 pub mod Counts
 pub mod Lines
+pub mod Password

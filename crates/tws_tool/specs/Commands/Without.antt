@@ -1,9 +1,8 @@
 -- The command `without`.
-use Rattle.std.specs.Prelude.{◌≡◌, ◌⊎◌, ℕ, true, List, length, Option, Some, None, string_bytes, codes}
-use Rattle.std.specs.List.{list_all}
-use Rattle.std.specs.Char.{is_ascii_alphabetic}
+use Rattle.std.specs.Prelude.{◌≡◌, ◌⊎◌, ℕ, true, List, Option, Some, None, string_bytes, codes}
 use Rattle.clap.specs.Words.{App, Row, Rule, Text, first_of, new_app, new_rule, with_rule}
 use Rattle.clap.specs.declared.builder.value_parser.ValueParser.TheVariants as parser
+use Rattle.tws_compare.specs.Password.{IsShown}
 use Rattle.tws_compare.specs.Without.{text_without}
 use Rattle.tws_tool.specs.declared.commands.without.WithoutArguments.{WithoutArguments}
 use Rattle.tws_tool.specs.Arguments.{HasSource, IsNumberUpTo, source_rule}
@@ -29,10 +28,6 @@ abbrev pub IsLevel : Option Text → ℕ → Type 0
 IsLevel (Some text) number = IsNumberUpTo 65535 text number
 IsLevel None number = ⊥
 
--- the text is a password of four letters
-abbrev pub IsPassword : Text → List ℕ → Type 0
-IsPassword text password = (password ≡ text) × (length text ≡ 4) × (list_all is_ascii_alphabetic text ≡ true)
-
 -- what was found for its arguments
 pub record AsksForWithout (rows : List Row) (arguments : WithoutArguments) : Type 0 where
   pub level_is : IsLevel (first_of level_rule.id rows) arguments.level
@@ -41,7 +36,7 @@ pub record AsksForWithout (rows : List Row) (arguments : WithoutArguments) : Typ
 
 -- the text is no password, and nothing was read or written
 pub record HasNoPassword (Unread : Type 0) (text : Text) (status : ℕ) (old new : Option (List ℕ)) : Type 0 where
-  pub none : (password : List ℕ) → IsPassword text password → ⊥
+  pub none : (password : List ℕ) → IsShown text password → ⊥
   pub status_is : status ≡ 1
   pub unread : Unread
   pub unwritten : new ≡ old
@@ -50,5 +45,5 @@ pub record HasNoPassword (Unread : Type 0) (text : Text) (status : ℕ) (old new
 -- standard input was not read: what standard input had and has left, and the output before and after.
 abbrev pub WithoutRan : (bytes_of : List ℕ → Option (List ℕ)) → (Unread : Type 0) → WithoutArguments → (status : ℕ) → (known left old new : Option (List ℕ)) → Type 0
 WithoutRan bytes_of Unread arguments status known left old new =
-    ((password : List ℕ) × IsPassword (string_bytes arguments.password) password × RanFrom arguments.source bytes_of Unread (text_without (record { number = arguments.level; password = password })) status known left old new)
+    ((password : List ℕ) × IsShown (string_bytes arguments.password) password × RanFrom arguments.source bytes_of Unread (text_without (record { number = arguments.level; password = password })) status known left old new)
     ⊎ HasNoPassword Unread (string_bytes arguments.password) status old new

@@ -1,15 +1,13 @@
 //! The command `without`: a solution file without the solutions of a level.
 
-ghost use Rattle.std.specs.Prelude.{◌≡◌, ◌≢◌, ℕ, List, false, OnOk, IfOk, IfErr, IfSome, IfNone};
-ghost use Rattle.std.specs.List.{list_all};
-ghost use Rattle.std.specs.Char.{is_ascii_alphabetic};
+ghost use Rattle.std.specs.Prelude.{◌≡◌, ◌≢◌, false, OnOk, IfOk, IfErr};
 ghost use Rattle.std.specs.Io.KnownBytes.{IsAtEnd};
 ghost use Rattle.clap.specs.Matches.{found_of};
 ghost use Rattle.clap.specs.Words.{app_of, first_of, rows_of, rule_of};
 ghost use Rattle.clap.specs.declared.builder.command.Command.TheViews.{out-Command};
 ghost use Rattle.tws_compare.specs.Without.{text_without};
 ghost use Rattle.tws_tool.specs.Arguments.{Answers};
-ghost use Rattle.tws_tool.specs.Commands.Without.{AsksForWithout, IsLevel, IsPassword, WithoutRan, level_rule, password_rule, without_app};
+ghost use Rattle.tws_tool.specs.Commands.Without.{AsksForWithout, IsLevel, WithoutRan, level_rule, password_rule, without_app};
 ghost use Rattle.tws_tool.specs.Faults.{IsReadOut};
 ghost use Rattle.tws_tool.specs.Written.{RanFrom, Writes, WriteFails};
 
@@ -27,7 +25,7 @@ use clap::{Arg, ArgMatches, Command};
 use std::alloc::{AllocError, Global};
 use std::io::{Read, Write};
 use std::slice;
-use tws_compare::without;
+use tws_compare::{password_shown, without};
 use tws_file::{Key, write_file};
 
 /// What `without` is asked for.
@@ -59,7 +57,7 @@ fn password_argument<'a>(alloc: Global) -> Arg<'a>
     Arg::new(alloc, "password")
         .value_name("PASSWORD")
         .required(true)
-        .help("The password of the level, four letters")
+        .help("The password of the level, as `tws show` prints it")
 }
 
 // What the help of the command begins and ends with.
@@ -85,25 +83,6 @@ fn level_given(words: &ArgMatches) -> Option<u16>
     let text = text_given(words, "level")?;
     let number = number_up_to(text, u16::MAX as u64)?;
     Some(number as u16)
-}
-
-fn is_letters(bytes: &[u8]) -> bool
-    ensures { result ≡ list_all is_ascii_alphabetic bytes.now }
-{
-    bytes.iter().all(|b| b.is_ascii_alphabetic())
-}
-
-// The password that these letters are.
-fn password_of(text: &str) -> Option<[u8; 4]>
-    ensures some { IfSome result (IsPassword text.now) }
-    ensures none { IfNone result ((password : List ℕ) → IsPassword text.now password → ⊥) }
-{
-    let password = text.as_bytes().as_array::<4>()?;
-    if is_letters(password) {
-        Some(*password)
-    } else {
-        None
-    }
 }
 
 /// What the arguments ask for; `None` if the number of the level is out of range.
@@ -203,7 +182,7 @@ pub(crate) fn run<S: FileSystem, R: Read, W: Write, E: Write>(
     ensures silent { result ≡ 0 → errors.new ≡ errors.old }
 {
     let source = &arguments.source;
-    match password_of(arguments.password.as_str()) {
+    match password_shown(arguments.password.as_str()) {
         Some(password) => {
             let number = arguments.level;
             let key = Key { number, password };
