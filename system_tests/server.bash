@@ -69,7 +69,17 @@ start() {
     exit 2
 }
 
-# gives NAME STATUS OUT ERRORS WORDS: the program prints this and exits with this status, within two minutes.
+# first_lines WANT GOT: a file begins with the lines of another, or is empty as that is.
+first_lines() {
+    if [ -s "$1" ]; then
+        cmp -s "$1" <(head -n "$(wc -l <"$1")" "$2")
+    else
+        [ ! -s "$2" ]
+    fi
+}
+
+# gives NAME STATUS OUT ERRORS WORDS: the program prints this and exits with this status, within two minutes. Where it
+# prints errors, a further line may have more.
 gives() {
     local name=$1 want=$2 status
     printf '%s' "${3:+$3$'\n'}" >"$work/want.out"
@@ -79,7 +89,12 @@ gives() {
     status=$?
     check "$name, status $status" [ "$status" = "$want" ]
     check "$name, output" cmp "$work/out" "$work/want.out"
-    check "$name, errors" cmp "$work/errors" "$work/want.errors"
+    check "$name, errors" first_lines "$work/want.errors" "$work/errors"
+}
+
+# more NAME LINE: the last one that was given printed this second line of errors.
+more() {
+    check "$1, more of the errors" cmp <(tail -n +2 "$work/errors") <(echo "$2")
 }
 
 size() {

@@ -63,6 +63,7 @@ impl<F: Folder> FolderKeeper<F> {
         ensures usable { self.new.is_usable ≡ self.old.is_usable }
         ensures more { self.old.failures ≤ self.new.failures }
         ensures device { fault ≡ KeepFault.Device → FailsAt self.old.failures self.new.failures }
+        ensures steady { fault ≢ KeepFault.Device → self.new.failures ≡ self.old.failures }
     {
         if fault == KeepFault::Device && self.failures < u64::MAX {
             self.failures += 1;
@@ -76,6 +77,7 @@ impl<F: Folder> FolderKeeper<F> {
         ensures usable { self.new.is_usable ≡ true → self.old.is_usable ≡ true }
         ensures more { self.old.failures ≤ self.new.failures }
         ensures device { result ≡ KeepFault.Device → FailsAt self.old.failures self.new.failures }
+        ensures steady { result ≢ KeepFault.Device → self.new.failures ≡ self.old.failures }
     {
         let fault = match fault {
             FolderFault::NotKept(fault) => fault,
@@ -116,6 +118,7 @@ impl<F: Folder> Keeper for FolderKeeper<F> {
         ensures fault { self.old.is_usable ≡ true → OnErr result (Rises (F.faults self.old.folder) (F.faults self.new.folder)) }
         ensures more { self.old.failures ≤ self.new.failures }
         ensures failed { result ≡ Err KeepFault.Device → FailsAt self.old.failures self.new.failures }
+        ensures steady { result ≢ Err KeepFault.Device → self.new.failures ≡ self.old.failures }
     {
         if !self.is_usable {
             self.count_failure(KeepFault::Device);
@@ -140,6 +143,7 @@ impl<F: Folder> Keeper for FolderKeeper<F> {
         ensures fault { OnErr result (Rises (F.faults self.old.folder) (F.faults self.new.folder)) }
         ensures more { self.old.failures ≤ self.new.failures }
         ensures failed { result ≡ Err KeepFault.Device → FailsAt self.old.failures self.new.failures }
+        ensures steady { result ≢ Err KeepFault.Device → self.new.failures ≡ self.old.failures }
     {
         match self.folder.read(alloc, FileName::Kept(ruleset)) {
             Ok(found) => Ok(found),

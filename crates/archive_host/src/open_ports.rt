@@ -70,7 +70,15 @@ impl OpenPorts {
         }
     }
 
-    /// The open port with this number, to be changed.
+    /// The open port with this number.
+    pub(crate) fn get(&self, port: u16) -> Option<&OpenPort>
+        ensures { IfSome result (λ o. o.now.port ≡ port) }
+    {
+        let i = self.index_of(port)?;
+        Some(&self.ports[i])
+    }
+
+    /// The same, to be changed.
     pub(crate) fn get_mut(&mut self, port: u16) -> Option<&mut OpenPort>
         ensures { IfSome result (λ o. o.now.port ≡ port) }
     {

@@ -1,7 +1,7 @@
 //! A wire over UDP sockets.
 
-ghost use Rattle.std.specs.Prelude.{◌≡◌, ◌==◌, ◌≤◌, ◌<◌, ◌+◌, ◌-◌, ◌^◌, true, false, Some, None, IfOk, IfSome, IfErr, OnErr, if◌then◌else◌};
-ghost use Rattle.archive_host.specs.Arrivals.{one_may_have_more};
+ghost use Rattle.std.specs.Prelude.{◌≡◌, ◌==◌, ◌≤◌, ◌<◌, ◌+◌, ◌-◌, ◌^◌, true, false, Some, None, is_ok, IfOk, IfSome, IfErr, OnErr, if◌then◌else◌};
+ghost use Rattle.archive_host.specs.Arrivals.{one_may_have_more, Closes};
 ghost use Rattle.archive_table.specs.Keeper.{FailsAt};
 ghost use Rattle.archive_host.specs.declared.udp_wire.TheConstants.{LAPS};
 
@@ -105,7 +105,9 @@ impl<R: Net + Clock + RandomSource + AllocGlobal + Copy> UdpWire<R> {
 
     // Counts a failure.
     fn count_failure(&mut self)
-        ensures { FailsAt self.old.failures self.new.failures }
+        ensures failed { FailsAt self.old.failures self.new.failures }
+        ensures ports { self.new.ports ≡ self.old.ports }
+        ensures given { self.new.given ≡ self.old.given }
     {
         if self.failures < u64::MAX {
             self.failures += 1;
@@ -163,8 +165,9 @@ impl<R: Net + Clock + RandomSource + AllocGlobal + Copy> UdpWire<R> {
     // Gives a port back that is about to be closed, if it was not used.
     fn give_back(&mut self, port: u16)
         ensures failures { self.new.failures ≡ self.old.failures }
+        ensures ports { self.new.ports ≡ self.old.ports }
     {
-        let unused = match self.ports.get_mut(port) {
+        let unused = match self.ports.get(port) {
             Some(open) => !open.is_used(),
             None => false,
         };
@@ -299,7 +302,12 @@ impl<R: Net + Clock + RandomSource + AllocGlobal + Copy> Wire for UdpWire<R> {
         }
     }
 
-    fn close(&mut self, port: u16) -> Result<(), WireFault> {
+    fn close(&mut self, port: u16) -> Result<(), WireFault>
+        // It fails only if the port was not open.
+        ensures closes { Closes port (is_ok result) self.old.ports.ports.items self.new.ports.ports.items }
+        ensures fault { IfErr result (λ e. e ≡ WireFault.Close) }
+        ensures failed { OnErr result (FailsAt self.old.failures self.new.failures) }
+    {
         self.give_back(port);
         if self.ports.close(port) {
             Ok(())
@@ -313,7 +321,13 @@ impl<R: Net + Clock + RandomSource + AllocGlobal + Copy> Wire for UdpWire<R> {
         &mut self,
         port: u16,
         buffer: &mut [u8; RECEIVE_SIZE],
-    ) -> Result<Option<(usize, Endpoint)>, WireFault> {
+    ) -> Result<Option<(usize, Endpoint)>, WireFault>
+        // It does not wait at the port that `wait` gave, once.
+        ensures forgets { self.new.given ≡ None }
+        ensures count { IfOk result (λ got. IfSome got (λ g. g.0 ≤ RECEIVE_SIZE)) }
+        ensures fault { IfErr result (λ e. e ≡ WireFault.Receive) }
+        ensures failed { OnErr result (FailsAt self.old.failures self.new.failures) }
+    {
         let got = if self.given == Some(port) {
             self.read(port, buffer)
         } else {

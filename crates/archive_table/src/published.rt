@@ -17,12 +17,13 @@ use tftp_packet::Refusal;
 use tws_best::{Collection, Snapshot};
 
 /// A collection; the length of its text, and the snapshot of it that downloads share. Both are found out at the first
-/// request, and kept until the collection changes.
+/// request, and kept until the collection changes. `bettered` counts its changes, saturating.
 #[derive(Drop)]
 pub(crate) struct Published<A: Allocator + Copy> {
     collection: Collection<A>,
     text_len: Option<u128>,
     snapshot: Option<Rc<Snapshot<A>, A>>,
+    bettered: u64,
 }
 
 impl<A: Allocator + Copy> Model for Published<A> {
@@ -46,6 +47,7 @@ impl<A: Allocator + Copy> Published<A> {
             collection,
             text_len: None,
             snapshot: None,
+            bettered: 0,
         }
     }
 
@@ -54,6 +56,11 @@ impl<A: Allocator + Copy> Published<A> {
         ensures { result.now ≡ self.now }
     {
         &self.collection
+    }
+
+    /// The number of its changes so far. No contract speaks of it.
+    pub(crate) fn bettered(&self) -> u64 {
+        self.bettered
     }
 
     /// The length of its text in bytes. The collection never changes.
@@ -107,7 +114,13 @@ impl<A: Allocator + Copy> Published<A> {
         ensures unkept { IfErr result (λ e. RefusesOne e file.now self.old (K.log keeper.old) (K.log keeper.new)) }
         ensures untouched { result ≢ Err Refusal.NotKept → self.new ≡ self.old → keeper.new ≡ keeper.old }
     {
-        match merge_into(alloc, &mut self.collection, keeper, file) {
+        match merge_into(
+            alloc,
+            &mut self.collection,
+            &mut self.bettered,
+            keeper,
+            file,
+        ) {
             Ok(changed) => {
                 if changed {
                     self.text_len = None;

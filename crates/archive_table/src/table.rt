@@ -340,6 +340,12 @@ impl<A: Allocator + Copy> Table<A> {
         }
     }
 
+    /// How often, since the server was made, a file that was taken had a solution that was better than what its
+    /// collection had for that key, or the first there. It stays at the greatest u64, and no contract speaks of it.
+    pub fn bettered(&self) -> u64 {
+        self.lynx.bettered().saturating_add(self.ms.bettered())
+    }
+
     /// The number of transfers, at most `LIVE`.
     pub fn live(&self) -> usize
         ensures count { result ≡ length self.now.live }

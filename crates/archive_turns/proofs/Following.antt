@@ -12,7 +12,7 @@ use Rattle.archive_turns.specs.Wire.{Entry, Grows}
 use Rattle.archive_turns.specs.Timers.{ports_of, live_ports, with_timer, timed, timed_out, HasRoom, Tracks}
 use Rattle.archive_turns.specs.Parts.{IsTimeout, Walks}
 use Rattle.archive_turns.specs.Turn.{Replies, Receipt, datagram, nothing, fault, Answers, Visited, transfer_change, transfer_visit, transfer_received, timeout_visit, request_change, request_visit, request_received, request_admitted, request_spared, is_peer, request_used, is_usable, Walk, walk, walk_on}
-use Rattle.archive_turns.proofs.Log.{grows_join}
+use Rattle.archive_turns.proofs.Log.{grows_none, grows_join}
 use Rattle.archive_turns.proofs.Ports.{insert_port, remove_port, ports_with, ports_without, ports_due, length_with}
 use Rattle.archive_turns.proofs.Requests.{server_request_step}
 use Rattle.archive_turns.proofs.Transfers.{server_datagram_step, server_timeout_step}
@@ -135,6 +135,10 @@ timeout_tracks r port s due timers same =
 -- the state in the middle of a walk
 abbrev make_walk : Table → List Timer → List Entry → Walk
 make_walk s timers calls = record { server = s; timers = timers; calls = calls }
+
+-- no port has timed out yet
+pub walks_none : (due : ℕ) (s : Table) (timers : List Timer) (log : Option (List Entry)) → Walks [] due s s timers timers log log
+walks_none due s timers log = record { late = []; late_are = refl; server = refl; timers_are = refl; log = grows_none log }
 
 -- one more port times out
 pub walks_more : {before mid after : Option (List Entry)} (ports : List ℕ) (due port : ℕ) (s old new : Table)

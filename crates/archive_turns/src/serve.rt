@@ -4,7 +4,7 @@ ghost use Rattle.archive_turns.specs.Turn.{MakesTurns, MakesRounds, count_if};
 use crate::ready_wire::ReadyWire;
 use crate::server::Server;
 use crate::wire::Wire;
-use archive_table::Keeper;
+use archive_table::{Keeper, Observer};
 use std::alloc::Allocator;
 
 // Counts a file, if one was taken.
@@ -32,10 +32,11 @@ pub fn serve_turns<A: Allocator + Copy, W: Wire, K: Keeper>(
     taken
 }
 
-/// Makes this many rounds of a server. Returns how many files were taken.
-pub fn serve_rounds<A: Allocator + Copy, W: ReadyWire, K: Keeper>(
+/// Makes this many rounds of a server, of whose steps the observer is told. Returns how many files were taken.
+pub fn serve_rounds<A: Allocator + Copy, W: ReadyWire, K: Keeper, O: Observer>(
     wire: &mut W,
     keeper: &mut K,
+    observer: &mut O,
     server: &mut Server<A>,
     rounds: u64,
 ) -> u64
@@ -43,7 +44,7 @@ pub fn serve_rounds<A: Allocator + Copy, W: ReadyWire, K: Keeper>(
 {
     let mut taken = 0;
     for _round in 0..rounds {
-        taken = counted(taken, server.round(wire, keeper));
+        taken = counted(taken, server.round(wire, keeper, observer));
     }
     taken
 }

@@ -13,7 +13,7 @@ use crate::ready_wire::ReadyWire;
 use crate::timers::Timers;
 use crate::visit::{Visit, time_out_late, visit_request, visit_transfer};
 use crate::wire::Wire;
-use archive_table::{KeepFault, Keeper, LIVE, LoadFault, Table};
+use archive_table::{KeepFault, Keeper, LIVE, LoadFault, NoObserver, Observer, Table};
 use std::alloc::{Allocator, Global};
 use std::marker::Model;
 
@@ -61,10 +61,11 @@ fn next_ready<A: Allocator + Copy>(table: &Table<A>, ready: Option<u16>) -> Next
     }
 }
 
-fn visit<A: Allocator + Copy, W: Wire, K: Keeper>(
+fn visit<A: Allocator + Copy, W: Wire, K: Keeper, O: Observer>(
     table: &mut Table<A>,
     wire: &mut W,
     keeper: &mut K,
+    observer: &mut O,
     timers: &Timers,
     mode: Mode,
     next: Next,
@@ -73,17 +74,18 @@ fn visit<A: Allocator + Copy, W: Wire, K: Keeper>(
     ensures fits { IsTable table.old → IsTable table.new }
 {
     match next {
-        Next::Request => visit_request(table, wire, timers, mode),
-        Next::Transfer(port) => visit_transfer(table, wire, keeper, port),
+        Next::Request => visit_request(table, wire, observer, timers, mode),
+        Next::Transfer(port) => visit_transfer(table, wire, keeper, observer, port),
         Next::Nowhere => Visit::LOST,
     }
 }
 
 // A visit, and the time-outs after it. Returns whether a file was taken.
-fn pass<A: Allocator + Copy, W: Wire, K: Keeper>(
+fn pass<A: Allocator + Copy, W: Wire, K: Keeper, O: Observer>(
     table: &mut Table<A>,
     wire: &mut W,
     keeper: &mut K,
+    observer: &mut O,
     timers: &mut Timers,
     mode: Mode,
     next: Next,
@@ -92,9 +94,9 @@ fn pass<A: Allocator + Copy, W: Wire, K: Keeper>(
     ensures passes { Passes mode next table.old table.new timers.old timers.new result (W.log wire.old) (W.log wire.new) (K.log keeper.old) (K.log keeper.new) }
     ensures tracks { Tracks table.new timers.new }
 {
-    let visit = visit(table, wire, keeper, timers, mode, next);
+    let visit = visit(table, wire, keeper, observer, timers, mode, next);
     timers.apply(mode, visit.change);
-    time_out_late(table, wire, timers, mode, visit.change);
+    time_out_late(table, wire, observer, timers, mode, visit.change);
     visit.taken
 }
 
@@ -183,6 +185,7 @@ impl<A: Allocator + Copy> Server<A> {
             &mut self.table,
             wire,
             keeper,
+            &mut NoObserver,
             &mut self.timers,
             Mode::Turn,
             next_at(port),
@@ -196,7 +199,14 @@ impl<A: Allocator + Copy> Server<A> {
     /// transfers as it may have. A transfer times out `TIMEOUT` milliseconds after it was opened or last sent to its
     /// peer, once all that had arrived by then was handed out. One that only waits for a repeated last block gives way
     /// when all places are taken.
-    pub fn round<W: ReadyWire, K: Keeper>(&mut self, wire: &mut W, keeper: &mut K) -> bool
+    ///
+    /// The observer is told of each step, the time-outs too, after the step's calls of the wire. It changes nothing.
+    pub fn round<W: ReadyWire, K: Keeper, O: Observer>(
+        &mut self,
+        wire: &mut W,
+        keeper: &mut K,
+        observer: &mut O,
+    ) -> bool
         ensures { MakesRound self.old self.new result (W.log wire.old) (W.log wire.new) (K.log keeper.old) (K.log keeper.new) }
     {
         let ready = wire.wait(self.last, self.timers.earliest());
@@ -206,6 +216,7 @@ impl<A: Allocator + Copy> Server<A> {
             &mut self.table,
             wire,
             keeper,
+            observer,
             &mut self.timers,
             Mode::Round {
                 now: ready.time,

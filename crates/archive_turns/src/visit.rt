@@ -11,7 +11,7 @@ use crate::change::Change;
 use crate::mode::Mode;
 use crate::timers::Timers;
 use crate::wire::{RECEIVE_SIZE, Wire};
-use archive_table::{Keeper, Step, Table};
+use archive_table::{Keeper, Observer, Step, Table};
 use std::alloc::Allocator;
 use tftp_packet::{Endpoint, Out, Packet, decode};
 
@@ -104,10 +104,11 @@ fn is_peer<A: Allocator + Copy>(table: &Table<A>, port: u16, from: Endpoint) -> 
 }
 
 /// Visits a transfer's port.
-pub(crate) fn visit_transfer<A: Allocator + Copy, W: Wire, K: Keeper>(
+pub(crate) fn visit_transfer<A: Allocator + Copy, W: Wire, K: Keeper, O: Observer>(
     table: &mut Table<A>,
     wire: &mut W,
     keeper: &mut K,
+    observer: &mut O,
     port: u16,
 ) -> Visit
     ensures visit { IsVisit (λ a. transfer_visit a port table.old) (λ a. transfer_asks a port table.old) (λ r. true) table.old table.new result.taken result.change (W.log wire.old) (W.log wire.new) (K.log keeper.old) (K.log keeper.new) }
@@ -118,7 +119,9 @@ pub(crate) fn visit_transfer<A: Allocator + Copy, W: Wire, K: Keeper>(
         Ok(Some((count, from))) => {
             let to_peer = is_peer(table, port, from);
             let step = table.on_datagram(keeper, port, from, &buffer[..count]);
-            end_step(wire, port, to_peer, &step)
+            let visit = end_step(wire, port, to_peer, &step);
+            observer.on_step(port, Some(from), &step, table);
+            visit
         }
         Ok(None) => Visit::QUIET,
         Err(_) => Visit::QUIET,
@@ -126,16 +129,19 @@ pub(crate) fn visit_transfer<A: Allocator + Copy, W: Wire, K: Keeper>(
 }
 
 /// Handles a time-out at a transfer's port.
-pub(crate) fn time_out<A: Allocator + Copy, W: Wire>(
+pub(crate) fn time_out<A: Allocator + Copy, W: Wire, O: Observer>(
     table: &mut Table<A>,
     wire: &mut W,
+    observer: &mut O,
     port: u16,
 ) -> Change
     ensures timeout { IsTimeout (λ r. timeout_visit r port table.old) table.new result (W.log wire.old) (W.log wire.new) }
     ensures fits { IsTable table.new }
 {
     let step = table.on_timeout(port);
-    end_step(wire, port, true, &step).change
+    let visit = end_step(wire, port, true, &step);
+    observer.on_step(port, None, &step, table);
+    visit.change
 }
 
 // Ends a request: the spare port is closed again unless a transfer was opened on it.
@@ -207,9 +213,10 @@ fn is_admitted<A: Allocator + Copy>(
 }
 
 /// Visits the request port.
-pub(crate) fn visit_request<A: Allocator + Copy, W: Wire>(
+pub(crate) fn visit_request<A: Allocator + Copy, W: Wire, O: Observer>(
     table: &mut Table<A>,
     wire: &mut W,
+    observer: &mut O,
     timers: &Timers,
     mode: Mode,
 ) -> Visit
@@ -220,7 +227,7 @@ pub(crate) fn visit_request<A: Allocator + Copy, W: Wire>(
     match wire.receive(table.request(), &mut buffer) {
         Ok(Some((count, from))) => {
             if is_admitted(table, timers, mode, from, &buffer[..count]) {
-                answer_request(table, wire, from, &buffer[..count])
+                answer_request(table, wire, observer, from, &buffer[..count])
             } else {
                 Visit::LOST
             }
@@ -230,10 +237,23 @@ pub(crate) fn visit_request<A: Allocator + Copy, W: Wire>(
     }
 }
 
+// Tells an observer of the step of a request.
+fn observe_request<A: Allocator + Copy, O: Observer>(
+    table: &Table<A>,
+    observer: &mut O,
+    spare: u16,
+    from: Endpoint,
+    step: &Step<A>,
+) {
+    let port = if step.opened { spare } else { table.request() };
+    observer.on_step(port, Some(from), step, table);
+}
+
 // Handles a datagram of these bytes, received at the request port.
-fn answer_request<A: Allocator + Copy, W: Wire>(
+fn answer_request<A: Allocator + Copy, W: Wire, O: Observer>(
     table: &mut Table<A>,
     wire: &mut W,
+    observer: &mut O,
     from: Endpoint,
     bytes: &[u8],
 ) -> Visit
@@ -243,7 +263,9 @@ fn answer_request<A: Allocator + Copy, W: Wire>(
     match wire.open() {
         Ok(spare) if is_usable(table, spare) => {
             let step = table.on_request(spare, from, bytes);
-            end_request(wire, spare, &step)
+            let visit = end_request(wire, spare, &step);
+            observe_request(table, observer, spare, from, &step);
+            visit
         }
         Ok(_) => Visit::LOST,
         Err(_) => Visit::LOST,
@@ -252,9 +274,10 @@ fn answer_request<A: Allocator + Copy, W: Wire>(
 
 /// Lets each port that is due after a visit with this result, or gives way, time out, in the order of the ports. Its
 /// timer restarts, unless its transfer has ended.
-pub(crate) fn time_out_late<A: Allocator + Copy, W: Wire>(
+pub(crate) fn time_out_late<A: Allocator + Copy, W: Wire, O: Observer>(
     table: &mut Table<A>,
     wire: &mut W,
+    observer: &mut O,
     timers: &mut Timers,
     mode: Mode,
     change: Change,
@@ -266,7 +289,7 @@ pub(crate) fn time_out_late<A: Allocator + Copy, W: Wire>(
 {
     let ports = timers.late(mode, change, table);
     for port in ports.as_slice() {
-        let change = time_out(table, wire, *port);
+        let change = time_out(table, wire, observer, *port);
         timers.apply_timeout(mode, change, *port);
     }
 }

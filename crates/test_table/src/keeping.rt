@@ -258,3 +258,40 @@ fn starting_again(rt: HostRuntime) -> Result<(), Fail> {
     }
     Ok(())
 }
+
+// An MS file with solutions of two levels.
+const DATA_TWO_LEVELS: &[u8; 52] =
+    b"\0\x03\0\x01\x35\x33\x9B\x99\x02\0\0\0\x10\0\0\0\x01\0BDHP\0\0\0\0\0\0\x64\0\0\0\x10\0\0\0\x02\0JXMJ\0\0\0\0\0\0\x64\0\0\0";
+
+// Whether, after each of these files was put, the table has counted this many solutions that became better.
+fn counts(
+    archive: &mut Archive,
+    keeper: &mut MemoryKeeper,
+    rows: &[(u16, &[u8], u64)],
+) -> Result<bool, Fail> {
+    for (port, data, count) in rows {
+        archive.ask(*port, client(2), WRQ)?;
+        archive.handle(keeper, *port, client(2), data);
+        if archive.table().bettered() != *count {
+            return Ok(false);
+        }
+    }
+    Ok(true)
+}
+
+// A file that changes nothing is not counted, nor one that is not kept.
+#[test]
+fn what_became_better(rt: HostRuntime) -> Result<(), Fail> {
+    let mut keeper = MemoryKeeper::new(rt.alloc());
+    keeper.fail_at(2);
+    let rows: [(u16, &[u8], u64); 6] = [
+        (4000, DATA_HUNDRED, 1),
+        (4001, DATA_HUNDRED, 1),
+        (4002, DATA_NINETY, 1),
+        (4003, DATA_NINETY, 2),
+        (4004, DATA_TWO_LEVELS, 4),
+        (4005, DATA_UNREADABLE, 4),
+    ];
+    assert!(rt; counts(&mut Archive::new(rt.alloc()), &mut keeper, &rows)?);
+    Ok(())
+}

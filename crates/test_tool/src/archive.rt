@@ -8,14 +8,14 @@ use std::test::Fail;
 use test_samples::{ACK_0, ACK_1, ALICE, DATA_HUNDRED, HUNDRED, PEER, RRQ_LYNX, SERVER, WRQ};
 use tftp_packet::Endpoint;
 use tws_file::{FileFault, Ruleset};
-use tws_tool::{Passes, ToolFault, get_file, put_file, serve_archive};
+use tws_tool::{FileSystem, Passes, ToolFault, get_file, put_file, serve_archive};
 
 fn wire_of(rt: &HostRuntime, opens: &[u16]) -> Result<MemoryWire, Fail> {
     Ok(MemoryWire::new(rt.alloc(), Vec::from_slice(rt.alloc(), opens)?))
 }
 
 // A client's wire, at which these datagrams arrive from the server's transfer.
-fn answered(rt: &HostRuntime, answers: &[&[u8]]) -> Result<MemoryWire, Fail> {
+pub(crate) fn answered(rt: &HostRuntime, answers: &[&[u8]]) -> Result<MemoryWire, Fail> {
     let mut wire = wire_of(rt, &[ALICE.port])?;
     for bytes in answers {
         if bytes.len() <= 517 {
@@ -33,7 +33,7 @@ fn is_sent(entry: &Entry, to: Endpoint, bytes: &[u8]) -> bool {
 }
 
 // How often these bytes were sent to this endpoint.
-fn sent(wire: &MemoryWire, to: Endpoint, bytes: &[u8]) -> usize {
+pub(crate) fn sent(wire: &MemoryWire, to: Endpoint, bytes: &[u8]) -> usize {
     wire.log()
         .iter()
         .filter(|entry| is_sent(entry, to, bytes))
@@ -122,23 +122,74 @@ fn a_put_of_an_input_that_stumbles(rt: HostRuntime) -> Result<(), Fail> {
 
 // ---- get
 
-#[test]
-fn a_get(rt: HostRuntime) -> Result<(), Fail> {
-    let mut wire = answered(&rt, &[DATA_HUNDRED])?;
-    let mut file = Vec::new(rt.alloc());
+// A system with one file, which has these bytes until a draft takes its place.
+#[derive(Drop)]
+struct Shelf {
+    file: Vec<u8>,
+}
+
+impl FileSystem for Shelf {
+    type File = io::Empty;
+
+    type Draft = Vec<u8>;
+
+    ghost bytes_of = { λ _ _. None };
+
+    ghost drafted_of = { λ _ _. None };
+
+    fn open(&self, _name: &str) -> io::Result<io::Empty> {
+        Ok(io::empty())
+    }
+
+    fn begin(&mut self, _name: &str) -> io::Result<Vec<u8>> {
+        Ok(Vec::new(*self.file.allocator()))
+    }
+
+    fn publish(&mut self, _name: &str, draft: Vec<u8>) -> io::Result<()> {
+        self.file = draft;
+        Ok(())
+    }
+
+    fn abandon(&mut self, _draft: Vec<u8>) {}
+}
+
+// What a get at which these datagrams arrive leaves of a file of two bytes, what it prints, and how many requests and
+// acknowledgements of block 1 it sends.
+fn get_of(rt: &HostRuntime, answers: &[&[u8]]) -> Result<(Vec<u8>, Vec<u8>, usize, usize), Fail> {
+    let mut wire = answered(rt, answers)?;
+    let mut shelf = Shelf {
+        file: Vec::from_slice(rt.alloc(), b"ab")?,
+    };
     let mut out = Vec::new(rt.alloc());
-    get_file(
-        rt.alloc(),
+    let _ = get_file(
+        &mut shelf,
         &mut wire,
+        rt.alloc(),
         SERVER,
         Ruleset::Lynx,
-        &mut file,
+        "best",
         &mut out,
-    )?;
+    );
     let (requests, acks) = (sent(&wire, SERVER, RRQ_LYNX), sent(&wire, PEER, ACK_1));
+    Ok((shelf.file, out, requests, acks))
+}
+
+#[test]
+fn a_get(rt: HostRuntime) -> Result<(), Fail> {
+    let (file, out, requests, acks) = get_of(&rt, &[DATA_HUNDRED])?;
     assert_eq!(rt;
         (file.as_slice(), out.as_slice(), requests, acks),
         (HUNDRED.as_slice(), b"got 28 bytes\n".as_slice(), 1, 1)
+    );
+    Ok(())
+}
+
+#[test]
+fn a_get_that_is_refused(rt: HostRuntime) -> Result<(), Fail> {
+    let (file, out, requests, acks) = get_of(&rt, &[b"\0\x05\0\0collection too long\0"])?;
+    assert_eq!(rt;
+        (file.as_slice(), out.as_slice(), requests, acks),
+        (b"ab".as_slice(), b"".as_slice(), 1, 0)
     );
     Ok(())
 }

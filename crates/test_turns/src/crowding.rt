@@ -1,6 +1,6 @@
 // What a round lets in, and who makes room.
 use crate::wires::*;
-use archive_table::NoKeeper;
+use archive_table::{NoKeeper, NoObserver};
 use archive_turns::{MemoryWire, Server, serve_rounds};
 use std::alloc::Global;
 use std::test::Fail;
@@ -27,7 +27,7 @@ fn asked(
     for number in 0..requests {
         let port = 5000_u16.saturating_add(number);
         wire.arrive(alloc, 6969, Endpoint { host, port }, WRQ)?;
-        serve_rounds(wire, &mut NoKeeper, server, 1);
+        serve_rounds(wire, &mut NoKeeper, &mut NoObserver, server, 1);
     }
     Ok(server.table().live())
 }
@@ -39,7 +39,7 @@ fn only_requests_cost_a_port(rt: HostRuntime) -> Result<(), Fail> {
     let mut server = Server::new(alloc, 6969);
     for junk in [b"".as_slice(), ACK_0, DATA_HUNDRED, UNKNOWN_TRANSFER] {
         wire.arrive(alloc, 6969, ALICE, junk)?;
-        serve_rounds(&mut wire, &mut NoKeeper, &mut server, 1);
+        serve_rounds(&mut wire, &mut NoKeeper, &mut NoObserver, &mut server, 1);
     }
     let opened = wire.log().iter().any(|entry| is_opened(entry, Some(4000)));
     let live = asked(alloc, &mut wire, &mut server, 2, 1)?;
@@ -67,12 +67,12 @@ fn a_stranger_restarts_no_timer(rt: HostRuntime) -> Result<(), Fail> {
     let alloc = rt.alloc();
     let mut wire = request_wire(alloc, 4000)?;
     let mut server = Server::new(alloc, 6969);
-    serve_rounds(&mut wire, &mut NoKeeper, &mut server, 1);
+    serve_rounds(&mut wire, &mut NoKeeper, &mut NoObserver, &mut server, 1);
     for time in [1000, 2000, 3000, 4000, 5000] {
         wire.set_time(time);
         wire.set_settled(Some(time));
         wire.arrive(alloc, 4000, BOB, ACK_0)?;
-        serve_rounds(&mut wire, &mut NoKeeper, &mut server, 1);
+        serve_rounds(&mut wire, &mut NoKeeper, &mut NoObserver, &mut server, 1);
     }
     let answers = sent_times(&wire, 4000, BOB, UNKNOWN_TRANSFER);
     let again = sent_times(&wire, 4000, ALICE, ACK_0);
@@ -96,9 +96,9 @@ fn a_dallying_transfer_gives_way(rt: HostRuntime) -> Result<(), Fail> {
         },
         DATA_HUNDRED,
     )?;
-    let taken = serve_rounds(&mut wire, &mut NoKeeper, &mut server, 1);
+    let taken = serve_rounds(&mut wire, &mut NoKeeper, &mut NoObserver, &mut server, 1);
     let full = asked(alloc, &mut wire, &mut server, 3, 63)?;
-    serve_rounds(&mut wire, &mut NoKeeper, &mut server, 1);
+    serve_rounds(&mut wire, &mut NoKeeper, &mut NoObserver, &mut server, 1);
     let left = server.table().live();
     let again = asked(alloc, &mut wire, &mut server, 4, 1)?;
     assert_eq!(rt; (first, taken, full, left, again), (1, 1, 64, 63, 64));

@@ -1,6 +1,6 @@
 // Servers with a keeper, over wires in memory: a put that is not kept, one that is, and a start with what was kept.
 use crate::wires::*;
-use archive_table::{KeepFault, LoadFault, MemoryKeeper, Table};
+use archive_table::{KeepFault, LoadFault, MemoryKeeper, NoObserver, Table};
 use archive_turns::{MemoryWire, Server, serve_rounds, serve_turns};
 use std::alloc::Global;
 use std::test::Fail;
@@ -106,9 +106,9 @@ fn put_in_rounds(
     client: Endpoint,
 ) -> Result<u64, Fail> {
     wire.arrive(alloc, 6969, client, WRQ)?;
-    let first = serve_rounds(wire, keeper, server, 1);
+    let first = serve_rounds(wire, keeper, &mut NoObserver, server, 1);
     wire.arrive(alloc, port, client, DATA_HUNDRED)?;
-    Ok(first.saturating_add(serve_rounds(wire, keeper, server, 1)))
+    Ok(first.saturating_add(serve_rounds(wire, keeper, &mut NoObserver, server, 1)))
 }
 
 fn puts_in_rounds(

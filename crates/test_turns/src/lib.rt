@@ -8,6 +8,8 @@ mod joined;
 #[cfg(test)]
 mod keeping;
 #[cfg(test)]
+mod observing;
+#[cfg(test)]
 mod rounds;
 #[cfg(test)]
 mod runs;

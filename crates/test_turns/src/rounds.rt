@@ -1,6 +1,6 @@
 // Rounds of a server over wires in memory whose clock the test sets.
 use crate::wires::*;
-use archive_table::NoKeeper;
+use archive_table::{NoKeeper, NoObserver};
 use archive_turns::{MemoryWire, RECEIVE_SIZE, Ready, ReadyWire, Server, Wire, serve_rounds};
 use std::alloc::Global;
 use std::test::Fail;
@@ -9,13 +9,13 @@ use tws_file::Ruleset;
 
 // Makes one round of the server. Returns how many files it takes, and whether it has sent this to the client last.
 fn acks(wire: &mut MemoryWire, server: &mut Server, ack: &[u8; 4]) -> (u64, bool) {
-    let taken = serve_rounds(wire, &mut NoKeeper, server, 1);
+    let taken = serve_rounds(wire, &mut NoKeeper, &mut NoObserver, server, 1);
     (taken, sent_last(wire, 4000, ALICE, ack))
 }
 
 // Makes one round of the server. Returns how many transfers are live after it.
 fn lives(wire: &mut MemoryWire, server: &mut Server) -> usize {
-    serve_rounds(wire, &mut NoKeeper, server, 1);
+    serve_rounds(wire, &mut NoKeeper, &mut NoObserver, server, 1);
     server.table().live()
 }
 
@@ -65,7 +65,7 @@ fn are_sent_in_time(
         wire.set_time(time);
         wire.set_settled(Some(settled));
         wire.arrive(alloc, 6969, ALICE, b"no packet")?;
-        serve_rounds(wire, &mut NoKeeper, server, 1);
+        serve_rounds(wire, &mut NoKeeper, &mut NoObserver, server, 1);
         if send_count(wire) != sent {
             return Ok(false);
         }
@@ -79,7 +79,7 @@ fn are_sent_in_time(
 fn a_busy_request_port(rt: HostRuntime) -> Result<(), Fail> {
     let mut wire = request_wire(rt.alloc(), 4000)?;
     let mut server = Server::new(rt.alloc(), 6969);
-    serve_rounds(&mut wire, &mut NoKeeper, &mut server, 1);
+    serve_rounds(&mut wire, &mut NoKeeper, &mut NoObserver, &mut server, 1);
     assert!(rt; are_sent_in_time(rt.alloc(), &mut wire, &mut server)?);
     Ok(())
 }

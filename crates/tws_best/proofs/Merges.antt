@@ -1,5 +1,5 @@
 -- Merging part after part, and going back.
-use Rattle.std.proofs.Common.{◌≡◌, ◌≢◌, ◌⊎◌, ◌==◌, ℕ, Bool, true, false, not, MatchBool, List, [], ◌∷◌, ◌++◌, length, Option, Result, Ok, Err, OnOk, OnErr, refl, ap, sym, ◌∙◌, subst, inl, inr, append-nil, append_assoc}
+use Rattle.std.proofs.Common.{◌≡◌, ◌≢◌, ◌⊎◌, ◌↔◌, ◌==◌, ℕ, Bool, true, false, not, MatchBool, List, [], ◌∷◌, ◌++◌, length, Option, Result, Ok, Err, OnOk, OnErr, refl, ap, sym, ◌∙◌, subst, inl, inr, append-nil, append_assoc}
 use Rattle.std.specs.List.{Contains, AllByRecursion}
 use Rattle.std.proofs.lemmas.Bool.{true≢false}
 use Rattle.std.proofs.lemmas.Map.Views.{exact_unsigned_eq}
@@ -106,13 +106,19 @@ fits_by (Err e) first ds old new more collected fits best none l =
     let is : new ≡ first = subst (λ (cs : List (Key × Option (List ℕ))). Undoes first cs new) none l.undo in
     subst (λ (ps : List BodyPair). AreCollected (keyed_bodies ps)) (sym is) l.collected
 
--- something was noted exactly if the collection changed
+-- nothing was noted exactly if the collection has not changed
+pub none_since : (n : ℕ) (ds : List (Key × Option (List ℕ))) (c d : Collected) → length ds ≡ n → c.ruleset ≡ d.ruleset →
+    LeadsBack (pairs_of d.entries) ds (pairs_of c.entries) → (n ≡ 0) ↔ (c ≡ d)
+none_since n ds c d long rules l = (
+  (λ is. let none = none_from_length ds (long ∙ is) in same_pairs c d rules (subst (λ (cs : List (Key × Option (List ℕ))). Undoes (pairs_of d.entries) cs (pairs_of c.entries)) none l.undo)),
+  (λ same. elim l.changed [
+    | inl none ↦ sym long ∙ ap length none
+    | inr other ↦ absurd (other (ap (λ (e : Collected). keyed_bodies (pairs_of e.entries)) same))
+  ]),
+)
+
+-- the same by a test
 pub changed_since : (b : Bool) (n : ℕ) (ds : List (Key × Option (List ℕ))) (c d : Collected) → b ≡ (n == 0) → length ds ≡ n →
     c.ruleset ≡ d.ruleset → LeadsBack (pairs_of d.entries) ds (pairs_of c.entries) → MatchBool (not b) (c ≢ d) (c ≡ d)
-changed_since true n ds c d is long rules l =
-    let none = none_from_length ds (long ∙ exact_unsigned_eq n 0 (sym is)) in
-    same_pairs c d rules (subst (λ (cs : List (Key × Option (List ℕ))). Undoes (pairs_of d.entries) cs (pairs_of c.entries)) none l.undo)
-changed_since false n ds c d is long rules l = elim l.changed [
-  | inl none ↦ absurd (true≢false (ap (λ (m : ℕ). m == 0) (ap length (sym none) ∙ long) ∙ sym is))
-  | inr other ↦ λ same. other (ap (λ (e : Collected). keyed_bodies (pairs_of e.entries)) same)
-]
+changed_since true n ds c d is long rules l = (none_since n ds c d long rules l).0 (exact_unsigned_eq n 0 (sym is))
+changed_since false n ds c d is long rules l = λ same. true≢false (ap (λ (m : ℕ). m == 0) (sym ((none_since n ds c d long rules l).1 same)) ∙ sym is)

@@ -1,4 +1,4 @@
-ghost use Rattle.std.specs.Prelude.{◌≡◌, ◌≢◌, ◌++◌, Contains, OnOk, OnErr, MatchBool};
+ghost use Rattle.std.specs.Prelude.{◌≡◌, ◌≢◌, ◌↔◌, ◌++◌, Contains, OnOk, OnErr, MatchBool};
 ghost use Rattle.std.specs.List.{AllByRecursion};
 ghost use Rattle.tws_file.specs.Text.{IsRecord};
 ghost use Rattle.tws_file.specs.Record.{records_of};
@@ -60,6 +60,14 @@ impl<A: Allocator + Copy> Merge<A> {
         ensures { MatchBool result (self.now.now ≢ self.now.first) (self.now.now ≡ self.now.first) }
     {
         !self.done.is_empty()
+    }
+
+    /// The number of changes: how often a solution was better than what the collection had for its key, or the first
+    /// there. A key that changed twice counts twice.
+    pub fn changes(&self) -> usize
+        ensures { (result ≡ 0) ↔ (self.now.now ≡ self.now.first) }
+    {
+        self.done.len()
     }
 
     /// The collection as it is now.

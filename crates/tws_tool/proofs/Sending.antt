@@ -18,11 +18,11 @@ use Rattle.tws_tool.specs.declared.tool_fault.ToolFault.{ToolFault}
 use Rattle.tws_tool.specs.declared.tool_fault.ToolFault.TheVariants as tool
 use Rattle.tws_tool.specs.Faults.{answer_status, run_fault}
 use Rattle.tws_tool.specs.declared.commands.put.PutArguments.{PutArguments}
-use Rattle.tws_tool.specs.Address.{IsAddress}
+use Rattle.tws_tool.specs.Address.{Locates}
 use Rattle.tws_tool.specs.Commands.Put.{IsBlamed, PutFails, PutRan, PutRuns, Puts, SaysSent, put_known}
 use Rattle.tws_tool.specs.Inputs.{IsUnreadable}
-use Rattle.tws_tool.proofs.Statuses.{at_zero, map_err, map_ok, no_usage, transfers}
-use Rattle.tws_tool.specs.Lines.{Transfers, Unsaid, sent_line}
+use Rattle.tws_tool.proofs.Statuses.{at_zero, map_err, map_ok, no_host, no_usage, transfers}
+use Rattle.tws_tool.specs.Lines.{Unsaid, sent_line}
 
 -- a put writes nothing, so it has no write fault
 no_write_of : (why : Cause) (len : ℕ) → put_result (state.Failed why) len ≢ Err run.Write
@@ -135,28 +135,31 @@ module _ (old new : Option (List ℕ)) where
   blamed known (Err tool.Socket) blames three = absurd (omega (arith, three))
   blamed known (Err (tool.Transfer why)) blames three = absurd (omega (arith, three))
 
-  module _ (bytes_of : List ℕ → Option (List ℕ)) (arguments : PutArguments) where
-    -- what `put` did, by the exit status, if the address is one
-    pub put_ran : (host : ℕ) (before after : Option (List Entry)) (r : Result (Unit {0}) ToolFault) → IsAddress (string_bytes arguments.target.address) host
+  module _ (bytes_of : List ℕ → Option (List ℕ)) (host_of : List ℕ → Option (Option ℕ)) (arguments : PutArguments) where
+    -- what `put` did, by the exit status, if a host was found
+    pub put_ran : (host : ℕ) (before after : Option (List Entry)) (r : Result (Unit {0}) ToolFault) → Locates host_of (string_bytes arguments.target.address) (Some host)
         → OnOk r (Puts (put_known bytes_of arguments) (record { host = host; port = arguments.target.port }) before after old new)
         → IfErr r (PutFails (put_known bytes_of arguments) (record { host = host; port = arguments.target.port }) before after old new)
-        → PutRan bytes_of arguments (answer_status r) before after old new
+        → PutRan bytes_of host_of arguments (answer_status r) before after old new
     put_ran host before after r is puts fails = record {
-      transfers = transfers old new (string_bytes arguments.target.address) sent_line host r is
+      found = Some host;
+      located = is;
+      transfers = transfers old new sent_line host r
           (map_ok r (λ p. (p.len, p.said)) puts) (map_err r (put_unsaid (put_known bytes_of arguments) _ before after) fails);
       sent = at_zero r (map_ok r (put_says (put_known bytes_of arguments) _ before after old new) puts);
       unreadable = blamed (put_known bytes_of arguments) r (map_err r (put_blames (put_known bytes_of arguments) _ before after old new) fails);
-      ended = λ other. (host, is, record { done = r; status_is = refl; puts = puts; fails = fails });
+      ended = λ other. (host, refl, record { done = r; status_is = refl; puts = puts; fails = fails });
       nowhere = λ one. absurd (no_usage r one);
     }
 
-    -- nothing is sent to a text that is not an address
-    pub put_nowhere : (status : ℕ) (log : Option (List Entry)) → status ≡ 1 →
-        Transfers (string_bytes arguments.target.address) sent_line status old new →
-        PutRan bytes_of arguments status log log old new
-    put_nowhere status log one transfers =
+    -- nothing is sent if no host was found
+    pub put_nowhere : (status : ℕ) (log : Option (List Entry)) → status ≡ 1 → Locates host_of (string_bytes arguments.target.address) None →
+        new ≡ old → PutRan bytes_of host_of arguments status log log old new
+    put_nowhere status log one is same =
         record {
-          transfers = transfers;
+          found = None;
+          located = is;
+          transfers = no_host old new sent_line status one same;
           sent = λ e. absurd (omega (arith, e, one));
           unreadable =
               λ e. absurd (omega (arith, e, one));

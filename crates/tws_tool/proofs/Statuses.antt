@@ -1,10 +1,9 @@
 -- What a run did, by the result of its command.
-use Rattle.std.proofs.Common.{[], ◌∷◌, ◌++◌, ◌≡◌, ◌≢◌, ℕ, List, length, Option, Result, Ok, Err, OnOk, IfErr, refl, arith, ap, length-append, inl, inr}
+use Rattle.std.proofs.Common.{[], ◌∷◌, ◌++◌, ◌≡◌, ◌≢◌, ℕ, List, length, Option, Some, None, Result, Ok, Err, OnOk, IfErr, refl, arith, ap, length-append, inl, inr}
 use Rattle.std.specs.Io.KnownBytes.{IsAtEnd}
 use Rattle.tws_file.specs.Text.{File}
 use Rattle.tws_tool.specs.declared.tool_fault.ToolFault.{ToolFault}
 use Rattle.tws_tool.specs.declared.tool_fault.ToolFault.TheVariants.{Read, Write, Unreadable, Memory, Socket, Transfer}
-use Rattle.tws_tool.specs.Address.{IsAddress}
 use Rattle.tws_tool.specs.Faults.{IsReadOut, answer_status, status_of}
 use Rattle.tws_tool.specs.Lines.{Says, Transfers, Unsaid}
 use Rattle.tws_tool.specs.Written.{Ran, Writes, WriteFails}
@@ -109,82 +108,85 @@ none_blamed (Err e) other = other
 
 -- ---- transfers
 
+some_host : (host : ℕ) → Some host ≢ None
+some_host host is = absurd cc
+
 -- the output before and after
 module _ (old new : Option (List ℕ)) where
-  -- what a transfer printed, by the exit status, if the address is one
-  pub transfers : (address : List ℕ) (text : ℕ → List ℕ) (host : ℕ) (r : Result (Unit {0}) ToolFault) → IsAddress address host →
-      OnOk r (Says text old new) → IfErr r (Unsaid text old new) → Transfers address text (answer_status r) old new
-  transfers address text host (Ok done) is says unsaid =
+  -- what a transfer printed, by the exit status, if a host was found
+  pub transfers : (text : ℕ → List ℕ) (host : ℕ) (r : Result (Unit {0}) ToolFault) → OnOk r (Says text old new) → IfErr r (Unsaid text old new) →
+      Transfers (Some host) text (answer_status r) old new
+  transfers text host (Ok done) says unsaid =
       record {
         done = λ e. says;
         failed = λ e. absurd (omega (arith, e));
         other = λ a b. absurd (a refl);
         bad =
-            (λ e. absurd (omega (arith, e)), λ none. absurd (none host is));
+            (λ e. absurd (omega (arith, e)), λ none. absurd (some_host host none));
         few = omega arith;
       }
-  transfers address text host (Err Read) is says unsaid =
+  transfers text host (Err Read) says unsaid =
       record {
         done = λ e. absurd (omega (arith, e));
         failed = λ e. inl unsaid;
         other = λ a b. unsaid;
         bad =
-            (λ e. absurd (omega (arith, e)), λ none. absurd (none host is));
+            (λ e. absurd (omega (arith, e)), λ none. absurd (some_host host none));
         few = omega arith;
       }
-  transfers address text host (Err Write) is says unsaid =
+  transfers text host (Err Write) says unsaid =
       record {
         done = λ e. absurd (omega (arith, e));
         failed = λ e. unsaid;
         other = λ a b. absurd (b refl);
         bad =
-            (λ e. absurd (omega (arith, e)), λ none. absurd (none host is));
+            (λ e. absurd (omega (arith, e)), λ none. absurd (some_host host none));
         few = omega arith;
       }
-  transfers address text host (Err (Unreadable index fault)) is says unsaid =
+  transfers text host (Err (Unreadable index fault)) says unsaid =
       record {
         done = λ e. absurd (omega (arith, e));
         failed = λ e. absurd (omega (arith, e));
         other = λ a b. unsaid;
         bad =
-            (λ e. absurd (omega (arith, e)), λ none. absurd (none host is));
+            (λ e. absurd (omega (arith, e)), λ none. absurd (some_host host none));
         few = omega arith;
       }
-  transfers address text host (Err Memory) is says unsaid =
+  transfers text host (Err Memory) says unsaid =
       record {
         done = λ e. absurd (omega (arith, e));
         failed = λ e. unsaid;
         other = λ a b. absurd (b refl);
         bad =
-            (λ e. absurd (omega (arith, e)), λ none. absurd (none host is));
+            (λ e. absurd (omega (arith, e)), λ none. absurd (some_host host none));
         few = omega arith;
       }
-  transfers address text host (Err Socket) is says unsaid =
+  transfers text host (Err Socket) says unsaid =
       record {
         done = λ e. absurd (omega (arith, e));
         failed = λ e. inl unsaid;
         other = λ a b. unsaid;
         bad =
-            (λ e. absurd (omega (arith, e)), λ none. absurd (none host is));
+            (λ e. absurd (omega (arith, e)), λ none. absurd (some_host host none));
         few = omega arith;
       }
-  transfers address text host (Err (Transfer why)) is says unsaid =
+  transfers text host (Err (Transfer why)) says unsaid =
       record {
         done = λ e. absurd (omega (arith, e));
         failed = λ e. absurd (omega (arith, e));
         other = λ a b. unsaid;
         bad =
-            (λ e. absurd (omega (arith, e)), λ none. absurd (none host is));
+            (λ e. absurd (omega (arith, e)), λ none. absurd (some_host host none));
         few = omega arith;
       }
 
-  -- what a transfer printed if the address is none: nothing, at status 1
-  pub no_address : (address : List ℕ) (text : ℕ → List ℕ) (status : ℕ) → status ≡ 1 → new ≡ old → ((host : ℕ) → IsAddress address host → ⊥) → Transfers address text status old new
-  no_address address text status one same none =
+  -- what a transfer printed if no host was found: nothing, at status 1
+  pub no_host : (text : ℕ → List ℕ) (status : ℕ) → status ≡ 1 → new ≡ old → Transfers None text status old new
+  no_host text status one same =
       record {
         done = λ e. absurd (omega (arith, e, one));
         failed = λ e. absurd (omega (arith, e, one));
         other = λ a b. same;
-        bad = (λ e. none, λ n. one);
+        bad = (λ e. refl, λ n. one);
         few = omega (arith, one);
       }

@@ -1,5 +1,7 @@
--- The text of a server's address.
-use Rattle.std.specs.Prelude.{◌≡◌, ◌<◌, ℕ, ◌+◌, ◌*◌, List}
+-- The text of a server's address, and the host that it leads to.
+use Rattle.std.specs.Prelude.{◌≡◌, ◌<◌, ℕ, ◌+◌, ◌*◌, Bool, true, false, List, Option, IfSome, IfNone}
+use Rattle.std.specs.Char.{is_ascii_alphabetic}
+use Rattle.std.specs.List.{list_any}
 use Rattle.std.specs.Net.Text.{dotted_text}
 
 -- the text is four decimal numbers without leading zeros, with dots between them; the first is the host's most significant
@@ -12,3 +14,17 @@ pub record IsAddress (text : List ℕ) (host : ℕ) : Type 0 where
   pub fit : (a < 256) × (b < 256) × (c < 256) × (d < 256)
   pub spelled : text ≡ dotted_text a b c d
   pub host_is : host ≡ ((a * 256 + b) * 256 + c) * 256 + d
+
+abbrev pub IsNoAddress : (text : List ℕ) → Type 0
+IsNoAddress text = (host : ℕ) → IsAddress text host → ⊥
+
+-- a text with a letter is the name of a host
+abbrev pub has_letter : (text : List ℕ) → Bool
+has_letter text = list_any is_ascii_alphabetic text
+
+-- The host that a text leads to, if it leads to one, given what is known of the hosts of names: that of an address, or
+-- the one that the resolver finds by a name.
+pub record Locates (host_of : List ℕ → Option (Option ℕ)) (text : List ℕ) (found : Option ℕ) : Type 0 where
+  pub address : has_letter text ≡ false → IfSome found (IsAddress text)
+  pub none : has_letter text ≡ false → IfNone found (IsNoAddress text)
+  pub name : has_letter text ≡ true → IfSome (host_of text) (λ (host : Option ℕ). found ≡ host)

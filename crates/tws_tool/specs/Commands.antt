@@ -22,6 +22,7 @@ use Rattle.tws_tool.specs.Commands.Page.{AsksForPage, PageRan, page_app, page_na
 use Rattle.tws_tool.specs.Commands.Serve.{AsksToServe, ServeRan, serve_app, serve_name}
 use Rattle.tws_tool.specs.Commands.Put.{AsksToPut, PutRan, put_app, put_name}
 use Rattle.tws_tool.specs.Commands.Get.{AsksToGet, GetRan, get_app, get_name}
+use Rattle.tws_tool.specs.Files.{Known}
 use Rattle.tws_tool.specs.Help.{Explained}
 
 abbrev pub top_app : App
@@ -49,17 +50,16 @@ AsksFor command (job.Put arguments) = (command.0 ≡ put_name) × AsksToPut comm
 AsksFor command (job.Get arguments) = (command.0 ≡ get_name) × AsksToGet command.1 arguments
 
 -- What a job did, by its exit status: 0 if all was done, 1 for a usage error, 2 if reading, writing, a socket or memory
--- failed, 3 for an unreadable solution file, 4 for a failed transfer. Given are what is known of the bytes of the file
--- with each name, and of the contents of a file that is created with a name, and what holds if standard input was not
--- read; then the log of the wire before and after, what standard input had and has left, and the output before and
--- after.
-abbrev pub JobRuns : (bytes_of created_of : List ℕ → Option (List ℕ)) → (Unread : Type 0) → Result Job JobFault → (status : ℕ) → (before after : Option (List Entry)) → (known left old new : Option (List ℕ)) → Type 0
-JobRuns bytes_of created_of Unread (Ok (job.Show arguments)) status before after known left old new = (after ≡ before) × ShowRan bytes_of Unread arguments status known left old new
-JobRuns bytes_of created_of Unread (Ok (job.Pack arguments)) status before after known left old new = (after ≡ before) × PackRan bytes_of Unread arguments status known left old new
-JobRuns bytes_of created_of Unread (Ok (job.Best arguments)) status before after known left old new = (after ≡ before) × Unread × BestRan bytes_of arguments status old new
-JobRuns bytes_of created_of Unread (Ok (job.Page arguments)) status before after known left old new = (after ≡ before) × Unread × PageRan bytes_of arguments status old new
-JobRuns bytes_of created_of Unread (Ok (job.Serve arguments)) status before after known left old new = (after ≡ before) × Unread × ServeRan arguments status old new
-JobRuns bytes_of created_of Unread (Ok (job.Put arguments)) status before after known left old new = Unread × PutRan bytes_of arguments status before after old new
-JobRuns bytes_of created_of Unread (Ok (job.Get arguments)) status before after known left old new = Unread × GetRan created_of arguments status before after old new
-JobRuns bytes_of created_of Unread (Err (fault.Words error)) status before after known left old new = (after ≡ before) × Unread × Explained error status old new
-JobRuns bytes_of created_of Unread (Err fault.Memory) status before after known left old new = (after ≡ before) × Unread × (status ≡ 2) × (new ≡ old)
+-- failed, 3 for an unreadable solution file, 4 for a failed transfer. Given are what is known of files and hosts, what is
+-- known of the bytes of the files afterwards, and what holds if standard input was not read; then the log of the wire
+-- before and after, what standard input had and has left, and the output before and after. Only `get` changes a file.
+abbrev pub JobRuns : (known : Known) (now : List ℕ → Option (List ℕ)) → (Unread : Type 0) → Result Job JobFault → (status : ℕ) → (before after : Option (List Entry)) → (had left old new : Option (List ℕ)) → Type 0
+JobRuns known now Unread (Ok (job.Show arguments)) status before after had left old new = (after ≡ before) × (now ≡ known.bytes_of) × ShowRan known.bytes_of Unread arguments status had left old new
+JobRuns known now Unread (Ok (job.Pack arguments)) status before after had left old new = (after ≡ before) × (now ≡ known.bytes_of) × PackRan known.bytes_of Unread arguments status had left old new
+JobRuns known now Unread (Ok (job.Best arguments)) status before after had left old new = (after ≡ before) × (now ≡ known.bytes_of) × Unread × BestRan known.bytes_of arguments status old new
+JobRuns known now Unread (Ok (job.Page arguments)) status before after had left old new = (after ≡ before) × (now ≡ known.bytes_of) × Unread × PageRan known.bytes_of arguments status old new
+JobRuns known now Unread (Ok (job.Serve arguments)) status before after had left old new = (after ≡ before) × (now ≡ known.bytes_of) × Unread × ServeRan arguments status old new
+JobRuns known now Unread (Ok (job.Put arguments)) status before after had left old new = (now ≡ known.bytes_of) × Unread × PutRan known.bytes_of known.host_of arguments status before after old new
+JobRuns known now Unread (Ok (job.Get arguments)) status before after had left old new = Unread × GetRan known arguments status before after now old new
+JobRuns known now Unread (Err (fault.Words error)) status before after had left old new = (after ≡ before) × (now ≡ known.bytes_of) × Unread × Explained error status old new
+JobRuns known now Unread (Err fault.Memory) status before after had left old new = (after ≡ before) × (now ≡ known.bytes_of) × Unread × (status ≡ 2) × (new ≡ old)

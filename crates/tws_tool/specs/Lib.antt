@@ -4,6 +4,7 @@ pub mod Inputs
 pub mod Faults
 pub mod Written
 pub mod Help
+pub mod Files
 pub mod Lines
 pub mod Commands
 pub mod CommandLine

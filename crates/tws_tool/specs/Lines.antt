@@ -1,8 +1,7 @@
 -- The lines that the commands of the archive print, and what a run of one has printed, by its exit status.
-use Rattle.std.specs.Prelude.{◌≡◌, ◌≢◌, ◌⊎◌, ◌↔◌, ℕ, ◌≤◌, List, [], ◌∷◌, ◌++◌, codes, decimal, Option}
+use Rattle.std.specs.Prelude.{◌≡◌, ◌≢◌, ◌⊎◌, ◌↔◌, ℕ, ◌≤◌, List, [], ◌∷◌, ◌++◌, codes, decimal, Option, None}
 use Rattle.std.specs.Io.KnownBytes.{Appends}
 use Rattle.byte_output.specs.Output.{AppendsPrefix}
-use Rattle.tws_tool.specs.Address.{IsAddress}
 use Rattle.tws_tool.specs.declared.tool_fault.ToolFault.{ToolFault}
 use Rattle.tws_tool.specs.declared.tool_fault.ToolFault.TheVariants.{Read, Write, Unreadable, Memory, Socket, Transfer}
 
@@ -53,13 +52,10 @@ Unsaid text old new (Transfer why) = new ≡ old
 abbrev pub Unless : Type 0 → ToolFault → Type 0
 Unless P e = (e ≡ Write) ⊎ (e ≡ Memory) ⊎ P
 
-abbrev pub IsNoAddress : (address : List ℕ) → Type 0
-IsNoAddress address = (host : ℕ) → IsAddress address host → ⊥
-
--- a transfer with a server at the address that was typed, which prints this line
-pub record Transfers (address : List ℕ) (text : ℕ → List ℕ) (status : ℕ) (old new : Option (List ℕ)) : Type 0 where
+-- a transfer with a server at the host that was found, if one was, which prints this line
+pub record Transfers (found : Option ℕ) (text : ℕ → List ℕ) (status : ℕ) (old new : Option (List ℕ)) : Type 0 where
   pub done : status ≡ 0 → Says text old new
   pub failed : status ≡ 2 → IsCutText text old new
   pub other : status ≢ 0 → status ≢ 2 → new ≡ old
-  pub bad : (status ≡ 1) ↔ IsNoAddress address
+  pub bad : (status ≡ 1) ↔ (found ≡ None)
   pub few : status ≤ 4

@@ -1,8 +1,9 @@
-//! A server's address, as it is written.
+//! A server's address, as it is written, and the host that it leads to.
 
 ghost use Rattle.std.specs.Prelude.{◌≡◌, ℕ, ◌+◌, ◌*◌, IfSome, IfNone, slice_index};
-ghost use Rattle.tws_tool.specs.Address.{IsAddress};
+ghost use Rattle.tws_tool.specs.Address.{IsAddress, Locates, has_letter};
 
+use crate::resolver::Resolver;
 use std::net::Ipv4Addr;
 
 /// An IPv4 address as a number. Its most significant byte is the first of the four numbers as they are written.
@@ -34,5 +35,25 @@ impl Address {
             }),
             Err(_) => None,
         }
+    }
+}
+
+// Whether a text has a letter, so that it is a name.
+fn has_letter(text: &str) -> bool
+    ensures { result ≡ has_letter text.now }
+{
+    text.bytes().any(|byte| byte.is_ascii_alphabetic())
+}
+
+/// The host that a text leads to, if it leads to one: a text with a letter is the name of a host, and any other is an
+/// address.
+pub(crate) fn locate<S: Resolver>(system: &S, text: &str) -> Option<u32>
+    ensures { Locates (S.host_of system.now) text.now result }
+{
+    if has_letter(text) {
+        system.look_up(text)
+    } else {
+        let address = Address::read(text)?;
+        Some(address.host)
     }
 }

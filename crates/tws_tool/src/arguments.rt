@@ -43,7 +43,7 @@ pub(crate) fn address_argument<'a>(alloc: Global) -> Arg<'a>
     Arg::new(alloc, "address")
         .value_name("ADDRESS")
         .required(true)
-        .help("The server's IPv4 address, four numbers with dots between them")
+        .help("The server's IPv4 address, such as 192.0.2.1, or its name")
 }
 
 pub(crate) fn file_argument<'a>(alloc: Global, help: &'a str) -> Arg<'a>

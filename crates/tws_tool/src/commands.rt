@@ -16,10 +16,11 @@ mod serve;
 mod show;
 
 use crate::file_system::FileSystem;
-use archive_turns::ReadyWire;
+use crate::overhearing::TransferWire;
+use crate::resolver::Resolver;
 pub use best::{BestArguments, run_best};
 use clap::{ArgMatches, Command};
-pub use get::{GetArguments, get_file};
+pub use get::{GetArguments, GetFault, get_file};
 pub use pack::{PackArguments, run_pack};
 pub use page::{PageArguments, run_page};
 pub use put::{PutArguments, put_file};
@@ -109,14 +110,14 @@ pub(crate) fn asked(
 
 /// Does a job, and returns the status.
 pub(crate) fn run_job<
-    S: FileSystem,
-    N: ReadyWire,
+    S: FileSystem + Resolver,
+    N: TransferWire,
     P: Files<File = File> + Net + Clock + RandomSource + AllocGlobal + Copy,
     R: Read,
     W: Write,
     E: Write,
 >(
-    system: &S,
+    system: &mut S,
     wire: &mut N,
     rt: P,
     alloc: Global,
@@ -125,7 +126,7 @@ pub(crate) fn run_job<
     out: &mut W,
     errors: &mut E,
 ) -> u8
-    ensures ran { JobRuns (S.bytes_of system.now) (S.created_of system.now) (input.new ≡ input.old) (Ok job.now) result (N.log wire.old) (N.log wire.new) (R.remaining input.old) (R.remaining input.new) (W.contents out.old) (W.contents out.new) }
+    ensures ran { JobRuns (record { bytes_of = S.bytes_of system.old; drafted_of = S.drafted_of system.old; host_of = S.host_of system.old }) (S.bytes_of system.new) (input.new ≡ input.old) (Ok job.now) result (N.log wire.old) (N.log wire.new) (R.remaining input.old) (R.remaining input.new) (W.contents out.old) (W.contents out.new) }
     ensures usage { result ≡ 1 → (input.new ≡ input.old) × (out.new ≡ out.old) }
     ensures status { result ≤ 4 }
     ensures unreadable { result ≡ 3 → out.new ≡ out.old }

@@ -1,28 +1,27 @@
 //! Files by their names.
 
-ghost use Rattle.std.specs.Prelude.{◌≡◌, ℕ, List, Option, None, map, string_bytes, IfOk, IfErr};
-ghost use Rattle.tws_tool.specs.Faults.{IsReadFault};
+ghost use Rattle.std.specs.Prelude.{◌≡◌, ℕ, List, Option, length, map, string_bytes, OnOk, OnErr, IfOk, IfErr};
+ghost use Rattle.tws_tool.specs.Files.{IsWithin, Keeps, Publishes};
+ghost use Rattle.tws_tool.specs.declared.file_system.NotOpened.TheVariants as NotOpened;
 
 use crate::tool_fault::ToolFault;
-use std::alloc::Global;
-use std::fs::OpenFile;
+use std::alloc::{AllocFailed, Global};
+use std::io;
 use std::io::{Read, Write};
-use std::rt::Files;
-use std::{fs, io};
 
-/// Opens and creates files by their names. It may have ghost contents for each; that of the system has none.
+/// Opens files by their names, and replaces them. It may have ghost contents for each; that of the system has none.
 pub trait FileSystem {
     /// A file that is open to be read.
     type File: Read + Drop;
 
-    /// A file that was created, and is open to be written.
-    type Created: Write + Drop;
+    /// What is to become the contents of a file.
+    type Draft: Write + Drop;
 
     /// The bytes of the file with a name, if they are known.
     ghost bytes_of: { Self → List ℕ → Option (List ℕ) };
 
-    /// The contents of a file that was just created with a name, if they are known.
-    ghost created_of: { Self → List ℕ → Option (List ℕ) };
+    /// The contents of a draft that was just begun for a name, if they are known.
+    ghost drafted_of: { Self → List ℕ → Option (List ℕ) };
 
     /// Opens the file of this name, to be read from its start.
     ///
@@ -32,58 +31,28 @@ pub trait FileSystem {
     fn open(&self, name: &str) -> io::Result<Self::File>
         ensures { IfOk result (λ file. Self.File.remaining file ≡ bytes_of self.now name.now) };
 
-    /// Creates the file of this name, to be written from its start. What an existing file of this name had is lost.
+    /// Begins what is to become the contents of the file of this name. If there is no such file it is created, and is
+    /// empty; otherwise it stays as it is.
     ///
     /// # Errors
     ///
-    /// Fails if it cannot be created.
-    fn create(&self, name: &str) -> io::Result<Self::Created>
-        ensures { IfOk result (λ file. Self.Created.contents file ≡ created_of self.now name.now) };
-}
+    /// Fails if the file cannot be written, or no draft can be made. No file changes.
+    fn begin(&mut self, name: &str) -> io::Result<Self::Draft>
+        ensures begun { IfOk result (λ draft. Self.Draft.contents draft ≡ drafted_of self.old name.now) }
+        ensures kept { Keeps (bytes_of self.old) (bytes_of self.new) };
 
-/// The files of the system, as a runtime opens them.
-#[derive(Clone, Copy)]
-pub(crate) struct SystemFiles<P: Files + Copy>(pub(crate) P);
+    /// Puts a draft in place of what the file of this name had. The draft was begun for that name.
+    ///
+    /// # Errors
+    ///
+    /// Fails if the system does. The file stays as it is.
+    fn publish(&mut self, name: &str, draft: Self::Draft) -> io::Result<()>
+        ensures published { OnOk result (Publishes name.now (Self.Draft.contents draft) (bytes_of self.old) (bytes_of self.new)) }
+        ensures kept { OnErr result (Keeps (bytes_of self.old) (bytes_of self.new)) };
 
-/// A file of the system, which has no ghost contents.
-#[derive(Drop)]
-pub(crate) struct SystemFile<F>(F);
-
-impl<F: Read> Read for SystemFile<F> {
-    fn read(&mut self, buf: &mut [u8]) -> io::Result<usize> {
-        self.0.read(buf)
-    }
-}
-
-impl<F: Write> Write for SystemFile<F> {
-    fn write(&mut self, buf: &[u8]) -> io::Result<usize> {
-        self.0.write(buf)
-    }
-
-    fn flush(&mut self) -> io::Result<()> {
-        self.0.flush()
-    }
-}
-
-impl<P: Files + Copy> FileSystem for SystemFiles<P> {
-    type File = SystemFile<P::File>;
-
-    type Created = SystemFile<P::File>;
-
-    ghost bytes_of = { λ _ _. None };
-
-    ghost created_of = { λ _ _. None };
-
-    fn open(&self, name: &str) -> io::Result<SystemFile<P::File>> {
-        Ok(SystemFile(fs::open(&self.0, name)?))
-    }
-
-    fn create(&self, name: &str) -> io::Result<SystemFile<P::File>> {
-        // If a standard stream is closed, the new file gets its descriptor, and what is printed would go into the file. A
-        // clone never has the descriptor of a standard stream.
-        let file = fs::create(&self.0, name)?;
-        Ok(SystemFile(file.try_clone()?))
-    }
+    /// Drops a draft. The file for which it was begun stays as it is.
+    fn abandon(&mut self, draft: Self::Draft)
+        ensures { Keeps (bytes_of self.old) (bytes_of self.new) };
 }
 
 /// Opens the file of this name.
@@ -97,14 +66,20 @@ pub(crate) fn open<S: FileSystem>(system: &S, name: &str) -> Result<S::File, Too
     }
 }
 
-/// Creates the file of this name.
-pub(crate) fn create<S: FileSystem>(system: &S, name: &str) -> Result<S::Created, ToolFault>
-    ensures created { IfOk result (λ file. S.Created.contents file ≡ S.created_of system.now name.now) }
-    ensures fault { IfErr result (λ e. e ≡ ToolFault.Write) }
-{
-    match system.create(name) {
-        Ok(file) => Ok(file),
-        Err(_) => Err(ToolFault::Write),
+/// Why one of several files was not opened.
+#[derive(Drop)]
+pub(crate) enum NotOpened {
+    /// Out of memory for all of them.
+    Memory,
+    /// The file with this index cannot be opened.
+    File { index: usize, cause: io::Error },
+}
+
+impl<T: Drop> From<AllocFailed<T>> for NotOpened {
+    ghost from_gives = { λ _ e. e ≡ NotOpened.Memory };
+
+    fn from(_error: AllocFailed<T>) -> Self {
+        NotOpened::Memory
     }
 }
 
@@ -113,14 +88,16 @@ pub(crate) fn open_all<S: FileSystem>(
     system: &S,
     alloc: Global,
     names: &[String],
-) -> Result<Vec<S::File>, ToolFault>
+) -> Result<Vec<S::File>, NotOpened>
     ensures opened { IfOk result (λ files. map (λ file. S.File.remaining file) files.items ≡ map (λ name. S.bytes_of system.now (string_bytes name)) names.now) }
-    ensures fault { IfErr result IsReadFault }
+    ensures within { IfErr result (IsWithin (length names.now)) }
 {
     let mut files = Vec::new(alloc);
-    for name in names {
-        let file = open(system, name.as_str())?;
-        files.push(file)?;
+    for (index, name) in names.iter().enumerate() {
+        match system.open(name.as_str()) {
+            Ok(file) => files.push(file)?,
+            Err(cause) => return Err(NotOpened::File { index, cause }),
+        }
     }
     Ok(files)
 }

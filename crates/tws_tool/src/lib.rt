@@ -30,13 +30,17 @@ mod job;
 mod laws;
 mod limits;
 mod line;
+mod overhearing;
 mod program;
 mod reporting;
+mod resolver;
 mod served_keeper;
 mod source;
 mod status;
+mod system;
 mod target;
 mod tool_fault;
+mod words;
 
 pub use address::Address;
 pub use archive_host::{DirKeeper, HostFolder, OpenFault, UdpWire};
@@ -45,7 +49,7 @@ pub use archive_turns::{
     put_in_rounds, run_get, run_put, serve_rounds, serve_turns,
 };
 pub use commands::{
-    BestArguments, GetArguments, Job, PackArguments, PageArguments, Passes, PutArguments,
+    BestArguments, GetArguments, GetFault, Job, PackArguments, PageArguments, Passes, PutArguments,
     ServeArguments, ShowArguments, get_file, put_file, run_best, run_csv, run_pack, run_page,
     run_show, serve_archive,
 };
@@ -54,7 +58,9 @@ pub use input::INPUT_READS;
 pub use job::{JobFault, job_of};
 pub use laws::{limit_values, words_of_commands};
 pub use limits::{PER_HOST, PORT, ROUNDS, TURNS};
+pub use overhearing::TransferWire;
 pub use program::{run_words, run_words_with};
+pub use resolver::Resolver;
 pub use served_keeper::ServedKeeper;
 pub use source::Source;
 pub use target::Target;

@@ -7,13 +7,15 @@ ghost use Rattle.tws_tool.specs.Commands.{JobRuns};
 ghost use Rattle.tws_tool.specs.CommandLine.{AnswersWords};
 
 use crate::commands::{Job, run_job};
-use crate::file_system::{FileSystem, SystemFiles};
+use crate::file_system::FileSystem;
 use crate::help::explain;
 use crate::job::{JobFault, job_of};
+use crate::overhearing::{Overhearing, TransferWire};
 use crate::reporting::report;
+use crate::resolver::Resolver;
+use crate::system::System;
 use crate::tool_fault::ToolFault;
 use archive_host::UdpWire;
-use archive_turns::ReadyWire;
 use std::alloc::Global;
 use std::fs::File;
 use std::io::{Read, Write};
@@ -24,14 +26,14 @@ use std::time::Clock;
 
 // Does a job, or reports why there is none, and returns the status.
 fn run_answer<
-    S: FileSystem,
-    N: ReadyWire,
+    S: FileSystem + Resolver,
+    N: TransferWire,
     P: Files<File = File> + Net + Clock + RandomSource + AllocGlobal + Copy,
     R: Read,
     W: Write,
     E: Write,
 >(
-    system: &S,
+    system: &mut S,
     wire: &mut N,
     rt: &P,
     alloc: Global,
@@ -40,7 +42,7 @@ fn run_answer<
     out: &mut W,
     errors: &mut E,
 ) -> u8
-    ensures ran { JobRuns (S.bytes_of system.now) (S.created_of system.now) (input.new ≡ input.old) job result (N.log wire.old) (N.log wire.new) (R.remaining input.old) (R.remaining input.new) (W.contents out.old) (W.contents out.new) }
+    ensures ran { JobRuns (record { bytes_of = S.bytes_of system.old; drafted_of = S.drafted_of system.old; host_of = S.host_of system.old }) (S.bytes_of system.new) (input.new ≡ input.old) job result (N.log wire.old) (N.log wire.new) (R.remaining input.old) (R.remaining input.new) (W.contents out.old) (W.contents out.new) }
     ensures usage { result ≡ 1 → (input.new ≡ input.old) × (out.new ≡ out.old) }
     ensures status { result ≤ 4 }
     ensures unreadable { result ≡ 3 → out.new ≡ out.old }
@@ -54,21 +56,21 @@ fn run_answer<
 }
 
 /// Does what the arguments ask for, and returns the exit status. The first argument is the program's name. The files of
-/// `system` are read and created, and `put` and `get` go over `wire`; the folder and the sockets of `serve` are the
-/// runtime's.
+/// `system` are read and replaced, and `put` and `get` go over `wire` to the hosts that `system` finds; the folder and the
+/// sockets of `serve` are the runtime's.
 ///
 /// A fault goes to `errors` as one line. The status is 0 if all was done, and for help, whose text goes to `out`; 1 for
 /// a usage error or a bad address; 2 if reading, writing, a socket or memory failed; 3 for an unreadable solution file;
 /// 4 for a failed transfer.
 pub fn run_words_with<
-    S: FileSystem,
-    N: ReadyWire,
+    S: FileSystem + Resolver,
+    N: TransferWire,
     P: Files<File = File> + Net + Clock + RandomSource + AllocGlobal + Copy,
     R: Read,
     W: Write,
     E: Write,
 >(
-    system: &S,
+    system: &mut S,
     wire: &mut N,
     rt: &P,
     alloc: Global,
@@ -78,7 +80,7 @@ pub fn run_words_with<
     errors: &mut E,
 ) -> u8
     // The job is the one that the arguments ask for, with the files that they name.
-    ensures ran { (job : Result Job JobFault) × AnswersWords (map string_bytes words.now) job × JobRuns (S.bytes_of system.now) (S.created_of system.now) (input.new ≡ input.old) job result (N.log wire.old) (N.log wire.new) (R.remaining input.old) (R.remaining input.new) (W.contents out.old) (W.contents out.new) }
+    ensures ran { (job : Result Job JobFault) × AnswersWords (map string_bytes words.now) job × JobRuns (record { bytes_of = S.bytes_of system.old; drafted_of = S.drafted_of system.old; host_of = S.host_of system.old }) (S.bytes_of system.new) (input.new ≡ input.old) job result (N.log wire.old) (N.log wire.new) (R.remaining input.old) (R.remaining input.new) (W.contents out.old) (W.contents out.new) }
     // A usage error leaves input and output untouched, and an unreadable file the output.
     ensures usage { result ≡ 1 → (input.new ≡ input.old) × (out.new ≡ out.old) }
     ensures status { result ≤ 4 }
@@ -97,22 +99,22 @@ pub fn run_words_with<
     )
 }
 
-/// The same with the system's files and sockets, which have no ghost contents or logs.
+/// The same with the system's files, resolver and sockets, which have no ghost contents or logs.
 pub fn run_words<
     P: Files<File = File> + Net + Clock + RandomSource + AllocGlobal + Copy,
     R: Read,
     W: Write,
     E: Write,
 >(rt: &P, alloc: Global, words: &[String], input: &mut R, out: &mut W, errors: &mut E) -> u8
-    ensures ran { (job : Result Job JobFault) × AnswersWords (map string_bytes words.now) job × JobRuns (λ name. None) (λ name. None) (input.new ≡ input.old) job result None None (R.remaining input.old) (R.remaining input.new) (W.contents out.old) (W.contents out.new) }
+    ensures ran { (job : Result Job JobFault) × AnswersWords (map string_bytes words.now) job × JobRuns (record { bytes_of = λ name. None; drafted_of = λ name. None; host_of = λ name. None }) (λ name. None) (input.new ≡ input.old) job result None None (R.remaining input.old) (R.remaining input.new) (W.contents out.old) (W.contents out.new) }
     ensures usage { result ≡ 1 → (input.new ≡ input.old) × (out.new ≡ out.old) }
     ensures status { result ≤ 4 }
     ensures unreadable { result ≡ 3 → out.new ≡ out.old }
     ensures silent { result ≡ 0 → errors.new ≡ errors.old }
 {
-    let mut wire = UdpWire::new(*rt);
+    let mut wire = Overhearing::new(UdpWire::new(*rt));
     run_words_with(
-        &SystemFiles(*rt),
+        &mut System(*rt),
         &mut wire,
         rt,
         alloc,

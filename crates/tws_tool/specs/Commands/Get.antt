@@ -1,8 +1,7 @@
 -- The command `get`: what it does over any wire, any file and any output.
-use Rattle.std.specs.Prelude.{◌≡◌, ◌≢◌, ◌⊎◌, ℕ, List, Option, Result, Ok, Err, OnOk, IfErr, string_bytes, codes}
+use Rattle.std.specs.Prelude.{◌≡◌, ◌≢◌, ◌⊎◌, ℕ, List, Option, Some, Result, Ok, Err, OnOk, IfErr, string_bytes, codes}
 use Rattle.std.specs.Io.KnownBytes.{Appends}
 use Rattle.clap.specs.Words.{App, Row, Text, new_app, with_rule}
-use Rattle.byte_output.specs.Output.{AppendsPrefix}
 use Rattle.tws_file.specs.declared.«ruleset».Ruleset.{Ruleset}
 use Rattle.tftp_packet.specs.declared.endpoint.Endpoint.{Endpoint}
 use Rattle.archive_turns.specs.declared.run_fault.RunFault.{RunFault}
@@ -14,10 +13,11 @@ use Rattle.tws_tool.specs.declared.commands.get.GetArguments.{GetArguments}
 use Rattle.tws_tool.specs.declared.limits.TheConstants.{ROUNDS}
 use Rattle.tws_tool.specs.declared.tool_fault.ToolFault.{ToolFault}
 use Rattle.tws_tool.specs.declared.tool_fault.ToolFault.TheVariants.{Read, Write, Unreadable, Memory, Socket, Transfer}
-use Rattle.tws_tool.specs.Address.{IsAddress}
+use Rattle.tws_tool.specs.Address.{Locates}
 use Rattle.tws_tool.specs.Arguments.{HasRuleset, HasTarget, RulesetNames, address_rule, file_rule, number_rule, port_option, ruleset_rule}
 use Rattle.tws_tool.specs.Faults.{answer_status}
-use Rattle.tws_tool.specs.Lines.{Transfers, got_line}
+use Rattle.tws_tool.specs.Files.{Keeps, Known, Publishes}
+use Rattle.tws_tool.specs.Lines.{LineFails, Transfers, got_line}
 
 abbrev pub get_name : Text
 get_name = codes "get"
@@ -33,61 +33,77 @@ pub record AsksToGet (rows : List Row) (arguments : GetArguments) : Type 0 where
 
 -- ---- what it does
 
--- the collection was fetched into the file, and then the client dallied
-pub record IsFetched (server : Endpoint) (rules : Ruleset) (len : ℕ) (before after : Option (List Entry)) (written now : Option (List ℕ)) : Type 0 where
+-- a complete run of a get into a draft, with this result
+abbrev pub GetRuns : (server : Endpoint) (rules : Ruleset) (result : Result (ℕ × Run) RunFault) (before after : Option (List Entry)) (drafted : Option (List ℕ)) → Type 0
+GetRuns server rules result before after drafted = (written : Option (List ℕ)) × GetsInRounds server rules ROUNDS result before after drafted written
+
+-- the collection was fetched into a draft, which became the file
+pub record Fetches (server : Endpoint) (rules : Ruleset) (name : List ℕ) (got : ℕ × Run) (before after : Option (List Entry)) (drafted : Option (List ℕ)) (files now : List ℕ → Option (List ℕ)) : Type 0 where
+  pub written : Option (List ℕ)
+  pub fetched : GetsInRounds server rules ROUNDS (Ok got) before after drafted written
+  pub published : Publishes name written files now
+
+-- why no collection became the file
+abbrev pub FetchFault : (server : Endpoint) (rules : Ruleset) (before after : Option (List Entry)) (drafted : Option (List ℕ)) → ToolFault → Type 0
+FetchFault server rules before after drafted Read = ⊥
+FetchFault server rules before after drafted Write = GetRuns server rules (Err run.Write) before after drafted ⊎ ((got : ℕ × Run) × GetRuns server rules (Ok got) before after drafted)
+FetchFault server rules before after drafted (Unreadable index fault) = ⊥
+FetchFault server rules before after drafted Memory = GetRuns server rules (Err run.Memory) before after drafted
+FetchFault server rules before after drafted Socket = GetRuns server rules (Err run.Socket) before after drafted
+FetchFault server rules before after drafted (Transfer why) = GetRuns server rules (Err (run.Transfer why)) before after drafted
+
+-- then each file is as it was
+pub record FetchFails (server : Endpoint) (rules : Ruleset) (before after : Option (List Entry)) (drafted : Option (List ℕ)) (files now : List ℕ → Option (List ℕ)) (e : ToolFault) : Type 0 where
+  pub fault : FetchFault server rules before after drafted e
+  pub kept : Keeps files now
+
+-- the collection was fetched, and after what was done about its line the client dallied
+pub record GetEnded (server : Endpoint) (rules : Ruleset) (name : List ℕ) (before after : Option (List Entry)) (drafted : Option (List ℕ)) (files now : List ℕ → Option (List ℕ)) (Line : List ℕ → Type 0) : Type 0 where
+  pub len : ℕ
   pub run : Run
   pub last : Run
   pub mid : Option (List Entry)
-  pub got : GetsInRounds server rules ROUNDS (Ok (len, run)) before mid written now
+  pub got : Fetches server rules name (len, run) before mid drafted files now
+  pub line : Line (got_line len)
   pub dallied : MakesDally ROUNDS run last mid after
 
 -- it was fetched, and the line that reports it was written
-pub record Gets (server : Endpoint) (rules : Ruleset) (before after : Option (List Entry)) (written now old new : Option (List ℕ)) : Type 0 where
-  pub len : ℕ
-  pub got : IsFetched server rules len before after written now
-  pub said : Appends old new (got_line len)
+abbrev pub Gets : (server : Endpoint) (rules : Ruleset) (name : List ℕ) (before after : Option (List Entry)) (drafted : Option (List ℕ)) (files now : List ℕ → Option (List ℕ)) (old new : Option (List ℕ)) → Type 0
+Gets server rules name before after drafted files now old new = GetEnded server rules name before after drafted files now (Appends old new)
 
--- a get that failed, before anything was printed
-abbrev pub GetRuns : (server : Endpoint) (rules : Ruleset) (before after : Option (List Entry)) (written now old new : Option (List ℕ)) → RunFault → Type 0
-GetRuns server rules before after written now old new why = (new ≡ old) × GetsInRounds server rules ROUNDS (Err why) before after written now
+-- no draft was begun, and nothing was sent
+pub record GetUnbegun (before after : Option (List Entry)) (files now : List ℕ → Option (List ℕ)) (old new : Option (List ℕ)) (e : ToolFault) : Type 0 where
+  pub fault_is : e ≡ Write
+  pub silent : after ≡ before
+  pub kept : Keeps files now
+  pub unsaid : new ≡ old
 
--- a get that was done but not reported: the line was not written whole
-pub record GetUnsaid (server : Endpoint) (rules : Ruleset) (before after : Option (List Entry)) (written now : Option (List ℕ)) (Left : List ℕ → Type 0) : Type 0 where
-  pub len : ℕ
-  pub got : IsFetched server rules len before after written now
-  pub left : Left (got_line len)
+-- no collection became the file, or none was reported
+abbrev pub GetFails : (server : Endpoint) (rules : Ruleset) (name : List ℕ) (before after : Option (List Entry)) (drafted : Option (List ℕ)) (files now : List ℕ → Option (List ℕ)) (old new : Option (List ℕ)) → ToolFault → Type 0
+GetFails server rules name before after drafted files now old new e =
+    GetUnbegun before after files now old new e
+    ⊎ (FetchFails server rules before after drafted files now e × (new ≡ old))
+    ⊎ GetEnded server rules name before after drafted files now (λ (line : List ℕ). LineFails line old new e)
 
-abbrev pub GetFails : (server : Endpoint) (rules : Ruleset) (before after : Option (List Entry)) (written now old new : Option (List ℕ)) → ToolFault → Type 0
-GetFails server rules before after written now old new Read = ⊥
-GetFails server rules before after written now old new Write = GetRuns server rules before after written now old new run.Write ⊎ GetUnsaid server rules before after written now (AppendsPrefix old new)
-GetFails server rules before after written now old new (Unreadable index fault) = ⊥
-GetFails server rules before after written now old new Memory = GetRuns server rules before after written now old new run.Memory ⊎ GetUnsaid server rules before after written now (λ line. new ≡ old)
-GetFails server rules before after written now old new Socket = GetRuns server rules before after written now old new run.Socket
-GetFails server rules before after written now old new (Transfer why) = GetRuns server rules before after written now old new (run.Transfer why)
-
--- A get into a file that has `created` once it is created. If it cannot be created nothing is sent.
-abbrev pub Fetches : (server : Endpoint) (rules : Ruleset) (before after : Option (List Entry)) (created old new : Option (List ℕ)) → Type 0
-Fetches server rules before after created old new = (now : Option (List ℕ)) × Gets server rules before after created now old new
-
-abbrev pub FetchFails : (server : Endpoint) (rules : Ruleset) (before after : Option (List Entry)) (created old new : Option (List ℕ)) → ToolFault → Type 0
-FetchFails server rules before after created old new e =
-    ((e ≡ Write) × (after ≡ before) × (new ≡ old)) ⊎ ((now : Option (List ℕ)) × GetFails server rules before after created now old new e)
-
--- a get of this ruleset, from the server at this host and port, ended with this status
-pub record GetEnds (server : Endpoint) (rules : Ruleset) (status : ℕ) (before after : Option (List Entry)) (created old new : Option (List ℕ)) : Type 0 where
+-- a get of this ruleset into the file of this name, from the server at this host and port, ended with this status
+pub record GetEnds (server : Endpoint) (rules : Ruleset) (name : List ℕ) (status : ℕ) (before after : Option (List Entry)) (drafted : Option (List ℕ)) (files now : List ℕ → Option (List ℕ)) (old new : Option (List ℕ)) : Type 0 where
   pub done : Result (Unit {0}) ToolFault
   pub status_is : status ≡ answer_status done
-  pub gets : OnOk done (Fetches server rules before after created old new)
-  pub fails : IfErr done (FetchFails server rules before after created old new)
+  pub gets : OnOk done (Gets server rules name before after drafted files now old new)
+  pub fails : IfErr done (GetFails server rules name before after drafted files now old new)
 
--- what is known of the contents of its file once that is created
-abbrev pub get_created : (created_of : List ℕ → Option (List ℕ)) → GetArguments → Option (List ℕ)
-get_created created_of arguments = created_of (string_bytes arguments.target.file)
+-- what is known that a draft for its file begins with
+abbrev pub get_drafted : (drafted_of : List ℕ → Option (List ℕ)) → GetArguments → Option (List ℕ)
+get_drafted drafted_of arguments = drafted_of (string_bytes arguments.target.file)
 
--- What it did, by the exit status, given what is known of the contents of a file that is created with each name. The
--- server is at the host of the address that was given, and at the port.
-pub record GetRan (created_of : List ℕ → Option (List ℕ)) (arguments : GetArguments) (status : ℕ) (before after : Option (List Entry)) (old new : Option (List ℕ)) : Type 0 where
-  pub transfers : Transfers (string_bytes arguments.target.address) got_line status old new
+-- What it did, by the exit status, given what is known of files and hosts, and of the bytes of the files afterwards. The
+-- server is at the host to which the address that was given leads, and at the port. Only a get whose whole collection
+-- was written changes a file, that of its name.
+pub record GetRan (known : Known) (arguments : GetArguments) (status : ℕ) (before after : Option (List Entry)) (now : List ℕ → Option (List ℕ)) (old new : Option (List ℕ)) : Type 0 where
+  pub found : Option ℕ
+  pub located : Locates known.host_of (string_bytes arguments.target.address) found
+  pub transfers : Transfers found got_line status old new
   pub readable : status ≢ 3
-  pub ended : status ≢ 1 → (host : ℕ) × IsAddress (string_bytes arguments.target.address) host × GetEnds (record { host = host; port = arguments.target.port }) arguments.ruleset status before after (get_created created_of arguments) old new
-  pub nowhere : status ≡ 1 → after ≡ before
+  pub ended : status ≢ 1 → (host : ℕ) × (found ≡ Some host) × GetEnds (record { host = host; port = arguments.target.port }) arguments.ruleset (string_bytes arguments.target.file) status before after (get_drafted known.drafted_of arguments) known.bytes_of now old new
+  pub nowhere : status ≡ 1 → (after ≡ before) × Keeps known.bytes_of now
+  pub harmless : status ≢ 0 → status ≢ 2 → Keeps known.bytes_of now

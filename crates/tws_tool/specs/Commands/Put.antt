@@ -1,5 +1,5 @@
 -- The command `put`: what it does over any wire, any file and any output.
-use Rattle.std.specs.Prelude.{◌≡◌, ◌≢◌, ◌⊎◌, ℕ, ◌<◌, ◌≤◌, List, length, Option, IfSome, Result, Ok, Err, OnOk, IfErr, string_bytes, codes}
+use Rattle.std.specs.Prelude.{◌≡◌, ◌≢◌, ◌⊎◌, ℕ, ◌<◌, ◌≤◌, List, length, Option, Some, IfSome, Result, Ok, Err, OnOk, IfErr, string_bytes, codes}
 use Rattle.std.specs.Io.KnownBytes.{Appends, Consumes}
 use Rattle.clap.specs.Words.{App, Row, Text, new_app, with_rule}
 use Rattle.byte_output.specs.Output.{AppendsPrefix}
@@ -16,7 +16,7 @@ use Rattle.tws_tool.specs.declared.commands.put.PutArguments.{PutArguments}
 use Rattle.tws_tool.specs.declared.limits.TheConstants.{ROUNDS}
 use Rattle.tws_tool.specs.declared.tool_fault.ToolFault.{ToolFault}
 use Rattle.tws_tool.specs.declared.tool_fault.ToolFault.TheVariants.{Read, Write, Unreadable, Memory, Socket, Transfer}
-use Rattle.tws_tool.specs.Address.{IsAddress}
+use Rattle.tws_tool.specs.Address.{Locates}
 use Rattle.tws_tool.specs.Arguments.{HasTarget, address_rule, file_rule, number_rule, port_option}
 use Rattle.tws_tool.specs.Faults.{answer_status}
 use Rattle.tws_tool.specs.Inputs.{IsUnreadable}
@@ -120,11 +120,13 @@ pub record PutEnds (known : Option (List ℕ)) (server : Endpoint) (status : ℕ
 abbrev pub put_known : (bytes_of : List ℕ → Option (List ℕ)) → PutArguments → Option (List ℕ)
 put_known bytes_of arguments = bytes_of (string_bytes arguments.target.file)
 
--- What it did, by the exit status, given what is known of the bytes of the file with each name. The server is at the
--- host of the address that was given, and at the port.
-pub record PutRan (bytes_of : List ℕ → Option (List ℕ)) (arguments : PutArguments) (status : ℕ) (before after : Option (List Entry)) (old new : Option (List ℕ)) : Type 0 where
-  pub transfers : Transfers (string_bytes arguments.target.address) sent_line status old new
+-- What it did, by the exit status, given what is known of the bytes of the file with each name, and of the hosts of
+-- names. The server is at the host to which the address that was given leads, and at the port.
+pub record PutRan (bytes_of : List ℕ → Option (List ℕ)) (host_of : List ℕ → Option (Option ℕ)) (arguments : PutArguments) (status : ℕ) (before after : Option (List Entry)) (old new : Option (List ℕ)) : Type 0 where
+  pub found : Option ℕ
+  pub located : Locates host_of (string_bytes arguments.target.address) found
+  pub transfers : Transfers found sent_line status old new
   pub sent : status ≡ 0 → SaysSent (put_known bytes_of arguments) old new
   pub unreadable : status ≡ 3 → IsUnreadable (put_known bytes_of arguments)
-  pub ended : status ≢ 1 → (host : ℕ) × IsAddress (string_bytes arguments.target.address) host × PutEnds (put_known bytes_of arguments) (record { host = host; port = arguments.target.port }) status before after old new
+  pub ended : status ≢ 1 → (host : ℕ) × (found ≡ Some host) × PutEnds (put_known bytes_of arguments) (record { host = host; port = arguments.target.port }) status before after old new
   pub nowhere : status ≡ 1 → after ≡ before

@@ -1,6 +1,6 @@
 //! The command `best`: the best solutions of several files.
 
-ghost use Rattle.std.specs.Prelude.{◌≡◌, ◌≢◌, false, map, string_bytes, OnOk, IfOk, IfErr};
+ghost use Rattle.std.specs.Prelude.{◌≡◌, ◌≢◌, false, map, OnOk, IfOk, IfErr};
 ghost use Rattle.std.specs.List.{AllByRecursion};
 ghost use Rattle.std.specs.Io.KnownBytes.{IsAtEnd};
 ghost use Rattle.clap.specs.Matches.{found_of};
@@ -10,9 +10,9 @@ ghost use Rattle.tws_tool.specs.Arguments.{Answers};
 ghost use Rattle.tws_tool.specs.Commands.Best.{AsksForBest, Collects, CollectFails, AreReadOut, BestWrites, BestFails, BestRan, best_app};
 
 use crate::arguments::{files_argument, files_given, ruleset_argument, ruleset_given};
-use crate::file_system::{FileSystem, open_all};
+use crate::file_system::{FileSystem, NotOpened, open_all};
 use crate::input::read_input;
-use crate::reporting::finish;
+use crate::reporting::{finish, report, report_file};
 use crate::tool_fault::ToolFault;
 use clap::{ArgMatches, Command};
 use std::alloc::{AllocError, Global};
@@ -96,23 +96,6 @@ pub fn run_best<R: Read, W: Write>(
     Ok(())
 }
 
-// Writes the collection over the files of these names.
-fn write_best<S: FileSystem, W: Write>(
-    system: &S,
-    alloc: Global,
-    ruleset: Ruleset,
-    names: &[String],
-    out: &mut W,
-) -> Result<(), ToolFault>
-    ensures collected { OnOk result (BestWrites «ruleset» (map (λ name. S.bytes_of system.now (string_bytes name)) names.now) (W.contents out.old) (W.contents out.new)) }
-    ensures fails { IfErr result (BestFails «ruleset» (map (λ name. S.bytes_of system.now (string_bytes name)) names.now) (W.contents out.old) (W.contents out.new)) }
-    // Holds also for a writer without ghost contents.
-    ensures unwritten { IfErr result (λ e. e ≢ ToolFault.Write → out.new ≡ out.old) }
-{
-    let mut files = open_all(system, alloc, names)?;
-    run_best(alloc, ruleset, &mut files, out)
-}
-
 /// Runs `best` over the files of these names, and returns the status.
 pub(crate) fn run<S: FileSystem, W: Write, E: Write>(
     system: &S,
@@ -126,6 +109,14 @@ pub(crate) fn run<S: FileSystem, W: Write, E: Write>(
     ensures silent { result ≡ 0 → errors.new ≡ errors.old }
 {
     let names = &arguments.files;
-    let done = write_best(system, alloc, arguments.ruleset, names, out);
-    finish(done, names, errors)
+    match open_all(system, alloc, names) {
+        Ok(mut files) => {
+            let done = run_best(alloc, arguments.ruleset, &mut files, out);
+            finish(done, names, errors)
+        }
+        Err(NotOpened::Memory) => report(ToolFault::Memory, &[], errors),
+        Err(NotOpened::File { index, cause }) => {
+            report_file(ToolFault::Read, names[index].as_str(), &cause, errors)
+        }
+    }
 }

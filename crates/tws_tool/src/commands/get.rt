@@ -1,27 +1,31 @@
 //! The command `get`.
 
-ghost use Rattle.std.specs.Prelude.{◌≡◌, ◌≢◌, ◌⊎◌, false, OnOk, IfOk, IfErr, string_bytes};
+ghost use Rattle.std.specs.Prelude.{◌≡◌, ◌≢◌, ◌⊎◌, false, OnOk, IfOk, IfErr};
 ghost use Rattle.clap.specs.Matches.{found_of};
 ghost use Rattle.clap.specs.Words.{app_of, rows_of};
 ghost use Rattle.clap.specs.declared.builder.command.Command.TheViews.{out-Command};
-ghost use Rattle.tws_tool.specs.Address.{IsAddress};
 ghost use Rattle.tws_tool.specs.Arguments.{Answers};
 ghost use Rattle.tws_tool.specs.Commands.Get.{AsksToGet, FetchFails, Fetches, GetFails, GetRan, Gets, get_app};
+ghost use Rattle.tws_tool.specs.Faults.{run_fault, status_of};
 ghost use Rattle.tws_tool.specs.Lines.{Unless};
 
-use crate::address::Address;
+use crate::address::locate;
 use crate::arguments::{
     address_argument, file_argument, port_argument, ruleset_argument, ruleset_given, target_given,
 };
-use crate::file_system::{FileSystem, create};
+use crate::file_system::FileSystem;
 use crate::limits::ROUNDS;
 use crate::line::write_line;
-use crate::reporting::{bad_address, finish};
+use crate::overhearing::TransferWire;
+use crate::reporting::{bad_address, report_file, report_transfer};
+use crate::resolver::Resolver;
+use crate::status::DONE;
 use crate::target::Target;
 use crate::tool_fault::ToolFault;
-use archive_turns::{ReadyWire, get_in_rounds};
+use archive_turns::{GetRun, ReadyWire, RunFault, get_in_rounds};
 use clap::{ArgMatches, Command};
 use std::alloc::{AllocError, Global};
+use std::io;
 use std::io::Write;
 use tftp_packet::Endpoint;
 use tws_file::Ruleset;
@@ -60,79 +64,142 @@ pub(crate) fn asked(alloc: Global, words: &ArgMatches) -> Result<Option<GetArgum
     Ok(Some(GetArguments { ruleset, target }))
 }
 
-/// Fetches the collection of this ruleset from the archive into a file, in at most `ROUNDS` rounds; then prints its length
-/// in bytes, and goes on to acknowledge a repeated last block, for two seconds at most. `server` is the archive's host
-/// and request port.
+/// Why a collection was not fetched, or not reported.
+#[derive(Debug, Drop)]
+pub struct GetFault {
+    /// What failed.
+    pub fault: ToolFault,
+    /// What the system said of the file, if that failed.
+    pub cause: Option<io::Error>,
+}
+
+impl GetFault {
+    // The file cannot be written.
+    fn of_file(cause: io::Error) -> Self
+        ensures { result.fault ≡ ToolFault.Write }
+    {
+        GetFault {
+            fault: ToolFault::Write,
+            cause: Some(cause),
+        }
+    }
+
+    // The transfer failed.
+    fn of_run(fault: RunFault) -> Self
+        ensures { result.fault ≡ run_fault fault }
+    {
+        GetFault {
+            fault: ToolFault::from(fault),
+            cause: None,
+        }
+    }
+}
+
+// Reports why a collection was not fetched into the file of this name, and returns the status.
+fn report_get<E: Write>(fault: GetFault, name: &str, refusal: &[u8], errors: &mut E) -> u8
+    ensures { result ≡ status_of fault.fault }
+{
+    match fault.cause {
+        Some(cause) => report_file(fault.fault, name, &cause, errors),
+        None => report_transfer(fault.fault, refusal, &[], errors),
+    }
+}
+
+// Fetches a collection into a draft, which then takes the place of the file of this name. Returns how many bytes it has,
+// and the run, which is to dally.
+fn fetch<S: FileSystem, N: ReadyWire>(
+    system: &mut S,
+    wire: &mut N,
+    alloc: Global,
+    server: Endpoint,
+    ruleset: Ruleset,
+    name: &str,
+    mut draft: S::Draft,
+) -> Result<(u64, GetRun), GetFault>
+    ensures fetched { IfOk result (λ got. Fetches server «ruleset» name.now got (N.log wire.old) (N.log wire.new) (S.Draft.contents draft) (S.bytes_of system.old) (S.bytes_of system.new)) }
+    ensures fails { IfErr result (λ e. FetchFails server «ruleset» (N.log wire.old) (N.log wire.new) (S.Draft.contents draft) (S.bytes_of system.old) (S.bytes_of system.new) e.fault) }
+{
+    match get_in_rounds(alloc, wire, server, ruleset, ROUNDS, &mut draft) {
+        Ok(got) => match system.publish(name, draft) {
+            Ok(()) => Ok(got),
+            Err(cause) => Err(GetFault::of_file(cause)),
+        },
+        Err(fault) => {
+            system.abandon(draft);
+            Err(GetFault::of_run(fault))
+        }
+    }
+}
+
+/// Fetches the collection of this ruleset from the archive into the file of this name, in at most `ROUNDS` rounds; then
+/// prints its length in bytes, and goes on to acknowledge a repeated last block, for two seconds at most. `server` is the
+/// archive's host and request port. The file is created before a port is opened, and if there is one already it stays as
+/// it is until the whole collection is written.
 ///
 /// # Errors
 ///
-/// `Socket` if no port was opened, and `Transfer` with the cause of the failed transfer: then nothing is written to the
-/// file. `Write` if a writer fails, and `Memory` if an allocation was refused.
-pub fn get_file<N: ReadyWire, F: Write, W: Write>(
-    alloc: Global,
+/// `Socket` if no port was opened, and `Transfer` with the cause of the failed transfer: then no file is changed. `Write`
+/// if the file cannot be written, which then stays as it is, or the writer fails. `Memory` if an allocation was refused.
+pub fn get_file<S: FileSystem, N: ReadyWire, W: Write>(
+    system: &mut S,
     wire: &mut N,
+    alloc: Global,
     server: Endpoint,
     ruleset: Ruleset,
-    file: &mut F,
+    name: &str,
     out: &mut W,
-) -> Result<(), ToolFault>
-    ensures got { OnOk result (Gets server «ruleset» (N.log wire.old) (N.log wire.new) (F.contents file.old) (F.contents file.new) (W.contents out.old) (W.contents out.new)) }
-    ensures fails { IfErr result (GetFails server «ruleset» (N.log wire.old) (N.log wire.new) (F.contents file.old) (F.contents file.new) (W.contents out.old) (W.contents out.new)) }
+) -> Result<(), GetFault>
+    ensures got { OnOk result (Gets server «ruleset» name.now (N.log wire.old) (N.log wire.new) (S.drafted_of system.old name.now) (S.bytes_of system.old) (S.bytes_of system.new) (W.contents out.old) (W.contents out.new)) }
+    ensures fails { IfErr result (λ e. GetFails server «ruleset» name.now (N.log wire.old) (N.log wire.new) (S.drafted_of system.old name.now) (S.bytes_of system.old) (S.bytes_of system.new) (W.contents out.old) (W.contents out.new) e.fault) }
     // Holds also for a writer without ghost contents.
-    ensures unwritten { IfErr result (Unless (out.new ≡ out.old)) }
+    ensures unwritten { IfErr result (λ e. Unless (out.new ≡ out.old) e.fault) }
 {
-    let (len, mut run) = get_in_rounds(alloc, wire, server, ruleset, ROUNDS, file)?;
-    let said = write_line(alloc, "got ", len, " bytes", out);
-    run.dally(wire, ROUNDS);
-    said
-}
-
-// Fetches a collection into the file of this name, which is created before a port is opened.
-fn fetch<S: FileSystem, N: ReadyWire, W: Write>(
-    system: &S,
-    wire: &mut N,
-    alloc: Global,
-    host: u32,
-    ruleset: Ruleset,
-    target: &Target,
-    out: &mut W,
-) -> Result<(), ToolFault>
-    ensures got { OnOk result (Fetches (record { host = host; port = target.now.port }) «ruleset» (N.log wire.old) (N.log wire.new) (S.created_of system.now (string_bytes target.now.file)) (W.contents out.old) (W.contents out.new)) }
-    ensures fails { IfErr result (FetchFails (record { host = host; port = target.now.port }) «ruleset» (N.log wire.old) (N.log wire.new) (S.created_of system.now (string_bytes target.now.file)) (W.contents out.old) (W.contents out.new)) }
-    ensures unwritten { IfErr result (Unless (out.new ≡ out.old)) }
-{
-    let port = target.port;
-    let mut file = create(system, target.file.as_str())?;
-    get_file(
-        alloc,
-        wire,
-        Endpoint { host, port },
-        ruleset,
-        &mut file,
-        out,
-    )
+    let draft = match system.begin(name) {
+        Ok(draft) => draft,
+        Err(cause) => return Err(GetFault::of_file(cause)),
+    };
+    match fetch(system, wire, alloc, server, ruleset, name, draft) {
+        Ok((len, mut run)) => {
+            let said = write_line(alloc, "got ", len, " bytes", out);
+            run.dally(wire, ROUNDS);
+            match said {
+                Ok(()) => Ok(()),
+                Err(fault) => Err(GetFault { fault, cause: None }),
+            }
+        }
+        Err(fault) => Err(fault),
+    }
 }
 
 /// Runs `get` over this wire, and returns the status.
-pub(crate) fn run<S: FileSystem, N: ReadyWire, W: Write, E: Write>(
-    system: &S,
+pub(crate) fn run<S: FileSystem + Resolver, N: TransferWire, W: Write, E: Write>(
+    system: &mut S,
     wire: &mut N,
     alloc: Global,
     arguments: &GetArguments,
     out: &mut W,
     errors: &mut E,
 ) -> u8
-    ensures ran { GetRan (S.created_of system.now) arguments.now result (N.log wire.old) (N.log wire.new) (W.contents out.old) (W.contents out.new) }
+    ensures ran { GetRan (record { bytes_of = S.bytes_of system.old; drafted_of = S.drafted_of system.old; host_of = S.host_of system.old }) arguments.now result (N.log wire.old) (N.log wire.new) (S.bytes_of system.new) (W.contents out.old) (W.contents out.new) }
     ensures unwritten { result ≢ 0 → result ≢ 2 → out.new ≡ out.old }
     ensures silent { result ≡ 0 → errors.new ≡ errors.old }
 {
     let target = &arguments.target;
-    match Address::read(target.address.as_str()) {
-        Some(address) => {
-            let ruleset = arguments.ruleset;
-            let done = fetch(system, wire, alloc, address.host, ruleset, target, out);
-            finish(done, &[], errors)
-        }
-        None => bad_address(errors),
+    let Some(host) = locate(system, target.address.as_str()) else {
+        return bad_address(errors);
+    };
+    let port = target.port;
+    let done = get_file(
+        system,
+        wire,
+        alloc,
+        Endpoint { host, port },
+        arguments.ruleset,
+        target.file.as_str(),
+        out,
+    );
+    match done {
+        Ok(()) => DONE,
+        Err(fault) => report_get(fault, target.file.as_str(), wire.refusal(), errors),
     }
 }

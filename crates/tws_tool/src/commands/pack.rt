@@ -11,9 +11,9 @@ ghost use Rattle.tws_tool.specs.Faults.{IsReadOut};
 ghost use Rattle.tws_tool.specs.Written.{Writes, WriteFails};
 
 use crate::arguments::{source_argument, source_given};
-use crate::file_system::{FileSystem, open};
+use crate::file_system::FileSystem;
 use crate::input::read_input;
-use crate::reporting::finish;
+use crate::reporting::{finish, report_file};
 use crate::source::Source;
 use crate::tool_fault::ToolFault;
 use clap::{ArgMatches, Command};
@@ -70,21 +70,6 @@ pub fn run_pack<R: Read, W: Write>(
     Ok(())
 }
 
-// The same over the file of this name.
-fn pack_file<S: FileSystem, W: Write>(
-    system: &S,
-    alloc: Global,
-    name: &str,
-    out: &mut W,
-) -> Result<(), ToolFault>
-    ensures packed { OnOk result (Writes packed_text (S.bytes_of system.now name.now) (W.contents out.old) (W.contents out.new)) }
-    ensures fails { IfErr result (WriteFails packed_text (S.bytes_of system.now name.now) (W.contents out.old) (W.contents out.new)) }
-    ensures unwritten { IfErr result (λ e. e ≢ ToolFault.Write → out.new ≡ out.old) }
-{
-    let mut file = open(system, name)?;
-    run_pack(alloc, &mut file, out)
-}
-
 /// Runs `pack`, and returns the status.
 pub(crate) fn run<S: FileSystem, R: Read, W: Write, E: Write>(
     system: &S,
@@ -100,9 +85,12 @@ pub(crate) fn run<S: FileSystem, R: Read, W: Write, E: Write>(
 {
     match &arguments.source {
         Source::Standard => finish(run_pack(alloc, input, out), &[], errors),
-        Source::Named(name) => {
-            let done = pack_file(system, alloc, name.as_str(), out);
-            finish(done, slice::from_ref(name), errors)
-        }
+        Source::Named(name) => match system.open(name.as_str()) {
+            Ok(mut file) => {
+                let done = run_pack(alloc, &mut file, out);
+                finish(done, slice::from_ref(name), errors)
+            }
+            Err(cause) => report_file(ToolFault::Read, name.as_str(), &cause, errors),
+        },
     }
 }

@@ -1,6 +1,6 @@
 //! The command `page`: the solutions of several files as a page of HTML.
 
-ghost use Rattle.std.specs.Prelude.{◌≡◌, false, map, string_bytes, OnOk, IfOk, IfErr};
+ghost use Rattle.std.specs.Prelude.{◌≡◌, false, map, OnOk, IfOk, IfErr};
 ghost use Rattle.std.specs.List.{AllByRecursion};
 ghost use Rattle.std.specs.Io.KnownBytes.{IsAtEnd};
 ghost use Rattle.clap.specs.Matches.{found_of};
@@ -11,9 +11,9 @@ ghost use Rattle.tws_tool.specs.Commands.Page.{AreFiles, AsksForPage, PageFails,
 ghost use Rattle.tws_tool.specs.Faults.{IsBeforeOutput};
 
 use crate::arguments::{files_argument, files_given};
-use crate::file_system::{FileSystem, open_all};
+use crate::file_system::{FileSystem, NotOpened, open_all};
 use crate::input::read_input;
-use crate::reporting::finish;
+use crate::reporting::{finish, report, report_file};
 use crate::tool_fault::ToolFault;
 use clap::{ArgMatches, Command};
 use std::alloc::{AllocError, Global};
@@ -84,21 +84,6 @@ pub fn run_page<R: Read, W: Write>(
     Ok(())
 }
 
-// Writes the page of the files of these names.
-fn write_named<S: FileSystem, W: Write>(
-    system: &S,
-    alloc: Global,
-    names: &[String],
-    out: &mut W,
-) -> Result<(), ToolFault>
-    ensures written { OnOk result (PageWrites (map (λ name. S.bytes_of system.now (string_bytes name)) names.now) (W.contents out.old) (W.contents out.new)) }
-    ensures fails { IfErr result (PageFails (map (λ name. S.bytes_of system.now (string_bytes name)) names.now) (W.contents out.old) (W.contents out.new)) }
-    ensures unwritten { IfErr result (λ e. IsBeforeOutput e → out.new ≡ out.old) }
-{
-    let mut inputs = open_all(system, alloc, names)?;
-    run_page(alloc, &mut inputs, out)
-}
-
 /// Runs `page` over the files of these names, and returns the status.
 pub(crate) fn run<S: FileSystem, W: Write, E: Write>(
     system: &S,
@@ -112,6 +97,14 @@ pub(crate) fn run<S: FileSystem, W: Write, E: Write>(
     ensures silent { result ≡ 0 → errors.new ≡ errors.old }
 {
     let names = &arguments.files;
-    let done = write_named(system, alloc, names, out);
-    finish(done, names, errors)
+    match open_all(system, alloc, names) {
+        Ok(mut inputs) => {
+            let done = run_page(alloc, &mut inputs, out);
+            finish(done, names, errors)
+        }
+        Err(NotOpened::Memory) => report(ToolFault::Memory, &[], errors),
+        Err(NotOpened::File { index, cause }) => {
+            report_file(ToolFault::Read, names[index].as_str(), &cause, errors)
+        }
+    }
 }

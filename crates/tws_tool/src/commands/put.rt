@@ -10,19 +10,20 @@ ghost use Rattle.tws_file.specs.Text.{IsReadable};
 ghost use Rattle.tws_file.specs.Fault.{HasFileFault};
 ghost use Rattle.tftp_ends.specs.declared.limits.TheConstants.{MAX_FILE};
 ghost use Rattle.tws_tool.specs.declared.limits.TheConstants.{ROUNDS};
-ghost use Rattle.tws_tool.specs.Address.{IsAddress};
 ghost use Rattle.tws_tool.specs.Arguments.{Answers};
 ghost use Rattle.tws_tool.specs.Commands.Put.{AsksToPut, InputFails, IsWholeInput, PutFails, PutRan, PutRuns, Puts, ReadsAtMost, WholeFails, put_app};
 ghost use Rattle.tws_tool.specs.Faults.{IsReadOut, run_fault};
 ghost use Rattle.tws_tool.specs.Lines.{Unless};
 
-use crate::address::Address;
+use crate::address::locate;
 use crate::arguments::{address_argument, file_argument, port_argument, target_given};
-use crate::file_system::{FileSystem, open};
+use crate::file_system::FileSystem;
 use crate::input::INPUT_READS;
 use crate::limits::ROUNDS;
 use crate::line::write_line;
-use crate::reporting::{bad_address, finish};
+use crate::overhearing::TransferWire;
+use crate::reporting::{bad_address, finish_transfer, report_file};
+use crate::resolver::Resolver;
 use crate::target::Target;
 use crate::tool_fault::ToolFault;
 use archive_client::Cause;
@@ -133,26 +134,8 @@ pub fn put_file<R: Read, N: ReadyWire, W: Write>(
     write_line(alloc, "sent ", len, " bytes", out)
 }
 
-// Sends the file of this name.
-fn send<S: FileSystem, N: ReadyWire, W: Write>(
-    system: &S,
-    wire: &mut N,
-    alloc: Global,
-    host: u32,
-    target: &Target,
-    out: &mut W,
-) -> Result<(), ToolFault>
-    ensures sent { OnOk result (Puts (S.bytes_of system.now (string_bytes target.now.file)) (record { host = host; port = target.now.port }) (N.log wire.old) (N.log wire.new) (W.contents out.old) (W.contents out.new)) }
-    ensures fails { IfErr result (PutFails (S.bytes_of system.now (string_bytes target.now.file)) (record { host = host; port = target.now.port }) (N.log wire.old) (N.log wire.new) (W.contents out.old) (W.contents out.new)) }
-    ensures unwritten { IfErr result (Unless (out.new ≡ out.old)) }
-{
-    let port = target.port;
-    let mut file = open(system, target.file.as_str())?;
-    put_file(alloc, &mut file, wire, Endpoint { host, port }, out)
-}
-
 /// Runs `put` over this wire, and returns the status.
-pub(crate) fn run<S: FileSystem, N: ReadyWire, W: Write, E: Write>(
+pub(crate) fn run<S: FileSystem + Resolver, N: TransferWire, W: Write, E: Write>(
     system: &S,
     wire: &mut N,
     alloc: Global,
@@ -160,16 +143,19 @@ pub(crate) fn run<S: FileSystem, N: ReadyWire, W: Write, E: Write>(
     out: &mut W,
     errors: &mut E,
 ) -> u8
-    ensures ran { PutRan (S.bytes_of system.now) arguments.now result (N.log wire.old) (N.log wire.new) (W.contents out.old) (W.contents out.new) }
+    ensures ran { PutRan (S.bytes_of system.now) (S.host_of system.now) arguments.now result (N.log wire.old) (N.log wire.new) (W.contents out.old) (W.contents out.new) }
     ensures unwritten { result ≢ 0 → result ≢ 2 → out.new ≡ out.old }
     ensures silent { result ≡ 0 → errors.new ≡ errors.old }
 {
     let target = &arguments.target;
-    match Address::read(target.address.as_str()) {
-        Some(address) => {
-            let done = send(system, wire, alloc, address.host, target, out);
-            finish(done, slice::from_ref(&target.file), errors)
-        }
-        None => bad_address(errors),
-    }
+    let Some(host) = locate(system, target.address.as_str()) else {
+        return bad_address(errors);
+    };
+    let mut input = match system.open(target.file.as_str()) {
+        Ok(input) => input,
+        Err(cause) => return report_file(ToolFault::Read, target.file.as_str(), &cause, errors),
+    };
+    let port = target.port;
+    let done = put_file(alloc, &mut input, wire, Endpoint { host, port }, out);
+    finish_transfer(done, wire.refusal(), slice::from_ref(&target.file), errors)
 }

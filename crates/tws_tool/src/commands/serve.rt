@@ -17,7 +17,7 @@ use crate::served_keeper::ServedKeeper;
 use crate::status::FAILED;
 use crate::tool_fault::ToolFault;
 use archive_host::{DirKeeper, HostFolder, OpenFault, UdpWire};
-use archive_table::{Keeper, LIVE, NoKeeper};
+use archive_table::{Keeper, LIVE, NoKeeper, NoObserver};
 use archive_turns::{ReadyWire, Server};
 use clap::builder::ValueParser;
 use clap::{Arg, ArgMatches, Command};
@@ -153,7 +153,7 @@ fn make_pass<N: ReadyWire, K: Keeper>(
 {
     let took = match passes {
         Passes::Turns(_) => server.turn(wire, keeper),
-        Passes::Rounds(_) => server.round(wire, keeper),
+        Passes::Rounds(_) => server.round(wire, keeper, &mut NoObserver),
     };
     if took { taken + 1 } else { taken }
 }

@@ -12,9 +12,9 @@ ghost use Rattle.tws_tool.specs.Faults.{IsBeforeOutput, IsReadOut};
 ghost use Rattle.tws_tool.specs.Written.{Writes, WriteFails};
 
 use crate::arguments::{source_argument, source_given};
-use crate::file_system::{FileSystem, open};
+use crate::file_system::FileSystem;
 use crate::input::read_input;
-use crate::reporting::finish;
+use crate::reporting::{finish, report_file};
 use crate::source::Source;
 use crate::tool_fault::ToolFault;
 use clap::{Arg, ArgAction, ArgMatches, Command};
@@ -123,6 +123,7 @@ pub fn run_csv<R: Read, W: Write>(
 }
 
 // Reads a solution file to its end, and writes it as it is asked for.
+#[tactic(auto, unfolding(crate::specs::Commands::Show::shown_text))]
 fn show_input<R: Read, W: Write>(
     alloc: Global,
     arguments: &ShowArguments,
@@ -142,22 +143,6 @@ fn show_input<R: Read, W: Write>(
     }
 }
 
-// The same over the file of this name.
-fn show_file<S: FileSystem, W: Write>(
-    system: &S,
-    alloc: Global,
-    arguments: &ShowArguments,
-    name: &str,
-    out: &mut W,
-) -> Result<(), ToolFault>
-    ensures shown { OnOk result (Writes (shown_text arguments.now) (S.bytes_of system.now name.now) (W.contents out.old) (W.contents out.new)) }
-    ensures fails { IfErr result (WriteFails (shown_text arguments.now) (S.bytes_of system.now name.now) (W.contents out.old) (W.contents out.new)) }
-    ensures unwritten { IfErr result (λ e. IsBeforeOutput e → out.new ≡ out.old) }
-{
-    let mut file = open(system, name)?;
-    show_input(alloc, arguments, &mut file, out)
-}
-
 /// Runs `show`, and returns the status.
 pub(crate) fn run<S: FileSystem, R: Read, W: Write, E: Write>(
     system: &S,
@@ -173,9 +158,12 @@ pub(crate) fn run<S: FileSystem, R: Read, W: Write, E: Write>(
 {
     match &arguments.source {
         Source::Standard => finish(show_input(alloc, arguments, input, out), &[], errors),
-        Source::Named(name) => {
-            let done = show_file(system, alloc, arguments, name.as_str(), out);
-            finish(done, slice::from_ref(name), errors)
-        }
+        Source::Named(name) => match system.open(name.as_str()) {
+            Ok(mut file) => {
+                let done = show_input(alloc, arguments, &mut file, out);
+                finish(done, slice::from_ref(name), errors)
+            }
+            Err(cause) => report_file(ToolFault::Read, name.as_str(), &cause, errors),
+        },
     }
 }

@@ -5,7 +5,7 @@ use Rattle.archive_turns.proofs.visit.answer_request.Goals as goal
 pub returns-in-Ok-clause-visit : goal.returns-in-Ok-clause-visit
 returns-in-Ok-clause-visit g c =
     request_step _ _ _ _ _ _ _ _ _
-    (sym c.if-is_usable.ensures) c.on_request-step.ensures.server c.on_request-step.ensures.step c.in-Ok.ensures.log c.end_request.ensures.calls c.end_request.ensures.taken c.end_request.ensures.change
+    (sym c.if-is_usable.ensures) c.on_request-step.ensures.server c.on_request-step.ensures.step c.in-Ok.ensures.log c.end_request-visit.ensures.calls c.end_request-visit.ensures.taken c.end_request-visit.ensures.change
 
 pub returns-in-Ok-2-clause-visit : goal.returns-in-Ok-2-clause-visit
 returns-in-Ok-2-clause-visit g c = request_unused c.in-Ok.spare _ _ _ (sym c.if-is_usable.ensures) c.in-Ok.ensures.log

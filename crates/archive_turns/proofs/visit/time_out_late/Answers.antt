@@ -1,5 +1,8 @@
-use Rattle.archive_turns.proofs.Following.{walks_at, tracks_at}
+use Rattle.archive_turns.proofs.Following.{walks_none, walks_at, tracks_at}
 use Rattle.archive_turns.proofs.visit.time_out_late.Goals as goal
+
+pub loop-port-init : goal.loop-port-init
+loop-port-init g c = (walks_none _ _ _ _, record { fits = c.requires.fits; tracks = c.requires.tracks })
 
 pub loop-port-preserved : goal.loop-port-preserved
 loop-port-preserved g c =

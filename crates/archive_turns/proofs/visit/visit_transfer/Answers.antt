@@ -5,7 +5,7 @@ use Rattle.archive_turns.proofs.visit.visit_transfer.Goals as goal
 pub returns-in-Ok-Some-clause-visit : goal.returns-in-Ok-Some-clause-visit
 returns-in-Ok-Some-clause-visit g c =
     transfer_step _ _ _ _ _ _ _ _ _ _ c.is_peer-to_peer.ensures c.on_datagram-step.ensures.server c.on_datagram-step.ensures.step c.on_datagram-step.ensures.merges c.on_datagram-step.ensures.keeps
-    (grows_come _ _ _ _ _ c.in-Ok-Some.field-0-is c.in-Ok-Some.ensures.log) c.end_step.ensures.calls c.end_step.ensures.taken c.end_step.ensures.change
+    (grows_come _ _ _ _ _ c.in-Ok-Some.field-0-is c.in-Ok-Some.ensures.log) c.end_step-visit.ensures.calls c.end_step-visit.ensures.taken c.end_step-visit.ensures.change
 
 pub returns-in-Ok-None-clause-visit : goal.returns-in-Ok-None-clause-visit
 returns-in-Ok-None-clause-visit g c =

@@ -1,31 +1,45 @@
-use Rattle.std.proofs.Common.{rules, refl, ◌≡◌, ℕ, sym, subst, string_bytes}
-use Rattle.tws_tool.specs.Address.{IsAddress}
-use Rattle.tws_tool.specs.Commands.Get.{GetRan}
-use Rattle.tws_tool.specs.Lines.{got_line}
-use Rattle.tws_tool.proofs.Fetching.{get_nowhere, get_ran}
-use Rattle.tws_tool.proofs.Statuses.{no_address}
+use Rattle.std.proofs.Common.{rules, ◌≡◌, ℕ, List, Option, Some, Ok, Err, sym, subst, string_bytes}
+use Rattle.tws_tool.specs.Address.{Locates}
+use Rattle.tws_tool.specs.Commands.Get.{GetFails, GetRan, Gets}
+use Rattle.tws_tool.specs.Files.{Known}
+use Rattle.tws_tool.proofs.Fetching.{get_ran}
 use Rattle.tws_tool.proofs.commands.get.run.Goals as goal
 
-pub returns-in-None-clause-ran : goal.returns-in-None-clause-ran
-returns-in-None-clause-ran g c =
-    let held = g.W.Write.contents c.args.out.now in
-    let arguments = c.args.arguments.now in
-    let typed = string_bytes arguments.target.address in
-    let text : c.as_str.result.now ≡ typed = search rules in
-    let nowhere = no_address held held typed got_line c.bad_address.result c.bad_address.ensures refl (λ host is. c.in-None.ensures.none host (subst (λ t. IsAddress t host) (sym text) is)) in
-    get_nowhere held held (g.S.FileSystem.created_of c.args.system.now) arguments c.bad_address.result (g.N.Wire.log c.args.wire.now) c.bad_address.ensures nowhere
-
-pub returns-in-Some-clause-ran : goal.returns-in-Some-clause-ran
-returns-in-Some-clause-ran g c =
+pub returns-in-Ok-clause-ran : goal.returns-in-Ok-clause-ran
+returns-in-Ok-clause-ran g c =
     let old = g.W.Write.contents c.args.out.now in
-    let new = g.W.Write.contents c.fetch-done.new.out in
+    let new = g.W.Write.contents c.get_file-done.new.out in
     let before = g.N.Wire.log c.args.wire.now in
-    let after = g.N.Wire.log c.fetch-done.new.wire in
-    let created_of = g.S.FileSystem.created_of c.args.system.now in
+    let after = g.N.Wire.log c.get_file-done.new.wire in
+    let files = g.S.FileSystem.bytes_of c.args.system.now in
+    let now = g.S.FileSystem.bytes_of c.get_file-done.new.system in
+    let drafted_of = g.S.FileSystem.drafted_of c.args.system.now in
+    let host_of = g.S.Resolver.host_of c.args.system.now in
     let arguments = c.args.arguments.now in
-    let typed = string_bytes arguments.target.address in
-    let text : c.as_str.result.now ≡ typed = search rules in
-    let is = subst (λ t. IsAddress t c.in-Some.address.host) text c.in-Some.ensures.some in
-    let fetches = c.fetch-done.ensures in
-    subst (λ (n : ℕ). GetRan created_of arguments n before after old new) (sym c.finish.ensures.status)
-    (get_ran old new created_of arguments c.in-Some.address.host before after c.fetch-done.result is fetches.got fetches.fails)
+    let host = c.in-Some.host in
+    let text : c.as_str.result.now ≡ string_bytes arguments.target.address = search rules in
+    let name : c.as_str-2.result.now ≡ string_bytes arguments.target.file = search rules in
+    let here = subst (λ (t : List ℕ). Locates host_of t (Some host)) text (subst (λ (f : Option ℕ). Locates host_of c.as_str.result.now f) c.in-Some.is c.locate.ensures) in
+    get_ran old new (record { bytes_of = files; drafted_of = drafted_of; host_of = host_of }) now arguments host before after (Ok tt) here
+    (subst (λ (n : List ℕ). Gets (record { host = host; port = arguments.target.port }) arguments.ruleset n before after (drafted_of n) files now old new) name c.in-Ok.ensures.got)
+    tt
+
+pub returns-in-Err-clause-ran : goal.returns-in-Err-clause-ran
+returns-in-Err-clause-ran g c =
+    let old = g.W.Write.contents c.args.out.now in
+    let new = g.W.Write.contents c.get_file-done.new.out in
+    let before = g.N.Wire.log c.args.wire.now in
+    let after = g.N.Wire.log c.get_file-done.new.wire in
+    let files = g.S.FileSystem.bytes_of c.args.system.now in
+    let now = g.S.FileSystem.bytes_of c.get_file-done.new.system in
+    let drafted_of = g.S.FileSystem.drafted_of c.args.system.now in
+    let host_of = g.S.Resolver.host_of c.args.system.now in
+    let arguments = c.args.arguments.now in
+    let host = c.in-Some.host in
+    let text : c.as_str.result.now ≡ string_bytes arguments.target.address = search rules in
+    let name : c.as_str-2.result.now ≡ string_bytes arguments.target.file = search rules in
+    let here = subst (λ (t : List ℕ). Locates host_of t (Some host)) text (subst (λ (f : Option ℕ). Locates host_of c.as_str.result.now f) c.in-Some.is c.locate.ensures) in
+    let known : Known = record { bytes_of = files; drafted_of = drafted_of; host_of = host_of } in
+    subst (λ (n : ℕ). GetRan known arguments n before after now old new) (sym c.report_get.ensures)
+    (get_ran old new known now arguments host before after (Err c.in-Err.fault.fault) here tt
+    (subst (λ (n : List ℕ). GetFails (record { host = host; port = arguments.target.port }) arguments.ruleset n before after (drafted_of n) files now old new c.in-Err.fault.fault) name c.in-Err.ensures.fails))
