@@ -1,6 +1,6 @@
 -- The solutions of files as a page of HTML, with a table for each file.
-use Rattle.std.specs.Prelude.{ℕ, List, [], ◌∷◌, ◌++◌, length, codes, decimal}
-use Rattle.std.specs.List.{flat_map}
+use Rattle.std.specs.Prelude.{◌||◌, nat_eq, ℕ, Bool, List, [], ◌∷◌, ◌++◌, length, codes, decimal}
+use Rattle.std.specs.List.{flat_map, starts_with}
 use Rattle.tws_moves.specs.Spelling.{moves_in}
 use Rattle.tws_file.specs.declared.«ruleset».Ruleset.{Ruleset}
 use Rattle.tws_file.specs.declared.«ruleset».Ruleset.TheVariants.{Lynx, Ms}
@@ -23,6 +23,16 @@ table_end = TABLE_END.now
 
 unfoldable pub page_end : List ℕ
 page_end = PAGE_END.now
+
+-- whether the part stands somewhere in the text
+abbrev pub has_part : (part text : List ℕ) → Bool
+has_part part [] = starts_with nat_eq [] part
+has_part part (c ∷ text) = starts_with nat_eq (c ∷ text) part || has_part part text
+
+-- what a script, or a reference to something outside the page, would need
+abbrev pub ways_out : List (List ℕ)
+ways_out =
+    codes "script" ∷ codes "href" ∷ codes "src" ∷ codes "url" ∷ codes "import" ∷ codes "http" ∷ codes "//" ∷ codes " on" ∷ []
 
 -- ---- rows
 

@@ -7,6 +7,7 @@ ghost use Rattle.csv.specs.Writing.{default_writer, row_text};
 ghost use Rattle.byte_output.specs.Bytes.{IsBytes};
 ghost use Rattle.tws_file.specs.Text.{File, IsFile};
 ghost use Rattle.tws_tables.specs.Csv.{csv_names, csv_of, csv_rows};
+ghost use Rattle.tws_tables.specs.Page.{has_part, page_end, page_head, table_end, table_head, ways_out};
 ghost use Rattle.tws_tables.specs.Escaping.{BeginsReference, Shows, is_mark, is_printable, shown_password};
 
 /// The comma-separated values of a file are what the library `csv` writes for the names of the columns and the fields of
@@ -14,6 +15,11 @@ ghost use Rattle.tws_tables.specs.Escaping.{BeginsReference, Shows, is_mark, is_
 pub fn comma_separated()
     ensures written { (file : File) → IsFile file → csv_of file ≡ flat_map (row_text default_writer) (csv_names ∷ csv_rows file) }
     ensures read_back { (file : File) → IsFile file → records default_config (csv_of file) ≡ csv_names ∷ csv_rows file }
+{}
+
+/// The markup that every page has contains no script and no reference to anything outside the page.
+pub fn self_contained()
+    ensures { list_any (λ part. has_part part (page_head ++ table_head ++ table_end ++ page_end)) ways_out ≡ false }
 {}
 
 /// In the text of a password's cell no character that has a meaning in HTML stands for itself: there is no `<`, `>`, `"` or

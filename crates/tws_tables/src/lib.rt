@@ -25,5 +25,5 @@ mod totals;
 
 pub use byte_output::OutFault;
 pub use comma_values::write_csv;
-pub use laws::{comma_separated, escaped};
+pub use laws::{comma_separated, escaped, self_contained};
 pub use page::write_page;

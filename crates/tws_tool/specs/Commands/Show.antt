@@ -1,5 +1,5 @@
 -- The command `show`.
-use Rattle.std.specs.Prelude.{◌≡◌, ℕ, true, List, Option, Some, codes, if◌then◌else◌}
+use Rattle.std.specs.Prelude.{ℕ, List, Option, Some, codes, if◌then◌else◌}
 use Rattle.clap.specs.Words.{App, Row, Rule, Text, new_app, new_rule, with_rule}
 use Rattle.clap.specs.declared.builder.action.ArgAction.TheVariants.{SetTrue}
 use Rattle.tws_file.specs.Listing.{listing_of}
@@ -29,7 +29,7 @@ pub record AsksToShow (rows : List Row) (arguments : ShowArguments) : Type 0 whe
   pub csv_is : HasFlag csv_rule rows arguments.csv
 
 -- the text of a file that is asked for: `--moves` changes nothing about comma-separated values
-abbrev pub shown_text : ShowArguments → File → List ℕ
+unfoldable pub shown_text : ShowArguments → File → List ℕ
 shown_text arguments = if arguments.csv then csv_of else listing_of arguments.moves
 
 -- What it did, by the exit status, given what is known of the bytes of the file with each name, and what holds if

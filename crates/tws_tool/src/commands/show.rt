@@ -128,6 +128,7 @@ pub fn run_csv<R: Read, W: Write>(
 }
 
 // Reads a solution file to its end, and writes it as it is asked for.
+#[tactic(auto, unfolding(crate::specs::Commands::Show::shown_text))]
 fn show_input<R: Read, W: Write>(
     alloc: Global,
     arguments: &ShowArguments,

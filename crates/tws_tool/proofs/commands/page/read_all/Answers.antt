@@ -1,4 +1,4 @@
-use Rattle.std.proofs.Common.{ℕ, List, Option, arith, refl, sym, subst, map, take, IfSome}
+use Rattle.std.proofs.Common.{ℕ, List, Option, arith, sym, subst, map, take, IfSome}
 use Rattle.std.proofs.lemmas.Result.{err_from_is_err_and}
 use Rattle.tws_file.specs.Text.{IsText}
 use Rattle.tws_tool.specs.Faults.{ReadFails}
