@@ -3,10 +3,7 @@ use Rattle.std.proofs.Common.{◌≡◌, ℕ, zero, suc, ◌+◌, ◌*◌, ◌<�
 use Rattle.std.specs.Prelude.{slice_get}
 use native.Mathlib.Omega.{arith}
 use Rattle.std.proofs.lemmas.List.{length-append, length-take, take_all}
-use Rattle.tws_file.specs.declared.file_fault.FileFault.{FileFault}
-use Rattle.tws_file.specs.Text.{IsReadable}
-use Rattle.tws_file.specs.Fault.{HasFileFault}
-use Rattle.tws_file.specs.PartReader.{PartReading, HasRead, HasRoom}
+use Rattle.tws_file.specs.PartReader.{PartReading, HasRoom}
 use Rattle.tws_file.proofs.InParts.{has_room}
 use Rattle.tftp_ends.specs.declared.chunks.TheConstants.{CHUNK_SIZE}
 use Rattle.tftp_ends.specs.Chunks.{chunk_count, chunk_of}

@@ -7,7 +7,6 @@ use Rattle.log.specs.declared.level.Level.TheVariants as level
 use Rattle.log.specs.Kv.{Pair}
 use Rattle.log.specs.Line.{header_text, pairs_text}
 use Rattle.tftp_packet.specs.declared.endpoint.Endpoint.{Endpoint}
-use Rattle.tftp_packet.specs.declared.refusal.Refusal.{Refusal}
 use Rattle.tftp_packet.specs.declared.refusal.Refusal.TheVariants as refusal
 use Rattle.tftp_packet.specs.Refusal.{refusal_text}
 use Rattle.tws_file.specs.declared.«ruleset».Ruleset.{Ruleset}
@@ -18,7 +17,6 @@ use Rattle.archive_log.specs.declared.cause.Cause.{Cause}
 use Rattle.archive_log.specs.declared.cause.Cause.TheVariants.{Refused, PeerError, TimedOut}
 use Rattle.archive_log.specs.declared.history_fault.HistoryFault.{HistoryFault}
 use Rattle.archive_log.specs.declared.history_fault.HistoryFault.TheVariants as history
-use Rattle.archive_log.specs.declared.upload.Upload.{Upload}
 use Rattle.archive_log.specs.declared.event.Event.{Event}
 use Rattle.archive_log.specs.declared.event.Event.TheVariants as event
 

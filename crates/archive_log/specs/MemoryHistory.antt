@@ -1,5 +1,5 @@
 -- A history in memory: the list of all changes to a folder.
-use Rattle.std.specs.Prelude.{◌≡◌, ℕ, Bool, false, List, [], ◌∷◌, ◌++◌, reverse, take, find, Option, None, Some, Vec, string_bytes, option_map, option_and_then, unwrap_or}
+use Rattle.std.specs.Prelude.{ℕ, Bool, false, List, reverse, take, find, Option, None, Some, Vec, string_bytes, option_map, option_and_then, unwrap_or}
 use Rattle.std.specs.Str.{bytes_eq}
 use Rattle.archive_log.specs.declared.memory_history.Change.{Change}
 use Rattle.archive_log.specs.declared.memory_history.MemoryHistory.{MemoryHistory}

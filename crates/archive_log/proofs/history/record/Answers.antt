@@ -1,4 +1,4 @@
-use Rattle.std.proofs.Common.{ap, ◌∙◌, rules}
+use Rattle.std.proofs.Common.{ap, ◌∙◌}
 use Rattle.std.specs.Prelude.{string_bytes}
 use Rattle.archive_log.specs.History.{draft_of}
 use Rattle.archive_log.specs.declared.history_fault.HistoryFault.TheVariants.{SyncFolder}

@@ -1,5 +1,5 @@
-use Rattle.std.proofs.Common.{refl, arith}
-use Rattle.archive_log.proofs.Chunks.{read_more, read_all, chunk_room}
+use Rattle.std.proofs.Common.{arith}
+use Rattle.archive_log.proofs.Chunks.{read_more, chunk_room}
 use Rattle.archive_log.proofs.upload.fault_of.Goals as goal
 
 pub read_chunk-requires : goal.read_chunk-requires

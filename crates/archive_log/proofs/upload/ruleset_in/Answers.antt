@@ -1,5 +1,5 @@
 use Rattle.std.proofs.Common.{◌∙◌}
-use Rattle.archive_log.proofs.Chunks.{first_ruleset, no_ruleset}
+use Rattle.archive_log.proofs.Chunks.{first_ruleset}
 use Rattle.archive_log.proofs.upload.ruleset_in.Goals as goal
 
 pub returns : goal.returns
