@@ -1,8 +1,10 @@
 // Files that arrive in pieces, most of them byte by byte.
+ghost use Rattle.std.specs.Prelude.{◌≤◌};
+
 use crate::files::written;
 use std::alloc::Allocator;
 use std::test::Fail;
-use test_samples::{CUT_MOVE, EMPTY_LYNX, join};
+use test_samples::{CUT_MOVE, EMPTY_LYNX, EMPTY_MS, HUNDRED, join};
 use tws_file::{FileFault, Reader};
 
 // Pushes a byte at a time. Returns the number of the first push that failed, and the reader.
@@ -32,6 +34,32 @@ fn a_file_that_comes_byte_by_byte(rt: HostRuntime) -> Result<(), Fail> {
         (None, [7, 8], &[0x21][..], 2)
     );
     assert_eq!(rt; written(rt.alloc(), &file)?.as_slice(), LEVELS.as_slice());
+    Ok(())
+}
+
+// The text of the file that is read from HUNDRED in two pieces, of which the first has `at` bytes.
+fn read_in_two<A: Allocator + Copy>(alloc: A, at: usize) -> Result<Vec<u8, A>, Fail>
+    requires { at ≤ 28 }
+{
+    let (first, rest) = HUNDRED.split_at(at);
+    let mut reader = Reader::new(alloc);
+    reader.push(first)?;
+    reader.push(rest)?;
+    written(alloc, &reader.finish()?)
+}
+
+#[test]
+fn a_solution_that_comes_in_two_pieces(rt: HostRuntime) -> Result<(), Fail> {
+    for at in 1..28usize {
+        assert_eq!(rt;
+            read_in_two(rt.alloc(), at)?.as_slice(),
+            HUNDRED.as_slice(),
+            "at {at}"
+        );
+    }
+    let (first, reader) = push_bytes(rt.alloc(), HUNDRED);
+    let text = written(rt.alloc(), &reader.finish()?)?;
+    assert_eq!(rt; (first, text.as_slice()), (None, HUNDRED.as_slice()));
     Ok(())
 }
 
@@ -69,6 +97,18 @@ fn a_fault_of_a_record_is_kept(rt: HostRuntime) -> Result<(), Fail> {
         (Some(16), Some(FileFault::BadSize(12)))
     );
     Ok(())
+}
+
+// The header is read once it is whole.
+#[test]
+fn a_wrong_signature_byte_by_byte(rt: HostRuntime) {
+    let mut wrong = *EMPTY_MS;
+    wrong[3] = 0x98;
+    let (first, reader) = push_bytes(rt.alloc(), &wrong);
+    assert_eq!(rt;
+        (first, reader.finish().err()),
+        (Some(8), Some(FileFault::BadSignature))
+    );
 }
 
 #[test]

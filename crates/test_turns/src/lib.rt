@@ -2,6 +2,8 @@
 #![tactic(auto)]
 
 #[cfg(test)]
+mod crossing;
+#[cfg(test)]
 mod crowding;
 #[cfg(test)]
 mod joined;
