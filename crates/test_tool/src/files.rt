@@ -68,7 +68,8 @@ fn pack_leaves_what_is_packed(rt: HostRuntime) -> Result<(), Fail> {
 #[test]
 fn pack_refuses_what_is_no_file(rt: HostRuntime) -> Result<(), Fail> {
     let outcome = run(&rt, &["tws", "pack"], &[0x35, 0x33, 0x9B, 0x98, 2, 0, 0, 0])?;
-    let line = "tws: standard input: unreadable: BadSignature\n";
+    let line =
+        "tws: standard input: unreadable: BadSignature\ntws: standard input: the file does not begin with the bytes 35 33 9B 99\n";
     assert!(rt; fails_with(&outcome, 3, line));
     Ok(())
 }
@@ -91,16 +92,22 @@ fn show_of<R: io::Read>(rt: &HostRuntime, input: &mut R) -> (Result<(), ToolFaul
 fn show_refuses_what_is_no_file(rt: HostRuntime) -> Result<(), Fail> {
     let file = HUNDRED.as_slice();
     let faults: [(&[u8], &str); 4] = [
-        (&[], "tws: standard input: unreadable: ShortHeader(0)\n"),
+        (
+            &[],
+            "tws: standard input: unreadable: ShortHeader(0)\ntws: standard input: the file ends inside its header, after 0 bytes\n",
+        ),
         (
             &file[..27],
-            "tws: standard input: unreadable: ShortRecord(8)\n",
+            "tws: standard input: unreadable: ShortRecord(8)\ntws: standard input: the file ends inside the record at byte 8\n",
         ),
         (
             &[0x35, 0x33, 0x9B, 0x98, 2, 0, 0, 0],
-            "tws: standard input: unreadable: BadSignature\n",
+            "tws: standard input: unreadable: BadSignature\ntws: standard input: the file does not begin with the bytes 35 33 9B 99\n",
         ),
-        (CUT_MOVE, "tws: standard input: unreadable: MoveCut(29)\n"),
+        (
+            CUT_MOVE,
+            "tws: standard input: unreadable: MoveCut(29)\ntws: standard input: the moves end inside the move at byte 29\n",
+        ),
     ];
     for (bytes, line) in faults {
         let outcome = run(&rt, &["tws", "show"], bytes)?;

@@ -157,7 +157,8 @@ fn best_of_a_file_that_is_unreadable(rt: HostRuntime) -> Result<(), Fail> {
         host: None,
     };
     let outcome = best_of_one(&rt, &mut system, &["short"])?;
-    let line = "tws: short: unreadable: ShortHeader(7)\n";
+    let line =
+        "tws: short: unreadable: ShortHeader(7)\ntws: short: the file ends inside its header, after 7 bytes\n";
     assert!(rt; fails_with(&outcome, 3, line));
     Ok(())
 }
@@ -170,7 +171,13 @@ fn best_of_a_file_that_is_missing(rt: HostRuntime) -> Result<(), Fail> {
         host: None,
     };
     let outcome = best_of_one(&rt, &mut system, &["short", "missing"])?;
-    assert!(rt; fails_with(&outcome, 2, "tws: read fault\n"));
+    assert!(rt;
+        fails_with(
+            &outcome,
+            2,
+            "tws: read fault\ntws: missing: entity not found\n"
+        )
+    );
     Ok(())
 }
 

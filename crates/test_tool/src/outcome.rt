@@ -31,9 +31,9 @@ pub(crate) fn run(rt: &HostRuntime, words: &[&str], input: &[u8]) -> Result<Outc
     })
 }
 
-// Whether a run ended with this status, and printed nothing but this fault.
-pub(crate) fn fails_with(outcome: &Outcome, status: u8, line: &str) -> bool {
+// Whether a run ended with this status, and printed nothing but these lines of a fault.
+pub(crate) fn fails_with(outcome: &Outcome, status: u8, lines: &str) -> bool {
     outcome.status == status
         && outcome.out.is_empty()
-        && outcome.errors.as_slice() == line.as_bytes()
+        && outcome.errors.as_slice() == lines.as_bytes()
 }
