@@ -1,4 +1,6 @@
 // The commands of the archive over wires in memory: what is sent, what is printed, and inputs that fail.
+ghost use Rattle.std.specs.Prelude.{None};
+
 use crate::streams::*;
 use archive_client::Cause;
 use archive_table::{NoKeeper, NoObserver};
