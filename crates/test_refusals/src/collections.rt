@@ -2,7 +2,7 @@
 use refusing::{Outcome, Refusing, refuse_each};
 use std::alloc::{Allocator, Global};
 use std::test::Fail;
-use test_samples::{EMPTY_LYNX, record};
+use test_samples::{EMPTY_LYNX, HUNDRED, join, record};
 use tftp_packet::Blocks;
 use tws_best::Collection;
 use tws_file::{Ruleset, TwsFile, read_file};
@@ -79,6 +79,40 @@ fn merging(rt: HostRuntime) -> Result<(), Fail> {
                 outcome => outcome,
             }
         },
+    )?)
+}
+
+// A Lynx file of two solutions and a pad between them, of levels that HUNDRED does not have.
+fn two_and_a_pad(global: Global) -> Result<TwsFile, Fail> {
+    let first = record(global, 2, b"BBBB", 0, 20, &[])?;
+    let second = record(global, 1, b"CCCC", 0, 10, &[])?;
+    let text = join(global, EMPTY_LYNX, &[&first, &[0; 4], &second])?;
+    Ok(read_file(global, &text)?)
+}
+
+// Merges a file of two more solutions into a collection of one. It then has a header of 8 bytes and three records of
+// 20, or still the text of the one.
+fn merge_two(global: Global, refusing: &Refusing<Global>, one: &TwsFile, two: &TwsFile) -> Outcome {
+    let Ok(mut collection) = Collection::load(refusing, one) else {
+        return Outcome::OutOfMemory;
+    };
+    match collection.merge(two) {
+        Ok(changed) => {
+            Outcome::of(changed && collection.len() == 3 && collection.text_len() == 68)
+        }
+        Err(_) => Outcome::refused(is_text(global, &collection, HUNDRED)),
+    }
+}
+
+#[test]
+fn merging_into_one_solution(rt: HostRuntime) -> Result<(), Fail> {
+    let global = rt.alloc();
+    let one = read_file(global, HUNDRED)?;
+    let two = two_and_a_pad(global)?;
+    Ok(refuse_each(
+        global,
+        5,
+        &|refusing: &Refusing<Global>| merge_two(global, refusing, &one, &two),
     )?)
 }
 

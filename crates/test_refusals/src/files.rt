@@ -125,3 +125,33 @@ fn a_cut_file_in_pieces(rt: HostRuntime) -> Result<(), Fail> {
         },
     )?)
 }
+
+// The same for the first piece.
+fn push_first<A: Allocator + Copy>(reader: &mut Reader<A>, piece: &[u8]) -> Result<(), FileFault>
+    requires { HasAtMost reader.old 0 }
+    ensures { HasAtMost reader.new (length piece.now) }
+{
+    push_again(reader, piece)
+}
+
+// Reads the cut file in two pieces, of which the first has 20 bytes. A push that was out of memory is made again.
+fn read_cut_in_two(refusing: &Refusing<Global>) -> Result<(), FileFault> {
+    let mut reader = Reader::new(refusing);
+    let (first, rest) = CUT_MOVE.split_at(20);
+    push_first(&mut reader, first)?;
+    push_again(&mut reader, rest)?;
+    let _file = reader.finish()?;
+    Ok(())
+}
+
+// The first request is made in the first push. If it is refused, that push succeeds when it is made again.
+#[test]
+fn a_push_of_twenty_bytes(rt: HostRuntime) -> Result<(), Fail> {
+    Ok(refuse_each(
+        rt.alloc(),
+        2,
+        &|refusing: &Refusing<Global>| {
+            Outcome::of(read_cut_in_two(refusing) == Err(FileFault::MoveCut(29)))
+        },
+    )?)
+}

@@ -16,6 +16,8 @@ mod downloads;
 #[cfg(test)]
 mod files;
 #[cfg(test)]
+mod long_uploads;
+#[cfg(test)]
 mod moves;
 #[cfg(test)]
 mod packing;

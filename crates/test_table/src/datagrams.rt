@@ -21,7 +21,7 @@ const LONG_HEADER: &[u8; 32] =
     b"\0\x03\0\x01\x35\x33\x9B\x99\x01\0\0\0\0\0\0\0\0\0AAAA\0\0\0\0\0\0\0\0\0\0";
 
 // Of two transfers that were opened for one request the client ends the one that it is not bound to, and through the
-// other its file is taken once, although its last block arrives twice.
+// other its file is taken once, although its last block arrives twice. That one is live until its second time-out.
 #[test]
 fn a_request_that_came_twice(rt: HostRuntime) -> Result<(), Fail> {
     let rows = [
@@ -39,11 +39,21 @@ fn a_request_that_came_twice(rt: HostRuntime) -> Result<(), Fail> {
         (Input::Wait(4000), Then::Nothing),
         (Input::Wait(4000), Then::Ends),
     ];
-    let left = Left {
+    let before = Left {
+        lynx: HUNDRED,
+        live: 1,
+        least: Some(4000),
+        ..NOTHING
+    };
+    let after = Left {
         lynx: HUNDRED,
         ..NOTHING
     };
-    assert_eq!(rt; other_of_new(rt.alloc(), &rows, left)?, None);
+    let other = (
+        other_of_new(rt.alloc(), &rows[..6], before)?,
+        other_of_new(rt.alloc(), &rows, after)?,
+    );
+    assert_eq!(rt; other, (None, None));
     Ok(())
 }
 
