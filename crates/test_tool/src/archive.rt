@@ -124,7 +124,21 @@ fn a_put_of_an_input_that_stumbles(rt: HostRuntime) -> Result<(), Fail> {
 
 // ---- get
 
-// A system with one file, which has these bytes until a draft takes its place.
+// What is to become the file of a shelf, without ghost contents.
+#[derive(Drop)]
+struct ShelfDraft(Vec<u8>);
+
+impl io::Write for ShelfDraft {
+    fn write(&mut self, buf: &[u8]) -> io::Result<usize> {
+        self.0.write(buf)
+    }
+
+    fn flush(&mut self) -> io::Result<()> {
+        Ok(())
+    }
+}
+
+// A system with one file, which has these bytes until a draft takes its place, and which cannot be read.
 #[derive(Drop)]
 struct Shelf {
     file: Vec<u8>,
@@ -133,26 +147,26 @@ struct Shelf {
 impl FileSystem for Shelf {
     type File = io::Empty;
 
-    type Draft = Vec<u8>;
+    type Draft = ShelfDraft;
 
     ghost bytes_of = { λ _ _. None };
 
     ghost drafted_of = { λ _ _. None };
 
     fn open(&self, _name: &str) -> io::Result<io::Empty> {
-        Ok(io::empty())
+        Err(io::Error::from(io::ErrorKind::NotFound))
     }
 
-    fn begin(&mut self, _name: &str) -> io::Result<Vec<u8>> {
-        Ok(Vec::new(*self.file.allocator()))
+    fn begin(&mut self, _name: &str) -> io::Result<ShelfDraft> {
+        Ok(ShelfDraft(Vec::new(*self.file.allocator())))
     }
 
-    fn publish(&mut self, _name: &str, draft: Vec<u8>) -> io::Result<()> {
-        self.file = draft;
+    fn publish(&mut self, _name: &str, draft: ShelfDraft) -> io::Result<()> {
+        self.file = draft.0;
         Ok(())
     }
 
-    fn abandon(&mut self, _draft: Vec<u8>) {}
+    fn abandon(&mut self, _draft: ShelfDraft) {}
 }
 
 // What a get at which these datagrams arrive leaves of a file of two bytes, what it prints, and how many requests and
