@@ -218,9 +218,10 @@ fn there_and_back(alloc: Global, size: usize, times: u8) -> Result<bool, Fail> {
     Ok(first.as_slice() == want && second.as_slice() == want)
 }
 
+// With 503 bytes of records the file is one block of 511 bytes.
 #[test]
 fn files_of_many_sizes(rt: HostRuntime) -> Result<(), Fail> {
-    for size in [0, 1, 511, 512, 513, 100_000] {
+    for size in [0, 1, 503, 504, 511, 512, 513, 100_000] {
         assert!(rt; there_and_back(rt.alloc(), size, 1)?);
     }
     Ok(())
@@ -231,5 +232,43 @@ fn files_of_many_sizes_carried_twice(rt: HostRuntime) -> Result<(), Fail> {
     for size in [0, 1, 511, 512, 513, 100_000] {
         assert!(rt; there_and_back(rt.alloc(), size, 2)?);
     }
+    Ok(())
+}
+
+// A Lynx file with a solution without moves for each of 5,000 levels, all but the last in 100 ticks.
+fn five_thousand(alloc: Global, last: u32) -> Result<Vec<u8>, AllocError> {
+    let mut text = Vec::from_slice(alloc, EMPTY_LYNX)?;
+    for number in 1..5000u16 {
+        let solution = record(alloc, number, b"BDHP", 0, 100, &[])?;
+        text.extend_from_slice(&solution)?;
+    }
+    let solution = record(alloc, 5000, b"BDHP", 0, last, &[])?;
+    text.extend_from_slice(&solution)?;
+    Ok(text)
+}
+
+// Puts one solution onto a collection of 5,000. Returns what is fetched then.
+fn fetched_after_two(alloc: Global) -> Result<Vec<u8>, Fail> {
+    let better = join(
+        alloc,
+        EMPTY_LYNX,
+        &[&record(alloc, 5000, b"BDHP", 0, 90, &[])?],
+    )?;
+    let mut wire = wire_of(alloc, &[4000, 4001, 4002])?;
+    let mut keeper = MemoryKeeper::new(alloc);
+    let mut server = Server::new(alloc, 6969);
+    let all = five_thousand(alloc, 100)?;
+    if put(alloc, &mut server, &mut keeper, &mut wire, all, 1)? != 1 {
+        return Err(Fail::new("not taken once"));
+    }
+    get_after_put(alloc, &mut server, &mut keeper, &mut wire, better, 1)
+}
+
+// No call is out of memory because a collection is large.
+#[test]
+fn one_of_five_thousand_solutions(rt: HostRuntime) -> Result<(), Fail> {
+    let wanted = five_thousand(rt.alloc(), 90)?;
+    let got = fetched_after_two(rt.alloc())?;
+    assert!(rt; got.as_slice() == wanted.as_slice());
     Ok(())
 }
