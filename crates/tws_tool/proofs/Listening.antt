@@ -1,7 +1,8 @@
 -- What `serve` did, by its result.
 use Rattle.std.proofs.Common.{◌≡◌, ℕ, ◌+◌, ◌<◌, ◌≤◌, Bool, true, false, List, Option, Some, None, Result, Ok, Err, OnOk, IfErr, ◌⊎◌, refl, arith, ap, sym, subst, ◌∙◌, inl, inr, ⊎_elim}
 use Rattle.archive_table.specs.declared.limits.TheConstants.{LIVE}
-use Rattle.archive_table.specs.Keeper.{Keeping, HasLoaded}
+use Rattle.archive_table.specs.Keeper.{Keeping}
+use Rattle.archive_table.specs.Table.{Table}
 use Rattle.archive_turns.specs.Turn.{MakesMany, MakesPass, Server, count_if, fresh_server}
 use Rattle.archive_turns.specs.Wire.{Entry}
 use Rattle.archive_turns.proofs.Turns.{many_none, many_more}
@@ -9,7 +10,7 @@ use Rattle.tws_tool.specs.declared.commands.serve.Passes.{Passes}
 use Rattle.tws_tool.specs.declared.commands.serve_arguments.ServeArguments.{ServeArguments}
 use Rattle.tws_tool.specs.declared.tool_fault.ToolFault.{ToolFault}
 use Rattle.tws_tool.specs.declared.tool_fault.ToolFault.TheVariants.{Read, Write, Unreadable, Memory, Socket, Transfer}
-use Rattle.tws_tool.specs.Commands.Serve.{ArePassesFor, HasHost, IsNoHost, MakesPasses, ServeRan, count_of, given_address, pass_of, ServeStops, Served, ServerServed, Serves}
+use Rattle.tws_tool.specs.Commands.Serve.{ArePassesFor, HasHost, IsNoHost, MakesPasses, ServeRan, ServedFrom, count_of, given_address, pass_of, ServeStops, Served, ServerServed, Serves}
 use Rattle.tws_tool.specs.Faults.{answer_status, status_of}
 use Rattle.tws_tool.specs.Lines.{LineFails, serving_line, taken_line}
 
@@ -50,52 +51,45 @@ module _ (old new : Option (List ℕ)) where
       (λ fails. ⊎_elim (λ first. line_status (serving_line port) old new e first.1)
       (λ last. line_status (taken_line last.taken) last.between new e last.fails) fails) stops
 
-  module _ (port turns per_host : ℕ) (kept now : Option (List Keeping)) where
+  module _ (port turns per_host : ℕ) (start : Table) (kept now : Option (List Keeping)) where
     usable_served : (r : Result (Unit {0}) ToolFault) →
-        OnOk r (Serves port (ServerServed port turns per_host true kept now) old new) →
-        IfErr r (ServeStops port (now ≡ kept) (ServerServed port turns per_host true kept now) old new)
-        → Served port turns per_host (answer_status r) true kept now old new
+        OnOk r (Serves port (ServerServed turns per_host start true kept now) old new) →
+        IfErr r (ServeStops port (now ≡ kept) (ServerServed turns per_host start true kept now) old new)
+        → Served port turns per_host start (answer_status r) true kept now old new
     usable_served (Ok done) serves stops = record { done = λ e. (refl, serves); failed = λ e. absurd (omega (arith, e)); few = inl refl }
     usable_served (Err e) serves stops =
-        let two = stops_status port (now ≡ kept) (ServerServed port turns per_host true kept now) e stops in
+        let two = stops_status port (now ≡ kept) (ServerServed turns per_host start true kept now) e stops in
         record { done = λ z. absurd (omega (arith, z, two)); failed = λ z. inr (inl (e, stops)); few = inr two }
 
     unknown_served : (r : Result (Unit {0}) ToolFault) →
-        OnOk r (Serves port (ServerServed port turns per_host false kept now) old new) →
-        IfErr r (ServeStops port (now ≡ kept) (ServerServed port turns per_host false kept now) old new)
-        → Served port turns per_host 2 false kept now old new
+        OnOk r (Serves port (ServerServed turns per_host start false kept now) old new) →
+        IfErr r (ServeStops port (now ≡ kept) (ServerServed turns per_host start false kept now) old new)
+        → Served port turns per_host start 2 false kept now old new
     unknown_served (Ok done) serves stops = record { done = λ z. absurd (omega (arith, z)); failed = λ z. inr (inr (refl, serves)); few = inr refl }
     unknown_served (Err e) serves stops = record { done = λ z. absurd (omega (arith, z)); failed = λ z. inr (inl (e, stops)); few = inr refl }
 
     -- by whether the keeper is usable at the end
     pub served : (usable : Bool) (status : ℕ) (r : Result (Unit {0}) ToolFault) → (usable ≡ true → status ≡ answer_status r) → (usable ≡ false → status ≡ 2)
-        → OnOk r (Serves port (ServerServed port turns per_host usable kept now) old new) → IfErr r (ServeStops port (now ≡ kept) (ServerServed port turns per_host usable kept now) old new)
-        → Served port turns per_host status usable kept now old new
-    served true status r is two serves stops = subst (λ (n : ℕ). Served port turns per_host n true kept now old new) (sym (is refl)) (usable_served r serves stops)
-    served false status r is two serves stops = subst (λ (n : ℕ). Served port turns per_host n false kept now old new) (sym (two refl)) (unknown_served r serves stops)
+        → OnOk r (Serves port (ServerServed turns per_host start usable kept now) old new) → IfErr r (ServeStops port (now ≡ kept) (ServerServed turns per_host start usable kept now) old new)
+        → Served port turns per_host start status usable kept now old new
+    served true status r is two serves stops = subst (λ (n : ℕ). Served port turns per_host start n true kept now old new) (sym (is refl)) (usable_served r serves stops)
+    served false status r is two serves stops = subst (λ (n : ℕ). Served port turns per_host start n false kept now old new) (sym (two refl)) (unknown_served r serves stops)
 
--- a server that was loaded, once its limit is set
-pub limited_server : (loaded limited : Server) (port per_host : ℕ) (kept : Option (List Keeping)) →
-    HasLoaded port kept loaded.table → loaded ≡ fresh_server LIVE loaded.table → limited ≡ record loaded { per_host = per_host } →
-    HasLoaded port kept limited.table × (limited ≡ fresh_server per_host limited.table)
-limited_server loaded limited port per_host kept has fresh is =
-    let set : Server → Server = λ s. record s { per_host = per_host } in
-    let whole : limited ≡ fresh_server per_host loaded.table = is ∙ ap set fresh in
-    let table : loaded.table ≡ limited.table = sym (ap (λ (s : Server). s.table) whole) in
-    (subst (HasLoaded port kept) table has, whole ∙ ap (fresh_server per_host) table)
+-- a server before its first turn or round, once its limit is set
+limited_server : (begun limited : Server) (per_host : ℕ) → begun ≡ fresh_server LIVE begun.table → limited ≡ record begun { per_host = per_host } → limited ≡ fresh_server per_host begun.table
+limited_server begun limited per_host fresh is = let set : Server → Server = λ s. record s { per_host = per_host } in is ∙ ap set fresh
 
--- a server from its load on, which keeps nothing
-pub server_served : (port turns per_host : ℕ) (usable : Bool) (kept mid now : Option (List Keeping)) → mid ≡ kept →
-    (passes : Passes) (first last : Server) → ArePassesFor turns passes → HasLoaded port kept first.table
-    → first ≡ fresh_server per_host first.table → (taken : ℕ) → MakesPasses passes usable first last taken None None mid now → ServerServed port turns per_host usable kept now taken
-server_served port turns per_host usable kept mid now same passes first last are loaded fresh taken made = record {
-  first = first;
+-- it makes its turns or rounds
+pub server_served : (turns per_host : ℕ) (usable : Bool) (kept now : Option (List Keeping)) (passes : Passes) (begun limited last : Server) →
+    ArePassesFor turns passes → begun ≡ fresh_server LIVE begun.table → limited ≡ record begun { per_host = per_host } →
+    (taken : ℕ) → MakesPasses passes usable limited last taken None None kept now → ServerServed turns per_host begun.table usable kept now taken
+server_served turns per_host usable kept now passes begun limited last are fresh is taken made = record {
+  first = limited;
   last = last;
-  loaded = loaded;
-  fresh = fresh;
+  fresh = limited_server begun limited per_host fresh is;
   passes = passes;
   passes_are = are;
-  made = subst (λ (k : Option (List Keeping)). MakesPasses passes usable first last taken None None k now) same made;
+  made = made;
 }
 
 -- ---- where it serves
@@ -107,7 +101,7 @@ some_host (Some address) host is none = none host is
 
 -- a server at the host of the address that was given
 pub serve_ran : (arguments : ServeArguments) (status host : ℕ) (old new : Option (List ℕ)) → HasHost (given_address arguments) host → (status ≡ 0) ⊎ (status ≡ 2)
-    → ((usable : Bool) × Served arguments.port arguments.turns arguments.per_host status usable None None old new) → ServeRan arguments status old new
+    → ServedFrom arguments status old new → ServeRan arguments status old new
 serve_ran arguments status host old new is few served = record {
   bad =
       (λ one. absurd (⊎_elim (λ zero_is. omega (arith, one, zero_is)) (λ two_is. omega (arith, one, two_is)) few), λ none. absurd (some_host (given_address arguments) host is none));

@@ -5,6 +5,7 @@ use Rattle.clap.specs.Words.{App, Row, Rule, Text, first_of, new_app, new_rule, 
 use Rattle.clap.specs.declared.builder.action.ArgAction.TheVariants.{SetTrue}
 use Rattle.tftp_ends.specs.declared.limits.TheConstants.{MAX_FILE}
 use Rattle.archive_table.specs.Keeper.{Keeping, HasLoaded}
+use Rattle.archive_table.specs.Table.{Table, empty_table}
 use Rattle.archive_table.specs.declared.limits.TheConstants.{LIVE}
 use Rattle.archive_turns.specs.Turn.{IsRound, IsTurn, MakesMany, Pass, Server, fresh_server}
 use Rattle.archive_turns.specs.Wire.{Entry}
@@ -112,13 +113,12 @@ pub record MakesPasses (passes : Passes) (usable : Bool) (old new : Server) (tak
 abbrev pub ArePassesFor : (turns : ℕ) → Passes → Type 0
 ArePassesFor turns passes = ((turns < TURNS) × (passes ≡ Turns turns)) ⊎ ((TURNS ≤ turns) × (passes ≡ Rounds (2 ^ 64 - 1)))
 
--- a server was loaded, and made its turns or rounds, in which one host had at most so many transfers: what was kept before
--- and after, and how many files were taken
-pub record ServerServed (port turns per_host : ℕ) (usable : Bool) (kept now : Option (List Keeping)) (taken : ℕ) : Type 0 where
+-- a server that began with this table made its turns or rounds, in which one host had at most so many transfers: what was
+-- kept before and after, and how many files were taken
+pub record ServerServed (turns per_host : ℕ) (start : Table) (usable : Bool) (kept now : Option (List Keeping)) (taken : ℕ) : Type 0 where
   pub first : Server
   pub last : Server
-  pub loaded : HasLoaded port kept first.table
-  pub fresh : first ≡ fresh_server per_host first.table
+  pub fresh : first ≡ fresh_server per_host start
   pub passes : Passes
   pub passes_are : ArePassesFor turns passes
   pub made : MakesPasses passes usable first last taken None None kept now
@@ -129,11 +129,11 @@ pub record ServerServed (port turns per_host : ℕ) (usable : Bool) (kept now : 
 abbrev pub ServeStops : (port : ℕ) (Unmade : Type 0) (Made : (taken : ℕ) → Type 0) (old new : Option (List ℕ)) → ToolFault → Type 0
 ServeStops port Unmade Made old new e = ((e ≡ Socket) × (new ≡ old) × Unmade) ⊎ ServeFails port Unmade Made old new e
 
--- What `serve` on this port did, with this many turns and transfers of one host: what its keeper had and has, and whether it
--- is usable. Once it is not, the server ends with status 2.
-pub record Served (port turns per_host status : ℕ) (usable : Bool) (kept now : Option (List Keeping)) (old new : Option (List ℕ)) : Type 0 where
-  pub done : status ≡ 0 → (usable ≡ true) × Serves port (ServerServed port turns per_host usable kept now) old new
-  pub failed : status ≡ 2 → ((new ≡ old) × (now ≡ kept)) ⊎ ((e : ToolFault) × ServeStops port (now ≡ kept) (ServerServed port turns per_host usable kept now) old new e) ⊎ ((usable ≡ false) × Serves port (ServerServed port turns per_host usable kept now) old new)
+-- What `serve` on this port did that began with this table, with this many turns and transfers of one host: what its keeper
+-- had and has, and whether it is usable. Once it is not, the server ends with status 2.
+pub record Served (port turns per_host : ℕ) (start : Table) (status : ℕ) (usable : Bool) (kept now : Option (List Keeping)) (old new : Option (List ℕ)) : Type 0 where
+  pub done : status ≡ 0 → (usable ≡ true) × Serves port (ServerServed turns per_host start usable kept now) old new
+  pub failed : status ≡ 2 → ((new ≡ old) × (now ≡ kept)) ⊎ ((e : ToolFault) × ServeStops port (now ≡ kept) (ServerServed turns per_host start usable kept now) old new e) ⊎ ((usable ≡ false) × Serves port (ServerServed turns per_host start usable kept now) old new)
   pub few : (status ≡ 0) ⊎ (status ≡ 2)
 
 -- ---- where it serves
@@ -152,8 +152,23 @@ IsNoHost (Some address) = IsNoAddress address
 abbrev pub given_address : ServeArguments → Option (List ℕ)
 given_address arguments = option_map string_bytes arguments.address
 
--- what it did; nothing is known of what its folder keeps
+-- what was given for the folder
+abbrev pub given_dir : ServeArguments → Option (List ℕ)
+given_dir arguments = option_map string_bytes arguments.dir
+
+-- the table that a server begins with: an empty one without a folder; nothing is known of what a folder keeps
+abbrev pub StartsFrom : (dir : Option (List ℕ)) → (port : ℕ) → Table → Type 0
+StartsFrom None port start = start ≡ empty_table port
+StartsFrom (Some dir) port start = HasLoaded port None start
+
+-- a server began with such a table and served, or none was loaded
+abbrev pub ServedFrom : ServeArguments → (status : ℕ) → (old new : Option (List ℕ)) → Type 0
+ServedFrom arguments status old new =
+    ((usable : Bool) × (start : Table) × StartsFrom (given_dir arguments) arguments.port start × Served arguments.port arguments.turns arguments.per_host start status usable None None old new)
+    ⊎ ((status ≡ 2) × (new ≡ old))
+
+-- what it did
 pub record ServeRan (arguments : ServeArguments) (status : ℕ) (old new : Option (List ℕ)) : Type 0 where
   pub bad : (status ≡ 1) ↔ IsNoHost (given_address arguments)
   pub nowhere : status ≡ 1 → new ≡ old
-  pub served : status ≢ 1 → (usable : Bool) × Served arguments.port arguments.turns arguments.per_host status usable None None old new
+  pub served : status ≢ 1 → ServedFrom arguments status old new

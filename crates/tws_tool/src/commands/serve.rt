@@ -1,9 +1,10 @@
 //! The command `serve`.
 
 ghost use Rattle.std.specs.Prelude.{◌≡◌, ◌⊎◌, ◌++◌, ◌<◌, ◌≤◌, ◌+◌, Bool, true, false, None, OnOk, IfOk, IfErr, IfSome, IfNone, option_map, string_bytes};
-ghost use Rattle.archive_turns.specs.Turn.{MakesPass, count_if};
+ghost use Rattle.archive_table.specs.declared.limits.TheConstants.{LIVE};
+ghost use Rattle.archive_turns.specs.Turn.{MakesPass, count_if, fresh_server};
 ghost use Rattle.tws_tool.specs.Faults.{answer_status};
-ghost use Rattle.tws_tool.specs.Commands.Serve.{ArePassesFor, HasHost, IsNoHost, MakesPasses, ServeFails, ServeRan, ServeStops, Served, Serves, count_of, pass_of};
+ghost use Rattle.tws_tool.specs.Commands.Serve.{ArePassesFor, HasHost, IsNoHost, MakesPasses, ServeFails, ServeRan, ServeStops, Served, ServedFrom, Serves, count_of, pass_of};
 
 use crate::address::Address;
 use crate::commands::serve_arguments::ServeArguments;
@@ -221,7 +222,8 @@ fn no_history<E: Write>(name: &str, errors: &mut E) -> u8
     FAILED
 }
 
-// Serves at this address of this host with this keeper, whose name its faults are reported with, and returns the status.
+// Makes the turns or rounds of a server at this address of this host, with this keeper, whose name its faults are reported
+// with, and returns the status.
 fn serve_with<
     P: Net + Clock + RandomSource + AllocGlobal + Copy,
     K: ServedKeeper,
@@ -233,37 +235,34 @@ fn serve_with<
     alloc: Global,
     arguments: &ServeArguments,
     host: u32,
+    mut server: Server,
     keeper: &mut K,
     observer: &mut O,
     name: &str,
     out: &mut W,
     errors: &mut E,
 ) -> u8
-    ensures served { Served arguments.now.port arguments.now.turns arguments.now.per_host result (K.usable keeper.new) (K.log keeper.old) (K.log keeper.new) (W.contents out.old) (W.contents out.new) }
+    requires fresh { server ≡ fresh_server LIVE server.table }
+    requires port { server.table.request ≡ arguments.now.port }
+    ensures served { Served arguments.now.port arguments.now.turns arguments.now.per_host server.table result (K.usable keeper.new) (K.log keeper.old) (K.log keeper.new) (W.contents out.old) (W.contents out.new) }
     ensures status { (result ≡ 0) ⊎ (result ≡ 2) }
     ensures silent { result ≡ 0 → errors.new ≡ errors.old }
 {
     let port = arguments.port;
     let passes = passes_for(arguments.turns);
-    let folder = folder_of(arguments);
-    match Server::load(alloc, port, keeper) {
-        Ok(mut server) => {
-            server.limit_per_host(arguments.per_host as usize);
-            let done = listen_and_serve(
-                rt,
-                alloc,
-                folder,
-                keeper,
-                observer,
-                &mut server,
-                Endpoint { host, port },
-                passes,
-                out,
-            );
-            end_serving(done, keeper.is_usable(), name, errors)
-        }
-        Err(_) => not_loaded(name, errors),
-    }
+    server.limit_per_host(arguments.per_host as usize);
+    let done = listen_and_serve(
+        rt,
+        alloc,
+        folder_of(arguments),
+        keeper,
+        observer,
+        &mut server,
+        Endpoint { host, port },
+        passes,
+        out,
+    );
+    end_serving(done, keeper.is_usable(), name, errors)
 }
 
 // The same with the log and the history that were asked for. Neither knows of turns.
@@ -277,12 +276,15 @@ fn serve_logged<
     alloc: Global,
     arguments: &ServeArguments,
     host: u32,
+    server: Server,
     keeper: &mut K,
     name: &str,
     out: &mut W,
     errors: &mut E,
 ) -> u8
-    ensures served { Served arguments.now.port arguments.now.turns arguments.now.per_host result (K.usable keeper.new) (K.log keeper.old) (K.log keeper.new) (W.contents out.old) (W.contents out.new) }
+    requires fresh { server ≡ fresh_server LIVE server.table }
+    requires port { server.table.request ≡ arguments.now.port }
+    ensures served { Served arguments.now.port arguments.now.turns arguments.now.per_host server.table result (K.usable keeper.new) (K.log keeper.old) (K.log keeper.new) (W.contents out.old) (W.contents out.new) }
     ensures status { (result ≡ 0) ⊎ (result ≡ 2) }
     ensures silent { result ≡ 0 → errors.new ≡ errors.old }
 {
@@ -293,6 +295,7 @@ fn serve_logged<
             alloc,
             arguments,
             host,
+            server,
             keeper,
             &mut NoObserver,
             name,
@@ -314,7 +317,7 @@ fn serve_logged<
     };
     let mut log = ServerLog::new(alloc, rt, sink, history);
     serve_with(
-        rt, alloc, arguments, host, keeper, &mut log, name, out, errors,
+        rt, alloc, arguments, host, server, keeper, &mut log, name, out, errors,
     )
 }
 
@@ -325,35 +328,47 @@ fn serve_at<
     W: Write,
     E: Write,
 >(rt: P, alloc: Global, arguments: &ServeArguments, host: u32, out: &mut W, errors: &mut E) -> u8
-    ensures served { (usable : Bool) × Served arguments.now.port arguments.now.turns arguments.now.per_host result usable None None (W.contents out.old) (W.contents out.new) }
+    ensures served { ServedFrom arguments.now result (W.contents out.old) (W.contents out.new) }
     ensures status { (result ≡ 0) ⊎ (result ≡ 2) }
     ensures silent { result ≡ 0 → errors.new ≡ errors.old }
 {
     let limit = arguments.limit;
-    match &arguments.dir {
-        Some(dir) => {
-            let name = dir.as_str();
-            let folder = match HostFolder::open(rt, name) {
-                Ok(folder) => folder,
-                Err(fault) => return not_opened(fault, name, errors),
-            };
-            let mut keeper = Limited::new(DirKeeper::new(folder), limit);
-            serve_logged(rt, alloc, arguments, host, &mut keeper, name, out, errors)
-        }
-        None => {
-            let mut keeper = Limited::new(NoKeeper, limit);
-            serve_logged(
-                rt,
-                alloc,
-                arguments,
-                host,
-                &mut keeper,
-                "memory",
-                out,
-                errors,
-            )
-        }
-    }
+    let Some(dir) = &arguments.dir else {
+        let server = Server::new(alloc, arguments.port);
+        let mut keeper = Limited::new(NoKeeper, limit);
+        return serve_logged(
+            rt,
+            alloc,
+            arguments,
+            host,
+            server,
+            &mut keeper,
+            "memory",
+            out,
+            errors,
+        );
+    };
+    let name = dir.as_str();
+    let folder = match HostFolder::open(rt, name) {
+        Ok(folder) => folder,
+        Err(fault) => return not_opened(fault, name, errors),
+    };
+    let mut keeper = DirKeeper::new(folder);
+    let Ok(server) = Server::load(alloc, arguments.port, &mut keeper) else {
+        return not_loaded(name, errors);
+    };
+    let mut keeper = Limited::new(keeper, limit);
+    serve_logged(
+        rt,
+        alloc,
+        arguments,
+        host,
+        server,
+        &mut keeper,
+        name,
+        out,
+        errors,
+    )
 }
 
 // The host of the address that was given; 0, which is every address of this host, if none was. `None` if what was given

@@ -1,10 +1,10 @@
 use Rattle.std.proofs.Common.{◌≡◌, ◌∙◌}
-use Rattle.tws_tool.proofs.Listening.{limited_server, served, server_served, serves_so, stops_so}
+use Rattle.tws_tool.proofs.Listening.{served, server_served, serves_so, stops_so}
 use Rattle.tws_tool.proofs.Statuses.{map_err, map_ok}
 use Rattle.tws_tool.proofs.commands.serve.serve_with.Goals as goal
 
-pub returns-in-Ok-clause-served : goal.returns-in-Ok-clause-served
-returns-in-Ok-clause-served g c =
+pub returns-clause-served : goal.returns-clause-served
+returns-clause-served g c =
     let old = g.W.Write.contents c.args.out.now in
     let new = g.W.Write.contents c.listen_and_serve-done.new.out in
     let kept = g.K.Keeper.log c.args.keeper.now in
@@ -13,10 +13,10 @@ returns-in-Ok-clause-served g c =
     let port = c.args.arguments.now.port in
     let turns = c.args.arguments.now.turns in
     let per_host = c.args.arguments.now.per_host in
-    let limited = limited_server c.in-Ok.server c.limit_per_host.new.self port per_host kept c.in-Ok.ensures.loaded c.in-Ok.ensures.fresh c.limit_per_host.ensures in
-    let made = server_served port turns per_host usable kept _ now c.load.ensures.log c.passes_for-passes.result c.limit_per_host.new.self c.listen_and_serve-done.new.server c.passes_for-passes.ensures limited.0 limited.1 in
+    let begun = c.args.server in
+    let made = server_served turns per_host usable kept now c.passes_for-passes.result begun c.limit_per_host.new.self c.listen_and_serve-done.new.server c.passes_for-passes.ensures c.requires.fresh c.limit_per_host.ensures in
     let done = c.listen_and_serve-done.result in
-    let serves = map_ok done (serves_so old new port _ (now ≡ kept) _ _ (λ still. still ∙ c.load.ensures.log) made) c.listen_and_serve-done.ensures.served in
-    let stops = map_err done (stops_so old new port _ (now ≡ kept) _ _ (λ still. still ∙ c.load.ensures.log) made) c.listen_and_serve-done.ensures.stops in
-    served old new port turns per_host kept now usable c.end_serving.result done
+    let serves = map_ok done (serves_so old new port _ (now ≡ kept) _ _ (λ still. still) made) c.listen_and_serve-done.ensures.served in
+    let stops = map_err done (stops_so old new port _ (now ≡ kept) _ _ (λ still. still) made) c.listen_and_serve-done.ensures.stops in
+    served old new port turns per_host begun.table kept now usable c.end_serving.result done
     (λ is. c.end_serving.ensures.usable (c.is_usable.ensures ∙ is)) (λ is. c.end_serving.ensures.unknown (c.is_usable.ensures ∙ is)) serves stops
