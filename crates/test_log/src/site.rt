@@ -11,12 +11,12 @@ use test_samples::client;
 
 // A clock that shows 2026-11-27T09:15:00.123Z, and 5 ms more at each reading of the time that does not go back.
 #[derive(Drop)]
-pub struct Morning {
+pub(crate) struct Morning {
     millis: Cell<u64>,
 }
 
 impl Morning {
-    pub fn new() -> Self {
+    pub(crate) fn new() -> Self {
         Morning {
             millis: Cell::new(1000),
         }
@@ -37,7 +37,7 @@ impl Clock for Morning {
 
 // A datagram from a client, by its number, or a time-out.
 #[derive(Clone, Copy)]
-pub enum Input<'a> {
+pub(crate) enum Input<'a> {
     // At the request port, with this spare port.
     Ask(u16, u16, &'a [u8]),
     // At the port of a transfer.
@@ -46,7 +46,7 @@ pub enum Input<'a> {
 }
 
 // Makes the step of an input, and logs it.
-pub fn log_step<C: Clock, L: Log, H: HistoryFolder, K: Keeper>(
+pub(crate) fn log_step<C: Clock, L: Log, H: HistoryFolder, K: Keeper>(
     table: &mut Table,
     keeper: &mut K,
     log: &mut ServerLog<C, L, H>,
