@@ -7,7 +7,7 @@ use Rattle.archive_table.specs.Table.{Table, Maps, Taken, Grant, all, table_data
 use Rattle.archive_table.specs.Keeper.{Keeping, last_kept, LoadedFrom, TableFails, StepKeeps}
 use Rattle.archive_table.specs.declared.load_fault.LoadFault.{LoadFault}
 use Rattle.archive_table.specs.declared.load_fault.LoadFault.TheVariants.{Keep, Unreadable, WrongRuleset, Memory}
-use Rattle.archive_theorem.specs.World.{Datagram, Event, begin, deliver, client_times_out, server_times_out, stray, restart, WorldStep, World, server_endpoint, restarts, happens}
+use Rattle.archive_model.specs.World.{Datagram, Event, begin, deliver, client_times_out, server_times_out, stray, restart, WorldStep, World, server_endpoint, restarts, happens}
 
 -- the text is the collection's; if there is none, the collection is empty
 abbrev pub IsTextAt : Ruleset → Option (List ℕ) → Collected → Type 0

@@ -2,16 +2,17 @@
 use Rattle.std.proofs.Common.{◌≡◌, ◌⊎◌, ℕ, zero, suc, ◌<◌, ◌≤◌, List, [], ◌∷◌, ◌++◌, length, take, slice_get, Contains, Some, refl, ap, sym, ◌∙◌, arith, inl, inr, append-nil, length-append, append_assoc}
 use Rattle.std.proofs.lemmas.Option.{slice_get_within, get_or_from_slice_get, slice_get-get_or}
 use Rattle.std.proofs.lemmas.List.{take-append-le}
+use Rattle.archive_model.specs.World.{IsPrefix}
+
+-- of two things each of which implies another
+pub either : {A B C D : Type 0} → (A → C) → (B → D) → A ⊎ B → C ⊎ D
+either f g (inl a) = inl (f a)
+either f g (inr b) = inr (g b)
 
 -- the list has this at some place
 pub record Has {A : Type 0} (xs : List A) (x : A) : Type 0 where
   pub position : ℕ
   pub is : slice_get xs position ≡ Some x
-
--- a list that begins with another
-pub record Extends {A : Type 0} (old new : List A) : Type 0 where
-  pub rest : List A
-  pub is : new ≡ old ++ rest
 
 pub Has-contains : {A : Type 0} (xs : List A) (x : A) → Has xs x → Contains xs x
 Has-contains xs x h = (h.position, slice_get_within xs h.position x h.is, get_or_from_slice_get xs h.position x x h.is)
@@ -21,14 +22,14 @@ Has-from_contains xs x c = record { position = c.0; is = slice_get-get_or xs c.0
 
 -- ---- growth
 
-pub Extends-same : {A : Type 0} (xs : List A) → Extends xs xs
-Extends-same xs = record { rest = []; is = sym (append-nil xs) }
+pub IsPrefix-same : {A : Type 0} (xs : List A) → IsPrefix xs xs
+IsPrefix-same xs = record { rest = []; is = sym (append-nil xs) }
 
-pub Extends-push : {A : Type 0} (xs : List A) (x : A) → Extends xs (xs ++ x ∷ [])
-Extends-push xs x = record { rest = x ∷ []; is = refl }
+pub IsPrefix-push : {A : Type 0} (xs : List A) (x : A) → IsPrefix xs (xs ++ x ∷ [])
+IsPrefix-push xs x = record { rest = x ∷ []; is = refl }
 
-pub Extends-on : {A : Type 0} (xs ys zs : List A) → Extends xs ys → Extends ys zs → Extends xs zs
-Extends-on {A} xs ys zs first next =
+pub IsPrefix-on : {A : Type 0} {xs ys zs : List A} → IsPrefix xs ys → IsPrefix ys zs → IsPrefix xs zs
+IsPrefix-on {A} {xs} first next =
     record { rest = first.rest ++ next.rest; is = next.is ∙ ap (λ (l : List A). l ++ next.rest) first.is ∙ append_assoc xs first.rest next.rest }
 
 pub at-append : {A : Type 0} (xs ys : List A) (i : ℕ) (x : A) → slice_get xs i ≡ Some x → slice_get (xs ++ ys) i ≡ Some x
@@ -36,18 +37,18 @@ at-append [] ys i x e = absurd cc
 at-append (a ∷ xs) ys zero x e = e
 at-append (a ∷ xs) ys (suc i) x e = at-append xs ys i x e
 
-pub at-extends : {A : Type 0} (xs ys : List A) → Extends xs ys → (i : ℕ) (x : A) → slice_get xs i ≡ Some x → slice_get ys i ≡ Some x
-at-extends xs ys more i x e = ap (λ zs. slice_get zs i) more.is ∙ at-append xs more.rest i x e
+pub at-prefix : {A : Type 0} (xs ys : List A) → IsPrefix xs ys → (i : ℕ) (x : A) → slice_get xs i ≡ Some x → slice_get ys i ≡ Some x
+at-prefix xs ys more i x e = ap (λ zs. slice_get zs i) more.is ∙ at-append xs more.rest i x e
 
-pub Has-extends : {A : Type 0} (xs ys : List A) (x : A) → Extends xs ys → Has xs x → Has ys x
-Has-extends xs ys x more h = record { position = h.position; is = at-extends xs ys more h.position x h.is }
+pub Has-prefix : {A : Type 0} (xs ys : List A) (x : A) → IsPrefix xs ys → Has xs x → Has ys x
+Has-prefix xs ys x more h = record { position = h.position; is = at-prefix xs ys more h.position x h.is }
 
-pub length-extends : {A : Type 0} (xs ys : List A) → Extends xs ys → length xs ≤ length ys
-length-extends xs ys more = omega (arith, ap length more.is, length-append xs more.rest)
+pub length-prefix : {A : Type 0} (xs ys : List A) → IsPrefix xs ys → length xs ≤ length ys
+length-prefix xs ys more = omega (arith, ap length more.is, length-append xs more.rest)
 
 -- a longer list has the same first members
-pub take-extends : {A : Type 0} (xs ys : List A) (n : ℕ) → Extends xs ys → n ≤ length xs → take n ys ≡ take n xs
-take-extends xs ys n more within = ap (take n) more.is ∙ take-append-le n xs more.rest within
+pub take-prefix : {A : Type 0} (xs ys : List A) (n : ℕ) → IsPrefix xs ys → n ≤ length xs → take n ys ≡ take n xs
+take-prefix xs ys n more within = ap (take n) more.is ∙ take-append-le n xs more.rest within
 
 -- ---- one more at the end
 

@@ -49,13 +49,11 @@ pub record Got : Type 0 where
   pub client : Endpoint
   pub file : List ℕ
 
-pub record World : Type 0 where
-  -- all datagrams that were ever sent, in order; none leaves the network
+-- What has happened, each list in order. It only grows: no event takes anything back.
+pub record Past : Type 0 where
+  -- all datagrams that were ever sent; none leaves the network
   pub net : List Datagram
-  pub server : Table
-  -- the newest first
-  pub clients : List (Endpoint × Client)
-  -- what has happened, in order: the operations that have begun
+  -- the operations that have begun
   pub begun : List Begun
   -- the files that the server has taken, each with its peer
   pub taken : List Taken
@@ -66,6 +64,29 @@ pub record World : Type 0 where
   pub opened : List Opening
   -- the strangers' datagrams
   pub strays : List Datagram
+
+-- a list that begins with another
+pub record IsPrefix {A : Type 0} (old new : List A) : Type 0 where
+  pub rest : List A
+  pub is : new ≡ old ++ rest
+
+-- All that has happened by some moment is still there later.
+pub record Extends (past later : Past) : Type 0 where
+  pub net : IsPrefix past.net later.net
+  pub begun : IsPrefix past.begun later.begun
+  pub taken : IsPrefix past.taken later.taken
+  pub sent : IsPrefix past.sent later.sent
+  pub got : IsPrefix past.got later.got
+  pub opened : IsPrefix past.opened later.opened
+  pub strays : IsPrefix past.strays later.strays
+
+pub record World : Type 0 where
+  pub server : Table
+  -- the newest first
+  pub clients : List (Endpoint × Client)
+  -- `w.taken` is `w.past.taken`, and so are the other lists written
+  pub past : Past
+  pub open past use *
 
 -- What may happen next. A loss is a datagram that is never delivered.
 pub data Event : Type 0 where
@@ -104,15 +125,9 @@ given text = record { peer = server_endpoint; file = text }
 abbrev pub start_from : (texts : List (List ℕ)) → Maps → World
 start_from texts maps =
     record {
-      net = [];
       server = record { request = server_endpoint.port; maps = maps; live = [] };
       clients = [];
-      begun = [];
-      taken = map given texts;
-      sent = [];
-      got = [];
-      opened = [];
-      strays = [];
+      past = record { net = []; begun = []; taken = map given texts; sent = []; got = []; opened = []; strays = [] };
     }
 
 -- nothing was sent, and the server has nothing
@@ -150,31 +165,23 @@ taken_with (Some t) ts = ts ++ t ∷ []
 -- after the server's answer to a request; a request takes no file
 abbrev pub after_request : (peer : Endpoint) (port : ℕ) → Asked → table.TableAnswer → World → World
 after_request peer port asked a w =
-    record {
-      net = net_with server_endpoint.host w.net a.step.out;
+    record w {
       server = a.server;
-      clients = w.clients;
-      begun = w.begun;
-      taken = w.taken;
-      sent = w.sent;
-      got = w.got;
-      opened = opened_with a.step.opened (record { peer = peer; port = port; asked = asked; taken = length w.taken }) w.opened;
-      strays = w.strays;
+      past = record w.past {
+        net = net_with server_endpoint.host w.net a.step.out;
+        opened = opened_with a.step.opened (record { peer = peer; port = port; asked = asked; taken = length w.taken }) w.opened;
+      };
     }
 
 -- after any other answer of the server; only a request opens a transfer
 abbrev pub after_transfer : table.TableAnswer → World → World
 after_transfer a w =
-    record {
-      net = net_with server_endpoint.host w.net a.step.out;
+    record w {
       server = a.server;
-      clients = w.clients;
-      begun = w.begun;
-      taken = taken_with a.step.taken w.taken;
-      sent = w.sent;
-      got = w.got;
-      opened = w.opened;
-      strays = w.strays;
+      past = record w.past {
+        net = net_with server_endpoint.host w.net a.step.out;
+        taken = taken_with a.step.taken w.taken;
+      };
     }
 
 -- whether a client that was in the first state now counts its file as sent, and likewise as fetched
@@ -208,16 +215,13 @@ got_with false e file gs = gs
 -- after the answer of the client at an endpoint, which was `c` before
 abbrev pub after_client : Endpoint → Client → client.ClientAnswer → World → World
 after_client e c a w =
-    record {
-      net = net_with e.host w.net a.out;
-      server = w.server;
+    record w {
       clients = set_value (is_same e) w.clients a.client;
-      begun = w.begun;
-      taken = w.taken;
-      sent = sent_with (newly_sent (state_of c) (state_of a.client)) e w.sent;
-      got = got_with (newly_got (state_of c) (state_of a.client)) e (phase_file a.client.phase) w.got;
-      opened = w.opened;
-      strays = w.strays;
+      past = record w.past {
+        net = net_with e.host w.net a.out;
+        sent = sent_with (newly_sent (state_of c) (state_of a.client)) e w.sent;
+        got = got_with (newly_got (state_of c) (state_of a.client)) e (phase_file a.client.phase) w.got;
+      };
     }
 
 -- ---- a begin
@@ -225,16 +229,12 @@ after_client e c a w =
 -- a new client that sends its request
 abbrev pub begins : Endpoint → Operation → World → World
 begins e operation w =
-    record {
-      net = net_with e.host w.net (Some (request_out operation (client_start e.port server_endpoint operation)));
-      server = w.server;
+    record w {
       clients = (e, client_start e.port server_endpoint operation) ∷ w.clients;
-      begun = w.begun ++ record { client = e; operation = operation; taken = length w.taken } ∷ [];
-      taken = w.taken;
-      sent = w.sent;
-      got = w.got;
-      opened = w.opened;
-      strays = w.strays;
+      past = record w.past {
+        net = net_with e.host w.net (Some (request_out operation (client_start e.port server_endpoint operation)));
+        begun = w.begun ++ record { client = e; operation = operation; taken = length w.taken } ∷ [];
+      };
     }
 
 -- No operation begins on the server's host, and none with a file that is too long.
@@ -303,17 +303,7 @@ client_waits (Some c) e w = after_client e c (client_timeout c) w
 
 abbrev pub strays_in : Datagram → World → World
 strays_in d w =
-    record {
-      net = w.net ++ d ∷ [];
-      server = w.server;
-      clients = w.clients;
-      begun = w.begun;
-      taken = w.taken;
-      sent = w.sent;
-      got = w.got;
-      opened = w.opened;
-      strays = w.strays ++ d ∷ [];
-    }
+    record w { past = record w.past { net = w.net ++ d ∷ []; strays = w.strays ++ d ∷ [] } }
 
 -- A stray comes neither from the server's host nor from an endpoint with an operation.
 abbrev pub strays_unless : (ours begun : Bool) → Datagram → World → World
@@ -324,18 +314,7 @@ strays_unless false false d w = strays_in d w
 -- All transfers are gone. A changed collection was kept before it replaced the old one, so the collections that were
 -- kept are the current ones.
 abbrev pub restarts : World → World
-restarts w =
-    record {
-      net = w.net;
-      server = record { request = w.server.request; maps = w.server.maps; live = [] };
-      clients = w.clients;
-      begun = w.begun;
-      taken = w.taken;
-      sent = w.sent;
-      got = w.got;
-      opened = w.opened;
-      strays = w.strays;
-    }
+restarts w = record w { server = record w.server { live = [] } }
 
 -- ---- a run
 
