@@ -22,6 +22,7 @@
 
 mod address;
 mod arguments;
+mod beside;
 mod commands;
 mod file_system;
 mod help;
@@ -39,6 +40,7 @@ mod served_observer;
 mod source;
 mod status;
 mod system;
+mod system_draft;
 mod target;
 mod tool_fault;
 mod words;

@@ -27,7 +27,7 @@ use crate::resolver::Resolver;
 use crate::target::Target;
 use crate::tool_fault::ToolFault;
 use archive_client::Cause;
-use archive_turns::{ReadyWire, RunFault, put_in_rounds};
+use archive_turns::{RunFault, put_in_rounds};
 use clap::{ArgMatches, Command};
 use std::alloc::{AllocError, Global};
 use std::io::{Read, Write};
@@ -119,7 +119,7 @@ fn read_whole<R: Read>(alloc: Global, input: &mut R) -> Result<Vec<u8>, ToolFaul
 /// `MAX_FILE` bytes, of which no more than 65,536 are read, and `Unreadable` with index 0 and the fault of the bytes:
 /// then nothing is sent. `Socket` if no port was opened, and `Transfer` with the cause of the failed
 /// transfer. `Write` if the writer fails, after the file was sent. `Memory` if an allocation was refused.
-pub fn put_file<R: Read, N: ReadyWire, W: Write>(
+pub fn put_file<R: Read, N: TransferWire, W: Write>(
     alloc: Global,
     input: &mut R,
     wire: &mut N,
@@ -135,7 +135,10 @@ pub fn put_file<R: Read, N: ReadyWire, W: Write>(
     ensures unwritten { IfErr result (Unless (out.new ≡ out.old)) }
 {
     let bytes = read_whole(alloc, input)?;
-    let len = put_in_rounds(wire, server, bytes, ROUNDS)?;
+    wire.expect(bytes.len() as u64);
+    let sent = put_in_rounds(wire, server, bytes, ROUNDS);
+    wire.finish();
+    let len = sent?;
     write_line(alloc, "sent ", len, " bytes", out)
 }
 
