@@ -1,6 +1,7 @@
 -- How a run of a folder's calls goes on, for one name: it stays, or it gets a text, and the same after a crash.
 use Rattle.std.proofs.Common.{◌≡◌, ◌≢◌, ◌⊎◌, ◌≤◌, ℕ, Bool, true, List, Option, None, Some, inl, inr, ⊎_elim, ap, arith}
 use Rattle.tws_file.specs.declared.«ruleset».Ruleset.{Ruleset}
+use Rattle.tws_file.specs.declared.«ruleset».Ruleset.TheVariants.{Lynx, Ms}
 use Rattle.archive_folder.specs.declared.file_name.FileName.{FileName}
 use Rattle.archive_folder.specs.declared.file_name.FileName.TheVariants.{Kept, Draft}
 use Rattle.archive_folder.specs.Folder.{Texts, Files, NarrowsAt, Only, IsHeld, IsSettled, Elapses}
@@ -109,6 +110,19 @@ module _ {D : Type 0} (reads : D → Texts) (holds : D → Files) (leaves : D �
     left = λ left h. settled_is mid to text (λ r is. written.now r (moved r is)) (λ t is. written.held t (held t is)) left (settled to left h);
   }
 
--- a collection and its draft have different names
-pub kept_is_no_draft : (rules : Ruleset) → Kept rules ≢ Draft rules
-kept_is_no_draft rules is = cc
+  -- a name that has no file and stays has none
+  pub stays_gone : (old new : D) (name : FileName) → Only None (reads old name) → Stays reads holds leaves moment left_since old new name → Only None (reads new name)
+  stays_gone old new name gone stays = λ read is. gone read (stays.possible.now read is)
+
+-- what holds of both drafts
+pub both_drafts : (P : FileName → Type 0) → P (Draft Lynx) → P (Draft Ms) → (rules : Ruleset) → P (Draft rules)
+both_drafts P lynx ms Lynx = lynx
+both_drafts P lynx ms Ms = ms
+
+-- the drafts of both rulesets have different names
+pub drafts_differ : Draft Lynx ≢ Draft Ms
+drafts_differ is = cc
+
+-- a collection and a draft, also that of the other ruleset, have different names
+pub kept_is_no_draft : (rules others : Ruleset) → Kept rules ≢ Draft others
+kept_is_no_draft rules others is = cc

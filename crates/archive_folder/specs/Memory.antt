@@ -1,5 +1,5 @@
 -- A folder in memory, and what a crash may leave of it.
-use Rattle.std.specs.Prelude.{◌≡◌, ◌⊎◌, ◌≤◌, ℕ, List, [], ◌∷◌, length, drop, Option, None, Some, true, Bool}
+use Rattle.std.specs.Prelude.{◌≡◌, ◌⊎◌, ℕ, List, [], ◌∷◌, length, drop, Option, Some, true}
 use Rattle.std.proofs.Common.{inl, inr}
 use Rattle.archive_table.specs.Keeper.{texts_of}
 use Rattle.archive_folder.specs.declared.file_name.FileName.{FileName}

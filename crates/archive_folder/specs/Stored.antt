@@ -1,7 +1,6 @@
 -- The files of a folder in memory, and what a crash might have left of them earlier.
 use Rattle.std.specs.Prelude.{◌≡◌, ◌⊎◌, ℕ, List, [], ◌∷◌, Option, None, Some}
 use Rattle.archive_table.specs.Keeper.{texts_of}
-use Rattle.archive_folder.specs.declared.file_name.FileName.{FileName}
 use Rattle.archive_folder.specs.declared.stored.Stored.{Stored}
 use Rattle.archive_folder.specs.declared.stored.Left.{Left}
 use Rattle.archive_folder.specs.Folder.{Texts}

@@ -1,12 +1,14 @@
 //! A keeper of the archive over a folder.
 
 ghost use Rattle.std.specs.Prelude.{◌≡◌, ◌≢◌, ◌≤◌, true, false, None, Ok, Err, IfOk, OnOk, OnErr};
+ghost use Rattle.tws_file.specs.declared.«ruleset».Ruleset.{Ruleset};
 ghost use Rattle.tws_best.specs.Best.{collection_text};
 ghost use Rattle.archive_table.specs.Keeper.{FailsAt, texts_of};
 ghost use Rattle.archive_folder.specs.declared.file_name.FileName.{FileName};
-ghost use Rattle.archive_folder.specs.Folder.{Rises};
+ghost use Rattle.archive_folder.specs.Folder.{Only, Rises};
 ghost use Rattle.archive_folder.specs.Replacing.{Stays, Replaces, HasOnly};
 
+use crate::drafts::clear_drafts;
 use crate::file_name::FileName;
 use crate::folder::Folder;
 use crate::folder_fault::FolderFault;
@@ -50,11 +52,43 @@ impl<F: Folder> FolderKeeper<F> {
     }
 
     /// The folder.
+    pub fn folder(&self) -> &F
+        ensures { result.now ≡ self.now.folder }
+    {
+        &self.folder
+    }
+
+    /// The folder again.
     pub fn into_folder(self) -> F
         ensures { result ≡ self.folder }
     {
         let FolderKeeper { folder, .. } = self;
         folder
+    }
+
+    /// Removes the drafts that are there, as a server that was killed leaves them. Each is made anew before, so that this
+    /// fails where nothing can be kept. The collections stay.
+    ///
+    /// # Errors
+    ///
+    /// Those of the folder: `Device` if it cannot be written to. Then a draft may be left.
+    pub fn clear_drafts(&mut self) -> Result<(), KeepFault>
+        ensures cleared { F.has_model ≡ true → OnOk result ((rules : Ruleset) → Only None (F.reads self.new.folder (FileName.Draft rules))) }
+        ensures kept { F.has_model ≡ true → (rules : Ruleset) → Stays F.reads F.holds F.leaves F.moment F.left_since self.old.folder self.new.folder (FileName.Kept rules) }
+        ensures usable { self.new.is_usable ≡ self.old.is_usable }
+        // It does not give up by itself.
+        ensures fault { OnErr result (Rises (F.faults self.old.folder) (F.faults self.new.folder)) }
+        ensures more { self.old.failures ≤ self.new.failures }
+        ensures failed { result ≡ Err KeepFault.Device → FailsAt self.old.failures self.new.failures }
+        ensures steady { result ≢ Err KeepFault.Device → self.new.failures ≡ self.old.failures }
+    {
+        match clear_drafts(&mut self.folder) {
+            Ok(()) => Ok(()),
+            Err(fault) => {
+                self.count_failure(fault);
+                Err(fault)
+            }
+        }
     }
 
     // Counts a failure of the device.

@@ -2,6 +2,7 @@
 #![tactic(auto)]
 
 mod by_name;
+mod drafts;
 mod file_name;
 mod folder;
 mod folder_fault;

@@ -3,8 +3,9 @@ ghost use Rattle.archive_turns.specs.Turn.{MakesTurns, MakesRounds, count_if};
 
 use crate::ready_wire::ReadyWire;
 use crate::server::Server;
+use crate::server_observer::ServerObserver;
 use crate::wire::Wire;
-use archive_table::{Keeper, Observer};
+use archive_table::{Keeper, NoObserver};
 use std::alloc::Allocator;
 
 // Counts a file, if one was taken.
@@ -16,7 +17,7 @@ fn counted(taken: u64, took: bool) -> u64
     if took { taken + 1 } else { taken }
 }
 
-/// Makes this many turns of a server. Returns how many files were taken.
+/// Makes this many turns of a server, which nobody observes. Returns how many files were taken.
 pub fn serve_turns<A: Allocator + Copy, W: Wire, K: Keeper>(
     wire: &mut W,
     keeper: &mut K,
@@ -27,13 +28,13 @@ pub fn serve_turns<A: Allocator + Copy, W: Wire, K: Keeper>(
 {
     let mut taken = 0;
     for _turn in 0..turns {
-        taken = counted(taken, server.turn(wire, keeper));
+        taken = counted(taken, server.turn(wire, keeper, &mut NoObserver));
     }
     taken
 }
 
 /// Makes this many rounds of a server, of whose steps the observer is told. Returns how many files were taken.
-pub fn serve_rounds<A: Allocator + Copy, W: ReadyWire, K: Keeper, O: Observer>(
+pub fn serve_rounds<A: Allocator + Copy, W: ReadyWire, K: Keeper, O: ServerObserver>(
     wire: &mut W,
     keeper: &mut K,
     observer: &mut O,

@@ -10,10 +10,11 @@ ghost use Rattle.archive_turns.specs.Turn.{MakesTurn, MakesRound, fresh_server, 
 use crate::mode::Mode;
 use crate::next::Next;
 use crate::ready_wire::ReadyWire;
+use crate::server_observer::ServerObserver;
 use crate::timers::Timers;
 use crate::visit::{Visit, time_out_late, visit_request, visit_transfer};
 use crate::wire::Wire;
-use archive_table::{KeepFault, Keeper, LIVE, LoadFault, NoObserver, Observer, Table};
+use archive_table::{KeepFault, Keeper, LIVE, LoadFault, Table};
 use std::alloc::{Allocator, Global};
 use std::marker::Model;
 
@@ -61,7 +62,7 @@ fn next_ready<A: Allocator + Copy>(table: &Table<A>, ready: Option<u16>) -> Next
     }
 }
 
-fn visit<A: Allocator + Copy, W: Wire, K: Keeper, O: Observer>(
+fn visit<A: Allocator + Copy, W: Wire, K: Keeper, O: ServerObserver>(
     table: &mut Table<A>,
     wire: &mut W,
     keeper: &mut K,
@@ -81,7 +82,7 @@ fn visit<A: Allocator + Copy, W: Wire, K: Keeper, O: Observer>(
 }
 
 // A visit, and the time-outs after it. Returns whether a file was taken.
-fn pass<A: Allocator + Copy, W: Wire, K: Keeper, O: Observer>(
+fn pass<A: Allocator + Copy, W: Wire, K: Keeper, O: ServerObserver>(
     table: &mut Table<A>,
     wire: &mut W,
     keeper: &mut K,
@@ -175,8 +176,14 @@ impl<A: Allocator + Copy> Server<A> {
     ///
     /// For a datagram at the request port a spare port is opened, and closed again unless a transfer was opened on it.
     /// A turn in which nothing was received is quiet; a transfer times out after `QUIET_TURNS` quiet turns since it was
-    /// opened or last sent. A failed call of the wire is a loss or is ignored.
-    pub fn turn<W: Wire, K: Keeper>(&mut self, wire: &mut W, keeper: &mut K) -> bool
+    /// opened or last sent. A failed call of the wire is a loss or is ignored. The observer is told of each step, as in a
+    /// round.
+    pub fn turn<W: Wire, K: Keeper, O: ServerObserver>(
+        &mut self,
+        wire: &mut W,
+        keeper: &mut K,
+        observer: &mut O,
+    ) -> bool
         ensures { MakesTurn self.old self.new result (W.log wire.old) (W.log wire.new) (K.log keeper.old) (K.log keeper.new) }
     {
         let port = self.table.next_port(self.last);
@@ -185,7 +192,7 @@ impl<A: Allocator + Copy> Server<A> {
             &mut self.table,
             wire,
             keeper,
-            &mut NoObserver,
+            observer,
             &mut self.timers,
             Mode::Turn,
             next_at(port),
@@ -200,8 +207,9 @@ impl<A: Allocator + Copy> Server<A> {
     /// peer, once all that had arrived by then was handed out. One that only waits for a repeated last block gives way
     /// when all places are taken.
     ///
-    /// The observer is told of each step, the time-outs too, after the step's calls of the wire. It changes nothing.
-    pub fn round<W: ReadyWire, K: Keeper, O: Observer>(
+    /// The observer is told of each step, the time-outs too, after the step's calls of the wire, and of each request that is
+    /// dropped for its host. It changes nothing.
+    pub fn round<W: ReadyWire, K: Keeper, O: ServerObserver>(
         &mut self,
         wire: &mut W,
         keeper: &mut K,

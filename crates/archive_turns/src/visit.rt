@@ -9,6 +9,7 @@ ghost use Rattle.archive_turns.specs.Turn.{transfer_visit, transfer_asks, timeou
 
 use crate::change::Change;
 use crate::mode::Mode;
+use crate::server_observer::ServerObserver;
 use crate::timers::Timers;
 use crate::wire::{RECEIVE_SIZE, Wire};
 use archive_table::{Keeper, Observer, Step, Table};
@@ -213,7 +214,7 @@ fn is_admitted<A: Allocator + Copy>(
 }
 
 /// Visits the request port.
-pub(crate) fn visit_request<A: Allocator + Copy, W: Wire, O: Observer>(
+pub(crate) fn visit_request<A: Allocator + Copy, W: Wire, O: ServerObserver>(
     table: &mut Table<A>,
     wire: &mut W,
     observer: &mut O,
@@ -229,11 +230,19 @@ pub(crate) fn visit_request<A: Allocator + Copy, W: Wire, O: Observer>(
             if is_admitted(table, timers, mode, from, &buffer[..count]) {
                 answer_request(table, wire, observer, from, &buffer[..count])
             } else {
+                observe_drop(observer, from, &buffer[..count]);
                 Visit::LOST
             }
         }
         Ok(None) => Visit::QUIET,
         Err(_) => Visit::QUIET,
+    }
+}
+
+// Tells an observer of a datagram at the request port that was not let in, if it is a request.
+fn observe_drop<O: ServerObserver>(observer: &mut O, from: Endpoint, bytes: &[u8]) {
+    if is_request(bytes) {
+        observer.on_dropped(from);
     }
 }
 

@@ -3,7 +3,7 @@ ghost use Rattle.std.specs.Prelude.{None};
 
 use crate::ports::past_port;
 use archive_host::UdpWire;
-use archive_table::NoKeeper;
+use archive_table::{NoKeeper, NoObserver};
 use archive_turns::{RECEIVE_SIZE, ReadyWire, Server, Wire, WireFault, run_get, run_put};
 use std::net::{Ipv4Addr, SocketAddr, UdpSocket};
 use std::test::Fail;
@@ -71,7 +71,10 @@ impl Wire for Ends {
         port: u16,
         buffer: &mut [u8; RECEIVE_SIZE],
     ) -> Result<Option<(usize, Endpoint)>, WireFault> {
-        if self.server.turn(&mut self.wire, &mut NoKeeper) {
+        if self
+            .server
+            .turn(&mut self.wire, &mut NoKeeper, &mut NoObserver)
+        {
             self.taken = true;
         }
         self.client.receive(port, buffer)

@@ -2,7 +2,7 @@
 // are fetched again after a restart, and the same with each datagram carried twice.
 use crate::wires::*;
 use archive_client::State;
-use archive_table::MemoryKeeper;
+use archive_table::{MemoryKeeper, NoObserver};
 use archive_turns::{Entry, GetRun, MemoryWire, PutRun, Server};
 use std::alloc::{AllocError, Global};
 use std::test::Fail;
@@ -77,7 +77,7 @@ impl Line {
         times: u8,
     ) -> Result<bool, Fail> {
         self.sent = carry(alloc, &self.wire, 2, self.sent, times, wire)?;
-        let taken = server.turn(wire, keeper);
+        let taken = server.turn(wire, keeper, &mut NoObserver);
         self.answered = carry(alloc, wire, 1, self.answered, times, &mut self.wire)?;
         Ok(taken)
     }

@@ -1,7 +1,10 @@
-// What an observer of rounds is told: each step, its sender, and what it made, after the calls of the wire for it.
+// What an observer is told: each step, its sender, and what it made, after the calls of the wire for it; and each request that
+// is dropped.
 use crate::wires::*;
 use archive_table::{NoKeeper, Observer, Step, Table};
-use archive_turns::{MemoryWire, RECEIVE_SIZE, Ready, ReadyWire, Server, Wire, WireFault};
+use archive_turns::{
+    MemoryWire, RECEIVE_SIZE, Ready, ReadyWire, Server, ServerObserver, Wire, WireFault,
+};
 use std::alloc::{Allocator, Global};
 use std::cell::Cell;
 use std::test::Fail;
@@ -136,6 +139,16 @@ impl Observer for Collecting<'_> {
     }
 }
 
+// None of these requests is dropped.
+impl ServerObserver for Collecting<'_> {
+    fn on_dropped(&mut self, from: Endpoint) {
+        let _ = self.seen.push(Seen {
+            from: Some(from),
+            ..NOTHING
+        });
+    }
+}
+
 // Makes a round for each of these datagrams, which arrive one by one.
 fn round_for_each(
     alloc: Global,
@@ -247,5 +260,51 @@ fn an_observer_is_told_of_each_step(rt: HostRuntime) -> Result<(), Fail> {
     let mut server = Server::new(alloc, 6969);
     put(alloc, &mut wire, &mut observer, &mut server)?;
     assert_eq!(rt; observer.seen.as_slice(), steps_of_put().as_slice());
+    Ok(())
+}
+
+// The last request that was dropped, and how many were.
+#[derive(Drop)]
+struct Dropped {
+    last: Option<Endpoint>,
+    count: u8,
+}
+
+impl Observer for Dropped {
+    fn on_step<A: Allocator + Copy>(
+        &mut self,
+        _port: u16,
+        _from: Option<Endpoint>,
+        _step: &Step<A>,
+        _table: &Table<A>,
+    ) {}
+}
+
+impl ServerObserver for Dropped {
+    fn on_dropped(&mut self, from: Endpoint) {
+        self.last = Some(from);
+        self.count = self.count.saturating_add(1);
+    }
+}
+
+// Of a host that may have one transfer the second request is dropped. What is no request is not reported, nor is the
+// request of another host.
+#[test]
+fn an_observer_is_told_of_a_request_that_is_dropped(rt: HostRuntime) -> Result<(), Fail> {
+    let alloc = rt.alloc();
+    let mut wire = wire_of(alloc, &[4001, 4000])?;
+    let mut server = Server::new(alloc, 6969);
+    server.limit_per_host(1);
+    let mut observer = Dropped {
+        last: None,
+        count: 0,
+    };
+    let requests: [(Endpoint, &[u8]); 4] = [(ALICE, WRQ), (ALICE, ACK_0), (ALICE, WRQ), (BOB, WRQ)];
+    for (from, bytes) in requests {
+        wire.arrive(alloc, 6969, from, bytes)?;
+        server.round(&mut wire, &mut NoKeeper, &mut observer);
+    }
+    let Dropped { last, count } = observer;
+    assert_eq!(rt; (last, count, server.table().live()), (Some(ALICE), 1, 2));
     Ok(())
 }

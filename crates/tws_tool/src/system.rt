@@ -3,9 +3,9 @@
 ghost use Rattle.std.specs.Prelude.{None};
 
 use crate::beside::Beside;
-use crate::file_system::FileSystem;
 use crate::resolver::Resolver;
 use crate::system_draft::{Place, SystemDraft};
+use file_commands::FileSystem;
 use std::fs::{File, Metadata, OpenOptions};
 use std::io::{ErrorKind, Read};
 use std::net::{Net, SocketAddr, ToSocketAddrs};

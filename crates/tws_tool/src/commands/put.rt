@@ -10,25 +10,27 @@ ghost use Rattle.tws_file.specs.Text.{IsReadable};
 ghost use Rattle.tws_file.specs.Fault.{HasFileFault};
 ghost use Rattle.tftp_ends.specs.declared.limits.TheConstants.{MAX_FILE};
 ghost use Rattle.tws_tool.specs.declared.limits.TheConstants.{ROUNDS};
-ghost use Rattle.tws_tool.specs.Arguments.{Answers};
+ghost use Rattle.file_commands.specs.Arguments.{Answers};
 ghost use Rattle.tws_tool.specs.Commands.Put.{AsksToPut, InputFails, IsWholeInput, PutFails, PutRan, PutRuns, Puts, ReadsAtMost, WholeFails, put_app};
-ghost use Rattle.tws_tool.specs.Faults.{IsReadOut, run_fault};
+ghost use Rattle.file_commands.specs.Faults.{IsReadOut};
+ghost use Rattle.tws_tool.specs.Faults.{run_fault};
 ghost use Rattle.tws_tool.specs.Lines.{Unless};
 
 use crate::address::locate;
-use crate::arguments::{address_argument, file_argument, new_command, port_argument, target_given};
-use crate::file_system::FileSystem;
-use crate::input::INPUT_READS;
+use crate::arguments::{address_argument, file_argument, port_argument, target_given};
 use crate::limits::ROUNDS;
 use crate::line::write_line;
 use crate::overhearing::TransferWire;
-use crate::reporting::{bad_address, finish_transfer, report_file};
+use crate::reporting::{bad_address, finish_transfer};
 use crate::resolver::Resolver;
+use crate::run_fault::of_run;
 use crate::target::Target;
-use crate::tool_fault::ToolFault;
 use archive_client::Cause;
 use archive_turns::{RunFault, put_in_rounds};
 use clap::{ArgMatches, Command};
+use file_commands::arguments::new_command;
+use file_commands::reporting::report_file;
+use file_commands::{FileSystem, INPUT_READS, ToolFault};
 use std::alloc::{AllocError, Global};
 use std::io::{Read, Write};
 use std::slice;
@@ -110,6 +112,20 @@ fn read_whole<R: Read>(alloc: Global, input: &mut R) -> Result<Vec<u8>, ToolFaul
     }
 }
 
+// Puts a file in at most `ROUNDS` rounds, and shows how far it has come.
+fn put_shown<N: TransferWire>(
+    wire: &mut N,
+    server: Endpoint,
+    bytes: Vec<u8>,
+) -> Result<u64, RunFault>
+    ensures { PutsInRounds server bytes.items ROUNDS result (N.log wire.old) (N.log wire.new) }
+{
+    wire.expect(bytes.len() as u64);
+    let sent = put_in_rounds(wire, server, bytes, ROUNDS);
+    wire.finish();
+    sent
+}
+
 /// Reads a solution file to its end, and sends it to the archive in at most `ROUNDS` rounds; then prints its length
 /// in bytes. `server` is the archive's host and request port.
 ///
@@ -135,11 +151,10 @@ pub fn put_file<R: Read, N: TransferWire, W: Write>(
     ensures unwritten { IfErr result (Unless (out.new ≡ out.old)) }
 {
     let bytes = read_whole(alloc, input)?;
-    wire.expect(bytes.len() as u64);
-    let sent = put_in_rounds(wire, server, bytes, ROUNDS);
-    wire.finish();
-    let len = sent?;
-    write_line(alloc, "sent ", len, " bytes", out)
+    match put_shown(wire, server, bytes) {
+        Ok(len) => write_line(alloc, "sent ", len, " bytes", out),
+        Err(fault) => Err(of_run(fault)),
+    }
 }
 
 /// Runs `put` over this wire, and returns the status.

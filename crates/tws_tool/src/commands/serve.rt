@@ -3,23 +3,24 @@
 ghost use Rattle.std.specs.Prelude.{◌≡◌, ◌⊎◌, ◌++◌, ◌<◌, ◌≤◌, ◌+◌, Bool, true, false, None, OnOk, IfOk, IfErr, IfSome, IfNone, option_map, string_bytes};
 ghost use Rattle.archive_table.specs.declared.limits.TheConstants.{LIVE};
 ghost use Rattle.archive_turns.specs.Turn.{MakesPass, count_if, fresh_server};
-ghost use Rattle.tws_tool.specs.Faults.{answer_status};
+ghost use Rattle.file_commands.specs.Faults.{answer_status};
 ghost use Rattle.tws_tool.specs.Commands.Serve.{ArePassesFor, HasHost, IsNoHost, MakesPasses, ServeFails, ServeRan, ServeStops, Served, ServedFrom, Serves, count_of, pass_of};
 
 use crate::address::Address;
 use crate::commands::serve_arguments::ServeArguments;
 use crate::limits::TURNS;
 use crate::line::write_line;
-use crate::reporting::{bad_address, finish};
+use crate::reporting::bad_address;
 use crate::served_keeper::ServedKeeper;
 use crate::served_observer::ServedObserver;
-use crate::status::FAILED;
-use crate::tool_fault::ToolFault;
 use archive_host::{DirKeeper, HostFolder, OpenFault, UdpWire};
 use archive_limit::Limited;
 use archive_log::{HostHistory, ServerLog};
 use archive_table::{Keeper, NoKeeper, NoObserver, Observer};
 use archive_turns::{ReadyWire, Server};
+use file_commands::ToolFault;
+use file_commands::reporting::finish;
+use file_commands::status::FAILED;
 use log::sink::Console;
 use std::alloc::Global;
 use std::fs::File;

@@ -4,16 +4,16 @@ ghost use Rattle.std.specs.Prelude.{◌≡◌, false, IfOk};
 ghost use Rattle.clap.specs.Matches.{found_of};
 ghost use Rattle.clap.specs.Words.{app_of, rows_of, rule_of};
 ghost use Rattle.clap.specs.declared.builder.command.Command.TheViews.{out-Command};
-ghost use Rattle.tws_tool.specs.Arguments.{Answers, number_rule};
+ghost use Rattle.file_commands.specs.Arguments.{Answers};
+ghost use Rattle.tws_tool.specs.Arguments.{number_rule};
 ghost use Rattle.tws_tool.specs.Commands.Serve.{AsksToServe, bound_rule, dir_rule, history_rule, limit_option, log_rule, numbers_app, per_host_option, places_app, serve_app, turns_option};
 
-use crate::arguments::{
-    flag_given, new_command, number_given, port_argument, port_given, string_given,
-};
+use crate::arguments::{flag_given, number_given, port_argument, port_given};
 use crate::limits::{PER_HOST, TURNS};
 use archive_table::LIVE;
 use clap::builder::{ArgAction, ValueParser};
 use clap::{Arg, ArgMatches, Command};
+use file_commands::arguments::{new_command, string_given};
 use std::alloc::{AllocError, Global};
 use tftp_ends::MAX_FILE;
 

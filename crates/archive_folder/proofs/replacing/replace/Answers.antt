@@ -8,10 +8,10 @@ returns-in-Err-clause-any_moment g c = λ modelled.
     let F = g.F.Folder in
     replaces_by F.reads F.holds F.leaves F.moment F.left_since c.args.folder.now c.write_draft.new.folder (Kept c.args.ruleset)
     (collection_text c.args.collection.now)
-    (c.write_draft.ensures.others modelled (Kept c.args.ruleset) (kept_is_no_draft c.args.ruleset))
+    (c.write_draft.ensures.others modelled (Kept c.args.ruleset) (kept_is_no_draft c.args.ruleset c.args.ruleset))
 
 pub returns-in-Err-clause-not_kept : goal.returns-in-Err-clause-not_kept
-returns-in-Err-clause-not_kept g c = λ modelled fault is. c.write_draft.ensures.others modelled (Kept c.args.ruleset) (kept_is_no_draft c.args.ruleset)
+returns-in-Err-clause-not_kept g c = λ modelled fault is. c.write_draft.ensures.others modelled (Kept c.args.ruleset) (kept_is_no_draft c.args.ruleset c.args.ruleset)
 
 pub returns-in-Err-clause-others : goal.returns-in-Err-clause-others
 returns-in-Err-clause-others g c = λ modelled other nk nd. c.write_draft.ensures.others modelled other nd
@@ -23,7 +23,7 @@ pub returns-in-Ok-publish-clause-any_moment : goal.returns-in-Ok-publish-clause-
 returns-in-Ok-publish-clause-any_moment g c = λ modelled.
     let F = g.F.Folder in
     replaces_after F.reads F.holds F.leaves F.moment F.left_since c.args.folder.now c.write_draft.new.folder c.publish.new.folder (Kept c.args.ruleset) (collection_text c.args.collection.now)
-    (c.write_draft.ensures.others modelled (Kept c.args.ruleset) (kept_is_no_draft c.args.ruleset))
+    (c.write_draft.ensures.others modelled (Kept c.args.ruleset) (kept_is_no_draft c.args.ruleset c.args.ruleset))
     (c.publish.ensures.replaces modelled (collection_text c.args.collection.now) (c.in-Ok.ensures.written modelled))
 
 pub returns-in-Ok-publish-clause-others : goal.returns-in-Ok-publish-clause-others
@@ -36,7 +36,7 @@ pub returns-in-Err-publish-clause-any_moment : goal.returns-in-Err-publish-claus
 returns-in-Err-publish-clause-any_moment g c = λ modelled.
     let F = g.F.Folder in
     replaces_after F.reads F.holds F.leaves F.moment F.left_since c.args.folder.now c.write_draft.new.folder c.publish.new.folder (Kept c.args.ruleset) (collection_text c.args.collection.now)
-    (c.write_draft.ensures.others modelled (Kept c.args.ruleset) (kept_is_no_draft c.args.ruleset))
+    (c.write_draft.ensures.others modelled (Kept c.args.ruleset) (kept_is_no_draft c.args.ruleset c.args.ruleset))
     (c.publish.ensures.replaces modelled (collection_text c.args.collection.now) (c.in-Ok.ensures.written modelled))
 
 pub returns-in-Err-publish-clause-others : goal.returns-in-Err-publish-clause-others

@@ -1,4 +1,4 @@
-use Rattle.std.proofs.Common.{◌∙◌, ap, Vec}
+use Rattle.std.proofs.Common.{◌∙◌, ap}
 use Rattle.archive_folder.proofs.Past.{elapses_to}
 use Rattle.archive_folder.proofs.memory_folder.MemoryFolderFolder.sync_folder.Goals as goal
 
