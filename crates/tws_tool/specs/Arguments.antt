@@ -42,5 +42,4 @@ HasNumber option rows n = IsNumberOr option.default option.most (first_of option
 -- what was found for the arguments that `put` and `get` share
 pub record HasTarget (rows : List Row) (target : Target) : Type 0 where
   pub address_is : first_of address_rule.id rows ≡ Some (string_bytes target.address)
-  pub file_is : first_of file_rule.id rows ≡ Some (string_bytes target.file)
   pub port_is : HasNumber port_option rows target.port

@@ -76,7 +76,7 @@ pub(crate) fn port_given(words: &ArgMatches) -> Option<u16>
     Some(port as u16)
 }
 
-/// The target that was given; `None` if there is none, or the port is out of range.
+/// Where the archive is that was given; `None` if no address was, or the port is out of range.
 pub(crate) fn target_given(alloc: Global, words: &ArgMatches) -> Result<Option<Target>, AllocError>
     ensures { IfOk result (Answers (HasTarget (rows_of (found_of words.now)))) }
 {
@@ -86,12 +86,5 @@ pub(crate) fn target_given(alloc: Global, words: &ArgMatches) -> Result<Option<T
     let Some(address) = string_given(alloc, words, "address")? else {
         return Ok(None);
     };
-    let Some(file) = string_given(alloc, words, "file")? else {
-        return Ok(None);
-    };
-    Ok(Some(Target {
-        address,
-        file,
-        port,
-    }))
+    Ok(Some(Target { address, port }))
 }
