@@ -12,7 +12,7 @@ ghost use Rattle.tws_moves.specs.Steps.{HasLayout, IsPending, Packs};
 use crate::act::Act;
 use crate::layout::Layout;
 use crate::moves_fault::MovesFault;
-use crate::number::{bits, number_of_first};
+use crate::number::number_of_first;
 use crate::pending::Pending;
 use crate::piece::Piece;
 use crate::reading::{cut_before, split_piece};
@@ -39,18 +39,23 @@ fn pack_wait<A: Allocator>(
     Ok(Pending::None)
 }
 
-// Adds the three steps of a one-byte piece.
+// Adds the three steps of a one-byte piece: with none pending, they are the same byte again.
 fn pack_three<A: Allocator>(
     packed: &mut Vec<u8, A>,
     pending: Pending,
-    number: u64,
+    byte: u8,
 ) -> Result<Pending, AllocError>
-    requires { IsPending pending }
-    ensures { IfOk result (Packs packed.old.items pending (layout_waits layout.ThreeSteps number) packed.new.items) }
+    requires pending { IsPending pending }
+    requires three { byte % 4 ≡ 0 }
+    ensures { IfOk result (Packs packed.old.items pending (waits_of (byte ∷ [])) packed.new.items) }
 {
-    let pending = pending.add(packed, bits(2, 2, number) as u8)?;
-    let pending = pending.add(packed, bits(4, 2, number) as u8)?;
-    pending.add(packed, bits(6, 2, number) as u8)
+    if let Pending::None = pending {
+        packed.push(byte)?;
+        return Ok(Pending::None);
+    }
+    let pending = pending.add(packed, byte / 4 % 4)?;
+    let pending = pending.add(packed, byte / 16 % 4)?;
+    pending.add(packed, byte / 64)
 }
 
 // Adds the step of a one-byte piece: written alone, it is the same byte again.
@@ -92,7 +97,7 @@ fn pack_any<A: Allocator>(
     let number = number_of_first(bytes, piece.len());
     match Wait::in_layout(Layout::of(piece[0]), number) {
         Some(wait) => pack_wait(packed, pending, wait),
-        None => pack_three(packed, pending, number),
+        None => pack_three(packed, pending, piece[0]),
     }
 }
 
