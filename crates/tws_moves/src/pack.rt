@@ -4,13 +4,14 @@
 ghost use Rattle.std.specs.Prelude.{◌≡◌, ℕ, ◌+◌, ◌*◌, ◌<◌, ◌%◌, ◌^◌, List, [], ◌∷◌, length, take, ◌++◌, IfOk, IfErr, OnOk, MatchResult};
 ghost use Rattle.tws_moves.specs.declared.moves_fault.MovesFault.TheVariants as fault;
 ghost use Rattle.tws_moves.specs.declared.layout.Layout.TheVariants as layout;
+ghost use Rattle.tws_moves.specs.Bytes.{number_of};
 ghost use Rattle.tws_moves.specs.Move.{Move as Plain};
 ghost use Rattle.tws_moves.specs.Spelling.{IsPiece, IsSpelling, Spells, MovesFail, layout_waits, waits_of};
 ghost use Rattle.tws_moves.specs.Shortest.{packed_bytes, shortest_of};
-ghost use Rattle.tws_moves.specs.Steps.{HasLayout, IsPending, Packs};
+ghost use Rattle.tws_moves.specs.Steps.{HasLayout, IsPending, IsShortestAlone, Packs};
 
 use crate::act::Act;
-use crate::layout::Layout;
+use crate::layout::{Layout, least_value};
 use crate::moves_fault::MovesFault;
 use crate::number::number_of_first;
 use crate::pending::Pending;
@@ -80,6 +81,29 @@ fn pack_short<A: Allocator>(
     Ok(Pending::None)
 }
 
+// Adds the wait of a piece that is the shortest for it: written alone, it is the same bytes again.
+fn pack_again<A: Allocator>(
+    packed: &mut Vec<u8, A>,
+    pending: Pending,
+    piece: &[u8],
+    number: u64,
+) -> Result<Pending, AllocError>
+    requires piece { IsPiece piece.now }
+    requires shortest { IsShortestAlone piece.now }
+    requires number { number ≡ number_of piece.now }
+    requires pending { IsPending pending }
+    ensures { IfOk result (Packs packed.old.items pending (waits_of piece.now) packed.new.items) }
+{
+    pending.push_to(packed)?;
+    let again = Piece {
+        number,
+        length: piece.len(),
+        moves: 1,
+    };
+    again.push_to(packed)?;
+    Ok(Pending::None)
+}
+
 // Adds the moves of the piece that the bytes begin with, in any layout. Kept out of the loop over all pieces, most of
 // which are steps in one byte: the loop is faster that way.
 #[inline(never)]
@@ -95,6 +119,10 @@ fn pack_any<A: Allocator>(
     ensures { IfOk result (Packs packed.old.items pending (waits_of piece.now) packed.new.items) }
 {
     let number = number_of_first(bytes, piece.len());
+    // Most pieces of several bytes: to find out what they hold would be a branch for each layout.
+    if number >= least_value(piece[0]) {
+        return pack_again(packed, pending, piece, number);
+    }
     match Wait::in_layout(Layout::of(piece[0]), number) {
         Some(wait) => pack_wait(packed, pending, wait),
         None => pack_three(packed, pending, piece[0]),
