@@ -16,14 +16,14 @@ from pathlib import Path
 # Words in backticks that are no names of the tree: values of fields, words of standards, and commands of the system.
 WORDS = set("""
 BBBB BDHP CCCC abcd ABCD blksize localhost lynx mail ms netascii octet timeout tsize windowsize
-bash cachegrind callgrind curl free malloc memcpy nohup perf python3 renice rustc strace tftp valgrind
+bash cachegrind callgrind curl free malloc memcpy nohup perf python3 renice rustc strace tftp tworld valgrind
 abbrev as case cc continue data elim false impl let match mod record requires ruleset suc true unfolding unsafe use using where zero
 Dec
 """.split())
 
-# Files that are no part of the tree: a server's, those of its history, and Tile World's.
+# Files that are no part of the tree: a server's, those of its history, a player's, and Tile World's.
 FOREIGN_FILES = {
-    "lynx.tws", "ms.tws", "upload.tws", "solution.c", "sent/0-lynx.tws",
+    "best.tws", "lynx.tws", "ms.tws", "upload.tws", "solution.c", "sent/0-lynx.tws",
     "20261127T091501.004Z-127.0.0.1-5000-lynx.tws", "20261127T091501.004Z-203.0.113.7-5000-lynx.tws",
 }
 
