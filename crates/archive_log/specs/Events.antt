@@ -10,26 +10,26 @@ use Rattle.archive_log.specs.declared.event.Event.{Event}
 use Rattle.archive_log.specs.declared.event.Event.TheVariants as event
 use Rattle.archive_log.specs.declared.sent.Sent.{Sent}
 use Rattle.archive_log.specs.declared.sent.Sent.TheVariants.{Nothing, Data, Ack, Error}
-use Rattle.archive_log.specs.declared.session.Kind.{Kind}
-use Rattle.archive_log.specs.declared.session.Kind.TheVariants.{Put, Get}
-use Rattle.archive_log.specs.declared.session.Session.{Session}
+use Rattle.archive_log.specs.declared.logged_transfer.Kind.{Kind}
+use Rattle.archive_log.specs.declared.logged_transfer.Kind.TheVariants.{Put, Get}
+use Rattle.archive_log.specs.declared.logged_transfer.LoggedTransfer.{LoggedTransfer}
 use Rattle.archive_log.specs.declared.upload.Upload.{Upload}
 use Rattle.archive_table.specs.declared.limits.TheConstants.{LIVE}
 use Rattle.archive_table.specs.Table.{Step}
 use Rattle.archive_log.specs.Sent.{sent_of}
 
--- ---- a session
+-- ---- a transfer
 
 -- how many bytes of a file were sent with this block
 abbrev pub bytes_to : (block length : ℕ) → ℕ
 bytes_to block length = BLOCK_SIZE * (block - 1) + length
 
 -- after a step that sent this, and that took the file or did not
-abbrev pub went_on : (is_taken : Bool) → Sent → Session → Session
-went_on is_taken Nothing s = s
-went_on is_taken (Data block length rules) s = record s { block = block; bytes = bytes_to block length; is_whole = nat_lt length BLOCK_SIZE }
-went_on is_taken (Ack block) s = record s { block = block; is_whole = s.is_whole || is_taken }
-went_on is_taken (Error why) s = s
+abbrev pub went_on : (is_taken : Bool) → Sent → LoggedTransfer → LoggedTransfer
+went_on is_taken Nothing t = t
+went_on is_taken (Data block length rules) t = record t { block = block; bytes = bytes_to block length; is_whole = nat_lt length BLOCK_SIZE }
+went_on is_taken (Ack block) t = record t { block = block; is_whole = t.is_whole || is_taken }
+went_on is_taken (Error why) t = t
 
 -- a transfer that begins with a block is a get
 abbrev pub kind_by : Sent → Kind
@@ -38,8 +38,8 @@ kind_by (Data block length rules) = Get rules
 kind_by (Ack block) = Put
 kind_by (Error why) = Put
 
-abbrev pub opened_session : (now port : ℕ) → (peer : Endpoint) → Sent → Session
-opened_session now port peer sent =
+abbrev pub opened_transfer : (now port : ℕ) → (peer : Endpoint) → Sent → LoggedTransfer
+opened_transfer now port peer sent =
     went_on false sent (record { port = port; peer = peer; began = now; kind = kind_by sent; block = 0; bytes = 0; is_whole = false })
 
 -- ---- the end of a transfer
@@ -61,42 +61,42 @@ has_reply (Refused why) = false
 has_reply PeerError = true
 has_reply TimedOut = false
 
-abbrev pub ended_by : Kind → (now : ℕ) → (why : Cause) → Session → Option Event
-ended_by Put now why s = if s.is_whole then None else Some (event.PutFailed s.peer s.block why)
-ended_by (Get rules) now why s =
-    if s.is_whole && has_reply why then Some (event.GetFinished s.peer rules s.bytes (now - s.began))
-    else Some (event.GetFailed s.peer rules s.block why)
+abbrev pub ended_by : Kind → (now : ℕ) → (why : Cause) → LoggedTransfer → Option Event
+ended_by Put now why t = if t.is_whole then None else Some (event.PutFailed t.peer t.block why)
+ended_by (Get rules) now why t =
+    if t.is_whole && has_reply why then Some (event.GetFinished t.peer rules t.bytes (now - t.began))
+    else Some (event.GetFailed t.peer rules t.block why)
 
-abbrev pub ended_event : (now : ℕ) → (from : Option Endpoint) → Sent → Session → Option Event
-ended_event now from sent s = ended_by s.kind now (cause_of from sent) s
+abbrev pub ended_event : (now : ℕ) → (from : Option Endpoint) → Sent → LoggedTransfer → Option Event
+ended_event now from sent t = ended_by t.kind now (cause_of from sent) t
 
--- ---- the sessions
+-- ---- the transfers
 
--- the index of the session at a port
-abbrev pub place_of : (port : ℕ) → List Session → Option ℕ
-place_of port ss = position (λ s. s.port == port) ss
+-- the index of the transfer at a port
+abbrev pub place_of : (port : ℕ) → List LoggedTransfer → Option ℕ
+place_of port ts = position (λ t. t.port == port) ts
 
-abbrev pub session_at : (port : ℕ) → List Session → Option Session
-session_at port ss = option_and_then (λ i. slice_get ss i) (place_of port ss)
+abbrev pub logged_at : (port : ℕ) → List LoggedTransfer → Option LoggedTransfer
+logged_at port ts = option_and_then (λ i. slice_get ts i) (place_of port ts)
 
-abbrev pub removed_at : Option ℕ → List Session → List Session
-removed_at None ss = ss
-removed_at (Some i) ss = remove ss i
+abbrev pub removed_at : Option ℕ → List LoggedTransfer → List LoggedTransfer
+removed_at None ts = ts
+removed_at (Some i) ts = remove ts i
 
-abbrev pub without : (port : ℕ) → List Session → List Session
-without port ss = removed_at (place_of port ss) ss
+abbrev pub without : (port : ℕ) → List LoggedTransfer → List LoggedTransfer
+without port ts = removed_at (place_of port ts) ts
 
--- A session takes the place of one at its port. One for which there is no room is forgotten.
-abbrev pub opened_in : Session → List Session → List Session
-opened_in s ss = let rest = without s.port ss in if nat_lt (length rest) LIVE then rest ++ s ∷ [] else rest
+-- A transfer takes the place of one at its port. One for which there is no room is forgotten.
+abbrev pub opened_in : LoggedTransfer → List LoggedTransfer → List LoggedTransfer
+opened_in t ts = let rest = without t.port ts in if nat_lt (length rest) LIVE then rest ++ t ∷ [] else rest
 
-abbrev pub set_at : Option ℕ → Option Session → List Session → List Session
-set_at None s ss = ss
-set_at (Some i) None ss = ss
-set_at (Some i) (Some s) ss = slice_set ss i s
+abbrev pub set_at : Option ℕ → Option LoggedTransfer → List LoggedTransfer → List LoggedTransfer
+set_at None t ts = ts
+set_at (Some i) None ts = ts
+set_at (Some i) (Some t) ts = slice_set ts i t
 
-abbrev pub gone_on : (port : ℕ) → (is_taken : Bool) → Sent → List Session → List Session
-gone_on port is_taken sent ss = set_at (place_of port ss) (option_map (went_on is_taken sent) (session_at port ss)) ss
+abbrev pub gone_on : (port : ℕ) → (is_taken : Bool) → Sent → List LoggedTransfer → List LoggedTransfer
+gone_on port is_taken sent ts = set_at (place_of port ts) (option_map (went_on is_taken sent) (logged_at port ts)) ts
 
 -- ---- the steps
 
@@ -112,37 +112,37 @@ refused_event from (Ack block) = None
 refused_event from (Error why) = refused_by from why
 
 -- the end of a transfer, unless it goes on
-abbrev pub ended_if : (closed : Bool) → (now : ℕ) → (from : Option Endpoint) → Sent → Session → Option Event
-ended_if true now from sent s = ended_event now from sent s
-ended_if false now from sent s = None
+abbrev pub ended_if : (closed : Bool) → (now : ℕ) → (from : Option Endpoint) → Sent → LoggedTransfer → Option Event
+ended_if true now from sent t = ended_event now from sent t
+ended_if false now from sent t = None
 
--- a step at a port where there is this session
-abbrev pub session_event : Option Session → (now : ℕ) → (from : Option Endpoint) → Sent → (closed : Bool) → Option Event
-session_event None now from sent closed = refused_event from sent
-session_event (Some s) now from sent closed = ended_if closed now from sent s
+-- a step at a port where there is this transfer
+abbrev pub transfer_event : Option LoggedTransfer → (now : ℕ) → (from : Option Endpoint) → Sent → (closed : Bool) → Option Event
+transfer_event None now from sent closed = refused_event from sent
+transfer_event (Some t) now from sent closed = ended_if closed now from sent t
 
-abbrev pub millis_since : (now : ℕ) → Option Session → ℕ
+abbrev pub millis_since : (now : ℕ) → Option LoggedTransfer → ℕ
 millis_since now None = 0
-millis_since now (Some s) = now - s.began
+millis_since now (Some t) = now - t.began
 
--- Which event a step is. `session` is that of its port, `from` the sender of its datagram, and `upload` the file that it
+-- Which event a step is. `transfer` is that of its port, `from` the sender of its datagram, and `upload` the file that it
 -- took.
-abbrev pub event_of : (now : ℕ) → (session : Option Session) → (from : Option Endpoint) → (upload : Option Upload) → Step → Option Event
-event_of now session from (Some upload) step = Some (event.Taken upload (millis_since now session))
-event_of now session from None step = session_event session now from (sent_of step.out) step.closed
+abbrev pub event_of : (now : ℕ) → (transfer : Option LoggedTransfer) → (from : Option Endpoint) → (upload : Option Upload) → Step → Option Event
+event_of now transfer from (Some upload) step = Some (event.Taken upload (millis_since now transfer))
+event_of now transfer from None step = transfer_event transfer now from (sent_of step.out) step.closed
 
--- the sessions after a step
-abbrev pub opened_by : (now : ℕ) → Option Out → Sent → List Session → List Session
-opened_by now None sent ss = ss
-opened_by now (Some out) sent ss = opened_in (opened_session now out.from_port out.to sent) ss
+-- the transfers after a step
+abbrev pub opened_by : (now : ℕ) → Option Out → Sent → List LoggedTransfer → List LoggedTransfer
+opened_by now None sent ts = ts
+opened_by now (Some out) sent ts = opened_in (opened_transfer now out.from_port out.to sent) ts
 
-abbrev pub lasts_or_ends : (closed : Bool) → (port : ℕ) → (is_taken : Bool) → Sent → List Session → List Session
-lasts_or_ends true port is_taken sent ss = without port ss
-lasts_or_ends false port is_taken sent ss = gone_on port is_taken sent ss
+abbrev pub lasts_or_ends : (closed : Bool) → (port : ℕ) → (is_taken : Bool) → Sent → List LoggedTransfer → List LoggedTransfer
+lasts_or_ends true port is_taken sent ts = without port ts
+lasts_or_ends false port is_taken sent ts = gone_on port is_taken sent ts
 
-abbrev pub sessions_by : (opened : Bool) → (now port : ℕ) → (is_taken : Bool) → Step → List Session → List Session
-sessions_by true now port is_taken step ss = opened_by now step.out (sent_of step.out) ss
-sessions_by false now port is_taken step ss = lasts_or_ends step.closed port is_taken (sent_of step.out) ss
+abbrev pub transfers_by : (opened : Bool) → (now port : ℕ) → (is_taken : Bool) → Step → List LoggedTransfer → List LoggedTransfer
+transfers_by true now port is_taken step ts = opened_by now step.out (sent_of step.out) ts
+transfers_by false now port is_taken step ts = lasts_or_ends step.closed port is_taken (sent_of step.out) ts
 
-abbrev pub sessions_after : (now port : ℕ) → (upload : Option Upload) → Step → List Session → List Session
-sessions_after now port upload step ss = sessions_by step.opened now port (is_some upload) step ss
+abbrev pub transfers_after : (now port : ℕ) → (upload : Option Upload) → Step → List LoggedTransfer → List LoggedTransfer
+transfers_after now port upload step ts = transfers_by step.opened now port (is_some upload) step ts

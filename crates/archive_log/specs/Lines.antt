@@ -69,10 +69,12 @@ history_fault_text history.Memory = codes "out of memory"
 abbrev pub message_of : Event → List ℕ
 message_of (event.Started at lynx ms folder) = codes "started"
 message_of (event.Refused peer why) = codes "request refused"
+message_of (event.Dropped peer) = codes "request dropped"
 message_of (event.Taken upload millis) = codes "put taken"
 message_of (event.PutFailed peer block why) = codes "put failed"
 message_of (event.GetFailed peer rules block why) = codes "get failed"
 message_of (event.GetFinished peer rules bytes millis) = codes "get finished"
+message_of (event.KeepFailed rules bytes why) = codes "keep failed"
 message_of (event.NotRecorded peer why) = codes "not recorded"
 message_of (event.Stopped taken served) = codes "stopped"
 
@@ -88,10 +90,12 @@ taken_level (Some e) = level.Warn
 abbrev pub level_of : Event → Level
 level_of (event.Started at lynx ms folder) = level.Info
 level_of (event.Refused peer why) = level.Warn
+level_of (event.Dropped peer) = level.Warn
 level_of (event.Taken upload millis) = taken_level upload.fault
 level_of (event.PutFailed peer block why) = failed_level why
 level_of (event.GetFailed peer rules block why) = level.Warn
 level_of (event.GetFinished peer rules bytes millis) = level.Info
+level_of (event.KeepFailed rules bytes why) = level.Error
 level_of (event.NotRecorded peer why) = level.Error
 level_of (event.Stopped taken served) = level.Info
 
@@ -104,6 +108,7 @@ abbrev pub pairs_of : Event → List Pair
 pairs_of (event.Started at lynx ms folder) =
     (codes "at", peer_text at) ∷ (codes "lynx", decimal lynx) ∷ (codes "ms", decimal ms) ∷ folder_pairs (option_map (λ f. f.now) folder)
 pairs_of (event.Refused peer why) = (codes "peer", peer_text peer) ∷ (codes "why", shown (refusal_text why)) ∷ []
+pairs_of (event.Dropped peer) = (codes "peer", peer_text peer) ∷ (codes "why", codes "too many transfers of its host") ∷ []
 pairs_of (event.Taken upload millis) =
     (codes "peer", peer_text upload.peer) ∷ (codes "bytes", decimal upload.bytes) ∷ (codes "ruleset", ruleset_text upload.«ruleset»)
     ∷ (codes "fault", fault_text upload.fault) ∷ (codes "better", decimal upload.better) ∷ (codes "millis", decimal millis) ∷ []
@@ -113,6 +118,8 @@ pairs_of (event.GetFailed peer rules block why) =
     (codes "peer", peer_text peer) ∷ (codes "ruleset", ruleset_text rules) ∷ (codes "block", decimal block) ∷ (codes "why", cause_text why) ∷ []
 pairs_of (event.GetFinished peer rules bytes millis) =
     (codes "peer", peer_text peer) ∷ (codes "ruleset", ruleset_text rules) ∷ (codes "bytes", decimal bytes) ∷ (codes "millis", decimal millis) ∷ []
+pairs_of (event.KeepFailed rules bytes why) =
+    (codes "ruleset", ruleset_name rules) ∷ (codes "bytes", decimal bytes) ∷ (codes "why", shown why.now) ∷ []
 pairs_of (event.NotRecorded peer why) = (codes "peer", peer_text peer) ∷ (codes "why", history_fault_text why) ∷ []
 pairs_of (event.Stopped taken served) = (codes "taken", decimal taken) ∷ (codes "served", decimal served) ∷ []
 

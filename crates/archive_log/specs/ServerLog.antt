@@ -1,14 +1,14 @@
 -- What a log and a history make of a step.
 use Rattle.std.specs.Prelude.{◌≡◌, ◌⊎◌, ℕ, List, length, Option, None, Some}
 use Rattle.archive_table.specs.Table.{Step, Taken}
-use Rattle.archive_log.specs.declared.session.Session.{Session}
+use Rattle.archive_log.specs.declared.logged_transfer.LoggedTransfer.{LoggedTransfer}
 use Rattle.archive_log.specs.declared.upload.Upload.{Upload}
-use Rattle.archive_log.specs.Events.{sessions_after}
+use Rattle.archive_log.specs.Events.{transfers_after}
 use Rattle.archive_log.specs.History.{AddsNothing, Records}
 
 -- what a contract sees of a log: what it knows of the live transfers, and the folder of its history
 pub record Logged (H : Type 0) : Type 0 where
-  pub sessions : List Session
+  pub transfers : List LoggedTransfer
   pub history : Option H
 
 -- what is said of the file that a step took, if it took one
@@ -18,12 +18,12 @@ IsUploadOf None (Some u) = ⊥
 IsUploadOf (Some t) None = ⊥
 IsUploadOf (Some t) (Some u) = (u.peer ≡ t.peer) × (u.bytes ≡ length t.file)
 
--- the sessions after a step at this moment
-pub record FollowsStep (port : ℕ) (step : Step) (old new : List Session) : Type 0 where
+-- the transfers after a step at this moment
+pub record FollowsStep (port : ℕ) (step : Step) (old new : List LoggedTransfer) : Type 0 where
   pub now : ℕ
   pub upload : Option Upload
   pub upload_is : IsUploadOf step.taken upload
-  pub after : new ≡ sessions_after now port upload step old
+  pub after : new ≡ transfers_after now port upload step old
 
 -- ---- the history
 

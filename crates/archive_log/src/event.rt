@@ -24,6 +24,10 @@ pub enum Event<'a> {
         peer: Endpoint,
         why: Refusal,
     },
+    /// A request was dropped: its host has as many transfers as it may have.
+    Dropped {
+        peer: Endpoint,
+    },
     /// A put was taken, so many milliseconds after its request.
     Taken {
         upload: Upload,
@@ -49,6 +53,12 @@ pub enum Event<'a> {
         bytes: u64,
         millis: u64,
     },
+    /// A collection that would have had so many bytes was not kept, and why, in the words of the system or of a limit.
+    KeepFailed {
+        ruleset: Ruleset,
+        bytes: u64,
+        why: &'a str,
+    },
     /// A file that was taken is not in the history.
     NotRecorded {
         peer: Endpoint,
@@ -69,10 +79,12 @@ impl Event<'_> {
         match self {
             Event::Started { .. } => "started",
             Event::Refused { .. } => "request refused",
+            Event::Dropped { .. } => "request dropped",
             Event::Taken { .. } => "put taken",
             Event::PutFailed { .. } => "put failed",
             Event::GetFailed { .. } => "get failed",
             Event::GetFinished { .. } => "get finished",
+            Event::KeepFailed { .. } => "keep failed",
             Event::NotRecorded { .. } => "not recorded",
             Event::Stopped { .. } => "stopped",
         }
@@ -86,8 +98,9 @@ impl Event<'_> {
             Event::Started { .. } | Event::GetFinished { .. } | Event::Stopped { .. } =>
                 Level::Info,
             Event::Taken { upload, .. } => taken_level(upload.fault),
-            Event::Refused { .. } | Event::GetFailed { .. } => Level::Warn,
+            Event::Refused { .. } | Event::Dropped { .. } | Event::GetFailed { .. } => Level::Warn,
             Event::PutFailed { why, .. } => failed_level(*why),
+            Event::KeepFailed { .. } => Level::Error,
             Event::NotRecorded { .. } => Level::Error,
         }
     }

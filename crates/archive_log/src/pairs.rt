@@ -101,6 +101,14 @@ fn visit_refused<V: VisitSource>(
     Ok(())
 }
 
+fn visit_dropped<V: VisitSource>(visitor: &mut V, peer: Endpoint) -> Result<(), kv::Error>
+    ensures { OnOk result (FoldsTo V.visit_pair_gives visitor.old (pairs_of (Event.Dropped peer)) visitor.new) }
+{
+    visit_peer(visitor, peer)?;
+    visit_pair(visitor, "why", &"too many transfers of its host")?;
+    Ok(())
+}
+
 fn visit_taken<V: VisitSource>(
     visitor: &mut V,
     upload: &Upload,
@@ -163,6 +171,20 @@ fn visit_get_finished<V: VisitSource>(
     Ok(())
 }
 
+fn visit_keep_failed<V: VisitSource>(
+    visitor: &mut V,
+    ruleset: Ruleset,
+    bytes: u64,
+    why: &str,
+) -> Result<(), kv::Error>
+    ensures { OnOk result (FoldsTo V.visit_pair_gives visitor.old (pairs_of (Event.KeepFailed «ruleset» bytes why.entry)) visitor.new) }
+{
+    visit_pair(visitor, "ruleset", &ruleset_word(Some(ruleset)))?;
+    visit_pair(visitor, "bytes", &bytes)?;
+    visit_pair(visitor, "why", &display(Printable::of(why.as_bytes())))?;
+    Ok(())
+}
+
 fn visit_not_recorded<V: VisitSource>(
     visitor: &mut V,
     peer: Endpoint,
@@ -199,6 +221,7 @@ impl Source for Event<'_> {
                 folder,
             } => visit_started(visitor, *at, *lynx, *ms, *folder),
             Event::Refused { peer, why } => visit_refused(visitor, *peer, *why),
+            Event::Dropped { peer } => visit_dropped(visitor, *peer),
             Event::Taken { upload, millis } => visit_taken(visitor, upload, *millis),
             Event::PutFailed { peer, block, why } => visit_put_failed(visitor, *peer, *block, *why),
             Event::GetFailed {
@@ -213,6 +236,11 @@ impl Source for Event<'_> {
                 bytes,
                 millis,
             } => visit_get_finished(visitor, *peer, *ruleset, *bytes, *millis),
+            Event::KeepFailed {
+                ruleset,
+                bytes,
+                why,
+            } => visit_keep_failed(visitor, *ruleset, *bytes, *why),
             Event::NotRecorded { peer, why } => visit_not_recorded(visitor, *peer, *why),
             Event::Stopped { taken, served } => visit_stopped(visitor, *taken, *served),
         }

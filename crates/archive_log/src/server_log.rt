@@ -8,11 +8,12 @@ use crate::event::Event;
 use crate::history::record as record_in;
 use crate::history_fault::HistoryFault;
 use crate::history_folder::HistoryFolder;
+use crate::logged_transfers::LoggedTransfers;
 use crate::names::stem_of;
-use crate::sessions::Sessions;
 use crate::stamp::Stamp;
 use crate::upload::Upload;
 use archive_table::{Observer, Step, Table, Taken};
+use archive_turns::ServerObserver;
 use log::Log;
 use std::alloc::{Allocator, Global};
 use std::marker::Model;
@@ -28,7 +29,7 @@ pub struct ServerLog<C: Clock, L: Log, H: HistoryFolder, A: Allocator + Copy = G
     clock: C,
     log: L,
     history: Option<H>,
-    sessions: Sessions,
+    transfers: LoggedTransfers,
     /// The table's count of what became better, as it was after the last step.
     bettered: u64,
     taken: u64,
@@ -48,13 +49,13 @@ impl<C: Clock, L: Log, H: HistoryFolder, A: Allocator + Copy> Model for ServerLo
 
     ghost Value = { Logged H };
 
-    ghost view = { λ log. record { sessions = log.sessions; history = log.history } };
+    ghost view = { λ log. record { transfers = log.transfers; history = log.history } };
 }
 
 impl<C: Clock, L: Log, H: HistoryFolder, A: Allocator + Copy> ServerLog<C, L, H, A> {
     /// A log of a server that has made no step yet.
     pub fn new(alloc: A, clock: C, log: L, history: Option<H>) -> Self
-        ensures sessions { result.sessions ≡ [] }
+        ensures transfers { result.transfers ≡ [] }
         ensures history { result.history ≡ history }
     {
         ServerLog {
@@ -62,7 +63,7 @@ impl<C: Clock, L: Log, H: HistoryFolder, A: Allocator + Copy> ServerLog<C, L, H,
             clock,
             log,
             history,
-            sessions: Sessions::new(),
+            transfers: LoggedTransfers::new(),
             bettered: 0,
             taken: 0,
             served: 0,
@@ -144,7 +145,7 @@ impl<C: Clock, L: Log, H: HistoryFolder, A: Allocator + Copy> ServerLog<C, L, H,
 
     // Puts a file that was taken into the history, or reports why it is not there.
     fn record<T: Allocator>(&mut self, time: &Stamp, taken: &Taken<T>, upload: &Upload)
-        ensures sessions { self.new.sessions ≡ self.old.sessions }
+        ensures transfers { self.new.transfers ≡ self.old.transfers }
         ensures history { H.has_model ≡ true → KeepsTaken (Some taken.now) (files_of H.file_at self.old.history) (files_of H.file_at self.new.history) }
     {
         if let Err(why) = keep(self.alloc, &mut self.history, time, taken, upload) {
@@ -155,7 +156,7 @@ impl<C: Clock, L: Log, H: HistoryFolder, A: Allocator + Copy> ServerLog<C, L, H,
 
     // Reports an event, and puts the file that its step took into the history.
     fn tell<T: Allocator>(&mut self, event: Event<'_>, step: &Step<T>, upload: Option<Upload>)
-        ensures sessions { self.new.sessions ≡ self.old.sessions }
+        ensures transfers { self.new.transfers ≡ self.old.transfers }
         ensures history { H.has_model ≡ true → KeepsTaken step.now.taken (files_of H.file_at self.old.history) (files_of H.file_at self.new.history) }
     {
         let time = Stamp::now(&self.clock);
@@ -179,12 +180,12 @@ impl<C: Clock, L: Log, H: HistoryFolder, A: Allocator + Copy> ServerLog<C, L, H,
         step: &Step<T>,
         bettered: u64,
     )
-        ensures sessions { FollowsStep port step.now self.old.sessions self.new.sessions }
+        ensures transfers { FollowsStep port step.now self.old.transfers self.new.transfers }
         ensures history { H.has_model ≡ true → KeepsTaken step.now.taken (files_of H.file_at self.old.history) (files_of H.file_at self.new.history) }
     {
         let now = millis_now(&self.clock);
         let upload = self.upload(step, bettered);
-        if let Some(event) = self.sessions.on_step(now, port, from, upload, step) {
+        if let Some(event) = self.transfers.on_step(now, port, from, upload, step) {
             self.tell(event, step, upload);
         }
     }
@@ -222,9 +223,17 @@ impl<C: Clock, L: Log, H: HistoryFolder, A: Allocator + Copy> Observer for Serve
         step: &Step<T>,
         table: &Table<T>,
     )
-        ensures sessions { FollowsStep port step.now self.old.sessions self.new.sessions }
+        ensures transfers { FollowsStep port step.now self.old.transfers self.new.transfers }
         ensures history { H.has_model ≡ true → KeepsTaken step.now.taken (files_of H.file_at self.old.history) (files_of H.file_at self.new.history) }
     {
         self.follow(port, from, step, table.bettered());
+    }
+}
+
+/// A request that was dropped is reported.
+impl<C: Clock, L: Log, H: HistoryFolder, A: Allocator + Copy> ServerObserver
+    for ServerLog<C, L, H, A> {
+    fn on_dropped(&mut self, from: Endpoint) {
+        self.report(&Stamp::now(&self.clock), Event::Dropped { peer: from });
     }
 }

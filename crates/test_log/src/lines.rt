@@ -74,6 +74,7 @@ fn what_fails(rt: HostRuntime) -> Result<(), Fail> {
         // A name with a line break, and a mode that is refused.
         Input::Ask(4000, 0, b"\0\x01\n[INFO  tws] stopped\0octet\0"),
         Input::Ask(4000, 0, b"\0\x02a\0netascii\0"),
+        Input::Drop(0),
         // A put that its client ends, with a line break in its message.
         Input::Ask(4000, 0, WRQ),
         Input::Recv(4000, 0, b"\0\x05\0\0gone\n[INFO  tws] stopped\0"),
@@ -94,6 +95,7 @@ fn what_fails(rt: HostRuntime) -> Result<(), Fail> {
 [INFO  tws] started time=2026-11-27T09:15:00.123Z at=0.0.0.0:6969 lynx=0 ms=0 folder=kept here
 [WARN  tws] request refused time=2026-11-27T09:15:00.123Z peer=0.0.0.2:5000 why=no such file
 [WARN  tws] request refused time=2026-11-27T09:15:00.123Z peer=0.0.0.2:5000 why=octet only
+[WARN  tws] request dropped time=2026-11-27T09:15:00.123Z peer=0.0.0.2:5000 why=too many transfers of its host
 [WARN  tws] put failed time=2026-11-27T09:15:00.123Z peer=0.0.0.2:5000 block=0 why=error from the peer
 [ERROR tws] put failed time=2026-11-27T09:15:00.123Z peer=0.0.0.3:5000 block=0 why=not kept
 [WARN  tws] put taken time=2026-11-27T09:15:00.123Z peer=0.0.0.4:5000 bytes=7 ruleset=ms fault=ShortHeader better=0 millis=5

@@ -1,6 +1,7 @@
 // A table whose steps are logged, with a clock of its own.
 use archive_log::{HistoryFolder, ServerLog};
 use archive_table::{Keeper, Observer, Table};
+use archive_turns::ServerObserver;
 use log::Log;
 use std::alloc::Global;
 use std::cell::Cell;
@@ -35,7 +36,7 @@ impl Clock for Morning {
     }
 }
 
-// A datagram from a client, by its number, or a time-out.
+// A datagram from a client, by its number, or a time-out, or a request from one that is dropped.
 #[derive(Clone, Copy)]
 pub(crate) enum Input<'a> {
     // At the request port, with this spare port.
@@ -43,6 +44,7 @@ pub(crate) enum Input<'a> {
     // At the port of a transfer.
     Recv(u16, u16, &'a [u8]),
     Wait(u16),
+    Drop(u16),
 }
 
 // Makes the step of an input, and logs it.
@@ -69,6 +71,7 @@ pub(crate) fn log_step<C: Clock, L: Log, H: HistoryFolder, K: Keeper>(
             let step = table.on_timeout(port);
             log.on_step(port, None, &step, table);
         }
+        Input::Drop(from) => log.on_dropped(client(from)),
     }
     Ok(())
 }

@@ -5,7 +5,7 @@ ghost use Rattle.clap.specs.Matches.{found_of};
 ghost use Rattle.clap.specs.declared.builder.command.Command.TheViews.{out-Command};
 ghost use Rattle.clap.specs.Words.{app_of, new_app, rows_of, rule_of, first_of, one_of};
 ghost use Rattle.tws_file.specs.Listing.{ruleset_name};
-ghost use Rattle.tws_tool.specs.Arguments.{AreRulesetNames, Answers, HasFiles, HasNumber, HasRuleset, HasSource, HasTarget, IsFlag, IsNumberUpTo, IsNumberOr, address_rule, file_rule, files_rule, number_rule, port_option, ruleset_rule, source_rule};
+ghost use Rattle.tws_tool.specs.Arguments.{AreRulesetNames, Answers, HasFiles, HasNumber, HasRuleset, HasSource, HasTarget, IsFlag, IsNumberUpTo, IsNumberOr, address_rule, file_rule, files_rule, number_rule, number_rule_to, port_option, ruleset_rule, source_rule};
 
 use crate::limits::{MAX_PORT, PORT};
 use crate::source::Source;
@@ -90,15 +90,35 @@ pub(crate) fn files_argument<'a>(alloc: Global) -> Arg<'a>
         .help("The solution files")
 }
 
+/// An option with a number from 1 to `most`.
+pub(crate) fn number_argument<'a>(
+    alloc: Global,
+    name: &'a str,
+    value: &'a str,
+    most: u64,
+    help: &'a str,
+) -> Arg<'a>
+    ensures rule { rule_of result ≡ number_rule_to most name.now }
+    ensures local { result.global ≡ false }
+{
+    Arg::new(alloc, name)
+        .long(name)
+        .value_name(value)
+        .value_parser(ValueParser::Unsigned(1, most))
+        .help(help)
+}
+
 pub(crate) fn port_argument<'a>(alloc: Global) -> Arg<'a>
     ensures rule { rule_of result ≡ number_rule port_option }
     ensures local { result.global ≡ false }
 {
-    Arg::new(alloc, "port")
-        .long("port")
-        .value_name("N")
-        .value_parser(ValueParser::Unsigned(1, MAX_PORT as u64))
-        .help("The server's port, 6969 if none is given")
+    number_argument(
+        alloc,
+        "port",
+        "N",
+        MAX_PORT as u64,
+        "The server's port, 6969 if none is given",
+    )
 }
 
 // ---- what was given

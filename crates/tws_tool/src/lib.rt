@@ -33,6 +33,7 @@ mod line;
 mod overhearing;
 mod program;
 mod reporting;
+mod reporting_keeper;
 mod resolver;
 mod served_keeper;
 mod served_observer;

@@ -1,7 +1,7 @@
 //! What a log knows of a live transfer.
 
 ghost use Rattle.std.specs.Prelude.{◌≡◌};
-ghost use Rattle.archive_log.specs.Events.{bytes_to, opened_session, went_on, cause_of, ended_event};
+ghost use Rattle.archive_log.specs.Events.{bytes_to, opened_transfer, went_on, cause_of, ended_event};
 
 use crate::cause::Cause;
 use crate::event::Event;
@@ -20,7 +20,7 @@ pub enum Kind {
 
 /// What a log knows of a live transfer.
 #[derive(Clone, Copy, Debug, PartialEq, Eq)]
-pub struct Session {
+pub struct LoggedTransfer {
     /// Its port.
     pub port: u16,
     pub peer: Endpoint,
@@ -35,10 +35,10 @@ pub struct Session {
     pub is_whole: bool,
 }
 
-// A session in an unused place.
-impl Default for Session {
+// A transfer in an unused place.
+impl Default for LoggedTransfer {
     fn default() -> Self {
-        Session {
+        LoggedTransfer {
             port: 0,
             peer: Endpoint { host: 0, port: 0 },
             began: 0,
@@ -57,16 +57,16 @@ fn bytes_to(block: u16, length: u16) -> u64
     BLOCK_SIZE as u64 * u64::from(block.saturating_sub(1)) + u64::from(length)
 }
 
-impl Session {
-    /// The session of a transfer that was opened by sending this.
+impl LoggedTransfer {
+    /// The transfer of a transfer that was opened by sending this.
     pub(crate) fn opened(now: u64, port: u16, peer: Endpoint, sent: Sent) -> Self
-        ensures { result ≡ opened_session now port peer sent }
+        ensures { result ≡ opened_transfer now port peer sent }
     {
         let kind = match sent {
             Sent::Data { ruleset, .. } => Kind::Get(ruleset),
             Sent::Nothing | Sent::Ack { .. } | Sent::Error(_) => Kind::Put,
         };
-        let session = Session {
+        let transfer = LoggedTransfer {
             port,
             peer,
             began: now,
@@ -75,21 +75,21 @@ impl Session {
             bytes: 0,
             is_whole: false,
         };
-        session.went_on(false, sent)
+        transfer.went_on(false, sent)
     }
 
-    /// The session after a step that sent this, and that took the file or did not.
+    /// The transfer after a step that sent this, and that took the file or did not.
     pub(crate) fn went_on(self, is_taken: bool, sent: Sent) -> Self
         ensures { result ≡ went_on is_taken sent self }
     {
         match sent {
-            Sent::Data { block, length, .. } => Session {
+            Sent::Data { block, length, .. } => LoggedTransfer {
                 block,
                 bytes: bytes_to(block, length),
                 is_whole: usize::from(length) < BLOCK_SIZE,
                 ..self
             },
-            Sent::Ack { block } => Session {
+            Sent::Ack { block } => LoggedTransfer {
                 block,
                 is_whole: self.is_whole || is_taken,
                 ..self
