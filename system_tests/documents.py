@@ -146,7 +146,7 @@ def files():
 @functools.cache
 def options():
     """The options of the program, by its command line."""
-    sources = [path.read_text() for path in Path("crates/tws_tool/src").rglob("*.rt")]
+    sources = [path.read_text() for crate in ("file_commands", "tws_tool") for path in Path(f"crates/{crate}/src").rglob("*.rt")]
     return {f"--{name}" for text in sources for name in re.findall(r'\.long\(\s*"([\w-]+)"', text)} | {"--help", "--version"}
 
 

@@ -6,11 +6,11 @@ use Rattle.clap.specs.declared.error.Error.{Error}
 use Rattle.clap.specs.declared.error.kind.ErrorKind.TheVariants.{DisplayVersion, OutOfMemory}
 use Rattle.clap.proofs.OnLiterals.{clap_on_literals}
 use Rattle.tws_tool.specs.declared.commands.Job.TheVariants.{Show, Pack, Serve}
-use Rattle.tws_tool.specs.declared.source.Source.TheVariants.{Standard}
+use Rattle.file_commands.specs.declared.source.Source.TheVariants.{Standard}
 use Rattle.tws_tool.specs.declared.job.JobFault.{JobFault}
 use Rattle.tws_tool.specs.declared.job.JobFault.TheVariants.{Words, Memory}
 use Rattle.std.specs.Str.Parse.{IsNumeral, digits_value, without_leading_plus}
-use Rattle.tws_tool.specs.Arguments.{AreRulesetNames, IsNumberUpTo, RulesetNames}
+use Rattle.file_commands.specs.Arguments.{AreRulesetNames, IsNumberUpTo, RulesetNames}
 use Rattle.tws_tool.specs.Commands.{tws_app}
 use Rattle.tws_tool.specs.CommandLine.{RefusesWords, WordsAskFor}
 

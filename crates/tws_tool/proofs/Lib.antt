@@ -1,11 +1,6 @@
-pub mod Taking
 pub mod Statuses
-pub mod Collecting
-pub mod Paging
-pub mod Comparing
 pub mod Sending
 pub mod Fetching
 pub mod Listening
 pub mod Asking
 pub mod Addresses
-pub mod Given

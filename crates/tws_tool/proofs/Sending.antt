@@ -14,14 +14,16 @@ use Rattle.archive_turns.specs.Turn.{Replies}
 use Rattle.archive_turns.specs.Wire.{Entry}
 use Rattle.archive_turns.specs.Run.{Run, RunMakes, PutAfter, begin_opened, begin_sized, put_result}
 use Rattle.archive_turns.specs.Rounds.{PutsInRounds}
-use Rattle.tws_tool.specs.declared.tool_fault.ToolFault.{ToolFault}
-use Rattle.tws_tool.specs.declared.tool_fault.ToolFault.TheVariants as tool
-use Rattle.tws_tool.specs.Faults.{answer_status, run_fault}
+use Rattle.file_commands.specs.declared.tool_fault.ToolFault.{ToolFault}
+use Rattle.file_commands.specs.declared.tool_fault.ToolFault.TheVariants as tool
+use Rattle.file_commands.specs.Faults.{answer_status}
+use Rattle.tws_tool.specs.Faults.{run_fault}
 use Rattle.tws_tool.specs.declared.commands.put.PutArguments.{PutArguments}
 use Rattle.tws_tool.specs.Address.{Locates}
 use Rattle.tws_tool.specs.Commands.Put.{IsBlamed, PutFails, PutRan, PutRuns, Puts, SaysSent, put_known}
-use Rattle.tws_tool.specs.Inputs.{IsUnreadable}
-use Rattle.tws_tool.proofs.Statuses.{at_zero, map_err, map_ok, no_host, no_usage, transfers}
+use Rattle.file_commands.specs.Inputs.{IsUnreadable}
+use Rattle.file_commands.proofs.Statuses.{at_zero, map_err, map_ok, no_usage}
+use Rattle.tws_tool.proofs.Statuses.{no_host, transfers}
 use Rattle.tws_tool.specs.Lines.{Unsaid, sent_line}
 
 -- a put writes nothing, so it has no write fault

@@ -1,30 +1,12 @@
--- The arguments that several commands share, as `clap` reads them, and what was given for an argument.
-use Rattle.std.specs.Prelude.{◌≡◌, ◌≢◌, ◌≤◌, ℕ, Bool, true, false, List, [], ◌∷◌, map, unwrap_or, Option, Some, None, string_bytes, codes}
-use Rattle.std.specs.Borrow.{Bor}
-use Rattle.std.specs.Str.Parse.{IsNumeral, digits_value, without_leading_plus}
-use Rattle.clap.specs.Lexer.{usize_max}
-use Rattle.clap.specs.Walk.{all_of}
-use Rattle.clap.specs.Words.{Row, Rule, Text, first_of, new_rule, one_of}
+-- The arguments that several commands of the archive share, as `clap` reads them, and what was given for an argument.
+use Rattle.std.specs.Prelude.{◌≡◌, ℕ, true, List, Option, Some, None, string_bytes, codes}
+use Rattle.clap.specs.Words.{Row, Rule, Text, first_of, new_rule}
 use Rattle.clap.specs.declared.builder.value_parser.ValueParser.TheVariants as parser
-use Rattle.tws_file.specs.declared.«ruleset».Ruleset.{Ruleset}
-use Rattle.tws_file.specs.Listing.{ruleset_name}
+use Rattle.file_commands.specs.Arguments.{IsNumberUpTo}
 use Rattle.tws_tool.specs.declared.limits.TheConstants.{PORT, MAX_PORT}
-use Rattle.tws_tool.specs.declared.source.Source.{Source}
-use Rattle.tws_tool.specs.declared.source.Source.TheVariants.{Standard, Named}
 use Rattle.tws_tool.specs.declared.target.Target.{Target}
 
 -- ---- the arguments
-
--- references to the names of the rulesets
-abbrev pub RulesetNames : Type 0
-RulesetNames = Bor (List (Bor Text))
-
-abbrev pub AreRulesetNames : RulesetNames → Type 0
-AreRulesetNames names = map (λ name. name.now) names.now ≡ codes "lynx" ∷ codes "ms" ∷ []
-
--- `RULESET`
-abbrev pub ruleset_rule : RulesetNames → Rule
-ruleset_rule names = record (new_rule (codes "ruleset")) { value_names = 1; parser = Some (parser.Names names); required = true }
 
 -- `ADDRESS`
 abbrev pub address_rule : Rule
@@ -33,14 +15,6 @@ address_rule = record (new_rule (codes "address")) { value_names = 1; required =
 -- `FILE`
 abbrev pub file_rule : Rule
 file_rule = record (new_rule (codes "file")) { value_names = 1; required = true }
-
--- `[FILE]`
-abbrev pub source_rule : Rule
-source_rule = record (new_rule (codes "file")) { value_names = 1 }
-
--- `FILE..`
-abbrev pub files_rule : Rule
-files_rule = record (new_rule (codes "files")) { value_names = 1; range = Some (record { start_inclusive = 1; end_inclusive = usize_max }); required = true }
 
 -- an option with a number from 1 to `most`, and what the number is if none is given
 pub record NumberOption : Type 0 where
@@ -60,25 +34,6 @@ port_option = record { name = codes "port"; most = MAX_PORT; default = PORT }
 
 -- ---- what was given
 
--- what is asked for, or nothing if nothing is
-abbrev pub Answers : {T : Type 0} → (T → Type 0) → Option T → Type 0
-Answers Asks (Some x) = Asks x
-Answers {T} Asks None = (x : T) → Asks x → ⊥
-
--- whether a flag is set, by the text of its entry
-abbrev pub IsFlag : Option Text → Bool → Type 0
-IsFlag text flag = (text ≡ Some (codes "true") → flag ≡ true) × (text ≡ Some (codes "false") → flag ≡ false) × (text ≡ None → flag ≡ false)
-
-abbrev pub HasFlag : Rule → List Row → Bool → Type 0
-HasFlag rule rows flag = IsFlag (one_of rule.id rows) flag
-
--- the text is a number from 1 to `most`
-pub record IsNumberUpTo (most : ℕ) (text : Text) (n : ℕ) : Type 0 where
-  pub numeral : IsNumeral 10 (without_leading_plus text)
-  pub value : n ≡ digits_value 10 (without_leading_plus text)
-  pub least : 1 ≤ n
-  pub greatest : n ≤ most
-
 -- the number that was given, or the default if none was
 abbrev pub IsNumberOr : (default most : ℕ) → Option Text → ℕ → Type 0
 IsNumberOr default most (Some text) n = IsNumberUpTo most text n
@@ -86,23 +41,6 @@ IsNumberOr default most None n = n ≡ default
 
 abbrev pub HasNumber : NumberOption → List Row → ℕ → Type 0
 HasNumber option rows n = IsNumberOr option.default option.most (first_of option.name rows) n
-
-abbrev pub HasRuleset : List Row → Ruleset → Type 0
-HasRuleset rows rules = first_of (codes "ruleset") rows ≡ Some (ruleset_name rules)
-
--- standard input if no file was named, or `-`
-abbrev pub IsSource : Option Text → Source → Type 0
-IsSource None Standard = Unit {0}
-IsSource None (Named file) = ⊥
-IsSource (Some name) Standard = name ≡ codes "-"
-IsSource (Some name) (Named file) = (name ≡ string_bytes file) × (name ≢ codes "-")
-
-abbrev pub HasSource : List Row → Source → Type 0
-HasSource rows source = IsSource (first_of source_rule.id rows) source
-
--- these names of files, in order
-abbrev pub HasFiles : List Row → (names : List Text) → Type 0
-HasFiles rows names = names ≡ unwrap_or (all_of files_rule.id rows) []
 
 -- what was found for the arguments that `put` and `get` share
 pub record HasTarget (rows : List Row) (target : Target) : Type 0 where

@@ -1,11 +1,5 @@
 -- The lists over all commands: the command line, which job each command asks for, and what each job did. A command is
 -- defined in a file of its own in `Commands/`.
-pub mod Show
-pub mod Pack
-pub mod Without
-pub mod Best
-pub mod Compare
-pub mod Page
 pub mod Serve
 pub mod Put
 pub mod Get
@@ -16,17 +10,17 @@ use Rattle.tws_tool.specs.declared.commands.Job.{Job}
 use Rattle.tws_tool.specs.declared.commands.Job.TheVariants as job
 use Rattle.tws_tool.specs.declared.job.JobFault.{JobFault}
 use Rattle.tws_tool.specs.declared.job.JobFault.TheVariants as fault
-use Rattle.tws_tool.specs.Arguments.{RulesetNames}
-use Rattle.tws_tool.specs.Commands.Show.{AsksToShow, ShowRan, show_app, show_name}
-use Rattle.tws_tool.specs.Commands.Pack.{AsksToPack, PackRan, pack_app, pack_name}
-use Rattle.tws_tool.specs.Commands.Without.{AsksForWithout, WithoutRan, without_app, without_name}
-use Rattle.tws_tool.specs.Commands.Best.{AsksForBest, BestRan, best_app, best_name}
-use Rattle.tws_tool.specs.Commands.Compare.{AsksToCompare, CompareRan, compare_app, compare_name}
-use Rattle.tws_tool.specs.Commands.Page.{AsksForPage, PageRan, page_app, page_name}
+use Rattle.file_commands.specs.Arguments.{RulesetNames}
+use Rattle.file_commands.specs.Show.{AsksToShow, ShowRan, show_app, show_name}
+use Rattle.file_commands.specs.Pack.{AsksToPack, PackRan, pack_app, pack_name}
+use Rattle.file_commands.specs.Without.{AsksForWithout, WithoutRan, without_app, without_name}
+use Rattle.file_commands.specs.Best.{AsksForBest, BestRan, best_app, best_name}
+use Rattle.file_commands.specs.Compare.{AsksToCompare, CompareRan, compare_app, compare_name}
+use Rattle.file_commands.specs.Page.{AsksForPage, PageRan, page_app, page_name}
 use Rattle.tws_tool.specs.Commands.Serve.{AsksToServe, ServeRan, serve_app, serve_name}
 use Rattle.tws_tool.specs.Commands.Put.{AsksToPut, PutRan, put_app, put_name}
 use Rattle.tws_tool.specs.Commands.Get.{AsksToGet, GetRan, get_app, get_name}
-use Rattle.tws_tool.specs.Files.{Known}
+use Rattle.tws_tool.specs.Known.{Known}
 use Rattle.tws_tool.specs.Help.{Explained}
 
 abbrev pub top_app : App

@@ -1,10 +1,8 @@
 pub mod Address
 pub mod Arguments
-pub mod Inputs
 pub mod Faults
-pub mod Written
 pub mod Help
-pub mod Files
+pub mod Known
 pub mod Lines
 pub mod Commands
 pub mod CommandLine

@@ -1,37 +1,29 @@
-//! The lists over all commands: what the program is asked to do, its command line, and how each job is done. A command is
-//! in a file of its own in `commands/`.
+//! The lists over all commands: what the program is asked to do, its command line, and how each job is done. A command on files
+//! is a module of `file_commands`, and one of the archive is in a file of its own in `commands/`.
 
 ghost use Rattle.std.specs.Prelude.{◌≡◌, ◌≤◌, Ok, IfOk};
 ghost use Rattle.clap.specs.Matches.{found_of};
 ghost use Rattle.clap.specs.Words.{app_of, rows_of};
-ghost use Rattle.tws_tool.specs.Arguments.{Answers};
+ghost use Rattle.file_commands.specs.Arguments.{Answers};
 ghost use Rattle.tws_tool.specs.Commands.{AsksFor, JobRuns, files_app, one_file_app, top_app, tws_app};
 
-mod best;
-mod compare;
 mod get;
-mod pack;
-mod page;
 mod put;
 mod serve;
 mod serve_arguments;
-mod show;
-mod without;
 
-use crate::file_system::FileSystem;
 use crate::limits::VERSION;
 use crate::overhearing::TransferWire;
 use crate::resolver::Resolver;
-pub use best::{BestArguments, run_best};
 use clap::{ArgMatches, Command};
-pub use compare::{CompareArguments, run_compare};
+use file_commands::{
+    BestArguments, CompareArguments, FileSystem, PackArguments, PageArguments, ShowArguments,
+    WithoutArguments, best, compare, pack, page, show, without,
+};
 pub use get::{GetArguments, GetFault, get_file};
-pub use pack::{PackArguments, run_pack};
-pub use page::{PageArguments, run_page};
 pub use put::{PutArguments, put_file};
 pub use serve::{Passes, serve_archive};
 pub use serve_arguments::ServeArguments;
-pub use show::{ShowArguments, run_csv, run_show};
 use std::alloc::{AllocError, Global};
 use std::fs::File;
 use std::io::{Read, Write};
@@ -39,7 +31,6 @@ use std::net::Net;
 use std::random::RandomSource;
 use std::rt::Files;
 use std::time::Clock;
-pub use without::{WithoutArguments, run_without};
 
 /// What the program is asked to do.
 #[derive(Drop)]
@@ -88,7 +79,7 @@ fn one_file_commands<'a>(alloc: Global) -> Result<Command<'a>, AllocError>
 }
 
 // The program with only its commands on files.
-fn file_commands<'a>(alloc: Global, names: &'a [&'a str]) -> Result<Command<'a>, AllocError>
+fn commands_on_files<'a>(alloc: Global, names: &'a [&'a str]) -> Result<Command<'a>, AllocError>
     ensures { IfOk result (λ command. app_of command ≡ files_app names.entry) }
 {
     let best = best::command(alloc, names)?;
@@ -104,7 +95,7 @@ pub(crate) fn command<'a>(alloc: Global, names: &'a [&'a str]) -> Result<Command
     ensures { IfOk result (λ command. app_of command ≡ tws_app names.entry) }
 {
     let serve = serve_arguments::command(alloc)?;
-    let command = file_commands(alloc, names)?.subcommand(serve)?;
+    let command = commands_on_files(alloc, names)?.subcommand(serve)?;
     let put = put::command(alloc)?;
     let command = command.subcommand(put)?;
     let get = get::command(alloc, names)?;

@@ -3,10 +3,10 @@
 ghost use Rattle.std.specs.Prelude.{◌≡◌, OnOk, IfErr};
 ghost use Rattle.tws_tool.specs.Help.{Explained, WritesHelp, HelpFails};
 
-use crate::reporting::finish;
-use crate::status::USAGE;
-use crate::tool_fault::ToolFault;
 use byte_output::put;
+use file_commands::ToolFault;
+use file_commands::reporting::finish;
+use file_commands::status::USAGE;
 use std::alloc::Global;
 use std::io::Write;
 

@@ -4,14 +4,12 @@ ghost use Rattle.std.specs.Prelude.{◌≡◌, [], ◌∷◌, codes, None, true,
 ghost use Rattle.clap.specs.declared.error.kind.ErrorKind.TheVariants.{DisplayVersion};
 ghost use Rattle.tws_tool.specs.CommandLine.{AskFor, AskWhy};
 ghost use Rattle.tws_tool.specs.declared.commands.Job.TheVariants.{Show, Pack, Serve};
-ghost use Rattle.tws_tool.specs.declared.source.Source.TheVariants.{Standard};
+ghost use Rattle.file_commands.specs.declared.source.Source.TheVariants.{Standard};
 
-use crate::input::INPUT_READS;
 use crate::limits::{MAX_PORT, PER_HOST, PORT, ROUNDS, TURNS};
 
 /// The values of the limits, which the definitions refer to by name.
 pub fn limit_values()
-    ensures reads { INPUT_READS ≡ 67108864 }
     ensures port { PORT ≡ 6969 }
     ensures most { MAX_PORT ≡ 65535 }
     ensures turns { TURNS ≡ 1000000000 }

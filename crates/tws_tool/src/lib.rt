@@ -1,21 +1,25 @@
-//! The commands of the program `tws`, over any reader and writer. Read `specs/Inputs.antt` first, then
-//! `specs/Commands.antt`.
+//! The program `tws`: the commands of the archive, over any wire and keeper, and the job that the arguments ask for, of
+//! these commands or of those on files (`file_commands`). Read `specs/Lines.antt` first, then `specs/Commands.antt`.
 //!
-//! How to call it, from a crate that lists `tws_tool` and `tws_file`; this needs no proof file:
+//! How to call it, from a crate that lists `tws_tool`, `archive_turns` and `tftp_packet`; this needs no proof file:
 //!
 //! ```text
-//! ghost use Rattle.std.specs.Prelude.{[], true, IfOk, Some};
-//! ghost use Rattle.tws_file.specs.Listing.{listing_of};
-//! ghost use Rattle.tws_tool.specs.Written.{Writes};
+//! ghost use Rattle.std.specs.Prelude.{OnOk, Some};
+//! ghost use Rattle.tws_tool.specs.Commands.Put.{Puts};
+//! ghost use Rattle.tws_tool.specs.declared.limits.TheConstants.{PORT};
 //!
-//! /// The listing of a solution file, with a line for each move.
-//! fn listing(alloc: Global, bytes: &[u8]) -> Result<Vec<u8>, ToolFault>
-//!     ensures { IfOk result (λ text. Writes (listing_of true) (Some bytes.now) (Some []) (Some text.items)) }
+//! /// Sends the bytes of a solution file to the archive at this host, at its usual port.
+//! fn send<N: ReadyWire, W: Write>(
+//!     alloc: Global,
+//!     bytes: &[u8],
+//!     wire: &mut N,
+//!     host: u32,
+//!     out: &mut W,
+//! ) -> Result<(), ToolFault>
+//!     ensures { OnOk result (Puts (Some bytes.now) (record { host = host; port = PORT }) (N.log wire.old) (N.log wire.new) (W.contents out.old) (W.contents out.new)) }
 //! {
 //!     let mut input = bytes;
-//!     let mut out = Vec::new(alloc);
-//!     run_show(alloc, &mut input, &mut out, true)?;
-//!     Ok(out)
+//!     put_file(alloc, &mut input, wire, Endpoint { host, port: PORT }, out)
 //! }
 //! ```
 #![tactic(auto)]
@@ -23,26 +27,22 @@
 mod address;
 mod arguments;
 mod commands;
-mod file_system;
 mod help;
-mod input;
 mod job;
 mod laws;
 mod limits;
 mod line;
 mod overhearing;
+mod printable;
 mod program;
 mod reporting;
 mod reporting_keeper;
 mod resolver;
+mod run_fault;
 mod served_keeper;
 mod served_observer;
-mod source;
-mod status;
 mod system;
 mod target;
-mod tool_fault;
-mod words;
 
 pub use address::Address;
 pub use archive_host::{DirKeeper, HostFolder, OpenFault, UdpWire};
@@ -51,12 +51,14 @@ pub use archive_turns::{
     put_in_rounds, run_get, run_put, serve_rounds, serve_turns,
 };
 pub use commands::{
-    BestArguments, CompareArguments, GetArguments, GetFault, Job, PackArguments, PageArguments,
-    Passes, PutArguments, ServeArguments, ShowArguments, WithoutArguments, get_file, put_file,
-    run_best, run_compare, run_csv, run_pack, run_page, run_show, run_without, serve_archive,
+    GetArguments, GetFault, Job, Passes, PutArguments, ServeArguments, get_file, put_file,
+    serve_archive,
 };
-pub use file_system::FileSystem;
-pub use input::INPUT_READS;
+pub use file_commands::{
+    BestArguments, CompareArguments, FileSystem, INPUT_READS, PackArguments, PageArguments,
+    ShowArguments, Source, ToolFault, WithoutArguments, run_best, run_compare, run_csv, run_pack,
+    run_page, run_show, run_without,
+};
 pub use job::{JobFault, job_of};
 pub use laws::{limit_values, words_of_commands};
 pub use limits::{PER_HOST, PORT, ROUNDS, TURNS, VERSION};
@@ -64,6 +66,4 @@ pub use overhearing::TransferWire;
 pub use program::{run_words, run_words_with};
 pub use resolver::Resolver;
 pub use served_keeper::ServedKeeper;
-pub use source::Source;
 pub use target::Target;
-pub use tool_fault::ToolFault;

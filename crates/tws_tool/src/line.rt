@@ -4,8 +4,8 @@ ghost use Rattle.std.specs.Prelude.{◌≡◌, ◌++◌, OnOk, IfErr, string_byt
 ghost use Rattle.tws_tool.specs.Lines.{number_line, LineFails};
 ghost use Rattle.std.specs.Io.KnownBytes.{Appends};
 
-use crate::tool_fault::ToolFault;
 use byte_output::put;
+use file_commands::ToolFault;
 use std::alloc::{AllocError, Global};
 use std::io::Write;
 

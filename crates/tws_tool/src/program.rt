@@ -7,15 +7,14 @@ ghost use Rattle.tws_tool.specs.Commands.{JobRuns};
 ghost use Rattle.tws_tool.specs.CommandLine.{AnswersWords};
 
 use crate::commands::{Job, run_job};
-use crate::file_system::FileSystem;
 use crate::help::explain;
 use crate::job::{JobFault, job_of};
 use crate::overhearing::{Overhearing, TransferWire};
-use crate::reporting::report;
 use crate::resolver::Resolver;
 use crate::system::System;
-use crate::tool_fault::ToolFault;
 use archive_host::UdpWire;
+use file_commands::reporting::report;
+use file_commands::{FileSystem, ToolFault};
 use std::alloc::Global;
 use std::fs::File;
 use std::io::{Read, Write};

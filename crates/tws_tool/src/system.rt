@@ -2,8 +2,8 @@
 
 ghost use Rattle.std.specs.Prelude.{None};
 
-use crate::file_system::FileSystem;
 use crate::resolver::Resolver;
+use file_commands::FileSystem;
 use std::fs::{File, Metadata, OpenOptions};
 use std::io::{ErrorKind, Read, Write};
 use std::net::{Net, SocketAddr, ToSocketAddrs};

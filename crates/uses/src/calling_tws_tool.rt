@@ -1,16 +1,23 @@
-ghost use Rattle.std.specs.Prelude.{[], true, IfOk, Some};
-ghost use Rattle.tws_file.specs.Listing.{listing_of};
-ghost use Rattle.tws_tool.specs.Written.{Writes};
+ghost use Rattle.std.specs.Prelude.{OnOk, Some};
+ghost use Rattle.tws_tool.specs.Commands.Put.{Puts};
+ghost use Rattle.tws_tool.specs.declared.limits.TheConstants.{PORT};
 
 use std::alloc::Global;
-use tws_tool::{ToolFault, run_show};
+use std::io::Write;
+use tftp_packet::Endpoint;
+use tws_tool::{PORT, ReadyWire, ToolFault, put_file};
 
-/// The listing of a solution file, with a line for each move.
-pub fn listing(alloc: Global, bytes: &[u8]) -> Result<Vec<u8>, ToolFault>
-    ensures { IfOk result (λ text. Writes (listing_of true) (Some bytes.now) (Some []) (Some text.items)) }
+/// Sends the bytes of a solution file to the archive at this host, at its usual port, over any wire, and writes a line
+/// with their number.
+pub fn send<N: ReadyWire, W: Write>(
+    alloc: Global,
+    bytes: &[u8],
+    wire: &mut N,
+    host: u32,
+    out: &mut W,
+) -> Result<(), ToolFault>
+    ensures { OnOk result (Puts (Some bytes.now) (record { host = host; port = PORT }) (N.log wire.old) (N.log wire.new) (W.contents out.old) (W.contents out.new)) }
 {
     let mut input = bytes;
-    let mut out = Vec::new(alloc);
-    run_show(alloc, &mut input, &mut out, true)?;
-    Ok(out)
+    put_file(alloc, &mut input, wire, Endpoint { host, port: PORT }, out)
 }

@@ -14,12 +14,12 @@ use Rattle.archive_turns.specs.Wire.{Entry}
 use Rattle.archive_turns.specs.Rounds.{PutsInRounds}
 use Rattle.tws_tool.specs.declared.commands.put.PutArguments.{PutArguments}
 use Rattle.tws_tool.specs.declared.limits.TheConstants.{ROUNDS}
-use Rattle.tws_tool.specs.declared.tool_fault.ToolFault.{ToolFault}
-use Rattle.tws_tool.specs.declared.tool_fault.ToolFault.TheVariants.{Read, Write, Unreadable, Memory, Socket, Transfer}
+use Rattle.file_commands.specs.declared.tool_fault.ToolFault.{ToolFault}
+use Rattle.file_commands.specs.declared.tool_fault.ToolFault.TheVariants.{Read, Write, Unreadable, Memory, Socket, Transfer}
 use Rattle.tws_tool.specs.Address.{Locates}
 use Rattle.tws_tool.specs.Arguments.{HasTarget, address_rule, file_rule, number_rule, port_option}
-use Rattle.tws_tool.specs.Faults.{answer_status}
-use Rattle.tws_tool.specs.Inputs.{IsUnreadable}
+use Rattle.file_commands.specs.Faults.{answer_status}
+use Rattle.file_commands.specs.Inputs.{IsUnreadable}
 use Rattle.tws_tool.specs.Lines.{Transfers, sent_line}
 
 abbrev pub put_name : Text

@@ -4,27 +4,27 @@ ghost use Rattle.std.specs.Prelude.{◌≡◌, ◌≢◌, ◌⊎◌, false, OnOk
 ghost use Rattle.clap.specs.Matches.{found_of};
 ghost use Rattle.clap.specs.Words.{app_of, rows_of};
 ghost use Rattle.clap.specs.declared.builder.command.Command.TheViews.{out-Command};
-ghost use Rattle.tws_tool.specs.Arguments.{Answers};
+ghost use Rattle.file_commands.specs.Arguments.{Answers};
 ghost use Rattle.tws_tool.specs.Commands.Get.{AsksToGet, FetchFails, Fetches, GetFails, GetRan, Gets, get_app};
-ghost use Rattle.tws_tool.specs.Faults.{run_fault, status_of};
+ghost use Rattle.file_commands.specs.Faults.{status_of};
+ghost use Rattle.tws_tool.specs.Faults.{run_fault};
 ghost use Rattle.tws_tool.specs.Lines.{Unless};
 
 use crate::address::locate;
-use crate::arguments::{
-    address_argument, file_argument, new_command, port_argument, ruleset_argument, ruleset_given,
-    target_given,
-};
-use crate::file_system::FileSystem;
+use crate::arguments::{address_argument, file_argument, port_argument, target_given};
 use crate::limits::ROUNDS;
 use crate::line::write_line;
 use crate::overhearing::TransferWire;
-use crate::reporting::{bad_address, report_file, report_transfer};
+use crate::reporting::{bad_address, report_transfer};
 use crate::resolver::Resolver;
-use crate::status::DONE;
+use crate::run_fault::of_run;
 use crate::target::Target;
-use crate::tool_fault::ToolFault;
 use archive_turns::{GetRun, ReadyWire, RunFault, get_in_rounds};
 use clap::{ArgMatches, Command};
+use file_commands::arguments::{new_command, ruleset_argument, ruleset_given};
+use file_commands::reporting::report_file;
+use file_commands::status::DONE;
+use file_commands::{FileSystem, ToolFault};
 use std::alloc::{AllocError, Global};
 use std::io;
 use std::io::Write;
@@ -95,7 +95,7 @@ impl GetFault {
         ensures { result.fault ≡ run_fault fault }
     {
         GetFault {
-            fault: ToolFault::from(fault),
+            fault: of_run(fault),
             cause: None,
         }
     }

@@ -10,25 +10,27 @@ ghost use Rattle.tws_file.specs.Text.{IsReadable};
 ghost use Rattle.tws_file.specs.Fault.{HasFileFault};
 ghost use Rattle.tftp_ends.specs.declared.limits.TheConstants.{MAX_FILE};
 ghost use Rattle.tws_tool.specs.declared.limits.TheConstants.{ROUNDS};
-ghost use Rattle.tws_tool.specs.Arguments.{Answers};
+ghost use Rattle.file_commands.specs.Arguments.{Answers};
 ghost use Rattle.tws_tool.specs.Commands.Put.{AsksToPut, InputFails, IsWholeInput, PutFails, PutRan, PutRuns, Puts, ReadsAtMost, WholeFails, put_app};
-ghost use Rattle.tws_tool.specs.Faults.{IsReadOut, run_fault};
+ghost use Rattle.file_commands.specs.Faults.{IsReadOut};
+ghost use Rattle.tws_tool.specs.Faults.{run_fault};
 ghost use Rattle.tws_tool.specs.Lines.{Unless};
 
 use crate::address::locate;
-use crate::arguments::{address_argument, file_argument, new_command, port_argument, target_given};
-use crate::file_system::FileSystem;
-use crate::input::INPUT_READS;
+use crate::arguments::{address_argument, file_argument, port_argument, target_given};
 use crate::limits::ROUNDS;
 use crate::line::write_line;
 use crate::overhearing::TransferWire;
-use crate::reporting::{bad_address, finish_transfer, report_file};
+use crate::reporting::{bad_address, finish_transfer};
 use crate::resolver::Resolver;
+use crate::run_fault::of_run;
 use crate::target::Target;
-use crate::tool_fault::ToolFault;
 use archive_client::Cause;
-use archive_turns::{ReadyWire, RunFault, put_in_rounds};
+use archive_turns::{ReadyWire, put_in_rounds};
 use clap::{ArgMatches, Command};
+use file_commands::arguments::new_command;
+use file_commands::reporting::report_file;
+use file_commands::{FileSystem, INPUT_READS, ToolFault};
 use std::alloc::{AllocError, Global};
 use std::io::{Read, Write};
 use std::slice;
@@ -135,8 +137,10 @@ pub fn put_file<R: Read, N: ReadyWire, W: Write>(
     ensures unwritten { IfErr result (Unless (out.new ≡ out.old)) }
 {
     let bytes = read_whole(alloc, input)?;
-    let len = put_in_rounds(wire, server, bytes, ROUNDS)?;
-    write_line(alloc, "sent ", len, " bytes", out)
+    match put_in_rounds(wire, server, bytes, ROUNDS) {
+        Ok(len) => write_line(alloc, "sent ", len, " bytes", out),
+        Err(fault) => Err(of_run(fault)),
+    }
 }
 
 /// Runs `put` over this wire, and returns the status.

@@ -1,7 +1,7 @@
 use Rattle.std.proofs.Common.{rules, ◌≡◌, ℕ, List, Option, Some, Ok, Err, sym, subst, string_bytes}
 use Rattle.tws_tool.specs.Address.{Locates}
 use Rattle.tws_tool.specs.Commands.Get.{GetFails, GetRan, Gets}
-use Rattle.tws_tool.specs.Files.{Known}
+use Rattle.tws_tool.specs.Known.{Known}
 use Rattle.tws_tool.proofs.Fetching.{get_ran}
 use Rattle.tws_tool.proofs.commands.get.run.Goals as goal
 

@@ -1,18 +1,15 @@
 use Rattle.std.proofs.Common.{Err, subst}
-use Rattle.std.proofs.lemmas.Result.{err_from_is_err_and}
 use Rattle.archive_turns.specs.Rounds.{PutsInRounds}
 use Rattle.tws_tool.specs.declared.limits.TheConstants.{ROUNDS}
 use Rattle.tws_tool.proofs.Sending.{put_fails}
 use Rattle.tws_tool.proofs.commands.put.put_file.Goals as goal
 
-pub returns-in_err-len-clause-fails : goal.returns-in_err-len-clause-fails
-returns-in_err-len-clause-fails g c =
-    let p = err_from_is_err_and c.from_residual-in_err-len.result c.from_residual-in_err-len.ensures.1 in
+pub returns-in-Err-clause-fails : goal.returns-in-Err-clause-fails
+returns-in-Err-clause-fails g c =
     let before = g.N.Wire.log c.args.wire.now in
     let after = g.N.Wire.log c.put_in_rounds.new.wire in
-    let why = c.in_err-len.field-0.0 in
-    let runs : PutsInRounds c.args.server c.in_ok-bytes.bytes.items ROUNDS (Err why) before after =
-    subst (λ r. PutsInRounds c.args.server c.in_ok-bytes.bytes.items ROUNDS r before after) c.in_err-len.was c.put_in_rounds.ensures in
-    rw p.1 (put_fails (g.R.Read.remaining c.args.input.now) c.args.server before after
-    (g.W.Write.contents c.args.out.now) why p.0 p.2
-    (record { bytes = c.in_ok-bytes.bytes.items; whole = c.in_ok-bytes.ensures.whole; runs = runs }))
+    let bytes = c.in_ok-bytes.bytes.items in
+    let runs : PutsInRounds c.args.server bytes ROUNDS (Err c.in-Err.fault) before after =
+    subst (λ r. PutsInRounds c.args.server bytes ROUNDS r before after) c.in-Err.is c.put_in_rounds.ensures in
+    put_fails (g.R.Read.remaining c.args.input.now) c.args.server before after (g.W.Write.contents c.args.out.now) c.in-Err.fault c.of_run.result c.of_run.ensures
+    (record { bytes = bytes; whole = c.in_ok-bytes.ensures.whole; runs = runs })

@@ -1,5 +1,5 @@
 use Rattle.std.proofs.Common.{rules, refl, ◌≡◌, ◌∙◌, ℕ, List, Option, Some, Err, OnOk, IfErr, ap, sym, subst, string_bytes}
-use Rattle.tws_tool.specs.declared.tool_fault.ToolFault.TheVariants as tool
+use Rattle.file_commands.specs.declared.tool_fault.ToolFault.TheVariants as tool
 use Rattle.tws_tool.specs.Address.{Locates}
 use Rattle.tws_tool.specs.Commands.Put.{PutFails, PutRan, Puts}
 use Rattle.tws_tool.proofs.Sending.{put_ran}

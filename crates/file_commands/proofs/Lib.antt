@@ -1,0 +1,6 @@
+pub mod Taking
+pub mod Statuses
+pub mod Collecting
+pub mod Paging
+pub mod Comparing
+pub mod Given

@@ -1,0 +1,49 @@
+-- The command `without`.
+use Rattle.std.specs.Prelude.{◌≡◌, ◌⊎◌, ℕ, true, List, Option, Some, None, string_bytes, codes}
+use Rattle.clap.specs.Words.{App, Row, Rule, Text, first_of, new_app, new_rule, with_rule}
+use Rattle.clap.specs.declared.builder.value_parser.ValueParser.TheVariants as parser
+use Rattle.tws_compare.specs.Password.{IsShown}
+use Rattle.tws_compare.specs.Without.{text_without}
+use Rattle.file_commands.specs.declared.without.WithoutArguments.{WithoutArguments}
+use Rattle.file_commands.specs.Arguments.{HasSource, IsNumberUpTo, source_rule}
+use Rattle.file_commands.specs.Written.{RanFrom}
+
+abbrev pub without_name : Text
+without_name = codes "without"
+
+-- `LEVEL`
+abbrev pub level_rule : Rule
+level_rule = record (new_rule (codes "level")) { value_names = 1; parser = Some (parser.Unsigned 1 65535); required = true }
+
+-- `PASSWORD`
+abbrev pub password_rule : Rule
+password_rule = record (new_rule (codes "password")) { value_names = 1; required = true }
+
+-- `without LEVEL PASSWORD [FILE]`
+abbrev pub without_app : App
+without_app = with_rule (with_rule (with_rule (new_app without_name) level_rule) password_rule) source_rule
+
+-- what was given is a level's number
+abbrev pub IsLevel : Option Text → ℕ → Type 0
+IsLevel (Some text) number = IsNumberUpTo 65535 text number
+IsLevel None number = ⊥
+
+-- what was found for its arguments
+pub record AsksForWithout (rows : List Row) (arguments : WithoutArguments) : Type 0 where
+  pub level_is : IsLevel (first_of level_rule.id rows) arguments.level
+  pub password_is : first_of password_rule.id rows ≡ Some (string_bytes arguments.password)
+  pub source_is : HasSource rows arguments.source
+
+-- the text is no password, and nothing was read or written
+pub record HasNoPassword (Unread : Type 0) (text : Text) (status : ℕ) (old new : Option (List ℕ)) : Type 0 where
+  pub none : (password : List ℕ) → IsShown text password → ⊥
+  pub status_is : status ≡ 1
+  pub unread : Unread
+  pub unwritten : new ≡ old
+
+-- What it did, by the exit status, given what is known of the bytes of the file with each name, and what holds if
+-- standard input was not read: what standard input had and has left, and the output before and after.
+abbrev pub WithoutRan : (bytes_of : List ℕ → Option (List ℕ)) → (Unread : Type 0) → WithoutArguments → (status : ℕ) → (known left old new : Option (List ℕ)) → Type 0
+WithoutRan bytes_of Unread arguments status known left old new =
+    ((password : List ℕ) × IsShown (string_bytes arguments.password) password × RanFrom arguments.source bytes_of Unread (text_without (record { number = arguments.level; password = password })) status known left old new)
+    ⊎ HasNoPassword Unread (string_bytes arguments.password) status old new

@@ -1,0 +1,153 @@
+//! The arguments that several commands share, and what was given for an argument.
+
+ghost use Rattle.std.specs.Prelude.{◌≡◌, ◌≢◌, ℕ, false, Some, None, IfOk, IfSome, IfNone, map, option_map, string_bytes, codes};
+ghost use Rattle.clap.specs.Matches.{found_of};
+ghost use Rattle.clap.specs.declared.builder.command.Command.TheViews.{out-Command};
+ghost use Rattle.clap.specs.Words.{app_of, new_app, rows_of, rule_of, first_of};
+ghost use Rattle.tws_file.specs.Listing.{ruleset_name};
+ghost use Rattle.file_commands.specs.Arguments.{AreRulesetNames, Answers, HasFiles, HasRuleset, HasSource, IsNumberUpTo, files_rule, ruleset_rule, source_rule};
+
+use crate::source::Source;
+use clap::builder::ValueParser;
+use clap::{Arg, ArgMatches, Command};
+use std::alloc::{AllocError, Global};
+use tws_file::Ruleset;
+
+const RULESETS: [&str; 2] = ["lynx", "ms"];
+
+/// The names of the rulesets.
+pub fn ruleset_names() -> &'static [&'static str]
+    ensures { AreRulesetNames result }
+{
+    &RULESETS
+}
+
+/// A command without arguments: what its help begins and ends with.
+pub fn new_command<'a>(alloc: Global, name: &'a str, about: &'a str, more: &'a str) -> Command<'a>
+    ensures app { app_of result ≡ new_app name.now }
+    ensures local { (out-Command result).has_globals ≡ false }
+{
+    Command::new(alloc, name).about(about).after_help(more)
+}
+
+// ---- the arguments
+
+/// `RULESET`, with these names of the rulesets.
+pub fn ruleset_argument<'a>(alloc: Global, names: &'a [&'a str]) -> Arg<'a>
+    ensures rule { rule_of result ≡ ruleset_rule names.entry }
+    ensures local { result.global ≡ false }
+{
+    Arg::new(alloc, "ruleset")
+        .value_name("RULESET")
+        .value_parser(ValueParser::Names(names))
+        .required(true)
+        .help("The rules that the solutions were played by")
+}
+
+/// `[FILE]`: the one input of a command.
+pub(crate) fn source_argument<'a>(alloc: Global) -> Arg<'a>
+    ensures rule { rule_of result ≡ source_rule }
+    ensures local { result.global ≡ false }
+{
+    Arg::new(alloc, "file").value_name("FILE").help(
+        "The solution file; standard input if none is given, or if it is -",
+    )
+}
+
+/// `FILE..`: the inputs of a command.
+pub(crate) fn files_argument<'a>(alloc: Global) -> Arg<'a>
+    ensures rule { rule_of result ≡ files_rule }
+    ensures local { result.global ≡ false }
+{
+    Arg::new(alloc, "files")
+        .value_name("FILE")
+        .num_args(1..)
+        .required(true)
+        .help("The solution files")
+}
+
+// ---- what was given
+
+/// The text that was given for this argument, if any.
+pub fn text_given<'a>(words: &ArgMatches<'a>, name: &str) -> Option<&'a str>
+    ensures some { IfSome result (λ text. first_of name.now (rows_of (found_of words.now)) ≡ Some text.now) }
+    ensures none { IfNone result (first_of name.now (rows_of (found_of words.now)) ≡ None) }
+{
+    words.get_str(name)
+}
+
+/// A copy of the text that was given for this argument, if any.
+pub fn string_given(
+    alloc: Global,
+    words: &ArgMatches,
+    name: &str,
+) -> Result<Option<String>, AllocError>
+    ensures { IfOk result (λ text. option_map string_bytes text ≡ first_of name.now (rows_of (found_of words.now))) }
+{
+    match text_given(words, name) {
+        Some(text) => Ok(Some(String::from_str(alloc, text)?)),
+        None => Ok(None),
+    }
+}
+
+/// Where the one input is to be read from.
+pub(crate) fn source_given(alloc: Global, words: &ArgMatches) -> Result<Source, AllocError>
+    ensures { IfOk result (HasSource (rows_of (found_of words.now))) }
+{
+    match text_given(words, "file") {
+        None => Ok(Source::Standard),
+        Some("-") => Ok(Source::Standard),
+        Some(name) => Ok(Source::Named(String::from_str(alloc, name)?)),
+    }
+}
+
+// Copies of the texts.
+fn copied(alloc: Global, texts: &[&str]) -> Result<Vec<String>, AllocError>
+    ensures { IfOk result (λ copies. map string_bytes copies.items ≡ map (λ text. text.now) texts.now) }
+{
+    let mut copies = Vec::new(alloc);
+    for text in texts {
+        copies.push(String::from_str(alloc, text)?)?;
+    }
+    Ok(copies)
+}
+
+/// The names of the files that were given, in order.
+pub(crate) fn files_given(alloc: Global, words: &ArgMatches) -> Result<Vec<String>, AllocError>
+    ensures { IfOk result (λ files. HasFiles (rows_of (found_of words.now)) (map string_bytes files.items)) }
+{
+    copied(alloc, words.get_raw("files").unwrap_or(&[]))
+}
+
+/// Parses a number from 1 to `most`.
+pub fn number_up_to(text: &str, most: u64) -> Option<u64>
+    ensures some { IfSome result (IsNumberUpTo most text.now) }
+    ensures none { IfNone result ((n : ℕ) → IsNumberUpTo most text.now n → ⊥) }
+{
+    match text.parse::<u64>() {
+        Ok(number) if 1 <= number && number <= most => Some(number),
+        _ => None,
+    }
+}
+
+// The ruleset with this name.
+fn ruleset_of(name: &str) -> Option<Ruleset>
+    ensures some { IfSome result (λ «ruleset». name.now ≡ ruleset_name «ruleset») }
+    ensures none { IfNone result ((«ruleset» : Ruleset) → name.now ≢ ruleset_name «ruleset») }
+{
+    match name {
+        "lynx" => Some(Ruleset::Lynx),
+        "ms" => Some(Ruleset::Ms),
+        _ => None,
+    }
+}
+
+/// The ruleset that was given; `None` if there is none of its name.
+pub fn ruleset_given(words: &ArgMatches) -> Option<Ruleset>
+    ensures { Answers (HasRuleset (rows_of (found_of words.now))) result }
+{
+    match text_given(words, "ruleset") {
+        Some(name) => ruleset_of(name),
+        None => None,
+    }
+}

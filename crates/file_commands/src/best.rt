@@ -1,0 +1,128 @@
+//! The command `best`: the best solutions of several files.
+
+ghost use Rattle.std.specs.Prelude.{◌≡◌, ◌≢◌, false, map, OnOk, IfOk, IfErr};
+ghost use Rattle.std.specs.List.{AllByRecursion};
+ghost use Rattle.std.specs.Io.KnownBytes.{IsAtEnd};
+ghost use Rattle.clap.specs.Matches.{found_of};
+ghost use Rattle.clap.specs.Words.{app_of, rows_of};
+ghost use Rattle.clap.specs.declared.builder.command.Command.TheViews.{out-Command};
+ghost use Rattle.file_commands.specs.Arguments.{Answers};
+ghost use Rattle.file_commands.specs.Best.{AsksForBest, Collects, CollectFails, AreReadOut, BestWrites, BestFails, BestRan, best_app};
+
+use crate::arguments::{files_argument, files_given, new_command, ruleset_argument, ruleset_given};
+use crate::file_system::{FileSystem, NotOpened, open_all};
+use crate::input::read_input;
+use crate::reporting::{finish, report, report_file};
+use crate::tool_fault::ToolFault;
+use clap::{ArgMatches, Command};
+use std::alloc::{AllocError, Global};
+use std::io::{Read, Write};
+use tws_best::Collection;
+use tws_file::Ruleset;
+
+/// What `best` is asked for.
+#[derive(Drop)]
+pub struct BestArguments {
+    /// Of files of this ruleset.
+    pub ruleset: Ruleset,
+    /// The names of the files.
+    pub files: Vec<String>,
+}
+
+// What the help of the command begins and ends with.
+const ABOUT: &str = "Write the best solution of each level of several files";
+
+const HELP: &str =
+    "The best has the fewest ticks. The collection goes to standard output.\n\nExample: tws best lynx mine.tws yours.tws > best.tws";
+
+/// The command, as `clap` reads it, with these names of the rulesets.
+pub fn command<'a>(alloc: Global, names: &'a [&'a str]) -> Result<Command<'a>, AllocError>
+    ensures app { IfOk result (λ command. app_of command ≡ best_app names.entry) }
+    ensures local { IfOk result (λ command. (out-Command command).has_globals ≡ false) }
+{
+    new_command(alloc, "best", ABOUT, HELP)
+        .arg(ruleset_argument(alloc, names))?
+        .arg(files_argument(alloc))
+}
+
+/// What the arguments ask for; `None` if the ruleset is unknown.
+pub fn asked(alloc: Global, words: &ArgMatches) -> Result<Option<BestArguments>, AllocError>
+    ensures { IfOk result (Answers (AsksForBest (rows_of (found_of words.now)))) }
+{
+    let Some(ruleset) = ruleset_given(words) else {
+        return Ok(None);
+    };
+    let files = files_given(alloc, words)?;
+    Ok(Some(BestArguments { ruleset, files }))
+}
+
+// The collection over all inputs, each of which is read to its end.
+fn collect<R: Read>(
+    alloc: Global,
+    ruleset: Ruleset,
+    files: &mut [R],
+) -> Result<Collection, ToolFault>
+    ensures end { OnOk result (AllByRecursion (λ file. IsAtEnd (R.remaining file)) files.new) }
+    ensures collected { IfOk result (Collects «ruleset» (map (λ file. R.remaining file) files.old)) }
+    ensures fails { IfErr result (CollectFails (map (λ file. R.remaining file) files.old)) }
+    ensures unreadable { IfErr result (AreReadOut (λ file. R.remaining file) files.new) }
+{
+    let mut collection = Collection::new(alloc, ruleset);
+    for index in 0..files.len() {
+        let file = read_input(alloc, index, &mut files[index])?;
+        collection.merge(&file)?;
+    }
+    Ok(collection)
+}
+
+/// Reads solution files to their ends, in order, and writes the collection of the best solutions in those of this
+/// ruleset.
+///
+/// # Errors
+///
+/// The first input that fails decides. `Read` if it fails or does not end within `INPUT_READS` reads, and `Unreadable`
+/// with its number, counted from 0, and the fault of its bytes: then nothing was written. `Write` if the writer fails:
+/// then a proper prefix of the collection's text was written. `Memory` if an allocation was refused: then nothing was
+/// written.
+pub fn run_best<R: Read, W: Write>(
+    alloc: Global,
+    ruleset: Ruleset,
+    files: &mut [R],
+    out: &mut W,
+) -> Result<(), ToolFault>
+    ensures end { OnOk result (AllByRecursion (λ file. IsAtEnd (R.remaining file)) files.new) }
+    ensures collected { OnOk result (BestWrites «ruleset» (map (λ file. R.remaining file) files.old) (W.contents out.old) (W.contents out.new)) }
+    ensures fails { IfErr result (BestFails «ruleset» (map (λ file. R.remaining file) files.old) (W.contents out.old) (W.contents out.new)) }
+    ensures unreadable { IfErr result (AreReadOut (λ file. R.remaining file) files.new) }
+    // Holds also for a writer without ghost contents.
+    ensures unwritten { IfErr result (λ e. e ≢ ToolFault.Write → out.new ≡ out.old) }
+{
+    let collection = collect(alloc, ruleset, files)?;
+    collection.write_text(out)?;
+    Ok(())
+}
+
+/// Runs `best` over the files of these names, and returns the status.
+pub fn run<S: FileSystem, W: Write, E: Write>(
+    system: &S,
+    alloc: Global,
+    arguments: &BestArguments,
+    out: &mut W,
+    errors: &mut E,
+) -> u8
+    ensures ran { BestRan (S.bytes_of system.now) arguments.now result (W.contents out.old) (W.contents out.new) }
+    ensures unreadable { result ≡ 3 → out.new ≡ out.old }
+    ensures silent { result ≡ 0 → errors.new ≡ errors.old }
+{
+    let names = &arguments.files;
+    match open_all(system, alloc, names) {
+        Ok(mut files) => {
+            let done = run_best(alloc, arguments.ruleset, &mut files, out);
+            finish(done, names, errors)
+        }
+        Err(NotOpened::Memory) => report(ToolFault::Memory, &[], errors),
+        Err(NotOpened::File { index, cause }) => {
+            report_file(ToolFault::Read, names[index].as_str(), &cause, errors)
+        }
+    }
+}

@@ -1,0 +1,246 @@
+//! The command `compare`: two solution files compared, or what is better in the first.
+
+ghost use Rattle.std.specs.Prelude.{◌≡◌, ◌≢◌, true, false, Ok, OnOk, IfOk, IfErr};
+ghost use Rattle.std.specs.Io.KnownBytes.{IsAtEnd};
+ghost use Rattle.clap.specs.Matches.{found_of};
+ghost use Rattle.clap.specs.Words.{app_of, rows_of, rule_of};
+ghost use Rattle.clap.specs.declared.builder.command.Command.TheViews.{out-Command};
+ghost use Rattle.file_commands.specs.Arguments.{Answers};
+ghost use Rattle.file_commands.specs.Compare.{AsksToCompare, CompareFails, CompareRan, Compares, ComparesFiles, FilesFail, compare_app, compare_status, mine_rule, theirs_rule};
+ghost use Rattle.file_commands.specs.Faults.{status_of};
+
+use crate::arguments::{new_command, string_given};
+use crate::file_system::FileSystem;
+use crate::input::read_input;
+use crate::reporting::{report, report_file};
+use crate::status::{DONE, USAGE};
+use crate::tool_fault::ToolFault;
+use byte_output::put;
+use clap::{Arg, ArgAction, ArgMatches, Command};
+use std::alloc::{AllocError, Global};
+use std::io::{Read, Write};
+use std::slice;
+use tws_compare::{CompareFault, better, compare, comparison_text};
+use tws_file::TwsFile;
+
+/// What `compare` is asked for.
+#[derive(Drop)]
+pub struct CompareArguments {
+    /// The name of my file.
+    pub mine: String,
+    /// The name of theirs.
+    pub theirs: String,
+    /// For the collection of what is better in mine, and not for the comparison.
+    pub better: bool,
+}
+
+fn mine_argument<'a>(alloc: Global) -> Arg<'a>
+    ensures rule { rule_of result ≡ mine_rule }
+    ensures local { result.global ≡ false }
+{
+    Arg::new(alloc, "mine")
+        .value_name("MINE")
+        .required(true)
+        .help("Your solution file")
+}
+
+fn theirs_argument<'a>(alloc: Global) -> Arg<'a>
+    ensures rule { rule_of result ≡ theirs_rule }
+    ensures local { result.global ≡ false }
+{
+    Arg::new(alloc, "theirs")
+        .value_name("THEIRS")
+        .required(true)
+        .help("The solution file to compare it with")
+}
+
+// What the help of the command begins and ends with.
+const ABOUT: &str = "Compare the best solutions of two solution files";
+
+const HELP: &str =
+    "Writes a line for each level number and password, and one with their counts.\n\nExample: tws compare mine.tws lynx.tws";
+
+/// The command, as `clap` reads it.
+pub fn command<'a>(alloc: Global) -> Result<Command<'a>, AllocError>
+    ensures app { IfOk result (λ command. app_of command ≡ compare_app) }
+    ensures local { IfOk result (λ command. (out-Command command).has_globals ≡ false) }
+{
+    let better = Arg::new(alloc, "better")
+        .long("better")
+        .action(ArgAction::SetTrue)
+        .help("Write your solutions that are better or new, as a solution file");
+    new_command(alloc, "compare", ABOUT, HELP)
+        .arg(mine_argument(alloc))?
+        .arg(theirs_argument(alloc))?
+        .arg(better)
+}
+
+/// What the arguments ask for; `None` if a file has no name.
+pub fn asked(alloc: Global, words: &ArgMatches) -> Result<Option<CompareArguments>, AllocError>
+    ensures { IfOk result (Answers (AsksToCompare (rows_of (found_of words.now)))) }
+{
+    let Some(mine) = string_given(alloc, words, "mine")? else {
+        return Ok(None);
+    };
+    let Some(theirs) = string_given(alloc, words, "theirs")? else {
+        return Ok(None);
+    };
+    let better = words.get_flag("better");
+    Ok(Some(CompareArguments {
+        mine,
+        theirs,
+        better,
+    }))
+}
+
+// Writes the comparison of two files. Returns whether they are of one ruleset.
+fn write_comparison<W: Write>(
+    alloc: Global,
+    mine: &TwsFile,
+    theirs: &TwsFile,
+    out: &mut W,
+) -> Result<bool, ToolFault>
+    ensures compared { IfOk result (ComparesFiles false mine.now theirs.now (W.contents out.old) (W.contents out.new)) }
+    ensures fails { IfErr result (FilesFail false mine.now theirs.now (W.contents out.old) (W.contents out.new)) }
+    ensures unwritten { IfErr result (λ e. e ≢ ToolFault.Write → out.new ≡ out.old) }
+    ensures other { result ≡ Ok false → out.new ≡ out.old }
+{
+    match compare(alloc, mine, theirs) {
+        Ok(rows) => {
+            let text = comparison_text(alloc, &rows)?;
+            put(out, text.as_bytes())?;
+            Ok(true)
+        }
+        Err(CompareFault::Rulesets) => Ok(false),
+        Err(CompareFault::Memory) => Err(ToolFault::Memory),
+    }
+}
+
+// Writes the collection of what is better in mine. Returns whether the files are of one ruleset.
+fn write_better<W: Write>(
+    alloc: Global,
+    mine: TwsFile,
+    theirs: &TwsFile,
+    out: &mut W,
+) -> Result<bool, ToolFault>
+    ensures compared { IfOk result (ComparesFiles true mine theirs.now (W.contents out.old) (W.contents out.new)) }
+    ensures fails { IfErr result (FilesFail true mine theirs.now (W.contents out.old) (W.contents out.new)) }
+    ensures unwritten { IfErr result (λ e. e ≢ ToolFault.Write → out.new ≡ out.old) }
+    ensures other { result ≡ Ok false → out.new ≡ out.old }
+{
+    match better(alloc, mine, theirs) {
+        Ok(collection) => {
+            collection.write_text(out)?;
+            Ok(true)
+        }
+        Err(CompareFault::Rulesets) => Ok(false),
+        Err(CompareFault::Memory) => Err(ToolFault::Memory),
+    }
+}
+
+// Writes what is asked for of two files. Returns whether they are of one ruleset.
+fn write_compared<W: Write>(
+    alloc: Global,
+    is_better: bool,
+    mine: TwsFile,
+    theirs: &TwsFile,
+    out: &mut W,
+) -> Result<bool, ToolFault>
+    ensures compared { IfOk result (ComparesFiles is_better mine theirs.now (W.contents out.old) (W.contents out.new)) }
+    ensures fails { IfErr result (FilesFail is_better mine theirs.now (W.contents out.old) (W.contents out.new)) }
+    ensures unwritten { IfErr result (λ e. e ≢ ToolFault.Write → out.new ≡ out.old) }
+    ensures other { result ≡ Ok false → out.new ≡ out.old }
+{
+    if is_better {
+        write_better(alloc, mine, theirs, out)
+    } else {
+        write_comparison(alloc, &mine, theirs, out)
+    }
+}
+
+/// Reads two solution files to their ends, mine first, and writes their comparison, or the collection of what is better
+/// in mine. Returns whether they are of one ruleset; if not, nothing was written.
+///
+/// # Errors
+///
+/// `Read` if a reader fails or does not end within `INPUT_READS` reads, `Unreadable` with the number of the first input
+/// that is no solution file, 0 for mine and 1 for theirs, and its fault, and `Memory` if an allocation was refused: then
+/// nothing was written. `Write` if the writer fails: then a proper prefix of the text was written.
+pub fn run_compare<R: Read, W: Write>(
+    alloc: Global,
+    is_better: bool,
+    mine: &mut R,
+    theirs: &mut R,
+    out: &mut W,
+) -> Result<bool, ToolFault>
+    ensures end { OnOk result (IsAtEnd (R.remaining mine.new) × IsAtEnd (R.remaining theirs.new)) }
+    ensures compared { IfOk result (Compares is_better (R.remaining mine.old) (R.remaining theirs.old) (W.contents out.old) (W.contents out.new)) }
+    ensures fails { IfErr result (CompareFails is_better (R.remaining mine.old) (R.remaining theirs.old) (W.contents out.old) (W.contents out.new)) }
+    // Hold also for a writer without ghost contents.
+    ensures unwritten { IfErr result (λ e. e ≢ ToolFault.Write → out.new ≡ out.old) }
+    ensures other { result ≡ Ok false → out.new ≡ out.old }
+{
+    let mine = read_input(alloc, 0, mine)?;
+    let theirs = read_input(alloc, 1, theirs)?;
+    write_compared(alloc, is_better, mine, &theirs, out)
+}
+
+// Reports why the files were not compared, and returns the status. The input at fault is one of the two.
+fn report_input<E: Write>(fault: ToolFault, arguments: &CompareArguments, errors: &mut E) -> u8
+    ensures { result ≡ status_of fault }
+{
+    match fault {
+        ToolFault::Unreadable { index: 1, fault } => {
+            let first = ToolFault::Unreadable { index: 0, fault };
+            report(first, slice::from_ref(&arguments.theirs), errors)
+        }
+        fault => report(fault, slice::from_ref(&arguments.mine), errors),
+    }
+}
+
+// Reports that the files are of different rulesets, and returns the status.
+fn other_rulesets<E: Write>(errors: &mut E) -> u8
+    ensures { result ≡ 1 }
+{
+    let _ = writeln!(errors, "tws: different rulesets");
+    USAGE
+}
+
+// Reports why the files were not compared, if they were not, and returns the status.
+fn end<E: Write>(done: Result<bool, ToolFault>, arguments: &CompareArguments, errors: &mut E) -> u8
+    ensures status { result ≡ compare_status done }
+    ensures silent { result ≡ 0 → errors.new ≡ errors.old }
+{
+    match done {
+        Ok(true) => DONE,
+        Ok(false) => other_rulesets(errors),
+        Err(fault) => report_input(fault, arguments, errors),
+    }
+}
+
+/// Runs `compare` over the files of these names, and returns the status.
+pub fn run<S: FileSystem, W: Write, E: Write>(
+    system: &S,
+    alloc: Global,
+    arguments: &CompareArguments,
+    out: &mut W,
+    errors: &mut E,
+) -> u8
+    ensures ran { CompareRan (S.bytes_of system.now) arguments.now result (W.contents out.old) (W.contents out.new) }
+    ensures usage { result ≡ 1 → out.new ≡ out.old }
+    ensures unreadable { result ≡ 3 → out.new ≡ out.old }
+    ensures silent { result ≡ 0 → errors.new ≡ errors.old }
+{
+    let mut mine = match system.open(arguments.mine.as_str()) {
+        Ok(file) => file,
+        Err(cause) => return report_file(ToolFault::Read, arguments.mine.as_str(), &cause, errors),
+    };
+    let mut theirs = match system.open(arguments.theirs.as_str()) {
+        Ok(file) => file,
+        Err(cause) => {
+            return report_file(ToolFault::Read, arguments.theirs.as_str(), &cause, errors);
+        }
+    };
+    let done = run_compare(alloc, arguments.better, &mut mine, &mut theirs, out);
+    end(done, arguments, errors)
+}

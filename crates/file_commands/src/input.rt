@@ -1,0 +1,42 @@
+//! A whole input, up to its end.
+
+ghost use Rattle.std.specs.Prelude.{IfOk, IfErr};
+ghost use Rattle.file_commands.specs.Faults.{ReadFails, IsReadOut};
+ghost use Rattle.file_commands.specs.Inputs.{IsRead};
+
+use crate::tool_fault::ToolFault;
+use std::alloc::Global;
+use std::io::Read;
+use tws_file::{FileFault, Reader, TwsFile};
+
+/// How often one input is read at most. An input has ended once a read returned no bytes, even the last one allowed.
+pub const INPUT_READS: u32 = 1 << 26;
+
+// Reads the solution file in the input with this index. A fault of its bytes is returned once it was read to its end.
+pub(crate) fn read_input<R: Read>(
+    alloc: Global,
+    index: usize,
+    input: &mut R,
+) -> Result<TwsFile, ToolFault>
+    ensures file { IfOk result (IsRead (R.remaining input.old) (R.remaining input.new)) }
+    ensures unreadable { IfErr result (IsReadOut (R.remaining input.new)) }
+    ensures fault { IfErr result (ReadFails index (R.remaining input.old)) }
+{
+    let mut reader = Reader::new(alloc);
+    let mut piece = [0; 1 << 16];
+    for _ in 0..INPUT_READS {
+        let Ok(count) = input.read(&mut piece) else {
+            return Err(ToolFault::Read);
+        };
+        if count == 0 {
+            return reader
+                .finish()
+                .map_err(|fault| ToolFault::of_input(index, fault));
+        }
+        // The reader keeps any other fault.
+        if reader.push(&piece[..count]) == Err(FileFault::Memory) {
+            return Err(ToolFault::Memory);
+        }
+    }
+    Err(ToolFault::Read)
+}

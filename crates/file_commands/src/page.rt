@@ -1,0 +1,116 @@
+//! The command `page`: the solutions of several files as a page of HTML.
+
+ghost use Rattle.std.specs.Prelude.{◌≡◌, false, map, OnOk, IfOk, IfErr};
+ghost use Rattle.std.specs.List.{AllByRecursion};
+ghost use Rattle.std.specs.Io.KnownBytes.{IsAtEnd};
+ghost use Rattle.clap.specs.Matches.{found_of};
+ghost use Rattle.clap.specs.Words.{app_of, rows_of};
+ghost use Rattle.clap.specs.declared.builder.command.Command.TheViews.{out-Command};
+ghost use Rattle.file_commands.specs.Best.{AreReadOut, CollectFails};
+ghost use Rattle.file_commands.specs.Page.{AreFiles, AsksForPage, PageFails, PageRan, PageWrites, page_app};
+ghost use Rattle.file_commands.specs.Faults.{IsBeforeOutput};
+
+use crate::arguments::{files_argument, files_given, new_command};
+use crate::file_system::{FileSystem, NotOpened, open_all};
+use crate::input::read_input;
+use crate::reporting::{finish, report, report_file};
+use crate::tool_fault::ToolFault;
+use clap::{ArgMatches, Command};
+use std::alloc::{AllocError, Global};
+use std::io::{Read, Write};
+use tws_file::TwsFile;
+use tws_tables::write_page;
+
+/// What `page` is asked for.
+#[derive(Drop)]
+pub struct PageArguments {
+    /// The names of the files.
+    pub files: Vec<String>,
+}
+
+// What the help of the command begins and ends with.
+const ABOUT: &str = "Write the solutions of several files as a page of HTML";
+
+const HELP: &str =
+    "The page needs no other file. It goes to standard output.\n\nExample: tws page lynx.tws ms.tws > best.html";
+
+/// The command, as `clap` reads it.
+pub fn command<'a>(alloc: Global) -> Result<Command<'a>, AllocError>
+    ensures app { IfOk result (λ command. app_of command ≡ page_app) }
+    ensures local { IfOk result (λ command. (out-Command command).has_globals ≡ false) }
+{
+    new_command(alloc, "page", ABOUT, HELP).arg(files_argument(alloc))
+}
+
+/// What the arguments ask for.
+pub fn asked(alloc: Global, words: &ArgMatches) -> Result<PageArguments, AllocError>
+    ensures { IfOk result (AsksForPage (rows_of (found_of words.now))) }
+{
+    let files = files_given(alloc, words)?;
+    Ok(PageArguments { files })
+}
+
+// The solution files in all inputs, each of which is read to its end.
+fn read_all<R: Read>(alloc: Global, inputs: &mut [R]) -> Result<Vec<TwsFile>, ToolFault>
+    ensures end { OnOk result (AllByRecursion (λ input. IsAtEnd (R.remaining input)) inputs.new) }
+    ensures read { IfOk result (λ files. AreFiles (map (λ input. R.remaining input) inputs.old) files.items) }
+    ensures fails { IfErr result (CollectFails (map (λ input. R.remaining input) inputs.old)) }
+    ensures unreadable { IfErr result (AreReadOut (λ input. R.remaining input) inputs.new) }
+{
+    let mut files = Vec::new(alloc);
+    for index in 0..inputs.len() {
+        let file = read_input(alloc, index, &mut inputs[index])?;
+        files.push(file)?;
+    }
+    Ok(files)
+}
+
+/// Reads solution files to their ends, in order, and writes the page of them.
+///
+/// # Errors
+///
+/// The first input that fails decides. `Read` if it fails or does not end within `INPUT_READS` reads, and `Unreadable`
+/// with its number, counted from 0, and the fault of its bytes: then nothing was written. `Write` if the writer fails:
+/// then a proper prefix of the page was written. `Memory` if an allocation was refused: then nothing or such a prefix was
+/// written.
+pub fn run_page<R: Read, W: Write>(
+    alloc: Global,
+    inputs: &mut [R],
+    out: &mut W,
+) -> Result<(), ToolFault>
+    ensures end { OnOk result (AllByRecursion (λ input. IsAtEnd (R.remaining input)) inputs.new) }
+    ensures written { OnOk result (PageWrites (map (λ input. R.remaining input) inputs.old) (W.contents out.old) (W.contents out.new)) }
+    ensures fails { IfErr result (PageFails (map (λ input. R.remaining input) inputs.old) (W.contents out.old) (W.contents out.new)) }
+    ensures unreadable { IfErr result (AreReadOut (λ input. R.remaining input) inputs.new) }
+    // Holds also for a writer without ghost contents.
+    ensures unwritten { IfErr result (λ e. IsBeforeOutput e → out.new ≡ out.old) }
+{
+    let files = read_all(alloc, inputs)?;
+    write_page(alloc, &files, out)?;
+    Ok(())
+}
+
+/// Runs `page` over the files of these names, and returns the status.
+pub fn run<S: FileSystem, W: Write, E: Write>(
+    system: &S,
+    alloc: Global,
+    arguments: &PageArguments,
+    out: &mut W,
+    errors: &mut E,
+) -> u8
+    ensures ran { PageRan (S.bytes_of system.now) arguments.now result (W.contents out.old) (W.contents out.new) }
+    ensures unreadable { result ≡ 3 → out.new ≡ out.old }
+    ensures silent { result ≡ 0 → errors.new ≡ errors.old }
+{
+    let names = &arguments.files;
+    match open_all(system, alloc, names) {
+        Ok(mut inputs) => {
+            let done = run_page(alloc, &mut inputs, out);
+            finish(done, names, errors)
+        }
+        Err(NotOpened::Memory) => report(ToolFault::Memory, &[], errors),
+        Err(NotOpened::File { index, cause }) => {
+            report_file(ToolFault::Read, names[index].as_str(), &cause, errors)
+        }
+    }
+}

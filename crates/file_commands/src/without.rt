@@ -1,0 +1,191 @@
+//! The command `without`: a solution file without the solutions of a level.
+
+ghost use Rattle.std.specs.Prelude.{◌≡◌, ◌≢◌, false, OnOk, IfOk, IfErr};
+ghost use Rattle.std.specs.Io.KnownBytes.{IsAtEnd};
+ghost use Rattle.clap.specs.Matches.{found_of};
+ghost use Rattle.clap.specs.Words.{app_of, first_of, rows_of, rule_of};
+ghost use Rattle.clap.specs.declared.builder.command.Command.TheViews.{out-Command};
+ghost use Rattle.tws_compare.specs.Without.{text_without};
+ghost use Rattle.file_commands.specs.Arguments.{Answers};
+ghost use Rattle.file_commands.specs.Without.{AsksForWithout, IsLevel, WithoutRan, level_rule, password_rule, without_app};
+ghost use Rattle.file_commands.specs.Faults.{IsReadOut};
+ghost use Rattle.file_commands.specs.Written.{RanFrom, Writes, WriteFails};
+
+use crate::arguments::{
+    new_command, number_up_to, source_argument, source_given, string_given, text_given,
+};
+use crate::file_system::FileSystem;
+use crate::input::read_input;
+use crate::reporting::{finish, report_file};
+use crate::source::Source;
+use crate::status::USAGE;
+use crate::tool_fault::ToolFault;
+use clap::builder::ValueParser;
+use clap::{Arg, ArgMatches, Command};
+use std::alloc::{AllocError, Global};
+use std::io::{Read, Write};
+use std::slice;
+use tws_compare::{password_shown, without};
+use tws_file::{Key, write_file};
+
+/// What `without` is asked for.
+#[derive(Drop)]
+pub struct WithoutArguments {
+    /// The number of the level whose solutions are left out.
+    pub level: u16,
+    /// Its password, as it was typed.
+    pub password: String,
+    /// The solution file.
+    pub source: Source,
+}
+
+fn level_argument<'a>(alloc: Global) -> Arg<'a>
+    ensures rule { rule_of result ≡ level_rule }
+    ensures local { result.global ≡ false }
+{
+    Arg::new(alloc, "level")
+        .value_name("LEVEL")
+        .value_parser(ValueParser::Unsigned(1, u16::MAX as u64))
+        .required(true)
+        .help("The number of the level")
+}
+
+fn password_argument<'a>(alloc: Global) -> Arg<'a>
+    ensures rule { rule_of result ≡ password_rule }
+    ensures local { result.global ≡ false }
+{
+    Arg::new(alloc, "password")
+        .value_name("PASSWORD")
+        .required(true)
+        .help("The password of the level, as `tws show` prints it")
+}
+
+// What the help of the command begins and ends with.
+const ABOUT: &str = "Write a solution file without the solutions of a level";
+
+const HELP: &str =
+    "Everything else stays as it is. The file goes to standard output.\n\nExample: tws without 1 BDHP lynx.tws > mended.tws";
+
+/// The command, as `clap` reads it.
+pub fn command<'a>(alloc: Global) -> Result<Command<'a>, AllocError>
+    ensures app { IfOk result (λ command. app_of command ≡ without_app) }
+    ensures local { IfOk result (λ command. (out-Command command).has_globals ≡ false) }
+{
+    new_command(alloc, "without", ABOUT, HELP)
+        .arg(level_argument(alloc))?
+        .arg(password_argument(alloc))?
+        .arg(source_argument(alloc))
+}
+
+// The number of the level that was given; `None` if it is none.
+fn level_given(words: &ArgMatches) -> Option<u16>
+    ensures { Answers (IsLevel (first_of level_rule.id (rows_of (found_of words.now)))) result }
+{
+    let text = text_given(words, "level")?;
+    let number = number_up_to(text, u16::MAX as u64)?;
+    Some(number as u16)
+}
+
+/// What the arguments ask for; `None` if the number of the level is out of range.
+pub fn asked(alloc: Global, words: &ArgMatches) -> Result<Option<WithoutArguments>, AllocError>
+    ensures { IfOk result (Answers (AsksForWithout (rows_of (found_of words.now)))) }
+{
+    let Some(level) = level_given(words) else {
+        return Ok(None);
+    };
+    let Some(password) = string_given(alloc, words, "password")? else {
+        return Ok(None);
+    };
+    let source = source_given(alloc, words)?;
+    Ok(Some(WithoutArguments {
+        level,
+        password,
+        source,
+    }))
+}
+
+/// Reads a solution file to its end, and writes it without the solutions of a level.
+///
+/// # Errors
+///
+/// `Read` if the reader fails or does not end within `INPUT_READS` reads, and `Unreadable` with index 0 and the fault
+/// of the bytes: then nothing was written. `Write` if the writer fails: then a proper prefix of the file was written.
+/// `Memory` if an allocation was refused: then nothing was written.
+pub fn run_without<R: Read, W: Write>(
+    alloc: Global,
+    key: Key,
+    input: &mut R,
+    out: &mut W,
+) -> Result<(), ToolFault>
+    ensures end { OnOk result (IsAtEnd (R.remaining input.new)) }
+    ensures unreadable { IfErr result (IsReadOut (R.remaining input.new)) }
+    ensures left { OnOk result (Writes (text_without key) (R.remaining input.old) (W.contents out.old) (W.contents out.new)) }
+    ensures fails { IfErr result (WriteFails (text_without key) (R.remaining input.old) (W.contents out.old) (W.contents out.new)) }
+    // Holds also for a writer without ghost contents.
+    ensures unwritten { IfErr result (λ e. e ≢ ToolFault.Write → out.new ≡ out.old) }
+{
+    let file = read_input(alloc, 0, input)?;
+    let left = without(key, file);
+    write_file(&left, out)?;
+    Ok(())
+}
+
+// Does the same with the input of this source, and returns the status.
+fn run_from<S: FileSystem, R: Read, W: Write, E: Write>(
+    system: &S,
+    alloc: Global,
+    key: Key,
+    source: &Source,
+    input: &mut R,
+    out: &mut W,
+    errors: &mut E,
+) -> u8
+    ensures ran { RanFrom source.now (S.bytes_of system.now) (input.new ≡ input.old) (text_without key) result (R.remaining input.old) (R.remaining input.new) (W.contents out.old) (W.contents out.new) }
+    ensures usage { result ≢ 1 }
+    ensures unreadable { result ≡ 3 → out.new ≡ out.old }
+    ensures silent { result ≡ 0 → errors.new ≡ errors.old }
+{
+    match source {
+        Source::Standard => finish(run_without(alloc, key, input, out), &[], errors),
+        Source::Named(name) => match system.open(name.as_str()) {
+            Ok(mut file) => {
+                let done = run_without(alloc, key, &mut file, out);
+                finish(done, slice::from_ref(name), errors)
+            }
+            Err(cause) => report_file(ToolFault::Read, name.as_str(), &cause, errors),
+        },
+    }
+}
+
+// Reports a password that is none, and returns the status.
+fn bad_password<E: Write>(errors: &mut E) -> u8
+    ensures { result ≡ 1 }
+{
+    let _ = writeln!(errors, "tws: bad password");
+    USAGE
+}
+
+/// Runs `without`, and returns the status.
+pub fn run<S: FileSystem, R: Read, W: Write, E: Write>(
+    system: &S,
+    alloc: Global,
+    arguments: &WithoutArguments,
+    input: &mut R,
+    out: &mut W,
+    errors: &mut E,
+) -> u8
+    ensures ran { WithoutRan (S.bytes_of system.now) (input.new ≡ input.old) arguments.now result (R.remaining input.old) (R.remaining input.new) (W.contents out.old) (W.contents out.new) }
+    ensures usage { result ≡ 1 → (input.new ≡ input.old) × (out.new ≡ out.old) }
+    ensures unreadable { result ≡ 3 → out.new ≡ out.old }
+    ensures silent { result ≡ 0 → errors.new ≡ errors.old }
+{
+    let source = &arguments.source;
+    match password_shown(arguments.password.as_str()) {
+        Some(password) => {
+            let number = arguments.level;
+            let key = Key { number, password };
+            run_from(system, alloc, key, source, input, out, errors)
+        }
+        None => bad_password(errors),
+    }
+}

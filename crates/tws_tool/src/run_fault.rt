@@ -1,0 +1,17 @@
+ghost use Rattle.std.specs.Prelude.{◌≡◌};
+ghost use Rattle.tws_tool.specs.Faults.{run_fault};
+
+use archive_turns::RunFault;
+use file_commands::ToolFault;
+
+/// The command's fault for a fault of a transfer.
+pub(crate) fn of_run(fault: RunFault) -> ToolFault
+    ensures { result ≡ run_fault fault }
+{
+    match fault {
+        RunFault::Socket => ToolFault::Socket,
+        RunFault::Transfer(why) => ToolFault::Transfer(why),
+        RunFault::Memory => ToolFault::Memory,
+        RunFault::Write => ToolFault::Write,
+    }
+}

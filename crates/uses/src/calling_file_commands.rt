@@ -1,0 +1,16 @@
+ghost use Rattle.std.specs.Prelude.{[], true, IfOk, Some};
+ghost use Rattle.tws_file.specs.Listing.{listing_of};
+ghost use Rattle.file_commands.specs.Written.{Writes};
+
+use file_commands::{ToolFault, run_show};
+use std::alloc::Global;
+
+/// The listing of a solution file, with a line for each move.
+pub fn listing(alloc: Global, bytes: &[u8]) -> Result<Vec<u8>, ToolFault>
+    ensures { IfOk result (λ text. Writes (listing_of true) (Some bytes.now) (Some []) (Some text.items)) }
+{
+    let mut input = bytes;
+    let mut out = Vec::new(alloc);
+    run_show(alloc, &mut input, &mut out, true)?;
+    Ok(out)
+}
