@@ -33,7 +33,6 @@ mod laws;
 mod limits;
 mod line;
 mod overhearing;
-mod printable;
 mod program;
 mod reporting;
 mod reporting_keeper;
