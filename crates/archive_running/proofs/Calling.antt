@@ -13,10 +13,10 @@ use Rattle.archive_turns.specs.Turn as turns
 use Rattle.archive_turns.specs.Run.{Run, RunAnswers, run_waited, run_received, run_turn, IsRunTurn, MakesRunTurns, Runs, begin_opened, Begins, PutAfter, GetAfter, put_result, WritesGot}
 use Rattle.archive_turns.specs.Run as runs
 use Rattle.tftp_ends.specs.Ends.{Verdict}
-use Rattle.archive_theorem.specs.World.{Begun, server_endpoint}
+use Rattle.archive_model.specs.World.{Begun, server_endpoint}
 use Rattle.archive_theorem.specs.Headline.{IsOwn, AreOver}
 use Rattle.archive_theorem.specs.Traces.{Member}
-use Rattle.archive_theorem.proofs.Places.{Has, Has-extends, Has-from_contains, Has-last, Extends-push}
+use Rattle.archive_model.proofs.Places.{Has, Has-prefix, Has-from_contains, Has-last, IsPrefix-push}
 use Rattle.archive_theorem.proofs.Owning.{one_operation, same_put, same_get}
 use Rattle.archive_theorem.proofs.Endpoints.{exact_endpoint, same_endpoint}
 use Rattle.archive_theorem.proofs.Keyed.{lookup-written}
@@ -48,7 +48,7 @@ begun-stays : {a b : Archive} {added : List Member} → Moves a b added → (x :
 begun-stays (server_turns a last timers per_host new took calls now t brings) x has = has
 begun-stays (server_rounds a last timers per_host new took calls now t brings) x has = has
 begun-stays (server_restarts a maps now loaded) x has = has
-begun-stays (client_begins a host operation port replies r away is) x has = Has-extends a.begun _ x (Extends-push a.begun _) has
+begun-stays (client_begins a host operation port replies r away is) x has = Has-prefix a.begun _ x (IsPrefix-push a.begun _) has
 begun-stays (client_turns a host old new calls t away is brings) x has = has
 begun-stays (client_rounds a host pace old new calls t away is brings) x has = has
 
@@ -199,7 +199,7 @@ module _ (texts : List (List ℕ)) (maps : Maps) (host : ℕ) (away : host ≢ s
         let has = runs-begun host all (after_begun host operation r begin_calls first) last h x (Has-last first.archive.begun x) in
         let mirrors = run-mirrors texts maps over last.archive last.members there in
         let mine : Has w.begun x = subst (λ (l : List Begun). Has l x) (sym mirrors.begun) has in
-        ap (λ (y : Begun). y.operation) (one_operation w (own_endpoint host r) own b x (Has-from_contains w.begun b among) mine client refl)
+        ap (λ (y : Begun). y.operation) (one_operation w.past (own_endpoint host r) own b x (Has-from_contains w.begun b among) mine client refl)
 
     pub put-happens : (file : List ℕ) (turns : ℕ) (result : Result ℕ RunFault) (begun : Result Run RunFault)
         (b : Begins server_endpoint (put file) begun before mid)

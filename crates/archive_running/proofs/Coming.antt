@@ -11,19 +11,20 @@ use Rattle.archive_table.specs.Table.{Table, Maps, Grant, Taken, TableAnswer, Me
 use Rattle.archive_table.specs.Keeper.{Keeping}
 use Rattle.archive_client.specs.Client.{Operation, Client, client_datagram, client_timeout, is_too_long}
 use Rattle.archive_client.specs.Client as client
-use Rattle.archive_theorem.specs.World.{Datagram, World, server_endpoint, has_begun, asked_of, taken_with, after_request, after_transfer, after_client, client_receives, client_waits, begins, restarts, strays_in, AllMayHappen, MayDeliver, IsFree}
+use Rattle.archive_model.specs.World.{Datagram, World, server_endpoint, has_begun, asked_of, taken_with, after_request, after_transfer, after_client, client_receives, client_waits, begins, restarts, strays_in, AllMayHappen, MayDeliver, IsFree}
 use Rattle.archive_theorem.specs.Traces.{Member, server_waits_long, client_waits_long, starts, loads, is_same_datagram, position_after, position_of, named_in, server_comes, comes, after_deed, delivery, steps_with, member_steps, trace_from, DeedMerged}
-use Rattle.archive_theorem.proofs.Places.{Has, at-last}
+use Rattle.archive_model.proofs.Places.{Has, at-last}
 use Rattle.archive_theorem.proofs.Endpoints.{same_endpoint}
 use Rattle.archive_theorem.proofs.Remaining.{timeout_leaves, decoded_leaves}
 use Rattle.archive_theorem.proofs.Totality.{not_more, one_last}
-use Rattle.archive_theorem.proofs.Tracing.{found_at, strays_fits}
+use Rattle.archive_theorem.proofs.Tracing.{found_at}
 use Rattle.archive_running.specs.Members.{arrival, grant_for, reception, does}
 use Rattle.archive_running.specs.Archive.{Archive, IsStrangers, after_restart}
 use Rattle.archive_running.proofs.Fitting.{AllFit}
 use Rattle.archive_running.proofs.Ports.{request-apart, datagram-apart, timeout-apart}
 use Rattle.archive_running.proofs.Ended.{datagram-ends, timeout-ends}
 use Rattle.archive_running.proofs.Showing.{Shows, outs, with_answer, with_client, shows-named, shows-served, shows-restart, shows-client, shows-begin, with_begun}
+use Rattle.archive_model.proofs.Entries.{strays_fits}
 
 -- these members may happen, and then the world has what this archive has
 pub record Makes (b : Archive) (ms : List Member) (w : World) : Type 0 where

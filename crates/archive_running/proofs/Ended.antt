@@ -12,7 +12,7 @@ use Rattle.archive_client.specs.declared.state.State.{State}
 use Rattle.archive_client.specs.declared.state.State.TheVariants as state
 use Rattle.archive_client.proofs.Machine.{client_at}
 use Rattle.archive_client.specs.Client.{Phase, asking, sending, receiving, failed, Client, state_of, phase_state, recv_state, phase_file, is_phase_over, is_send_over, is_recv_over, is_over, client_input, phase_peer, client_by_input, client_unless_over, client_datagram, client_timeout, get_waited, get_sent}
-use Rattle.archive_theorem.specs.World.{newly_sent, newly_got}
+use Rattle.archive_model.specs.World.{newly_sent, newly_got}
 
 -- a file that counts as sent or is fetched after the step is newly so, or was so before
 pub record Ends (c next : Client) : Type 0 where

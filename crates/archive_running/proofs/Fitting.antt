@@ -1,6 +1,6 @@
 -- Members that may happen, one after another.
 use Rattle.std.proofs.Common.{◌≡◌, List, [], ◌∷◌, ◌++◌, refl, sym, subst}
-use Rattle.archive_theorem.specs.World.{World, run_from, AllMayHappen}
+use Rattle.archive_model.specs.World.{World, run_from, AllMayHappen}
 use Rattle.archive_theorem.specs.Traces.{Member, after_deed, trace_from, member_steps, trace_steps, DeedMerged, AllDeedsMerged}
 use Rattle.archive_theorem.proofs.Happening.{may-append}
 use Rattle.archive_theorem.proofs.Tracing.{deed_fits}

@@ -14,7 +14,7 @@ use Rattle.archive_turns.specs.declared.mode.Mode.{Mode}
 use Rattle.archive_turns.specs.declared.next.Next.{Next}
 use Rattle.archive_turns.specs.declared.next.Next.TheVariants as next
 use Rattle.archive_turns.specs.declared.timer.Timer.{Timer}
-use Rattle.archive_theorem.specs.Restarts.{HasKept, IsTextAt, HaveOwnRuleset}
+use Rattle.archive_model.specs.Restarts.{HasKept, IsTextAt, HaveOwnRuleset}
 use Rattle.archive_theorem.proofs.Loading.{step-stays_kept, loads-the_same}
 use Rattle.archive_theorem.proofs.Remaining.{decoded_leaves, timeout_leaves, found_takes}
 use Rattle.archive_running.specs.Archive.{LoadsKept}

@@ -20,12 +20,12 @@ use Rattle.archive_turns.specs.Timers.{timers_after, is_quiet, late_ports, earli
 use Rattle.archive_turns.specs.Turn.{datagram, Answers, Server, IsRound, Visited, Walk, KeepsAsked, next_asks, next_admits, next_visit, ready_next, walk_after, noted_or}
 use Rattle.archive_turns.specs.Run.{Run, RunAnswers, IsRunTurn, run_turn, Runs, begin_opened, RunsPut}
 use Rattle.archive_turns.specs.Run as runs
-use Rattle.archive_theorem.specs.World.{server_endpoint, start}
+use Rattle.archive_model.specs.World.{server_endpoint, start}
 use Rattle.archive_theorem.specs.Samples.{sample_file, sample_maps}
 use Rattle.archive_theorem.specs.Traces.{Member, starts, loads, trace_from}
 use Rattle.archive_theorem.specs.Headline.{IsOwn, HasOwnPorts}
 use Rattle.archive_theorem.proofs.Loading.{start-kept}
-use Rattle.archive_theorem.proofs.Places.{Has-contains}
+use Rattle.archive_model.proofs.Places.{Has-contains}
 use Rattle.archive_theorem.proofs.OwnTest.{own-by}
 use Rattle.archive_theorem.proofs.OwnEndpoints.{own-if}
 use Rattle.archive_theorem.proofs.SampleFiles.{sample_collected_100, hundred-first}

@@ -17,11 +17,11 @@ use Rattle.archive_turns.specs.Turn.{Replies, Receipt, datagram, nothing, fault}
 use Rattle.archive_turns.specs.Run.{Run, IsRunTurn, run_received, run_waited, begin_sized, begin_opened, put_result, WritesFetched, WritesGot}
 use Rattle.archive_turns.specs.declared.pace.Pace.{Pace}
 use Rattle.archive_turns.specs.Rounds.{RoundAnswers, round_received, round_goes, run_round, is_late, is_ready, IsRunRound}
-use Rattle.archive_theorem.specs.World.{Datagram, World, server_endpoint, start_from, start, run_from, AllMayHappen, AllMerged}
+use Rattle.archive_model.specs.World.{Datagram, World, server_endpoint, start_from, start, run_from, AllMayHappen, AllMerged}
 use Rattle.archive_theorem.specs.Headline.{IsOwn, AreOver, HasOwnPorts, ClientsHeadline, Headline, SentOnce, IsFinishedGet}
 use Rattle.archive_theorem.specs.Traces.{Member, starts, loads, trace_from, trace_steps, AllDeedsMerged}
-use Rattle.archive_theorem.specs.Restarts.{HaveOwnRuleset}
-use Rattle.archive_theorem.proofs.Places.{Has-contains, Has-from_contains}
+use Rattle.archive_model.specs.Restarts.{HaveOwnRuleset}
+use Rattle.archive_model.proofs.Places.{Has-contains, Has-from_contains}
 use Rattle.archive_theorem.proofs.Invariant.{AreBest, none-over, start_from-best}
 use Rattle.archive_theorem.proofs.Collecting.{best-collected, run_from-best}
 use Rattle.archive_theorem.proofs.Persisting.{own-ruleset}
@@ -295,14 +295,14 @@ module _ (texts : List (List ℕ)) (maps : Maps) (over : AreOver texts maps) whe
     module _ (e : Endpoint) (own : IsOwn (trace_from members first) e) (c : Client) where
       -- if its put returned Ok, its file was taken exactly once
       pub run-sent : (len n : ℕ) → lookup (is_same e) a.clients ≡ Some c → put_result (state_of c) len ≡ Ok n →
-          SentOnce (trace_from members first).begun (trace_from members first).taken e
+          SentOnce (trace_from members first).past e
       run-sent len n is ok =
           let among = run-mirrors.sent e c is (put_sent (state_of c) len n ok) in
           (run-clients.client e (run-clients.sent e among) own).sent among
 
       -- what it has fetched is the collection at one of its own requests
       finished_get : (file : List ℕ) → Contains (trace_from members first).got (record { client = e; file = file }) →
-          IsFinishedGet (trace_from members first).begun (trace_from members first).taken (trace_from members first).opened (record { client = e; file = file })
+          IsFinishedGet (trace_from members first).past (record { client = e; file = file })
       finished_get file among = (run-clients.client e (run-clients.got _ among) own).got _ among refl
 
       -- what a get writes that returns Ok is that file

@@ -20,11 +20,11 @@ use Rattle.archive_turns.specs.declared.next.Next.{Next}
 use Rattle.archive_turns.specs.Timers.{timers_after, is_quiet, late_ports}
 use Rattle.archive_turns.specs.Turn.{IsPass, Replies, datagram, Answers, Server, IsTurn, Visited, KeepsAsked, next_asks, next_admits, next_visit, turn_next, walk_after, noted}
 use Rattle.archive_turns.specs.Run.{Run, RunAnswers, run_turn, begin_opened}
-use Rattle.archive_theorem.specs.World.{Datagram, server_endpoint, start}
+use Rattle.archive_model.specs.World.{Datagram, server_endpoint, start}
 use Rattle.archive_theorem.specs.Traces.{Member, starts, trace_from}
 use Rattle.archive_theorem.specs.Headline.{HasOwnPorts}
 use Rattle.archive_theorem.proofs.Loading.{start-kept}
-use Rattle.archive_theorem.proofs.Places.{Has-contains, Has-from_contains}
+use Rattle.archive_model.proofs.Places.{Has-contains, Has-from_contains}
 use Rattle.archive_theorem.proofs.OwnTest.{own-by}
 use Rattle.archive_theorem.proofs.Premises.{empty_merged}
 use Rattle.archive_running.specs.Members.{come_to, visit_members, late_members, client_members, does}

@@ -15,10 +15,9 @@ use Rattle.archive_turns.specs.declared.timer.Timer.{Timer}
 use Rattle.archive_turns.specs.Timers.{timers_after, restart}
 use Rattle.archive_turns.specs.Wire.{Entry}
 use Rattle.archive_turns.specs.Turn.{Replies, Receipt, datagram, nothing, fault, Answers, Visited, sendings, step_calls, transfer_received, is_usable, request_used, request_spared, request_admitted, request_received, Walk, walk_on, walk_after, next_visit, next_of, port_next, ready_next, turn_next, IsPass, Server, IsTurn, IsRound}
-use Rattle.archive_theorem.specs.World.{Datagram, World, server_endpoint, taken_with}
+use Rattle.archive_model.specs.World.{Datagram, World, server_endpoint, taken_with}
 use Rattle.archive_theorem.specs.Traces.{Member, server_waits_long, after_deed, trace_from}
-use Rattle.archive_theorem.proofs.Places.{Has, Has-extends}
-use Rattle.archive_theorem.proofs.Lasting.{either}
+use Rattle.archive_model.proofs.Places.{Has, Has-prefix, either}
 use Rattle.archive_running.specs.Members.{arrival, sent_in, come_in, sent_in_calls, come_to, does, transfer_members, used_members, spared_members, admitted_members, request_members, visit_members, late_members}
 use Rattle.archive_running.specs.Archive.{Archive, after_server, server_in}
 use Rattle.archive_running.proofs.Fitting.{fit-append, trace-append}
@@ -81,7 +80,7 @@ Brought host calls a = (d : Datagram) → Has (come_to host calls) d → IsBroug
 -- what the first of the calls bring is among what all bring
 brought-first : (host : ℕ) (before after : List Entry) (a : Archive) → Brought host (before ++ after) a → Brought host before a
 brought-first host before after a brought d has =
-    brought d (Has-extends (come_to host before) (come_to host (before ++ after)) d
+    brought d (Has-prefix (come_to host before) (come_to host (before ++ after)) d
     (record { rest = come_to host after; is = flat_map-append (come_in host) before after }) has)
 
 -- ---- a visit of the server

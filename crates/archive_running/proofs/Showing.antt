@@ -13,11 +13,10 @@ use Rattle.archive_table.specs.Table as table
 use Rattle.archive_client.specs.declared.state.State.TheVariants as state
 use Rattle.archive_client.specs.Client.{Operation, Client, request_out, client_start, state_of, phase_file, file_or, file_or_client}
 use Rattle.archive_client.specs.Client as client
-use Rattle.archive_theorem.specs.World.{Datagram, Begun, Opening, Got, World, server_endpoint, has_begun, datagram_of, net_with, taken_with, sent_with, got_with, newly_sent, newly_got, after_client, begins, restarts}
+use Rattle.archive_model.specs.World.{Datagram, Begun, Opening, Got, World, server_endpoint, has_begun, datagram_of, net_with, taken_with, sent_with, got_with, newly_sent, newly_got, after_client, begins, restarts}
 use Rattle.archive_theorem.specs.Traces.{named_in}
-use Rattle.archive_theorem.proofs.Places.{Has, Has-contains, Has-from_contains, Has-extends, Extends-push, Has-last, Has-push}
+use Rattle.archive_model.proofs.Places.{Has, Has-contains, Has-from_contains, Has-prefix, IsPrefix-push, Has-last, Has-push, either}
 use Rattle.archive_theorem.proofs.Keyed.{lookup-set}
-use Rattle.archive_theorem.proofs.Lasting.{either}
 use Rattle.archive_theorem.proofs.Endpoints.{exact_endpoint}
 use Rattle.archive_theorem.proofs.ServerMoves.{served}
 use Rattle.archive_running.specs.Archive.{Archive, Mirrors, after_restart}
@@ -63,7 +62,7 @@ shows-mirrors a w h =
 -- a datagram of the network with one more stray was sent by the archive or is a stranger's
 strayed : (a : Archive) (w : World) → Shows a w → (d x : Datagram) → Has w.net x ⊎ (x ≡ d) → Has a.net x ⊎ Has (w.strays ++ d ∷ []) x
 strayed a w h d x (inl old) =
-    either (λ has. has) (λ has. Has-extends w.strays (w.strays ++ d ∷ []) x (Extends-push w.strays d) has) (h.others x old)
+    either (λ has. has) (λ has. Has-prefix w.strays (w.strays ++ d ∷ []) x (IsPrefix-push w.strays d) has) (h.others x old)
 strayed a w h d x (inr is) = inr (subst (Has (w.strays ++ d ∷ [])) (sym is) (Has-last w.strays d))
 
 -- a stranger's datagram enters the network
@@ -75,7 +74,7 @@ shows-named None d a w h =
       clients = h.clients;
       begun = h.begun;
       taken = h.taken;
-      net = λ x has. Has-extends w.net (w.net ++ d ∷ []) x (Extends-push w.net d) (h.net x has);
+      net = λ x has. Has-prefix w.net (w.net ++ d ∷ []) x (IsPrefix-push w.net d) (h.net x has);
       others = λ x has. strayed a w h d x (Has-push w.net d x has);
       sent = h.sent;
       got = h.got;
@@ -92,7 +91,7 @@ outs host (Some out) = datagram_of host out ∷ []
 
 -- what was in the network stays there when one more is sent
 pushed : (old net : List Datagram) (x d : Datagram) → (Has old d → Has net d) → Has old d ⊎ (d ≡ x) → Has (net ++ x ∷ []) d
-pushed old net x d more (inl was) = Has-extends net (net ++ x ∷ []) d (Extends-push net x) (more was)
+pushed old net x d more (inl was) = Has-prefix net (net ++ x ∷ []) d (IsPrefix-push net x) (more was)
 pushed old net x d more (inr is) = subst (Has (net ++ x ∷ [])) (sym is) (Has-last net x)
 
 -- what the archive sends is in the world's network
@@ -106,7 +105,7 @@ has_out host (Some out) old net more d has =
 new_or_other : (old net strays : List Datagram) (x d : Datagram) → ((y : Datagram) → Has net y → Has old y ⊎ Has strays y) →
     Has net d ⊎ (d ≡ x) → Has (old ++ x ∷ []) d ⊎ Has strays d
 new_or_other old net strays x d others (inl was) =
-    either (λ has. Has-extends old (old ++ x ∷ []) d (Extends-push old x) has) (λ has. has) (others d was)
+    either (λ has. Has-prefix old (old ++ x ∷ []) d (IsPrefix-push old x) has) (λ has. has) (others d was)
 new_or_other old net strays x d others (inr is) = inl (subst (Has (old ++ x ∷ [])) (sym is) (Has-last old x))
 
 -- the same where none may be sent
@@ -186,7 +185,7 @@ sent_now true e es is = Has-last es e
 sent_now false e es is = absurd cc
 
 sent_still : (newly : Bool) (e f : Endpoint) (es : List Endpoint) → Has es f → Has (sent_with newly e es) f
-sent_still true e f es has = Has-extends es (es ++ e ∷ []) f (Extends-push es e) has
+sent_still true e f es has = Has-prefix es (es ++ e ∷ []) f (IsPrefix-push es e) has
 sent_still false e f es has = has
 
 got_now : (newly : Bool) (e : Endpoint) (file : Option (List ℕ)) (gs : List Got) (f : List ℕ) → newly ≡ true → file ≡ Some f →
@@ -198,7 +197,7 @@ got_now true e None gs f is given = absurd cc
 got_now false e file gs f is given = absurd cc
 
 got_still : (newly : Bool) (e : Endpoint) (file : Option (List ℕ)) (gs : List Got) (g : Got) → Has gs g → Has (got_with newly e file gs) g
-got_still true e (Some f) gs g has = Has-extends gs _ g (Extends-push gs _) has
+got_still true e (Some f) gs g has = Has-prefix gs _ g (IsPrefix-push gs _) has
 got_still true e None gs g has = has
 got_still false e file gs g has = has
 

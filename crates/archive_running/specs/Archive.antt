@@ -16,9 +16,9 @@ use Rattle.archive_turns.specs.Turn.{Replies, Server, IsTurn, IsRound, next_visi
 use Rattle.archive_turns.specs.Run.{Run, begin_opened, IsRunTurn}
 use Rattle.archive_turns.specs.declared.pace.Pace.{Pace}
 use Rattle.archive_turns.specs.Rounds.{IsRunRound}
-use Rattle.archive_theorem.specs.World.{Datagram, Begun, World, server_endpoint, given, taken_with, start}
+use Rattle.archive_model.specs.World.{Datagram, Begun, World, server_endpoint, given, taken_with, start}
 use Rattle.archive_theorem.specs.Headline.{HasOwnPorts, IsFinishedGet}
-use Rattle.archive_theorem.specs.Restarts.{HasKept, AreAlike}
+use Rattle.archive_model.specs.Restarts.{HasKept, AreAlike}
 use Rattle.archive_theorem.specs.Traces.{starts, loads, Member, trace_from}
 use Rattle.archive_running.specs.Members.{sent_in_calls, come_to, does, visit_members, late_members, client_members, round_members}
 
@@ -165,7 +165,7 @@ pub record WritesFinished (e : Endpoint) (c : Client) (len : ℕ) (w : World) (w
   pub is_got : file_or_client c ≡ Ok file
   pub size : len ≡ length file
   pub appends : Appends written now file
-  pub finished : IsFinishedGet w.begun w.taken w.opened (record { client = e; file = file })
+  pub finished : IsFinishedGet w.past (record { client = e; file = file })
 
 -- ---- samples
 

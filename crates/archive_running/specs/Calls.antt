@@ -12,7 +12,7 @@ use Rattle.archive_turns.specs.Wire.{Entry}
 use Rattle.archive_turns.specs.Turn.{Server, Pass, IsTurn, IsRound, next_visit, turn_next, ready_next, ServesTurns, none, more}
 use Rattle.archive_turns.specs.Run.{Run, IsRunTurn, MakesRunTurns, Runs, begin_opened, Begins, PutAfter, GetAfter, RunsPut}
 use Rattle.archive_turns.specs.Run as run
-use Rattle.archive_theorem.specs.World.{World, server_endpoint, start_from}
+use Rattle.archive_model.specs.World.{World, server_endpoint, start_from}
 use Rattle.archive_theorem.specs.Headline.{IsOwn, SentOnce}
 use Rattle.archive_theorem.specs.Traces.{Member, starts, trace_from}
 use Rattle.archive_running.specs.Members.{does, visit_members, late_members, client_members}
@@ -129,7 +129,7 @@ GetHappens host rules turns result before mid after written now (Err e) begins e
 pub record PutWasTaken (host : ℕ) (file : List ℕ) (begun : Result Run RunFault) (w : World) : Type 0 where
   pub run : Run
   pub has_begun : begun ≡ Ok run
-  pub taken : IsOwn w (own_endpoint host run) → (s : SentOnce w.begun w.taken (own_endpoint host run)) × (s.file ≡ file)
+  pub taken : IsOwn w (own_endpoint host run) → (s : SentOnce w.past (own_endpoint host run)) × (s.file ≡ file)
 
 -- The same of a get: what it has written is a finished get of this ruleset.
 pub record GetWasWritten (host : ℕ) (rules : Ruleset) (begun : Result Run RunFault) (len : ℕ) (w : World) (written now : Option (List ℕ)) : Type 0 where

@@ -11,7 +11,7 @@ use Rattle.archive_turns.specs.Turn.{Replies, Receipt, datagram, nothing, fault,
 use Rattle.archive_turns.specs.Run.{Run, RunAnswers}
 use Rattle.archive_turns.specs.declared.pace.Pace.{Pace}
 use Rattle.archive_turns.specs.Rounds.{RoundAnswers, is_late, is_ready}
-use Rattle.archive_theorem.specs.World.{Datagram, server_endpoint, datagram_of}
+use Rattle.archive_model.specs.World.{Datagram, server_endpoint, datagram_of}
 use Rattle.archive_theorem.specs.Traces.{Deed, receives, client_waits_long, server_waits_long, Member}
 
 -- ---- what calls of a wire on this host send and receive

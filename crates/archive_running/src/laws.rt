@@ -12,7 +12,7 @@ ghost use Rattle.archive_turns.specs.declared.run_fault.RunFault.{RunFault};
 ghost use Rattle.archive_turns.specs.Wire.{Entry};
 ghost use Rattle.archive_turns.specs.Turn.{Server, IsTurn, IsRound, MakesTurns, MakesRounds};
 ghost use Rattle.archive_turns.specs.Run.{put_result, WritesGot, RunsPut, RunsGet};
-ghost use Rattle.archive_theorem.specs.World.{start_from, start, server_endpoint, AllMayHappen, AllMerged};
+ghost use Rattle.archive_model.specs.World.{start_from, start, server_endpoint, AllMayHappen, AllMerged};
 ghost use Rattle.archive_theorem.specs.Headline.{IsOwn, AreOver, HasOwnPorts, ClientsHeadline, Headline, SentOnce};
 ghost use Rattle.archive_theorem.specs.Traces.{Member, trace_from, trace_steps};
 ghost use Rattle.archive_theorem.specs.Samples.{sample_file};
@@ -33,7 +33,7 @@ pub fn running_law()
     // So if the server has nothing at first and no port is reused, all of this holds of every client.
     ensures headline { (a : Archive) (members : List Member) → Reaches [] empty_maps a members → HasOwnPorts (trace_from members start) → Headline (trace_from members start) }
     // By `mirrors`, the operations and files of this world are those of the archive.
-    ensures sent { (texts : List (List ℕ)) (maps : Maps) → AreOver texts maps → (a : Archive) (members : List Member) → Reaches texts maps a members → (e : Endpoint) → IsOwn (trace_from members (start_from texts maps)) e → (c : Client) (len n : ℕ) → lookup (is_same e) a.clients ≡ Some c → put_result (state_of c) len ≡ Ok n → SentOnce (trace_from members (start_from texts maps)).begun (trace_from members (start_from texts maps)).taken e }
+    ensures sent { (texts : List (List ℕ)) (maps : Maps) → AreOver texts maps → (a : Archive) (members : List Member) → Reaches texts maps a members → (e : Endpoint) → IsOwn (trace_from members (start_from texts maps)) e → (c : Client) (len n : ℕ) → lookup (is_same e) a.clients ≡ Some c → put_result (state_of c) len ≡ Ok n → SentOnce (trace_from members (start_from texts maps)).past e }
     ensures fetched { (texts : List (List ℕ)) (maps : Maps) → AreOver texts maps → (a : Archive) (members : List Member) → Reaches texts maps a members → (e : Endpoint) → IsOwn (trace_from members (start_from texts maps)) e → (c : Client) (len : ℕ) (written now : Option (List ℕ)) → lookup (is_same e) a.clients ≡ Some c → WritesGot c (Ok len) written now → WritesFinished e c len (trace_from members (start_from texts maps)) written now }
     // There are runs in which a client counts its file as sent, and runs in which one has fetched a collection.
     ensures sends { CanReach (λ c. state_of c ≡ Sent) }

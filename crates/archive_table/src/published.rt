@@ -16,12 +16,11 @@ use tftp_ends::Received;
 use tftp_packet::Refusal;
 use tws_best::{Collection, Snapshot};
 
-/// A collection; the length of its text, and the snapshot of it that downloads share. Both are found out at the first
-/// request, and kept until the collection changes. `bettered` counts its changes, saturating.
+/// A collection, and the snapshot of its text that downloads share, which is made at the first request and kept until
+/// the collection changes. `bettered` counts its changes, saturating.
 #[derive(Drop)]
 pub(crate) struct Published<A: Allocator + Copy> {
     collection: Collection<A>,
-    text_len: Option<u128>,
     snapshot: Option<Rc<Snapshot<A>, A>>,
     bettered: u64,
 }
@@ -45,7 +44,6 @@ impl<A: Allocator + Copy> Published<A> {
     {
         Published {
             collection,
-            text_len: None,
             snapshot: None,
             bettered: 0,
         }
@@ -61,19 +59,6 @@ impl<A: Allocator + Copy> Published<A> {
     /// The number of its changes so far. No contract speaks of it.
     pub(crate) fn bettered(&self) -> u64 {
         self.bettered
-    }
-
-    /// The length of its text in bytes. The collection never changes.
-    pub(crate) fn text_len(&mut self) -> u128
-        ensures same { self.new ≡ self.old }
-        ensures len { result ≡ length (collection_text self.old) }
-    {
-        if let Some(len) = self.text_len {
-            return len;
-        }
-        let len = self.collection.text_len();
-        self.text_len = Some(len);
-        len
     }
 
     /// Returns the snapshot of its text, which must have fewer than 2^64 bytes. Does not allocate if the text was asked
@@ -123,7 +108,6 @@ impl<A: Allocator + Copy> Published<A> {
         ) {
             Ok(changed) => {
                 if changed {
-                    self.text_len = None;
                     self.snapshot = None;
                 }
                 Ok(())

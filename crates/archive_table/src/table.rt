@@ -179,7 +179,7 @@ impl<A: Allocator + Copy> Table<A> {
         if !self.has_slot() {
             return self.refuse(from, Refusal::ServerBusy);
         }
-        if self.text_len(ruleset) > u128::from(MAX_FILE) {
+        if self.collection(ruleset).text_len() > u128::from(MAX_FILE) {
             return self.refuse(from, Refusal::CollectionTooLong);
         }
         let Ok(snapshot) = self.snapshot(ruleset) else {
@@ -187,17 +187,6 @@ impl<A: Allocator + Copy> Table<A> {
         };
         let (sender, first) = Sender::start(snapshot);
         self.open(spare, from, End::Sending(sender), first)
-    }
-
-    // The length of a collection's text in bytes.
-    fn text_len(&mut self, ruleset: Ruleset) -> u128
-        ensures same { self.new ≡ self.old }
-        ensures len { result ≡ length (collection_text (map_of «ruleset» self.old.maps)) }
-    {
-        match ruleset {
-            Ruleset::Lynx => self.lynx.text_len(),
-            Ruleset::Ms => self.ms.text_len(),
-        }
     }
 
     // The snapshot of a collection's text.

@@ -17,9 +17,9 @@ use Rattle.tws_file.specs.Names.{file_name_of, upload_name, ruleset_named}
 use Rattle.archive_client.specs.declared.cause.Cause.TheVariants as cause
 use Rattle.archive_client.specs.declared.state.State.TheVariants as state
 use Rattle.archive_client.specs.Client.{Operation, put, get, Phase, asking, sending, receiving, failed, Client, operation_request, request_out, phase_state, phase_peer, is_over, client_input_decoded, client_input_at, client_input, ack_received, data_received, refusal_received, client_by_input, client_unless_over, client_datagram, asks_again, phase_waits, client_timeout, client_input_at_port}
-use Rattle.archive_theorem.specs.World.{Datagram, World, server_endpoint, after_client, client_at}
+use Rattle.archive_model.specs.World.{Datagram, World, server_endpoint, after_client, client_at}
 use Rattle.archive_theorem.specs.Headline.{IsOwn}
-use Rattle.archive_theorem.proofs.Places.{Has}
+use Rattle.archive_model.proofs.Places.{Has}
 use Rattle.archive_theorem.proofs.Claims.{Serves, ServesBlock, Says, Binds, IsAskingFor, IsGetting, IsPursuing, MayBind}
 use Rattle.archive_theorem.proofs.Owning.{one_served}
 use Rattle.archive_theorem.proofs.Invariant.{Holds}
@@ -97,7 +97,7 @@ module _ (w : World) (h : Holds w) (d : Datagram) (among : Has w.net d) (c : Cli
   from_server same = same ∙ ap (λ (x : Endpoint). x.host) (h.clients e c is).server
 
   -- an ACK
-  ack_row : (n : ℕ) (phase : Phase) → c.phase ≡ phase → IsPursuing w e phase → Knows d host (phase_peer phase) (acked n) →
+  ack_row : (n : ℕ) (phase : Phase) → c.phase ≡ phase → IsPursuing w.past e phase → Knows d host (phase_peer phase) (acked n) →
       Holds (after_client e c (ack_received phase d.source.port n c) w)
   ack_row n (asking (put file) misses) at there knows = answered-holds w h e c is file misses at there (n == 0) d.source.port
   ack_row n (asking (get rules) misses) at there knows = stays-holds w h e c is
@@ -107,16 +107,16 @@ module _ (w : World) (h : Holds w) (d : Datagram) (among : Has w.net d) (c : Cli
   ack_row n (failed why) at there knows = stays-holds w h e c is
 
   -- one text is served at the port that a get is bound to
-  same_text : (peer : ℕ) (r : Receiver) (there : IsGetting w e peer r) (n : ℕ) (body : List ℕ) → d.source.port ≡ peer →
-      ServesBlock w d.source e n body → (own : IsOwn w e) → body ≡ block_of (there.served own).file n
+  same_text : (peer : ℕ) (r : Receiver) (there : IsGetting w.past e peer r) (n : ℕ) (body : List ℕ) → d.source.port ≡ peer →
+      ServesBlock w.past d.source e n body → (own : IsOwn w e) → body ≡ block_of (there.served own).file n
   same_text peer r there n body from serves own =
-      let at_peer = subst (λ (p : ℕ). Serves w e p serves.rules serves.file) from serves.serves in
+      let at_peer = subst (λ (p : ℕ). Serves w.past e p serves.rules serves.file) from serves.serves in
       let served = there.served own in
-      let same = one_served w e own peer serves.rules there.rules serves.file served.file at_peer served.serves in
+      let same = one_served w.past e own peer serves.rules there.rules serves.file served.file at_peer served.serves in
       serves.is_block ∙ ap (λ (f : List ℕ). block_of f n) same
 
   -- a DATA
-  data_row : (n : ℕ) (body : List ℕ) (phase : Phase) → c.phase ≡ phase → IsPursuing w e phase →
+  data_row : (n : ℕ) (body : List ℕ) (phase : Phase) → c.phase ≡ phase → IsPursuing w.past e phase →
       Knows d host (phase_peer phase) (block n body) → Holds (after_client e c (data_received phase verdict d.source.port n body c) w)
   data_row n body (asking (put file) misses) at there knows = stays-holds w h e c is
   data_row n body (asking (get rules) misses) at there knows =
@@ -168,7 +168,7 @@ own_name Lynx = refl
 own_name Ms = refl
 
 -- a request says what has begun
-pub request_says : (w : World) (e target : Endpoint) (operation : Operation) → IsAskingFor w e operation → Says w e target (operation_request operation)
+pub request_says : (w : World) (e target : Endpoint) (operation : Operation) → IsAskingFor w.past e operation → Says w.past e target (operation_request operation)
 request_says w e target (put file) there = record { file = file; began = record { count = there.count; among = there.among } }
 request_says w e target (get rules) there =
     record { rules = rules; named = own_name rules; count = there.count; began = record { among = there.among } }
@@ -182,7 +182,7 @@ request_binds (get rules) binds = subst Binds (request_fields (get rules)) binds
 
 module _ (w : World) (h : Holds w) (e : Endpoint) (c : Client) (is : client_at e w ≡ Some c) where
   -- before any answer
-  asks_row : (last : Bool) (operation : Operation) (misses : ℕ) → c.phase ≡ asking operation misses → IsAskingFor w e operation →
+  asks_row : (last : Bool) (operation : Operation) (misses : ℕ) → c.phase ≡ asking operation misses → IsAskingFor w.past e operation →
       Holds (after_client e c (asks_again last operation misses c) w)
   asks_row true operation misses at there = fails-holds w h e c is cause.TimedOut
   asks_row false operation misses at there =
@@ -197,7 +197,7 @@ module _ (w : World) (h : Holds w) (e : Endpoint) (c : Client) (is : client_at e
       })
 
   -- in each phase
-  waits_row : (phase : Phase) → c.phase ≡ phase → IsPursuing w e phase → Holds (after_client e c (phase_waits phase c) w)
+  waits_row : (phase : Phase) → c.phase ≡ phase → IsPursuing w.past e phase → Holds (after_client e c (phase_waits phase c) w)
   waits_row (asking operation misses) at there = asks_row (misses + 1 == MISSES) operation misses at there
   waits_row (sending peer s) at there = put_waits-holds w h e c is peer s at there
   waits_row (receiving peer r) at there =

@@ -8,17 +8,18 @@ use Rattle.tftp_packet.specs.Decode.{decode_bytes}
 use Rattle.tftp_ends.specs.declared.limits.TheConstants.{MAX_FILE}
 use Rattle.archive_table.specs.Table.{is_same}
 use Rattle.archive_client.specs.Client.{Operation, put, get, Client, IsOperation, client_start, operation_request, is_too_long}
-use Rattle.archive_theorem.specs.World.{Datagram, Begun, World, server_endpoint, client_at, begins}
+use Rattle.archive_model.specs.World.{Datagram, Begun, World, server_endpoint, client_at, begins, Extends}
 use Rattle.archive_theorem.specs.Headline.{IsOwn}
-use Rattle.archive_theorem.proofs.Places.{Has, Has-last, Has-push, Extends-push, at-extends, at-last, before_last}
+use Rattle.archive_model.proofs.Doing as doing
+use Rattle.archive_model.proofs.Places.{Has, Has-last, Has-push, IsPrefix-push, at-prefix, at-last, before_last, either}
 use Rattle.archive_theorem.proofs.Endpoints.{exact_endpoint}
-use Rattle.archive_theorem.proofs.Claims.{GrowsTo, HasBegun, IsStranger, PutsBlock, ServesBlock, Fetches, ServerAcks, Says, IsHonest, Binds, IsBound, IsAskingFor, IsFaithful, MayBind}
-use Rattle.archive_theorem.proofs.Lasting.{either, honest-lasts, live-lasts, faithful-lasts, opening-lasts, is_taken-lasts, sent-lasts, got-lasts}
-use Rattle.archive_theorem.proofs.Growing.{begins-grow}
+use Rattle.archive_theorem.proofs.Claims.{HasBegun, IsStranger, PutsBlock, ServesBlock, Fetches, ServerAcks, Says, IsHonest, Binds, IsBound, IsAskingFor, IsFaithful, MayBind}
+use Rattle.archive_theorem.proofs.Lasting.{honest-lasts, live-lasts, faithful-lasts, opening-lasts, is_taken-lasts, sent-lasts, got-lasts}
 use Rattle.archive_theorem.proofs.Owning.{own-before, no_stranger, put_begun, get_begun}
 use Rattle.archive_theorem.proofs.Invariant.{Holds}
 use Rattle.archive_theorem.proofs.Sending.{honest_packet}
 use Rattle.archive_theorem.proofs.Answering.{request_fields, request_says, request_binds}
+use Rattle.archive_model.proofs.Growing.{does-extends}
 
 -- ---- one more datagram
 
@@ -28,7 +29,7 @@ pub record BindsBy (d : Datagram) (f : Endpoint) (port : ℕ) : Type 0 where
   pub binds : Binds (decode_bytes d.bytes)
 
 -- an endpoint that is bound was bound before, or the new datagram binds it
-pub bound_split : (w v : World) (d : Datagram) → v.net ≡ w.net ++ d ∷ [] → (f : Endpoint) (port : ℕ) → IsBound v f port → IsBound w f port ⊎ BindsBy d f port
+pub bound_split : (w v : World) (d : Datagram) → v.net ≡ w.net ++ d ∷ [] → (f : Endpoint) (port : ℕ) → IsBound v.past f port → IsBound w.past f port ⊎ BindsBy d f port
 bound_split w v d net f port b =
     either
     (λ old. record { datagram = b.datagram; among = old; source = b.source; target = b.target; binds = b.binds })
@@ -58,62 +59,62 @@ module _ (w : World) (h : Holds w) (e : Endpoint) (operation : Operation) (away 
   abbrev request : Datagram
   request = record { source = e; target = server_endpoint; bytes = encode (operation_request operation) }
 
-  grows : GrowsTo w after
-  grows = begins-grow w e operation
+  grows : Extends w.past after.past
+  grows = does-extends {w = w} (doing.begun e operation)
 
   -- the new client asks for what has begun
-  asking : IsAskingFor after e operation
+  asking : IsAskingFor after.past e operation
   asking = record { may = may; count = length w.taken; among = Has-last w.begun began }
 
   -- the request is honest
-  new_honest : IsHonest after request
+  new_honest : IsHonest after.past request
   new_honest =
       honest_packet after e server_endpoint (operation_request operation) (request_fields operation) (request_says after e server_endpoint operation asking)
 
   -- ports that are an endpoint's own now were its own before
   own_then : (f : Endpoint) → IsOwn after f → IsOwn w f
-  own_then f own = own-before w after grows f own
+  own_then f own = own-before grows f own
 
   -- no operation began there before, if its ports are its own
-  not_before : {P : Type 0} → IsOwn after e → HasBegun w e → P
+  not_before : {P : Type 0} → IsOwn after e → HasBegun w.past e → P
   not_before own b =
       let position = b.among.position in
-      let still = at-extends w.begun (w.begun ++ began ∷ []) (Extends-push w.begun began) position b.begun b.among.is in
+      let still = at-prefix w.begun (w.begun ++ began ∷ []) (IsPrefix-push w.begun began) position b.begun b.among.is in
       let earlier : position < length w.begun = before_last w.begun position b.begun b.among.is in
       let same : position ≡ length w.begun = own.operations position (length w.begun) b.begun began still (at-last w.begun began) b.client refl in
       absurd (omega arith)
 
   -- nothing from there binds
-  unsaid : {P : Type 0} → IsOwn after e → (target : Endpoint) (p : Packet) → Binds (Ok p) → Says w e target p → P
+  unsaid : {P : Type 0} → IsOwn after e → (target : Endpoint) (p : Packet) → Binds (Ok p) → Says w.past e target p → P
   unsaid own target (read name mode) binds says = absurd binds
   unsaid own target (write name mode) binds says = absurd binds
   unsaid own target (data_block n body) binds says =
-      ⊎_elim (λ (s : PutsBlock w e n body). not_before own (put_begun w e s.file s.began)) (λ (s : ServesBlock w e target n body). absurd (away s.ours)) says
+      ⊎_elim (λ (s : PutsBlock w.past e n body). not_before own (put_begun e s.file s.began)) (λ (s : ServesBlock w.past e target n body). absurd (away s.ours)) says
   unsaid own target (ack n) binds says =
-      ⊎_elim (λ (s : Fetches w e). not_before own (get_begun w e s.rules s.count s.began)) (λ (s : ServerAcks w e target n). absurd (away s.ours)) says
+      ⊎_elim (λ (s : Fetches w.past e). not_before own (get_begun e s.rules s.count s.began)) (λ (s : ServerAcks w.past e target n). absurd (away s.ours)) says
   unsaid own target (error code text) binds says = absurd binds
 
   -- bytes from there that bind would say what has begun, and nothing has
   unread : {P : Type 0} → IsOwn after e → (d : Datagram) (answer : Result Packet PacketFault) → decode_bytes d.bytes ≡ answer →
-      Binds answer → ((p : Packet) → decode_bytes d.bytes ≡ Ok p → Says w e d.target p) → P
+      Binds answer → ((p : Packet) → decode_bytes d.bytes ≡ Ok p → Says w.past e d.target p) → P
   unread own d (Ok p) reads binds says = unsaid own d.target p binds (says p reads)
   unread own d (Err fault) reads binds says = absurd binds
 
   -- a datagram from there is a stranger's, or says what has begun
-  honest_there : (d : Datagram) → IsHonest w d → d.source ≡ e → IsStranger w e ⊎ ((p : Packet) → decode_bytes d.bytes ≡ Ok p → Says w e d.target p)
+  honest_there : (d : Datagram) → IsHonest w.past d → d.source ≡ e → IsStranger w.past e ⊎ ((p : Packet) → decode_bytes d.bytes ≡ Ok p → Says w.past e d.target p)
   honest_there d honest same =
-      subst (λ (x : Endpoint). IsStranger w x ⊎ ((p : Packet) → decode_bytes d.bytes ≡ Ok p → Says w x d.target p)) same honest.says
+      subst (λ (x : Endpoint). IsStranger w.past x ⊎ ((p : Packet) → decode_bytes d.bytes ≡ Ok p → Says w.past x d.target p)) same honest.says
 
   -- so the endpoint was not bound
-  unbound : {P : Type 0} → IsOwn after e → (port : ℕ) → IsBound w e port → P
+  unbound : {P : Type 0} → IsOwn after e → (port : ℕ) → IsBound w.past e port → P
   unbound own port b =
       ⊎_elim
-      (no_stranger w e (own_then e own))
+      (no_stranger w.past e (own_then e own))
       (λ says. unread own b.datagram (decode_bytes b.datagram.bytes) refl b.binds says)
       (honest_there b.datagram (h.net b.datagram b.among) b.source)
 
   -- the request binds nobody
-  before : (f : Endpoint) (port : ℕ) → IsBound after f port → IsBound w f port
+  before : (f : Endpoint) (port : ℕ) → IsBound after.past f port → IsBound w.past f port
   before f port b = ⊎_elim (λ old. old) (λ (new : BindsBy request f port). absurd (request_binds operation new.binds))
       (bound_split w after request refl f port b)
 
@@ -132,35 +133,35 @@ module _ (w : World) (h : Holds w) (e : Endpoint) (operation : Operation) (away 
   found f c is = found_in f c (is_same f e) refl is
 
   -- each client is as the claims say
-  faithful : (f : Endpoint) (c : Client) → NewOr f c → IsFaithful after f c
+  faithful : (f : Endpoint) (c : Client) → NewOr f c → IsFaithful after.past f c
   faithful f c (inl new) =
-      let here : IsFaithful after e (client_start e.port server_endpoint operation) = record { port = refl; server = refl; phase = asking } in
-      subst (IsFaithful after f) (sym new.1) (subst (λ (x : Endpoint). IsFaithful after x (client_start e.port server_endpoint operation)) (sym new.0) here)
-  faithful f c (inr old) = faithful-lasts w after grows f c (h.clients f c old)
+      let here : IsFaithful after.past e (client_start e.port server_endpoint operation) = record { port = refl; server = refl; phase = asking } in
+      subst (IsFaithful after.past f) (sym new.1) (subst (λ (x : Endpoint). IsFaithful after.past x (client_start e.port server_endpoint operation)) (sym new.0) here)
+  faithful f c (inr old) = faithful-lasts grows f c (h.clients f c old)
 
   -- each is bound where its endpoint is
-  bound_in : (f : Endpoint) (c : Client) → NewOr f c → IsOwn after f → (port : ℕ) → IsBound w f port → MayBind c.phase port
+  bound_in : (f : Endpoint) (c : Client) → NewOr f c → IsOwn after f → (port : ℕ) → IsBound w.past f port → MayBind c.phase port
   bound_in f c (inl new) own port b =
-      unbound (subst (IsOwn after) new.0 own) port (subst (λ (x : Endpoint). IsBound w x port) new.0 b)
+      unbound (subst (IsOwn after) new.0 own) port (subst (λ (x : Endpoint). IsBound w.past x port) new.0 b)
   bound_in f c (inr old) own port b = h.bound f c old (own_then f own) port b
 
   -- an endpoint whose ports are its own is bound to one port
-  one_port_in : (f : Endpoint) (p q : ℕ) (b : HasBegun after f) → Has w.begun b.begun ⊎ (b.begun ≡ began) → IsOwn after f → IsBound w f p →
-      IsBound w f q → p ≡ q
+  one_port_in : (f : Endpoint) (p q : ℕ) (b : HasBegun after.past f) → Has w.begun b.begun ⊎ (b.begun ≡ began) → IsOwn after f → IsBound w.past f p →
+      IsBound w.past f q → p ≡ q
   one_port_in f p q b (inl old) own at_p at_q =
       h.one_port f p q (record { begun = b.begun; among = old; client = b.client }) (own_then f own) at_p at_q
   one_port_in f p q b (inr new) own at_p at_q =
       let same : f ≡ e = sym b.client ∙ ap (λ (x : Begun). x.client) new in
-      unbound (subst (IsOwn after) same own) p (subst (λ (x : Endpoint). IsBound w x p) same at_p)
+      unbound (subst (IsOwn after) same own) p (subst (λ (x : Endpoint). IsBound w.past x p) same at_p)
 
   -- a begin keeps the invariant
   pub begins-holds : Holds after
   begins-holds =
       record {
-        net = λ d has. ⊎_elim (λ old. honest-lasts w after grows d (h.net d old)) (λ new. subst (IsHonest after) (sym new) new_honest)
+        net = λ d has. ⊎_elim (λ old. honest-lasts grows d (h.net d old)) (λ new. subst (IsHonest after.past) (sym new) new_honest)
             (Has-push w.net request d has);
         apart = h.apart;
-        live = λ port t is. live-lasts w after grows port t (h.live port t is);
+        live = λ port t is. live-lasts grows port t (h.live port t is);
         untaken = λ port t is running own u has same b. h.untaken port t is running (own_then t.peer own) u has same (before t.peer port b);
         clients = λ f c is. faithful f c (found f c is);
         bound = λ f c is own port b. bound_in f c (found f c is) own port (before f port b);
@@ -175,10 +176,10 @@ module _ (w : World) (h : Holds w) (e : Endpoint) (operation : Operation) (away 
             })
             (Has-push w.begun began b has);
         strays = h.strays;
-        opened = λ o has. opening-lasts w after grows o (h.opened o has);
-        taken = λ t has other. is_taken-lasts w after grows t (h.taken t has other);
+        opened = λ o has. opening-lasts grows o (h.opened o has);
+        taken = λ t has other. is_taken-lasts grows t (h.taken t has other);
         once = λ i j t u at_i at_j same other own. h.once i j t u at_i at_j same other (own_then t.peer own);
-        sent = λ x has. sent-lasts w after grows x (h.sent x has);
-        got = λ g has. got-lasts w after grows g (h.got g has);
+        sent = λ x has. sent-lasts grows x (h.sent x has);
+        got = λ g has. got-lasts grows g (h.got g has);
         best = h.best;
       }

@@ -12,8 +12,8 @@ use Rattle.archive_client.specs.declared.cause.Cause.{Cause}
 use Rattle.archive_client.specs.declared.state.State.{State}
 use Rattle.archive_client.specs.declared.state.State.TheVariants as state
 use Rattle.archive_client.specs.Client.{Phase, failed, Client, in_phase, out_to, client_stays, moves, fails, phase_state, phase_file}
-use Rattle.archive_theorem.specs.World.{World, Got, newly_sent, newly_got, sent_with, got_with, after_client, client_at}
-use Rattle.archive_theorem.proofs.Places.{Has, Has-push}
+use Rattle.archive_model.specs.World.{World, Got, newly_sent, newly_got, sent_with, got_with, after_client, client_at, IsPrefix}
+use Rattle.archive_model.proofs.Places.{Has, Has-push, IsPrefix-same, IsPrefix-push}
 use Rattle.archive_theorem.proofs.Endpoints.{endpoint_is}
 use Rattle.archive_theorem.proofs.Claims.{Says, Binds, IsPursuing, MayBind, IsSent, IsGot}
 use Rattle.archive_theorem.proofs.Invariant.{Holds}
@@ -72,19 +72,30 @@ got_same s e = let both = newly_got-from s s e in let apart : state.Running ≡ 
 
 -- ---- files newly sent and fetched
 
+-- nobody is taken from the list of those whose files are sent
+sent_prefix : (newly : Bool) (e : Endpoint) (es : List Endpoint) → IsPrefix es (sent_with newly e es)
+sent_prefix true e es = IsPrefix-push es e
+sent_prefix false e es = IsPrefix-same es
+
+-- nor is a file that was fetched
+got_prefix : (newly : Bool) (e : Endpoint) (file : Option (List ℕ)) (gs : List Got) → IsPrefix gs (got_with newly e file gs)
+got_prefix true e (Some file) gs = IsPrefix-push gs _
+got_prefix true e None gs = IsPrefix-same gs
+got_prefix false e file gs = IsPrefix-same gs
+
 -- who is listed was listed before, or is so rightly now
-sent_by : (w : World) (e : Endpoint) (newly : Bool) → (newly ≡ true → IsSent w e) → (x : Endpoint) → Has (sent_with newly e w.sent) x →
-    Has w.sent x ⊎ IsSent w x
+sent_by : (w : World) (e : Endpoint) (newly : Bool) → (newly ≡ true → IsSent w.past e) → (x : Endpoint) → Has (sent_with newly e w.sent) x →
+    Has w.sent x ⊎ IsSent w.past x
 sent_by w e true sends x has =
-    ⊎_elim (λ old. inl old) (λ is. inr (subst (IsSent w) (sym is) (sends refl))) (Has-push w.sent e x has)
+    ⊎_elim (λ old. inl old) (λ is. inr (subst (IsSent w.past) (sym is) (sends refl))) (Has-push w.sent e x has)
 sent_by w e false sends x has = inl has
 
 -- what is listed was listed before, or was fetched
 got_by : (w : World) (e : Endpoint) (newly : Bool) (file : Option (List ℕ)) →
-    (newly ≡ true → (f : List ℕ) → file ≡ Some f → IsGot w (record { client = e; file = f })) → (g : Got) →
-    Has (got_with newly e file w.got) g → Has w.got g ⊎ IsGot w g
+    (newly ≡ true → (f : List ℕ) → file ≡ Some f → IsGot w.past (record { client = e; file = f })) → (g : Got) →
+    Has (got_with newly e file w.got) g → Has w.got g ⊎ IsGot w.past g
 got_by w e true (Some f) gets g has =
-    ⊎_elim (λ old. inl old) (λ is. inr (subst (IsGot w) (sym is) (gets refl f refl))) (Has-push w.got _ g has)
+    ⊎_elim (λ old. inl old) (λ is. inr (subst (IsGot w.past) (sym is) (gets refl f refl))) (Has-push w.got _ g has)
 got_by w e true None gets g has = inl has
 got_by w e false file gets g has = inl has
 
@@ -92,12 +103,12 @@ got_by w e false file gets g has = inl has
 
 -- what must be shown
 pub record Changing (w : World) (e : Endpoint) (c : Client) (phase : Phase) (out : Option Out) : Type 0 where
-  pub pursuing : IsPursuing w e phase
+  pub pursuing : IsPursuing w.past e phase
   pub sending : IfSome out (SendsHonestly w e)
   pub binding : IfSome out (BindsTo c (in_phase phase c))
   pub still : (p : ℕ) → MayBind c.phase p → MayBind phase p
-  pub sends : newly_sent (phase_state c.phase) (phase_state phase) ≡ true → IsSent w e
-  pub gets : newly_got (phase_state c.phase) (phase_state phase) ≡ true → (f : List ℕ) → phase_file phase ≡ Some f → IsGot w (record { client = e; file = f })
+  pub sends : newly_sent (phase_state c.phase) (phase_state phase) ≡ true → IsSent w.past e
+  pub gets : newly_got (phase_state c.phase) (phase_state phase) ≡ true → (f : List ℕ) → phase_file phase ≡ Some f → IsGot w.past (record { client = e; file = f })
 
 module _ (w : World) (h : Holds w) (e : Endpoint) (c : Client) (is : client_at e w ≡ Some c) where
   -- a step to another phase keeps the invariant
@@ -113,6 +124,8 @@ module _ (w : World) (h : Holds w) (e : Endpoint) (c : Client) (is : client_at e
         sending = k.sending;
         binding = k.binding;
         still = k.still;
+        more_sent = sent_prefix newly_s e w.sent;
+        more_got = got_prefix newly_g e (phase_file phase) w.got;
         sents = sent_by w e newly_s k.sends;
         gots = got_by w e newly_g (phase_file phase) k.gets;
       })
@@ -163,10 +176,10 @@ module _ (w : World) (h : Holds w) (e : Endpoint) (c : Client) (is : client_at e
   own_endpoint = endpoint_is e e.host c.port refl (sym (h.clients e c is).port)
 
   -- a packet that reads back and says what has begun is sent honestly
-  pub sends_it : (port : ℕ) (p : Packet) → decode_bytes (encode p) ≡ Ok p → Says w e (record { host = c.server.host; port = port }) p →
+  pub sends_it : (port : ℕ) (p : Packet) → decode_bytes (encode p) ≡ Ok p → Says w.past e (record { host = c.server.host; port = port }) p →
       SendsHonestly w e (out_to port p c)
   sends_it port p back says =
-      let there = subst (λ (s : Endpoint). Says w s (record { host = c.server.host; port = port }) p) own_endpoint says in
+      let there = subst (λ (s : Endpoint). Says w.past s (record { host = c.server.host; port = port }) p) own_endpoint says in
       record { port = (h.clients e c is).port; honest = honest_packet w _ _ p back there }
 
   -- an ERROR is sent honestly

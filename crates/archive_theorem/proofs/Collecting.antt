@@ -9,7 +9,7 @@ use Rattle.tws_best.specs.Best.{KeyedBody, IsKeyedBody, Collected, IsCollected, 
 use Rattle.tws_best.proofs.Members.{all_at, all_from}
 use Rattle.tws_best.proofs.Taking.{solved_entries}
 use Rattle.archive_table.specs.Table.{Maps, Taken, Grant, IsMerged, empty_maps}
-use Rattle.archive_theorem.specs.World.{World, WorldStep, start, happens, run_from, HasMerged, AllMerged}
+use Rattle.archive_model.specs.World.{World, WorldStep, start, happens, run_from, HasMerged, AllMerged}
 use Rattle.archive_theorem.proofs.Invariant.{AreBest, none-over, start_from-best}
 use Rattle.archive_theorem.proofs.Merging.{best-taken}
 use Rattle.archive_theorem.proofs.Remaining.{StepTakes, step-takes}

@@ -7,7 +7,7 @@ use Rattle.tftp_ends.specs.declared.recv_state.RecvState.{RecvState}
 use Rattle.tftp_ends.specs.declared.recv_state.RecvState.TheVariants as recv
 use Rattle.tftp_ends.specs.Ends.{Verdict, granted, refused, Receiver, state_after, receiver_takes, receiver_next, receiver_again, is_last_come, is_past, receiver_running, receiver_data_in, receiver_data, receiver_take_in, receiver_take, IsEnded, HoldsFirst, IsReceiver}
 use Rattle.tftp_ends.proofs.Holding.{receiver_data-holds, ended-whole}
-use Rattle.archive_theorem.specs.World.{World}
+use Rattle.archive_model.specs.World.{World}
 use Rattle.archive_theorem.proofs.Claims.{HasTaken, HasCome}
 use Rattle.archive_theorem.proofs.Acking.{GoesOn}
 
@@ -107,10 +107,10 @@ take-stops x f given = λ e. take_in_stops x.state x f given (sym (take-state x)
 -- after a DATA and before the file is asked for: it was running and holds the first blocks, or its file was taken before
 abbrev pub HoldsOrTaken : World → Endpoint → (file : List ℕ) → (r x : Receiver) → Type 0
 HoldsOrTaken w e file r x =
-    ((r.state ≡ recv.Running) × HoldsFirst file x × GoesOn x.state) ⊎ (HasTaken w e file × (x.file ≡ None) × (x.state ≡ recv.Complete))
+    ((r.state ≡ recv.Running) × HoldsFirst file x × GoesOn x.state) ⊎ (HasTaken w.past e file × (x.file ≡ None) × (x.state ≡ recv.Complete))
 
 data_in_come : (w : World) (e : Endpoint) (file : List ℕ) (r : Receiver) (verdict : Verdict) (n : ℕ) (body : List ℕ) →
-    body ≡ block_of file n → (state : RecvState) → r.state ≡ state → HasCome w e file r state →
+    body ≡ block_of file n → (state : RecvState) → r.state ≡ state → HasCome w.past e file r state →
     HoldsOrTaken w e file r (receiver_data verdict n body r).receiver
 data_in_come w e file r verdict n body is_block recv.Running is come =
     inl (is, receiver_data-holds file r come verdict n body is_block, data-goes_on verdict n body r (subst GoesOn (sym is) tt))
@@ -122,13 +122,13 @@ data_in_come w e file r verdict n body is_block recv.Over is come = absurd come
 
 -- what has come of a put after a DATA of its file, before the file is asked for
 pub data-come : (w : World) (e : Endpoint) (file : List ℕ) (r : Receiver) (verdict : Verdict) (n : ℕ) (body : List ℕ) →
-    body ≡ block_of file n → HasCome w e file r r.state → HoldsOrTaken w e file r (receiver_data verdict n body r).receiver
+    body ≡ block_of file n → HasCome w.past e file r r.state → HoldsOrTaken w e file r (receiver_data verdict n body r).receiver
 data-come w e file r verdict n body is_block come = data_in_come w e file r verdict n body is_block r.state refl come
 
 module _ (w : World) (e : Endpoint) (file : List ℕ) (r x : Receiver) where
   -- if no file is handed out
   none_in : (state : RecvState) → x.state ≡ state → HoldsOrTaken w e file r x → (receiver_take_in state x).file ≡ None →
-      HasCome w e file (receiver_take_in state x).receiver state
+      HasCome w.past e file (receiver_take_in state x).receiver state
   none_in recv.Running is (inl holds) none = holds.1
   none_in recv.Running is (inr gone) none = let both : recv.Complete ≡ recv.Running = sym gone.2 ∙ is in absurd cc
   none_in recv.Complete is (inl holds) none = let both : x.file ≡ Some _ = holds.1 in absurd cc
@@ -139,9 +139,9 @@ module _ (w : World) (e : Endpoint) (file : List ℕ) (r x : Receiver) where
   none_in recv.Over is (inr gone) none = let both : recv.Complete ≡ recv.Over = sym gone.2 ∙ is in absurd cc
 
   -- if no file is handed out, what has come of the put is as the claims say
-  pub none-come : HoldsOrTaken w e file r x → (receiver_take x).file ≡ None → HasCome w e file (receiver_take x).receiver (receiver_take x).receiver.state
+  pub none-come : HoldsOrTaken w e file r x → (receiver_take x).file ≡ None → HasCome w.past e file (receiver_take x).receiver (receiver_take x).receiver.state
   none-come held none =
-      subst (HasCome w e file (receiver_take x).receiver) (sym (take-state x)) (none_in x.state refl held none)
+      subst (HasCome w.past e file (receiver_take x).receiver) (sym (take-state x)) (none_in x.state refl held none)
 
   -- if one is handed out, it is the put's; the receiver was running, and is complete
   abbrev pub IsWholeFile : (f : List ℕ) → Type 0

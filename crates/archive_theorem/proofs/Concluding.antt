@@ -3,9 +3,9 @@ use Rattle.std.proofs.Common.{◌≡◌, ◌≢◌, ◌⊎◌, ℕ, List, [], Co
 use Rattle.tftp_packet.specs.declared.endpoint.Endpoint.{Endpoint}
 use Rattle.archive_table.specs.Table.{Maps, Taken, empty_maps}
 use Rattle.archive_client.specs.Client.{put}
-use Rattle.archive_theorem.specs.World.{Begun, to_write, Got, World, WorldStep, server_endpoint, start_from, start, run_from, run, AllMerged}
+use Rattle.archive_model.specs.World.{Begun, to_write, Got, World, WorldStep, server_endpoint, start_from, start, run_from, run, AllMerged}
 use Rattle.archive_theorem.specs.Headline.{IsOwn, HasOwnPorts, HasOperation, AreOver, IsStrayFrom, TakenOnce, SentOnce, IsFinishedGet, ClientHeadline, ClientsHeadline, Headline}
-use Rattle.archive_theorem.proofs.Places.{Has-contains, Has-from_contains}
+use Rattle.archive_model.proofs.Places.{Has-contains, Has-from_contains}
 use Rattle.archive_theorem.proofs.Claims.{HasBegun, HasPut, IsStranger, IsAskedBy, IsTaken, IsSent, IsGot}
 use Rattle.archive_theorem.proofs.Owning.{own-each, put_begun, get_begun}
 use Rattle.archive_theorem.proofs.ServerMoves.{begun_away}
@@ -15,20 +15,20 @@ use Rattle.archive_theorem.proofs.Strangers.{AreFromOthers, run-from_others}
 
 module _ (w : World) (h : Holds w) where
   -- an operation that has begun, in the headline's terms
-  begun_there : (e : Endpoint) → HasBegun w e → HasOperation w.begun e
+  begun_there : (e : Endpoint) → HasBegun w.past e → HasOperation w.begun e
   begun_there e b = (b.begun, Has-contains w.begun b.begun b.among, b.client)
 
   -- ---- whatever ports are reused
 
   -- a file was taken from a stranger or from an operation's endpoint
-  known : (t : Taken) (i : IsTaken w t) →
-      IsStranger w t.peer ⊎ IsAskedBy w (record { peer = t.peer; port = i.port; asked = to_write; taken = i.count }) to_write →
+  known : (t : Taken) (i : IsTaken w.past t) →
+      IsStranger w.past t.peer ⊎ IsAskedBy w.past (record { peer = t.peer; port = i.port; asked = to_write; taken = i.count }) to_write →
       HasOperation w.begun t.peer ⊎ IsStrayFrom w.strays t.peer
   known t i (inl stranger) = inr (stranger.datagram, Has-contains w.strays _ stranger.among, stranger.source)
-  known t i (inr asked) = inl (begun_there t.peer (put_begun w t.peer asked.0 asked.1))
+  known t i (inr asked) = inl (begun_there t.peer (put_begun t.peer asked.0 asked.1))
 
   -- the same for each file that was taken
-  taken_known : (t : Taken) → IsTaken w t → HasOperation w.begun t.peer ⊎ IsStrayFrom w.strays t.peer
+  taken_known : (t : Taken) → IsTaken w.past t → HasOperation w.begun t.peer ⊎ IsStrayFrom w.strays t.peer
   taken_known t i = known t i (h.opened _ i.opened.among).whose
 
   -- ---- a client whose ports are its own
@@ -37,7 +37,7 @@ module _ (w : World) (h : Holds w) where
     -- it is not on the server's host
     away : (x : Endpoint) → x ≡ e → x.host ≢ server_endpoint.host
     away x same =
-        let begun : HasBegun w e = record { begun = operation.0; among = Has-from_contains w.begun operation.0 operation.1; client = operation.2 } in
+        let begun : HasBegun w.past e = record { begun = operation.0; among = Has-from_contains w.begun operation.0 operation.1; client = operation.2 } in
         λ ours. begun_away w h e begun (ap (λ (y : Endpoint). y.host) (sym same) ∙ ours)
 
     -- a put of this file has begun there
@@ -45,14 +45,14 @@ module _ (w : World) (h : Holds w) where
     PutBy file = (b : Begun) × Contains w.begun b × (b.client ≡ e) × (b.operation ≡ put file)
 
     -- the same by the claims
-    put_by : (file : List ℕ) → HasPut w e file → PutBy file
+    put_by : (file : List ℕ) → HasPut w.past e file → PutBy file
     put_by file p = (record { client = e; operation = put file; taken = p.count }, Has-contains w.begun _ p.among, refl, refl)
 
     -- what was taken from there is the file of the put there
-    unchanged : (t : Taken) → IsTaken w t → t.peer ≡ e → PutBy t.file
+    unchanged : (t : Taken) → IsTaken w.past t → t.peer ≡ e → PutBy t.file
     unchanged t i same =
         let from = i.whose (subst (IsOwn w) (sym same) own) in
-        put_by t.file (subst (λ (x : Endpoint). HasPut w x t.file) same from.began)
+        put_by t.file (subst (λ (x : Endpoint). HasPut w.past x t.file) same from.began)
 
     -- and was taken once
     once : (i j : ℕ) (t u : Taken) → slice_get w.taken i ≡ Some t → slice_get w.taken j ≡ Some u → t.peer ≡ e → u.peer ≡ e → i ≡ j
@@ -60,7 +60,7 @@ module _ (w : World) (h : Holds w) where
         h.once i j t u at_i at_j (first ∙ sym second) (away t.peer first) (subst (IsOwn w) (sym first) own)
 
     -- what counts as sent was taken exactly once
-    sent_once : IsSent w e → SentOnce w.begun w.taken e
+    sent_once : IsSent w.past e → SentOnce w.past e
     sent_once s =
         let there = s.is_taken own in
         record {
@@ -72,7 +72,7 @@ module _ (w : World) (h : Holds w) where
         }
 
     -- what was fetched is the collection at one of the client's own requests
-    finished : (g : Got) → IsGot w g → g.client ≡ e → IsFinishedGet w.begun w.taken w.opened g
+    finished : (g : Got) → IsGot w.past g → g.client ≡ e → IsFinishedGet w.past g
     finished g is same =
         let f = is.whose (subst (IsOwn w) (sym same) own) in
         record {
@@ -91,7 +91,7 @@ module _ (w : World) (h : Holds w) where
         }
 
     -- so the headline holds for this client
-    client : ClientHeadline w e
+    client : ClientHeadline w.past e
     client =
         record {
           unchanged = λ t among same. unchanged t (h.taken t (Has-from_contains w.taken t among) (away t.peer same)) same;
@@ -105,10 +105,10 @@ module _ (w : World) (h : Holds w) where
   clients =
       record {
         taken = λ t among other. taken_known t (h.taken t (Has-from_contains w.taken t among) other);
-        sent = λ e among. let s = h.sent e (Has-from_contains w.sent e among) in begun_there e (put_begun w e s.file s.began);
+        sent = λ e among. let s = h.sent e (Has-from_contains w.sent e among) in begun_there e (put_begun e s.file s.began);
         got = λ g among.
             let is = h.got g (Has-from_contains w.got g among) in
-            begun_there g.client (get_begun w g.client is.rules is.count is.began);
+            begun_there g.client (get_begun g.client is.rules is.count is.began);
         lynx = (w.server.maps.lynx, h.best.lynx, refl);
         ms = (w.server.maps.ms, h.best.ms, refl);
         client = client;
@@ -118,11 +118,11 @@ module _ (w : World) (h : Holds w) where
 
 module _ (w : World) (all : ClientsHeadline w) (others : AreFromOthers w.taken) (own : HasOwnPorts w) where
   -- the headline holds for each operation
-  each : (e : Endpoint) → HasOperation w.begun e → ClientHeadline w e
+  each : (e : Endpoint) → HasOperation w.begun e → ClientHeadline w.past e
   each e operation = all.client e operation (own-each w own e operation)
 
   -- each file is taken at most once, unchanged
-  taken_once : TakenOnce w.begun w.taken w.strays
+  taken_once : TakenOnce w.past
   taken_once =
       record {
         known = λ t among. all.taken t among (others t (Has-from_contains w.taken t among));

@@ -16,19 +16,19 @@ use Rattle.tws_best.proofs.Texts.{file_from, is_text, file_solves, file_rules}
 use Rattle.archive_table.specs.Table.{Maps, Taken, map_of}
 use Rattle.archive_table.specs.Keeper.{Keeping}
 use Rattle.archive_client.specs.Client.{put}
-use Rattle.archive_theorem.specs.World.{Begun, Got, WorldStep, World, start_from, run_from, happens, AllMerged}
+use Rattle.archive_model.specs.World.{Begun, Got, WorldStep, World, start_from, run_from, happens, AllMerged, IsPrefix}
 use Rattle.archive_theorem.specs.Headline.{IsOwn, AreOver, IsBestOver, files_of}
-use Rattle.archive_theorem.specs.Restarts.{HasKept, RunKeeps, RestartsFrom}
+use Rattle.archive_model.specs.Restarts.{HasKept, RunKeeps, RestartsFrom}
 use Rattle.archive_theorem.specs.Durable.{HasNoWorse, AreNoWorse, HoldsFile, HoldsPromised, LoadsPromised, CutsShort}
-use Rattle.archive_theorem.proofs.Places.{Has, Extends, Extends-same, Extends-on, Has-contains, Has-from_contains, Has-extends}
+use Rattle.archive_model.proofs.Places.{Has, IsPrefix-same, IsPrefix-on, Has-contains, Has-from_contains, Has-prefix}
 use Rattle.archive_theorem.proofs.Owning.{one_operation}
 use Rattle.archive_theorem.proofs.Invariant.{AreBest, Holds, start_from-holds}
 use Rattle.archive_theorem.proofs.Collecting.{best-collected}
-use Rattle.archive_theorem.proofs.Growing.{run-grows, step-grows}
 use Rattle.archive_theorem.proofs.Remaining.{step-takes}
 use Rattle.archive_theorem.proofs.Happening.{run-append, merged-first, merged-rest, step-holds, run_from-holds}
 use Rattle.archive_theorem.proofs.Loading.{loads-the_same}
 use Rattle.archive_theorem.proofs.Persisting.{own-ruleset, event-kept, maps-are, run_from-kept, loads-from}
+use Rattle.archive_model.proofs.Growing.{step-extends, run-extends}
 
 -- ---- one collection
 
@@ -46,7 +46,7 @@ solution_held taken maps rules e best member =
     record { body = h.holder.body; has = subst (λ (k : Key). HasBody c.entries k h.holder.body) h.same h.member; no_worse = h.no_worse }
 
 -- a solution among the first files is one among all
-solution_later : (old new : List Taken) (rules : Ruleset) (e : KeyedBody) → Extends old new → IsSolutionIn rules (files_of old) e →
+solution_later : (old new : List Taken) (rules : Ruleset) (e : KeyedBody) → IsPrefix old new → IsSolutionIn rules (files_of old) e →
     IsSolutionIn rules (files_of new) e
 solution_later old new rules e more s =
     let all : files_of new ≡ files_of old ++ files_of more.rest = ap files_of more.is ∙ map-append (λ (t : Taken). t.file) old more.rest in
@@ -95,7 +95,7 @@ entry_of_text c fits f is rules e present =
 
 -- what was fetched is in later collections
 text_held : (first taken : List Taken) (maps : Maps) (rules : Ruleset) (text : List ℕ) → AreBest taken maps →
-    IsBestOver rules (files_of first) text → Extends first taken → HoldsFile maps text
+    IsBestOver rules (files_of first) text → IsPrefix first taken → HoldsFile maps text
 text_held first taken maps rules text best over more f is named e present =
     let c = over.0 in
     let fits = best-collected rules (files_of first) c over.1 in
@@ -105,12 +105,12 @@ text_held first taken maps rules text best over more f is named e present =
     solution_held taken maps named e best (solution_later first taken named e more member)
 
 -- the first files taken are the start of all
-pub first_extends : (n : ℕ) (ts : List Taken) → Extends (take n ts) ts
-first_extends n ts = record { rest = drop n ts; is = sym (take-append-drop n ts) }
+pub first_prefix : (n : ℕ) (ts : List Taken) → IsPrefix (take n ts) ts
+first_prefix n ts = record { rest = drop n ts; is = sym (take-append-drop n ts) }
 
 -- ---- a world, and the collections of a later one
 
-module _ (w : World) (h : Holds w) (taken : List Taken) (maps : Maps) (more : Extends w.taken taken) (best : AreBest taken maps) where
+module _ (w : World) (h : Holds w) (taken : List Taken) (maps : Maps) (more : IsPrefix w.taken taken) (best : AreBest taken maps) where
   -- these collections are no worse than the world's
   pub none-worse : AreNoWorse w.server.maps maps
   none-worse rules e has =
@@ -119,7 +119,7 @@ module _ (w : World) (h : Holds w) (taken : List Taken) (maps : Maps) (more : Ex
 
   -- they have each file that was taken
   taken_held : (t : Taken) → Has w.taken t → HoldsFile maps t.file
-  taken_held t has = file_held taken maps best t (Has-extends w.taken taken t more has)
+  taken_held t has = file_held taken maps best t (Has-prefix w.taken taken t more has)
 
   operation_file : (file other : List ℕ) → put file ≡ put other → file ≡ other
   operation_file file other e = cc
@@ -131,7 +131,7 @@ module _ (w : World) (h : Holds w) (taken : List Taken) (maps : Maps) (more : Ex
       let s = h.sent e (Has-from_contains w.sent e sent) in
       let there = s.is_taken own in
       let one =
-      one_operation w e own b (record { client = e; operation = put s.file; taken = s.began.count }) (Has-from_contains w.begun b among)
+      one_operation w.past e own b (record { client = e; operation = put s.file; taken = s.began.count }) (Has-from_contains w.begun b among)
       s.began.among mine refl in
       let same : s.file ≡ file = operation_file s.file file (sym (ap (λ (x : Begun). x.operation) one) ∙ puts) in
       subst (HoldsFile maps) same (taken_held (record { peer = e; file = s.file }) there.among)
@@ -142,7 +142,7 @@ module _ (w : World) (h : Holds w) (taken : List Taken) (maps : Maps) (more : Ex
       let is = h.got g (Has-from_contains w.got g among) in
       let s = (is.whose own).serves in
       let first = take s.count w.taken in
-      text_held first taken maps is.rules g.file best s.is_text.best (Extends-on first w.taken taken (first_extends s.count w.taken) more)
+      text_held first taken maps is.rules g.file best s.is_text.best (IsPrefix-on (first_prefix s.count w.taken) more)
 
   -- so they have all that was promised
   pub holds-promised : HoldsPromised w maps
@@ -157,7 +157,7 @@ module _ (w : World) (h : Holds w) (taken : List Taken) (maps : Maps) (more : Ex
 
 -- what a later world has kept holds what an earlier one has promised
 loads_later : (w : World) (steps : List WorldStep) (v : World) (log : List Keeping) → Holds (run_from steps w) →
-    Extends (run_from steps w).taken v.taken → AreBest v.taken v.server.maps → HasKept log v.server.maps → LoadsPromised w steps log
+    IsPrefix (run_from steps w).taken v.taken → AreBest v.taken v.server.maps → HasKept log v.server.maps → LoadsPromised w steps log
 loads_later w steps v log h more best kept lynx ms from_lynx from_ms =
     let same =
     loads-the_same log v.server.maps kept (best-collected Lynx _ v.server.maps.lynx best.lynx)
@@ -180,7 +180,7 @@ module _ (texts : List (List ℕ)) (maps : Maps) (over : AreOver texts maps) whe
   never-worse before after merged =
       let w = run_from before first in
       let v = run_from (before ++ after) first in
-      let more : Extends w.taken v.taken = subst (λ (x : World). Extends w.taken x.taken) (sym (run-append before after first)) (run-grows after w).taken in
+      let more : IsPrefix w.taken v.taken = subst (λ (x : World). IsPrefix w.taken x.taken) (sym (run-append before after first)) (run-extends after w).taken in
       let h = run_from-holds before first at_first (merged-first before after first merged) in
       none-worse w h v.taken v.server.maps more (run_from-holds (before ++ after) first at_first merged).best
 
@@ -202,7 +202,7 @@ module _ (texts : List (List ℕ)) (maps : Maps) (over : AreOver texts maps) whe
     loads-promised steps last merged keeps =
         let w = run_from steps first in
         let h = run_from-holds steps first at_first merged in
-        loads_later first steps w last h (Extends-same w.taken) h.best (has_kept steps last merged keeps)
+        loads_later first steps w last h (IsPrefix-same w.taken) h.best (has_kept steps last merged keeps)
 
     -- if a crash cuts a step short, what is then loaded has all that was promised
     pub cut-promised : (steps : List WorldStep) (s : WorldStep) (before last : List Keeping) → AllMerged (steps ++ s ∷ []) first →
@@ -217,4 +217,4 @@ module _ (texts : List (List ℕ)) (maps : Maps) (over : AreOver texts maps) whe
         let best = (step-holds w s h (merged-rest steps (s ∷ []) first merged).0).best in
         let now =
         event-kept w s.event s.grant s.maps before after (step-takes w s) (own-ruleset v.taken v.server.maps best) by (has_kept steps before early keeps) in
-        subst (LoadsPromised first steps) (sym late) (loads_later first steps v after h (step-grows w s).taken best now)
+        subst (LoadsPromised first steps) (sym late) (loads_later first steps v after h (step-extends w s).taken best now)

@@ -6,17 +6,16 @@ use Rattle.tws_file.specs.declared.«ruleset».Ruleset.{Ruleset}
 use Rattle.tws_file.specs.declared.«ruleset».Ruleset.TheVariants.{Lynx}
 use Rattle.archive_table.specs.Table.{Maps, empty_maps}
 use Rattle.archive_client.specs.Client.{Operation, put, get}
-use Rattle.archive_theorem.specs.World.{Begun, Event, begin, Got, World, WorldStep, server_endpoint, begins_unless, event_happens, happens, start_from, run_from, run, start, AllMerged}
+use Rattle.archive_model.specs.World.{Begun, Event, begin, Got, World, WorldStep, server_endpoint, begins_unless, event_happens, happens, start_from, run_from, run, start, AllMerged, Extends}
 use Rattle.archive_theorem.specs.Headline.{IsOwn, AreOver, HasOwnPorts, IsBestOver, files_of, IsFetchedWith, FetchesOwnSent, FetchesSent}
-use Rattle.archive_theorem.proofs.Places.{Has, Has-last, Has-extends, Has-contains, Has-from_contains, at-extends, at-take, before_last}
-use Rattle.archive_theorem.proofs.Claims.{GrowsTo, HasGet}
-use Rattle.archive_theorem.proofs.Lasting.{either}
+use Rattle.archive_model.proofs.Places.{Has, Has-last, Has-prefix, Has-contains, Has-from_contains, at-prefix, at-take, before_last, either}
+use Rattle.archive_theorem.proofs.Claims.{HasGet}
 use Rattle.archive_theorem.proofs.Owning.{get_begun, one_operation, own-each, none_reused-before}
 use Rattle.archive_theorem.proofs.Invariant.{Holds, none-over, start_from-holds}
 use Rattle.archive_theorem.proofs.ServerMoves.{begun_away}
-use Rattle.archive_theorem.proofs.Growing.{run-grows}
 use Rattle.archive_theorem.proofs.Happening.{run-append, merged-first, run_from-holds}
 use Rattle.archive_theorem.proofs.Concluding.{run-clients}
+use Rattle.archive_model.proofs.Growing.{run-extends}
 
 -- the get was counted when it began
 begins_counted : (w : World) (ours : Bool) (e : Endpoint) (rules : Ruleset) → (e.host == server_endpoint.host) ≡ ours →
@@ -39,22 +38,22 @@ rules_of (put file) = Lynx
 rules_of (get rules) = rules
 
 -- the worlds before the begin, and at the end
-module _ (w v : World) (h : Holds w) (k : Holds v) (g : GrowsTo w v) (e : Endpoint) (own : IsOwn v e) where
+module _ (w v : World) (h : Holds w) (k : Holds v) (g : Extends w.past v.past) (e : Endpoint) (own : IsOwn v e) where
   -- the count of the get is that at its begin
   pub counted : (rules other : Ruleset) (m : ℕ) →
       (e.host ≡ server_endpoint.host) ⊎ Has v.begun (record { client = e; operation = get rules; taken = length w.taken }) →
-      HasGet v e other m → length w.taken ≡ m
-  counted rules other m (inl ours) began = absurd (begun_away v k e (get_begun v e other m began) ours)
+      HasGet v.past e other m → length w.taken ≡ m
+  counted rules other m (inl ours) began = absurd (begun_away v k e (get_begun e other m began) ours)
   counted rules other m (inr has) began =
-      ap (λ (b : Begun). b.taken) (one_operation v e own _ (record { client = e; operation = get other; taken = m }) has began.among refl refl)
+      ap (λ (b : Begun). b.taken) (one_operation v.past e own _ (record { client = e; operation = get other; taken = m }) has began.among refl refl)
 
   -- and its ruleset is the one that it began with
   same_ruleset_of : (rules other : Ruleset) (m : ℕ) →
       (e.host ≡ server_endpoint.host) ⊎ Has v.begun (record { client = e; operation = get rules; taken = length w.taken }) →
-      HasGet v e other m → rules ≡ other
-  same_ruleset_of rules other m (inl ours) began = absurd (begun_away v k e (get_begun v e other m began) ours)
+      HasGet v.past e other m → rules ≡ other
+  same_ruleset_of rules other m (inl ours) began = absurd (begun_away v k e (get_begun e other m began) ours)
   same_ruleset_of rules other m (inr has) began =
-      ap (λ (b : Begun). rules_of b.operation) (one_operation v e own _ (record { client = e; operation = get other; taken = m }) has began.among refl refl)
+      ap (λ (b : Begun). rules_of b.operation) (one_operation v.past e own _ (record { client = e; operation = get other; taken = m }) has began.among refl refl)
 
   -- what it has fetched is over files among which the other's is
   fetched : (rules : Ruleset) →
@@ -66,12 +65,12 @@ module _ (w v : World) (h : Holds w) (k : Holds v) (g : GrowsTo w v) (e : Endpoi
       let sent = h.sent x has in
       let there = sent.is_taken own_then in
       let position = there.among.position in
-      let by : HasGet v e is.rules is.count = subst (λ (f : Endpoint). HasGet v f is.rules is.count) same is.began in
+      let by : HasGet v.past e is.rules is.count = subst (λ (f : Endpoint). HasGet v.past f is.rules is.count) same is.began in
       let count : length w.taken ≡ is.count = counted rules is.rules is.count began by in
       let early : position < length w.taken = before_last w.taken position _ there.among.is in
       let since : is.count ≤ f.serves.count = f.since in
       let within : position < f.serves.count = omega arith in
-      let still = at-extends w.taken v.taken g.taken position _ there.among.is in
+      let still = at-prefix w.taken v.taken g.taken position _ there.among.is in
       let among : Has (take f.serves.count v.taken) (record { peer = x; file = sent.file }) =
       record { position = position; is = at-take f.serves.count v.taken position _ within still } in
       record {
@@ -90,14 +89,14 @@ fetches-own_sent texts maps over before after s merged e rules is own x has own_
     let w = run_from before first in
     let v = run_from (before ++ s ∷ after) first in
     let end : v ≡ run_from after (happens s w) = run-append before (s ∷ after) first in
-    let grows : GrowsTo w v = subst (GrowsTo w) (sym end) (run-grows (s ∷ after) w) in
+    let grows : Extends w.past v.past = subst (λ (x : World). Extends w.past x.past) (sym end) (run-extends (s ∷ after) w) in
     let at_first = start_from-holds texts maps over in
     let h = run_from-holds before first at_first (merged-first before (s ∷ after) first merged) in
     let k = run_from-holds (before ++ s ∷ after) first at_first merged in
     let now = begin_counted w s e rules is in
-    let more : GrowsTo (happens s w) v = subst (GrowsTo (happens s w)) (sym end) (run-grows after (happens s w)) in
+    let more : Extends (happens s w).past v.past = subst (λ (x : World). Extends (happens s w).past x.past) (sym end) (run-extends after (happens s w)) in
     let began =
-    either (λ ours. ours) (Has-extends (happens s w).begun v.begun (record { client = e; operation = get rules; taken = length w.taken }) more.begun) now in
+    either (λ ours. ours) (Has-prefix (happens s w).begun v.begun (record { client = e; operation = get rules; taken = length w.taken }) more.begun) now in
     fetched w v h k grows e own rules began x (Has-from_contains w.sent x has) own_then got (Has-from_contains v.got got has_got) same
 
 -- The sender and the getter have begun operations, so if no port is reused theirs are their own.
@@ -107,7 +106,7 @@ fetches-sent before after s own merged e rules is x has got has_got same =
     let w = run before in
     let v = run (before ++ s ∷ after) in
     let end : v ≡ run_from after (happens s w) = run-append before (s ∷ after) start in
-    let grows : GrowsTo w v = subst (GrowsTo w) (sym end) (run-grows (s ∷ after) w) in
+    let grows : Extends w.past v.past = subst (λ (x : World). Extends w.past x.past) (sym end) (run-extends (s ∷ after) w) in
     let all = run-clients (before ++ s ∷ after) merged in
     let first = run-clients before (merged-first before (s ∷ after) start merged) in
     let getter = subst (IsOwn v) same (own-each v own got.client (all.got got has_got)) in

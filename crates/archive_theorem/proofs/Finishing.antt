@@ -14,11 +14,11 @@ use Rattle.archive_table.specs.Table.{Table, Maps, Taken, Grant, all, memory_ver
 use Rattle.archive_table.proofs.SamePort.{request_same, datagram_same, timeout_same}
 use Rattle.archive_client.specs.Client.{Operation, put, Client, operation_request, client_start, put_sent, put_answered, client_datagram, is_too_long}
 use Rattle.archive_client.specs.Client as client
-use Rattle.archive_theorem.specs.World.{Datagram, Event, begin, deliver, client_times_out, server_times_out, stray, restart, WorldStep, World, server_endpoint, start_from, client_at, has_begun, after_request, after_transfer, after_client, begins, begins_unless, asked_of, request_comes, server_receives, client_receives, arrives, delivers, client_waits, strays_unless, event_happens, happens, run_from, HasMerged, AllMerged, MayDeliver}
+use Rattle.archive_model.specs.World.{Datagram, Event, begin, deliver, client_times_out, server_times_out, stray, restart, WorldStep, World, server_endpoint, start_from, client_at, has_begun, after_request, after_transfer, after_client, begins, begins_unless, asked_of, request_comes, server_receives, client_receives, arrives, delivers, client_waits, strays_unless, event_happens, happens, run_from, HasMerged, AllMerged, MayDeliver}
 use Rattle.archive_theorem.specs.Headline.{AreOver}
 use Rattle.archive_theorem.specs.Freeing.{time_outs}
 use Rattle.archive_theorem.specs.Progress.{CanPut, IsUnstuck}
-use Rattle.archive_theorem.proofs.Places.{Has-last, Has-contains}
+use Rattle.archive_model.proofs.Places.{Has-last, Has-contains}
 use Rattle.archive_theorem.proofs.Endpoints.{exact_endpoint}
 use Rattle.archive_theorem.proofs.Keyed.{lookup-written}
 use Rattle.archive_theorem.proofs.Totality.{one_last, merged-of}

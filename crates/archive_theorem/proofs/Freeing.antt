@@ -9,7 +9,7 @@ use Rattle.tftp_ends.specs.declared.recv_state.RecvState.{RecvState}
 use Rattle.tftp_ends.specs.declared.recv_state.RecvState.TheVariants as recv
 use Rattle.tftp_ends.specs.Ends.{Sender, Receiver, sender_missed, sender_stays, sender_timeout_in, receiver_missed, receiver_dallied, receiver_timeout_in}
 use Rattle.archive_table.specs.Table.{Table, Maps, Taken, End, Transfer, sending, receiving, TableAnswer, at_port, transfer_at, sending_goes_on, receiving_goes_on, waits_at, timeout_at, table_timeout}
-use Rattle.archive_theorem.specs.World.{WorldStep, World, after_transfer, taken_with, start_from, run_from, AllMerged}
+use Rattle.archive_model.specs.World.{WorldStep, World, after_transfer, taken_with, start_from, run_from, AllMerged}
 use Rattle.archive_theorem.specs.Headline.{AreOver}
 use Rattle.archive_theorem.specs.Freeing.{time_out, time_outs, IsFreed}
 use Rattle.archive_theorem.proofs.Claims.{IsLiveEnd}
@@ -108,7 +108,7 @@ module _ (port : ℕ) (t : Transfer) (rest : List (ℕ × Transfer)) where
   set_first u = ap (λ (b : Bool). cond b ((port, u) ∷ rest) ((port, t) ∷ set_value (at_port port) rest u)) (same_port port)
 
 -- an end that is within its bounds has missed fewer than MISSES
-patient : (w : World) (e : Endpoint) (port : ℕ) (end : End) → IsLiveEnd w e port end → misses_of end < MISSES
+patient : (w : World) (e : Endpoint) (port : ℕ) (end : End) → IsLiveEnd w.past e port end → misses_of end < MISSES
 patient w e port (sending s) there = there.bounds.patient
 patient w e port (receiving r) there = there.bounds.patient
 

@@ -17,11 +17,11 @@ use Rattle.archive_client.specs.Client.{get, Phase, asking, receiving, Client, p
 use Rattle.archive_client.specs.declared.state.State.{State}
 use Rattle.archive_client.specs.declared.state.State.TheVariants as state
 use Rattle.archive_client.specs.Client as client
-use Rattle.archive_theorem.specs.World.{Datagram, Event, deliver, Got, WorldStep, World, server_endpoint, newly_got, got_with, start_from, client_at, after_request, after_transfer, after_client, begins, asked_of, event_happens, run_from, AllMerged, MayHappen, MayDeliver}
+use Rattle.archive_model.specs.World.{Datagram, Event, deliver, Got, WorldStep, World, server_endpoint, newly_got, got_with, start_from, client_at, after_request, after_transfer, after_client, begins, asked_of, event_happens, run_from, AllMerged, MayHappen, MayDeliver}
 use Rattle.archive_theorem.specs.Headline.{AreOver}
 use Rattle.archive_theorem.specs.Freeing.{time_outs}
 use Rattle.archive_theorem.specs.Progress.{CanGet, GetIsUnstuck}
-use Rattle.archive_theorem.proofs.Places.{Has-last, Has-contains}
+use Rattle.archive_model.proofs.Places.{Has-last, Has-contains}
 use Rattle.archive_theorem.proofs.Endpoints.{exact_endpoint}
 use Rattle.archive_theorem.proofs.Keyed.{lookup-written}
 use Rattle.archive_theorem.proofs.Freeing.{found_first, set_first, run_from-freed}

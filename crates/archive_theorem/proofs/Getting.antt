@@ -16,9 +16,9 @@ use Rattle.tws_file.specs.declared.«ruleset».Ruleset.{Ruleset}
 use Rattle.archive_client.specs.declared.cause.Cause.TheVariants as cause
 use Rattle.archive_client.specs.declared.state.State.TheVariants as state
 use Rattle.archive_client.specs.Client.{get, Phase, asking, receiving, failed, Client, in_phase, out_to, sends_to, moves, get_took, get_answered, get_refused, get_waited, get_waits, get_stays, cause_of, recv_state, phase_state}
-use Rattle.archive_theorem.specs.World.{Datagram, World, to_read, server_endpoint, newly_got, after_client, client_at}
+use Rattle.archive_model.specs.World.{Datagram, World, to_read, server_endpoint, newly_got, after_client, client_at}
 use Rattle.archive_theorem.specs.Headline.{IsOwn}
-use Rattle.archive_theorem.proofs.Places.{Has}
+use Rattle.archive_model.proofs.Places.{Has}
 use Rattle.archive_theorem.proofs.Claims.{HasGet, IsStranger, PutsBlock, Serves, ServesBlock, Fetches, Says, IsAskingFor, IsGetting, IsAskedBy, MayBind, IsFetched, IsGot}
 use Rattle.archive_theorem.proofs.Owning.{no_stranger, put_begun, one_get}
 use Rattle.archive_theorem.proofs.Invariant.{Holds}
@@ -29,10 +29,10 @@ use Rattle.archive_theorem.proofs.Putting.{server_says}
 
 -- a block from the server's host is one of a collection that is served there
 pub served_by : (w : World) → Holds w → (d : Datagram) → Has w.net d → d.source.host ≡ server_endpoint.host → (n : ℕ) (body : List ℕ) →
-    decode_bytes d.bytes ≡ Ok (data_block n body) → ServesBlock w d.source d.target n body
+    decode_bytes d.bytes ≡ Ok (data_block n body) → ServesBlock w.past d.source d.target n body
 served_by w h d among ours n body reads =
     ⊎_elim
-    (λ (p : PutsBlock w d.source n body). absurd (begun_away w h d.source (put_begun w d.source p.file p.began) ours))
+    (λ (p : PutsBlock w.past d.source n body). absurd (begun_away w h d.source (put_begun d.source p.file p.began) ours))
     (λ serves. serves)
     (server_says w h d among ours (data_block n body) reads)
 
@@ -65,34 +65,34 @@ same_file r f file is also = cc
 
 module _ (w : World) (h : Holds w) (e : Endpoint) where
   -- a transfer that was opened for a get counts no fewer files than the get does
-  since_by : IsOwn w e → (rules other : Ruleset) (count : ℕ) (port : ℕ) (file : List ℕ) → HasGet w e rules count →
-      (s : Serves w e port other file) →
-      IsStranger w e ⊎ IsAskedBy w (record { peer = e; port = port; asked = to_read other; taken = s.count }) (to_read other) →
+  since_by : IsOwn w e → (rules other : Ruleset) (count : ℕ) (port : ℕ) (file : List ℕ) → HasGet w.past e rules count →
+      (s : Serves w.past e port other file) →
+      IsStranger w.past e ⊎ IsAskedBy w.past (record { peer = e; port = port; asked = to_read other; taken = s.count }) (to_read other) →
       (other ≡ rules) × (count ≤ s.count)
-  since_by own rules other count port file began s (inl stranger) = no_stranger w e own stranger
+  since_by own rules other count port file began s (inl stranger) = no_stranger w.past e own stranger
   since_by own rules other count port file began s (inr asked) =
-      let one = one_get w e own rules other count asked.0 began asked.1 in
+      let one = one_get w.past e own rules other count asked.0 began asked.1 in
       (sym one.0, subst (λ (m : ℕ). m ≤ s.count) (sym one.1) asked.2)
 
   -- and serves the ruleset that the get asks for
-  served_since : IsOwn w e → (rules other : Ruleset) (count : ℕ) (port : ℕ) (file : List ℕ) → HasGet w e rules count →
-      (s : Serves w e port other file) → (other ≡ rules) × (count ≤ s.count)
+  served_since : IsOwn w e → (rules other : Ruleset) (count : ℕ) (port : ℕ) (file : List ℕ) → HasGet w.past e rules count →
+      (s : Serves w.past e port other file) → (other ≡ rules) × (count ≤ s.count)
   served_since own rules other count port file began s =
       since_by own rules other count port file began s (h.opened _ s.opened.among).whose
 
   -- what it has, once it has ended, is what is served
-  is_fetched : (port : ℕ) (r : Receiver) (g : IsGetting w e port r) → IsEnded r.state → (f : List ℕ) → r.file ≡ Some f → IsOwn w e →
-      IsFetched w (record { client = e; file = f }) g.rules g.count
+  is_fetched : (port : ℕ) (r : Receiver) (g : IsGetting w.past e port r) → IsEnded r.state → (f : List ℕ) → r.file ≡ Some f → IsOwn w e →
+      IsFetched w.past (record { client = e; file = f }) g.rules g.count
   is_fetched port r g ended f given own =
       let s = g.served own in
       let same = same_file r f s.file given (ended-whole s.file r s.holds g.bounds ended).1 in
       let since = (served_since own g.rules g.rules g.count port s.file g.began s.serves).1 in
-      let fetched : IsFetched w (record { client = e; file = s.file }) g.rules g.count = record { port = port; serves = s.serves; since = since } in
-      subst (λ (file : List ℕ). IsFetched w (record { client = e; file = file }) g.rules g.count) same fetched
+      let fetched : IsFetched w.past (record { client = e; file = s.file }) g.rules g.count = record { port = port; serves = s.serves; since = since } in
+      subst (λ (file : List ℕ). IsFetched w.past (record { client = e; file = file }) g.rules g.count) same fetched
 
   -- a get that has ended has its file
-  pub is_got : (port : ℕ) (r : Receiver) → IsGetting w e port r → (s : _) → newly_got s (recv_state r.state) ≡ true → (f : List ℕ) →
-      (receiver_take r).file ≡ Some f → IsGot w (record { client = e; file = f })
+  pub is_got : (port : ℕ) (r : Receiver) → IsGetting w.past e port r → (s : _) → newly_got s (recv_state r.state) ≡ true → (f : List ℕ) →
+      (receiver_take r).file ≡ Some f → IsGot w.past (record { client = e; file = f })
   is_got port r g s new f given =
       let both = newly_got-from s (recv_state r.state) new in
       record {
@@ -103,8 +103,8 @@ module _ (w : World) (h : Holds w) (e : Endpoint) where
       }
 
   -- it goes on with another receiver, which holds more of the same file
-  getting_on : (port : ℕ) (r next : Receiver) (g : IsGetting w e port r) → ((own : IsOwn w e) → HoldsFirst (g.served own).file next) →
-      IsReceiver next → IsGetting w e port next
+  getting_on : (port : ℕ) (r next : Receiver) (g : IsGetting w.past e port r) → ((own : IsOwn w e) → HoldsFirst (g.served own).file next) →
+      IsReceiver next → IsGetting w.past e port next
   getting_on port r next g holds bounds =
       record {
         rules = g.rules;
@@ -119,12 +119,12 @@ module _ (w : World) (h : Holds w) (e : Endpoint) where
 
     module _ (port : ℕ) (was : (q : ℕ) → MayBind c.phase q → q ≡ port) where
       -- its ACK is honest
-      ack_sends : (rules : Ruleset) (count : ℕ) → HasGet w e rules count → (out : Option Packet) (n : ℕ) → IfSome out ReadsBack →
+      ack_sends : (rules : Ruleset) (count : ℕ) → HasGet w.past e rules count → (out : Option Packet) (n : ℕ) → IfSome out ReadsBack →
           IfSome out (λ p. p ≡ ack n) → IfSome (sends_to port out c) (SendsHonestly w e)
       ack_sends rules count began None n back sends = tt
       ack_sends rules count began (Some p) n back sends =
-          let fetches : Fetches w e = record { rules = rules; count = count; began = began } in
-          sends_it w h e c is port p back.decoded (subst (Says w e (record { host = c.server.host; port = port })) (sym sends) (inl fetches))
+          let fetches : Fetches w.past e = record { rules = rules; count = count; began = began } in
+          sends_it w h e c is port p back.decoded (subst (Says w.past e (record { host = c.server.host; port = port })) (sym sends) (inl fetches))
 
       -- and binds it to that port only
       ack_binds : (next : Receiver) → (out : Option Packet) → IfSome (sends_to port out c) (BindsTo c (in_phase (receiving port next) c))
@@ -132,7 +132,7 @@ module _ (w : World) (h : Holds w) (e : Endpoint) where
       ack_binds next (Some p) = binds_there w h e c is port p (in_phase (receiving port next) c) (λ q same. same) was
 
       -- a step to a receiver that holds more of the same file
-      receives-holds : (next : Receiver) → IsGetting w e port next → (out : Option Packet) → IfSome out ReadsBack →
+      receives-holds : (next : Receiver) → IsGetting w.past e port next → (out : Option Packet) → IfSome out ReadsBack →
           IfSome out (λ p. p ≡ ack next.count) → Holds (after_client e c (moves (receiving port next) (sends_to port out c) c) w)
       receives-holds next g out back sends =
           moves-holds w h e c is (receiving port next) (sends_to port out c)
@@ -146,14 +146,14 @@ module _ (w : World) (h : Holds w) (e : Endpoint) where
           })
 
       -- a DATA arrives
-      module _ (r : Receiver) (g : IsGetting w e port r) (verdict : Verdict) (n : ℕ) (body : List ℕ) (short : length body ≤ BLOCK_SIZE)
+      module _ (r : Receiver) (g : IsGetting w.past e port r) (verdict : Verdict) (n : ℕ) (body : List ℕ) (short : length body ≤ BLOCK_SIZE)
           (is_block : (own : IsOwn w e) → body ≡ block_of (g.served own).file n) where
         -- its receiver's answer
         abbrev came : DataAnswer
         came = receiver_data verdict n body r
 
         -- after the block it still fetches the same file
-        getting_after : IsGetting w e port came.receiver
+        getting_after : IsGetting w.past e port came.receiver
         getting_after =
             getting_on port r came.receiver g
             (λ own. receiver_data-holds (g.served own).file r (g.served own).holds verdict n body (is_block own))
@@ -177,9 +177,9 @@ module _ (w : World) (h : Holds w) (e : Endpoint) where
         took-holds = took_in came.result refl
 
       -- a time-out
-      module _ (r : Receiver) (g : IsGetting w e port r) where
+      module _ (r : Receiver) (g : IsGetting w.past e port r) where
         -- after the time-out it still fetches the same file
-        getting_waited : IsGetting w e port (receiver_timeout r).receiver
+        getting_waited : IsGetting w.past e port (receiver_timeout r).receiver
         getting_waited =
             getting_on port r (receiver_timeout r).receiver g (λ own. receiver_timeout-holds (g.served own).file r (g.served own).holds)
             ((receiver_timeout-keeps r).fits g.bounds)
@@ -203,18 +203,18 @@ module _ (w : World) (h : Holds w) (e : Endpoint) where
 
     -- ---- it binds
 
-    module _ (rules : Ruleset) (misses : ℕ) (at : c.phase ≡ asking (get rules) misses) (there : IsAskingFor w e (get rules))
+    module _ (rules : Ruleset) (misses : ℕ) (at : c.phase ≡ asking (get rules) misses) (there : IsAskingFor w.past e (get rules))
         (verdict : Verdict) (port n : ℕ) (body : List ℕ) (short : length body ≤ BLOCK_SIZE) where
       -- it is bound to no port
       unbound : (q : ℕ) → MayBind c.phase q → q ≡ port
       unbound q m = absurd (subst (λ (x : Phase). MayBind x q) at m)
 
       -- a new receiver fetches whatever is served
-      getting_first : (other : Ruleset) (file : List ℕ) → Serves w e port other file → IsGetting w e port receiver_start
+      getting_first : (other : Ruleset) (file : List ℕ) → Serves w.past e port other file → IsGetting w.past e port receiver_start
       getting_first other file serves =
-          let began : HasGet w e rules there.count = record { among = there.among } in
+          let began : HasGet w.past e rules there.count = record { among = there.among } in
           let here =
-          λ (own : IsOwn w e). subst (λ (k : Ruleset). Serves w e port k file) (served_since own rules other there.count port file began serves).0 serves in
+          λ (own : IsOwn w e). subst (λ (k : Ruleset). Serves w.past e port k file) (served_since own rules other there.count port file began serves).0 serves in
           record {
             rules = rules;
             count = there.count;
@@ -224,7 +224,7 @@ module _ (w : World) (h : Holds w) (e : Endpoint) where
           }
 
       -- a DATA that may answer the request keeps the invariant
-      pub get_answered-holds : (other : Ruleset) (file : List ℕ) → Serves w e port other file → body ≡ block_of file n → (first : Bool) →
+      pub get_answered-holds : (other : Ruleset) (file : List ℕ) → Serves w.past e port other file → body ≡ block_of file n → (first : Bool) →
           Holds (after_client e c (get_answered first verdict port n body c) w)
       unfolding getting_first
       get_answered-holds other file serves is_block true =

@@ -9,9 +9,9 @@ use Rattle.tftp_packet.specs.Decode.{decode_bytes}
 use Rattle.tftp_packet.proofs.Sent.{data_size}
 use Rattle.tftp_ends.specs.Input.{input_of_packet, input_from_peer, input_from_other}
 use Rattle.archive_table.specs.Table.{Maps, Grant, End, Transfer, sending, receiving, transfer_at, out_from, is_same, transfer_input_decoded, transfer_by_input, data_at, ack_at, datagram_at, table_datagram}
-use Rattle.archive_theorem.specs.World.{Datagram, World, server_endpoint, after_transfer}
+use Rattle.archive_model.specs.World.{Datagram, World, server_endpoint, after_transfer}
 use Rattle.archive_theorem.specs.Headline.{IsOwn}
-use Rattle.archive_theorem.proofs.Places.{Has}
+use Rattle.archive_model.proofs.Places.{Has}
 use Rattle.archive_theorem.proofs.Endpoints.{endpoint_is, exact_endpoint}
 use Rattle.archive_theorem.proofs.Claims.{IsStranger, PutsBlock, Binds, IsBound, IsLiveEnd}
 use Rattle.archive_theorem.proofs.Owning.{no_stranger}
@@ -26,7 +26,7 @@ module _ (w : World) (h : Holds w) (d : Datagram) (among : Has w.net d) (ours : 
   port = d.target.port
 
   -- a DATA or an ACK from the peer
-  bound : d.source ≡ t.peer → (p : Packet) → decode_bytes d.bytes ≡ Ok p → Binds (Ok p) → IsBound w t.peer port
+  bound : d.source ≡ t.peer → (p : Packet) → decode_bytes d.bytes ≡ Ok p → Binds (Ok p) → IsBound w.past t.peer port
   bound same p reads binds =
       record {
         datagram = d;
@@ -37,20 +37,20 @@ module _ (w : World) (h : Holds w) (d : Datagram) (among : Has w.net d) (ours : 
       }
 
   -- a DATA from the peer is a block of its put
-  block_received : d.source ≡ t.peer → (n : ℕ) (body : List ℕ) → decode_bytes d.bytes ≡ Ok (data_block n body) → IsOwn w t.peer → PutsBlock w t.peer n body
+  block_received : d.source ≡ t.peer → (n : ℕ) (body : List ℕ) → decode_bytes d.bytes ≡ Ok (data_block n body) → IsOwn w t.peer → PutsBlock w.past t.peer n body
   block_received same n body reads own =
       ⊎_elim
-      (λ stranger. no_stranger w t.peer own (subst (IsStranger w) same stranger))
+      (λ stranger. no_stranger w.past t.peer own (subst (IsStranger w.past) same stranger))
       (λ says.
       ⊎_elim
-      (λ puts. subst (λ (e : Endpoint). PutsBlock w e n body) same puts)
+      (λ puts. subst (λ (e : Endpoint). PutsBlock w.past e n body) same puts)
       (λ serves. absurd ((h.live port t is).away (ap (λ (e : Endpoint). e.host) (sym same) ∙ serves.ours)))
       (says (data_block n body) reads))
       (h.net d among).says
 
   -- a DATA from the peer
   data_received : d.source ≡ t.peer → (n : ℕ) (body : List ℕ) → decode_bytes d.bytes ≡ Ok (data_block n body) → (end : End) → t.end ≡ end →
-      IsLiveEnd w t.peer port end → MergesTaken w (data_at end grant maps port t.peer n body w.server) →
+      IsLiveEnd w.past t.peer port end → MergesTaken w (data_at end grant maps port t.peer n body w.server) →
       Holds (after_transfer (data_at end grant maps port t.peer n body w.server) w)
   data_received same n body reads (sending s) end there joined = h
   data_received same n body reads (receiving r) end there joined =
@@ -58,7 +58,7 @@ module _ (w : World) (h : Holds w) (d : Datagram) (among : Has w.net d) (ours : 
       (block_received same n body reads) joined
 
   -- an ACK from the peer
-  ack_received : (n : ℕ) → (end : End) → IsLiveEnd w t.peer port end → Holds (after_transfer (ack_at end port t.peer n w.server) w)
+  ack_received : (n : ℕ) → (end : End) → IsLiveEnd w.past t.peer port end → Holds (after_transfer (ack_at end port t.peer n w.server) w)
   ack_received n (sending s) there = ack-holds w h port t is n s there
   ack_received n (receiving r) there = h
 

@@ -4,8 +4,8 @@ use Rattle.std.proofs.lemmas.Bool.{eqb-true, eqb-false}
 use Rattle.archive_table.specs.Table.{Maps, empty_maps, Grant, Transfer, Taken, TableAnswer, memory_verdict, transfer_at, table_datagram, IsMerged}
 use Rattle.archive_client.specs.Client.{Operation, Client, is_too_long}
 use Rattle.tftp_packet.specs.declared.endpoint.Endpoint.{Endpoint}
-use Rattle.archive_theorem.specs.World.{Datagram, World, Event, begin, deliver, client_times_out, server_times_out, stray, restart, WorldStep, server_endpoint, client_at, has_begun, taken_with, after_transfer, begins_unless, request_comes, server_receives, client_receives, arrives, delivers, client_waits, strays_unless, event_happens, happens, run_from, run, start, HasMerged, AllMerged, AllMayHappen}
-use Rattle.archive_theorem.proofs.Places.{Has}
+use Rattle.archive_model.specs.World.{Datagram, World, Event, begin, deliver, client_times_out, server_times_out, stray, restart, WorldStep, server_endpoint, client_at, has_begun, taken_with, after_transfer, begins_unless, request_comes, server_receives, client_receives, arrives, delivers, client_waits, strays_unless, event_happens, happens, run_from, run, start, HasMerged, AllMerged, AllMayHappen}
+use Rattle.archive_model.proofs.Places.{Has}
 use Rattle.archive_theorem.proofs.Invariant.{Holds, none-over, start_from-holds}
 use Rattle.archive_theorem.proofs.Acking.{timeout-holds}
 use Rattle.archive_theorem.proofs.Receiving.{MergesTaken}

@@ -8,9 +8,9 @@ use Rattle.tws_file.specs.declared.«ruleset».Ruleset.TheVariants.{Lynx, Ms}
 use Rattle.tws_best.proofs.Sets.{no_texts}
 use Rattle.archive_table.specs.Table.{Maps, Taken, Transfer, at_port, transfer_at, empty_maps}
 use Rattle.archive_client.specs.Client.{Client}
-use Rattle.archive_theorem.specs.World.{Datagram, Begun, Opening, Got, World, given, start_from, client_at, server_endpoint}
-use Rattle.archive_theorem.specs.Headline.{IsOwn, AreOver, files_of}
-use Rattle.archive_theorem.proofs.Places.{Has}
+use Rattle.archive_model.specs.World.{Datagram, Begun, Opening, Got, World, given, start_from, client_at, server_endpoint, Past}
+use Rattle.archive_theorem.specs.Headline.{Owns, IsOwn, AreOver, files_of}
+use Rattle.archive_model.proofs.Places.{Has}
 use Rattle.archive_theorem.proofs.Keyed.{IsApart}
 use Rattle.archive_theorem.proofs.Claims.{HasBegun, IsHonest, IsBound, IsLive, IsUntaken, IsFaithful, MayBind, IsOpening, IsTaken, IsSent, IsGot}
 
@@ -32,35 +32,35 @@ abbrev pub AreBest : List Taken → Maps → Type 0
 AreBest taken maps = AreOver (files_of taken) maps
 
 -- two files from one peer on another host, whose ports are its own, are the same
-abbrev pub TakesOnce : World → Type 0
-TakesOnce w =
-    (i j : ℕ) (t u : Taken) → slice_get w.taken i ≡ Some t → slice_get w.taken j ≡ Some u → t.peer ≡ u.peer → t.peer.host ≢
-    server_endpoint.host → IsOwn w t.peer → i ≡ j
+abbrev pub TakesOnce : Past → Type 0
+TakesOnce past =
+    (i j : ℕ) (t u : Taken) → slice_get past.taken i ≡ Some t → slice_get past.taken j ≡ Some u → t.peer ≡ u.peer → t.peer.host ≢
+    server_endpoint.host → Owns past t.peer → i ≡ j
 
 -- an operation that has begun is not on the server's host, and counts no more files than are taken now
-pub record IsBegun (w : World) (b : Begun) : Type 0 where
+pub record IsBegun (past : Past) (b : Begun) : Type 0 where
   pub away : b.client.host ≢ server_endpoint.host
-  pub counted : b.taken ≤ length w.taken
+  pub counted : b.taken ≤ length past.taken
 
 -- the invariant
 pub record Holds (w : World) : Type 0 where
-  pub net : (d : Datagram) → Has w.net d → IsHonest w d
+  pub net : (d : Datagram) → Has w.net d → IsHonest w.past d
   pub apart : IsApart at_port exact_port w.server.live
-  pub live : (port : ℕ) (t : Transfer) → transfer_at port w.server ≡ Some t → IsLive w port t
-  pub untaken : (port : ℕ) (t : Transfer) → transfer_at port w.server ≡ Some t → IsUntaken w port t
-  pub clients : (e : Endpoint) (c : Client) → client_at e w ≡ Some c → IsFaithful w e c
+  pub live : (port : ℕ) (t : Transfer) → transfer_at port w.server ≡ Some t → IsLive w.past port t
+  pub untaken : (port : ℕ) (t : Transfer) → transfer_at port w.server ≡ Some t → IsUntaken w.past port t
+  pub clients : (e : Endpoint) (c : Client) → client_at e w ≡ Some c → IsFaithful w.past e c
   -- a client has sent a DATA or an ACK to no other port than the one that it is bound to
-  pub bound : (e : Endpoint) (c : Client) → client_at e w ≡ Some c → IsOwn w e → (port : ℕ) → IsBound w e port → MayBind c.phase port
+  pub bound : (e : Endpoint) (c : Client) → client_at e w ≡ Some c → IsOwn w e → (port : ℕ) → IsBound w.past e port → MayBind c.phase port
   -- a client binds to one port
-  pub one_port : (e : Endpoint) (p q : ℕ) → HasBegun w e → IsOwn w e → IsBound w e p → IsBound w e q → p ≡ q
-  pub begun : (b : Begun) → Has w.begun b → IsBegun w b
+  pub one_port : (e : Endpoint) (p q : ℕ) → HasBegun w.past e → IsOwn w e → IsBound w.past e p → IsBound w.past e q → p ≡ q
+  pub begun : (b : Begun) → Has w.begun b → IsBegun w.past b
   pub strays : (d : Datagram) → Has w.strays d → d.source.host ≢ server_endpoint.host
-  pub opened : (o : Opening) → Has w.opened o → IsOpening w o
+  pub opened : (o : Opening) → Has w.opened o → IsOpening w.past o
   -- what the server had at first is from its own host
-  pub taken : (t : Taken) → Has w.taken t → t.peer.host ≢ server_endpoint.host → IsTaken w t
-  pub once : TakesOnce w
-  pub sent : (e : Endpoint) → Has w.sent e → IsSent w e
-  pub got : (g : Got) → Has w.got g → IsGot w g
+  pub taken : (t : Taken) → Has w.taken t → t.peer.host ≢ server_endpoint.host → IsTaken w.past t
+  pub once : TakesOnce w.past
+  pub sent : (e : Endpoint) → Has w.sent e → IsSent w.past e
+  pub got : (g : Got) → Has w.got g → IsGot w.past g
   pub best : AreBest w.taken w.server.maps
 
 pub none_at : {A : Type 0} {P : Type 0} (x : A) → Has [] x → P

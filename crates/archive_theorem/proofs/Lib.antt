@@ -1,4 +1,3 @@
-pub mod Places
 pub mod Keyed
 pub mod Claims
 pub mod Lasting
@@ -23,7 +22,6 @@ pub mod Getting
 pub mod Answering
 pub mod Beginning
 pub mod Straying
-pub mod Growing
 pub mod Happening
 pub mod Strangers
 pub mod Concluding
@@ -31,7 +29,6 @@ pub mod Tracing
 pub mod Sampling
 pub mod Fetching
 pub mod Reusing
-pub mod Unlisted
 pub mod Counting
 pub mod Loading
 pub mod Premises

@@ -9,8 +9,8 @@ use Rattle.tws_best.specs.Best.{Collected, IsCollected, IsCollectionOf, collecti
 use Rattle.tws_best.proofs.Sets.{own_collection, one_collection}
 use Rattle.archive_table.specs.Table.{Maps, Taken, Grant, MergesIntoOwn, IsMerged}
 use Rattle.archive_table.specs.Keeper.{Keeping, keeping, KeepsOne, KeepsMaps, StepKeeps}
-use Rattle.archive_theorem.specs.World.{Event, begin, deliver, client_times_out, server_times_out, stray, restart, World, WorldStep, start, happens, AllMerged}
-use Rattle.archive_theorem.specs.Restarts.{DeliveryKeeps, EventKeeps, RunKeeps}
+use Rattle.archive_model.specs.World.{Event, begin, deliver, client_times_out, server_times_out, stray, restart, World, WorldStep, start, happens, AllMerged}
+use Rattle.archive_model.specs.Restarts.{DeliveryKeeps, EventKeeps, RunKeeps}
 use Rattle.archive_theorem.proofs.Readability.{readable_or_not}
 use Rattle.archive_theorem.proofs.Invariant.{AreBest}
 use Rattle.archive_theorem.proofs.Remaining.{StepTakes, step-takes}

@@ -12,7 +12,7 @@ use Rattle.archive_table.specs.Keeper.{Keeping, keeping, same_ruleset, later_or,
 use Rattle.archive_table.specs.declared.load_fault.LoadFault.{LoadFault}
 use Rattle.archive_table.specs.declared.load_fault.LoadFault.TheVariants.{Keep, Unreadable, WrongRuleset}
 use Rattle.archive_table.specs.declared.load_fault.LoadFault.TheVariants as load
-use Rattle.archive_theorem.specs.Restarts.{IsTextAt, HasKept, HaveOwnRuleset, StepStaysKept, LoadsTheSame, IsOutside, FailsOutside}
+use Rattle.archive_model.specs.Restarts.{IsTextAt, HasKept, HaveOwnRuleset, StepStaysKept, LoadsTheSame, IsOutside, FailsOutside}
 
 -- ---- one more in the list
 

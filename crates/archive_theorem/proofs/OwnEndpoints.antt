@@ -3,10 +3,10 @@ use Rattle.std.proofs.Common.{◌≡◌, ℕ, zero, suc, Bool, true, false, ◌=
 use Rattle.std.proofs.lemmas.Bool.{and_parts, eqb-true}
 use Rattle.tftp_packet.specs.declared.endpoint.Endpoint.{Endpoint}
 use Rattle.archive_table.specs.Table.{is_same}
-use Rattle.archive_theorem.specs.World.{Datagram, Begun, Opening, World, start, has_begun}
+use Rattle.archive_model.specs.World.{Datagram, Begun, Opening, World, start, has_begun}
 use Rattle.archive_theorem.specs.Headline.{IsOwn}
 use Rattle.archive_theorem.specs.Reuse.{has_strayed, was_opened, is_opening_at, begins_once, opens_apart, OwnTests, own_tests, IsOwnByTests}
-use Rattle.archive_theorem.proofs.Places.{Has-contains, Has-from_contains}
+use Rattle.archive_model.proofs.Places.{Has-contains, Has-from_contains}
 use Rattle.archive_theorem.proofs.Endpoints.{exact_endpoint}
 use Rattle.archive_theorem.proofs.Reusing.{all_fail, begun_any, strayed_any, opened_any, same_by, begun_none, strayed_none, opened_none, none_there}
 

@@ -1,9 +1,9 @@
 -- A test that no port is reused, on the world that a sample run computes.
 use Rattle.std.proofs.Common.{◌≡◌, ℕ, zero, suc, Bool, true, false, cond, List, [], ◌∷◌, slice_get, Some, refl, ap, sym, ◌∙◌}
-use Rattle.archive_theorem.specs.World.{Datagram, Begun, Opening, World, has_begun}
+use Rattle.archive_model.specs.World.{Datagram, Begun, Opening, World, has_begun}
 use Rattle.archive_theorem.specs.Headline.{HasOperation, HasOwnPorts}
 use Rattle.archive_theorem.specs.Reuse.{was_opened}
-use Rattle.archive_theorem.proofs.Places.{Has-from_contains}
+use Rattle.archive_model.proofs.Places.{Has-from_contains}
 use Rattle.archive_theorem.proofs.Reusing.{begun_none, opened_none}
 
 -- a test that passes on all passes on the first and on the rest

@@ -5,8 +5,8 @@ use Rattle.tws_file.specs.declared.«ruleset».Ruleset.TheVariants.{Lynx, Ms}
 use Rattle.tws_best.specs.Best.{Collected}
 use Rattle.archive_table.specs.Table.{Maps, Taken, Grant, all, transfer_at}
 use Rattle.archive_table.specs.Keeper.{Keeping}
-use Rattle.archive_theorem.specs.World.{Event, begin, deliver, client_times_out, server_times_out, stray, restart, World, WorldStep, server_endpoint, client_at, has_begun, start, run_from, run, happens, event_happens, AllMerged}
-use Rattle.archive_theorem.specs.Restarts.{IsTextAt, HasKept, HaveOwnRuleset, DeliveryKeeps, AreAlike, EventKeeps, RunKeeps, loaded_server, RestartsFrom, FailsOutside}
+use Rattle.archive_model.specs.World.{Event, begin, deliver, client_times_out, server_times_out, stray, restart, World, WorldStep, server_endpoint, client_at, has_begun, start, run_from, run, happens, event_happens, AllMerged}
+use Rattle.archive_model.specs.Restarts.{IsTextAt, HasKept, HaveOwnRuleset, DeliveryKeeps, AreAlike, EventKeeps, RunKeeps, loaded_server, RestartsFrom, FailsOutside}
 use Rattle.archive_theorem.proofs.Invariant.{AreBest}
 use Rattle.archive_theorem.proofs.Remaining.{timeout_leaves, StepTakes, begins_remain, waits_remain, strays_remain, step-takes}
 use Rattle.archive_theorem.proofs.Collecting.{best-collected, step-best, start-best, run_from-best}

@@ -5,7 +5,7 @@ use Rattle.tftp_packet.specs.Decode.{decode_bytes}
 use Rattle.tftp_packet.specs.Blocks.{block_of}
 use Rattle.tws_file.specs.Text.{File, IsText}
 use Rattle.archive_table.specs.Table.{IsMerged, empty_maps}
-use Rattle.archive_theorem.specs.World.{run, start, AllMerged}
+use Rattle.archive_model.specs.World.{run, start, AllMerged}
 use Rattle.archive_theorem.specs.Headline.{HasOwnPorts}
 use Rattle.archive_theorem.specs.Samples.{empty_put}
 use Rattle.archive_theorem.proofs.Reusing.{none_there}

@@ -11,9 +11,9 @@ use Rattle.tftp_ends.proofs.Steps.{ReadsBack, KeepsSender, IsSender-start, start
 use Rattle.archive_client.specs.declared.cause.Cause.TheVariants as cause
 use Rattle.archive_client.specs.declared.state.State.TheVariants as state
 use Rattle.archive_client.specs.Client.{put, Phase, asking, sending, Client, in_phase, out_to, sends_to, put_answered, put_sent, put_waited, put_waits, send_state, phase_state}
-use Rattle.archive_theorem.specs.World.{Datagram, World, server_endpoint, newly_sent, after_client, client_at}
+use Rattle.archive_model.specs.World.{Datagram, World, server_endpoint, newly_sent, after_client, client_at}
 use Rattle.archive_theorem.specs.Headline.{IsOwn}
-use Rattle.archive_theorem.proofs.Places.{Has}
+use Rattle.archive_model.proofs.Places.{Has}
 use Rattle.archive_theorem.proofs.Claims.{HasPut, HasTaken, IsStranger, PutsBlock, Fetches, ServerAcks, AcksPut, Says, IsAskingFor, IsPutting, MayBind, IsSent}
 use Rattle.archive_theorem.proofs.Owning.{get_begun, one_put}
 use Rattle.archive_theorem.proofs.Invariant.{Holds}
@@ -25,18 +25,18 @@ use Rattle.archive_theorem.proofs.Changing.{never_sent, never_got, newly_sent-fr
 
 -- no stranger is there
 pub server_says : (w : World) → Holds w → (d : Datagram) → Has w.net d → d.source.host ≡ server_endpoint.host → (p : Packet) →
-    decode_bytes d.bytes ≡ Ok p → Says w d.source d.target p
+    decode_bytes d.bytes ≡ Ok p → Says w.past d.source d.target p
 server_says w h d among ours p reads =
-    ⊎_elim (λ (s : IsStranger w d.source). absurd (h.strays s.datagram s.among (ap (λ (x : Endpoint). x.host) s.source ∙ ours)))
+    ⊎_elim (λ (s : IsStranger w.past d.source). absurd (h.strays s.datagram s.among (ap (λ (x : Endpoint). x.host) s.source ∙ ours)))
     (λ says. says p reads) (h.net d among).says
 
 -- an ACK from the server's host is one of the put, if the client's ports are its own
 pub acked_by : (w : World) → Holds w → (d : Datagram) → Has w.net d → d.source.host ≡ server_endpoint.host → (n : ℕ) →
-    decode_bytes d.bytes ≡ Ok (ack n) → IsOwn w d.target → AcksPut w d.target n
+    decode_bytes d.bytes ≡ Ok (ack n) → IsOwn w d.target → AcksPut w.past d.target n
 acked_by w h d among ours n reads own =
     ⊎_elim
-    (λ (f : Fetches w d.source). absurd (begun_away w h d.source (get_begun w d.source f.rules f.count f.began) ours))
-    (λ (a : ServerAcks w d.source d.target n). a.whom own)
+    (λ (f : Fetches w.past d.source). absurd (begun_away w h d.source (get_begun d.source f.rules f.count f.began) ours))
+    (λ (a : ServerAcks w.past d.source d.target n). a.whom own)
     (server_says w h d among ours (ack n) reads)
 
 -- ---- states of a sender
@@ -56,9 +56,9 @@ not_got send.TimedOut = λ e. cc
 module _ (w : World) (h : Holds w) (e : Endpoint) (c : Client) (is : client_at e w ≡ Some c) where
   -- ---- it binds
 
-  module _ (file : List ℕ) (misses : ℕ) (at : c.phase ≡ asking (put file) misses) (there : IsAskingFor w e (put file)) where
+  module _ (file : List ℕ) (misses : ℕ) (at : c.phase ≡ asking (put file) misses) (there : IsAskingFor w.past e (put file)) where
     -- the put has begun
-    began : HasPut w e file
+    began : HasPut w.past e file
     began = record { count = there.count; among = there.among }
 
     -- it is bound to no port
@@ -68,7 +68,7 @@ module _ (w : World) (h : Holds w) (e : Endpoint) (c : Client) (is : client_at e
     -- its first block is honest
     first_block : (port : ℕ) → SendsHonestly w e (out_to port (data_packet file 1) c)
     first_block port =
-        let puts : PutsBlock w e 1 (block_of file 1) = record { file = file; began = began; is_block = refl } in
+        let puts : PutsBlock w.past e 1 (block_of file 1) = record { file = file; began = began; is_block = refl } in
         sends_it w h e c is port (data_packet file 1) (start-reads_back file there.may).decoded (inl puts)
 
     -- the ACK of the request binds the client, which sends its first block: the invariant still holds
@@ -91,7 +91,7 @@ module _ (w : World) (h : Holds w) (e : Endpoint) (c : Client) (is : client_at e
 
   -- ---- it sends
 
-  module _ (peer : ℕ) (s : Sender) (at : c.phase ≡ sending peer s) (there : IsPutting w e s) where
+  module _ (peer : ℕ) (s : Sender) (at : c.phase ≡ sending peer s) (there : IsPutting w.past e s) where
     -- it is bound to this port only
     bound_there : (q : ℕ) → MayBind c.phase q → q ≡ peer
     bound_there q m = subst (λ (x : Phase). MayBind x q) at m
@@ -101,8 +101,8 @@ module _ (w : World) (h : Holds w) (e : Endpoint) (c : Client) (is : client_at e
         IfSome out (λ p. p ≡ data_packet s.file a.sender.current) → IfSome (sends_to peer out c) (SendsHonestly w e)
     block_sends a None back sends = tt
     block_sends a (Some p) back sends =
-        let puts : PutsBlock w e a.sender.current (block_of s.file a.sender.current) = record { file = s.file; began = there.began; is_block = refl } in
-        sends_it w h e c is peer p back.decoded (subst (Says w e (record { host = c.server.host; port = peer })) (sym sends) (inl puts))
+        let puts : PutsBlock w.past e a.sender.current (block_of s.file a.sender.current) = record { file = s.file; began = there.began; is_block = refl } in
+        sends_it w h e c is peer p back.decoded (subst (Says w.past e (record { host = c.server.host; port = peer })) (sym sends) (inl puts))
 
     -- and binds it to no other port
     block_binds : (next : Sender) → (out : Option Packet) → IfSome (sends_to peer out c) (BindsTo c (in_phase (sending peer next) c))
@@ -111,7 +111,7 @@ module _ (w : World) (h : Holds w) (e : Endpoint) (c : Client) (is : client_at e
 
     -- it is newly finished only once the server has taken the file, if the ports are its own
     abbrev pub Finishes : SendAnswer → Type 0
-    Finishes a = a.sender.state ≡ send.Finished → (s.state ≡ send.Finished) ⊎ (IsOwn w e → HasTaken w e s.file)
+    Finishes a = a.sender.state ≡ send.Finished → (s.state ≡ send.Finished) ⊎ (IsOwn w e → HasTaken w.past e s.file)
 
     -- a client that newly counts its file as sent was running
     was_running : s.state ≡ send.Finished → phase_state c.phase ≡ state.Running → state.Sent ≡ state.Running
@@ -119,12 +119,12 @@ module _ (w : World) (h : Holds w) (e : Endpoint) (c : Client) (is : client_at e
         sym (ap (λ (x : Phase). phase_state x) at ∙ ap (λ (x : SendState). send_state x) finished) ∙ running
 
     -- if it newly does, the server has taken the file
-    is_sent : (a : SendAnswer) → Finishes a → newly_sent (phase_state c.phase) (send_state a.sender.state) ≡ true → IsSent w e
+    is_sent : (a : SendAnswer) → Finishes a → newly_sent (phase_state c.phase) (send_state a.sender.state) ≡ true → IsSent w.past e
     is_sent a finishes new =
         let both = newly_sent-from (phase_state c.phase) (send_state a.sender.state) new in
         ⊎_elim
         (λ (was : s.state ≡ send.Finished). let apart : state.Sent ≡ state.Running = was_running was both.0 in absurd cc)
-        (λ (taken : IsOwn w e → HasTaken w e s.file). record { file = s.file; began = there.began; is_taken = taken })
+        (λ (taken : IsOwn w e → HasTaken w.past e s.file). record { file = s.file; began = there.began; is_taken = taken })
         (finishes (sent_finished a.sender.state both.1))
 
     -- a step of the sender keeps the invariant
@@ -132,7 +132,7 @@ module _ (w : World) (h : Holds w) (e : Endpoint) (c : Client) (is : client_at e
     sent-holds a k finishes =
         moves-holds w h e c is (sending peer a.sender) (sends_to peer a.out c)
         (record {
-          pursuing = record { began = subst (HasPut w e) (sym k.file) there.began; bounds = k.fits there.bounds };
+          pursuing = record { began = subst (HasPut w.past e) (sym k.file) there.began; bounds = k.fits there.bounds };
           sending = block_sends a a.out (sends-reads_back s a k there.bounds) k.sends;
           binding = block_binds a.sender a.out;
           still = bound_there;
@@ -141,13 +141,13 @@ module _ (w : World) (h : Holds w) (e : Endpoint) (c : Client) (is : client_at e
         })
 
     -- an ACK arrives
-    pub acked-holds : (n : ℕ) → (IsOwn w e → AcksPut w e n) → Holds (after_client e c (put_sent peer (sender_ack n s) c) w)
+    pub acked-holds : (n : ℕ) → (IsOwn w e → AcksPut w.past e n) → Holds (after_client e c (put_sent peer (sender_ack n s) c) w)
     acked-holds n said =
-        let last : (n ≡ s.current) × (n ≡ block_count s.file) → IsOwn w e → HasTaken w e s.file =
+        let last : (n ≡ s.current) × (n ≡ block_count s.file) → IsOwn w e → HasTaken w.past e s.file =
         λ by own.
         let acks = said own in
-        let same = one_put w e own acks.file s.file acks.began there.began in
-        subst (HasTaken w e) same (acks.is_taken (by.1 ∙ ap block_count (sym same))) in
+        let same = one_put w.past e own acks.file s.file acks.began there.began in
+        subst (HasTaken w.past e) same (acks.is_taken (by.1 ∙ ap block_count (sym same))) in
         sent-holds (sender_ack n s) (sender_ack-keeps n s) (λ finished. ⊎_elim (λ was. inl was) (λ by. inr (last by)) (sender_ack-finishes n s finished))
 
     -- a time-out

@@ -5,18 +5,18 @@ use Rattle.tftp_packet.specs.declared.endpoint.Endpoint.{Endpoint}
 use Rattle.tws_file.specs.declared.«ruleset».Ruleset.{Ruleset}
 use Rattle.archive_table.specs.Table.{Maps, Taken}
 use Rattle.archive_client.specs.Client.{Operation, put, get, is_too_long}
-use Rattle.archive_theorem.specs.World.{Begun, Event, begin, Got, World, WorldStep, server_endpoint, begins_unless, event_happens, happens, start_from, run_from, AllMerged}
+use Rattle.archive_model.specs.World.{Begun, Event, begin, Got, World, WorldStep, server_endpoint, begins_unless, event_happens, happens, start_from, run_from, AllMerged, Extends}
 use Rattle.archive_theorem.specs.Headline.{IsOwn, AreOver}
 use Rattle.archive_theorem.specs.Effects.{IsFetchedOver, FetchesNoLess, FetchesNone}
-use Rattle.archive_theorem.proofs.Places.{Has, Has-extends, Has-contains, Has-from_contains, at-extends, at-last, before_last, take-extends}
-use Rattle.archive_theorem.proofs.Claims.{GrowsTo, HasPut, HasGet, IsGot}
-use Rattle.archive_theorem.proofs.Lasting.{either, text-grown, get-lasts, GrowsTo-same}
+use Rattle.archive_model.proofs.Places.{Has, Has-prefix, Has-contains, Has-from_contains, at-prefix, at-last, before_last, take-prefix, either}
+use Rattle.archive_theorem.proofs.Claims.{HasPut, HasGet, IsGot}
+use Rattle.archive_theorem.proofs.Lasting.{text-grown, get-lasts}
 use Rattle.archive_theorem.proofs.Owning.{own-before}
 use Rattle.archive_theorem.proofs.Invariant.{Holds, start_from-holds}
-use Rattle.archive_theorem.proofs.Growing.{run-grows}
 use Rattle.archive_theorem.proofs.Happening.{run-append, merged-first, run_from-holds}
-use Rattle.archive_theorem.proofs.Enduring.{first_extends}
+use Rattle.archive_theorem.proofs.Enduring.{first_prefix}
 use Rattle.archive_theorem.proofs.Fetching.{begin_counted, counted}
+use Rattle.archive_model.proofs.Growing.{Extends-same, run-extends}
 
 -- the operation is the last that has begun
 begins_at : (w : World) (ours : Bool) (e : Endpoint) (operation : Operation) → (e.host == server_endpoint.host) ≡ ours →
@@ -38,7 +38,7 @@ begin_at w s e operation is short =
     (begins_at w (e.host == server_endpoint.host) e operation refl))
 
 -- what was fetched in a world is over the same files in a later one
-fetched_over : (w v : World) → GrowsTo w v → (g : Got) (is : IsGot w g) (own : IsOwn w g.client) → IsFetchedOver v g (is.whose own).serves.count
+fetched_over : (w v : World) → Extends w.past v.past → (g : Got) (is : IsGot w.past g) (own : IsOwn w g.client) → IsFetchedOver v g (is.whose own).serves.count
 fetched_over w v grows g is own =
     let s = (is.whose own).serves in
     let text = text-grown w.taken v.taken s.count is.rules g.file grows.taken s.is_text in
@@ -47,7 +47,7 @@ fetched_over w v grows g is own =
       began = (
         record { client = g.client; operation = get is.rules; taken = is.count },
         Has-contains v.begun _
-            (get-lasts w v grows g.client is.rules is.count is.began).among,
+            (get-lasts grows g.client is.rules is.count is.began).among,
         refl,
         refl,
       );
@@ -56,7 +56,7 @@ fetched_over w v grows g is own =
     }
 
 -- the worlds before the begin, after it, and at the end
-module _ (w v : World) (s : WorldStep) (h : Holds w) (k : Holds v) (grows : GrowsTo w v) (more : GrowsTo (happens s w) v) (e : Endpoint) (own : IsOwn v e) where
+module _ (w v : World) (s : WorldStep) (h : Holds w) (k : Holds v) (grows : Extends w.past v.past) (more : Extends (happens s w).past v.past) (e : Endpoint) (own : IsOwn v e) where
   -- a get that begins later has fetched over no fewer files
   gets_later : (rules : Ruleset) → s.event ≡ begin e (get rules) → (g : Got) → Has w.got g → IsOwn w g.client → (late : Got) →
       Has v.got late → late.client ≡ e → (m : ℕ) × (n : ℕ) × (m ≤ n) × IsFetchedOver v g m × IsFetchedOver v late n
@@ -66,26 +66,26 @@ module _ (w v : World) (s : WorldStep) (h : Holds w) (k : Holds v) (grows : Grow
       let now = k.got late has_late in
       let mine = subst (IsOwn v) (sym same) own in
       let since : now.count ≤ (now.whose mine).serves.count = (now.whose mine).since in
-      let began = subst (λ (x : Endpoint). HasGet v x now.rules now.count) same now.began in
+      let began = subst (λ (x : Endpoint). HasGet v.past x now.rules now.count) same now.began in
       let begun : (e.host ≡ server_endpoint.host) ⊎ Has v.begun (record { client = e; operation = get rules; taken = length w.taken }) =
-      either (λ ours. ours) (Has-extends (happens s w).begun v.begun _ more.begun) (begin_counted w s e rules event) in
+      either (λ ours. ours) (Has-prefix (happens s w).begun v.begun _ more.begun) (begin_counted w s e rules event) in
       let count : length w.taken ≡ now.count = counted w v h k grows e own rules now.rules now.count begun began in
       let within : was.serves.count ≤ length w.taken = was.serves.is_text.within in
-      (was.serves.count, (now.whose mine).serves.count, omega arith, fetched_over w v grows g is own_then, fetched_over v v (GrowsTo-same v) late now mine)
+      (was.serves.count, (now.whose mine).serves.count, omega arith, fetched_over w v grows g is own_then, fetched_over v v (Extends-same v.past) late now mine)
 
   -- nothing had been taken from the endpoint of the put before it began
   none_before : (operation : Operation) → s.event ≡ begin e operation → e.host ≢ server_endpoint.host → is_too_long operation ≡ false →
       (t : Taken) → Has w.taken t → t.peer ≡ e → ⊥
   none_before operation event away short t has same =
-      let own_then = own-before w v grows e own in
+      let own_then = own-before grows e own in
       let from = ((h.taken t has (λ ours. away (ap (λ (x : Endpoint). x.host) (sym same) ∙ ours))).whose (subst (IsOwn w) (sym same) own_then)).began in
-      let began : HasPut w e t.file = subst (λ (x : Endpoint). HasPut w x t.file) same from in
+      let began : HasPut w.past e t.file = subst (λ (x : Endpoint). HasPut w.past x t.file) same from in
       let position = began.among.position in
       let early : position < length w.begun = before_last w.begun position _ began.among.is in
       ⊎_elim away
       (λ new.
-      let still = at-extends w.begun v.begun grows.begun position _ began.among.is in
-      let last = at-extends (happens s w).begun v.begun more.begun (length w.begun) _ new in
+      let still = at-prefix w.begun v.begun grows.begun position _ began.among.is in
+      let last = at-prefix (happens s w).begun v.begun more.begun (length w.begun) _ new in
       let one : position ≡ length w.begun = own.operations position (length w.begun) _ _ still last refl refl in
       omega arith)
       (begin_at w s e operation event short)
@@ -98,9 +98,9 @@ module _ (w v : World) (s : WorldStep) (h : Holds w) (k : Holds v) (grows : Grow
       let is = h.got g has in
       let count = (is.whose own_then).serves.count in
       let within : count ≤ length w.taken = (is.whose own_then).serves.is_text.within in
-      let same_files : take count v.taken ≡ take count w.taken = take-extends w.taken v.taken count grows.taken within in
+      let same_files : take count v.taken ≡ take count w.taken = take-prefix w.taken v.taken count grows.taken within in
       let none : (t : Taken) → Contains (take count v.taken) t → t.peer ≡ e → ⊥ =
-      λ t among. none_before (put file) event away short t (Has-extends (take count w.taken) w.taken t (first_extends count w.taken)
+      λ t among. none_before (put file) event away short t (Has-prefix (take count w.taken) w.taken t (first_prefix count w.taken)
       (Has-from_contains (take count w.taken) t (subst (λ (ts : List Taken). Contains ts t) same_files among))) in
       (count, fetched_over w v grows g is own_then, none)
 
@@ -124,12 +124,12 @@ module _ (texts : List (List ℕ)) (maps : Maps) (over : AreOver texts maps) (be
   last_is : last ≡ run_from after (happens s first)
   last_is = run-append before (s ∷ after) first_world
 
-  grows : GrowsTo first last
-  grows = subst (GrowsTo first) (sym last_is) (run-grows (s ∷ after) first)
+  grows : Extends first.past last.past
+  grows = subst (λ (x : World). Extends first.past x.past) (sym last_is) (run-extends (s ∷ after) first)
 
   -- since after the begin the lists have only grown
-  more : GrowsTo (happens s first) last
-  more = subst (GrowsTo (happens s first)) (sym last_is) (run-grows after (happens s first))
+  more : Extends (happens s first).past last.past
+  more = subst (λ (x : World). Extends (happens s first).past x.past) (sym last_is) (run-extends after (happens s first))
 
   -- the invariant holds before the begin
   first_holds : Holds first

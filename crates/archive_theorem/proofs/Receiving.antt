@@ -9,17 +9,17 @@ use Rattle.tftp_ends.specs.declared.recv_fault.RecvFault.{RecvFault}
 use Rattle.tftp_ends.specs.Ends.{Receiver, DataAnswer, TakeAnswer, receiver_data, receiver_take, dgram_of, sent_of, answer_of, IsReceiver, refusal_of}
 use Rattle.tftp_ends.proofs.Steps.{ReadsBack, KeepsReceiver, receiver_data-keeps, receiver_take-keeps, acks-reads_back}
 use Rattle.archive_table.specs.Table.{Maps, Grant, all, no_memory, unkept, memory_verdict, Taken, Transfer, TableAnswer, receiving, transfer_at, sends_from, refusal_dgram, file_come, file_asked, block_answered, data_at, IsMerged}
-use Rattle.archive_theorem.specs.World.{World, server_endpoint, after_transfer, to_write}
+use Rattle.archive_model.specs.World.{World, after_transfer, to_write, Extends}
 use Rattle.archive_theorem.specs.Headline.{IsOwn}
-use Rattle.archive_theorem.proofs.Places.{Has, Has-last, Extends-same, Extends-push}
-use Rattle.archive_theorem.proofs.Claims.{GrowsTo, HasPut, HasTaken, PutsBlock, AcksPut, HasCome, ReceivesPut, IsReceivingAt, IsRunning, IsBound, IsTakenFrom}
+use Rattle.archive_model.proofs.Places.{Has, Has-last}
+use Rattle.archive_theorem.proofs.Claims.{HasPut, HasTaken, PutsBlock, AcksPut, HasCome, ReceivesPut, IsReceivingAt, IsRunning, IsBound, IsTakenFrom}
 use Rattle.archive_theorem.proofs.Lasting.{put-lasts, opened-lasts}
 use Rattle.archive_theorem.proofs.Owning.{one_put}
 use Rattle.archive_theorem.proofs.Invariant.{Holds}
-use Rattle.archive_theorem.proofs.Sending.{from_port, honest_refusal, net-extends, sends_packet, goes_on-holds, closes-holds}
+use Rattle.archive_theorem.proofs.Sending.{from_port, honest_refusal, sends_packet, goes_on-holds, closes-holds}
 use Rattle.archive_theorem.proofs.Acking.{acks-put, ack_says}
 use Rattle.archive_theorem.proofs.Merging.{best-taken}
-use Rattle.archive_theorem.proofs.Taking.{Taking, taken_of, world_taken, takes-holds}
+use Rattle.archive_theorem.proofs.Taking.{Taking, taken_of, world_taken, takes-holds, taken-extends}
 use Rattle.archive_theorem.proofs.Coming.{HoldsOrTaken, data-come, data-running, take-state, take-count, take-stops, take-gone, none-come, some-come}
 
 -- if a file is taken, it has made the collections
@@ -27,7 +27,7 @@ abbrev pub MergesTaken : World → TableAnswer → Type 0
 MergesTaken w a = (u : Taken) → a.step.taken ≡ Some u → IsMerged u.file w.server.maps a.server.maps
 
 module _ (w : World) (h : Holds w) (port : ℕ) (t : Transfer) (is : transfer_at port w.server ≡ Some t) (r : Receiver)
-    (end : t.end ≡ receiving r) (there : IsReceivingAt w t.peer port r) (n : ℕ) (body : List ℕ) (short : length body ≤ BLOCK_SIZE)
+    (end : t.end ≡ receiving r) (there : IsReceivingAt w.past t.peer port r) (n : ℕ) (body : List ℕ) (short : length body ≤ BLOCK_SIZE)
     (grant : Grant) where
   -- the receiver's answer, and what is then taken out of it
   abbrev came : DataAnswer
@@ -63,12 +63,12 @@ module _ (w : World) (h : Holds w) (port : ℕ) (t : Transfer) (is : transfer_at
   -- ---- no file is handed out
 
   -- it still receives the put
-  put_goes_on : (p : ReceivesPut w t.peer r) → HoldsOrTaken w t.peer p.file r came.receiver → took.file ≡ None → ReceivesPut w t.peer took.receiver
+  put_goes_on : (p : ReceivesPut w.past t.peer r) → HoldsOrTaken w t.peer p.file r came.receiver → took.file ≡ None → ReceivesPut w.past t.peer took.receiver
   put_goes_on p held none =
       record { file = p.file; began = p.began; come = none-come w t.peer p.file r came.receiver held none }
 
   -- its ACK is that of a block of the put
-  acks_of : ReceivesPut w t.peer took.receiver → AcksPut w t.peer took.receiver.count
+  acks_of : ReceivesPut w.past t.peer took.receiver → AcksPut w.past t.peer took.receiver.count
   acks_of p = acks-put w t.peer p.file took.receiver took.receiver.state refl took_bounds p.began p.come
 
   -- if it still waits for blocks, it did before
@@ -77,10 +77,10 @@ module _ (w : World) (h : Holds w) (port : ℕ) (t : Transfer) (is : transfer_at
       subst IsRunning (sym end) (data-running (memory_verdict grant) n body r (sym (take-state came.receiver) ∙ running))
 
   -- if no file is handed out the invariant holds
-  goes_on : (whose : IsOwn w t.peer → ReceivesPut w t.peer took.receiver) → (out : Option Packet) → came.result ≡ Ok out →
+  goes_on : (whose : IsOwn w t.peer → ReceivesPut w.past t.peer took.receiver) → (out : Option Packet) → came.result ≡ Ok out →
       Holds (after_transfer (file_asked None grant w.server.maps port t.peer took.receiver (dgram_of out) w.server) w)
   goes_on whose out e =
-      let next : IsReceivingAt w t.peer port took.receiver = record { bounds = took_bounds; count = there.count; opened = there.opened; whose = whose } in
+      let next : IsReceivingAt w.past t.peer port took.receiver = record { bounds = took_bounds; count = there.count; opened = there.opened; whose = whose } in
       let says = ack_says w port t.peer out took.receiver.count (acked out e) (λ own. acks_of (whose own)) in
       goes_on-holds w h port t (receiving took.receiver) (dgram_of out) is next onward (sends_packet w port t.peer out (reads_back out e) says)
 
@@ -91,60 +91,53 @@ module _ (w : World) (h : Holds w) (port : ℕ) (t : Transfer) (is : transfer_at
     abbrev after : World
     after = world_taken maps port t file took.receiver (sends_from port t.peer (dgram_of out)) w
 
-    grows : GrowsTo w after
-    grows =
-        record {
-          net = net-extends server_endpoint.host w.net (sends_from port t.peer (dgram_of out));
-          begun = Extends-same w.begun;
-          taken = Extends-push w.taken (taken_of t file);
-          opened = Extends-same w.opened;
-          strays = Extends-same w.strays;
-        }
+    grows : Extends w.past after.past
+    grows = taken-extends w maps port t file took.receiver (sends_from port t.peer (dgram_of out))
 
     -- a put's file is handed out whole, for the first time
     pub record IsGiven : Type 0 where
-      pub began : HasPut w t.peer file
+      pub began : HasPut w.past t.peer file
       pub running : r.state ≡ recv.Running
       pub complete : took.receiver.state ≡ recv.Complete
 
     -- it is the put's, if the peer's ports are its own
-    given_put : (p : ReceivesPut w t.peer r) → HoldsOrTaken w t.peer p.file r came.receiver → IsGiven
+    given_put : (p : ReceivesPut w.past t.peer r) → HoldsOrTaken w t.peer p.file r came.receiver → IsGiven
     given_put p held =
         let whole = some-come w t.peer p.file r came.receiver file bounds held given in
         record {
-          began = subst (HasPut w t.peer) (sym whole.0) p.began;
+          began = subst (HasPut w.past t.peer) (sym whole.0) p.began;
           running = whole.1;
           complete = take-state came.receiver ∙ whole.2;
         }
 
     -- it is among the files taken
-    has_taken : HasTaken after t.peer file
+    has_taken : HasTaken after.past t.peer file
     has_taken = record { among = Has-last w.taken (taken_of t file) }
 
     -- the receiver has all of the put
-    receives : IsGiven → ReceivesPut after t.peer took.receiver
+    receives : IsGiven → ReceivesPut after.past t.peer took.receiver
     receives g =
         record {
           file = file;
-          began = put-lasts w after grows t.peer file g.began;
-          come = subst (HasCome after t.peer file took.receiver) (sym g.complete) (has_taken, take-gone came.receiver file given);
+          began = put-lasts grows t.peer file g.began;
+          come = subst (HasCome after.past t.peer file took.receiver) (sym g.complete) (has_taken, take-gone came.receiver file given);
         }
 
     -- so it may acknowledge the last block
-    acks_taken : IsGiven → AcksPut after t.peer took.receiver.count
-    acks_taken g = record { file = file; began = put-lasts w after grows t.peer file g.began; is_taken = λ last. has_taken }
+    acks_taken : IsGiven → AcksPut after.past t.peer took.receiver.count
+    acks_taken g = record { file = file; began = put-lasts grows t.peer file g.began; is_taken = λ last. has_taken }
 
     -- the file was taken where its client is bound
-    takes_from : IsBound w t.peer port → IsGiven → IsTakenFrom w t.peer file port
+    takes_from : IsBound w.past t.peer port → IsGiven → IsTakenFrom w.past t.peer file port
     takes_from bound g = record { began = g.began; bound = bound }
 
     -- no file was taken from there before
-    fresh_from : IsBound w t.peer port → (IsOwn w t.peer → IsGiven) → IsOwn w t.peer → (u : Taken) → Has w.taken u → u.peer ≡ t.peer → ⊥
+    fresh_from : IsBound w.past t.peer port → (IsOwn w t.peer → IsGiven) → IsOwn w t.peer → (u : Taken) → Has w.taken u → u.peer ≡ t.peer → ⊥
     fresh_from bound whose own u has same =
         h.untaken port t is (subst IsRunning (sym end) (whose own).running) own u has same bound
 
     -- so all is shown that taking it needs
-    taking : IsBound w t.peer port → IsMerged file w.server.maps maps → (IsOwn w t.peer → IsGiven) →
+    taking : IsBound w.past t.peer port → IsMerged file w.server.maps maps → (IsOwn w t.peer → IsGiven) →
         Taking w maps port t file took.receiver (sends_from port t.peer (dgram_of out))
     taking bound merged whose =
         record {
@@ -152,7 +145,7 @@ module _ (w : World) (h : Holds w) (port : ℕ) (t : Transfer) (is : transfer_at
           there = record {
             bounds = took_bounds;
             count = there.count;
-            opened = opened-lasts w after grows t.peer port to_write there.count there.opened;
+            opened = opened-lasts grows t.peer port to_write there.count there.opened;
             whose = λ own. receives (whose own);
           };
           stopped = take-stops came.receiver file given;
@@ -166,7 +159,7 @@ module _ (w : World) (h : Holds w) (port : ℕ) (t : Transfer) (is : transfer_at
         }
 
     -- by what was granted
-    file_grant : (g : Grant) → IsBound w t.peer port → (IsOwn w t.peer → IsGiven) →
+    file_grant : (g : Grant) → IsBound w.past t.peer port → (IsOwn w t.peer → IsGiven) →
         MergesTaken w (file_come g maps port t.peer file took.receiver (dgram_of out) w.server) →
         Holds (after_transfer (file_come g maps port t.peer file took.receiver (dgram_of out) w.server) w)
     file_grant all bound whose joined =
@@ -179,17 +172,17 @@ module _ (w : World) (h : Holds w) (port : ℕ) (t : Transfer) (is : transfer_at
   -- ---- the step
 
   -- what arrives is from the peer, a block of its put
-  module _ (maps : Maps) (bound : IsBound w t.peer port) (received : IsOwn w t.peer → PutsBlock w t.peer n body) where
+  module _ (maps : Maps) (bound : IsBound w.past t.peer port) (received : IsOwn w t.peer → PutsBlock w.past t.peer n body) where
     -- what the receiver has, if the peer's ports are its own
     abbrev Held : Type 0
-    Held = (p : ReceivesPut w t.peer r) × HoldsOrTaken w t.peer p.file r came.receiver
+    Held = (p : ReceivesPut w.past t.peer r) × HoldsOrTaken w t.peer p.file r came.receiver
 
     -- it has the first blocks of the put
     held : IsOwn w t.peer → Held
     held own =
         let p = there.whose own in
         let puts = received own in
-        let same = one_put w t.peer own puts.file p.file puts.began p.began in
+        let same = one_put w.past t.peer own puts.file p.file puts.began p.began in
         (p, data-come w t.peer p.file r (memory_verdict grant) n body (puts.is_block ∙ ap (λ (f : List ℕ). block_of f n) same) p.come)
 
     -- whether or not a file is handed out

@@ -16,8 +16,8 @@ use Rattle.tws_best.specs.Best.{Collected}
 use Rattle.archive_table.specs.Table.{Table, Maps, Transfer, Taken, TableAnswer, End, sending, receiving, Grant, all, no_memory, unkept, memory_verdict, map_of, has_slot, opens_if, read_fits, read_with_slot, read_named, read_asked, write_with_slot, write_asked, request_by_packet, request_decoded, transfer_input, transfer_at, file_come, file_asked, block_answered, data_at, sending_goes_on, ack_at, transfer_by_input, datagram_at, table_datagram, receiving_goes_on, waits_at, timeout_at, table_timeout, has_long_text}
 use Rattle.tws_file.specs.Names.{ruleset_named}
 use Rattle.archive_client.specs.Client.{Operation, is_too_long, Client}
-use Rattle.archive_theorem.specs.World.{Datagram, Event, begin, deliver, client_times_out, server_times_out, restart, WorldStep, World, server_endpoint, client_at, has_begun, begins_unless, request_comes, server_receives, client_receives, arrives, delivers, client_waits, strays_unless, event_happens, happens}
-use Rattle.archive_theorem.specs.World as world
+use Rattle.archive_model.specs.World.{Datagram, Event, begin, deliver, client_times_out, server_times_out, restart, WorldStep, World, server_endpoint, client_at, has_begun, begins_unless, request_comes, server_receives, client_receives, arrives, delivers, client_waits, strays_unless, event_happens, happens}
+use Rattle.archive_model.specs.World as world
 
 -- ---- an answer of the server
 

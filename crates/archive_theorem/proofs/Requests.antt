@@ -12,11 +12,11 @@ use Rattle.tws_file.specs.declared.«ruleset».Ruleset.{Ruleset}
 use Rattle.tws_best.specs.Best.{collection_text}
 use Rattle.archive_table.specs.Table.{sending, receiving, transfer_at, map_of, has_slot, read_opens, read_fits, read_with_slot, read_named, read_asked, write_opens, write_with_slot, write_asked, request_by_packet, request_decoded, table_request, has_long_text}
 use Rattle.tws_file.specs.Names.{ruleset_named}
-use Rattle.archive_theorem.specs.World.{Datagram, World, to_write, to_read, after_request, asked_named, asked_packet, asked_decoded, asked_of}
+use Rattle.archive_model.specs.World.{Datagram, World, to_write, to_read, after_request, asked_named, asked_packet, asked_decoded, asked_of}
 use Rattle.archive_theorem.specs.Headline.{IsOwn}
-use Rattle.archive_theorem.proofs.Places.{Has, Has-last}
+use Rattle.archive_model.proofs.Places.{Has, Has-last, either}
 use Rattle.archive_theorem.proofs.Claims.{IsStranger, AsksToRead, AsksToWrite, AcksPut, ServerAcks, ReceivesPut}
-use Rattle.archive_theorem.proofs.Lasting.{either, stranger-lasts, put-lasts}
+use Rattle.archive_theorem.proofs.Lasting.{stranger-lasts, put-lasts}
 use Rattle.archive_theorem.proofs.Owning.{own-before, no_stranger}
 use Rattle.archive_theorem.proofs.Invariant.{Holds}
 use Rattle.archive_theorem.proofs.Sending.{from_port, honest_packet}
@@ -27,7 +27,7 @@ module _ (w : World) (h : Holds w) (d : Datagram) (among : Has w.net d) (spare :
 
   -- a read, whether or not there is memory
   read_memory : (verdict : Verdict) (rules : Ruleset) (name : List ℕ) → ruleset_named name ≡ Some rules →
-      IsStranger w d.source ⊎ AsksToRead w d.source name → length (collection_text (map_of rules w.server.maps)) ≤ MAX_FILE →
+      IsStranger w.past d.source ⊎ AsksToRead w.past d.source name → length (collection_text (map_of rules w.server.maps)) ≤ MAX_FILE →
       Holds (after_request d.source spare (to_read rules) (read_opens verdict spare d.source (map_of rules w.server.maps) w.server) w)
   read_memory granted rules name is whose short =
       let file = collection_text (map_of rules w.server.maps) in
@@ -37,7 +37,7 @@ module _ (w : World) (h : Holds w) (d : Datagram) (among : Has w.net d) (spare :
 
   -- whether or not the text is too long
   read_size : (long : Bool) → (verdict : Verdict) (rules : Ruleset) (name : List ℕ) → ruleset_named name ≡ Some rules →
-      IsStranger w d.source ⊎ AsksToRead w d.source name → has_long_text (map_of rules w.server.maps) ≡ long →
+      IsStranger w.past d.source ⊎ AsksToRead w.past d.source name → has_long_text (map_of rules w.server.maps) ≡ long →
       Holds (after_request d.source spare (to_read rules) (read_fits long verdict spare d.source (map_of rules w.server.maps) w.server) w)
   read_size true verdict rules name is whose size = refuses-holds w h d among spare (to_read rules) CollectionTooLong
   read_size false verdict rules name is whose size =
@@ -45,7 +45,7 @@ module _ (w : World) (h : Holds w) (d : Datagram) (among : Has w.net d) (spare :
 
   -- whether or not there is a slot
   read_place : (position : Bool) → (verdict : Verdict) (rules : Ruleset) (name : List ℕ) → ruleset_named name ≡ Some rules →
-      IsStranger w d.source ⊎ AsksToRead w d.source name →
+      IsStranger w.past d.source ⊎ AsksToRead w.past d.source name →
       Holds (after_request d.source spare (to_read rules) (read_with_slot position verdict spare d.source (map_of rules w.server.maps) w.server) w)
   read_place true verdict rules name is whose =
       read_size (has_long_text (map_of rules w.server.maps)) verdict rules name is whose refl
@@ -53,13 +53,13 @@ module _ (w : World) (h : Holds w) (d : Datagram) (among : Has w.net d) (spare :
 
   -- whether or not the name is that of a collection
   read_name : (found : Option Ruleset) → (verdict : Verdict) (name : List ℕ) → ruleset_named name ≡ found →
-      IsStranger w d.source ⊎ AsksToRead w d.source name →
+      IsStranger w.past d.source ⊎ AsksToRead w.past d.source name →
       Holds (after_request d.source spare (asked_named found) (read_named found verdict spare d.source w.server) w)
   read_name (Some rules) verdict name is whose = read_place (has_slot w.server) verdict rules name is whose
   read_name None verdict name is whose = refuses-holds w h d among spare to_write NoSuchFile
 
   -- whether or not the mode is octet
-  read_mode : (octet : Bool) → (verdict : Verdict) (name : List ℕ) → IsStranger w d.source ⊎ AsksToRead w d.source name →
+  read_mode : (octet : Bool) → (verdict : Verdict) (name : List ℕ) → IsStranger w.past d.source ⊎ AsksToRead w.past d.source name →
       Holds (after_request d.source spare (asked_named (ruleset_named name)) (read_asked octet verdict spare d.source name w.server) w)
   read_mode true verdict name whose = read_name (ruleset_named name) verdict name refl whose
   read_mode false verdict name whose = refuses-holds w h d among spare (asked_named (ruleset_named name)) OctetOnly
@@ -71,28 +71,28 @@ module _ (w : World) (h : Holds w) (d : Datagram) (among : Has w.net d) (spare :
   writing = opened w h spare free d.source to_write (receiving receiver_start) (encode (ack 0))
 
   -- its first ACK is of no block
-  none_acked : AsksToWrite w d.source → AcksPut writing d.source 0
+  none_acked : AsksToWrite w.past d.source → AcksPut writing.past d.source 0
   none_acked asks =
       let g = grows w h spare free d.source to_write (receiving receiver_start) (encode (ack 0)) in
-      record { file = asks.file; began = put-lasts w writing g d.source asks.file asks.began; is_taken = λ e. absurd (omega arith) }
+      record { file = asks.file; began = put-lasts g d.source asks.file asks.began; is_taken = λ e. absurd (omega arith) }
 
   -- no block of the put has come yet
-  none_come : AsksToWrite w d.source → ReceivesPut writing d.source receiver_start
+  none_come : AsksToWrite w.past d.source → ReceivesPut writing.past d.source receiver_start
   none_come asks =
       let g = grows w h spare free d.source to_write (receiving receiver_start) (encode (ack 0)) in
-      record { file = asks.file; began = put-lasts w writing g d.source asks.file asks.began; come = refl }
+      record { file = asks.file; began = put-lasts g d.source asks.file asks.began; come = refl }
 
   -- a put has begun there, if the ports are its own
-  own_asks : IsStranger w d.source ⊎ AsksToWrite w d.source → IsOwn writing d.source → AsksToWrite w d.source
+  own_asks : IsStranger w.past d.source ⊎ AsksToWrite w.past d.source → IsOwn writing d.source → AsksToWrite w.past d.source
   own_asks whose own =
       let g = grows w h spare free d.source to_write (receiving receiver_start) (encode (ack 0)) in
-      ⊎_elim (no_stranger w d.source (own-before w writing g d.source own)) (λ asks. asks) whose
+      ⊎_elim (no_stranger w.past d.source (own-before g d.source own)) (λ asks. asks) whose
 
   -- so all is shown that an opening needs
-  write_fine : IsStranger w d.source ⊎ AsksToWrite w d.source → IsFine w h spare free d.source to_write (receiving receiver_start) (encode (ack 0))
+  write_fine : IsStranger w.past d.source ⊎ AsksToWrite w.past d.source → IsFine w h spare free d.source to_write (receiving receiver_start) (encode (ack 0))
   write_fine whose =
       let g = grows w h spare free d.source to_write (receiving receiver_start) (encode (ack 0)) in
-      let acks : ServerAcks writing (from_port spare) d.source 0 = record { ours = refl; whom = λ own. none_acked (own_asks whose own) } in
+      let acks : ServerAcks writing.past (from_port spare) d.source 0 = record { ours = refl; whom = λ own. none_acked (own_asks whose own) } in
       record {
         away = writer_away w h d among whose;
         live = record {
@@ -102,25 +102,25 @@ module _ (w : World) (h : Holds w) (d : Datagram) (among : Has w.net d) (spare :
           whose = λ own. none_come (own_asks whose own);
         };
         honest = honest_packet writing (from_port spare) d.source (ack 0) (ack-reads_back 0 (omega arith)).decoded (inr acks);
-        whose = either (stranger-lasts w writing g d.source)
-            (λ (asks : AsksToWrite w d.source). (asks.file, put-lasts w writing g d.source asks.file asks.began)) whose;
+        whose = either (stranger-lasts g d.source)
+            (λ (asks : AsksToWrite w.past d.source). (asks.file, put-lasts g d.source asks.file asks.began)) whose;
       }
 
   -- a write, whether or not there is memory
-  write_memory : (verdict : Verdict) → IsStranger w d.source ⊎ AsksToWrite w d.source →
+  write_memory : (verdict : Verdict) → IsStranger w.past d.source ⊎ AsksToWrite w.past d.source →
       Holds (after_request d.source spare to_write (write_opens verdict spare d.source w.server) w)
   write_memory granted whose =
       opened-holds w h spare free d.source to_write (receiving receiver_start) (encode (ack 0)) (write_fine whose)
   write_memory refused whose = refuses-holds w h d among spare to_write OutOfMemory
 
   -- whether or not there is a slot
-  write_place : (position : Bool) → (verdict : Verdict) → IsStranger w d.source ⊎ AsksToWrite w d.source →
+  write_place : (position : Bool) → (verdict : Verdict) → IsStranger w.past d.source ⊎ AsksToWrite w.past d.source →
       Holds (after_request d.source spare to_write (write_with_slot position verdict spare d.source w.server) w)
   write_place true verdict whose = write_memory verdict whose
   write_place false verdict whose = refuses-holds w h d among spare to_write ServerBusy
 
   -- whether or not the mode is octet
-  write_mode : (octet : Bool) → (verdict : Verdict) → IsStranger w d.source ⊎ AsksToWrite w d.source →
+  write_mode : (octet : Bool) → (verdict : Verdict) → IsStranger w.past d.source ⊎ AsksToWrite w.past d.source →
       Holds (after_request d.source spare to_write (write_asked octet verdict spare d.source w.server) w)
   write_mode true verdict whose = write_place (has_slot w.server) verdict whose
   write_mode false verdict whose = refuses-holds w h d among spare to_write OctetOnly

@@ -5,10 +5,10 @@ use Rattle.std.proofs.lemmas.Bool.{eqb-true, eq-eqb}
 use Rattle.tftp_packet.specs.declared.endpoint.Endpoint.{Endpoint}
 use Rattle.archive_table.specs.Table.{is_same}
 use Rattle.archive_client.specs.Client.{Operation}
-use Rattle.archive_theorem.specs.World.{Datagram, Begun, Opening, World, start, has_begun, begins, strays_in}
+use Rattle.archive_model.specs.World.{Datagram, Begun, Opening, World, start, has_begun, begins, strays_in}
 use Rattle.archive_theorem.specs.Headline.{OwnPorts, HasOwnPorts, HasOperation}
 use Rattle.archive_theorem.specs.Reuse.{has_strayed, is_opening_at, was_opened, IsUnused, BeginKeepsOwn, OpeningKeepsOwn, StrayKeepsOwn}
-use Rattle.archive_theorem.proofs.Places.{Has, Has-last, Has-push, Has-contains, Has-from_contains, OldOrLast, at-push, at-append, at-last, before_last}
+use Rattle.archive_model.proofs.Places.{Has, Has-last, Has-push, Has-contains, Has-from_contains, OldOrLast, at-push, at-append, at-last, before_last}
 use Rattle.archive_theorem.proofs.Endpoints.{exact_endpoint, same_endpoint}
 
 -- ---- a test of any member

@@ -3,7 +3,7 @@ use Rattle.std.proofs.Common.{◌≡◌, ℕ, suc, refl, arith}
 use Rattle.tftp_packet.specs.Packet.{encode}
 use Rattle.tftp_packet.specs.Decode.{decode_bytes}
 use Rattle.tftp_packet.specs.Blocks.{block_of}
-use Rattle.archive_theorem.specs.World.{run, start, AllMerged}
+use Rattle.archive_model.specs.World.{run, start, AllMerged}
 use Rattle.archive_theorem.specs.Headline.{HasOwnPorts}
 use Rattle.archive_theorem.specs.Samples.{crossed_get, strange_put, restart_between, opened_again}
 use Rattle.archive_theorem.proofs.Takings.{merged-by}

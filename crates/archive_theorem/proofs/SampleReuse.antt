@@ -6,10 +6,10 @@ use Rattle.tftp_packet.specs.Blocks.{block_of}
 use Rattle.tws_file.specs.declared.«ruleset».Ruleset.TheVariants.{Lynx}
 use Rattle.archive_table.specs.Table.{Taken}
 use Rattle.archive_client.specs.Client.{put, get}
-use Rattle.archive_theorem.specs.World.{Begun, World, to_write, start, run, AllMerged}
+use Rattle.archive_model.specs.World.{Begun, World, to_write, start, run, AllMerged}
 use Rattle.archive_theorem.specs.Headline.{IsOwn, HasOwnPorts, ClientHeadline}
 use Rattle.archive_theorem.specs.Samples.{sample_client, plain_steps, reused_elsewhere, begun_twice, opened_twice, strayed_there, FailsBy, summary_of, one_put_summary, sample_opening}
-use Rattle.archive_theorem.proofs.Places.{Has-contains, Has-from_contains}
+use Rattle.archive_model.proofs.Places.{Has-contains, Has-from_contains}
 use Rattle.archive_theorem.proofs.Takings.{merged-by}
 use Rattle.archive_theorem.proofs.OwnEndpoints.{own-if}
 use Rattle.archive_theorem.proofs.Premises.{empty_merged}
@@ -45,7 +45,7 @@ reused_elsewhere-meets = (reused_elsewhere-breaks, reused_elsewhere-own, reused_
 
 -- one file taken from the client twice
 twice_taken : (w : World) (t u : Taken) → slice_get w.taken 0 ≡ Some t → slice_get w.taken 1 ≡ Some u → t.peer ≡ sample_client 1 →
-    u.peer ≡ sample_client 1 → ClientHeadline w (sample_client 1) → ⊥
+    u.peer ≡ sample_client 1 → ClientHeadline w.past (sample_client 1) → ⊥
 twice_taken w t u first second mine also h = not_next 0 (h.once 0 1 t u first second mine also)
 
 -- the file without bytes, from the client
@@ -90,7 +90,7 @@ only_one b c (suc i) is = absurd cc
 
 -- the one operation there is no put
 none_put : (w : World) (b : Begun) (t : Taken) → w.begun ≡ b ∷ [] → b.operation ≡ get Lynx → Contains w.taken t → t.peer ≡ sample_client 1 →
-    ClientHeadline w (sample_client 1) → ⊥
+    ClientHeadline w.past (sample_client 1) → ⊥
 none_put w b t only gets among mine h =
     let by = h.unchanged t among mine in
     let has = Has-from_contains w.begun by.0 by.1 in

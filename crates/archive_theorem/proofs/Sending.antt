@@ -11,13 +11,13 @@ use Rattle.tftp_packet.proofs.Sent.{sent_refusal}
 use Rattle.tftp_ends.specs.Ends.{dgram_of}
 use Rattle.tftp_ends.proofs.Steps.{ReadsBack}
 use Rattle.archive_table.specs.Table.{End, Transfer, at_port, with_live, transfer_at, sends_from, refusal_dgram, replies, goes_on, closes}
-use Rattle.archive_theorem.specs.World.{Datagram, World, server_endpoint, datagram_of, net_with, after_transfer}
-use Rattle.archive_theorem.proofs.Places.{Has, Extends, Extends-same, Extends-push, Has-push}
+use Rattle.archive_model.specs.World.{Datagram, World, server_endpoint, datagram_of, net_with, after_transfer, Extends, IsPrefix}
+use Rattle.archive_model.proofs.Places.{Has, IsPrefix-same, IsPrefix-push, Has-push, either}
 use Rattle.archive_theorem.proofs.Keyed.{IsApart, NewOrOld, lookup-set, lookup-remove, apart-set, apart-remove}
-use Rattle.archive_theorem.proofs.Claims.{GrowsTo, Says, IsHonest, IsLiveEnd, IsLive, IsRunning, IsUntaken}
-use Rattle.archive_theorem.proofs.Lasting.{either, honest-lasts, live-lasts}
+use Rattle.archive_theorem.proofs.Claims.{Says, IsHonest, IsLiveEnd, IsLive, IsRunning, IsUntaken}
+use Rattle.archive_theorem.proofs.Lasting.{honest-lasts, live-lasts}
 use Rattle.archive_theorem.proofs.Invariant.{exact_port, Holds}
-use Rattle.archive_theorem.proofs.ServerMoves.{served, bound_before, served-holds}
+use Rattle.archive_theorem.proofs.ServerMoves.{served, bound_before, served-holds, served-extends}
 
 -- ---- what is sent is honest
 
@@ -25,19 +25,19 @@ same_packet : (p q : Packet) (bytes : List ℕ) → decode_bytes bytes ≡ Ok p 
 same_packet p q bytes is also = cc
 
 -- a packet that reads back and says what is so is honest
-pub honest_packet : (w : World) (source target : Endpoint) (p : Packet) → decode_bytes (encode p) ≡ Ok p → Says w source target p →
-    IsHonest w (record { source = source; target = target; bytes = encode p })
+pub honest_packet : (w : World) (source target : Endpoint) (p : Packet) → decode_bytes (encode p) ≡ Ok p → Says w.past source target p →
+    IsHonest w.past (record { source = source; target = target; bytes = encode p })
 honest_packet w source target p back says =
-    record { says = inr (λ q is. subst (Says w source target) (same_packet p q (encode p) back is) says) }
+    record { says = inr (λ q is. subst (Says w.past source target) (same_packet p q (encode p) back is) says) }
 
 -- an ERROR is honest
 pub honest_refusal : (w : World) (source target : Endpoint) (why : Refusal) →
-    IsHonest w (record { source = source; target = target; bytes = refusal_dgram why })
+    IsHonest w.past (record { source = source; target = target; bytes = refusal_dgram why })
 honest_refusal w source target why = honest_packet w source target (refusal_packet why) (sent_refusal why) tt
 
 -- what is sent from the server's host is honest
 abbrev pub SendsHonest : World → Option Out → Type 0
-SendsHonest w out = IfSome out (λ o. IsHonest w (datagram_of server_endpoint.host o))
+SendsHonest w out = IfSome out (λ o. IsHonest w.past (datagram_of server_endpoint.host o))
 
 -- the server's endpoint with this port
 abbrev pub from_port : ℕ → Endpoint
@@ -45,32 +45,32 @@ from_port port = record { host = server_endpoint.host; port = port }
 
 -- what an end sends is honest, if it reads back and says what is so
 pub sends_packet : (w : World) (port : ℕ) (peer : Endpoint) (out : Option Packet) → IfSome out ReadsBack →
-    IfSome out (Says w (from_port port) peer) → SendsHonest w (sends_from port peer (dgram_of out))
+    IfSome out (Says w.past (from_port port) peer) → SendsHonest w (sends_from port peer (dgram_of out))
 sends_packet w port peer None back says = tt
 sends_packet w port peer (Some p) back says = honest_packet w (from_port port) peer p back.decoded says
 
 -- ---- the network
 
 -- the network with what is sent begins with what it was
-pub net-extends : (host : ℕ) (net : List Datagram) (out : Option Out) → Extends net (net_with host net out)
-net-extends host net None = Extends-same net
-net-extends host net (Some out) = Extends-push net (datagram_of host out)
+pub net-prefix : (host : ℕ) (net : List Datagram) (out : Option Out) → IsPrefix net (net_with host net out)
+net-prefix host net None = IsPrefix-same net
+net-prefix host net (Some out) = IsPrefix-push net (datagram_of host out)
 
 -- a new datagram of the network is honest, and from the server's host
-net_honest : (w v : World) → GrowsTo w v → (out : Option Out) → SendsHonest w out → (d : Datagram) →
-    Has (net_with server_endpoint.host w.net out) d → Has w.net d ⊎ ((d.source.host ≡ server_endpoint.host) × IsHonest v d)
+net_honest : (w v : World) → Extends w.past v.past → (out : Option Out) → SendsHonest w out → (d : Datagram) →
+    Has (net_with server_endpoint.host w.net out) d → Has w.net d ⊎ ((d.source.host ≡ server_endpoint.host) × IsHonest v.past d)
 net_honest w v g None honest d has = inl has
 net_honest w v g (Some out) honest d has =
     either (λ old. old)
-    (λ is. (ap (λ (x : Datagram). x.source.host) is, subst (IsHonest v) (sym is) (honest-lasts w v g (datagram_of server_endpoint.host out) honest)))
+    (λ is. (ap (λ (x : Datagram). x.source.host) is, subst (IsHonest v.past) (sym is) (honest-lasts g (datagram_of server_endpoint.host out) honest)))
     (Has-push w.net (datagram_of server_endpoint.host out) d has)
 
 -- a new datagram is from the server's host, and honest by what holds after the step
-pub net_from_server : (w v : World) → GrowsTo w v → (out : Option Out) → SendsHonest v out → (d : Datagram) →
-    Has (net_with server_endpoint.host w.net out) d → Has w.net d ⊎ ((d.source.host ≡ server_endpoint.host) × IsHonest v d)
+pub net_from_server : (w v : World) → Extends w.past v.past → (out : Option Out) → SendsHonest v out → (d : Datagram) →
+    Has (net_with server_endpoint.host w.net out) d → Has w.net d ⊎ ((d.source.host ≡ server_endpoint.host) × IsHonest v.past d)
 net_from_server w v g None honest d has = inl has
 net_from_server w v g (Some out) honest d has =
-    either (λ old. old) (λ is. (ap (λ (x : Datagram). x.source.host) is, subst (IsHonest v) (sym is) honest))
+    either (λ old. old) (λ is. (ap (λ (x : Datagram). x.source.host) is, subst (IsHonest v.past) (sym is) honest))
     (Has-push w.net (datagram_of server_endpoint.host out) d has)
 
 -- ---- the steps
@@ -81,19 +81,13 @@ module _ (w : World) (h : Holds w) where
   moved live out = served (net_with server_endpoint.host w.net out) (with_live live w.server) w.taken w.opened w
 
   -- the lists have only grown
-  moved_grows : (live : List (ℕ × Transfer)) (out : Option Out) → GrowsTo w (moved live out)
+  moved_grows : (live : List (ℕ × Transfer)) (out : Option Out) → Extends w.past (moved live out).past
   moved_grows live out =
-      record {
-        net = net-extends server_endpoint.host w.net out;
-        begun = Extends-same w.begun;
-        taken = Extends-same w.taken;
-        opened = Extends-same w.opened;
-        strays = Extends-same w.strays;
-      }
+      served-extends w.past (net-prefix server_endpoint.host w.net out) (IsPrefix-same w.taken) (IsPrefix-same w.opened)
 
   -- no file is newly taken
   untaken_after : (live : List (ℕ × Transfer)) (out : Option Out) → SendsHonest w out → (port : ℕ) (t : Transfer) →
-      t.peer.host ≢ server_endpoint.host → IsUntaken w port t → IsUntaken (moved live out) port t
+      t.peer.host ≢ server_endpoint.host → IsUntaken w.past port t → IsUntaken (moved live out).past port t
   untaken_after live out honest port t away untaken running own u among same bound =
       let g = moved_grows live out in
       let from_us : (d : Datagram) → Has (net_with server_endpoint.host w.net out) d → Has w.net d ⊎ (d.source.host ≡ server_endpoint.host) =
@@ -103,17 +97,15 @@ module _ (w : World) (h : Holds w) where
 
   -- each of these transfers is as the invariant says
   pub moved-holds : (live : List (ℕ × Transfer)) (out : Option Out) → SendsHonest w out → IsApart at_port exact_port live →
-      ((port : ℕ) (t : Transfer) → lookup (at_port port) live ≡ Some t → IsLive w port t × IsUntaken w port t) → Holds (moved live out)
+      ((port : ℕ) (t : Transfer) → lookup (at_port port) live ≡ Some t → IsLive w.past port t × IsUntaken w.past port t) → Holds (moved live out)
   moved-holds live out honest apart fits =
       let g = moved_grows live out in
       served-holds w h (net_with server_endpoint.host w.net out) (with_live live w.server) w.taken w.opened
       (record {
-        more_net = g.net;
-        more_taken = g.taken;
-        more_opened = g.opened;
+        more = g;
         honest = net_honest w (moved live out) g out honest;
         apart = apart;
-        live = λ port t is. live-lasts w (moved live out) g port t (fits port t is).0;
+        live = λ port t is. live-lasts g port t (fits port t is).0;
         untaken = λ port t is. untaken_after live out honest port t (fits port t is).0.away (fits port t is).1;
         openings = λ o has. inl has;
         files = λ t has. inl has;
@@ -122,26 +114,26 @@ module _ (w : World) (h : Holds w) where
       })
 
   -- a datagram that is honest is sent, and nothing else changes: the invariant still holds
-  pub replies-holds : (out : Out) → IsHonest w (datagram_of server_endpoint.host out) → Holds (after_transfer (replies out w.server) w)
+  pub replies-holds : (out : Out) → IsHonest w.past (datagram_of server_endpoint.host out) → Holds (after_transfer (replies out w.server) w)
   replies-holds out honest =
       moved-holds w.server.live (Some out) honest h.apart (λ port t is. (h.live port t is, h.untaken port t is))
 
   -- the new end, or what was there
-  goes_on_fits : (port : ℕ) (t : Transfer) (end : End) → transfer_at port w.server ≡ Some t → IsLiveEnd w t.peer port end →
+  goes_on_fits : (port : ℕ) (t : Transfer) (end : End) → transfer_at port w.server ≡ Some t → IsLiveEnd w.past t.peer port end →
       (IsRunning end → IsRunning t.end) → (q : ℕ) (u : Transfer) →
-      NewOrOld at_port exact_port w.server.live port (record { peer = t.peer; end = end }) q u → IsLive w q u × IsUntaken w q u
+      NewOrOld at_port exact_port w.server.live port (record { peer = t.peer; end = end }) q u → IsLive w.past q u × IsUntaken w.past q u
   goes_on_fits port t end is fits onward q u (inr old) = (h.live q u old, h.untaken q u old)
   goes_on_fits port t end is fits onward q u (inl new) =
       let there = h.live port t is in
       let next : Transfer = record { peer = t.peer; end = end } in
-      let live : IsLive w port next = record { away = there.away; end = fits } in
-      let untaken : IsUntaken w port next = λ running. h.untaken port t is (onward running) in
-      let pair : IsLive w q next × IsUntaken w q next = subst (λ (p : ℕ). IsLive w p next × IsUntaken w p next) (sym new.0) (live, untaken) in
-      subst (λ (x : Transfer). IsLive w q x × IsUntaken w q x) (sym new.1) pair
+      let live : IsLive w.past port next = record { away = there.away; end = fits } in
+      let untaken : IsUntaken w.past port next = λ running. h.untaken port t is (onward running) in
+      let pair : IsLive w.past q next × IsUntaken w.past q next = subst (λ (p : ℕ). IsLive w.past p next × IsUntaken w.past p next) (sym new.0) (live, untaken) in
+      subst (λ (x : Transfer). IsLive w.past q x × IsUntaken w.past q x) (sym new.1) pair
 
   -- a transfer that goes on keeps the invariant
   pub goes_on-holds : (port : ℕ) (t : Transfer) (end : End) (out : Option (List ℕ)) → transfer_at port w.server ≡ Some t →
-      IsLiveEnd w t.peer port end → (IsRunning end → IsRunning t.end) → SendsHonest w (sends_from port t.peer out) →
+      IsLiveEnd w.past t.peer port end → (IsRunning end → IsRunning t.end) → SendsHonest w (sends_from port t.peer out) →
       Holds (after_transfer (goes_on port t.peer end out w.server) w)
   goes_on-holds port t end out is fits onward honest =
       let next : Transfer = record { peer = t.peer; end = end } in

@@ -4,45 +4,47 @@ use Rattle.tftp_packet.specs.declared.endpoint.Endpoint.{Endpoint}
 use Rattle.archive_table.specs.Table.{Table, Taken, Transfer, at_port, transfer_at}
 use Rattle.archive_client.specs.Client.{Phase, Client, put, get}
 use Rattle.archive_client.specs.Client as client
-use Rattle.archive_theorem.specs.World.{Datagram, Opening, World, server_endpoint}
-use Rattle.archive_theorem.proofs.Places.{Has, Extends, Extends-same, length-extends}
+use Rattle.archive_model.specs.World.{Datagram, Opening, World, server_endpoint, Extends, IsPrefix, Past}
+use Rattle.archive_model.proofs.Places.{Has, IsPrefix-same, length-prefix, either}
 use Rattle.archive_theorem.proofs.Keyed.{IsApart}
-use Rattle.archive_theorem.proofs.Claims.{GrowsTo, HasBegun, IsHonest, IsBound, IsLive, IsUntaken, IsPursuing, MayBind, IsOpening, IsTaken}
-use Rattle.archive_theorem.proofs.Lasting.{either, honest-lasts, faithful-lasts, opening-lasts, is_taken-lasts, sent-lasts, got-lasts}
+use Rattle.archive_theorem.proofs.Claims.{HasBegun, IsHonest, IsBound, IsLive, IsUntaken, IsPursuing, MayBind, IsOpening, IsTaken}
+use Rattle.archive_theorem.proofs.Lasting.{honest-lasts, faithful-lasts, opening-lasts, is_taken-lasts, sent-lasts, got-lasts}
 use Rattle.archive_theorem.proofs.Owning.{own-before, put_begun, get_begun}
 use Rattle.archive_theorem.proofs.Invariant.{exact_port, AreBest, TakesOnce, Holds}
 
 -- the world after a step of the server
 abbrev pub served : (net : List Datagram) (server : Table) (taken : List Taken) (opened : List Opening) → World → World
 served net server taken opened w =
+    record w { server = server; past = record w.past { net = net; taken = taken; opened = opened } }
+
+-- which only adds to these lists
+pub served-extends : (past : Past) {net : List Datagram} {taken : List Taken} {opened : List Opening} → IsPrefix past.net net →
+    IsPrefix past.taken taken → IsPrefix past.opened opened → Extends past (record past { net = net; taken = taken; opened = opened })
+served-extends past net taken opened =
     record {
       net = net;
-      server = server;
-      clients = w.clients;
-      begun = w.begun;
+      begun = IsPrefix-same past.begun;
       taken = taken;
-      sent = w.sent;
-      got = w.got;
+      sent = IsPrefix-same past.sent;
+      got = IsPrefix-same past.got;
       opened = opened;
-      strays = w.strays;
+      strays = IsPrefix-same past.strays;
     }
 
 -- no operation begins on the server's host
-pub begun_away : (w : World) → Holds w → (e : Endpoint) → HasBegun w e → e.host ≢ server_endpoint.host
+pub begun_away : (w : World) → Holds w → (e : Endpoint) → HasBegun w.past e → e.host ≢ server_endpoint.host
 begun_away w h e b = λ ours. (h.begun b.begun b.among).away (ap (λ (f : Endpoint). f.host) b.client ∙ ours)
 
 -- what must be shown
 pub record Serving (w : World) (net : List Datagram) (server : Table) (taken : List Taken) (opened : List Opening) : Type 0 where
-  pub more_net : Extends w.net net
-  pub more_taken : Extends w.taken taken
-  pub more_opened : Extends w.opened opened
-  pub honest : (d : Datagram) → Has net d → Has w.net d ⊎ ((d.source.host ≡ server_endpoint.host) × IsHonest (served net server taken opened w) d)
+  pub more : Extends w.past (served net server taken opened w).past
+  pub honest : (d : Datagram) → Has net d → Has w.net d ⊎ ((d.source.host ≡ server_endpoint.host) × IsHonest (served net server taken opened w).past d)
   pub apart : IsApart at_port exact_port server.live
-  pub live : (port : ℕ) (t : Transfer) → transfer_at port server ≡ Some t → IsLive (served net server taken opened w) port t
-  pub untaken : (port : ℕ) (t : Transfer) → transfer_at port server ≡ Some t → IsUntaken (served net server taken opened w) port t
-  pub openings : (o : Opening) → Has opened o → Has w.opened o ⊎ IsOpening (served net server taken opened w) o
-  pub files : (t : Taken) → Has taken t → Has w.taken t ⊎ IsTaken (served net server taken opened w) t
-  pub once : TakesOnce (served net server taken opened w)
+  pub live : (port : ℕ) (t : Transfer) → transfer_at port server ≡ Some t → IsLive (served net server taken opened w).past port t
+  pub untaken : (port : ℕ) (t : Transfer) → transfer_at port server ≡ Some t → IsUntaken (served net server taken opened w).past port t
+  pub openings : (o : Opening) → Has opened o → Has w.opened o ⊎ IsOpening (served net server taken opened w).past o
+  pub files : (t : Taken) → Has taken t → Has w.taken t ⊎ IsTaken (served net server taken opened w).past t
+  pub once : TakesOnce (served net server taken opened w).past
   pub best : AreBest taken server.maps
 
 module _ (w : World) (h : Holds w) (net : List Datagram) (server : Table) (taken : List Taken) (opened : List Opening) where
@@ -52,7 +54,7 @@ module _ (w : World) (h : Holds w) (net : List Datagram) (server : Table) (taken
 
   -- what the server sends binds nobody
   pub bound_before : ((d : Datagram) → Has net d → Has w.net d ⊎ (d.source.host ≡ server_endpoint.host)) → (e : Endpoint) (port : ℕ) →
-      e.host ≢ server_endpoint.host → IsBound after e port → IsBound w e port
+      e.host ≢ server_endpoint.host → IsBound after.past e port → IsBound w.past e port
   bound_before new e port away b =
       ⊎_elim
       (λ old. record { datagram = b.datagram; among = old; source = b.source; target = b.target; binds = b.binds })
@@ -60,47 +62,40 @@ module _ (w : World) (h : Holds w) (net : List Datagram) (server : Table) (taken
       (new b.datagram b.among)
 
   -- each client is bound where its endpoint is
-  bound_in : (e : Endpoint) (phase : Phase) (port : ℕ) → (e.host ≢ server_endpoint.host → IsBound after e port → IsBound w e port) →
-      IsPursuing w e phase → (IsBound w e port → MayBind phase port) → IsBound after e port → MayBind phase port
+  bound_in : (e : Endpoint) (phase : Phase) (port : ℕ) → (e.host ≢ server_endpoint.host → IsBound after.past e port → IsBound w.past e port) →
+      IsPursuing w.past e phase → (IsBound w.past e port → MayBind phase port) → IsBound after.past e port → MayBind phase port
   bound_in e (client.asking operation misses) port before p may b =
       may (before (begun_away w h e (record { begun = _; among = p.among; client = refl })) b)
   bound_in e (client.sending peer s) port before p may b =
-      may (before (begun_away w h e (put_begun w e s.file p.began)) b)
+      may (before (begun_away w h e (put_begun e s.file p.began)) b)
   bound_in e (client.receiving peer r) port before p may b =
-      may (before (begun_away w h e (get_begun w e p.rules p.count p.began)) b)
+      may (before (begun_away w h e (get_begun e p.rules p.count p.began)) b)
   bound_in e (client.failed why) port before p may b = tt
 
   -- a step of the server for which all this is shown keeps the invariant
   pub served-holds : Serving w net server taken opened → Holds after
   served-holds s =
-      let g : GrowsTo w after = record {
-        net = s.more_net;
-        begun = Extends-same w.begun;
-        taken = s.more_taken;
-        opened = s.more_opened;
-        strays = Extends-same w.strays;
-      } in
       let new : (d : Datagram) → Has net d → Has w.net d ⊎ (d.source.host ≡ server_endpoint.host) =
       λ d has. either (λ old. old) (λ ours. ours.0) (s.honest d has) in
       let before = bound_before new in
       record {
-        net = λ d has. ⊎_elim (λ old. honest-lasts w after g d (h.net d old)) (λ ours. ours.1) (s.honest d has);
+        net = λ d has. ⊎_elim (λ old. honest-lasts s.more d (h.net d old)) (λ ours. ours.1) (s.honest d has);
         apart = s.apart;
         live = s.live;
         untaken = s.untaken;
-        clients = λ e c is. faithful-lasts w after g e c (h.clients e c is);
+        clients = λ e c is. faithful-lasts s.more e c (h.clients e c is);
         bound = λ e c is own port b.
-            bound_in e c.phase port (before e port) (h.clients e c is).phase (h.bound e c is (own-before w after g e own) port) b;
+            bound_in e c.phase port (before e port) (h.clients e c is).phase (h.bound e c is (own-before s.more e own) port) b;
         one_port = λ e p q begun own b c.
-            let was : HasBegun w e = record { begun = begun.begun; among = begun.among; client = begun.client } in
+            let was : HasBegun w.past e = record { begun = begun.begun; among = begun.among; client = begun.client } in
             let away = begun_away w h e was in
-            h.one_port e p q was (own-before w after g e own) (before e p away b) (before e q away c);
-        begun = λ b has. record { away = (h.begun b has).away; counted = le_trans (h.begun b has).counted (length-extends w.taken taken s.more_taken) };
+            h.one_port e p q was (own-before s.more e own) (before e p away b) (before e q away c);
+        begun = λ b has. record { away = (h.begun b has).away; counted = le_trans (h.begun b has).counted (length-prefix w.taken taken s.more.taken) };
         strays = h.strays;
-        opened = λ o has. ⊎_elim (λ old. opening-lasts w after g o (h.opened o old)) (λ now. now) (s.openings o has);
-        taken = λ t has other. ⊎_elim (λ old. is_taken-lasts w after g t (h.taken t old other)) (λ now. now) (s.files t has);
+        opened = λ o has. ⊎_elim (λ old. opening-lasts s.more o (h.opened o old)) (λ now. now) (s.openings o has);
+        taken = λ t has other. ⊎_elim (λ old. is_taken-lasts s.more t (h.taken t old other)) (λ now. now) (s.files t has);
         once = s.once;
-        sent = λ e has. sent-lasts w after g e (h.sent e has);
-        got = λ got has. got-lasts w after g got (h.got got has);
+        sent = λ e has. sent-lasts s.more e (h.sent e has);
+        got = λ got has. got-lasts s.more got (h.got got has);
         best = s.best;
       }

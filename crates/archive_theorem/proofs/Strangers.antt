@@ -6,9 +6,9 @@ use Rattle.tftp_ends.specs.Ends.{answer_of, Receiver, receiver_data, receiver_ta
 use Rattle.tftp_ends.specs.Input.{Input, nothing, stray, refusal, acked, block}
 use Rattle.archive_table.specs.Table.{Table, Maps, Transfer, Taken, End, sending, receiving, Grant, all, no_memory, unkept, memory_verdict, transfer_input, transfer_at, file_come, file_asked, block_answered, data_at, transfer_by_input, datagram_at, table_datagram, empty_maps}
 use Rattle.archive_client.specs.Client.{is_too_long}
-use Rattle.archive_theorem.specs.World.{Datagram, Event, begin, deliver, client_times_out, server_times_out, restart, WorldStep, World, server_endpoint, client_at, has_begun, taken_with, server_receives, arrives, delivers, event_happens, happens, run_from, run, start, AllMerged}
-use Rattle.archive_theorem.specs.World as world
-use Rattle.archive_theorem.proofs.Places.{Has, Has-push}
+use Rattle.archive_model.specs.World.{Datagram, Event, begin, deliver, client_times_out, server_times_out, restart, WorldStep, World, server_endpoint, client_at, has_begun, taken_with, server_receives, arrives, delivers, event_happens, happens, run_from, run, start, AllMerged}
+use Rattle.archive_model.specs.World as world
+use Rattle.archive_model.proofs.Places.{Has, Has-push}
 use Rattle.archive_theorem.proofs.Invariant.{Holds, none-over, start_from-holds}
 use Rattle.archive_theorem.proofs.Remaining.{ack_leaves, begins_remain, request_remains, client_remains, waits_remain, strays_remain, timeout_leaves}
 use Rattle.archive_theorem.proofs.Happening.{step-holds}

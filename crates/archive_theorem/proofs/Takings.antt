@@ -3,7 +3,7 @@
 use Rattle.std.proofs.Common.{List, [], ◌∷◌, length, drop, ap, ◌∙◌, subst}
 use Rattle.std.proofs.Math.Seq.{drop-append_seam}
 use Rattle.archive_table.specs.Table.{Maps, Taken, IsMerged}
-use Rattle.archive_theorem.specs.World.{WorldStep, World, happens, HasMerged, AllMerged}
+use Rattle.archive_model.specs.World.{WorldStep, World, happens, HasMerged, AllMerged}
 
 -- these files have made the collections, and then the rest holds
 abbrev FilesMerged : List Taken → (old now : Maps) → (rest : Type 0) → Type 0

@@ -9,8 +9,8 @@ use Rattle.tws_best.specs.Choice.{best_of}
 use Rattle.tws_best.proofs.Choices.{best_of_is}
 use Rattle.tws_best.proofs.Sets.{one_collection}
 use Rattle.archive_table.specs.Table.{Maps, Taken, Grant, IsFileMerge, MergesIntoOwn, IsMerged}
-use Rattle.archive_theorem.specs.World.{Event, World, WorldStep, start, event_happens, happens, run_from, run, AllMerged, asked_by}
-use Rattle.archive_theorem.proofs.Places.{at-last}
+use Rattle.archive_model.specs.World.{Event, World, WorldStep, start, event_happens, happens, run_from, run, AllMerged, asked_by}
+use Rattle.archive_model.proofs.Places.{at-last}
 use Rattle.archive_theorem.proofs.Readability.{readable_or_not}
 use Rattle.archive_theorem.proofs.Invariant.{AreBest}
 use Rattle.archive_theorem.proofs.Merging.{best-taken}

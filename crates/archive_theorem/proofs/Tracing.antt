@@ -8,15 +8,16 @@ use Rattle.std.proofs.lemmas.Slice.Eq.{bytes_eq-Decides}
 use Rattle.tftp_packet.specs.declared.endpoint.Endpoint.{Endpoint}
 use Rattle.archive_table.specs.Table.{Maps, Grant, Taken, IsMerged, Transfer, is_same, transfer_at, empty_maps}
 use Rattle.archive_client.specs.Client.{Operation, is_too_long}
-use Rattle.archive_theorem.specs.World.{Datagram, deliver, stray, WorldStep, World, server_endpoint, has_begun, begins, begins_unless, request_comes, server_receives, arrives, delivers, strays_in, strays_unless, event_happens, happens, run_from, start_from, start, IsFree, MayDeliver, AllMayHappen, AllMerged}
+use Rattle.archive_model.specs.World.{Datagram, deliver, stray, WorldStep, World, server_endpoint, begins, begins_unless, request_comes, server_receives, arrives, delivers, strays_in, event_happens, happens, run_from, start_from, start, IsFree, MayDeliver, AllMayHappen, AllMerged}
 use Rattle.archive_theorem.specs.Traces.{Deed, starts, receives, client_waits_long, server_waits_long, loads, Member, is_same_datagram, position_after, position_of, named_in, server_comes, comes, after_deed, trace_from, delivery, events_of, steps_with, member_steps, trace_steps, AllDeedsMerged}
 use Rattle.archive_theorem.specs.Headline.{AreOver, HasOwnPorts, ClientsHeadline, Headline}
 use Rattle.archive_theorem.proofs.Happening.{run-append}
 use Rattle.archive_theorem.proofs.Concluding.{run_from-clients, headline}
 use Rattle.archive_theorem.proofs.Invariant.{none-over}
 use Rattle.archive_theorem.proofs.Strangers.{AreFromOthers, run-from_others}
-use Rattle.archive_theorem.proofs.Places.{at-last}
+use Rattle.archive_model.proofs.Places.{at-last}
 use Rattle.archive_theorem.proofs.Endpoints.{endpoint_is, exact_endpoint}
+use Rattle.archive_model.proofs.Entries.{strays_fits}
 
 -- ---- the place of a datagram
 
@@ -91,13 +92,6 @@ delivers_fits w d index spare grant maps is may =
     let same : may.datagram ≡ d = same_found (slice_get w.net index) may.datagram d may.is is in
     ap (λ (o : Option Datagram). delivers o spare grant maps w) is
     ∙ arrives_fits w d spare grant maps (d.target.host == server_endpoint.host) refl (λ to. may.spare_is (ap (λ (x : Datagram). x.target) same ∙ to))
-
--- a stray that may happen enters the network
-pub strays_fits : (w : World) (d : Datagram) → d.source.host ≢ server_endpoint.host → has_begun d.source w.begun ≡ false →
-    strays_unless (d.source.host == server_endpoint.host) (has_begun d.source w.begun) d w ≡ strays_in d w
-strays_fits w d away unbegun =
-    ap (λ (ours : Bool). strays_unless ours (has_begun d.source w.begun) d w) (ne_eqb d.source.host server_endpoint.host away)
-    ∙ ap (λ (begun : Bool). strays_unless false begun d w) unbegun
 
 -- an operation that may begin begins
 pub begins_fits : (w : World) (e : Endpoint) (operation : Operation) → e.host ≢ server_endpoint.host → is_too_long operation ≡ false →

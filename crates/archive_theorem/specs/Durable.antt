@@ -9,9 +9,9 @@ use Rattle.tws_best.specs.Best.{KeyedBody, Collected, HasBody, solutions_of}
 use Rattle.archive_table.specs.Table.{Maps, Taken, map_of}
 use Rattle.archive_table.specs.Keeper.{Keeping, LoadedFrom}
 use Rattle.archive_client.specs.Client.{put}
-use Rattle.archive_theorem.specs.World.{Begun, Got, WorldStep, World, run_from, happens}
+use Rattle.archive_model.specs.World.{Begun, Got, WorldStep, World, run_from, happens}
 use Rattle.archive_theorem.specs.Headline.{IsOwn}
-use Rattle.archive_theorem.specs.Restarts.{EventKeeps}
+use Rattle.archive_model.specs.Restarts.{EventKeeps}
 
 -- ---- collections
 

@@ -7,7 +7,7 @@ use Rattle.tws_file.specs.declared.«ruleset».Ruleset.{Ruleset}
 use Rattle.tws_best.specs.Best.{collection_text}
 use Rattle.archive_table.specs.Table.{Taken, IsMerged, map_of}
 use Rattle.archive_client.specs.Client.{Operation, put, get, is_too_long}
-use Rattle.archive_theorem.specs.World.{Begun, begin, to_read, Got, WorldStep, World, server_endpoint, happens, run_from}
+use Rattle.archive_model.specs.World.{Begun, begin, to_read, Got, WorldStep, World, server_endpoint, happens, run_from}
 use Rattle.archive_theorem.specs.Headline.{IsOwn, IsBestOver, files_of}
 
 -- this operation has begun at the endpoint

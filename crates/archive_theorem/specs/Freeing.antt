@@ -1,7 +1,7 @@
 -- No transfer stays for ever: whatever has happened, time-outs alone free every port of the server.
 use Rattle.std.specs.Prelude.{◌≡◌, ℕ, ◌*◌, ◌≤◌, List, [], ◌∷◌, length}
 use Rattle.archive_table.specs.Table.{all, empty_maps}
-use Rattle.archive_theorem.specs.World.{server_times_out, WorldStep, World, run_from}
+use Rattle.archive_model.specs.World.{server_times_out, WorldStep, World, run_from}
 
 -- these ports time out, one after another; what is granted does not matter
 abbrev pub time_out : (port : ℕ) → WorldStep

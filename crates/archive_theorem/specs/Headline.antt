@@ -7,7 +7,7 @@ use Rattle.tws_file.specs.declared.«ruleset».Ruleset.TheVariants.{Lynx, Ms}
 use Rattle.tws_best.specs.Best.{Collected, IsCollectionOf, collection_text}
 use Rattle.archive_table.specs.Table.{Maps, Taken}
 use Rattle.archive_client.specs.Client.{put, get}
-use Rattle.archive_theorem.specs.World.{Datagram, Begun, begin, stray, WorldStep, run_from, run, Opening, to_read, Got, World, server_endpoint}
+use Rattle.archive_model.specs.World.{Datagram, Begun, begin, stray, WorldStep, run_from, run, Opening, to_read, Got, Past, World, server_endpoint}
 
 -- ---- own ports: no port is reused
 
@@ -22,8 +22,12 @@ pub record OwnsPorts (begun : List Begun) (opened : List Opening) (strays : List
   pub openings : (i j : ℕ) (o p : Opening) → slice_get opened i ≡ Some o → slice_get opened j ≡ Some p → o.peer ≡ e → p.peer ≡ e → o.port ≡ p.port → i ≡ j
   pub stranger : (d : Datagram) → Contains strays d → d.source ≡ e → ⊥
 
+-- by what has happened
+abbrev pub Owns : Past → Endpoint → Type 0
+Owns past e = OwnsPorts past.begun past.opened past.strays e
+
 abbrev pub IsOwn : World → Endpoint → Type 0
-IsOwn w e = OwnsPorts w.begun w.opened w.strays e
+IsOwn w e = Owns w.past e
 
 -- The same of all at once: no pair of endpoints serves two transfers, and no stranger takes the endpoint of an operation.
 pub record OwnPorts (begun : List Begun) (opened : List Opening) (strays : List Datagram) : Type 0 where
@@ -53,47 +57,47 @@ IsStrayFrom strays e = (d : Datagram) × Contains strays d × (d.source ≡ e)
 
 -- A file from the endpoint of an operation is taken at most once and unchanged: it is the file of the put there, and no
 -- other file is taken from there. Every other file that is taken is a stranger's.
-pub record TakenOnce (begun : List Begun) (taken : List Taken) (strays : List Datagram) : Type 0 where
-  pub known : (t : Taken) → Contains taken t → HasOperation begun t.peer ⊎ IsStrayFrom strays t.peer
-  pub unchanged : (t : Taken) → Contains taken t → HasOperation begun t.peer →
-      (b : Begun) × Contains begun b × (b.client ≡ t.peer) × (b.operation ≡ put t.file)
-  pub once : (i j : ℕ) (t u : Taken) → slice_get taken i ≡ Some t → slice_get taken j ≡ Some u → HasOperation begun t.peer → t.peer ≡ u.peer → i ≡ j
+pub record TakenOnce (past : Past) : Type 0 where
+  pub known : (t : Taken) → Contains past.taken t → HasOperation past.begun t.peer ⊎ IsStrayFrom past.strays t.peer
+  pub unchanged : (t : Taken) → Contains past.taken t → HasOperation past.begun t.peer →
+      (b : Begun) × Contains past.begun b × (b.client ≡ t.peer) × (b.operation ≡ put t.file)
+  pub once : (i j : ℕ) (t u : Taken) → slice_get past.taken i ≡ Some t → slice_get past.taken j ≡ Some u → HasOperation past.begun t.peer → t.peer ≡ u.peer → i ≡ j
 
 -- A file that a client counts as sent is taken exactly once: there is a put at its endpoint, and only that one file is
 -- taken from there.
-pub record SentOnce (begun : List Begun) (taken : List Taken) (e : Endpoint) : Type 0 where
+pub record SentOnce (past : Past) (e : Endpoint) : Type 0 where
   pub file : List ℕ
-  pub began : (b : Begun) × Contains begun b × (b.client ≡ e) × (b.operation ≡ put file)
+  pub began : (b : Begun) × Contains past.begun b × (b.client ≡ e) × (b.operation ≡ put file)
   pub position : ℕ
-  pub is_taken : slice_get taken position ≡ Some (record { peer = e; file = file })
-  pub only : (i : ℕ) (t : Taken) → slice_get taken i ≡ Some t → t.peer ≡ e → i ≡ position
+  pub is_taken : slice_get past.taken position ≡ Some (record { peer = e; file = file })
+  pub only : (i : ℕ) (t : Taken) → slice_get past.taken i ≡ Some t → t.peer ≡ e → i ≡ position
 
 -- What a get has fetched is the collection of its ruleset over the first files taken, as many as were taken when a
 -- transfer to it was opened, and no fewer than when it began.
-pub record IsFinishedGet (begun : List Begun) (taken : List Taken) (opened : List Opening) (g : Got) : Type 0 where
+pub record IsFinishedGet (past : Past) (g : Got) : Type 0 where
   pub rules : Ruleset
   pub began : Begun
-  pub has_begun : Contains begun began
+  pub has_begun : Contains past.begun began
   pub by : began.client ≡ g.client
   pub operation : began.operation ≡ get rules
   pub opening : Opening
-  pub was_opened : Contains opened opening
+  pub was_opened : Contains past.opened opening
   pub peer : opening.peer ≡ g.client
   pub asked : opening.asked ≡ to_read rules
   -- what was taken when the get began is in it
   pub since : began.taken ≤ opening.taken
-  pub counted : opening.taken ≤ length taken
-  pub best : IsBestOver rules (files_of (take opening.taken taken)) g.file
+  pub counted : opening.taken ≤ length past.taken
+  pub best : IsBestOver rules (files_of (take opening.taken past.taken)) g.file
 
 -- What holds for the client of one endpoint: whatever was taken from there is the file of the put there, and it was taken
 -- once; if the client counts it as sent, it was taken; and what the client has fetched is the collection at one of its
 -- own requests.
-pub record ClientHeadline (w : World) (e : Endpoint) : Type 0 where
-  pub unchanged : (t : Taken) → Contains w.taken t → t.peer ≡ e →
-      (b : Begun) × Contains w.begun b × (b.client ≡ e) × (b.operation ≡ put t.file)
-  pub once : (i j : ℕ) (t u : Taken) → slice_get w.taken i ≡ Some t → slice_get w.taken j ≡ Some u → t.peer ≡ e → u.peer ≡ e → i ≡ j
-  pub sent : Contains w.sent e → SentOnce w.begun w.taken e
-  pub got : (g : Got) → Contains w.got g → g.client ≡ e → IsFinishedGet w.begun w.taken w.opened g
+pub record ClientHeadline (past : Past) (e : Endpoint) : Type 0 where
+  pub unchanged : (t : Taken) → Contains past.taken t → t.peer ≡ e →
+      (b : Begun) × Contains past.begun b × (b.client ≡ e) × (b.operation ≡ put t.file)
+  pub once : (i j : ℕ) (t u : Taken) → slice_get past.taken i ≡ Some t → slice_get past.taken j ≡ Some u → t.peer ≡ e → u.peer ≡ e → i ≡ j
+  pub sent : Contains past.sent e → SentOnce past e
+  pub got : (g : Got) → Contains past.got g → g.client ≡ e → IsFinishedGet past g
 
 -- What holds whatever the network does and whoever reuses a port: each file taken is from the endpoint of an operation
 -- or of a stranger, if it is not a text that the server had at first; whoever counts a file as sent, or has fetched one,
@@ -105,7 +109,7 @@ pub record ClientsHeadline (w : World) : Type 0 where
   pub got : (g : Got) → Contains w.got g → HasOperation w.begun g.client
   pub lynx : IsBestOver Lynx (files_of w.taken) (collection_text w.server.maps.lynx)
   pub ms : IsBestOver Ms (files_of w.taken) (collection_text w.server.maps.ms)
-  pub client : (e : Endpoint) → HasOperation w.begun e → IsOwn w e → ClientHeadline w e
+  pub client : (e : Endpoint) → HasOperation w.begun e → IsOwn w e → ClientHeadline w.past e
 
 -- The collections of a server are the best over these texts.
 pub record AreOver (texts : List (List ℕ)) (maps : Maps) : Type 0 where
@@ -116,11 +120,11 @@ pub record AreOver (texts : List (List ℕ)) (maps : Maps) : Type 0 where
 -- as sent. The collections are the best over the files taken. A finished get is the collection at one of its own
 -- requests.
 pub record Headline (w : World) : Type 0 where
-  pub taken : TakenOnce w.begun w.taken w.strays
-  pub sent : (e : Endpoint) → Contains w.sent e → SentOnce w.begun w.taken e
+  pub taken : TakenOnce w.past
+  pub sent : (e : Endpoint) → Contains w.sent e → SentOnce w.past e
   pub lynx : IsBestOver Lynx (files_of w.taken) (collection_text w.server.maps.lynx)
   pub ms : IsBestOver Ms (files_of w.taken) (collection_text w.server.maps.ms)
-  pub got : (g : Got) → Contains w.got g → IsFinishedGet w.begun w.taken w.opened g
+  pub got : (g : Got) → Contains w.got g → IsFinishedGet w.past g
 
 -- What was fetched is the best of this ruleset over the first `count` files taken, and the file that was sent from this
 -- endpoint is among them.

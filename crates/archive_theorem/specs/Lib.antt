@@ -1,9 +1,7 @@
-pub mod World
 pub mod Headline
 pub mod Traces
 pub mod Samples
 pub mod Reuse
-pub mod Restarts
 pub mod Durable
 pub mod Effects
 pub mod Freeing

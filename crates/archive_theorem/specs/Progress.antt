@@ -6,7 +6,7 @@ use Rattle.tws_file.specs.declared.«ruleset».Ruleset.{Ruleset}
 use Rattle.tws_best.specs.Best.{collection_text}
 use Rattle.archive_table.specs.Table.{map_of}
 use Rattle.archive_client.specs.Client.{put, get}
-use Rattle.archive_theorem.specs.World.{begin, WorldStep, World, run_from, AllMerged, AllMayHappen}
+use Rattle.archive_model.specs.World.{begin, WorldStep, World, run_from, AllMerged, AllMayHappen}
 use Rattle.archive_theorem.specs.Freeing.{time_outs}
 
 -- Steps that may happen, of which the first is that the put begins, and after which its client counts the file as sent.

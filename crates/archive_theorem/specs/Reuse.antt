@@ -3,7 +3,7 @@ use Rattle.std.specs.Prelude.{◌≡◌, ◌↔◌, ℕ, Bool, true, false, ◌=
 use Rattle.tftp_packet.specs.declared.endpoint.Endpoint.{Endpoint}
 use Rattle.archive_table.specs.Table.{is_same}
 use Rattle.archive_client.specs.Client.{Operation}
-use Rattle.archive_theorem.specs.World.{Datagram, Begun, Opening, World, has_begun, begins, strays_in}
+use Rattle.archive_model.specs.World.{Datagram, Begun, Opening, World, has_begun, begins, strays_in}
 use Rattle.archive_theorem.specs.Headline.{IsOwn, OwnPorts, HasOwnPorts}
 
 -- a stranger's datagram was sent from this endpoint

@@ -5,7 +5,7 @@ use Rattle.tws_file.specs.declared.«ruleset».Ruleset.TheVariants.{Lynx, Ms}
 use Rattle.tws_best.specs.Best.{KeyedBody, collection_text}
 use Rattle.archive_table.specs.Table.{Maps, Taken, all, empty_maps}
 use Rattle.archive_client.specs.Client.{put, get}
-use Rattle.archive_theorem.specs.World.{Event, begin, deliver, client_times_out, server_times_out, stray, restart, WorldStep, World, Asked, to_write, to_read, Opening, Got, server_endpoint, start, run, AllMerged}
+use Rattle.archive_model.specs.World.{Event, begin, deliver, client_times_out, server_times_out, stray, restart, WorldStep, World, Asked, to_write, to_read, Opening, Got, server_endpoint, start, run, AllMerged}
 use Rattle.archive_theorem.specs.Headline.{ClientHeadline}
 use Rattle.archive_theorem.specs.Reuse.{OwnTests, own_tests}
 
@@ -152,7 +152,7 @@ strayed_there =
 pub record FailsBy (events : List Event) (tests : OwnTests) : Type 0 where
   pub merged : AllMerged (plain_steps events) start
   pub tested : own_tests (sample_client 1) (run (plain_steps events)) ≡ tests
-  pub fails : ClientHeadline (run (plain_steps events)) (sample_client 1) → ⊥
+  pub fails : ClientHeadline (run (plain_steps events)).past (sample_client 1) → ⊥
 
 -- ---- the outcome of a run, in short
 

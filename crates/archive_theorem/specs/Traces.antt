@@ -7,7 +7,7 @@ use Rattle.std.specs.Str.{bytes_eq}
 use Rattle.tftp_packet.specs.declared.endpoint.Endpoint.{Endpoint}
 use Rattle.archive_table.specs.Table.{Maps, Grant, Taken, IsMerged, memory_verdict, is_same, table_request, table_datagram, table_timeout}
 use Rattle.archive_client.specs.Client.{Operation}
-use Rattle.archive_theorem.specs.World.{Datagram, Event, begin, deliver, client_times_out, server_times_out, stray, restart, WorldStep, World, server_endpoint, client_at, after_request, after_transfer, asked_of, begins, client_receives, client_waits, strays_in, restarts, run_from}
+use Rattle.archive_model.specs.World.{Datagram, Event, begin, deliver, client_times_out, server_times_out, stray, restart, WorldStep, World, server_endpoint, client_at, after_request, after_transfer, asked_of, begins, client_receives, client_waits, strays_in, restarts, run_from}
 
 -- what one end does
 pub data Deed : Type 0 where

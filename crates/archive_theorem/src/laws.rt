@@ -5,13 +5,13 @@ ghost use Rattle.archive_theorem.specs.Samples.{request_twice, late_ack, crossed
 ghost use Rattle.tftp_packet.specs.declared.endpoint.Endpoint.{Endpoint};
 ghost use Rattle.archive_client.specs.Client.{Operation, put, is_too_long};
 ghost use Rattle.archive_theorem.specs.Reuse.{BeginKeepsOwn, OpeningKeepsOwn, StrayKeepsOwn, IsOwnByTests};
-ghost use Rattle.archive_theorem.specs.World.{Begun, Datagram, Got, Opening, to_write, World, Event, WorldStep, happens, start, start_from, run, run_from, server_endpoint, AllMerged, asked_by, AllMayHappen};
+ghost use Rattle.archive_model.specs.World.{Begun, Datagram, Got, Opening, to_write, World, Event, WorldStep, happens, start, start_from, run, run_from, server_endpoint, AllMerged, asked_by, AllMayHappen};
 ghost use Rattle.archive_table.specs.Table.{Grant, Maps, Taken, empty_maps, map_of, has_long_text};
 ghost use Rattle.tws_file.specs.declared.«ruleset».Ruleset.{Ruleset};
 ghost use Rattle.tws_file.specs.declared.«ruleset».Ruleset.TheVariants.{Lynx, Ms};
 ghost use Rattle.tws_best.specs.Best.{Collected, IsCollected, collection_text};
 ghost use Rattle.archive_table.specs.Keeper.{Keeping};
-ghost use Rattle.archive_theorem.specs.Restarts.{HasKept, StepStaysKept, LoadsTheSame, FailsOutside, RunKeeps, RestartsFrom};
+ghost use Rattle.archive_model.specs.Restarts.{HasKept, StepStaysKept, LoadsTheSame, FailsOutside, RunKeeps, RestartsFrom};
 ghost use Rattle.archive_theorem.specs.Effects.{TakesEffect, ReadsAtOnce, FetchesNoLess, FetchesNone};
 ghost use Rattle.archive_theorem.specs.Freeing.{IsFreed};
 ghost use Rattle.archive_theorem.specs.Progress.{IsUnstuck, GetIsUnstuck};
@@ -83,12 +83,6 @@ pub fn folder_law()
     // unless that is too long.
     ensures unstuck { (texts : List (List ℕ)) (maps : Maps) → AreOver texts maps → (steps : List WorldStep) → AllMerged steps (start_from texts maps) → (e : Endpoint) (file : List ℕ) → e.host ≢ server_endpoint.host → is_too_long (put file) ≡ false → IsUnstuck (run_from steps (start_from texts maps)) e file }
     ensures get_unstuck { (texts : List (List ℕ)) (maps : Maps) → AreOver texts maps → (steps : List WorldStep) → AllMerged steps (start_from texts maps) → (e : Endpoint) («ruleset» : Ruleset) → e.host ≢ server_endpoint.host → has_long_text (map_of «ruleset» (run_from steps (start_from texts maps)).server.maps) ≡ false → GetIsUnstuck (run_from steps (start_from texts maps)) e «ruleset» }
-{}
-
-/// The values of the server's host and its request port, which the definitions refer to by name.
-pub fn server_values()
-    ensures host { server_endpoint.host ≡ 1 }
-    ensures port { server_endpoint.port ≡ 6969 }
 {}
 
 /// For every trace, which names the datagrams that arrive: if each event that it makes may happen, so that each

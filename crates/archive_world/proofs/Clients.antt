@@ -10,7 +10,7 @@ use Rattle.tftp_ends.specs.Ends.{Verdict, granted, refused}
 use Rattle.archive_table.specs.Table.{Grant, all, no_memory, memory_verdict, is_same}
 use Rattle.archive_client.specs.Client.{Client, phase_file, state_of, client_datagram, client_timeout}
 use Rattle.archive_client.specs.Client as client
-use Rattle.archive_theorem.specs.World.{World, Got, newly_got, newly_sent, got_with, sent_with, net_with, after_client, client_at, client_waits, client_receives, Datagram}
+use Rattle.archive_model.specs.World.{World, Got, newly_got, newly_sent, got_with, sent_with, net_with, after_client, client_at, client_waits, client_receives, Datagram}
 use Rattle.archive_world.specs.Inside.{IsFirst, StepsClient, answered_by, newly_fetched}
 use Rattle.archive_world.proofs.Firsts.{first_lookup, first_set}
 
@@ -80,18 +80,13 @@ answered_alike step e w after sent file out is =
     ∙ ap (λ (o : Option Out). answered_by e (set_value (is_same e) w.clients next) (newly_sent (state_of is.client) (state_of next)) file o w) is.out_is
     ∙ ap (λ (f : Option (List ℕ)). answered_by e (set_value (is_same e) w.clients next) (newly_sent (state_of is.client) (state_of next)) f
     (step is.client).out w) is.file_is
-    ∙ ap (λ (gs : List Got). record {
-      net = net_with e.host w.net (step is.client).out;
-      server = w.server;
-      clients = set_value (is_same e)
-          w.clients next;
-      begun = w.begun;
-      taken = w.taken;
-      sent = sent_with (newly_sent (state_of is.client) (state_of next)) e w.sent;
-      got =
-          gs;
-      opened = w.opened;
-      strays = w.strays;
+    ∙ ap (λ (gs : List Got). record w {
+      clients = set_value (is_same e) w.clients next;
+      past = record w.past {
+        net = net_with e.host w.net (step is.client).out;
+        sent = sent_with (newly_sent (state_of is.client) (state_of next)) e w.sent;
+        got = gs;
+      };
     })
     (fetched_alike (newly_got (state_of is.client) (state_of next)) e (phase_file next.phase) w.got)
 

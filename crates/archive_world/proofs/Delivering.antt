@@ -12,10 +12,10 @@ use Rattle.archive_table.specs.Keeper.{Keeping, KeepsOne, KeepsMaps, FailsKeep, 
 use Rattle.archive_table.proofs.SamePort.{request_same, datagram_same}
 use Rattle.archive_world.specs.declared.event_fault.EventFault.{EventFault}
 use Rattle.archive_world.specs.declared.event_fault.EventFault.TheVariants as fault
-use Rattle.archive_theorem.specs.World.{deliver, World, Datagram, Opening, server_endpoint, client_at, client_receives, opened_with, taken_with, asked_of, after_request, event_happens, HasMerged, IsFree, MayDeliver}
+use Rattle.archive_model.specs.World.{deliver, World, Datagram, Opening, server_endpoint, client_at, client_receives, opened_with, taken_with, asked_of, after_request, event_happens, HasMerged, IsFree, MayDeliver}
 use Rattle.archive_theorem.specs.Headline.{OwnPorts, HasOwnPorts}
 use Rattle.archive_theorem.specs.Reuse.{was_opened}
-use Rattle.archive_theorem.specs.Restarts.{EventKeeps, wanted_at, wanted_of, wanted_by}
+use Rattle.archive_model.specs.Restarts.{EventKeeps, wanted_at, wanted_of, wanted_by}
 use Rattle.archive_theorem.specs.Traces.{server_comes, comes}
 use Rattle.archive_world.specs.Inside.{ReceivesAtPort}
 use Rattle.tws_best.specs.Best.{Collected}

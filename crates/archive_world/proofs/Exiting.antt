@@ -10,10 +10,10 @@ use Rattle.archive_table.specs.Keeper.{Keeping}
 use Rattle.archive_table.proofs.SamePort.{timeout_same}
 use Rattle.archive_world.specs.declared.event_fault.EventFault.{EventFault}
 use Rattle.archive_world.specs.declared.event_fault.EventFault.TheVariants as fault
-use Rattle.archive_theorem.specs.World.{Event, begin, deliver, client_times_out, server_times_out, stray, restart, World, Datagram, server_endpoint, has_begun, client_at, begins_unless, client_waits, strays_unless, restarts, taken_with, event_happens, HasMerged, MayHappen}
+use Rattle.archive_model.specs.World.{Event, begin, deliver, client_times_out, server_times_out, stray, restart, World, Datagram, server_endpoint, has_begun, client_at, begins_unless, client_waits, strays_unless, restarts, taken_with, event_happens, HasMerged, MayHappen}
 use Rattle.archive_theorem.specs.Headline.{HasOwnPorts}
 use Rattle.archive_theorem.specs.Reuse.{IsUnused}
-use Rattle.archive_theorem.specs.Restarts.{HasKept}
+use Rattle.archive_model.specs.Restarts.{HasKept}
 use Rattle.archive_theorem.specs.Traces.{comes}
 use Rattle.tws_best.specs.Best.{IsCollected}
 use Rattle.archive_world.specs.Replays.{Makes}
@@ -21,7 +21,8 @@ use Rattle.archive_world.specs.Exits.{Comes}
 use Rattle.archive_theorem.proofs.Remaining.{Remain, begins_remain, waits_remain, strays_remain, timeout_leaves}
 use Rattle.archive_theorem.proofs.Reusing.{begin-keeps_own, stray-keeps_own}
 use Rattle.archive_theorem.proofs.Totality.{not_more}
-use Rattle.archive_theorem.proofs.Tracing.{begins_fits, strays_fits}
+use Rattle.archive_theorem.proofs.Tracing.{begins_fits}
+use Rattle.archive_model.proofs.Entries.{strays_fits}
 
 -- no file is taken, so none has to be merged
 pub remain-merged : (w v : World) → Remain w v → (t : Taken) → v.taken ≡ w.taken ++ t ∷ [] → IsMerged t.file w.server.maps v.server.maps

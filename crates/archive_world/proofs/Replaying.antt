@@ -12,9 +12,9 @@ use Rattle.archive_world.specs.declared.event_fault.EventFault.{EventFault}
 use Rattle.archive_world.specs.declared.event_fault.EventFault.TheVariants as fault
 use Rattle.archive_world.specs.declared.world_fault.WorldFault.{WorldFault}
 use Rattle.archive_world.specs.declared.world_fault.WorldFault.TheVariants as world
-use Rattle.archive_theorem.specs.World.{Event, restart, WorldStep, World, start, happens, run_from, run, HasMerged, MayHappen}
+use Rattle.archive_model.specs.World.{Event, restart, WorldStep, World, start, happens, run_from, run, HasMerged, MayHappen}
 use Rattle.archive_theorem.specs.Headline.{HasOwnPorts, Headline}
-use Rattle.archive_theorem.specs.Restarts.{EventKeeps, RunKeeps}
+use Rattle.archive_model.specs.Restarts.{EventKeeps, RunKeeps}
 use Rattle.archive_world.specs.View.{event_of, events_of}
 use Rattle.archive_world.specs.Outcomes.{Outcome, outcome_of}
 use Rattle.archive_world.specs.Replays.{HaveKept, IsDue, AllDue, HasHappened, Makes, IsReady, HasRun, IsBadAt, IsReusedAt, IsNotLoadedAt, HasStopped}
@@ -22,7 +22,7 @@ use Rattle.archive_world.specs.Exits.{KeeperHas, MakesKept, Comes, world_fault_o
 use Rattle.archive_theorem.proofs.Collecting.{best-collected, start-best, run_from-best}
 use Rattle.archive_theorem.proofs.Concluding.{run-headline}
 use Rattle.archive_theorem.proofs.Happening.{run-append, may-append}
-use Rattle.archive_theorem.proofs.Places.{Has-contains}
+use Rattle.archive_model.proofs.Places.{Has-contains}
 use Rattle.archive_theorem.proofs.Persisting.{own-ruleset, run-kept}
 use Rattle.archive_theorem.proofs.Reusing.{start-own}
 use Rattle.archive_theorem.proofs.Tracing.{merged_append}

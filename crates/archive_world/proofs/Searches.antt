@@ -5,7 +5,7 @@ use Rattle.std.proofs.Math.ListN.{get_or}
 use Rattle.std.proofs.lemmas.List.{at_drop_more}
 use Rattle.tftp_packet.specs.declared.endpoint.Endpoint.{Endpoint}
 use Rattle.archive_table.specs.Table.{is_same}
-use Rattle.archive_theorem.specs.World.{Datagram, Begun, Opening, has_begun}
+use Rattle.archive_model.specs.World.{Datagram, Begun, Opening, has_begun}
 use Rattle.archive_theorem.specs.Reuse.{has_strayed, is_opening_at, was_opened}
 
 either : (b c : Bool) → c ≡ true → cond b true c ≡ true

@@ -6,9 +6,9 @@ use Rattle.archive_world.specs.declared.event_fault.EventFault.{EventFault}
 use Rattle.archive_world.specs.declared.event_fault.EventFault.TheVariants.{Bad, Reused, NotLoaded, Memory}
 use Rattle.archive_world.specs.declared.world_fault.WorldFault.{WorldFault}
 use Rattle.archive_world.specs.declared.world_fault.WorldFault.TheVariants as world
-use Rattle.archive_theorem.specs.World.{Event, restart, World, MayHappen}
+use Rattle.archive_model.specs.World.{Event, restart, World, MayHappen}
 use Rattle.archive_theorem.specs.Headline.{HasOwnPorts}
-use Rattle.archive_theorem.specs.Restarts.{HasKept, HaveOwnRuleset}
+use Rattle.archive_model.specs.Restarts.{HasKept, HaveOwnRuleset}
 use Rattle.archive_world.specs.Replays.{HasHappened, Makes, Reuses, IsBadAt, IsReusedAt, IsNotLoadedAt, HasStopped}
 
 -- the keeper has a log, and what it has is what the server has

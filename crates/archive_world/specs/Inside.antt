@@ -12,7 +12,7 @@ use Rattle.archive_world.specs.declared.running.Running.TheVariants.{Put, Get}
 use Rattle.archive_world.specs.declared.begun.Begun.TheInside as beginning
 use Rattle.archive_world.specs.declared.machine.Machine.TheInside as machines
 use Rattle.archive_world.specs.View.{operation_of}
-use Rattle.archive_theorem.specs.World.{World, Begun, Datagram, after_transfer, net_with, sent_with, got_with, newly_sent, newly_got}
+use Rattle.archive_model.specs.World.{World, Begun, Datagram, after_transfer, net_with, sent_with, got_with, newly_sent, newly_got}
 use Rattle.archive_table.specs.Table.{Grant, all, Merges, table_datagram, is_same}
 use Rattle.archive_table.specs.Keeper.{Keeping, StepKeeps}
 
@@ -53,15 +53,17 @@ IsFirst test (suc i) (x ∷ xs) = (test x.0 ≡ false) × IsFirst test i xs
 abbrev pub world_of : {A : Type 0} → machines.Inside A → World
 world_of m =
     record {
-      net = m.net.items;
       server = m.table;
       clients = m.clients.items;
-      begun = m.begun.items;
-      taken = m.taken.items;
-      sent = m.sent.items;
-      got = m.got.items;
-      opened = m.opened.items;
-      strays = m.strays.items;
+      past = record {
+        net = m.net.items;
+        begun = m.begun.items;
+        taken = m.taken.items;
+        sent = m.sent.items;
+        got = m.got.items;
+        opened = m.opened.items;
+        strays = m.strays.items;
+      };
     }
 
 -- ---- a datagram at a port of the server
@@ -94,14 +96,7 @@ pub record StepsClient (step : Client → client.ClientAnswer) (e : Endpoint) (b
 -- a machine's world with these clients, after a step of one of them has returned this
 abbrev pub answered_by : Endpoint → List (Endpoint × Client) → (sent : Bool) → (file : Option (List ℕ)) → Option Out → World → World
 answered_by e clients sent file out w =
-    record {
-      net = net_with e.host w.net out;
-      server = w.server;
+    record w {
       clients = clients;
-      begun = w.begun;
-      taken = w.taken;
-      sent = sent_with sent e w.sent;
-      got = got_with true e file w.got;
-      opened = w.opened;
-      strays = w.strays;
+      past = record w.past { net = net_with e.host w.net out; sent = sent_with sent e w.sent; got = got_with true e file w.got };
     }

@@ -3,7 +3,7 @@ use Rattle.std.specs.Prelude.{ℕ, List}
 use Rattle.tftp_packet.specs.declared.endpoint.Endpoint.{Endpoint}
 use Rattle.tws_best.specs.Best.{collection_text}
 use Rattle.archive_table.specs.Table.{Taken}
-use Rattle.archive_theorem.specs.World.{Datagram, Opening, Got, World}
+use Rattle.archive_model.specs.World.{Datagram, Opening, Got, World}
 
 -- each list in the order in which things happened
 pub record Outcome : Type 0 where

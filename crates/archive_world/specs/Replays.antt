@@ -2,9 +2,9 @@
 use Rattle.std.specs.Prelude.{◌≡◌, ◌≢◌, ℕ, ◌≤◌, List, [], ◌∷◌, map, take, length, slice_get, Contains, Option, Some}
 use Rattle.archive_table.specs.Table.{Grant, unkept, Maps, Taken, IsMerged}
 use Rattle.archive_table.specs.Keeper.{Keeping}
-use Rattle.archive_theorem.specs.World.{Event, begin, deliver, client_times_out, server_times_out, stray, restart, WorldStep, World, start, event_happens, happens, run, HasMerged, AllMerged, MayHappen, AllMayHappen}
+use Rattle.archive_model.specs.World.{Event, begin, deliver, client_times_out, server_times_out, stray, restart, WorldStep, World, start, event_happens, happens, run, HasMerged, AllMerged, MayHappen, AllMayHappen}
 use Rattle.archive_theorem.specs.Headline.{HasOwnPorts, Headline}
-use Rattle.archive_theorem.specs.Restarts.{EventKeeps, wanted_by}
+use Rattle.archive_model.specs.Restarts.{EventKeeps, wanted_by}
 use Rattle.archive_world.specs.Outcomes.{Outcome, outcome_of}
 
 -- What the keeper has after these steps, if it has `before` at first. A restart does not change its list.

@@ -13,7 +13,7 @@ use Rattle.archive_world.specs.declared.op_kind.OpKind as kinds
 use Rattle.archive_world.specs.declared.op_kind.OpKind.TheVariants.{Put, Get}
 use Rattle.archive_world.specs.declared.event.Event as events
 use Rattle.archive_world.specs.declared.event.Event.TheVariants.{Begin, Deliver, ClientTimeout, ServerTimeout, Stray, Restart}
-use Rattle.archive_theorem.specs.World.{Datagram, Asked, to_write, to_read, Opening, Got, Event, begin, deliver, client_times_out, server_times_out, stray, restart}
+use Rattle.archive_model.specs.World.{Datagram, Asked, to_write, to_read, Opening, Got, Event, begin, deliver, client_times_out, server_times_out, stray, restart}
 use Rattle.archive_world.specs.Outcomes.{Outcome}
 
 abbrev pub datagram_of : {A : Type 0} → datagrams.Inside A → Datagram

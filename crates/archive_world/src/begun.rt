@@ -13,7 +13,7 @@ pub(crate) struct Begun<A: Allocator = Global> {
 }
 
 impl<A: Allocator> Model for Begun<A> {
-    ghost use Rattle.archive_theorem.specs.World.{Begun as Began};
+    ghost use Rattle.archive_model.specs.World.{Begun as Began};
 
     ghost Value = { Began };
 

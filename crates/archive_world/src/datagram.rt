@@ -18,7 +18,7 @@ pub struct Datagram<A: Allocator = Global> {
 }
 
 impl<A: Allocator> Model for Datagram<A> {
-    ghost use Rattle.archive_theorem.specs.World.{Datagram as Sent};
+    ghost use Rattle.archive_model.specs.World.{Datagram as Sent};
 
     ghost Value = { Sent };
 

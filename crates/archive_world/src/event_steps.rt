@@ -5,11 +5,11 @@ ghost use Rattle.archive_client.specs.Client.{is_too_long};
 ghost use Rattle.archive_table.specs.Table.{all, table_request, request_verdict, empty_maps};
 ghost use Rattle.archive_table.specs.Keeper.{Keeping, TableFails};
 ghost use Rattle.tws_best.specs.Best.{IsCollected};
-ghost use Rattle.archive_theorem.specs.Restarts.{HasKept};
+ghost use Rattle.archive_model.specs.Restarts.{HasKept};
 ghost use Rattle.tftp_ends.specs.Ends.{granted};
 ghost use Rattle.archive_world.specs.View.{operation_of};
 ghost use Rattle.archive_theorem.specs.Reuse.{IsUnused, was_opened};
-ghost use Rattle.archive_theorem.specs.World.{begin, client_times_out, server_times_out, stray, server_endpoint, event_happens, after_request, asked_of, restarts, IsFree, MayHappen};
+ghost use Rattle.archive_model.specs.World.{begin, client_times_out, server_times_out, stray, server_endpoint, event_happens, after_request, asked_of, restarts, IsFree, MayHappen};
 
 use crate::datagram::Datagram;
 use crate::event_fault::EventFault;

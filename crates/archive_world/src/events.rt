@@ -3,7 +3,7 @@
 ghost use Rattle.std.specs.Prelude.{◌≡◌, ◌≢◌, List, Option, Some, ℕ, slice_get};
 ghost use Rattle.archive_table.specs.Keeper.{Keeping};
 ghost use Rattle.archive_world.specs.View.{event_of};
-ghost use Rattle.archive_theorem.specs.World.{deliver, server_endpoint};
+ghost use Rattle.archive_model.specs.World.{deliver, server_endpoint};
 ghost use Rattle.archive_world.specs.Exits.{Comes};
 
 use crate::datagram::Datagram;

@@ -14,7 +14,7 @@ pub struct GotFile<A: Allocator = Global> {
 }
 
 impl<A: Allocator> Model for GotFile<A> {
-    ghost use Rattle.archive_theorem.specs.World.{Got};
+    ghost use Rattle.archive_model.specs.World.{Got};
 
     ghost Value = { Got };
 

@@ -27,9 +27,9 @@ mod server_endpoint;
 mod taken_file;
 mod world_fault;
 
+pub use archive_model::{event_law, server_values};
 pub use archive_theorem::{
-    effects_law, folder_law, network_law, own_ports, restart_law, sample_runs, server_values,
-    trace_law,
+    effects_law, folder_law, network_law, own_ports, restart_law, sample_runs, trace_law,
 };
 pub use asked::Asked;
 pub use datagram::Datagram;

@@ -6,7 +6,7 @@ ghost use Rattle.archive_table.specs.Table.{request_verdict, table_request, tabl
 ghost use Rattle.tws_file.specs.Names.{ruleset_named};
 ghost use Rattle.archive_table.specs.Keeper.{HasLoaded, TableFails};
 ghost use Rattle.archive_world.specs.View.{asked_as, operation_of};
-ghost use Rattle.archive_theorem.specs.World.{World, start, has_begun, begins, server_endpoint, net_with, taken_with, opened_with, got_with, asked_of, asked_named, after_request, after_transfer, strays_in, client_at, client_waits, client_receives};
+ghost use Rattle.archive_model.specs.World.{World, start, has_begun, begins, server_endpoint, net_with, taken_with, opened_with, got_with, asked_of, asked_named, after_request, after_transfer, strays_in, client_at, client_waits, client_receives};
 ghost use Rattle.archive_world.specs.Inside.{ReceivesAtPort, answered_by};
 ghost use Rattle.archive_world.specs.Outcomes.{outcome_of};
 ghost use Rattle.archive_theorem.specs.Reuse.{has_strayed, was_opened, is_opening_at};
@@ -49,7 +49,7 @@ pub(crate) struct Machine<A: Allocator + Copy = Global> {
 }
 
 impl<A: Allocator + Copy> Model for Machine<A> {
-    ghost use Rattle.archive_theorem.specs.World.{World};
+    ghost use Rattle.archive_model.specs.World.{World};
 
     ghost Value = { World };
 
@@ -79,7 +79,7 @@ impl<A: Allocator + Copy> Machine<A> {
 
     // Adds the datagram that a host sends, if any, to the network.
     fn send(&mut self, host: u32, out: Option<Out>) -> Result<(), AllocError>
-        ensures { OnOk result (self.new ≡ record self.old { net = net_with host self.old.net out }) }
+        ensures { OnOk result (self.new ≡ record self.old { past = record self.old.past { net = net_with host self.old.net out } }) }
     {
         let Some(out) = out else {
             return Ok(());
@@ -99,7 +99,7 @@ impl<A: Allocator + Copy> Machine<A> {
 
     // Records the file that the server has taken, if any.
     fn take(&mut self, taken: Option<Taken<A>>) -> Result<(), AllocError>
-        ensures { OnOk result (self.new ≡ record self.old { taken = taken_with taken self.old.taken }) }
+        ensures { OnOk result (self.new ≡ record self.old { past = record self.old.past { taken = taken_with taken self.old.taken } }) }
     {
         let Some(Taken { peer, file }) = taken else {
             return Ok(());
@@ -241,7 +241,7 @@ impl<A: Allocator + Copy> Machine<A> {
 
     // Records the file that a client has fetched, if any.
     fn fetch(&mut self, client: Endpoint, file: Option<Bytes<A>>) -> Result<(), AllocError>
-        ensures { OnOk result (self.new ≡ record self.old { got = got_with true client file self.old.got }) }
+        ensures { OnOk result (self.new ≡ record self.old { past = record self.old.past { got = got_with true client file self.old.got } }) }
     {
         let Some(file) = file else {
             return Ok(());
@@ -349,7 +349,7 @@ impl<A: Allocator + Copy> Machine<A> {
 
     // Records the transfer that was opened at this port for a request, if one was.
     fn open(&mut self, opened: bool, port: u16, d: &Datagram<A>) -> Result<(), AllocError>
-        ensures { OnOk result (self.new ≡ record self.old { opened = opened_with opened (record { peer = d.now.source; port = port; asked = asked_of d.now.bytes; taken = length self.old.taken }) self.old.opened }) }
+        ensures { OnOk result (self.new ≡ record self.old { past = record self.old.past { opened = opened_with opened (record { peer = d.now.source; port = port; asked = asked_of d.now.bytes; taken = length self.old.taken }) self.old.opened } }) }
     {
         if !opened {
             return Ok(());

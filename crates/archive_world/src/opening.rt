@@ -16,7 +16,7 @@ pub struct Opening {
 }
 
 impl Model for Opening {
-    ghost use Rattle.archive_theorem.specs.World.{Opening as Opened};
+    ghost use Rattle.archive_model.specs.World.{Opening as Opened};
 
     ghost Value = { Opened };
 

@@ -1,6 +1,6 @@
 ghost use Rattle.std.specs.Prelude.{◌≡◌, IfOk, false};
 ghost use Rattle.archive_world.specs.View.{operation_of};
-ghost use Rattle.archive_theorem.specs.World.{server_endpoint};
+ghost use Rattle.archive_model.specs.World.{server_endpoint};
 ghost use Rattle.archive_client.specs.Client.{client_datagram, client_timeout, client_start, request_out, state_of, phase_file, is_too_long};
 ghost use Rattle.archive_world.specs.Inside.{running_of, running_file, verdict_in};
 

@@ -1,7 +1,7 @@
 //! Makes a list of events happen, one by one.
 
 ghost use Rattle.std.specs.Prelude.{◌≡◌, ℕ, Err, IfOk};
-ghost use Rattle.archive_theorem.specs.World.{start};
+ghost use Rattle.archive_model.specs.World.{start};
 ghost use Rattle.archive_world.specs.View.{events_of};
 ghost use Rattle.archive_world.specs.Replays.{IsReady, HasRun, IsBadAt, IsReusedAt, IsNotLoadedAt, HasStopped};
 ghost use Rattle.archive_world.specs.Exits.{world_fault_of, ReplayEnds};

@@ -3,7 +3,7 @@
 ghost use Rattle.std.specs.Prelude.{◌≡◌, ◌<◌, length, true, None, IfSome, IfOk};
 ghost use Rattle.std.specs.Map.{lookup};
 ghost use Rattle.archive_table.specs.Table.{is_same};
-ghost use Rattle.archive_theorem.specs.World.{newly_sent, newly_got};
+ghost use Rattle.archive_model.specs.World.{newly_sent, newly_got};
 ghost use Rattle.archive_world.specs.Inside.{IsFirst, StepsClient, running_of, newly_fetched};
 ghost use Rattle.archive_client.specs.Client.{client_timeout, client_datagram, phase_file, state_of};
 ghost use Rattle.tftp_ends.specs.Ends.{Verdict};

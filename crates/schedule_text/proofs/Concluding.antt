@@ -1,7 +1,7 @@
 -- What a replay over a keeper that has nothing says of the events.
 use Rattle.std.proofs.Common.{◌≡◌, ℕ, List, [], subst, Option, Some, Result, Err}
 use Rattle.archive_table.specs.Keeper.{Keeping}
-use Rattle.archive_theorem.specs.World.{Event}
+use Rattle.archive_model.specs.World.{Event}
 use Rattle.archive_world.specs.Outcomes.{Outcome}
 use Rattle.archive_world.specs.declared.world_fault.WorldFault.{WorldFault}
 use Rattle.archive_world.specs.declared.world_fault.WorldFault.TheVariants.{BadEvent, PortReused, NotLoaded, Memory}

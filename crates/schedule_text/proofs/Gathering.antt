@@ -4,7 +4,7 @@ use Rattle.std.specs.List.{slice_get}
 use Rattle.std.specs.Option.{option_map}
 use Rattle.std.proofs.lemmas.List.{get_or-map, take_more}
 use Rattle.std.proofs.lemmas.Option.{slice_get-get_or}
-use Rattle.archive_theorem.specs.World.{Event}
+use Rattle.archive_model.specs.World.{Event}
 use Rattle.schedule_text.specs.Schedule.{event_in, events_by, words_of, lines_of, both, line_events, lines_events, LineAdds, IsFirstBadLine}
 
 -- no words name no event, so a line whose words name one has words

@@ -6,7 +6,7 @@ use Rattle.tws_file.specs.declared.«ruleset».Ruleset.{Ruleset}
 use Rattle.tws_file.specs.declared.«ruleset».Ruleset.TheVariants.{Lynx, Ms}
 use Rattle.tws_file.specs.Listing.{ruleset_name}
 use Rattle.archive_client.specs.Client.{put, get}
-use Rattle.archive_theorem.specs.World.{Event, begin, deliver, client_times_out, server_times_out, stray, restart}
+use Rattle.archive_model.specs.World.{Event, begin, deliver, client_times_out, server_times_out, stray, restart}
 use Rattle.schedule_text.specs.Words.{number_in, endpoint_at, endpoint_in, ruleset_in}
 use Rattle.schedule_text.specs.Schedule.{event_in, begin_in, deliver_of, stray_in, stray_of, events_by, both, line_events, lines_events, schedule_of}
 use Rattle.schedule_text.specs.Spelling.{FitsEndpoint, Fits, AllFit, bytes_word, event_words, event_text, schedule_text}

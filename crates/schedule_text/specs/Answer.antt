@@ -6,7 +6,7 @@ use Rattle.tftp_packet.specs.declared.endpoint.Endpoint.{Endpoint}
 use Rattle.tws_file.specs.Listing.{ruleset_name}
 use Rattle.archive_table.specs.Table.{Taken}
 use Rattle.archive_table.specs.Keeper.{Keeping}
-use Rattle.archive_theorem.specs.World.{Event, Datagram, Asked, to_write, to_read, Opening, Got}
+use Rattle.archive_model.specs.World.{Event, Datagram, Asked, to_write, to_read, Opening, Got}
 use Rattle.archive_world.specs.Outcomes.{Outcome}
 use Rattle.archive_world.specs.declared.world_fault.WorldFault.{WorldFault}
 use Rattle.archive_world.specs.declared.world_fault.WorldFault.TheVariants.{BadEvent, PortReused, NotLoaded, Memory}

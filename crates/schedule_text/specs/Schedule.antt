@@ -3,7 +3,7 @@ use Rattle.std.specs.Prelude.{◌≡◌, ℕ, ◌-◌, ◌<◌, ◌==◌, ◌^�
 use Rattle.std.specs.Option.{option_map}
 use Rattle.tftp_packet.specs.declared.endpoint.Endpoint.{Endpoint}
 use Rattle.archive_client.specs.Client.{put, get}
-use Rattle.archive_theorem.specs.World.{Event, begin, deliver, client_times_out, server_times_out, stray, restart}
+use Rattle.archive_model.specs.World.{Event, begin, deliver, client_times_out, server_times_out, stray, restart}
 use Rattle.schedule_text.specs.declared.keyword.Verb.{Verb}
 use Rattle.schedule_text.specs.declared.keyword.Verb.TheVariants.{Begin, Deliver, ClientTimeout, ServerTimeout, Stray, Restart}
 use Rattle.schedule_text.specs.declared.keyword.Kind.{Kind}

@@ -1,7 +1,7 @@
 //! The laws of schedules as text: a function whose clauses are the theorem, and which does nothing.
 
 ghost use Rattle.std.specs.Prelude.{◌≡◌, [], ◌∷◌, List, Some};
-ghost use Rattle.archive_theorem.specs.World.{Event};
+ghost use Rattle.archive_model.specs.World.{Event};
 ghost use Rattle.schedule_text.specs.Schedule.{line_events, schedule_of};
 ghost use Rattle.schedule_text.specs.Spelling.{Fits, AllFit, event_text, schedule_text};
 

@@ -11,6 +11,7 @@ pub mod Taking
 pub mod Merges
 pub mod Solved
 pub mod BodyTexts
+pub mod Lengths
 pub mod Results
 pub mod OtherRuleset
 pub mod Windows

@@ -4,4 +4,4 @@ use Rattle.tws_best.specs.Best.{Collected}
 use Rattle.tws_best.specs.Bodies.{keyed_bodies}
 
 abbrev pub collected : {A : Type 0} → Inside A → Collected
-collected c = record { «ruleset» = c.ruleset; entries = keyed_bodies c.best.entries }
+collected c = record { «ruleset» = c.ruleset; entries = keyed_bodies c.best }

@@ -4,6 +4,7 @@ pub mod RankOrder
 pub mod Best
 pub mod Choice
 pub mod Bodies
+pub mod Measured
 pub mod Collection
 pub mod Frozen
 pub mod Snapshot

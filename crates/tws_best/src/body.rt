@@ -1,7 +1,7 @@
-ghost use Rattle.std.specs.Prelude.{◌≡◌, ◌≤◌, length, IfOk};
+ghost use Rattle.std.specs.Prelude.{◌≡◌, ◌<◌, ◌≤◌, ◌^◌, length, IfOk};
 ghost use Rattle.std.specs.Ordering.{is_lt};
 ghost use Rattle.tws_best.specs.Rank.{rank_of, rank_cmp};
-ghost use Rattle.tws_best.specs.Best.{IsBody, keyed_body};
+ghost use Rattle.tws_best.specs.Best.{IsBody, body_text, keyed_body};
 
 use crate::rank::Rank;
 use std::alloc::{AllocError, Allocator};
@@ -53,6 +53,14 @@ impl<A: Allocator> Body<A> {
         ensures { result ≡ length self.now }
     {
         self.bytes.len() as u32
+    }
+
+    // The length of its record, which begins with the size.
+    pub(crate) fn record_len(&self) -> u128
+        ensures is { result ≡ length (body_text self.now) }
+        ensures size { length self.now < 2 ^ 32 }
+    {
+        4 + u128::from(self.size())
     }
 
     // Whether `solution` has the lower rank, so is the better one. Its body is not built for the comparison.

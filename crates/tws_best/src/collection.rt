@@ -9,13 +9,13 @@ ghost use Rattle.tws_best.specs.Bodies.{BodyPair, pairs_of};
 ghost use Rattle.tws_best.specs.Steps.{LeadsBack};
 ghost use Rattle.tws_best.specs.Frozen.{frozen, frozen_text};
 
-use crate::merging::{Bodies, Changes, add, undo};
+use crate::bodies::Bodies;
+use crate::merging::{Changes, add, undo};
 use crate::snapshot::Snapshot;
-use crate::text::{bodies_len, write_parts};
+use crate::text::write_parts;
 use byte_output::OutFault;
 use std::alloc::{AllocError, Allocator, Global};
 use std::clone::Clone;
-use std::collections::BTreeMap;
 use std::io::Write;
 use std::marker::Model;
 use tws_file::{Key, Record, Ruleset, TwsFile};
@@ -50,7 +50,7 @@ impl<A: Allocator + Copy> Collection<A> {
         Collection {
             alloc,
             ruleset,
-            best: BTreeMap::new(alloc),
+            best: Bodies::new(alloc),
         }
     }
 
@@ -135,7 +135,7 @@ impl<A: Allocator + Copy> Collection<A> {
         ensures equal { IfOk result (λ copy. copy ≡ self.now) }
         ensures empty { self.now.entries ≡ [] → IsOk result }
     {
-        if self.best.is_empty() {
+        if self.best.map().is_empty() {
             return Ok(Collection::new(self.alloc, self.ruleset));
         }
         let best = self.best.clone()?;
@@ -157,7 +157,7 @@ impl<A: Allocator + Copy> Collection<A> {
         ensures value { IfOk result (λ s. s ≡ frozen self.now) }
         ensures text { IfOk result (λ s. frozen_text s ≡ collection_text self.now) }
     {
-        Snapshot::of(self.alloc, self.ruleset, &self.best)
+        Snapshot::of(self.alloc, self.ruleset, self.best.map())
     }
 }
 
@@ -173,14 +173,14 @@ impl<A: Allocator> Collection<A> {
     pub fn len(&self) -> usize
         ensures { result ≡ length self.now.entries }
     {
-        self.best.len()
+        self.best.map().len()
     }
 
     /// Whether there are no solutions.
     pub fn is_empty(&self) -> bool
         ensures { IsTrue result ↔ (self.now.entries ≡ []) }
     {
-        self.best.is_empty()
+        self.best.map().is_empty()
     }
 
     /// Returns the body of the solution for a key, which is the bytes after its record's size, if the collection has
@@ -189,17 +189,17 @@ impl<A: Allocator> Collection<A> {
         ensures found { IfSome result (λ body. HasBody self.now.entries key body.now) }
         ensures absent { IfNone result (HasKey self.now.entries key → ⊥) }
     {
-        match self.best.get(&key) {
+        match self.best.get(key) {
             Some(body) => Some(body.as_slice()),
             None => None,
         }
     }
 
-    /// The length of the text in bytes.
+    /// The length of the text in bytes. It is kept, and not added up.
     pub fn text_len(&self) -> u128
         ensures { result ≡ length (collection_text self.now) }
     {
-        8 + bodies_len(&self.best)
+        8 + self.best.records_len()
     }
 
     /// Writes the text: a header without further bytes, and then a record for each solution, by rising number and then
@@ -213,6 +213,6 @@ impl<A: Allocator> Collection<A> {
         ensures err { OnErr result (AppendsPrefix (W.contents out.old) (W.contents out.new) (collection_text self.now)) }
         ensures io { IfErr result (λ e. e ≡ OutFault.Io) }
     {
-        write_parts(self.ruleset, &self.best, out)
+        write_parts(self.ruleset, self.best.map(), out)
     }
 }

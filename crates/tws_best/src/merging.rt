@@ -3,22 +3,20 @@
 
 ghost use Rattle.std.specs.Prelude.{◌≡◌, ◌≢◌, ◌⊎◌, ◌∷◌, [], ◌+◌, ◌++◌, List, length, map, Contains, Option, IfOk, IfSome, IfNone, OnOk, OnErr, MatchBool};
 ghost use Rattle.std.specs.List.{AllByRecursion};
-ghost use Rattle.std.specs.List.Sorted.{IsPermutation};
-ghost use Rattle.std.specs.BTreeMap.{get, insert_entry, IsOrdered};
+ghost use Rattle.std.specs.List.Sorted.{IsPermutation, IsStrictlySortedBy};
+ghost use Rattle.std.specs.Map.{lookup, keys_of};
+ghost use Rattle.std.specs.BTreeMap.{is_at, insert_entry};
 ghost use Rattle.tws_file.specs.Record.{records_of};
 ghost use Rattle.tws_file.specs.Text.{IsRecord};
 ghost use Rattle.tws_best.specs.Best.{AreCollected, IsBestOf, keyed_body, key_cmp, solved_in};
 ghost use Rattle.tws_best.specs.Bodies.{BodyPair, keyed_bodies};
 ghost use Rattle.tws_best.specs.Steps.{Takes, Undoes, LeadsBack, CanGoBack, back_to};
 
+use crate::bodies::Bodies;
 use crate::body::Body;
 use std::alloc::{AllocError, Allocator};
-use std::collections::BTreeMap;
 use std::mem;
 use tws_file::{Key, Record, Solution};
-
-// The best body so far at each key.
-pub(crate) type Bodies<A> = BTreeMap<Key, Body<A>, A>;
 
 // Each key that was changed, with what it had before.
 pub(crate) type Changes<A> = Vec<(Key, Option<Body<A>>), A>;
@@ -31,18 +29,18 @@ fn replace<A: Allocator + Copy>(
     old: Option<Body<A>>,
     body: Body<A>,
 ) -> Result<(), AllocError>
-    requires { old ≡ get key_cmp best.old key }
-    ensures ok { OnOk result (best.new.entries ≡ insert_entry key_cmp best.old.entries key body) }
+    requires { old ≡ lookup (is_at (key_cmp key)) best.old }
+    ensures ok { OnOk result (best.new ≡ insert_entry key_cmp best.old key body) }
     ensures noted { OnOk result (length done.new.items ≡ length done.old.items + 1) }
-    ensures ordered { OnOk result (IsOrdered key_cmp best.old) }
-    ensures undo { (first : List BodyPair) → Undoes first done.old.items best.old.entries → Undoes first done.new.items best.new.entries }
+    ensures ordered { OnOk result (IsStrictlySortedBy key_cmp (keys_of best.old)) }
+    ensures undo { (first : List BodyPair) → Undoes first done.old.items best.old → Undoes first done.new.items best.new }
 {
     done.push((key, old))?;
     match best.insert(key, body) {
-        Ok(_) => Ok(()),
-        Err(_) => {
+        Ok(()) => Ok(()),
+        Err(fault) => {
             done.pop();
-            Err(AllocError)
+            Err(fault)
         }
     }
 }
@@ -54,11 +52,11 @@ fn take<A: Allocator + Copy, B: Allocator>(
     done: &mut Changes<A>,
     solution: &Solution<B>,
 ) -> Result<(), AllocError>
-    ensures ok { OnOk result (Takes (keyed_body solution.now) best.old.entries best.new.entries (length done.old.items) (length done.new.items)) }
-    ensures undo { (first : List BodyPair) → Undoes first done.old.items best.old.entries → Undoes first done.new.items best.new.entries }
+    ensures ok { OnOk result (Takes (keyed_body solution.now) best.old best.new (length done.old.items) (length done.new.items)) }
+    ensures undo { (first : List BodyPair) → Undoes first done.old.items best.old → Undoes first done.new.items best.new }
 {
     let key = solution.key;
-    match best.get(&key) {
+    match best.get(key) {
         Some(old) if old.is_worse_than(solution) => {
             let old = old.clone()?;
             let bytes = solution.body(alloc)?;
@@ -108,10 +106,10 @@ fn take_all<A: Allocator + Copy, B: Allocator>(
     done: &mut Changes<A>,
     solutions: &[(Key, &Solution<B>)],
 ) -> Result<(), AllocError>
-    requires leads { (first : List BodyPair) × LeadsBack first done.old.items best.old.entries }
-    ensures best { OnOk result (IsBestOf (Contains (keyed_bodies best.old.entries ++ map (λ s. keyed_body s.1.now) solutions.now)) (keyed_bodies best.new.entries)) }
-    ensures leads { (first : List BodyPair) → LeadsBack first done.old.items best.old.entries → OnOk result (LeadsBack first done.new.items best.new.entries) }
-    ensures undo { (first : List BodyPair) → Undoes first done.old.items best.old.entries → Undoes first done.new.items best.new.entries }
+    requires leads { (first : List BodyPair) × LeadsBack first done.old.items best.old }
+    ensures best { OnOk result (IsBestOf (Contains (keyed_bodies best.old ++ map (λ s. keyed_body s.1.now) solutions.now)) (keyed_bodies best.new)) }
+    ensures leads { (first : List BodyPair) → LeadsBack first done.old.items best.old → OnOk result (LeadsBack first done.new.items best.new) }
+    ensures undo { (first : List BodyPair) → Undoes first done.old.items best.old → Undoes first done.new.items best.new }
 {
     for (_, solution) in solutions {
         take(alloc, best, done, solution)?;
@@ -126,10 +124,10 @@ fn take_records<A: Allocator + Copy, B: Allocator>(
     done: &mut Changes<A>,
     records: &[Record<B>],
 ) -> Result<(), AllocError>
-    requires leads { (first : List BodyPair) × LeadsBack first done.old.items best.old.entries }
-    ensures best { OnOk result (IsBestOf (Contains (keyed_bodies best.old.entries ++ solved_in (records_of records.now))) (keyed_bodies best.new.entries)) }
-    ensures leads { (first : List BodyPair) → LeadsBack first done.old.items best.old.entries → OnOk result (LeadsBack first done.new.items best.new.entries) }
-    ensures undo { (first : List BodyPair) → Undoes first done.old.items best.old.entries → Undoes first done.new.items best.new.entries }
+    requires leads { (first : List BodyPair) × LeadsBack first done.old.items best.old }
+    ensures best { OnOk result (IsBestOf (Contains (keyed_bodies best.old ++ solved_in (records_of records.now))) (keyed_bodies best.new)) }
+    ensures leads { (first : List BodyPair) → LeadsBack first done.old.items best.old → OnOk result (LeadsBack first done.new.items best.new) }
+    ensures undo { (first : List BodyPair) → Undoes first done.old.items best.old → Undoes first done.new.items best.new }
 {
     let solutions = sorted_solutions(alloc, records)?;
     take_all(alloc, best, done, solutions.as_slice())
@@ -137,23 +135,23 @@ fn take_records<A: Allocator + Copy, B: Allocator>(
 
 // Restores what a key had. If that was a body, the key has a body now, so nothing grows.
 fn go_back<A: Allocator + Copy>(best: &mut Bodies<A>, key: Key, old: Option<Body<A>>)
-    requires { CanGoBack key old best.old.entries }
-    ensures { best.new.entries ≡ back_to key old best.old.entries }
+    requires { CanGoBack key old best.old }
+    ensures { best.new ≡ back_to key old best.old }
 {
     match old {
         Some(body) => {
             let _ = best.insert(key, body);
         }
         None => {
-            best.remove(&key);
+            best.remove(key);
         }
     }
 }
 
 // Undoes the changes, the last one first. Does not allocate.
 pub(crate) fn undo<A: Allocator + Copy>(best: &mut Bodies<A>, done: Changes<A>)
-    requires { (first : List BodyPair) × Undoes first done.items best.old.entries }
-    ensures { (first : List BodyPair) → Undoes first done.items best.old.entries → best.new.entries ≡ first }
+    requires { (first : List BodyPair) × Undoes first done.items best.old }
+    ensures { (first : List BodyPair) → Undoes first done.items best.old → best.new ≡ first }
 {
     let mut done = done;
     while let Some((key, old)) = done.pop() {
@@ -169,9 +167,9 @@ pub(crate) fn add<A: Allocator + Copy, B: Allocator>(
     done: &mut Changes<A>,
     records: &[Record<B>],
 ) -> Result<(), AllocError>
-    requires leads { (first : List BodyPair) × LeadsBack first done.old.items best.old.entries }
-    ensures best { OnOk result (IsBestOf (Contains (keyed_bodies best.old.entries ++ solved_in (records_of records.now))) (keyed_bodies best.new.entries)) }
-    ensures leads { (first : List BodyPair) → LeadsBack first done.old.items best.old.entries → LeadsBack first done.new.items best.new.entries }
+    requires leads { (first : List BodyPair) × LeadsBack first done.old.items best.old }
+    ensures best { OnOk result (IsBestOf (Contains (keyed_bodies best.old ++ solved_in (records_of records.now))) (keyed_bodies best.new)) }
+    ensures leads { (first : List BodyPair) → LeadsBack first done.old.items best.old → LeadsBack first done.new.items best.new }
     ensures none { OnErr result (done.new.items ≡ []) }
 {
     match take_records(alloc, best, done, records) {

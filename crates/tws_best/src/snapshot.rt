@@ -7,8 +7,8 @@ ghost use Rattle.tws_best.specs.Best.{body_text};
 ghost use Rattle.tws_best.specs.Frozen.{frozen_text, record_start};
 
 use crate::block::{put_bodies, put_part, put_record};
+use crate::bodies::BodyMap;
 use crate::body::Body;
-use crate::merging::Bodies;
 use crate::text::header_bytes;
 use std::alloc::{AllocError, Allocator, Global};
 use std::clone::Clone;
@@ -48,7 +48,7 @@ impl<A: Allocator> Model for Snapshot<A> {
 
 impl<A: Allocator + Copy> Snapshot<A> {
     // A snapshot with the records of these bodies. Fails where an allocation for the two lists was refused.
-    pub(crate) fn of(alloc: A, ruleset: Ruleset, best: &Bodies<A>) -> Result<Self, AllocError>
+    pub(crate) fn of(alloc: A, ruleset: Ruleset, best: &BodyMap<A>) -> Result<Self, AllocError>
         requires { 8 + length (flat_map body_text (values best.now)) < 2 ^ 64 }
         ensures rules { IfOk result (λ s. s.ruleset ≡ «ruleset») }
         ensures bodies { IfOk result (λ s. s.bodies ≡ values best.now) }

@@ -1,6 +1,6 @@
 //! The text of the best solutions.
 
-ghost use Rattle.std.specs.Prelude.{◌≡◌, ◌<◌, ◌^◌, ◌++◌, length, IfErr, OnOk, OnErr};
+ghost use Rattle.std.specs.Prelude.{◌≡◌, ◌++◌, length, IfErr, OnOk, OnErr};
 ghost use Rattle.std.specs.List.{flat_map};
 ghost use Rattle.std.specs.BTreeMap.{values};
 ghost use Rattle.std.specs.Io.KnownBytes.{Appends};
@@ -8,25 +8,13 @@ ghost use Rattle.byteorder.specs.Endian.{little_bytes};
 ghost use Rattle.byte_output.specs.Output.{Sends, AppendsPrefix};
 ghost use Rattle.tws_best.specs.Best.{body_text, collection_header};
 
+use crate::bodies::BodyMap;
 use crate::body::Body;
-use crate::merging::Bodies;
 use byte_output::{Buffer, LARGE, OutFault, put};
 use byteorder::{ByteOrder, LittleEndian};
 use std::alloc::Allocator;
 use std::io::Write;
 use tws_file::{Ruleset, SIGNATURE};
-
-// The length of all records in bytes.
-pub(crate) fn bodies_len<A: Allocator>(best: &Bodies<A>) -> u128
-    ensures is { result ≡ length (flat_map body_text (values best.now)) }
-    ensures small { result < 2 ^ 100 }
-{
-    let mut total = 0u128;
-    for body in best.values() {
-        total += 4 + u128::from(body.size());
-    }
-    total
-}
 
 // The four bytes of a record's size.
 pub(crate) fn size_bytes<A: Allocator>(body: &Body<A>) -> [u8; 4]
@@ -62,7 +50,7 @@ fn send_body<A: Allocator, W: Write>(
 // Sends a record for each body, in the order of the keys.
 fn send_bodies<A: Allocator, W: Write>(
     buffer: &mut Buffer<LARGE>,
-    best: &Bodies<A>,
+    best: &BodyMap<A>,
     out: &mut W,
 ) -> Result<(), OutFault>
     ensures ok { OnOk result (Sends (W.contents out.old) (W.contents out.new) (buffer.old ++ flat_map body_text (values best.now)) buffer.new) }
@@ -78,7 +66,7 @@ fn send_bodies<A: Allocator, W: Write>(
 // Writes a header, and a record for each body.
 pub(crate) fn write_parts<A: Allocator, W: Write>(
     ruleset: Ruleset,
-    best: &Bodies<A>,
+    best: &BodyMap<A>,
     out: &mut W,
 ) -> Result<(), OutFault>
     ensures ok { OnOk result (Appends (W.contents out.old) (W.contents out.new) (collection_header «ruleset» ++ flat_map body_text (values best.now))) }

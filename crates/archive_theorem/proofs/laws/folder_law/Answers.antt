@@ -1,4 +1,4 @@
-use Rattle.archive_theorem.specs.World.{start_from}
+use Rattle.archive_model.specs.World.{start_from}
 use Rattle.archive_theorem.proofs.Invariant.{none-over, start_from-best}
 use Rattle.archive_theorem.proofs.Totality.{total_from, one_from}
 use Rattle.archive_theorem.proofs.Lists.{list_from}

@@ -1,8 +1,8 @@
-use Rattle.archive_theorem.specs.World.{happens}
-use Rattle.archive_theorem.proofs.Growing.{step-grows}
+use Rattle.archive_model.specs.World.{happens}
 use Rattle.archive_theorem.proofs.Owning.{own-before, own-each, none_reused-before}
 use Rattle.archive_theorem.proofs.Reusing.{start-own, begin-keeps_own, opening-keeps_own, stray-keeps_own}
 use Rattle.archive_theorem.proofs.OwnEndpoints.{own-by_tests, start-own_each}
+use Rattle.archive_model.proofs.Growing.{step-extends}
 use Rattle.archive_theorem.proofs.laws.own_ports.Goals as goal
 
 pub returns-clause-start : goal.returns-clause-start
@@ -18,7 +18,7 @@ pub returns-clause-stray : goal.returns-clause-stray
 returns-clause-stray c = stray-keeps_own
 
 pub returns-clause-before : goal.returns-clause-before
-returns-clause-before c = λ w s own. none_reused-before w (happens s w) (step-grows w s) own
+returns-clause-before c = λ w s own. none_reused-before w (happens s w) (step-extends w s) own
 
 pub returns-clause-tests : goal.returns-clause-tests
 returns-clause-tests c = own-by_tests
@@ -27,7 +27,7 @@ pub returns-clause-own_start : goal.returns-clause-own_start
 returns-clause-own_start c = start-own_each
 
 pub returns-clause-own_before : goal.returns-clause-own_before
-returns-clause-own_before c = λ w s e own. own-before w (happens s w) (step-grows w s) e own
+returns-clause-own_before c = λ w s e own. own-before (step-extends w s) e own
 
 pub returns-clause-each : goal.returns-clause-each
 returns-clause-each c = own-each

@@ -1,4 +1,4 @@
-use Rattle.archive_theorem.specs.World.{start_from}
+use Rattle.archive_model.specs.World.{start_from}
 use Rattle.archive_theorem.proofs.Tracing.{trace-makes, trace-clients, trace-headline}
 use Rattle.archive_theorem.proofs.laws.trace_law.Goals as goal
 

@@ -1,7 +1,7 @@
 use Rattle.std.specs.Prelude.{Ok}
 use Rattle.std.proofs.Common.{ap}
 use Rattle.archive_world.specs.View.{event_of, operation_of}
-use Rattle.archive_theorem.specs.World.{begin, client_times_out, server_times_out, stray, restart}
+use Rattle.archive_model.specs.World.{begin, client_times_out, server_times_out, stray, restart}
 use Rattle.archive_world.proofs.Exiting.{begin-comes, wait-comes, time-comes, stray-comes, restart-comes, comes-at}
 use Rattle.archive_world.proofs.events.happen.Goals as goal
 

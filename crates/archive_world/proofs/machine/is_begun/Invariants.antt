@@ -1,5 +1,5 @@
 use Rattle.std.proofs.Common.{◌≡◌, ◌≤◌, false, length, drop}
-use Rattle.archive_theorem.specs.World.{has_begun}
+use Rattle.archive_model.specs.World.{has_begun}
 use Rattle.archive_world.proofs.machine.is_begun.Given as goal
 
 -- no operation from here on began at the endpoint

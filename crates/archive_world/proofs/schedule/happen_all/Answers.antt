@@ -1,5 +1,5 @@
 use Rattle.std.proofs.Common.{ap, ◌∙◌, arith}
-use Rattle.archive_theorem.specs.World.{World}
+use Rattle.archive_model.specs.World.{World}
 use Rattle.archive_world.proofs.Replaying.{happened-start, one-more, ends-at}
 use Rattle.archive_world.proofs.schedule.happen_all.Goals as goal
 

@@ -1,5 +1,5 @@
 use Rattle.std.proofs.Common.{◌≡◌, ◌≤◌, ◌-◌, length, take}
-use Rattle.archive_theorem.specs.World.{server_endpoint}
+use Rattle.archive_model.specs.World.{server_endpoint}
 use Rattle.archive_world.specs.View.{events_of}
 use Rattle.archive_world.specs.Replays.{IsReady, HasHappened}
 use Rattle.archive_world.proofs.schedule.happen_all.Given as goal

@@ -1,6 +1,6 @@
 use Rattle.std.specs.Prelude.{ℕ, List}
 use Rattle.std.proofs.Common.{ap, ◌∙◌}
-use Rattle.archive_theorem.specs.World.{Datagram}
+use Rattle.archive_model.specs.World.{Datagram}
 use Rattle.archive_world.specs.Inside.{running_of, verdict_in}
 use Rattle.archive_world.proofs.Clients.{receives_at, all_of_ok}
 use Rattle.archive_world.proofs.seats.receive_at.Goals as goal

@@ -11,7 +11,7 @@ use Rattle.tws_best.proofs.merging.take_all.Goals as goal
 
 pub loop-solution-init : goal.loop-solution-init
 loop-solution-init g c = record {
-  taken = λ first before t. subst (λ (es : List KeyedBody). IsTaken first es c.args.best.now.entries (length c.args.done.now.items)) (sym (append-nil before)) t;
+  taken = λ first before t. subst (λ (es : List KeyedBody). IsTaken first es c.args.best.now (length c.args.done.now.items)) (sym (append-nil before)) t;
   undo = λ first u. u;
 }
 
@@ -28,9 +28,9 @@ loop-solution-preserved g c =
     let now = c.loop-solution in
     record {
       taken = λ first before t.
-          subst (λ (es : List KeyedBody). IsTaken first es c.take.new.best.entries (length c.take.new.done.items))
+          subst (λ (es : List KeyedBody). IsTaken first es c.take.new.best (length c.take.new.done.items))
           (append_assoc before so_far (keyed_body item.1.now ∷ []) ∙ ap (λ (es : List KeyedBody). before ++ es) (sym more))
-          (taken_more first (before ++ so_far) (keyed_body item.1.now) now.best.entries c.take.new.best.entries
+          (taken_more first (before ++ so_far) (keyed_body item.1.now) now.best c.take.new.best
           (length now.done.items) (length c.take.new.done.items)
           (now.invariant.taken first before t) c.in_ok-take.ensures.ok);
       undo = λ first u. c.take.ensures.undo first (now.invariant.undo first u);
@@ -40,16 +40,16 @@ pub returns-clause-best : goal.returns-clause-best
 returns-clause-best g c =
     let first = c.requires.leads.0 in
     let l = c.requires.leads.1 in
-    let was = taken_so_far first c.args.done.now.items c.args.best.now.entries l in
+    let was = taken_so_far first c.args.done.now.items c.args.best.now l in
     let now = c.loop-solution in
     let solutions = c.args.solutions.now in
     let so_far = map (λ s. keyed_body s.1.now) (take now.solution-index solutions) in
     let whole = ap (map (λ s. keyed_body s.1.now)) (take_all now.solution-index solutions c.loop-solution-test.false) in
-    subst (λ (es : List KeyedBody). IsBestOf (Contains (keyed_bodies c.args.best.now.entries ++ es)) (keyed_bodies now.best.entries)) whole
-    (best_since first l.solved so_far c.args.best.now.entries now.best.entries (length c.args.done.now.items) (length now.done.items) was (now.invariant.taken first l.solved was))
+    subst (λ (es : List KeyedBody). IsBestOf (Contains (keyed_bodies c.args.best.now ++ es)) (keyed_bodies now.best)) whole
+    (best_since first l.solved so_far c.args.best.now now.best (length c.args.done.now.items) (length now.done.items) was (now.invariant.taken first l.solved was))
 
 pub returns-clause-leads : goal.returns-clause-leads
 returns-clause-leads g c = λ first l.
     let now = c.loop-solution in
-    let was = taken_so_far first c.args.done.now.items c.args.best.now.entries l in
-    leads_on first _ now.done.items now.best.entries l.collected (now.invariant.undo first l.undo) (now.invariant.taken first l.solved was)
+    let was = taken_so_far first c.args.done.now.items c.args.best.now l in
+    leads_on first _ now.done.items now.best l.collected (now.invariant.undo first l.undo) (now.invariant.taken first l.solved was)

@@ -9,10 +9,10 @@ use Rattle.tws_best.proofs.merging.take_records.Goals as goal
 
 pub returns-clause-best : goal.returns-clause-best
 returns-clause-best g c =
-    let old = keyed_bodies c.args.best.now.entries in
+    let old = keyed_bodies c.args.best.now in
     let solved = solved_in (records_of c.args.records.now) in
     let sorted = map (λ s. keyed_body s.1.now) c.in_ok-solutions.solutions.items in
-    let new = keyed_bodies c.take_all.new.best.entries in
+    let new = keyed_bodies c.take_all.new.best in
     on_ok c.take_all.result
     (λ best. best_moved old solved sorted new c.in_ok-solutions.ensures
     (subst (λ xs. IsBestOf (Contains (old ++ map (λ s. keyed_body s.1.now) xs)) new) c.as_slice.ensures.value best))

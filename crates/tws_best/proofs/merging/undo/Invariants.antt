@@ -4,7 +4,7 @@ use Rattle.tws_best.specs.Steps.{Undoes}
 use Rattle.tws_best.proofs.merging.undo.Given as goal
 
 abbrev pub invariant-loop-key : goal.invariant-loop-key
-invariant-loop-key g l = (first : List BodyPair) → Undoes first l.fn.done.items l.fn.best.entries → Undoes first l.done.items l.best.entries
+invariant-loop-key g l = (first : List BodyPair) → Undoes first l.fn.done.items l.fn.best → Undoes first l.done.items l.best
 
 abbrev pub decreases-loop-key : goal.decreases-loop-key
 decreases-loop-key g l = length l.done.items

@@ -1,5 +1,5 @@
 use Rattle.std.proofs.Common.{refl, ap}
-use Rattle.archive_theorem.specs.World.{Datagram}
+use Rattle.archive_model.specs.World.{Datagram}
 use Rattle.archive_world.specs.Inside.{world_of}
 use Rattle.archive_world.proofs.Steps.{on-ok}
 use Rattle.archive_world.proofs.Clients.{received, received_none}

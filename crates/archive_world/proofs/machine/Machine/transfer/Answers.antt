@@ -1,7 +1,7 @@
 use Rattle.std.specs.Prelude.{ℕ, List}
 use Rattle.std.proofs.Common.{refl, sym, ap, ◌∙◌}
 use Rattle.archive_table.specs.Table.{grant_of}
-use Rattle.archive_theorem.specs.World.{Datagram, World, after_transfer}
+use Rattle.archive_model.specs.World.{Datagram, World, after_transfer}
 use Rattle.archive_world.specs.Inside.{world_of}
 use Rattle.archive_world.proofs.Steps.{at-port}
 use Rattle.archive_world.proofs.machine.Machine.transfer.Goals as goal

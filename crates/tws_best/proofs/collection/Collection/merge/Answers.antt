@@ -2,9 +2,9 @@ use Rattle.std.proofs.Common.{List, ◌++◌, ap, sym, ◌∙◌, subst}
 use Rattle.byte_output.proofs.Sending.{at_err}
 use Rattle.std.specs.List.{Contains}
 use Rattle.tws_file.specs.Text.{Record}
-use Rattle.tws_best.specs.Best.{IsRising, IsBestOf, AreCollected, solved_in}
+use Rattle.tws_best.specs.Best.{IsRising, IsBestOf, solved_in}
 use Rattle.tws_best.specs.Bodies.{pairs_of}
-use Rattle.tws_best.specs.Steps.{Undoes, LeadsBack}
+use Rattle.tws_best.specs.Steps.{Undoes}
 use Rattle.tws_best.proofs.OtherRuleset.{still_best, own_best_of, same_rules}
 use Rattle.tws_best.proofs.Merges.{begins_with, same_pairs, changed_since}
 use Rattle.tws_best.proofs.collection.Collection.merge.Goals as goal
@@ -17,13 +17,13 @@ returns-then-ne-clause-best g c =
 
 pub add-requires-clause-leads : goal.add-requires-clause-leads
 add-requires-clause-leads g c =
-    (pairs_of c.args.self.now.entries, begins_with c.args.self.now c.self.inside.ruleset c.self.inside.best.entries c.new-done.result.items c.self.view_is c.self.invariant c.new-done.ensures.items)
+    (pairs_of c.args.self.now.entries, begins_with c.args.self.now c.self.inside.ruleset c.self.inside.best c.new-done.result.items c.self.view_is c.self.invariant c.new-done.ensures.items)
 
 pub returns-in_err-add-clause-err : goal.returns-in_err-add-clause-err
 returns-in_err-add-clause-err g c =
     let first = pairs_of c.args.self.now.entries in
     let lead = c.in_err-add.ensures.leads first
-    (begins_with c.args.self.now c.self.inside.ruleset c.self.inside.best.entries c.new-done.result.items c.self.view_is c.self.invariant c.new-done.ensures.items) in
+    (begins_with c.args.self.now c.self.inside.ruleset c.self.inside.best c.new-done.result.items c.self.view_is c.self.invariant c.new-done.ensures.items) in
     at_err c.from_residual.result
     (same_pairs c.add.new.self c.args.self.now c.in_err-add.ensures.rules
     (subst (λ ds. Undoes first ds (pairs_of c.add.new.self.entries)) c.in_err-add.ensures.none lead.undo))
@@ -39,7 +39,7 @@ pub returns-clause-changed : goal.returns-clause-changed
 returns-clause-changed g c =
     let first = pairs_of c.args.self.now.entries in
     let lead = c.in_ok-add.ensures.leads first
-    (begins_with c.args.self.now c.self.inside.ruleset c.self.inside.best.entries c.new-done.result.items c.self.view_is c.self.invariant c.new-done.ensures.items) in
+    (begins_with c.args.self.now c.self.inside.ruleset c.self.inside.best c.new-done.result.items c.self.view_is c.self.invariant c.new-done.ensures.items) in
     changed_since c.is_empty.result _ c.add.new.done.items c.add.new.self c.args.self.now c.is_empty.ensures (sym c.add.new.done.ok.0) c.in_ok-add.ensures.rules lead
 
 pub returns-clause-other : goal.returns-clause-other

@@ -6,5 +6,5 @@ use Rattle.tws_best.proofs.collection.Collection.text_len.Goals as goal
 
 pub returns : goal.returns
 returns g c =
-    let is = c.bodies_len.ensures.is ∙ ap length (sym (entries_text c.self.inside.best.entries)) ∙ ap (λ v. length (flat_map keyed_body_text v.entries)) c.self.view_is in
+    let is = c.records_len.ensures.is ∙ ap length (sym (entries_text c.self.inside.best)) ∙ ap (λ v. length (flat_map keyed_body_text v.entries)) c.self.view_is in
     omega (arith, is)

@@ -1,5 +1,5 @@
-use Rattle.std.proofs.Common.{List, sym, ap, ◌∙◌, subst, refl}
-use Rattle.tws_best.specs.Best.{AreCollected, KeyedBody}
+use Rattle.std.proofs.Common.{sym, ap, ◌∙◌, subst, refl}
+use Rattle.tws_best.specs.Best.{AreCollected}
 use Rattle.tws_best.specs.Bodies.{keyed_bodies, pairs_of}
 use Rattle.tws_best.specs.Steps.{undone, LeadsBack}
 use Rattle.tws_best.proofs.Merges.{keyed_back, same_collected, begins}

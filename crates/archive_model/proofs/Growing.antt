@@ -1,0 +1,165 @@
+-- Every event adds at most one member to each list of what has happened, and takes nothing back.
+use Rattle.std.proofs.Common.{◌≡◌, ◌⊎◌, ℕ, Bool, true, false, List, [], ◌∷◌, ◌++◌, Option, None, Some, refl, sym, subst, inl, inr}
+use Rattle.tftp_packet.specs.declared.endpoint.Endpoint.{Endpoint}
+use Rattle.tftp_packet.specs.declared.out.Out.{Out}
+use Rattle.archive_table.specs.Table.{Taken}
+use Rattle.archive_model.specs.World.{Datagram, Opening, Got, Past, World, Event, WorldStep, IsPrefix, Extends, net_with, opened_with, taken_with, sent_with, got_with, happens, run_from}
+use Rattle.archive_model.specs.Adding.{AddsOne, Adds}
+use Rattle.archive_model.proofs.Places.{IsPrefix-same, IsPrefix-on}
+use Rattle.archive_model.proofs.Doing.{Does, nothing, begun, answers, transfers, acts, strayed, restarted, event-does}
+
+-- ---- one list
+
+-- a list to which anything may be added
+abbrev AddsAny : {A : Type 0} → (old new : List A) → Type 0
+AddsAny {A} old new = AddsOne (λ (x : A). Unit {0}) old new
+
+net_adds : (host : ℕ) (net : List Datagram) (out : Option Out) → AddsAny net (net_with host net out)
+net_adds host net None = inl refl
+net_adds host net (Some out) = inr (_, refl, tt)
+
+taken_adds : (taken : Option Taken) (ts : List Taken) → AddsAny ts (taken_with taken ts)
+taken_adds None ts = inl refl
+taken_adds (Some t) ts = inr (t, refl, tt)
+
+sent_adds : (newly : Bool) (e : Endpoint) (es : List Endpoint) → AddsAny es (sent_with newly e es)
+sent_adds true e es = inr (e, refl, tt)
+sent_adds false e es = inl refl
+
+got_adds : (newly : Bool) (e : Endpoint) (file : Option (List ℕ)) (gs : List Got) → AddsAny gs (got_with newly e file gs)
+got_adds true e (Some file) gs = inr (_, refl, tt)
+got_adds true e None gs = inl refl
+got_adds false e file gs = inl refl
+
+opened_adds : {Fits : Opening → Type 0} (opened : Bool) (o : Opening) (os : List Opening) → Fits o → AddsOne Fits os (opened_with opened o os)
+opened_adds true o os fits = inr (o, refl, fits)
+opened_adds false o os fits = inl refl
+
+-- ---- what an event does
+
+does_adds : {w v : World} {event : Event} → Does w event v → Adds event w.past v.past
+does_adds (nothing event) =
+    record { net = inl refl; begun = inl refl; taken = inl refl; sent = inl refl; got = inl refl; opened = inl refl; strays = inl refl }
+does_adds (begun e operation) =
+    record {
+      net = inr (_, refl, tt);
+      begun = inr (_, refl, (refl, refl));
+      taken = inl refl;
+      sent = inl refl;
+      got = inl refl;
+      opened = inl refl;
+      strays = inl refl;
+    }
+does_adds {w} (answers event peer port asked a) =
+    record {
+      net = net_adds _ w.net a.step.out;
+      begun = inl refl;
+      taken = inl refl;
+      sent = inl refl;
+      got = inl refl;
+      opened = opened_adds a.step.opened _ w.opened refl;
+      strays = inl refl;
+    }
+does_adds {w} (transfers event a) =
+    record {
+      net = net_adds _ w.net a.step.out;
+      begun = inl refl;
+      taken = taken_adds a.step.taken w.taken;
+      sent = inl refl;
+      got = inl refl;
+      opened = inl refl;
+      strays = inl refl;
+    }
+does_adds {w} (acts event e c a) =
+    record {
+      net = net_adds e.host w.net a.out;
+      begun = inl refl;
+      taken = inl refl;
+      sent = sent_adds _ e w.sent;
+      got = got_adds _ e _ w.got;
+      opened = inl refl;
+      strays = inl refl;
+    }
+does_adds (strayed d) =
+    record {
+      net = inr (d, refl, tt);
+      begun = inl refl;
+      taken = inl refl;
+      sent = inl refl;
+      got = inl refl;
+      opened = inl refl;
+      strays = inr (d, refl, refl);
+    }
+does_adds restarted =
+    record { net = inl refl; begun = inl refl; taken = inl refl; sent = inl refl; got = inl refl; opened = inl refl; strays = inl refl }
+
+-- any step adds at most one member to each list
+pub step-adds : (w : World) (s : WorldStep) → Adds s.event w.past (happens s w).past
+step-adds w s = does_adds (event-does w s.event s.grant s.maps)
+
+-- a step in which an operation begins takes no file and opens no transfer
+does_apart : {w v : World} {event : Event} → Does w event v → (v.begun ≡ w.begun) ⊎ ((v.taken ≡ w.taken) × (v.opened ≡ w.opened))
+does_apart (nothing event) = inl refl
+does_apart (begun e operation) = inr (refl, refl)
+does_apart (answers event peer port asked a) = inl refl
+does_apart (transfers event a) = inl refl
+does_apart (acts event e c a) = inl refl
+does_apart (strayed d) = inl refl
+does_apart restarted = inl refl
+
+pub begins-apart : (w : World) (s : WorldStep) → ((happens s w).begun ≡ w.begun) ⊎ (((happens s w).taken ≡ w.taken) × ((happens s w).opened ≡ w.opened))
+begins-apart w s = does_apart (event-does w s.event s.grant s.maps)
+
+-- ---- nothing is taken back
+
+prefix_of : {A : Type 0} {Fits : A → Type 0} {old new : List A} → AddsOne Fits old new → IsPrefix old new
+prefix_of {A} {Fits} {old} (inl same) = subst (IsPrefix old) (sym same) (IsPrefix-same old)
+prefix_of (inr one) = record { rest = one.0 ∷ []; is = one.1 }
+
+adds_extend : {event : Event} {p q : Past} → Adds event p q → Extends p q
+adds_extend a =
+    record {
+      net = prefix_of a.net;
+      begun = prefix_of a.begun;
+      taken = prefix_of a.taken;
+      sent = prefix_of a.sent;
+      got = prefix_of a.got;
+      opened = prefix_of a.opened;
+      strays = prefix_of a.strays;
+    }
+
+pub Extends-same : (p : Past) → Extends p p
+Extends-same p =
+    record {
+      net = IsPrefix-same p.net;
+      begun = IsPrefix-same p.begun;
+      taken = IsPrefix-same p.taken;
+      sent = IsPrefix-same p.sent;
+      got = IsPrefix-same p.got;
+      opened = IsPrefix-same p.opened;
+      strays = IsPrefix-same p.strays;
+    }
+
+Extends-on : {p q r : Past} → Extends p q → Extends q r → Extends p r
+Extends-on first next =
+    record {
+      net = IsPrefix-on first.net next.net;
+      begun = IsPrefix-on first.begun next.begun;
+      taken = IsPrefix-on first.taken next.taken;
+      sent = IsPrefix-on first.sent next.sent;
+      got = IsPrefix-on first.got next.got;
+      opened = IsPrefix-on first.opened next.opened;
+      strays = IsPrefix-on first.strays next.strays;
+    }
+
+-- whatever an event does
+pub does-extends : {w v : World} {event : Event} → Does w event v → Extends w.past v.past
+does-extends d = adds_extend (does_adds d)
+
+pub step-extends : (w : World) (s : WorldStep) → Extends w.past (happens s w).past
+step-extends w s = adds_extend (step-adds w s)
+
+-- so any steps
+pub run-extends : (steps : List WorldStep) (w : World) → Extends w.past (run_from steps w).past
+run-extends [] w = Extends-same w.past
+run-extends (s ∷ steps) w = Extends-on (step-extends w s) (run-extends steps (happens s w))

@@ -1,0 +1,5 @@
+pub mod Places
+pub mod Doing
+pub mod Growing
+pub mod Origins
+pub mod Entries

@@ -1,0 +1,131 @@
+ghost use Rattle.std.specs.Prelude.{◌≡◌, [], ◌∷◌, max, true, None, Some, is_some, OnErr, IfErr};
+ghost use Rattle.tftp_packet.specs.Decode.{decode_bytes};
+ghost use Rattle.archive_table.specs.Keeper.{FailsAt};
+ghost use Rattle.archive_turns.specs.Wire.{Grows, sent, waited, was_done};
+ghost use Rattle.archive_progress.specs.Shown.{Draws, Erases, contents_of};
+ghost use Rattle.archive_progress.specs.Tally.{acknowledged, due_at, looked, new_tally};
+
+use crate::drawing::{draw, erase};
+use crate::tally::Tally;
+use archive_turns::{RECEIVE_SIZE, Ready, ReadyWire, Wire, WireFault};
+use std::alloc::Global;
+use std::io::Write;
+use tftp_packet::{Endpoint, Out};
+
+/// A wire that shows on a terminal how far the transfer over it has come, by what is sent, and by the clock of the wire
+/// below. In all else it is that wire. What cannot be written to the terminal is left out.
+#[derive(Drop)]
+pub struct ProgressWire<N: ReadyWire, W: Write> {
+    wire: N,
+    alloc: Global,
+    terminal: Option<W>,
+    tally: Tally,
+}
+
+impl<N: ReadyWire, W: Write> ProgressWire<N, W> {
+    /// Returns a wire over this one. Without a terminal it shows nothing.
+    pub fn new(alloc: Global, wire: N, terminal: Option<W>) -> Self
+        ensures wire { result.wire ≡ wire }
+        ensures terminal { result.terminal ≡ terminal }
+        ensures tally { result.tally ≡ new_tally }
+    {
+        ProgressWire {
+            wire,
+            alloc,
+            terminal,
+            tally: Tally::new(),
+        }
+    }
+
+    /// The wire below.
+    pub fn wire(&self) -> &N
+        ensures { result.now ≡ self.now.wire }
+    {
+        &self.wire
+    }
+
+    /// The file that is to be sent has so many bytes.
+    pub fn expect(&mut self, length: u64)
+        ensures wire { self.new.wire ≡ self.old.wire }
+        ensures tally { self.new.tally ≡ record self.old.tally { length = Some length } }
+        ensures terminal { self.new.terminal ≡ self.old.terminal }
+    {
+        self.tally.expect(length);
+    }
+
+    // Draws the line if that is due at this time.
+    fn show(&mut self, time: u64)
+        ensures wire { self.new.wire ≡ self.old.wire }
+        ensures tally { self.new.tally ≡ looked time self.old.tally }
+        ensures shown { Draws (due_at time self.old.tally) (contents_of W.contents self.old.terminal) (contents_of W.contents self.new.terminal) }
+    {
+        let due = self.tally.look(time);
+        if let (Some(progress), Some(terminal)) = (due, &mut self.terminal) {
+            let _ = draw(self.alloc, &progress, terminal);
+        }
+    }
+
+    /// The transfer has ended: the line is erased, and not drawn any more.
+    pub fn finish(&mut self)
+        ensures wire { self.new.wire ≡ self.old.wire }
+        ensures ended { self.new.tally ≡ record self.old.tally { drawn = None; ended = true } }
+        ensures shown { Erases (is_some self.old.tally.drawn) (contents_of W.contents self.old.terminal) (contents_of W.contents self.new.terminal) }
+    {
+        let is_drawn = self.tally.finish();
+        if let Some(terminal) = &mut self.terminal {
+            if is_drawn {
+                let _ = erase(terminal);
+            }
+        }
+    }
+}
+
+impl<N: ReadyWire, W: Write> Wire for ProgressWire<N, W> {
+    ghost log = { λ w. N.log w.wire };
+
+    ghost failed = { λ w. N.failed w.wire };
+
+    fn open(&mut self) -> Result<u16, WireFault> {
+        self.wire.open()
+    }
+
+    fn close(&mut self, port: u16) -> Result<(), WireFault> {
+        self.wire.close(port)
+    }
+
+    fn receive(
+        &mut self,
+        port: u16,
+        buffer: &mut [u8; RECEIVE_SIZE],
+    ) -> Result<Option<(usize, Endpoint)>, WireFault> {
+        self.wire.receive(port, buffer)
+    }
+
+    fn send(&mut self, out: &Out) -> Result<(), WireFault>
+        ensures log { Grows (N.log self.old.wire) (N.log self.new.wire) (sent out.now (was_done result) ∷ []) }
+        ensures fault { IfErr result (λ e. e ≡ WireFault.Send) }
+        ensures failed { OnErr result (FailsAt (N.failed self.old.wire) (N.failed self.new.wire)) }
+        ensures tally { self.new.tally ≡ record self.old.tally { blocks = max self.old.tally.blocks (acknowledged (decode_bytes out.now.dgram)) } }
+        ensures terminal { self.new.terminal ≡ self.old.terminal }
+    {
+        self.tally.count(out.dgram.bytes());
+        self.wire.send(out)
+    }
+
+    fn failures(&self) -> u64 {
+        self.wire.failures()
+    }
+}
+
+impl<N: ReadyWire, W: Write> ReadyWire for ProgressWire<N, W> {
+    fn wait(&mut self, after: u16, until: Option<u64>) -> Ready
+        ensures log { Grows (N.log self.old.wire) (N.log self.new.wire) (waited after until result.port result.time result.settled ∷ []) }
+        // The line is drawn if that is due at the time of the wire's clock.
+        ensures tally { self.new.tally ≡ looked result.time self.old.tally }
+        ensures shown { Draws (due_at result.time self.old.tally) (contents_of W.contents self.old.terminal) (contents_of W.contents self.new.terminal) }
+    {
+        let ready = self.wire.wait(after, until);
+        self.show(ready.time);
+        ready
+    }
+}
