@@ -9,7 +9,7 @@
 //! ghost use Rattle.tws_tool.specs.declared.limits.TheConstants.{PORT};
 //!
 //! /// Sends the bytes of a solution file to the archive at this host, at its usual port.
-//! fn send<N: ReadyWire, W: Write>(
+//! fn send<N: TransferWire, W: Write>(
 //!     alloc: Global,
 //!     bytes: &[u8],
 //!     wire: &mut N,
@@ -26,6 +26,7 @@
 
 mod address;
 mod arguments;
+mod beside;
 mod commands;
 mod help;
 mod job;
@@ -41,6 +42,7 @@ mod run_fault;
 mod served_keeper;
 mod served_observer;
 mod system;
+mod system_draft;
 mod target;
 
 pub use address::Address;

@@ -13,6 +13,7 @@ use crate::overhearing::{Overhearing, TransferWire};
 use crate::resolver::Resolver;
 use crate::system::System;
 use archive_host::UdpWire;
+use archive_progress::ProgressWire;
 use file_commands::reporting::report;
 use file_commands::{FileSystem, ToolFault};
 use std::alloc::Global;
@@ -98,20 +99,31 @@ pub fn run_words_with<
     )
 }
 
-/// The same with the system's files, resolver and sockets, which have no ghost contents or logs.
+/// The same with the system's files, resolver and sockets, which have no ghost contents or logs. `put` and `get` show on
+/// `terminal`, if there is one, how far they have come.
 pub fn run_words<
     P: Files<File = File> + Net + Clock + RandomSource + Eprint + AllocGlobal + Copy,
     R: Read,
     W: Write,
     E: Write,
->(rt: &P, alloc: Global, words: &[String], input: &mut R, out: &mut W, errors: &mut E) -> u8
+    T: Write + Drop,
+>(
+    rt: &P,
+    alloc: Global,
+    words: &[String],
+    terminal: Option<T>,
+    input: &mut R,
+    out: &mut W,
+    errors: &mut E,
+) -> u8
     ensures ran { (job : Result Job JobFault) × AnswersWords (map string_bytes words.now) job × JobRuns (record { bytes_of = λ name. None; drafted_of = λ name. None; host_of = λ name. None }) (λ name. None) (input.new ≡ input.old) job result None None (R.remaining input.old) (R.remaining input.new) (W.contents out.old) (W.contents out.new) }
     ensures usage { result ≡ 1 → (input.new ≡ input.old) × (out.new ≡ out.old) }
     ensures status { result ≤ 4 }
     ensures unreadable { result ≡ 3 → out.new ≡ out.old }
     ensures silent { result ≡ 0 → errors.new ≡ errors.old }
 {
-    let mut wire = Overhearing::new(UdpWire::new(*rt));
+    let wire = Overhearing::new(UdpWire::new(*rt));
+    let mut wire = ProgressWire::new(alloc, wire, terminal);
     run_words_with(
         &mut System(*rt),
         &mut wire,

@@ -5,11 +5,11 @@ ghost use Rattle.tws_tool.specs.declared.limits.TheConstants.{PORT};
 use std::alloc::Global;
 use std::io::Write;
 use tftp_packet::Endpoint;
-use tws_tool::{PORT, ReadyWire, ToolFault, put_file};
+use tws_tool::{PORT, ToolFault, TransferWire, put_file};
 
 /// Sends the bytes of a solution file to the archive at this host, at its usual port, over any wire, and writes a line
 /// with their number.
-pub fn send<N: ReadyWire, W: Write>(
+pub fn send<N: TransferWire, W: Write>(
     alloc: Global,
     bytes: &[u8],
     wire: &mut N,

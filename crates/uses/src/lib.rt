@@ -7,6 +7,7 @@ pub mod calling_archive_folder;
 pub mod calling_archive_host;
 pub mod calling_archive_limit;
 pub mod calling_archive_log;
+pub mod calling_archive_progress;
 pub mod calling_archive_table;
 pub mod calling_archive_turns;
 pub mod calling_archive_world;

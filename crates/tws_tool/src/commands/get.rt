@@ -19,7 +19,7 @@ use crate::reporting::{bad_address, report_transfer};
 use crate::resolver::Resolver;
 use crate::run_fault::of_run;
 use crate::target::Target;
-use archive_turns::{GetRun, ReadyWire, RunFault, get_in_rounds};
+use archive_turns::{GetRun, RunFault, get_in_rounds};
 use clap::{ArgMatches, Command};
 use file_commands::arguments::{new_command, ruleset_argument, ruleset_given};
 use file_commands::reporting::report_file;
@@ -113,7 +113,7 @@ fn report_get<E: Write>(fault: GetFault, name: &str, refusal: &[u8], errors: &mu
 
 // Fetches a collection into a draft, which then takes the place of the file of this name. Returns how many bytes it has,
 // and the run, which is to dally.
-fn fetch<S: FileSystem, N: ReadyWire>(
+fn fetch<S: FileSystem, N: TransferWire>(
     system: &mut S,
     wire: &mut N,
     alloc: Global,
@@ -125,7 +125,9 @@ fn fetch<S: FileSystem, N: ReadyWire>(
     ensures fetched { IfOk result (λ got. Fetches server «ruleset» name.now got (N.log wire.old) (N.log wire.new) (S.Draft.contents draft) (S.bytes_of system.old) (S.bytes_of system.new)) }
     ensures fails { IfErr result (λ e. FetchFails server «ruleset» (N.log wire.old) (N.log wire.new) (S.Draft.contents draft) (S.bytes_of system.old) (S.bytes_of system.new) e.fault) }
 {
-    match get_in_rounds(alloc, wire, server, ruleset, ROUNDS, &mut draft) {
+    let fetched = get_in_rounds(alloc, wire, server, ruleset, ROUNDS, &mut draft);
+    wire.finish();
+    match fetched {
         Ok(got) => match system.publish(name, draft) {
             Ok(()) => Ok(got),
             Err(cause) => Err(GetFault::of_file(cause)),
@@ -146,7 +148,7 @@ fn fetch<S: FileSystem, N: ReadyWire>(
 ///
 /// `Socket` if no port was opened, and `Transfer` with the cause of the failed transfer: then no file is changed. `Write`
 /// if the file cannot be written, which then stays as it is, or the writer fails. `Memory` if an allocation was refused.
-pub fn get_file<S: FileSystem, N: ReadyWire, W: Write>(
+pub fn get_file<S: FileSystem, N: TransferWire, W: Write>(
     system: &mut S,
     wire: &mut N,
     alloc: Global,

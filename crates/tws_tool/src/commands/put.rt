@@ -26,7 +26,7 @@ use crate::resolver::Resolver;
 use crate::run_fault::of_run;
 use crate::target::Target;
 use archive_client::Cause;
-use archive_turns::{ReadyWire, put_in_rounds};
+use archive_turns::{RunFault, put_in_rounds};
 use clap::{ArgMatches, Command};
 use file_commands::arguments::new_command;
 use file_commands::reporting::report_file;
@@ -112,6 +112,20 @@ fn read_whole<R: Read>(alloc: Global, input: &mut R) -> Result<Vec<u8>, ToolFaul
     }
 }
 
+// Puts a file in at most `ROUNDS` rounds, and shows how far it has come.
+fn put_shown<N: TransferWire>(
+    wire: &mut N,
+    server: Endpoint,
+    bytes: Vec<u8>,
+) -> Result<u64, RunFault>
+    ensures { PutsInRounds server bytes.items ROUNDS result (N.log wire.old) (N.log wire.new) }
+{
+    wire.expect(bytes.len() as u64);
+    let sent = put_in_rounds(wire, server, bytes, ROUNDS);
+    wire.finish();
+    sent
+}
+
 /// Reads a solution file to its end, and sends it to the archive in at most `ROUNDS` rounds; then prints its length
 /// in bytes. `server` is the archive's host and request port.
 ///
@@ -121,7 +135,7 @@ fn read_whole<R: Read>(alloc: Global, input: &mut R) -> Result<Vec<u8>, ToolFaul
 /// `MAX_FILE` bytes, of which no more than 65,536 are read, and `Unreadable` with index 0 and the fault of the bytes:
 /// then nothing is sent. `Socket` if no port was opened, and `Transfer` with the cause of the failed
 /// transfer. `Write` if the writer fails, after the file was sent. `Memory` if an allocation was refused.
-pub fn put_file<R: Read, N: ReadyWire, W: Write>(
+pub fn put_file<R: Read, N: TransferWire, W: Write>(
     alloc: Global,
     input: &mut R,
     wire: &mut N,
@@ -137,7 +151,7 @@ pub fn put_file<R: Read, N: ReadyWire, W: Write>(
     ensures unwritten { IfErr result (Unless (out.new ≡ out.old)) }
 {
     let bytes = read_whole(alloc, input)?;
-    match put_in_rounds(wire, server, bytes, ROUNDS) {
+    match put_shown(wire, server, bytes) {
         Ok(len) => write_line(alloc, "sent ", len, " bytes", out),
         Err(fault) => Err(of_run(fault)),
     }

@@ -7,9 +7,9 @@ use Rattle.tws_tool.proofs.commands.put.put_file.Goals as goal
 pub returns-in-Err-clause-fails : goal.returns-in-Err-clause-fails
 returns-in-Err-clause-fails g c =
     let before = g.N.Wire.log c.args.wire.now in
-    let after = g.N.Wire.log c.put_in_rounds.new.wire in
+    let after = g.N.Wire.log c.put_shown.new.wire in
     let bytes = c.in_ok-bytes.bytes.items in
     let runs : PutsInRounds c.args.server bytes ROUNDS (Err c.in-Err.fault) before after =
-    subst (λ r. PutsInRounds c.args.server bytes ROUNDS r before after) c.in-Err.is c.put_in_rounds.ensures in
+    subst (λ r. PutsInRounds c.args.server bytes ROUNDS r before after) c.in-Err.is c.put_shown.ensures in
     put_fails (g.R.Read.remaining c.args.input.now) c.args.server before after (g.W.Write.contents c.args.out.now) c.in-Err.fault c.of_run.result c.of_run.ensures
     (record { bytes = bytes; whole = c.in_ok-bytes.ensures.whole; runs = runs })

@@ -1,0 +1,64 @@
+use crate::beside::Beside;
+use std::fs::File;
+use std::io;
+use std::io::Write;
+use std::rt::Files;
+use std::time::Clock;
+
+// Where a draft is written.
+#[derive(Drop)]
+pub(crate) enum Place {
+    /// Into the file itself, which is new or is no regular file.
+    Itself(File),
+    /// Over what the file has, since none can be made beside it.
+    Over(File),
+    /// Into a file beside it.
+    Beside(Beside),
+}
+
+/// What is to become the contents of a file of the system. It has no ghost contents.
+#[derive(Drop)]
+pub(crate) struct SystemDraft<P: Files<File = File> + Clock + AllocGlobal + Copy> {
+    rt: P,
+    place: Place,
+    // How many bytes were written.
+    len: u64,
+}
+
+impl<P: Files<File = File> + Clock + AllocGlobal + Copy> SystemDraft<P> {
+    /// An empty draft that is written there.
+    pub(crate) fn new(rt: P, place: Place) -> Self {
+        SystemDraft { rt, place, len: 0 }
+    }
+
+    /// Removes the file of the draft, if it has one of its own.
+    pub(crate) fn remove(&mut self) {
+        if let Place::Beside(beside) = &mut self.place {
+            beside.remove(&self.rt);
+        }
+    }
+
+    /// Puts the draft in place of what the file had.
+    pub(crate) fn replace(&mut self) -> io::Result<()> {
+        match &mut self.place {
+            Place::Itself(_) => Ok(()),
+            Place::Over(file) => file.set_len(self.len),
+            Place::Beside(beside) => beside.replace(&self.rt),
+        }
+    }
+}
+
+impl<P: Files<File = File> + Clock + AllocGlobal + Copy> Write for SystemDraft<P> {
+    fn write(&mut self, buf: &[u8]) -> io::Result<usize> {
+        let count = match &mut self.place {
+            Place::Itself(file) | Place::Over(file) => file.write(buf)?,
+            Place::Beside(beside) => beside.write(&self.rt, buf)?,
+        };
+        self.len = self.len.saturating_add(count as u64);
+        Ok(count)
+    }
+
+    fn flush(&mut self) -> io::Result<()> {
+        Ok(())
+    }
+}
