@@ -22,8 +22,11 @@ pub record NumberOption : Type 0 where
   pub most : ℕ
   pub default : ℕ
 
+abbrev pub number_rule_to : (most : ℕ) → (name : Text) → Rule
+number_rule_to most name = record (new_rule name) { long = Some name; value_names = 1; parser = Some (parser.Unsigned 1 most) }
+
 abbrev pub number_rule : NumberOption → Rule
-number_rule option = record (new_rule option.name) { long = Some option.name; value_names = 1; parser = Some (parser.Unsigned 1 option.most) }
+number_rule option = number_rule_to option.most option.name
 
 -- `[--port N]`
 abbrev pub port_option : NumberOption
