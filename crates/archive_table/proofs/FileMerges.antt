@@ -1,14 +1,14 @@
 -- A received file that is merged chunk by chunk is merged as a whole.
-use Rattle.std.specs.Prelude.{◌≡◌, ◌≢◌, ◌⊎◌, MatchBool, is_err, ℕ, ◌+◌, ◌*◌, ◌<◌, ◌≤◌, ◌^◌, Bool, true, false, List, [], ◌∷◌, ◌++◌, length, take, drop, Contains, Option, None, Some, Result, Ok, Err}
+use Rattle.std.specs.Prelude.{◌≡◌, MatchBool, is_err, ℕ, ◌+◌, ◌*◌, ◌<◌, ◌≤◌, ◌^◌, Bool, true, false, List, [], ◌++◌, length, take, Contains, Option, None, Some, Result, Ok, Err}
 use Rattle.std.proofs.Common.{refl, sym, ap, ◌∙◌, inl, inr, subst}
 use native.Mathlib.Omega.{arith}
 use Rattle.std.proofs.lemmas.List.{append-nil, append_assoc, length-append, length-take, take_all}
 use Rattle.tws_file.specs.declared.«ruleset».Ruleset.{Ruleset}
 use Rattle.tws_file.specs.declared.«ruleset».Ruleset.TheVariants.{Lynx, Ms}
 use Rattle.tws_file.specs.declared.file_fault.FileFault.{FileFault}
-use Rattle.tws_file.specs.Text.{File, Record, IsText, IsReadable, text_of}
+use Rattle.tws_file.specs.Text.{File, Record, IsText, IsReadable}
 use Rattle.tws_file.specs.Fault.{HasFileFault}
-use Rattle.tws_file.specs.PartReader.{PartReading, HasRead, HasRoom, HandsOut, IsTextWith}
+use Rattle.tws_file.specs.PartReader.{PartReading, HasRead, HasRoom, IsTextWith}
 use Rattle.tws_file.proofs.FileText.{one_file}
 use Rattle.tws_file.proofs.Faults.{text_without_fault}
 use Rattle.tws_file.proofs.InParts.{has_room}
@@ -24,7 +24,7 @@ use Rattle.tftp_packet.specs.declared.refusal.Refusal.{Refusal}
 use Rattle.std.proofs.lemmas.Bool.{true≢false}
 use Rattle.archive_table.specs.declared.keep_fault.KeepFault.{KeepFault}
 use Rattle.archive_table.specs.declared.keep_fault.KeepFault.TheVariants.{Device, Memory}
-use Rattle.archive_table.specs.Table.{Maps, IsFileMerge, MergesIntoOwn, IsMerged}
+use Rattle.archive_table.specs.Table.{Maps, MergesIntoOwn, IsMerged}
 use Rattle.archive_table.specs.Keeper.{Keeping, KeeperGrows, FailsKeep, RefusesFile, kept_by}
 use Rattle.archive_table.specs.FileMerge.{MergesFile, RefusesOne, TakesChunk, HasMerged, MergesText}
 use Rattle.archive_table.proofs.Merged.{both}

@@ -2,20 +2,14 @@
 use Rattle.std.specs.Prelude.{◌≡◌, ◌≢◌, ℕ, Bool, true, false, List, [], Option, None, Some}
 use Rattle.std.proofs.Common.{refl, sym, ap, ◌∙◌, inl, inr, subst}
 use Rattle.std.proofs.lemmas.List.{append-nil}
-use Rattle.tws_file.specs.declared.«ruleset».Ruleset.TheVariants.{Lynx, Ms}
-use Rattle.tws_file.specs.declared.file_fault.FileFault.{FileFault}
-use Rattle.tws_file.specs.Text.{File, IsText}
-use Rattle.tws_file.specs.Fault.{HasFileFault}
-use Rattle.tws_file.proofs.FileText.{one_file}
-use Rattle.tws_file.proofs.Faults.{text_without_fault}
 use Rattle.tws_best.specs.Best.{Collected}
 use Rattle.tftp_packet.specs.declared.endpoint.Endpoint.{Endpoint}
 use Rattle.tftp_packet.specs.declared.refusal.Refusal.{Refusal}
 use Rattle.tftp_packet.specs.declared.refusal.Refusal.TheVariants.{NotKept, UnknownTransfer}
 use Rattle.tftp_packet.specs.Packet.{encode}
-use Rattle.archive_table.specs.Table.{Maps, Taken, Grant, all, no_memory, unkept, dgram_grant, refusal_dgram, IsFileMerge, MergesIntoOwn, IsMerged}
+use Rattle.archive_table.specs.Table.{Maps, Taken, Grant, all, no_memory, unkept, dgram_grant, refusal_dgram}
 use Rattle.tftp_ends.specs.Ends.{refusal_of}
-use Rattle.archive_table.specs.Keeper.{Keeping, KeeperGrows, RefusesMerge, RefusesFile, StepKeeps}
+use Rattle.archive_table.specs.Keeper.{Keeping, KeeperGrows, RefusesFile, StepKeeps}
 use Rattle.archive_table.proofs.Replies.{memory_grant, past_grant}
 use Rattle.std.proofs.lemmas.Bool.{true≢false}
 use Rattle.tftp_ends.specs.declared.recv_fault.RecvFault.{RecvFault}

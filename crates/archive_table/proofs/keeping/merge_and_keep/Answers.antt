@@ -1,4 +1,4 @@
-use Rattle.std.proofs.Common.{◌≡◌, Bool, true, false, refl, sym, ◌∙◌, subst, inr, rules}
+use Rattle.std.proofs.Common.{◌≡◌, true, false, refl, sym, ◌∙◌, subst, inr, rules}
 use Rattle.tws_best.specs.Best.{Collected}
 use Rattle.archive_table.specs.FileMerge.{MergesFile}
 use Rattle.archive_table.proofs.FileMerges.{merges_read, when_true, when_false, fails_keep}
