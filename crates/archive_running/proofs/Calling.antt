@@ -1,17 +1,20 @@
 -- Whole calls are moves of the archive, turn by turn.
-use Rattle.std.proofs.Common.{◌≡◌, ◌≢◌, ℕ, Bool, true, false, cond, nat_le, List, ◌++◌, length, Contains, Option, Some, Result, Ok, Err, refl, ap, sym, ◌∙◌, subst}
+use Rattle.std.proofs.Common.{◌≡◌, ◌≢◌, ℕ, Bool, true, false, cond, nat_le, List, ◌++◌, length, Contains, Option, Some, Result, Ok, Err, IfOk, refl, ap, sym, ◌∙◌, subst}
 use Rattle.std.specs.Map.{lookup}
 use Rattle.tftp_packet.specs.declared.endpoint.Endpoint.{Endpoint}
 use Rattle.tws_file.specs.declared.«ruleset».Ruleset.{Ruleset}
 use Rattle.archive_table.specs.Table.{Table, Maps, is_same}
 use Rattle.archive_table.specs.Keeper.{Keeping}
-use Rattle.archive_client.specs.Client.{Operation, put, get, is_over}
+use Rattle.archive_client.specs.Client.{Client, Operation, put, get, state_of}
 use Rattle.archive_turns.specs.declared.run_fault.RunFault.{RunFault}
 use Rattle.archive_turns.specs.Wire.{Entry}
 use Rattle.archive_turns.specs.Turn.{Receipt, datagram, nothing, fault, Server, Pass, IsTurn, IsRound, next_visit, turn_next, ready_next, ServesTurns}
 use Rattle.archive_turns.specs.Turn as turns
-use Rattle.archive_turns.specs.Run.{Run, RunAnswers, run_waited, run_received, run_turn, IsRunTurn, MakesRunTurns, Runs, begin_opened, Begins, PutAfter, GetAfter, put_result, WritesGot}
+use Rattle.archive_turns.specs.Run.{Run, RunAnswers, run_waited, run_received, run_turn, IsRunTurn, MakesRunTurns, Runs, RunStep, begin_opened, Begins, PutAfter, GetAfter, put_result, WritesGot}
 use Rattle.archive_turns.specs.Run as runs
+use Rattle.archive_turns.specs.declared.pace.Pace.{Pace}
+use Rattle.archive_turns.specs.Rounds.{asking, dallying, RoundAnswers, round_received, is_late, is_ready, round_goes, IsRunRound, has_ended, MakesRunRounds, Dallies, MakesDally, len_of, GetInRoundsAfter}
+use Rattle.archive_turns.specs.Rounds as rounds
 use Rattle.tftp_ends.specs.Ends.{Verdict}
 use Rattle.archive_model.specs.World.{Begun, server_endpoint}
 use Rattle.archive_theorem.specs.Headline.{IsOwn, AreOver}
@@ -21,9 +24,9 @@ use Rattle.archive_theorem.proofs.Owning.{one_operation, same_put, same_get}
 use Rattle.archive_theorem.proofs.Endpoints.{exact_endpoint, same_endpoint}
 use Rattle.archive_theorem.proofs.Keyed.{lookup-written}
 use Rattle.archive_running.specs.Members.{visit_members, late_members}
-use Rattle.archive_running.specs.Archive.{Archive, Brings, after_server, own_endpoint, Moves, server_turns, server_rounds, server_restarts, client_begins, client_rounds, client_turns, Reaches}
+use Rattle.archive_running.specs.Archive.{Archive, Brings, after_server, own_endpoint, after_client_turn, Moves, server_turns, server_rounds, server_restarts, client_begins, client_rounds, client_turns, Reaches}
 use Rattle.archive_running.specs.Archive as archive
-use Rattle.archive_running.specs.Calls.{Moment, IsReached, ServesAt, world_at, Meanwhile, still, others, LeavesServer, AfterPass, after_turn, after_round, PassesHappen, LeavesClient, RunTurnsHappen, after_begun, PutHappens, GetHappens, PutWasTaken, GetWasWritten}
+use Rattle.archive_running.specs.Calls.{Moment, IsReached, ServesAt, world_at, Meanwhile, still, others, LeavesServer, AfterPass, after_turn, after_round, PassesHappen, LeavesClient, RunMembers, turn_members, paced_members, RunStepHappens, RunsHappen, DalliesHappen, ClientAt, after_begun, PutHappens, GetHappens, PutInRoundsHappens, GetInRoundsHappens, PutWasTaken, GetWasWritten}
 use Rattle.archive_running.proofs.Running.{run-mirrors, run-sent, run-fetched}
 
 -- ---- others move
@@ -142,110 +145,213 @@ received-port fault verdict ok r = waited-port (nat_le r.left 1) r ok
 turn-port : {old new : Run} {calls : List Entry} → IsRunTurn old new calls → new.port ≡ old.port
 turn-port {old} t = ap (λ (r : Run). r.port) t.run ∙ received-port t.answers.receipt t.answers.verdict t.answers.sent old
 
-runs-port : {made : ℕ} {old new : Run} {calls : List Entry} → Runs IsRunTurn is_over made old new calls → new.port ≡ old.port
-runs-port (runs.none r) = refl
-runs-port (runs.more earlier running t) = turn-port t ∙ runs-port earlier
+round_received-port : (receipt : Receipt) (pace : Pace) (time : ℕ) (verdict : Verdict) (ok : Bool) (r : Run) → (round_received receipt pace time verdict ok r).run.port ≡ r.port
+round_received-port (datagram from bytes) pace time verdict ok r = refl
+round_received-port nothing pace time verdict ok r = refl
+round_received-port fault pace time verdict ok r = refl
 
-runs-begun : (host : ℕ) {made : ℕ} {old new : Run} {calls : List Entry} (all : Runs IsRunTurn is_over made old new calls) (first last : Moment) →
-    RunTurnsHappen host all first last → (x : Begun) → Has first.archive.begun x → Has last.archive.begun x
-runs-begun host (runs.none r) first last waits x has = meanwhile-begun waits x has
-runs-begun host (runs.more earlier running t) first last h x has = meanwhile-begun h.others x (runs-begun host earlier first h.moment h.before x has)
+round_goes-port : (late here : Bool) (pace : Pace) (a : RoundAnswers) (r : Run) → (round_goes late here pace a r).run.port ≡ r.port
+round_goes-port true here pace a r = refl
+round_goes-port false true pace a r = round_received-port a.receipt pace a.time a.verdict a.sent r
+round_goes-port false false pace a r = refl
+
+round-port : (pace : Pace) {old new : Run} {calls : List Entry} → IsRunRound pace old new calls → new.port ≡ old.port
+round-port pace {old} t = ap (λ (r : Run). r.port) t.run ∙ round_goes-port (is_late pace old t.answers) (is_ready old.port t.answers.ready) pace t.answers old
+
+-- what is asked of a turn or round of a client: it keeps the port, and is a move
+record IsMove (Is : RunStep) (members : RunMembers Is) : Type 0 where
+  port : (old new : Run) (calls : List Entry) → Is old new calls → new.port ≡ old.port
+  moves : (a : Archive) (host : ℕ) (old new : Run) (calls : List Entry) (t : Is old new calls) → host ≢ server_endpoint.host →
+      lookup (is_same (own_endpoint host old)) a.clients ≡ Some old.client → Brings host calls a →
+      Moves a (after_client_turn host old new calls a) (members host old new calls t)
+
+turn-move : IsMove IsRunTurn turn_members
+turn-move = record {
+  port = λ old new calls t. turn-port t;
+  moves = λ a host old new calls t away there brings. client_turns a host old new calls t away there brings;
+}
+
+round-move : (pace : Pace) → IsMove (IsRunRound pace) (paced_members pace)
+round-move pace = record {
+  port = λ old new calls t. round-port pace t;
+  moves = λ a host old new calls t away there brings. client_rounds a host pace old new calls t away there brings;
+}
+
+module _ (Is : RunStep) (members : RunMembers Is) (move : IsMove Is members) (ended : Client → Bool) where
+  runs-port : {made : ℕ} {old new : Run} {calls : List Entry} → Runs Is ended made old new calls → new.port ≡ old.port
+  runs-port (runs.none r) = refl
+  runs-port (runs.more {mid = mid} {new = new} {added = added} earlier running t) = move.port mid new added t ∙ runs-port earlier
+
+  runs-begun : (host : ℕ) {made : ℕ} {old new : Run} {calls : List Entry} (all : Runs Is ended made old new calls) (first last : Moment) →
+      RunsHappen Is members host all first last → (x : Begun) → Has first.archive.begun x → Has last.archive.begun x
+  runs-begun host (runs.none r) first last waits x has = meanwhile-begun waits x has
+  runs-begun host (runs.more earlier running t) first last h x has = meanwhile-begun h.others x (runs-begun host earlier first h.moment h.before x has)
 
 module _ (texts : List (List ℕ)) (maps : Maps) (host : ℕ) (away : host ≢ server_endpoint.host) where
-  -- the archive is there, and has this client
-  abbrev HasClient : Run → Moment → Type 0
-  HasClient r m = IsReached texts maps m × (lookup (is_same (own_endpoint host r)) m.archive.clients ≡ Some r.client)
-
-  client-meanwhile : (r : Run) {first last : Moment} → Meanwhile (LeavesClient (own_endpoint host r)) first last → HasClient r first → HasClient r last
+  client-meanwhile : (r : Run) {first last : Moment} → Meanwhile (LeavesClient (own_endpoint host r)) first last → ClientAt texts maps host r first → ClientAt texts maps host r last
   client-meanwhile r waits there =
       (meanwhile-reached texts maps waits there.0, client-left (own_endpoint host r) waits ∙ there.1)
 
-  runs-have : {made : ℕ} {old new : Run} {calls : List Entry} (all : Runs IsRunTurn is_over made old new calls) {first last : Moment} →
-      RunTurnsHappen host all first last → HasClient old first → HasClient new last
-  runs-have (runs.none r) waits there = client-meanwhile r waits there
-  runs-have (runs.more {mid = mid} {new = new} {added = added} earlier running t) {last = end} h there =
-      let then = runs-have earlier h.before there in
+  -- one more turn or round, and then others
+  step-has : (Is : RunStep) (members : RunMembers Is) (move : IsMove Is members) {Before : Moment → Type 0} {mid new : Run} {added : List Entry} (t : Is mid new added) {end : Moment}
+      (h : RunStepHappens Before host mid new added (members host mid new added t) end) → ClientAt texts maps host mid h.moment → ClientAt texts maps host new end
+  step-has Is members move {mid = mid} {new = new} {added = added} t {end = end} h then =
       let e = own_endpoint host mid in
-      let next = archive.more then.0 (client_turns h.moment.archive host mid new added t away then.1 h.brings) in
+      let next = archive.more then.0 (move.moves h.moment.archive host mid new added t away then.1 h.brings) in
       let written = lookup-written is_same exact_endpoint h.moment.archive.clients e mid.client new.client then.1 in
       let last = client-left e h.others ∙ written in (
         meanwhile-reached texts maps h.others next,
-        ap (λ (port : ℕ). lookup (is_same (record { host = host; port = port })) end.archive.clients) (turn-port t) ∙ last,
+        ap (λ (port : ℕ). lookup (is_same (record { host = host; port = port })) end.archive.clients) (move.port mid new added t) ∙ last,
       )
 
+  runs-have : (Is : RunStep) (members : RunMembers Is) (move : IsMove Is members) {ended : Client → Bool} {made : ℕ} {old new : Run} {calls : List Entry} (all : Runs Is ended made old new calls) {first last : Moment} →
+      RunsHappen Is members host all first last → ClientAt texts maps host old first → ClientAt texts maps host new last
+  runs-have Is members move (runs.none r) waits there = client-meanwhile r waits there
+  runs-have Is members move (runs.more earlier running t) h there =
+      step-has Is members move t h (runs-have Is members move earlier h.before there)
+
+  dallies-have : (pace : Pace) {late : Bool} {made : ℕ} {old new : Run} {calls : List Entry} (all : Dallies pace late made old new calls) {first last : Moment} →
+      DalliesHappen pace host all first last → ClientAt texts maps host old first → ClientAt texts maps host new last
+  dallies-have pace (rounds.none r) waits there = client-meanwhile r waits there
+  dallies-have pace (rounds.more late earlier t late_is) h there =
+      step-has (IsRunRound pace) (paced_members pace) (round-move pace) t h (dallies-have pace earlier h.before there)
+
   begun-has : (operation : Operation) (r : Run) {before mid : Option (List Entry)} (b : Begins server_endpoint operation (Ok r) before mid) (first : Moment) →
-      IsReached texts maps first → HasClient r (after_begun host operation r (begin_opened b.port server_endpoint operation b.replies).calls first)
+      IsReached texts maps first → ClientAt texts maps host r (after_begun host operation r (begin_opened b.port server_endpoint operation b.replies).calls first)
   begun-has operation r b first reached =
       let e = own_endpoint host r in (
         archive.more reached (client_begins first.archive host operation b.port b.replies r away (sym b.result_is)),
         ap (λ (t : Bool). cond t (Some r.client) (lookup (is_same e) first.archive.clients)) (same_endpoint e),
       )
 
-  -- at the end the client is where it began
-  at_begin : {made : ℕ} {old new : Run} {calls : List Entry} → Runs IsRunTurn is_over made old new calls → (m : Moment) → HasClient new m →
-      lookup (is_same (own_endpoint host old)) m.archive.clients ≡ Some new.client
-  at_begin all m there =
-      ap (λ (port : ℕ). lookup (is_same (record { host = host; port = port })) m.archive.clients) (sym (runs-port all)) ∙ there.1
+  -- ---- a call that has begun
 
   module _ (over : AreOver texts maps) (before mid after : Option (List Entry)) (first last : Moment) (reached : IsReached texts maps first) where
-    -- at the end the operation at an endpoint whose ports are its own is the one that began there
-    one-begun : {made : ℕ} {new : Run} {calls : List Entry} (r : Run) (operation : Operation) (begin_calls : List Entry) (all : Runs IsRunTurn is_over made r new calls) →
-        RunTurnsHappen host all (after_begun host operation r begin_calls first) last → IsReached texts maps last →
-        IsOwn (world_at texts maps last) (own_endpoint host r) → (b : Begun) → Contains (world_at texts maps last).begun b →
-        b.client ≡ own_endpoint host r → b.operation ≡ operation
-    one-begun r operation begin_calls all h there own b among client =
+    abbrev begun_by : Run → Operation → Begun
+    begun_by r operation = record { client = own_endpoint host r; operation = operation; taken = length first.archive.taken }
+
+    -- at the end the client is where it began
+    record IsEnd (r : Run) (operation : Operation) (c : Client) : Type 0 where
+      there : IsReached texts maps last
+      client : lookup (is_same (own_endpoint host r)) last.archive.clients ≡ Some c
+      begun : Has last.archive.begun (begun_by r operation)
+
+    -- its turns or rounds begin with the same client at the same port
+    ends-there : (Is : RunStep) (members : RunMembers Is) (move : IsMove Is members) {ended : Client → Bool} {made : ℕ} {s new : Run} {calls : List Entry}
+        (operation : Operation) (r : Run) (b : Begins server_endpoint operation (Ok r) before mid) → s.client ≡ r.client → s.port ≡ r.port →
+        (all : Runs Is ended made s new calls) → RunsHappen Is members host all (after_begun host operation r (begin_opened b.port server_endpoint operation b.replies).calls first) last →
+        IsEnd r operation new.client
+    ends-there Is members move {ended} {made} {s} {new} operation r b client port all h =
+        let start = after_begun host operation r (begin_opened b.port server_endpoint operation b.replies).calls first in
+        let At : ℕ → Moment → Client → Type 0 = λ p m c. lookup (is_same (record { host = host; port = p })) m.archive.clients ≡ Some c in
+        let begins = begun-has operation r b first reached in
+        let begins_there : At s.port start s.client = subst (λ (p : ℕ). At p start s.client) (sym port) (subst (At r.port start) (sym client) begins.1) in
+        let ends = runs-have Is members move all h (begins.0, begins_there) in record {
+          there = ends.0;
+          client = subst (λ (p : ℕ). At p last new.client) (runs-port Is members move ended all ∙ port) ends.1;
+          begun = runs-begun Is members move ended host all start last h (begun_by r operation) (Has-last first.archive.begun (begun_by r operation));
+        }
+
+    -- the operation at an endpoint whose ports are its own is the one that began there
+    one-begun : (r : Run) (operation : Operation) (c : Client) → IsEnd r operation c → IsOwn (world_at texts maps last) (own_endpoint host r) → (b : Begun) →
+        Contains (world_at texts maps last).begun b → b.client ≡ own_endpoint host r → b.operation ≡ operation
+    one-begun r operation c end own b among client =
         let w = world_at texts maps last in
-        let x : Begun = record { client = own_endpoint host r; operation = operation; taken = length first.archive.taken } in
-        let has = runs-begun host all (after_begun host operation r begin_calls first) last h x (Has-last first.archive.begun x) in
-        let mirrors = run-mirrors texts maps over last.archive last.members there in
-        let mine : Has w.begun x = subst (λ (l : List Begun). Has l x) (sym mirrors.begun) has in
+        let x = begun_by r operation in
+        let mirrors = run-mirrors texts maps over last.archive last.members end.there in
+        let mine : Has w.begun x = subst (λ (l : List Begun). Has l x) (sym mirrors.begun) end.begun in
         ap (λ (y : Begun). y.operation) (one_operation w.past (own_endpoint host r) own b x (Has-from_contains w.begun b among) mine client refl)
+
+    put-taken : (file : List ℕ) (r : Run) (c : Client) → IsEnd r (put file) c → (n : ℕ) → put_result (state_of c) (length file) ≡ Ok n → PutWasTaken host file (Ok r) (world_at texts maps last)
+    put-taken file r c end n ok = record {
+      run = r;
+      has_begun = refl;
+      taken = λ own.
+          let sent = run-sent texts maps over last.archive last.members end.there (own_endpoint host r) own c (length file) n end.client ok in
+          let same = one-begun r (put file) c end own sent.began.0 sent.began.1 sent.began.2 in
+          (sent, same_put sent.file file (sym sent.began.3 ∙ same));
+    }
+
+    get-written : (rules : Ruleset) (written now : Option (List ℕ)) (r : Run) (c : Client) → IsEnd r (get rules) c → (len : ℕ) → WritesGot c (Ok len) written now →
+        GetWasWritten host rules (Ok r) len (world_at texts maps last) written now
+    get-written rules written now r c end len got = record {
+      run = r;
+      has_begun = refl;
+      client = c;
+      finished = λ own.
+          let fetched = run-fetched texts maps over last.archive last.members end.there (own_endpoint host r) own c len written now end.client got in
+          let get_is = fetched.finished in
+          let same = one-begun r (get rules) c end own get_is.began get_is.has_begun get_is.by in
+          (fetched, same_get get_is.rules rules (sym get_is.operation ∙ same));
+    }
+
+    -- ---- a put
 
     pub put-happens : (file : List ℕ) (turns : ℕ) (result : Result ℕ RunFault) (begun : Result Run RunFault)
         (b : Begins server_endpoint (put file) begun before mid)
         (ends : PutAfter (MakesRunTurns turns) begun (length file) result mid after) → PutHappens host file turns result before mid after begun b ends first last →
         IsReached texts maps last × ((n : ℕ) → result ≡ Ok n → PutWasTaken host file begun (world_at texts maps last))
     put-happens file turns result (Ok r) b ends h =
-        let there = runs-have ends.made.runs.runs h (begun-has (put file) r b first reached) in
-        let e = own_endpoint host r in
-        let is = at_begin ends.made.runs.runs last there in (
-          there.0,
-          λ n ok. record {
-            run = r;
-            has_begun = refl;
-            taken = λ own.
-                let sent = run-sent texts maps over last.archive last.members there.0 e own ends.last.client (length file) n is (sym ends.result_is ∙ ok) in
-                let same =
-                one-begun r (put file) (begin_opened b.port server_endpoint (put file) b.replies).calls ends.made.runs.runs h there.0
-                own sent.began.0 sent.began.1 sent.began.2 in
-                (sent, same_put sent.file file (sym sent.began.3 ∙ same));
-          },
-        )
+        let end = ends-there IsRunTurn turn_members turn-move (put file) r b refl refl ends.made.runs.runs h in
+        (end.there, λ n ok. put-taken file r ends.last.client end n (sym ends.result_is ∙ ok))
     put-happens file turns result (Err f) b ends h =
         (subst (IsReached texts maps) (sym h) reached, λ n ok. let clash : Err f ≡ Ok n = sym ends.0 ∙ ok in absurd cc)
+
+    pub put_in_rounds-happens : (file : List ℕ) (rounds : ℕ) (result : Result ℕ RunFault) (begun : Result Run RunFault)
+        (b : Begins server_endpoint (put file) begun before mid)
+        (ends : PutAfter (MakesRunRounds rounds) begun (length file) result mid after) → PutInRoundsHappens host file rounds result before mid after begun b ends first last →
+        IsReached texts maps last × ((n : ℕ) → result ≡ Ok n → PutWasTaken host file begun (world_at texts maps last))
+    put_in_rounds-happens file rounds result (Ok r) b ends h =
+        let started = ends.made.starts.run in
+        let end = ends-there (IsRunRound asking) (paced_members asking) (round-move asking) (put file) r b
+        (ap (λ (s : Run). s.client) started) (ap (λ (s : Run). s.port) started) ends.made.made.runs.runs h in
+        (end.there, λ n ok. put-taken file r ends.last.client end n (sym ends.result_is ∙ ok))
+    put_in_rounds-happens file rounds result (Err f) b ends h =
+        (subst (IsReached texts maps) (sym h) reached, λ n ok. let clash : Err f ≡ Ok n = sym ends.0 ∙ ok in absurd cc)
+
+    -- ---- a get
 
     pub get-happens : (rules : Ruleset) (turns : ℕ) (result : Result ℕ RunFault) (written now : Option (List ℕ))
         (begun : Result Run RunFault) (b : Begins server_endpoint (get rules) begun before mid)
         (ends : GetAfter begun turns result mid after written now) → GetHappens host rules turns result before mid after written now begun b ends first last →
         IsReached texts maps last × ((len : ℕ) → result ≡ Ok len → GetWasWritten host rules begun len (world_at texts maps last) written now)
     get-happens rules turns result written now (Ok r) b ends h =
-        let there = runs-have ends.made.runs.runs h (begun-has (get rules) r b first reached) in
-        let e = own_endpoint host r in
-        let is = at_begin ends.made.runs.runs last there in (
-          there.0,
-          λ len ok. record {
-            run = r;
-            has_begun = refl;
-            client = ends.last.client;
-            finished = λ own.
-                let fetched = run-fetched texts maps over last.archive last.members there.0 e own ends.last.client len written now is
-                (subst (λ (x : Result ℕ RunFault). WritesGot ends.last.client x written now) ok ends.got) in
-                let get_is = fetched.finished in
-                let same =
-                one-begun r (get rules) (begin_opened b.port server_endpoint (get rules) b.replies).calls ends.made.runs.runs h there.0
-                own get_is.began get_is.has_begun get_is.by in
-                (fetched, same_get get_is.rules rules (sym get_is.operation ∙ same));
-          },
-        )
+        let end = ends-there IsRunTurn turn_members turn-move (get rules) r b refl refl ends.made.runs.runs h in
+        (end.there, λ len ok. get-written rules written now r ends.last.client end len (subst (λ (x : Result ℕ RunFault). WritesGot ends.last.client x written now) ok ends.got))
     get-happens rules turns result written now (Err f) b ends h =
         (subst (IsReached texts maps) (sym h) reached, λ len ok. let clash : Err f ≡ Ok len = sym ends.0 ∙ ok in absurd cc)
+
+    -- the run that it returns is the client's as it is then
+    ended_run : (r last : Run) (result : Result (ℕ × Run) RunFault) → IfOk result (λ (got : ℕ × Run). got.1 ≡ last) → (len : ℕ) → result ≡ Ok (len, r) → r ≡ last
+    ended_run r last (Ok got) stays len ok = let same : Ok got ≡ Ok (len, r) = ok in let is : got.1 ≡ r = cc in sym is ∙ stays
+    ended_run r last (Err e) stays len ok = absurd cc
+
+    pub get_in_rounds-happens : (rules : Ruleset) (rounds : ℕ) (result : Result (ℕ × Run) RunFault) (written now : Option (List ℕ))
+        (begun : Result Run RunFault) (b : Begins server_endpoint (get rules) begun before mid)
+        (ends : GetInRoundsAfter rounds begun result mid after written now) → GetInRoundsHappens host rules rounds result before mid after written now begun b ends first last →
+        IsReached texts maps last × ((len : ℕ) (r : Run) → result ≡ Ok (len, r) → GetWasWritten host rules begun len (world_at texts maps last) written now × ClientAt texts maps host r last)
+    get_in_rounds-happens rules rounds result written now (Ok r) b ends h =
+        let started = ends.made.starts.run in
+        let all = ends.made.made.runs.runs in
+        let client = ap (λ (s : Run). s.client) started in
+        let port = ap (λ (s : Run). s.port) started in
+        let end = ends-there (IsRunRound asking) (paced_members asking) (round-move asking) (get rules) r b client port all h in (
+          end.there,
+          λ len now_run ok.
+              let is = ended_run now_run ends.last result ends.stays len ok in
+              let ports : ends.last.port ≡ r.port = runs-port (IsRunRound asking) (paced_members asking) (round-move asking) has_ended all ∙ port in
+              let At : ℕ → Type 0 = λ p. lookup (is_same (record { host = host; port = p })) last.archive.clients ≡ Some ends.last.client in (
+                get-written rules written now r ends.last.client end len (subst (λ (x : Result (ℕ × Run) RunFault). WritesGot ends.last.client (len_of x) written now) ok ends.got),
+                subst (λ (s : Run). ClientAt texts maps host s last) (sym is) (end.there, subst At (sym ports) end.client),
+              ),
+        )
+    get_in_rounds-happens rules rounds result written now (Err f) b ends h =
+        (subst (IsReached texts maps) (sym h) reached, λ len r ok. let clash : Err f ≡ Ok (len, r) = sym ends.0 ∙ ok in absurd cc)
+
+  -- a get dallies
+  pub dally-happens : (rounds : ℕ) (old new : Run) (before after : Option (List Entry)) (d : MakesDally rounds old new before after) (first last : Moment) →
+      DalliesHappen (dallying d.time) host d.made.dallies.dallies first last → ClientAt texts maps host old first → ClientAt texts maps host new last
+  dally-happens rounds old new before after d first last h there =
+      let started : ClientAt texts maps host d.started first =
+      subst (λ (s : Run). ClientAt texts maps host s first) (sym d.starts.run) there in
+      dallies-have (dallying d.time) d.made.dallies.dallies h started

@@ -1,5 +1,6 @@
--- Whole calls in the running archive: the turns that the contracts of `serve_turns`, `serve_rounds`, `run_put` and
--- `run_get` list, each at a moment of its own, while others move in between.
+-- Whole calls in the running archive: the turns or rounds that the contracts of `serve_turns`, `serve_rounds`, `run_put`,
+-- `run_get`, `put_in_rounds`, `get_in_rounds` and `Run::dally` list, each at a moment of its own, while others move in
+-- between.
 use Rattle.std.specs.Prelude.{◌≡◌, ◌≢◌, ℕ, Bool, List, ◌∷◌, [], ◌++◌, length, Option, Some, Result, Ok, Err}
 use Rattle.std.specs.Map.{lookup}
 use Rattle.tftp_packet.specs.declared.endpoint.Endpoint.{Endpoint}
@@ -10,12 +11,15 @@ use Rattle.archive_client.specs.Client.{Client, Operation, put, get, is_over}
 use Rattle.archive_turns.specs.declared.run_fault.RunFault.{RunFault}
 use Rattle.archive_turns.specs.Wire.{Entry}
 use Rattle.archive_turns.specs.Turn.{Server, Pass, IsTurn, IsRound, next_visit, turn_next, ready_next, ServesTurns, none, more}
-use Rattle.archive_turns.specs.Run.{Run, IsRunTurn, MakesRunTurns, Runs, begin_opened, Begins, PutAfter, GetAfter, RunsPut}
+use Rattle.archive_turns.specs.declared.pace.Pace.{Pace}
+use Rattle.archive_turns.specs.Run.{Run, RunStep, IsRunTurn, MakesRunTurns, Runs, begin_opened, Begins, PutAfter, GetAfter, RunsPut}
 use Rattle.archive_turns.specs.Run as run
+use Rattle.archive_turns.specs.Rounds.{asking, IsRunRound, has_ended, MakesRunRounds, Dallies, GetInRoundsAfter}
+use Rattle.archive_turns.specs.Rounds as round
 use Rattle.archive_model.specs.World.{World, server_endpoint, start_from}
 use Rattle.archive_theorem.specs.Headline.{IsOwn, SentOnce}
 use Rattle.archive_theorem.specs.Traces.{Member, starts, trace_from}
-use Rattle.archive_running.specs.Members.{does, visit_members, late_members, client_members}
+use Rattle.archive_running.specs.Members.{does, visit_members, late_members, client_members, round_members}
 use Rattle.archive_running.specs.Archive.{Archive, Brings, after_server, own_endpoint, after_begin, after_client_turn, Moves, Reaches, WritesFinished}
 
 -- a state of the archive, and the members of the trace that led to it
@@ -86,19 +90,44 @@ PassesHappen Is after (more {mid = mid} {new = new} {added = added} {between = b
 abbrev pub LeavesClient : Endpoint → (old new : Archive) → Type 0
 LeavesClient e old new = lookup (is_same e) new.clients ≡ lookup (is_same e) old.clients
 
--- one more turn of the client, and then others move
-pub record RunTurnHappens (Before : Moment → Type 0) (host : ℕ) (old new : Run) (calls : List Entry) (t : IsRunTurn old new calls) (last : Moment) : Type 0 where
+-- what a turn or round of a client is in the world
+abbrev pub RunMembers : RunStep → Type 0
+RunMembers Is = (host : ℕ) (old new : Run) (calls : List Entry) → Is old new calls → List Member
+
+abbrev pub turn_members : RunMembers IsRunTurn
+turn_members host old new calls t = client_members t.answers host old
+
+abbrev pub paced_members : (pace : Pace) → RunMembers (IsRunRound pace)
+paced_members pace host old new calls t = round_members pace t.answers host old
+
+-- one more turn or round of the client, and then others move
+pub record RunStepHappens (Before : Moment → Type 0) (host : ℕ) (old new : Run) (calls : List Entry) (added : List Member) (last : Moment) : Type 0 where
   pub moment : Moment
   pub before : Before moment
   pub brings : Brings host calls moment.archive
-  pub others : Meanwhile (LeavesClient (own_endpoint host old))
-      (then (after_client_turn host old new calls moment.archive) (client_members t.answers host old) moment) last
+  pub others : Meanwhile (LeavesClient (own_endpoint host old)) (then (after_client_turn host old new calls moment.archive) added moment) last
 
--- These turns of the client happen, one after another.
+-- These turns or rounds of the client happen, one after another.
+abbrev pub RunsHappen : (Is : RunStep) → RunMembers Is → {ended : Client → Bool} → (host : ℕ) → {count : ℕ} {old new : Run} {calls : List Entry} → Runs Is ended count old new calls → (first last : Moment) → Type 0
+RunsHappen Is members host (run.none r) first last = Meanwhile (LeavesClient (own_endpoint host r)) first last
+RunsHappen Is members host (run.more {mid = mid} {new = new} {added = added} runs running t) first last =
+    RunStepHappens (RunsHappen Is members host runs first) host mid new added (members host mid new added t) last
+
 abbrev pub RunTurnsHappen : (host : ℕ) → {turns : ℕ} {old new : Run} {calls : List Entry} → Runs IsRunTurn is_over turns old new calls → (first last : Moment) → Type 0
-RunTurnsHappen host (run.none r) first last = Meanwhile (LeavesClient (own_endpoint host r)) first last
-RunTurnsHappen host (run.more {mid = mid} {new = new} {added = added} runs running t) first last =
-    RunTurnHappens (RunTurnsHappen host runs first) host mid new added t last
+RunTurnsHappen host runs first last = RunsHappen IsRunTurn turn_members host runs first last
+
+abbrev pub RunRoundsHappen : (host : ℕ) → {rounds : ℕ} {old new : Run} {calls : List Entry} → Runs (IsRunRound asking) has_ended rounds old new calls → (first last : Moment) → Type 0
+RunRoundsHappen host runs first last = RunsHappen (IsRunRound asking) (paced_members asking) host runs first last
+
+-- So do the rounds of a client that dallies.
+abbrev pub DalliesHappen : (pace : Pace) (host : ℕ) → {late : Bool} {count : ℕ} {old new : Run} {calls : List Entry} → Dallies pace late count old new calls → (first last : Moment) → Type 0
+DalliesHappen pace host (round.none r) first last = Meanwhile (LeavesClient (own_endpoint host r)) first last
+DalliesHappen pace host (round.more {mid = mid} {new = new} {added = added} late dallies t late_is) first last =
+    RunStepHappens (DalliesHappen pace host dallies first) host mid new added (paced_members pace host mid new added t) last
+
+-- the archive has come to this moment, and has this client
+abbrev pub ClientAt : (texts : List (List ℕ)) → Maps → (host : ℕ) → Run → Moment → Type 0
+ClientAt texts maps host r m = IsReached texts maps m × (lookup (is_same (own_endpoint host r)) m.archive.clients ≡ Some r.client)
 
 -- the moment after the begin of a client
 abbrev pub after_begun : (host : ℕ) → Operation → Run → (calls : List Entry) → Moment → Moment
@@ -122,6 +151,23 @@ GetHappens host rules turns result before mid after written now (Ok r) begins en
     RunTurnsHappen host ends.made.runs.runs
     (after_begun host (get rules) r (begin_opened begins.port server_endpoint (get rules) begins.replies).calls first) last
 GetHappens host rules turns result before mid after written now (Err e) begins ends first last = last ≡ first
+
+-- The same for a put and a get by rounds. A look at the clock before the first round is no move.
+abbrev pub PutInRoundsHappens : (host : ℕ) (file : List ℕ) (rounds : ℕ) (result : Result ℕ RunFault) (before mid after : Option (List Entry))
+    (begun : Result Run RunFault) →
+    Begins server_endpoint (put file) begun before mid → PutAfter (MakesRunRounds rounds) begun (length file) result mid after → (first last : Moment) → Type 0
+PutInRoundsHappens host file rounds result before mid after (Ok r) begins ends first last =
+    RunRoundsHappen host ends.made.made.runs.runs
+    (after_begun host (put file) r (begin_opened begins.port server_endpoint (put file) begins.replies).calls first) last
+PutInRoundsHappens host file rounds result before mid after (Err e) begins ends first last = last ≡ first
+
+abbrev pub GetInRoundsHappens : (host : ℕ) (rules : Ruleset) (rounds : ℕ) (result : Result (ℕ × Run) RunFault) (before mid after : Option (List Entry))
+    (written now : Option (List ℕ)) (begun : Result Run RunFault) →
+    Begins server_endpoint (get rules) begun before mid → GetInRoundsAfter rounds begun result mid after written now → (first last : Moment) → Type 0
+GetInRoundsHappens host rules rounds result before mid after written now (Ok r) begins ends first last =
+    RunRoundsHappen host ends.made.made.runs.runs
+    (after_begun host (get rules) r (begin_opened begins.port server_endpoint (get rules) begins.replies).calls first) last
+GetInRoundsHappens host rules rounds result before mid after written now (Err e) begins ends first last = last ≡ first
 
 -- ---- what is promised of a call that returned Ok
 

@@ -11,13 +11,14 @@ ghost use Rattle.archive_table.specs.Keeper.{Keeping};
 ghost use Rattle.archive_turns.specs.declared.run_fault.RunFault.{RunFault};
 ghost use Rattle.archive_turns.specs.Wire.{Entry};
 ghost use Rattle.archive_turns.specs.Turn.{Server, IsTurn, IsRound, MakesTurns, MakesRounds};
-ghost use Rattle.archive_turns.specs.Run.{put_result, WritesGot, RunsPut, RunsGet};
+ghost use Rattle.archive_turns.specs.Run.{Run, put_result, WritesGot, RunsPut, RunsGet};
+ghost use Rattle.archive_turns.specs.Rounds.{dallying, MakesDally, PutsInRounds, GetsInRounds};
 ghost use Rattle.archive_model.specs.World.{start_from, start, server_endpoint, AllMayHappen, AllMerged};
 ghost use Rattle.archive_theorem.specs.Headline.{IsOwn, AreOver, HasOwnPorts, ClientsHeadline, Headline, SentOnce};
 ghost use Rattle.archive_theorem.specs.Traces.{Member, trace_from, trace_steps};
 ghost use Rattle.archive_theorem.specs.Samples.{sample_file};
 ghost use Rattle.archive_running.specs.Archive.{Archive, Reaches, Mirrors, WritesFinished, CanReach, CanRestart};
-ghost use Rattle.archive_running.specs.Calls.{Moment, IsReached, ServesAt, world_at, PassesHappen, after_turn, after_round, PutHappens, GetHappens, PutWasTaken, GetWasWritten, PutCanHappen};
+ghost use Rattle.archive_running.specs.Calls.{Moment, IsReached, ServesAt, world_at, PassesHappen, after_turn, after_round, DalliesHappen, ClientAt, PutHappens, GetHappens, PutInRoundsHappens, GetInRoundsHappens, PutWasTaken, GetWasWritten, PutCanHappen};
 
 /// Every run of a server and its clients, made of turns as archive_turns defines them, in which whatever is received
 /// was sent before or is a stranger's, is a trace whose events may all happen; the world after it mirrors the archive.
@@ -44,14 +45,19 @@ pub fn running_law()
 
 /// Whole calls are such moves. The turns or rounds that the contract of `serve_turns` or `serve_rounds` lists lead from
 /// one moment of the archive to another, if each receives only what was sent before it or is a stranger's, whatever others
-/// do in between; and so do the begin and the turns of `run_put` and `run_get`. So where a put returned Ok, its file was
-/// taken exactly once, and what a get that returned Ok has written is the collection at one of its own requests, if the
-/// ports of its endpoint are its own.
+/// do in between; and so do the begin and the turns of `run_put` and `run_get`, the begin and the rounds of `put_in_rounds`
+/// and `get_in_rounds`, and the rounds of a get that dallies. So where a put returned Ok, its file was taken exactly once,
+/// and what a get that returned Ok has written is the collection at one of its own requests, if the ports of its endpoint
+/// are its own.
 pub fn calls_law()
     ensures turns { (texts : List (List ℕ)) (maps : Maps) (turns : ℕ) (old new : Server) (taken : ℕ) (before after : Option (List Entry)) (kept now : Option (List Keeping)) (call : MakesTurns turns old new taken before after kept now) (first last : Moment) → PassesHappen IsTurn after_turn call.served first last → ServesAt texts maps old.table kept first → ServesAt texts maps new.table now last }
     ensures rounds { (texts : List (List ℕ)) (maps : Maps) (rounds : ℕ) (old new : Server) (taken : ℕ) (before after : Option (List Entry)) (kept now : Option (List Keeping)) (call : MakesRounds rounds old new taken before after kept now) (first last : Moment) → PassesHappen IsRound after_round call.served first last → ServesAt texts maps old.table kept first → ServesAt texts maps new.table now last }
     ensures put { (texts : List (List ℕ)) (maps : Maps) → AreOver texts maps → (host : ℕ) → host ≢ server_endpoint.host → (file : List ℕ) (turns : ℕ) (result : Result ℕ RunFault) (before after : Option (List Entry)) (call : RunsPut server_endpoint file turns result before after) (first last : Moment) → PutHappens host file turns result before call.mid after call.begun call.begins call.ends first last → IsReached texts maps first → IsReached texts maps last × ((n : ℕ) → result ≡ Ok n → PutWasTaken host file call.begun (world_at texts maps last)) }
     ensures get { (texts : List (List ℕ)) (maps : Maps) → AreOver texts maps → (host : ℕ) → host ≢ server_endpoint.host → («ruleset» : Ruleset) (turns : ℕ) (result : Result ℕ RunFault) (before after : Option (List Entry)) (written now : Option (List ℕ)) (call : RunsGet server_endpoint «ruleset» turns result before after written now) (first last : Moment) → GetHappens host «ruleset» turns result before call.mid after written now call.begun call.begins call.ends first last → IsReached texts maps first → IsReached texts maps last × ((len : ℕ) → result ≡ Ok len → GetWasWritten host «ruleset» call.begun len (world_at texts maps last) written now) }
+    // The same by rounds; and the run that a get returns is its client's, which may then dally.
+    ensures put_in_rounds { (texts : List (List ℕ)) (maps : Maps) → AreOver texts maps → (host : ℕ) → host ≢ server_endpoint.host → (file : List ℕ) (rounds : ℕ) (result : Result ℕ RunFault) (before after : Option (List Entry)) (call : PutsInRounds server_endpoint file rounds result before after) (first last : Moment) → PutInRoundsHappens host file rounds result before call.mid after call.begun call.begins call.ends first last → IsReached texts maps first → IsReached texts maps last × ((n : ℕ) → result ≡ Ok n → PutWasTaken host file call.begun (world_at texts maps last)) }
+    ensures get_in_rounds { (texts : List (List ℕ)) (maps : Maps) → AreOver texts maps → (host : ℕ) → host ≢ server_endpoint.host → («ruleset» : Ruleset) (rounds : ℕ) (result : Result (ℕ × Run) RunFault) (before after : Option (List Entry)) (written now : Option (List ℕ)) (call : GetsInRounds server_endpoint «ruleset» rounds result before after written now) (first last : Moment) → GetInRoundsHappens host «ruleset» rounds result before call.mid after written now call.begun call.begins call.ends first last → IsReached texts maps first → IsReached texts maps last × ((len : ℕ) (run : Run) → result ≡ Ok (len, run) → GetWasWritten host «ruleset» call.begun len (world_at texts maps last) written now × ClientAt texts maps host run last) }
+    ensures dally { (texts : List (List ℕ)) (maps : Maps) (host : ℕ) → host ≢ server_endpoint.host → (rounds : ℕ) (old new : Run) (before after : Option (List Entry)) (call : MakesDally rounds old new before after) (first last : Moment) → DalliesHappen (dallying call.time) host call.made.dallies.dallies first last → ClientAt texts maps host old first → ClientAt texts maps host new last }
     // A put of a file with a solution can happen so.
     ensures puts { PutCanHappen (sample_file 100) }
 {}

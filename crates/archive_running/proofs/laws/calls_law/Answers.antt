@@ -1,4 +1,4 @@
-use Rattle.archive_running.proofs.Calling.{turns-serve, rounds-serve, put-happens, get-happens}
+use Rattle.archive_running.proofs.Calling.{turns-serve, rounds-serve, put-happens, get-happens, put_in_rounds-happens, get_in_rounds-happens, dally-happens}
 use Rattle.archive_running.proofs.RoundSampling.{put-can}
 use Rattle.archive_running.proofs.laws.calls_law.Goals as goal
 
@@ -17,6 +17,18 @@ returns-clause-put c = λ texts maps over host away file turns result before aft
 pub returns-clause-get : goal.returns-clause-get
 returns-clause-get c = λ texts maps over host away rules turns result before after written now call first last happen reached.
     get-happens texts maps host away over before call.mid after first last reached rules turns result written now call.begun call.begins call.ends happen
+
+pub returns-clause-put_in_rounds : goal.returns-clause-put_in_rounds
+returns-clause-put_in_rounds c = λ texts maps over host away file rounds result before after call first last happen reached.
+    put_in_rounds-happens texts maps host away over before call.mid after first last reached file rounds result call.begun call.begins call.ends happen
+
+pub returns-clause-get_in_rounds : goal.returns-clause-get_in_rounds
+returns-clause-get_in_rounds c = λ texts maps over host away rules rounds result before after written now call first last happen reached.
+    get_in_rounds-happens texts maps host away over before call.mid after first last reached rules rounds result written now call.begun call.begins call.ends happen
+
+pub returns-clause-dally : goal.returns-clause-dally
+returns-clause-dally c = λ texts maps host away rounds old new before after call first last happen there.
+    dally-happens texts maps host away rounds old new before after call first last happen there
 
 pub returns-clause-puts : goal.returns-clause-puts
 returns-clause-puts c = put-can
