@@ -4,7 +4,7 @@ use refusing::{Outcome, Refusing, refuse_each};
 use std::alloc::{Allocator, Global};
 use std::test::Fail;
 use test_samples::{
-    ACK_0, ACK_1, DATA_HUNDRED, HUNDRED, OUT_OF_MEMORY, PEER, SERVER, WRQ, whole_block,
+    ACK_0, ACK_1, DATA_HUNDRED, HUNDRED, OUT_OF_MEMORY, PEER, SERVER, WRQ,
 };
 use tftp_packet::{Endpoint, Out};
 use tws_file::Ruleset;
@@ -73,34 +73,6 @@ fn fetching_one_block(rt: HostRuntime) -> Result<(), Fail> {
         global,
         1,
         &|refusing: &Refusing<Global>| fetch_one(global, refusing),
-    )?)
-}
-
-// Passes three blocks to the client, of which the last is empty; each byte of a block is its number.
-fn give_three<A: Allocator + Copy>(client: &mut Get<A>) -> Result<(), Outcome> {
-    give(client, 1, &whole_block(1, 1))?;
-    give(client, 2, &whole_block(2, 2))?;
-    give(client, 3, b"\0\x03\0\x03")
-}
-
-fn fetch_some(global: Global, refusing: &Refusing<Global>) -> Outcome {
-    let mut file = [1; 1024];
-    file[512..].copy_from_slice(&[2; 512]);
-    let (mut client, _) = Get::start(refusing, 5000, SERVER, Ruleset::Ms);
-    match give_three(&mut client) {
-        Ok(()) => Outcome::of(has_got(global, client, &file)),
-        Err(outcome) => outcome,
-    }
-}
-
-// A later block is refused: the client was bound, and failed all the same.
-#[test]
-fn fetching_some_blocks(rt: HostRuntime) -> Result<(), Fail> {
-    let global = rt.alloc();
-    Ok(refuse_each(
-        global,
-        1,
-        &|refusing: &Refusing<Global>| fetch_some(global, refusing),
     )?)
 }
 

@@ -38,50 +38,6 @@ fn is_text<A: Allocator + Copy>(global: Global, collection: &Collection<A>, text
 
 const THREE: [(u16, u8, u32); 3] = [(1, 0x41, 50), (2, 0x42, 60), (4, 0x44, 70)];
 
-// A solution of another level, and a better one of a level that is kept.
-const TWO: [(u16, u8, u32); 2] = [(3, 0x43, 10), (2, 0x42, 20)];
-
-const ALL: [(u16, u8, u32); 4] = [(1, 0x41, 50), (2, 0x42, 20), (3, 0x43, 10), (4, 0x44, 70)];
-
-// Merges a file into a collection, which then has the new text, or still the old one.
-fn merge<A: Allocator + Copy>(
-    global: Global,
-    collection: &mut Collection<A>,
-    file: &TwsFile,
-    old: &[u8],
-    new: &[u8],
-) -> Outcome {
-    match collection.merge(file) {
-        Ok(changed) => Outcome::of(changed && is_text(global, collection, new)),
-        Err(_) => Outcome::refused(is_text(global, collection, old)),
-    }
-}
-
-#[test]
-fn merging(rt: HostRuntime) -> Result<(), Fail> {
-    let global = rt.alloc();
-    let three = read_sample(global, &THREE)?;
-    let two = read_sample(global, &TWO)?;
-    let all = text_of(global, &ALL)?;
-    Ok(refuse_each(
-        global,
-        5,
-        &|refusing: &Refusing<Global>| {
-            let mut collection = Collection::new(refusing, Ruleset::Lynx);
-            match merge(
-                global,
-                &mut collection,
-                &three.file,
-                EMPTY_LYNX,
-                &three.text,
-            ) {
-                Outcome::Right => merge(global, &mut collection, &two.file, &three.text, &all),
-                outcome => outcome,
-            }
-        },
-    )?)
-}
-
 // A Lynx file of two solutions and a pad between them, of levels that HUNDRED does not have.
 fn two_and_a_pad(global: Global) -> Result<TwsFile, Fail> {
     let first = record(global, 2, b"BBBB", 0, 20, &[])?;

@@ -50,16 +50,25 @@ fn goes_on<A: Allocator + Copy>(table: &mut Table<A>, file: &Blocks) -> bool {
         && table.live() == 1
 }
 
+// How many requests for memory were made when a download had begun, and when it had ended; `None` if an answer is wrong.
+fn requests(refusing: &Refusing<Global>) -> Option<(u64, u64)> {
+    let mut table = Table::new(refusing, REQUEST);
+    let file = Blocks::new();
+    let is_begun = takes(&mut table, &file) && opens(&mut table, &file);
+    let begun = refusing.requests();
+    if !is_begun || !goes_on(&mut table, &file) {
+        return None;
+    }
+    Some((begun, refusing.requests()))
+}
+
 #[test]
 fn a_download_after_its_first_block(rt: HostRuntime) -> Result<(), Fail> {
     let refusing: Refusing<Global> = Refusing::new(rt.alloc(), 0);
-    let mut table = Table::new(&refusing, REQUEST);
-    let file = Blocks::new();
-    assert!(rt; takes(&mut table, &file));
-    assert!(rt; opens(&mut table, &file));
-    let requests = refusing.requests();
-    assert!(rt; goes_on(&mut table, &file));
-    assert_eq!(rt; refusing.requests(), requests);
+    let Some((begun, ended)) = requests(&refusing) else {
+        return Err(Fail::new("another answer"));
+    };
+    assert_eq!(rt; ended, begun);
     Ok(())
 }
 
@@ -76,20 +85,32 @@ fn closes_at<A: Allocator + Copy>(table: &mut Table<A>, port: u16) -> bool {
     handle(table, port, BOB, b"\0\x05\0\0\0").closed
 }
 
+// How many requests for memory were made when a first download had begun, when a second one had, when the first had
+// ended and begun again, and when both had ended and one begun again; `None` if an answer is wrong.
+fn requests_of_two(refusing: &Refusing<Global>) -> Option<[u64; 4]> {
+    let mut table = Table::new(refusing, REQUEST);
+    let is_first = takes(&mut table, &Blocks::new()) && opens_at(&mut table, 4001);
+    let first = refusing.requests();
+    let is_second = opens_at(&mut table, 4002);
+    let second = refusing.requests();
+    let is_third = closes_at(&mut table, 4001) && opens_at(&mut table, 4001);
+    let third = refusing.requests();
+    let is_last = closes_at(&mut table, 4001)
+        && closes_at(&mut table, 4002)
+        && opens_at(&mut table, 4001);
+    if !(is_first && is_second && is_third && is_last) {
+        return None;
+    }
+    Some([first, second, third, refusing.requests()])
+}
+
 // The second download has the snapshot of the first, and so has one after both have ended.
 #[test]
 fn downloads_of_one_text(rt: HostRuntime) -> Result<(), Fail> {
     let refusing: Refusing<Global> = Refusing::new(rt.alloc(), 0);
-    let mut table = Table::new(&refusing, REQUEST);
-    assert!(rt; takes(&mut table, &Blocks::new()));
-    assert!(rt; opens_at(&mut table, 4001));
-    let first = refusing.requests();
-    assert!(rt; opens_at(&mut table, 4002));
-    assert_eq!(rt; refusing.requests(), first);
-    assert!(rt; closes_at(&mut table, 4001) && opens_at(&mut table, 4001));
-    assert_eq!(rt; refusing.requests(), first);
-    assert!(rt; closes_at(&mut table, 4001) && closes_at(&mut table, 4002));
-    assert!(rt; opens_at(&mut table, 4001));
-    assert_eq!(rt; refusing.requests(), first);
+    let Some([first, second, third, last]) = requests_of_two(&refusing) else {
+        return Err(Fail::new("another answer"));
+    };
+    assert_eq!(rt; (second, third, last), (first, first, first));
     Ok(())
 }

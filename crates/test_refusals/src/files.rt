@@ -103,29 +103,6 @@ fn reading_in_pieces(rt: HostRuntime) -> Result<(), Fail> {
     )?)
 }
 
-// Reads the cut file byte by byte. A push that was out of memory is made again, so that the fault is that of the file.
-fn read_cut(refusing: &Refusing<Global>) -> Result<(), FileFault> {
-    let mut reader = Reader::new(refusing);
-    let bytes = CUT_MOVE.as_slice();
-    for i in 0..bytes.len() {
-        push_again(&mut reader, &bytes[i..i + 1])?;
-    }
-    let _file = reader.finish()?;
-    Ok(())
-}
-
-// A refused push leaves no mark: the fault of the file is still found where it is.
-#[test]
-fn a_cut_file_in_pieces(rt: HostRuntime) -> Result<(), Fail> {
-    Ok(refuse_each(
-        rt.alloc(),
-        1,
-        &|refusing: &Refusing<Global>| {
-            Outcome::of(read_cut(refusing) == Err(FileFault::MoveCut(29)))
-        },
-    )?)
-}
-
 // The same for the first piece.
 fn push_first<A: Allocator + Copy>(reader: &mut Reader<A>, piece: &[u8]) -> Result<(), FileFault>
     requires { HasAtMost reader.old 0 }

@@ -1,6 +1,6 @@
 // A get and a server over a wire, with each allocation of theirs refused in turn. The wire itself has ample memory.
 use archive_table::{Kept, MemoryKeeper};
-use archive_turns::{Entry, MemoryWire, RunFault, Server, get_in_rounds, run_get, serve_turns};
+use archive_turns::{Entry, MemoryWire, RunFault, Server, run_get, serve_turns};
 use refusing::{Outcome, Refusing, refuse_each};
 use std::alloc::{AllocError, Global};
 use std::test::Fail;
@@ -59,34 +59,6 @@ fn fetching(rt: HostRuntime) -> Result<(), Fail> {
         global,
         1,
         &|refusing: &Refusing<Global>| fetch(global, refusing),
-    )?)
-}
-
-fn fetch_in_rounds(global: Global, refusing: &Refusing<Global>) -> Outcome {
-    let Ok(mut wire) = answered_wire(global) else {
-        return Outcome::Wrong;
-    };
-    let mut out = Vec::new(global);
-    match get_in_rounds(refusing, &mut wire, at(6969), Ruleset::Lynx, 1, &mut out) {
-        Ok((len, _run)) => {
-            let is_whole = len == 28 && out.as_slice() == HUNDRED.as_slice();
-            Outcome::of(is_whole && has_answered(&wire, ACK_1))
-        }
-        Err(fault) => {
-            let is_refused = fault == RunFault::Memory && out.is_empty();
-            Outcome::refused(is_refused && has_answered(&wire, OUT_OF_MEMORY))
-        }
-    }
-}
-
-// The same by the clock of the wire.
-#[test]
-fn fetching_in_rounds(rt: HostRuntime) -> Result<(), Fail> {
-    let global = rt.alloc();
-    Ok(refuse_each(
-        global,
-        1,
-        &|refusing: &Refusing<Global>| fetch_in_rounds(global, refusing),
     )?)
 }
 

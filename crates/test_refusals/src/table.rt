@@ -5,8 +5,8 @@ use std::alloc::{Allocator, Global};
 use std::cell::Cell;
 use std::test::Fail;
 use test_samples::{
-    ACK_1, ALICE, BOB, DATA_HUNDRED, DATA_NINETY, EMPTY_LYNX, EMPTY_MS, HUNDRED, NINETY, NOT_KEPT,
-    OUT_OF_MEMORY, RRQ_LYNX, WRQ,
+    ACK_1, ALICE, BOB, DATA_HUNDRED, EMPTY_LYNX, EMPTY_MS, HUNDRED, NOT_KEPT, OUT_OF_MEMORY,
+    RRQ_LYNX, WRQ,
 };
 use tftp_packet::{Endpoint, Out};
 use tws_file::Ruleset;
@@ -301,52 +301,6 @@ fn the_last_block_kept(rt: HostRuntime) -> Result<(), Fail> {
         &|refusing: &Refusing<Global>| keep_one(global, refusing, &not_kept),
     )?;
     assert!(rt; not_kept.get() >= 2);
-    Ok(())
-}
-
-// Passes a better file to a table that starts with what its keeper has.
-fn keep_better<A: Allocator + Copy>(
-    global: Global,
-    alloc: A,
-    keeper: &mut MemoryKeeper<A>,
-    not_kept: &Cell<u64>,
-) -> Outcome {
-    let Ok(mut table) = Table::load(alloc, REQUEST, keeper) else {
-        return Outcome::OutOfMemory;
-    };
-    let change = Change {
-        data: DATA_NINETY,
-        file: NINETY,
-        before: &[HUNDRED],
-        after: &[HUNDRED, NINETY],
-    };
-    match open(&mut table, 4000, ALICE, WRQ) {
-        Ok(()) => keep_file(global, &mut table, keeper, change, not_kept),
-        Err(outcome) => outcome,
-    }
-}
-
-fn keep_another(global: Global, refusing: &Refusing<Global>, not_kept: &Cell<u64>) -> Outcome {
-    let Ok(text) = Vec::from_slice(refusing, HUNDRED) else {
-        return Outcome::OutOfMemory;
-    };
-    let Ok(mut keeper) = MemoryKeeper::with(refusing, Some(text), None) else {
-        return Outcome::OutOfMemory;
-    };
-    keep_better(global, refusing, &mut keeper, not_kept)
-}
-
-// The same where the file replaces a solution: the collection stays as it was if the block is refused.
-#[test]
-fn a_better_file_kept(rt: HostRuntime) -> Result<(), Fail> {
-    let global = rt.alloc();
-    let not_kept = Cell::new(0);
-    refuse_each(
-        global,
-        8,
-        &|refusing: &Refusing<Global>| keep_another(global, refusing, &not_kept),
-    )?;
-    assert!(rt; not_kept.get() >= 1);
     Ok(())
 }
 

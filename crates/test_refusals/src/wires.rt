@@ -4,7 +4,6 @@ use refusing::{Outcome, Refusing, refuse_each};
 use std::alloc::{Allocator, Global};
 use std::test::Fail;
 use test_samples::ALICE;
-use tftp_packet::{Endpoint, Out, encode_ack};
 
 fn is_telling<A: Allocator + Copy>(wire: &MemoryWire<A>, calls: usize) -> bool {
     wire.telling() && wire.failures() == 0 && wire.log().len() == calls
@@ -35,62 +34,6 @@ fn opening(rt: HostRuntime) -> Result<(), Fail> {
         rt.alloc(),
         2,
         &|refusing: &Refusing<Global>| open_one(refusing),
-    )?)
-}
-
-fn close_one(refusing: &Refusing<Global>) -> Outcome {
-    let mut wire = MemoryWire::new(refusing, Vec::new(refusing));
-    match wire.close(4000) {
-        Ok(()) => Outcome::of(is_telling(&wire, 1)),
-        Err(fault) => Outcome::refused(fault == WireFault::Close && has_stopped(&mut wire)),
-    }
-}
-
-#[test]
-fn closing(rt: HostRuntime) -> Result<(), Fail> {
-    Ok(refuse_each(
-        rt.alloc(),
-        1,
-        &|refusing: &Refusing<Global>| close_one(refusing),
-    )?)
-}
-
-fn send_one(refusing: &Refusing<Global>) -> Outcome {
-    let mut wire = MemoryWire::new(refusing, Vec::new(refusing));
-    let out = Out {
-        from_port: 4000,
-        to: ALICE,
-        dgram: encode_ack(1),
-    };
-    match wire.send(&out) {
-        Ok(()) => Outcome::of(is_telling(&wire, 1)),
-        Err(fault) => Outcome::refused(fault == WireFault::Send && has_stopped(&mut wire)),
-    }
-}
-
-#[test]
-fn sending(rt: HostRuntime) -> Result<(), Fail> {
-    Ok(refuse_each(
-        rt.alloc(),
-        1,
-        &|refusing: &Refusing<Global>| send_one(refusing),
-    )?)
-}
-
-fn receive_none(refusing: &Refusing<Global>) -> Outcome {
-    let mut wire = MemoryWire::new(refusing, Vec::new(refusing));
-    match wire.receive(4000, &mut [0; RECEIVE_SIZE]) {
-        Ok(got) => Outcome::of(got.is_none() && is_telling(&wire, 1)),
-        Err(fault) => Outcome::refused(fault == WireFault::Receive && has_stopped(&mut wire)),
-    }
-}
-
-#[test]
-fn receiving_nothing(rt: HostRuntime) -> Result<(), Fail> {
-    Ok(refuse_each(
-        rt.alloc(),
-        1,
-        &|refusing: &Refusing<Global>| { receive_none(refusing) },
     )?)
 }
 

@@ -3,6 +3,7 @@ use archive_table::{Keeper, LoadFault, MemoryKeeper, Step, Table};
 use std::alloc::Global;
 use std::test::Fail;
 use test_samples::{EMPTY_LYNX, EMPTY_MS};
+use tftp_ends::Received;
 use tftp_packet::{Endpoint, Out};
 use tws_file::Ruleset;
 
@@ -54,11 +55,10 @@ impl Archive {
         &self.table
     }
 
-    // The text of a collection.
-    pub(crate) fn text(&self, alloc: Global, ruleset: Ruleset) -> Result<Vec<u8>, Fail> {
+    // Whether this is the text of a collection.
+    pub(crate) fn has_text(&self, alloc: Global, ruleset: Ruleset, wanted: &[u8]) -> bool {
         let mut text = Vec::new(alloc);
-        self.table.collection(ruleset).write_text(&mut text)?;
-        Ok(text)
+        self.table.collection(ruleset).write_text(&mut text).is_ok() && text.as_slice() == wanted
     }
 }
 
@@ -114,24 +114,29 @@ fn is_out(out: &Option<Out>, wanted: Option<(u16, Endpoint, &[u8])>) -> bool {
     }
 }
 
+fn has_file(alloc: Global, received: &Received, file: &[u8]) -> bool {
+    match received.to_vec(alloc) {
+        Ok(bytes) => bytes.as_slice() == file,
+        Err(_) => false,
+    }
+}
+
 // Whether a call returned exactly this.
-pub(crate) fn is_step(alloc: Global, step: &Step, wanted: Wanted<'_>) -> Result<bool, Fail> {
+pub(crate) fn is_step(alloc: Global, step: &Step, wanted: Wanted<'_>) -> bool {
     let is_taken = match (&step.taken, wanted.taken) {
         (None, None) => true,
         (Some(taken), Some((peer, file))) => {
-            taken.peer == peer && taken.file.to_vec(alloc)?.as_slice() == file
+            taken.peer == peer && has_file(alloc, &taken.file, file)
         }
         _ => false,
     };
-    Ok(
-        is_taken
-            && is_out(&step.out, wanted.out)
-            && step.opened == wanted.opened
-            && step.closed == wanted.closed,
-    )
+    is_taken
+        && is_out(&step.out, wanted.out)
+        && step.opened == wanted.opened
+        && step.closed == wanted.closed
 }
 
-pub(crate) fn is_wanted(alloc: Global, step: &Step, then: Then<'_>) -> Result<bool, Fail> {
+pub(crate) fn is_wanted(alloc: Global, step: &Step, then: Then<'_>) -> bool {
     is_step(alloc, step, wanted_of(then))
 }
 
@@ -166,7 +171,7 @@ pub(crate) fn first_other<K: Keeper>(
 ) -> Result<Option<usize>, Fail> {
     for (i, (input, then)) in rows.iter().enumerate() {
         let step = step(archive, keeper, *input)?;
-        if !is_wanted(alloc, &step, *then)? {
+        if !is_wanted(alloc, &step, *then) {
             return Ok(Some(i));
         }
     }
@@ -174,16 +179,8 @@ pub(crate) fn first_other<K: Keeper>(
 }
 
 // Whether the collections' texts are these.
-pub(crate) fn has_texts(
-    alloc: Global,
-    archive: &Archive,
-    lynx: &[u8],
-    ms: &[u8],
-) -> Result<bool, Fail> {
-    Ok(
-        archive.text(alloc, Ruleset::Lynx)?.as_slice() == lynx
-            && archive.text(alloc, Ruleset::Ms)?.as_slice() == ms,
-    )
+pub(crate) fn has_texts(alloc: Global, archive: &Archive, lynx: &[u8], ms: &[u8]) -> bool {
+    archive.has_text(alloc, Ruleset::Lynx, lynx) && archive.has_text(alloc, Ruleset::Ms, ms)
 }
 
 // Whether there are this many transfers, and this is the least port of one.
@@ -222,7 +219,7 @@ fn other_at<K: Keeper>(
         return Ok(other);
     }
     let is_left = is_live(archive, left.live, left.least)
-        && has_texts(alloc, archive, left.lynx, left.ms)?;
+        && has_texts(alloc, archive, left.lynx, left.ms);
     Ok(if is_left { None } else { Some(rows.len()) })
 }
 

@@ -8,7 +8,7 @@ use std::alloc::Global;
 use std::test::Fail;
 use test_samples::{
     ACK_0, ACK_1, DATA_EMPTY_LYNX, DATA_EMPTY_MS, DATA_HUNDRED, DATA_NINETY, EMPTY_LYNX,
-    FILE_TOO_LONG, HUNDRED, NINETY, RRQ_LYNX, RRQ_MS, UNKNOWN_TRANSFER, WRQ, join, record, steps,
+    FILE_TOO_LONG, HUNDRED, NINETY, RRQ_LYNX, RRQ_MS, UNKNOWN_TRANSFER, WRQ, record, steps,
     whole_block,
 };
 use tws_file::Ruleset;
@@ -148,7 +148,7 @@ fn downloads_beside_an_upload(rt: HostRuntime) -> Result<(), Fail> {
 }
 
 // Whether a whole block of sevens with this number is acknowledged.
-fn takes_sevens(alloc: Global, archive: &mut Archive, number: u16) -> Result<bool, Fail> {
+fn takes_sevens(alloc: Global, archive: &mut Archive, number: u16) -> bool {
     let [high, low] = number.to_be_bytes();
     let data = whole_block(number, 7);
     let step = archive.handle(&mut NoKeeper, 4000, client(2), &data);
@@ -159,7 +159,7 @@ fn takes_sevens(alloc: Global, archive: &mut Archive, number: u16) -> Result<boo
 fn fill(alloc: Global, archive: &mut Archive) -> Result<(), Fail> {
     archive.ask(4000, client(2), WRQ)?;
     for number in 1..65535_u16 {
-        if !takes_sevens(alloc, archive, number)? {
+        if !takes_sevens(alloc, archive, number) {
             return Err(Fail::new("another answer to a whole block"));
         }
     }
@@ -242,7 +242,7 @@ fn long_file(
         data[2..4].copy_from_slice(&[high, low]);
         let step = archive.handle(&mut NoKeeper, port, host, &data);
         let then = Then::Sends(port, u32::from(level), &[0, 4, high, low]);
-        if !is_wanted(alloc, &step, then)? {
+        if !is_wanted(alloc, &step, then) {
             return Ok(false);
         }
         data = [1; 516];
@@ -323,20 +323,35 @@ fn serves_text(archive: &mut Archive, text: &[u8]) -> Result<bool, Fail> {
     Ok(first.opened && is_served(archive, 4003, first, text)? && is_live(archive, 2, Some(4000)))
 }
 
+fn add_record(alloc: Global, text: &mut Vec<u8>, number: u16, moves: &[u8]) -> Result<(), Fail> {
+    text.extend_from_slice(&record(alloc, number, b"AAAA", 0, 0, moves)?)?;
+    Ok(())
+}
+
+fn add_records(alloc: Global, text: &mut Vec<u8>, moves: u32) -> Result<(), Fail> {
+    let moves = steps(alloc, moves as usize)?;
+    add_record(alloc, text, 1, &moves)?;
+    add_record(alloc, text, 2, &moves)
+}
+
 // The text of the Lynx collection of two such files with this many moves each.
 fn text_of_two(alloc: Global, moves: u32) -> Result<Vec<u8>, Fail> {
-    let moves = steps(alloc, moves as usize)?;
-    let first = record(alloc, 1, b"AAAA", 0, 0, &moves)?;
-    let second = record(alloc, 2, b"AAAA", 0, 0, &moves)?;
-    Ok(join(alloc, EMPTY_LYNX, &[&first, &second])?)
+    let mut text = Vec::from_slice(alloc, EMPTY_LYNX)?;
+    add_records(alloc, &mut text, moves)?;
+    Ok(text)
+}
+
+// Whether a new archive takes two files of `size` bytes, and serves this text.
+fn takes_and_serves(alloc: Global, size: u32, text: &[u8]) -> Result<bool, Fail> {
+    let mut archive = Archive::new(alloc);
+    let is_taken = takes_two_files(alloc, &mut archive, size)?;
+    Ok(is_taken && serves_text(&mut archive, text)?)
 }
 
 // Whether the collection of two files with this many moves each is served, and has `size` bytes.
 fn serves(alloc: Global, moves: u32, size: usize) -> Result<bool, Fail> {
     let text = text_of_two(alloc, moves)?;
-    let mut archive = Archive::new(alloc);
-    let is_taken = takes_two_files(alloc, &mut archive, moves.wrapping_add(28))?;
-    Ok(is_taken && text.len() == size && serves_text(&mut archive, &text)?)
+    Ok(text.len() == size && takes_and_serves(alloc, moves.wrapping_add(28), &text)?)
 }
 
 // Two files whose collection is long, and is sent: 4,200,048 bytes, in 8,204 blocks.

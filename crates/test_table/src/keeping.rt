@@ -36,7 +36,7 @@ fn other_kept(
     if other.is_some() {
         return Ok(other);
     }
-    let is_kept = was_given(&keeper, given) && loads(alloc, &mut keeper, left.lynx, left.ms)?;
+    let is_kept = was_given(&keeper, given) && loads(alloc, &mut keeper, left.lynx, left.ms);
     Ok(if is_kept { None } else { Some(rows.len()) })
 }
 
@@ -148,6 +148,17 @@ fn copied(alloc: Global, text: Option<&[u8]>) -> Result<Option<Vec<u8>>, Fail> {
     }
 }
 
+// A keeper with these texts for Lynx and MS.
+fn keeper_with(
+    alloc: Global,
+    lynx: Option<&[u8]>,
+    ms: Option<&[u8]>,
+) -> Result<MemoryKeeper, Fail> {
+    let lynx = copied(alloc, lynx)?;
+    let ms = copied(alloc, ms)?;
+    Ok(MemoryKeeper::with(alloc, lynx, ms)?)
+}
+
 // Why nothing is loaded from a keeper with these texts for Lynx and MS, if this call of it fails.
 fn fault_of(
     alloc: Global,
@@ -155,7 +166,7 @@ fn fault_of(
     ms: Option<&[u8]>,
     failing: u64,
 ) -> Result<Option<LoadFault>, Fail> {
-    let mut keeper = MemoryKeeper::with(alloc, copied(alloc, lynx)?, copied(alloc, ms)?)?;
+    let mut keeper = keeper_with(alloc, lynx, ms)?;
     keeper.fail_at(failing);
     Ok(fault(alloc, &mut keeper))
 }
@@ -199,26 +210,24 @@ fn loading_ms_refused(rt: HostRuntime) -> Result<(), Fail> {
 }
 
 // Whether a server loaded from this keeper has these texts, and no transfer.
-fn loads(alloc: Global, keeper: &mut MemoryKeeper, lynx: &[u8], ms: &[u8]) -> Result<bool, Fail> {
+fn loads(alloc: Global, keeper: &mut MemoryKeeper, lynx: &[u8], ms: &[u8]) -> bool {
     match Archive::load(alloc, keeper) {
-        Ok(archive) => Ok(has_texts(alloc, &archive, lynx, ms)? && is_live(&archive, 0, None)),
-        Err(_fault) => Ok(false),
+        Ok(archive) => has_texts(alloc, &archive, lynx, ms) && is_live(&archive, 0, None),
+        Err(_fault) => false,
     }
 }
 
 // Whether both texts are loaded from a keeper that has them.
 fn loads_both(alloc: Global, lynx: &[u8], ms: &[u8]) -> Result<bool, Fail> {
-    let one = Vec::from_slice(alloc, lynx)?;
-    let other = Vec::from_slice(alloc, ms)?;
-    let mut keeper = MemoryKeeper::with(alloc, Some(one), Some(other))?;
-    Ok(keeper.kept().len() == 2 && loads(alloc, &mut keeper, lynx, ms)?)
+    let mut keeper = keeper_with(alloc, Some(lynx), Some(ms))?;
+    Ok(keeper.kept().len() == 2 && loads(alloc, &mut keeper, lynx, ms))
 }
 
 #[test]
 fn loading(rt: HostRuntime) -> Result<(), Fail> {
     assert!(rt; loads_both(rt.alloc(), HUNDRED, EMPTY_MS)?);
     let mut keeper = MemoryKeeper::new(rt.alloc());
-    assert!(rt; loads(rt.alloc(), &mut keeper, EMPTY_LYNX, EMPTY_MS)?);
+    assert!(rt; loads(rt.alloc(), &mut keeper, EMPTY_LYNX, EMPTY_MS));
     Ok(())
 }
 
@@ -230,7 +239,7 @@ fn takes(archive: &mut Archive, keeper: &mut MemoryKeeper) -> Result<bool, Fail>
 }
 
 // Whether a server loads what was taken, and no more.
-fn finds(alloc: Global, keeper: &mut MemoryKeeper, is_taken: bool) -> Result<bool, Fail> {
+fn finds(alloc: Global, keeper: &mut MemoryKeeper, is_taken: bool) -> bool {
     let lynx = if is_taken {
         HUNDRED.as_slice()
     } else {
@@ -246,7 +255,7 @@ fn finds_what_was_taken(alloc: Global, failing: u64) -> Result<bool, Fail> {
     keeper.fail_at(failing);
     let is_taken = takes(&mut Archive::new(alloc), &mut keeper)?;
     let is_refused = fault(alloc, &mut keeper).is_some();
-    let is_found = finds(alloc, &mut keeper, is_taken)?;
+    let is_found = finds(alloc, &mut keeper, is_taken);
     Ok(is_found && is_taken == (failing != 1) && is_refused == (failing > 1))
 }
 

@@ -10,12 +10,12 @@ const REQUEST: u16 = 6969;
 
 const MAX_FILE: usize = 33_553_919;
 
-#[derive(Drop)]
-pub(crate) enum Packet {
+#[derive(Clone, Copy)]
+enum Packet<'a> {
     Malformed,
-    Read { name: Vec<u8>, mode: Vec<u8> },
-    Write { mode: Vec<u8> },
-    Data { n: usize, body: Vec<u8> },
+    Read { name: &'a [u8], mode: &'a [u8] },
+    Write { mode: &'a [u8] },
+    Data { n: usize, body: &'a [u8] },
     Ack { n: usize },
     Error,
 }
@@ -103,53 +103,48 @@ fn number_at(bytes: &[u8], i: usize) -> usize {
 }
 
 // The text from this place up to the next zero byte, if there is one.
-fn text_at(alloc: Global, bytes: &[u8], from: usize) -> Result<Option<Vec<u8>>, Fail> {
-    let mut text = Vec::new(alloc);
-    for b in bytes.iter().skip(from) {
-        if *b == 0 {
-            return Ok(Some(text));
-        }
-        text.push(*b)?;
-    }
-    Ok(None)
+fn text_at(bytes: &[u8], from: usize) -> Option<&[u8]> {
+    let rest = bytes.get(from..)?;
+    let end = rest.iter().position(|b| *b == 0)?;
+    rest.get(..end)
 }
 
-fn parse_request(alloc: Global, bytes: &[u8]) -> Result<Packet, Fail> {
-    let Some(name) = text_at(alloc, bytes, 2)? else {
-        return Ok(Packet::Malformed);
+fn parse_request(bytes: &[u8]) -> Packet<'_> {
+    let Some(name) = text_at(bytes, 2) else {
+        return Packet::Malformed;
     };
-    let Some(mode) = text_at(alloc, bytes, name.len().wrapping_add(3))? else {
-        return Ok(Packet::Malformed);
+    let Some(mode) = text_at(bytes, name.len().wrapping_add(3)) else {
+        return Packet::Malformed;
     };
     if byte_at(bytes, 1) == 1 {
-        Ok(Packet::Read { name, mode })
+        Packet::Read { name, mode }
     } else {
-        Ok(Packet::Write { mode })
+        Packet::Write { mode }
     }
 }
 
-fn parse_data(alloc: Global, bytes: &[u8], n: usize) -> Result<Packet, Fail> {
-    let mut body = Vec::new(alloc);
-    for b in bytes.iter().skip(4) {
-        body.push(*b)?;
-    }
-    Ok(Packet::Data { n, body })
-}
-
-fn parse(alloc: Global, bytes: &[u8]) -> Result<Packet, Fail> {
-    if bytes.len() < 2 || bytes.len() > 516 || byte_at(bytes, 0) != 0 {
-        return Ok(Packet::Malformed);
-    }
-    let n = number_at(bytes, 2);
-    match byte_at(bytes, 1) {
-        1 | 2 => parse_request(alloc, bytes),
-        3 if bytes.len() >= 4 => parse_data(alloc, bytes, n),
-        4 if bytes.len() == 4 => Ok(Packet::Ack { n }),
-        5 => match text_at(alloc, bytes, 4)? {
-            Some(_text) => Ok(Packet::Error),
-            None => Ok(Packet::Malformed),
+fn parse_data(bytes: &[u8]) -> Packet<'_> {
+    match bytes.get(4..) {
+        Some(body) => Packet::Data {
+            n: number_at(bytes, 2),
+            body,
         },
-        _ => Ok(Packet::Malformed),
+        None => Packet::Malformed,
+    }
+}
+
+fn parse(bytes: &[u8]) -> Packet<'_> {
+    if bytes.len() < 2 || bytes.len() > 516 || byte_at(bytes, 0) != 0 {
+        return Packet::Malformed;
+    }
+    match byte_at(bytes, 1) {
+        1 | 2 => parse_request(bytes),
+        3 => parse_data(bytes),
+        4 if bytes.len() == 4 => Packet::Ack {
+            n: number_at(bytes, 2),
+        },
+        5 if text_at(bytes, 4).is_some() => Packet::Error,
+        _ => Packet::Malformed,
     }
 }
 
@@ -210,20 +205,21 @@ impl Plain {
         Ok(said)
     }
 
-    fn close(&mut self, i: usize, error: Option<&[u8]>) -> Result<Said, Fail> {
-        if i >= self.live.len() {
-            return Ok(silent());
+    // Ends the transfer at this place of the list.
+    fn close(&mut self, i: usize) -> Said {
+        let mut said = silent();
+        if i < self.live.len() {
+            let _ended = self.live.remove(i);
+            said.closed = true;
         }
-        let transfer = self.live.remove(i);
-        let mut said = match error {
-            Some(error) => says(
-                transfer.port,
-                transfer.peer,
-                Vec::from_slice(self.alloc, error)?,
-            ),
-            None => silent(),
-        };
-        said.closed = true;
+        said
+    }
+
+    // The same with an ERROR to its peer.
+    fn fail(&mut self, i: usize, port: u16, peer: Endpoint, error: &[u8]) -> Result<Said, Fail> {
+        let bytes = Vec::from_slice(self.alloc, error)?;
+        let mut said = self.close(i);
+        said.out = Some((port, peer, bytes));
         Ok(said)
     }
 
@@ -233,45 +229,59 @@ impl Plain {
         from: Endpoint,
         bytes: &[u8],
     ) -> Result<Said, Fail> {
-        match parse(self.alloc, bytes)? {
+        match parse(bytes) {
             Packet::Read { name, mode } => {
                 if !mode.eq_ignore_ascii_case(b"octet") {
                     return self.refuse(from, b"\0\x05\0\0octet only\0");
                 }
-                self.on_read(spare, from, &name)
+                self.on_read(spare, from, name)
             }
             Packet::Write { mode } => {
                 if !mode.eq_ignore_ascii_case(b"octet") {
                     return self.refuse(from, b"\0\x05\0\0octet only\0");
                 }
-                if self.live.len() == 64 {
-                    return self.refuse(from, b"\0\x05\0\0server busy\0");
-                }
-                let end = End::Receiving {
-                    file: Vec::new(self.alloc),
-                    count: 0,
-                    misses: 0,
-                };
-                self.open(spare, from, end, ack(self.alloc, 0)?)
+                self.on_write(spare, from)
             }
             _ => Ok(silent()),
         }
     }
 
-    fn on_read(&mut self, spare: u16, from: Endpoint, name: &[u8]) -> Result<Said, Fail> {
-        let text = if name == b"lynx.tws".as_slice() {
-            self.text(Ruleset::Lynx)?
-        } else if name == b"ms.tws".as_slice() {
-            self.text(Ruleset::Ms)?
-        } else {
-            return self.refuse(from, b"\0\x05\0\x01no such file\0");
-        };
+    fn on_write(&mut self, spare: u16, from: Endpoint) -> Result<Said, Fail> {
         if self.live.len() == 64 {
             return self.refuse(from, b"\0\x05\0\0server busy\0");
         }
+        let first = ack(self.alloc, 0)?;
+        let end = End::Receiving {
+            file: Vec::new(self.alloc),
+            count: 0,
+            misses: 0,
+        };
+        self.open(spare, from, end, first)
+    }
+
+    fn on_read(&mut self, spare: u16, from: Endpoint, name: &[u8]) -> Result<Said, Fail> {
+        if name == b"lynx.tws".as_slice() {
+            return self.on_named(spare, from, Ruleset::Lynx);
+        }
+        if name == b"ms.tws".as_slice() {
+            return self.on_named(spare, from, Ruleset::Ms);
+        }
+        self.refuse(from, b"\0\x05\0\x01no such file\0")
+    }
+
+    fn on_named(&mut self, spare: u16, from: Endpoint, ruleset: Ruleset) -> Result<Said, Fail> {
+        if self.live.len() == 64 {
+            return self.refuse(from, b"\0\x05\0\0server busy\0");
+        }
+        let text = self.text(ruleset)?;
         if text.len() > MAX_FILE {
             return self.refuse(from, b"\0\x05\0\0collection too long\0");
         }
+        self.send(spare, from, text)
+    }
+
+    // Opens a transfer that sends this text.
+    fn send(&mut self, spare: u16, from: Endpoint, text: Vec<u8>) -> Result<Said, Fail> {
         let first = data(self.alloc, &text, 1)?;
         let end = End::Sending {
             text,
@@ -296,16 +306,16 @@ impl Plain {
             Some(transfer) => transfer.peer == from,
             None => false,
         };
-        match parse(self.alloc, bytes)? {
+        match parse(bytes) {
             Packet::Malformed => Ok(silent()),
-            Packet::Error if is_peer => self.close(i, None),
+            Packet::Error if is_peer => Ok(self.close(i)),
             Packet::Error => Ok(silent()),
             _ if !is_peer => {
                 let error = b"\0\x05\0\x05unknown transfer\0";
                 Ok(says(port, from, Vec::from_slice(self.alloc, error)?))
             }
             Packet::Ack { n } => self.on_ack(i, n),
-            Packet::Data { n, body } => self.on_data(i, n, &body, keeps),
+            Packet::Data { n, body } => self.on_data(i, n, body, keeps),
             Packet::Read { .. } | Packet::Write { .. } => Ok(silent()),
         }
     }
@@ -326,7 +336,7 @@ impl Plain {
             return Ok(silent());
         }
         if n == text.len() / 512 + 1 {
-            return self.close(i, None);
+            return Ok(self.close(i));
         }
         *block = n.wrapping_add(1);
         *misses = 0;
@@ -346,7 +356,7 @@ impl Plain {
                 misses,
             } if n == count.wrapping_add(1) => {
                 if n == 65535 && body.len() == 512 {
-                    return self.close(i, Some(b"\0\x05\0\x03file too long\0"));
+                    return self.fail(i, port, peer, b"\0\x05\0\x03file too long\0");
                 }
                 file.extend_from_slice(body)?;
                 *count = n;
@@ -405,19 +415,32 @@ impl Plain {
         }))
     }
 
+    // Merges a file, if it is one. Returns what the keeper is given.
+    fn merge_file(&mut self, file: &[u8], keeps: bool) -> Result<Option<Keeping>, Fail> {
+        match read(self.alloc, file)? {
+            Some((ruleset, solutions)) => self.merge(ruleset, solutions, keeps),
+            None => Ok(None),
+        }
+    }
+
     // Handles the whole file of the transfer at this place of the list.
     fn on_file(&mut self, i: usize, n: usize, file: Vec<u8>, keeps: bool) -> Result<Said, Fail> {
-        let kept = match read(self.alloc, &file)? {
-            Some((ruleset, solutions)) => self.merge(ruleset, solutions, keeps)?,
-            None => None,
-        };
-        let mut said = if kept.is_some() && !keeps {
-            self.close(i, Some(b"\0\x05\0\0not kept\0"))?
-        } else {
-            self.take(i, n, file)?
-        };
+        let kept = self.merge_file(&file, keeps)?;
+        let mut said = self.end_file(i, n, file, kept.is_some() && !keeps)?;
         said.kept = kept;
         Ok(said)
+    }
+
+    // Takes that file, or ends its transfer if it was not kept.
+    fn end_file(&mut self, i: usize, n: usize, file: Vec<u8>, unkept: bool) -> Result<Said, Fail> {
+        if !unkept {
+            return self.take(i, n, file);
+        }
+        let Some(transfer) = self.live.get(i) else {
+            return Ok(silent());
+        };
+        let (port, peer) = (transfer.port, transfer.peer);
+        self.fail(i, port, peer, b"\0\x05\0\0not kept\0")
     }
 
     // Takes the file of the transfer at this place of the list.
@@ -447,7 +470,7 @@ impl Plain {
             End::Waiting { misses, .. } => (misses, 1),
         };
         if *misses == most {
-            return self.close(i, None);
+            return Ok(self.close(i));
         }
         *misses = misses.wrapping_add(1);
         match &transfer.end {

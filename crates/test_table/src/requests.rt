@@ -71,7 +71,7 @@ fn answers(
     then: Then<'_>,
 ) -> Result<bool, Fail> {
     let step = archive.ask(spare, client(2), bytes)?;
-    is_wanted(alloc, &step, then)
+    Ok(is_wanted(alloc, &step, then))
 }
 
 // Whether the first `count` bytes of the request have no effect, or open a transfer once they have the byte that ends

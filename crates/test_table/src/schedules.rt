@@ -32,7 +32,7 @@ struct Both {
     plain: Plain,
 }
 
-fn is_said(alloc: Global, step: &Step, said: &Said) -> Result<bool, Fail> {
+fn is_said(alloc: Global, step: &Step, said: &Said) -> bool {
     let out = match &said.out {
         Some((port, to, bytes)) => Some((*port, *to, bytes.as_slice())),
         None => None,
@@ -77,12 +77,20 @@ fn has_ports(archive: &Archive, plain: &Plain) -> bool {
     table.next_port(after).is_none() && table.live() == plain.live.len()
 }
 
+fn has_text(
+    alloc: Global,
+    archive: &Archive,
+    plain: &Plain,
+    ruleset: Ruleset,
+) -> Result<bool, Fail> {
+    let text = plain.text(ruleset)?;
+    Ok(archive.has_text(alloc, ruleset, &text))
+}
+
 fn has_texts(alloc: Global, archive: &Archive, plain: &Plain) -> Result<bool, Fail> {
-    let lynx = archive.text(alloc, Ruleset::Lynx)?;
-    let ms = archive.text(alloc, Ruleset::Ms)?;
     Ok(
-        lynx.as_slice() == plain.text(Ruleset::Lynx)?.as_slice()
-            && ms.as_slice() == plain.text(Ruleset::Ms)?.as_slice(),
+        has_text(alloc, archive, plain, Ruleset::Lynx)?
+            && has_text(alloc, archive, plain, Ruleset::Ms)?,
     )
 }
 
@@ -129,26 +137,21 @@ impl Counts {
     }
 }
 
-// Gives one input to both.
-fn step(both: &mut Both, input: Input, keeps: bool) -> Result<(Step, Said), Fail> {
-    let Both {
-        archive,
-        keeper,
-        plain,
-    } = both;
+// What the plain server does at an input.
+fn plain_step(plain: &mut Plain, input: &Input, keeps: bool) -> Result<Said, Fail> {
     match input {
-        Input::Ask { spare, from, bytes } => {
-            let said = plain.on_request(spare, from, &bytes)?;
-            Ok((archive.ask(spare, from, &bytes)?, said))
-        }
-        Input::Recv { port, from, bytes } => {
-            let said = plain.on_datagram(port, from, &bytes, keeps)?;
-            Ok((archive.handle(keeper, port, from, &bytes), said))
-        }
-        Input::Wait { port } => {
-            let said = plain.on_timeout(port)?;
-            Ok((archive.wait(port), said))
-        }
+        Input::Ask { spare, from, bytes } => plain.on_request(*spare, *from, bytes),
+        Input::Recv { port, from, bytes } => plain.on_datagram(*port, *from, bytes, keeps),
+        Input::Wait { port } => plain.on_timeout(*port),
+    }
+}
+
+// What the server does at an input.
+fn step(archive: &mut Archive, keeper: &mut MemoryKeeper, input: &Input) -> Result<Step, Fail> {
+    match input {
+        Input::Ask { spare, from, bytes } => archive.ask(*spare, *from, bytes),
+        Input::Recv { port, from, bytes } => Ok(archive.handle(keeper, *port, *from, bytes)),
+        Input::Wait { port } => Ok(archive.wait(*port)),
     }
 }
 
@@ -176,7 +179,19 @@ fn difference(alloc: Global, both: &Both) -> Result<Option<&'static str>, Fail> 
     Ok(None)
 }
 
-// The same after an input: also the step, or what the keeper is given besides its first `before` texts.
+// The same at an input, at which the plain server has done this: also the step, or what the keeper is given.
+fn difference_at(
+    alloc: Global,
+    both: &mut Both,
+    input: &Input,
+    said: &Said,
+) -> Result<Option<&'static str>, Fail> {
+    let before = both.keeper.kept().len();
+    let step = step(&mut both.archive, &mut both.keeper, input)?;
+    difference_after(alloc, both, before, &step, said)
+}
+
+// The same after that step, before which the keeper was given `before` texts.
 fn difference_after(
     alloc: Global,
     both: &Both,
@@ -184,7 +199,7 @@ fn difference_after(
     step: &Step,
     said: &Said,
 ) -> Result<Option<&'static str>, Fail> {
-    if !is_said(alloc, step, said)? {
+    if !is_said(alloc, step, said) {
         return Ok(Some("the server does something else"));
     }
     if !is_given(&both.keeper, before, said) {
@@ -194,11 +209,10 @@ fn difference_after(
 }
 
 // Gives an input to both servers, which must agree on the step, what is kept, the ports and the collections.
-fn agree(alloc: Global, both: &mut Both, input: Input, keeps: bool) -> Result<Said, Fail> {
-    let before = both.keeper.kept().len();
+fn agree(alloc: Global, both: &mut Both, input: &Input, keeps: bool) -> Result<Said, Fail> {
     both.keeper.fail_at(if keeps { 0 } else { 1 });
-    let (step, said) = step(both, input, keeps)?;
-    match difference_after(alloc, both, before, &step, &said)? {
+    let said = plain_step(&mut both.plain, input, keeps)?;
+    match difference_at(alloc, both, input, &said)? {
         Some(what) => Err(Fail::new(what)),
         None => Ok(said),
     }
@@ -233,7 +247,7 @@ fn turn(
     }
     let input = draw(alloc, draws, &both.plain, number, crowded)?;
     let keeps = !draws.once_in(4);
-    counts.count(&agree(alloc, both, input, keeps)?);
+    counts.count(&agree(alloc, both, &input, keeps)?);
     Ok(())
 }
 

@@ -1,9 +1,9 @@
-// A server and clients in one run of rounds, each at a wire in memory: a datagram that one wire has sent arrives at
+// A server and clients in one run of turns, each at a wire in memory: a datagram that one wire has sent arrives at
 // another when the test says so, also more than once.
 use crate::wires::*;
 use archive_client::State;
-use archive_table::{NoKeeper, NoObserver};
-use archive_turns::{Entry, GetRun, MemoryWire, PutRun, Server};
+use archive_table::NoKeeper;
+use archive_turns::{Entry, GetRun, MemoryWire, PutRun, Server, serve_turns};
 use std::alloc::Global;
 use std::test::Fail;
 use test_samples::{
@@ -59,22 +59,20 @@ impl Archive {
         })
     }
 
-    // Carries datagram number `n` of a client here, and makes a round. Returns whether it took a file.
+    // Carries datagram number `n` of a client here, and makes turns, so that each port is visited. Returns how many files
+    // were taken.
     fn take(
         &mut self,
         alloc: Global,
         client: &MemoryWire,
         host: u32,
         n: usize,
-    ) -> Result<bool, Fail> {
+    ) -> Result<u64, Fail> {
         carry(alloc, client, host, n, &mut self.wire)?;
-        Ok(
-            self.server
-                .round(&mut self.wire, &mut NoKeeper, &mut NoObserver),
-        )
+        Ok(serve_turns(&mut self.wire, &mut NoKeeper, &mut self.server, 6))
     }
 
-    // Carries datagram number `n` to a client that puts, which makes a round.
+    // Carries datagram number `n` to a client that puts, which makes a turn.
     fn tell(
         &self,
         alloc: Global,
@@ -83,7 +81,7 @@ impl Archive {
         run: &mut PutRun,
     ) -> Result<(), Fail> {
         carry(alloc, &self.wire, 1, n, client)?;
-        run.round(client);
+        run.turn(client);
         Ok(())
     }
 }
@@ -92,13 +90,13 @@ impl Archive {
 
 // The steps of a put whose request arrives twice, as the number of the datagram that arrives: two answers come, the
 // client stays with the first, and the transfer that it refuses is closed before the block arrives. Returns how many
-// files were taken.
+// files were taken at each datagram.
 fn put_twice(
     alloc: Global,
     archive: &mut Archive,
     client: &mut MemoryWire,
     run: &mut PutRun,
-) -> Result<u8, Fail> {
+) -> Result<[u64; 4], Fail> {
     let first = archive.take(alloc, client, 2, 0)?;
     let again = archive.take(alloc, client, 2, 0)?;
     archive.tell(alloc, 0, client, run)?;
@@ -106,10 +104,7 @@ fn put_twice(
     let refused = archive.take(alloc, client, 2, 2)?;
     let block = archive.take(alloc, client, 2, 1)?;
     archive.tell(alloc, 2, client, run)?;
-    let others = u8::from(first)
-        .wrapping_add(u8::from(again))
-        .wrapping_add(u8::from(refused));
-    Ok(others.wrapping_add(u8::from(block)))
+    Ok([first, again, refused, block])
 }
 
 // Whether each of the two ends has sent its three datagrams, the client the request first.
@@ -122,31 +117,46 @@ fn were_sent_twice(archive: &MemoryWire, client: &MemoryWire) -> bool {
         && sent_last(client, 5000, at(4001), UNKNOWN_TRANSFER)
 }
 
+// Whether the server has taken the file, and only the first of its transfers is live.
+fn has_taken(alloc: Global, server: &Server) -> bool {
+    let table = server.table();
+    table.live() == 1
+        && table.next_port(0) == Some(4000)
+        && has_texts(alloc, table, HUNDRED, EMPTY_MS)
+}
+
+// Whether a put that has sent its request goes so, with this client.
+fn is_put_once(
+    alloc: Global,
+    archive: &mut Archive,
+    client: &mut MemoryWire,
+    run: &mut PutRun,
+) -> Result<bool, Fail> {
+    let taken = put_twice(alloc, archive, client, run)?;
+    Ok(
+        taken == [0, 0, 0, 1]
+            && run.client().state() == State::Sent
+            && has_taken(alloc, &archive.server)
+            && were_sent_twice(&archive.wire, client),
+    )
+}
+
+fn puts_once(alloc: Global, archive: &mut Archive) -> Result<bool, Fail> {
+    let mut client = wire_of(alloc, &[5000])?;
+    let mut run = begun_put(alloc, &mut client, HUNDRED)?;
+    is_put_once(alloc, archive, &mut client, &mut run)
+}
+
 #[test]
 fn a_repeated_request(rt: HostRuntime) -> Result<(), Fail> {
-    let alloc = rt.alloc();
-    let mut archive = Archive::new(alloc, &[4000, 4001])?;
-    let mut client = wire_of(alloc, &[5000])?;
-    let mut run = begun_put(&mut client, Vec::from_slice(alloc, HUNDRED)?)?;
-    let taken = put_twice(alloc, &mut archive, &mut client, &mut run)?;
-    let table = archive.server.table();
-    assert_eq!(rt;
-        (
-            taken,
-            run.client().state(),
-            table.live(),
-            table.next_port(0),
-            has_texts(alloc, table, HUNDRED, EMPTY_MS)?,
-            were_sent_twice(&archive.wire, &client)
-        ),
-        (1, State::Sent, 1, Some(4000), true, true)
-    );
+    let mut archive = Archive::new(rt.alloc(), &[4000, 4001])?;
+    assert!(rt; puts_once(rt.alloc(), &mut archive)?);
     Ok(())
 }
 
 // ---- gets that cross a put
 
-// Makes the rounds of a put that has sent its request. The server has sent `answers` datagrams before. Returns whether
+// Makes the turns of a put that has sent its request. The server has sent `answers` datagrams before. Returns whether
 // the file was taken.
 fn finish_put(
     alloc: Global,
@@ -160,7 +170,7 @@ fn finish_put(
     archive.tell(alloc, answers, client, run)?;
     let taken = archive.take(alloc, client, host, 1)?;
     archive.tell(alloc, answers.wrapping_add(1), client, run)?;
-    Ok(taken)
+    Ok(taken == 1)
 }
 
 // Puts a file. Whether it was taken, and the client knows.
@@ -172,7 +182,7 @@ fn puts(
     answers: usize,
 ) -> Result<bool, Fail> {
     let mut client = wire_of(alloc, &[5000])?;
-    let mut run = begun_put(&mut client, Vec::from_slice(alloc, file)?)?;
+    let mut run = begun_put(alloc, &mut client, file)?;
     let taken = finish_put(alloc, archive, &mut client, &mut run, host, answers)?;
     Ok(taken && run.client().state() == State::Sent)
 }
@@ -191,6 +201,17 @@ fn asked(
     Ok(run)
 }
 
+// Whether a get has this file.
+fn has_file(alloc: Global, run: &GetRun, file: &[u8]) -> bool {
+    match run.client().file() {
+        Some(got) => match got.to_vec(alloc) {
+            Ok(bytes) => bytes.as_slice() == file,
+            Err(_) => false,
+        },
+        None => false,
+    }
+}
+
 // Whether a get that is sent datagram number `n` of the server has this file, and acknowledges it.
 fn has_got(
     alloc: Global,
@@ -202,12 +223,9 @@ fn has_got(
     file: &[u8],
 ) -> Result<bool, Fail> {
     carry(alloc, &archive.wire, 1, n, client)?;
-    run.round(client);
+    run.turn(client);
     let _closed = archive.take(alloc, client, host, 1)?;
-    match run.client().file() {
-        Some(got) => Ok(got.to_vec(alloc)?.as_slice() == file),
-        None => Ok(false),
-    }
+    Ok(has_file(alloc, run, file))
 }
 
 // Gets a collection that is this file, as the server's datagram number `n`.
@@ -233,24 +251,24 @@ fn crosses(alloc: Global, archive: &mut Archive) -> Result<(bool, bool), Fail> {
     Ok((put, got))
 }
 
+// A put, the get and the put that cross, and another get: whether each is right.
+fn gets_around_a_put(alloc: Global, archive: &mut Archive) -> Result<[bool; 4], Fail> {
+    let first = puts(alloc, archive, 2, HUNDRED, 0)?;
+    let (put, got) = crosses(alloc, archive)?;
+    let last = gets(alloc, archive, 5, 5, NINETY)?;
+    Ok([first, put, got, last])
+}
+
 // The next get has the new collection. The server has sent two ACKs for each put and a block for each get, and of the
 // four transfers only those of the puts still wait for a repeated last block.
 #[test]
 fn gets_across_a_put(rt: HostRuntime) -> Result<(), Fail> {
-    let alloc = rt.alloc();
-    let mut archive = Archive::new(alloc, &[4000, 4001, 4002, 4003])?;
-    let first = puts(alloc, &mut archive, 2, HUNDRED, 0)?;
-    let crossed = crosses(alloc, &mut archive)?;
-    let last = gets(alloc, &mut archive, 5, 5, NINETY)?;
+    let mut archive = Archive::new(rt.alloc(), &[4000, 4001, 4002, 4003])?;
+    let got = gets_around_a_put(rt.alloc(), &mut archive)?;
+    let sent = send_count(&archive.wire);
     assert_eq!(rt;
-        (
-            first,
-            crossed,
-            last,
-            send_count(&archive.wire),
-            archive.server.table().live()
-        ),
-        (true, (true, true), true, 6, 2)
+        (got, sent, archive.server.table().live()),
+        ([true; 4], 6, 2)
     );
     Ok(())
 }

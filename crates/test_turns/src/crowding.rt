@@ -32,75 +32,92 @@ fn asked(
     Ok(server.table().live())
 }
 
-#[test]
-fn only_requests_cost_a_port(rt: HostRuntime) -> Result<(), Fail> {
-    let alloc = rt.alloc();
-    let mut wire = wire_of(alloc, &[4000])?;
+// Whether a wire has opened its port.
+fn has_opened(wire: &MemoryWire) -> bool {
+    wire.log().iter().any(|entry| is_opened(entry, Some(4000)))
+}
+
+// Lets junk arrive at a new server, and then a request. Returns whether a port was opened for the junk, and how many
+// transfers are live at the end.
+fn after_junk(alloc: Global, wire: &mut MemoryWire) -> Result<(bool, usize), Fail> {
     let mut server = Server::new(alloc, 6969);
     for junk in [b"".as_slice(), ACK_0, DATA_HUNDRED, UNKNOWN_TRANSFER] {
         wire.arrive(alloc, 6969, ALICE, junk)?;
-        serve_rounds(&mut wire, &mut NoKeeper, &mut NoObserver, &mut server, 1);
+        serve_rounds(wire, &mut NoKeeper, &mut NoObserver, &mut server, 1);
     }
-    let opened = wire.log().iter().any(|entry| is_opened(entry, Some(4000)));
-    let live = asked(alloc, &mut wire, &mut server, 2, 1)?;
-    assert_eq!(rt; (opened, live), (false, 1));
+    let opened = has_opened(wire);
+    Ok((opened, asked(alloc, wire, &mut server, 2, 1)?))
+}
+
+#[test]
+fn only_requests_cost_a_port(rt: HostRuntime) -> Result<(), Fail> {
+    let mut wire = wire_of(rt.alloc(), &[4000])?;
+    assert_eq!(rt; after_junk(rt.alloc(), &mut wire)?, (false, 1));
     Ok(())
+}
+
+// How many transfers are live after five requests of one host, of which three may be live, two of another, and five of
+// this host. Clients at addresses of the loopback range are not counted.
+fn limited(alloc: Global, wire: &mut MemoryWire) -> Result<[usize; 3], Fail> {
+    let mut server = Server::new(alloc, 6969);
+    server.limit_per_host(3);
+    let first = asked(alloc, wire, &mut server, 2, 5)?;
+    let second = asked(alloc, wire, &mut server, 3, 2)?;
+    Ok([
+        first,
+        second,
+        asked(alloc, wire, &mut server, 0x7F00_0001, 5)?,
+    ])
 }
 
 #[test]
 fn one_host_has_so_many_transfers(rt: HostRuntime) -> Result<(), Fail> {
-    let alloc = rt.alloc();
-    let mut wire = wide_wire(alloc)?;
-    let mut server = Server::new(alloc, 6969);
-    server.limit_per_host(3);
-    let first = asked(alloc, &mut wire, &mut server, 2, 5)?;
-    let second = asked(alloc, &mut wire, &mut server, 3, 2)?;
-    // Clients at addresses of the loopback range are not counted.
-    let own = asked(alloc, &mut wire, &mut server, 0x7F00_0001, 5)?;
-    assert_eq!(rt; (first, second, own), (3, 5, 10));
+    let mut wire = wide_wire(rt.alloc())?;
+    assert_eq!(rt; limited(rt.alloc(), &mut wire)?, [3, 5, 10]);
     Ok(())
+}
+
+// Lets a stranger's datagrams arrive at a transfer of a new server, each second. Returns how many transfers are live then.
+fn after_strangers(alloc: Global, wire: &mut MemoryWire) -> Result<usize, Fail> {
+    let mut server = Server::new(alloc, 6969);
+    serve_rounds(wire, &mut NoKeeper, &mut NoObserver, &mut server, 1);
+    for time in [1000, 2000, 3000, 4000, 5000] {
+        wire.set_time(time);
+        wire.set_settled(Some(time));
+        wire.arrive(alloc, 4000, BOB, ACK_0)?;
+        serve_rounds(wire, &mut NoKeeper, &mut NoObserver, &mut server, 1);
+    }
+    Ok(server.table().live())
 }
 
 // A stranger's datagram at a transfer's port is answered, and does not keep the transfer alive.
 #[test]
 fn a_stranger_restarts_no_timer(rt: HostRuntime) -> Result<(), Fail> {
-    let alloc = rt.alloc();
-    let mut wire = request_wire(alloc, 4000)?;
-    let mut server = Server::new(alloc, 6969);
-    serve_rounds(&mut wire, &mut NoKeeper, &mut NoObserver, &mut server, 1);
-    for time in [1000, 2000, 3000, 4000, 5000] {
-        wire.set_time(time);
-        wire.set_settled(Some(time));
-        wire.arrive(alloc, 4000, BOB, ACK_0)?;
-        serve_rounds(&mut wire, &mut NoKeeper, &mut NoObserver, &mut server, 1);
-    }
+    let mut wire = request_wire(rt.alloc(), 4000)?;
+    let live = after_strangers(rt.alloc(), &mut wire)?;
     let answers = sent_times(&wire, 4000, BOB, UNKNOWN_TRANSFER);
     let again = sent_times(&wire, 4000, ALICE, ACK_0);
-    assert_eq!(rt; (answers, again, server.table().live()), (5, 5, 0));
+    assert_eq!(rt; (answers, again, live), (5, 5, 0));
     Ok(())
+}
+
+// Lets a file be taken, and then requests take all other places of a server. Returns how many transfers are live when
+// all have been answered, one round later, and after one more request.
+fn crowded(alloc: Global, wire: &mut MemoryWire, server: &mut Server) -> Result<[usize; 3], Fail> {
+    asked(alloc, wire, server, 2, 1)?;
+    wire.arrive(alloc, 4000, ALICE, DATA_HUNDRED)?;
+    serve_rounds(wire, &mut NoKeeper, &mut NoObserver, server, 1);
+    let full = asked(alloc, wire, server, 3, 63)?;
+    serve_rounds(wire, &mut NoKeeper, &mut NoObserver, server, 1);
+    let left = server.table().live();
+    Ok([full, left, asked(alloc, wire, server, 4, 1)?])
 }
 
 // Once all places are taken, the transfer that has its file gives way, and a request finds its place.
 #[test]
 fn a_dallying_transfer_gives_way(rt: HostRuntime) -> Result<(), Fail> {
-    let alloc = rt.alloc();
-    let mut wire = wide_wire(alloc)?;
-    let mut server = Server::new(alloc, 6969);
-    let first = asked(alloc, &mut wire, &mut server, 2, 1)?;
-    wire.arrive(
-        alloc,
-        4000,
-        Endpoint {
-            host: 2,
-            port: 5000,
-        },
-        DATA_HUNDRED,
-    )?;
-    let taken = serve_rounds(&mut wire, &mut NoKeeper, &mut NoObserver, &mut server, 1);
-    let full = asked(alloc, &mut wire, &mut server, 3, 63)?;
-    serve_rounds(&mut wire, &mut NoKeeper, &mut NoObserver, &mut server, 1);
-    let left = server.table().live();
-    let again = asked(alloc, &mut wire, &mut server, 4, 1)?;
-    assert_eq!(rt; (first, taken, full, left, again), (1, 1, 64, 63, 64));
+    let mut wire = wide_wire(rt.alloc())?;
+    let mut server = Server::new(rt.alloc(), 6969);
+    assert_eq!(rt; crowded(rt.alloc(), &mut wire, &mut server)?, [64, 63, 64]);
     Ok(())
 }

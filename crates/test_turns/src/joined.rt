@@ -115,15 +115,26 @@ fn put(
     server: &mut Server,
     keeper: &mut MemoryKeeper,
     wire: &mut MemoryWire,
-    file: Vec<u8>,
+    file: &[u8],
     times: u8,
 ) -> Result<u64, Fail> {
     let mut line = Line::new(alloc, 5000, wire)?;
-    let mut run = begun_put(&mut line.wire, file)?;
+    let mut run = begun_put(alloc, &mut line.wire, file)?;
     finish_put(alloc, server, keeper, wire, &mut line, &mut run, times)
 }
 
-// Makes turns of a get until it has its file.
+// Whether a client has fetched this file.
+fn has_file(alloc: Global, run: &GetRun, file: &[u8]) -> bool {
+    match run.client().file() {
+        Some(got) => match got.to_vec(alloc) {
+            Ok(bytes) => bytes.as_slice() == file,
+            Err(_) => false,
+        },
+        None => false,
+    }
+}
+
+// Makes turns of a get until it has its file. Returns whether it is this one.
 fn finish_get(
     alloc: Global,
     server: &mut Server,
@@ -132,7 +143,8 @@ fn finish_get(
     line: &mut Line,
     run: &mut GetRun,
     times: u8,
-) -> Result<Vec<u8>, Fail> {
+    file: &[u8],
+) -> Result<bool, Fail> {
     for _ in 0..TURNS {
         let _taken = line.exchange(alloc, server, keeper, wire, times)?;
         run.turn(&mut line.wire);
@@ -140,10 +152,7 @@ fn finish_get(
             break;
         }
     }
-    match run.client().file() {
-        Some(file) => Ok(file.to_vec(alloc)?),
-        None => Err(Fail::new("not fetched")),
-    }
+    Ok(has_file(alloc, run, file))
 }
 
 fn begun_get(alloc: Global, wire: &mut MemoryWire) -> Result<GetRun, Fail> {
@@ -153,84 +162,84 @@ fn begun_get(alloc: Global, wire: &mut MemoryWire) -> Result<GetRun, Fail> {
     }
 }
 
-// Gets the Lynx collection.
-fn get(
+// Gets the Lynx collection. Returns whether it is this file.
+fn gets(
     alloc: Global,
     server: &mut Server,
     keeper: &mut MemoryKeeper,
     wire: &mut MemoryWire,
     times: u8,
-) -> Result<Vec<u8>, Fail> {
+    file: &[u8],
+) -> Result<bool, Fail> {
     let mut line = Line::new(alloc, 5001, wire)?;
     let mut run = begun_get(alloc, &mut line.wire)?;
-    finish_get(alloc, server, keeper, wire, &mut line, &mut run, times)
+    finish_get(
+        alloc, server, keeper, wire, &mut line, &mut run, times, file,
+    )
 }
 
-// What a get fetches from a server after a put of this file, which the server takes once.
-fn get_after_put(
-    alloc: Global,
-    server: &mut Server,
-    keeper: &mut MemoryKeeper,
-    wire: &mut MemoryWire,
-    file: Vec<u8>,
-    times: u8,
-) -> Result<Vec<u8>, Fail> {
-    if put(alloc, server, keeper, wire, file, times)? != 1 {
-        return Err(Fail::new("not taken once"));
-    }
-    get(alloc, server, keeper, wire, times)
-}
-
-// What a get fetches from a server that starts with what the keeper has.
-fn get_after_restart(
+// Whether a new server takes this file once, and a get then fetches `wanted`.
+fn gets_after_put(
     alloc: Global,
     keeper: &mut MemoryKeeper,
     wire: &mut MemoryWire,
     times: u8,
-) -> Result<Vec<u8>, Fail> {
-    let Ok(mut server) = Server::load(alloc, 6969, keeper) else {
-        return Err(Fail::new("not loaded"));
-    };
-    get(alloc, &mut server, keeper, wire, times)
-}
-
-// What gets fetch after a put of this file: from the server that took it, and from the same one after a restart.
-fn fetched(alloc: Global, file: Vec<u8>, times: u8) -> Result<(Vec<u8>, Vec<u8>), Fail> {
-    let mut wire = wire_of(alloc, &[4000, 4001, 4002, 4003, 4004, 4005])?;
-    let mut keeper = MemoryKeeper::new(alloc);
+    file: &[u8],
+    wanted: &[u8],
+) -> Result<bool, Fail> {
     let mut server = Server::new(alloc, 6969);
-    let first = get_after_put(alloc, &mut server, &mut keeper, &mut wire, file, times)?;
-    let second = get_after_restart(alloc, &mut keeper, &mut wire, times)?;
-    Ok((first, second))
+    let taken = put(alloc, &mut server, keeper, wire, file, times)?;
+    Ok(taken == 1 && gets(alloc, &mut server, keeper, wire, times, wanted)?)
+}
+
+// Whether a get fetches this from a server that starts with what the keeper has.
+fn gets_after_restart(
+    alloc: Global,
+    keeper: &mut MemoryKeeper,
+    wire: &mut MemoryWire,
+    times: u8,
+    wanted: &[u8],
+) -> Result<bool, Fail> {
+    match Server::load(alloc, 6969, keeper) {
+        Ok(mut server) => gets(alloc, &mut server, keeper, wire, times, wanted),
+        Err(_) => Ok(false),
+    }
+}
+
+// Whether gets fetch `wanted` after a put of this file: from the server that took it, and from the same one after a
+// restart.
+fn comes_back(
+    alloc: Global,
+    wire: &mut MemoryWire,
+    times: u8,
+    file: &[u8],
+    wanted: &[u8],
+) -> Result<bool, Fail> {
+    let mut keeper = MemoryKeeper::new(alloc);
+    let is_first = gets_after_put(alloc, &mut keeper, wire, times, file, wanted)?;
+    Ok(is_first && gets_after_restart(alloc, &mut keeper, wire, times, wanted)?)
 }
 
 // A put of a file with `size` bytes of records, and both gets. Whether what is fetched is the file, or only its header
 // if its records are too short for a solution.
 fn there_and_back(alloc: Global, size: usize, times: u8) -> Result<bool, Fail> {
     let file = file_of(alloc, size)?;
-    let copy = Vec::from_slice(alloc, file.as_slice())?;
-    let (first, second) = fetched(alloc, copy, times)?;
-    let want = if size < 20 {
+    let wanted = if size < 20 {
         EMPTY_LYNX.as_slice()
     } else {
         file.as_slice()
     };
-    Ok(first.as_slice() == want && second.as_slice() == want)
+    let mut wire = wire_of(alloc, &[4000, 4001, 4002, 4003, 4004, 4005])?;
+    comes_back(alloc, &mut wire, times, &file, wanted)
 }
 
-// With 503 bytes of records the file is one block of 511 bytes.
+// With 503 bytes of records the file is one block of 511 bytes. Each datagram is carried once, and then twice.
 #[test]
 fn files_of_many_sizes(rt: HostRuntime) -> Result<(), Fail> {
-    for size in [0, 1, 503, 504, 511, 512, 513, 100_000] {
-        assert!(rt; there_and_back(rt.alloc(), size, 1)?);
-    }
-    Ok(())
-}
-
-#[test]
-fn files_of_many_sizes_carried_twice(rt: HostRuntime) -> Result<(), Fail> {
-    for size in [0, 1, 511, 512, 513, 100_000] {
-        assert!(rt; there_and_back(rt.alloc(), size, 2)?);
+    for times in [1, 2] {
+        for size in [0, 1, 503, 504, 511, 512, 513, 100_000] {
+            assert!(rt; there_and_back(rt.alloc(), size, times)?, "{size}");
+        }
     }
     Ok(())
 }
@@ -238,37 +247,52 @@ fn files_of_many_sizes_carried_twice(rt: HostRuntime) -> Result<(), Fail> {
 // A Lynx file with a solution without moves for each of 5,000 levels, all but the last in 100 ticks.
 fn five_thousand(alloc: Global, last: u32) -> Result<Vec<u8>, AllocError> {
     let mut text = Vec::from_slice(alloc, EMPTY_LYNX)?;
-    for number in 1..5000u16 {
-        let solution = record(alloc, number, b"BDHP", 0, 100, &[])?;
-        text.extend_from_slice(&solution)?;
+    for number in 1..5001u16 {
+        let ticks = if number == 5000 { last } else { 100 };
+        text.extend_from_slice(&record(alloc, number, b"BDHP", 0, ticks, &[])?)?;
     }
-    let solution = record(alloc, 5000, b"BDHP", 0, last, &[])?;
-    text.extend_from_slice(&solution)?;
     Ok(text)
 }
 
-// Puts one solution onto a collection of 5,000. Returns what is fetched then.
-fn fetched_after_two(alloc: Global) -> Result<Vec<u8>, Fail> {
-    let better = join(
-        alloc,
-        EMPTY_LYNX,
-        &[&record(alloc, 5000, b"BDHP", 0, 90, &[])?],
-    )?;
-    let mut wire = wire_of(alloc, &[4000, 4001, 4002])?;
+// Level 5000 in 90 ticks.
+const BETTER: &[u8; 28] = b"\x35\x33\x9B\x99\x01\0\0\0\x10\0\0\0\x88\x13BDHP\0\0\0\0\0\0\x5A\0\0\0";
+
+// Whether a server takes the file of 5,000 solutions, and then that one.
+fn takes_both(
+    alloc: Global,
+    server: &mut Server,
+    keeper: &mut MemoryKeeper,
+    wire: &mut MemoryWire,
+) -> Result<bool, Fail> {
+    let all = five_thousand(alloc, 100)?;
+    let first = put(alloc, server, keeper, wire, &all, 1)?;
+    let second = put(alloc, server, keeper, wire, BETTER, 1)?;
+    Ok((first, second) == (1, 1))
+}
+
+// Whether a get then fetches the text with the better one.
+fn gets_both(
+    alloc: Global,
+    server: &mut Server,
+    keeper: &mut MemoryKeeper,
+    wire: &mut MemoryWire,
+) -> Result<bool, Fail> {
+    let wanted = five_thousand(alloc, 90)?;
+    gets(alloc, server, keeper, wire, 1, &wanted)
+}
+
+// Whether both are so with a new server and keeper.
+fn are_both_right(alloc: Global, wire: &mut MemoryWire) -> Result<bool, Fail> {
     let mut keeper = MemoryKeeper::new(alloc);
     let mut server = Server::new(alloc, 6969);
-    let all = five_thousand(alloc, 100)?;
-    if put(alloc, &mut server, &mut keeper, &mut wire, all, 1)? != 1 {
-        return Err(Fail::new("not taken once"));
-    }
-    get_after_put(alloc, &mut server, &mut keeper, &mut wire, better, 1)
+    let are_taken = takes_both(alloc, &mut server, &mut keeper, wire)?;
+    Ok(are_taken && gets_both(alloc, &mut server, &mut keeper, wire)?)
 }
 
 // No call is out of memory because a collection is large.
 #[test]
 fn one_of_five_thousand_solutions(rt: HostRuntime) -> Result<(), Fail> {
-    let wanted = five_thousand(rt.alloc(), 90)?;
-    let got = fetched_after_two(rt.alloc())?;
-    assert!(rt; got.as_slice() == wanted.as_slice());
+    let mut wire = wire_of(rt.alloc(), &[4000, 4001, 4002])?;
+    assert!(rt; are_both_right(rt.alloc(), &mut wire)?);
     Ok(())
 }

@@ -20,15 +20,15 @@ fn left(
     taken: u64,
     last: (u16, Endpoint, &[u8]),
     lynx: &[u8],
-) -> Result<Left, Fail> {
+) -> Left {
     let (port, client, bytes) = last;
     let is_sent = sent_last(wire, port, client, bytes);
-    Ok((
+    (
         taken,
         table.live(),
         is_sent,
-        has_texts(alloc, table, lynx, EMPTY_MS)?,
-    ))
+        has_texts(alloc, table, lynx, EMPTY_MS),
+    )
 }
 
 // ---- the server that counts turns
@@ -72,10 +72,10 @@ fn puts_in_turns(
     let taken = put_in_turns(alloc, wire, keeper, server, 4000, ALICE)?;
     let has_refused = has_refused(wire);
     let refused = (4000, ALICE, NOT_KEPT.as_slice());
-    let first = left(alloc, wire, server.table(), taken, refused, EMPTY_LYNX)?;
+    let first = left(alloc, wire, server.table(), taken, refused, EMPTY_LYNX);
     let taken = put_in_turns(alloc, wire, keeper, server, 4001, BOB)?;
     let acked = (4001, BOB, ACK_1.as_slice());
-    let second = left(alloc, wire, server.table(), taken, acked, HUNDRED)?;
+    let second = left(alloc, wire, server.table(), taken, acked, HUNDRED);
     Ok((has_refused, first, second))
 }
 
@@ -119,10 +119,10 @@ fn puts_in_rounds(
 ) -> Result<(Left, Left), Fail> {
     let taken = put_in_rounds(alloc, wire, keeper, server, 4000, ALICE)?;
     let refused = (4000, ALICE, NOT_KEPT.as_slice());
-    let first = left(alloc, wire, server.table(), taken, refused, EMPTY_LYNX)?;
+    let first = left(alloc, wire, server.table(), taken, refused, EMPTY_LYNX);
     let taken = put_in_rounds(alloc, wire, keeper, server, 4001, BOB)?;
     let acked = (4001, BOB, ACK_1.as_slice());
-    let second = left(alloc, wire, server.table(), taken, acked, HUNDRED)?;
+    let second = left(alloc, wire, server.table(), taken, acked, HUNDRED);
     Ok((first, second))
 }
 
@@ -154,7 +154,7 @@ fn keeper_of(alloc: Global, failing: u64) -> Result<MemoryKeeper, Fail> {
 // Why a server does not start; if it does, whether it has both texts.
 fn starts(alloc: Global, failing: u64) -> Result<Result<bool, LoadFault>, Fail> {
     match Server::load(alloc, 6969, &mut keeper_of(alloc, failing)?) {
-        Ok(server) => Ok(Ok(has_texts(alloc, server.table(), HUNDRED, EMPTY_MS)?)),
+        Ok(server) => Ok(Ok(has_texts(alloc, server.table(), HUNDRED, EMPTY_MS))),
         Err(fault) => Ok(Err(fault)),
     }
 }

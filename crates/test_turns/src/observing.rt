@@ -245,20 +245,28 @@ fn steps_of_put() -> [Seen; 7] {
     ]
 }
 
+// Lets an observer see that put to a new server.
+fn watch(
+    alloc: Global,
+    wire: &mut CountedWire<'_>,
+    observer: &mut Collecting<'_>,
+) -> Result<(), Fail> {
+    let mut server = Server::new(alloc, 6969);
+    put(alloc, wire, observer, &mut server)
+}
+
 #[test]
 fn an_observer_is_told_of_each_step(rt: HostRuntime) -> Result<(), Fail> {
-    let alloc = rt.alloc();
     let calls = Cell::new(0);
     let mut wire = CountedWire {
-        wire: wire_of(alloc, &[4001, 4000])?,
+        wire: wire_of(rt.alloc(), &[4001, 4000])?,
         calls: &calls,
     };
     let mut observer = Collecting {
-        seen: Vec::new(alloc),
+        seen: Vec::new(rt.alloc()),
         calls: &calls,
     };
-    let mut server = Server::new(alloc, 6969);
-    put(alloc, &mut wire, &mut observer, &mut server)?;
+    watch(rt.alloc(), &mut wire, &mut observer)?;
     assert_eq!(rt; observer.seen.as_slice(), steps_of_put().as_slice());
     Ok(())
 }

@@ -35,55 +35,58 @@ fn a_get_in_one_turn(rt: HostRuntime) -> Result<(), Fail> {
     Ok(())
 }
 
+// What a get returns that writes into this room.
+fn got_into(alloc: Global, room: &mut [u8]) -> Result<Result<u64, RunFault>, Fail> {
+    let mut wire = answered_wire(alloc)?;
+    let mut out = room;
+    Ok(run_get(alloc, &mut wire, SERVER, Ruleset::Lynx, 1, &mut out))
+}
+
 // Whatever is written before the writer fails is a prefix of the file.
 #[test]
 fn a_get_to_a_writer_that_fails(rt: HostRuntime) -> Result<(), Fail> {
     let file = HUNDRED.as_slice();
     for j in 0..28usize {
-        let mut wire = answered_wire(rt.alloc())?;
         let mut room = [0u8; 28];
-        let mut out = &mut room[..j];
-        let got = run_get(rt.alloc(), &mut wire, SERVER, Ruleset::Lynx, 1, &mut out);
+        let got = got_into(rt.alloc(), &mut room[..j])?;
         assert_eq!(rt; (got, &room[..j]), (Err(RunFault::Write), &file[..j]));
     }
     Ok(())
 }
 
-#[test]
-fn a_put_without_a_port(rt: HostRuntime) -> Result<(), Fail> {
-    let mut wire = wire_of(rt.alloc(), &[5000])?;
-    wire.fail_at(1);
-    let file = Vec::from_slice(rt.alloc(), HUNDRED)?;
-    assert_eq!(rt; run_put(&mut wire, SERVER, file, 9), Err(RunFault::Socket));
-    Ok(())
+// What a put returns that is never answered, and whose `n`-th call of the wire fails, how many datagrams were sent, and
+// how many calls failed.
+fn put_in_vain(
+    alloc: Global,
+    n: u64,
+    turns: u64,
+) -> Result<(Result<u64, RunFault>, usize, u64), Fail> {
+    let file = Vec::from_slice(alloc, HUNDRED)?;
+    let mut wire = wire_of(alloc, &[5000])?;
+    wire.fail_at(n);
+    let answer = run_put(&mut wire, SERVER, file, turns);
+    Ok((answer, send_count(&wire), wire.failures()))
 }
 
-// The request that was lost is sent again in turn 200.
+// The first call is the open, the second the send of the request, which is sent again in turn 200.
 #[test]
-fn a_put_whose_request_is_not_sent(rt: HostRuntime) -> Result<(), Fail> {
-    for (turns, sent) in [(199, 1), (200, 2)] {
-        let mut wire = wire_of(rt.alloc(), &[5000])?;
-        wire.fail_at(2);
-        let file = Vec::from_slice(rt.alloc(), HUNDRED)?;
-        let answer = run_put(&mut wire, SERVER, file, turns);
-        assert_eq!(rt;
-            (answer, send_count(&wire), wire.failures()),
-            (Err(RunFault::Transfer(Cause::TimedOut)), sent, 1)
-        );
+fn a_put_whose_call_fails(rt: HostRuntime) -> Result<(), Fail> {
+    let late = Err(RunFault::Transfer(Cause::TimedOut));
+    for (n, turns, answer, sent) in [
+        (1, 9, Err(RunFault::Socket), 0),
+        (2, 199, late, 1),
+        (2, 200, late, 2),
+    ] {
+        assert_eq!(rt; put_in_vain(rt.alloc(), n, turns)?, (answer, sent, 1));
     }
     Ok(())
 }
 
 #[test]
 fn a_put_that_is_never_answered(rt: HostRuntime) -> Result<(), Fail> {
+    let late = Err(RunFault::Transfer(Cause::TimedOut));
     for (turns, sent) in [(0, 1), (799, 4), (999, 5), (1000, 5)] {
-        let mut wire = wire_of(rt.alloc(), &[5000])?;
-        let file = Vec::from_slice(rt.alloc(), HUNDRED)?;
-        let answer = run_put(&mut wire, SERVER, file, turns);
-        assert_eq!(rt;
-            (answer, send_count(&wire)),
-            (Err(RunFault::Transfer(Cause::TimedOut)), sent)
-        );
+        assert_eq!(rt; put_in_vain(rt.alloc(), 0, turns)?, (late, sent, 0));
     }
     Ok(())
 }

@@ -19,18 +19,20 @@ fn a_put_in_rounds(rt: HostRuntime) -> Result<(), Fail> {
     Ok(())
 }
 
+// What a put returns that is never answered, how many datagrams were sent, and the time at the end.
+fn put_in_vain(alloc: Global, rounds: u64) -> Result<(Result<u64, RunFault>, usize, u64), Fail> {
+    let file = Vec::from_slice(alloc, HUNDRED)?;
+    let mut wire = wire_of(alloc, &[5000])?;
+    let answer = put_in_rounds(&mut wire, SERVER, file, rounds);
+    Ok((answer, send_count(&wire), wire.wait(0, None).time))
+}
+
 // The clock of the wire goes on to each moment that is waited for, so each round is a time-out.
 #[test]
 fn a_put_in_rounds_that_is_never_answered(rt: HostRuntime) -> Result<(), Fail> {
+    let late = Err(RunFault::Transfer(Cause::TimedOut));
     for (rounds, sent, time) in [(0, 1, 0), (1, 2, 1000), (4, 5, 4000), (9, 5, 5000)] {
-        let mut wire = wire_of(rt.alloc(), &[5000])?;
-        let file = Vec::from_slice(rt.alloc(), HUNDRED)?;
-        let answer = put_in_rounds(&mut wire, SERVER, file, rounds);
-        let found = (answer, send_count(&wire), wire.wait(0, None).time);
-        assert_eq!(rt;
-            found,
-            (Err(RunFault::Transfer(Cause::TimedOut)), sent, time)
-        );
+        assert_eq!(rt; put_in_vain(rt.alloc(), rounds)?, (late, sent, time));
     }
     Ok(())
 }
@@ -42,21 +44,25 @@ fn dallied(alloc: Global, wire: &mut MemoryWire, run: &mut GetRun) -> Result<(us
     Ok((send_count(wire), wire.wait(0, None).time))
 }
 
+// Gets the file and dallies. Returns also how many bytes it has.
+fn got_and_dallied(
+    alloc: Global,
+    wire: &mut MemoryWire,
+    out: &mut Vec<u8>,
+) -> Result<(u64, (usize, u64)), Fail> {
+    match get_in_rounds(alloc, wire, SERVER, Ruleset::Lynx, 1, out) {
+        Ok((len, mut run)) => Ok((len, dallied(alloc, wire, &mut run)?)),
+        Err(_) => Err(Fail::new("not got")),
+    }
+}
+
 // A get writes its file in the round in which it has it. It ends 250 milliseconds after the repeated block.
 #[test]
 fn a_get_in_rounds(rt: HostRuntime) -> Result<(), Fail> {
     let mut wire = wire_of(rt.alloc(), &[5000])?;
     wire.arrive(rt.alloc(), 5000, at(4000), DATA_HUNDRED)?;
     let mut out = Vec::new(rt.alloc());
-    match get_in_rounds(rt.alloc(), &mut wire, SERVER, Ruleset::Lynx, 1, &mut out) {
-        Ok((len, mut run)) => {
-            let end = dallied(rt.alloc(), &mut wire, &mut run)?;
-            assert_eq!(rt;
-                (len, out.as_slice(), end),
-                (28, HUNDRED.as_slice(), (3, 250))
-            );
-        }
-        Err(_) => return Err(Fail::new("not got")),
-    }
+    let got = got_and_dallied(rt.alloc(), &mut wire, &mut out)?;
+    assert_eq!(rt; (got, out.as_slice()), ((28, (3, 250)), HUNDRED.as_slice()));
     Ok(())
 }

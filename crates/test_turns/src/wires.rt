@@ -26,7 +26,8 @@ pub(crate) fn put_wire(alloc: Global, opens: u16) -> Result<MemoryWire, Fail> {
 }
 
 // A put of a file that has sent its request.
-pub(crate) fn begun_put(wire: &mut MemoryWire, file: Vec<u8>) -> Result<PutRun, Fail> {
+pub(crate) fn begun_put(alloc: Global, wire: &mut MemoryWire, file: &[u8]) -> Result<PutRun, Fail> {
+    let file = Vec::from_slice(alloc, file)?;
     match PutRun::begin(wire, SERVER, file) {
         Ok(run) => Ok(run),
         Err(_) => Err(Fail::new("not begun")),
@@ -113,18 +114,14 @@ pub(crate) fn sent_last(wire: &MemoryWire, from: u16, to: Endpoint, what: &[u8])
     last
 }
 
+fn has_text(alloc: Global, table: &Table, ruleset: Ruleset, text: &[u8]) -> bool {
+    let mut out = Vec::new(alloc);
+    table.collection(ruleset).write_text(&mut out).is_ok() && out.as_slice() == text
+}
+
 // Whether the collections of a server have these texts.
-pub(crate) fn has_texts(
-    alloc: Global,
-    table: &Table,
-    lynx: &[u8],
-    ms: &[u8],
-) -> Result<bool, Fail> {
-    let mut one = Vec::new(alloc);
-    let mut other = Vec::new(alloc);
-    table.collection(Ruleset::Lynx).write_text(&mut one)?;
-    table.collection(Ruleset::Ms).write_text(&mut other)?;
-    Ok(one.as_slice() == lynx && other.as_slice() == ms)
+pub(crate) fn has_texts(alloc: Global, table: &Table, lynx: &[u8], ms: &[u8]) -> bool {
+    has_text(alloc, table, Ruleset::Lynx, lynx) && has_text(alloc, table, Ruleset::Ms, ms)
 }
 
 // Whether a keeper was given the text of HUNDRED for Lynx once for each of `wanted`, and kept it each time or not, as that

@@ -1,5 +1,0 @@
-use Rattle.tws_file.specs.Reader.{HasAtMost}
-use Rattle.test_refusals.proofs.files.read_cut.Given as goal
-
-abbrev pub invariant-loop-i : goal.invariant-loop-i
-invariant-loop-i l = HasAtMost l.reader l.i
