@@ -1,42 +1,20 @@
 // Given files, and what is kept of them. The expected texts are written out by hand.
 use std::alloc::Global;
 use std::test::Fail;
-use test_samples::{EMPTY_LYNX, EMPTY_MS, HUNDRED, NINETY, join, record, steps};
+use test_samples::{EMPTY_LYNX, EMPTY_MS, HUNDRED, NINETY, join, record};
 use tws_best::Collection;
-use tws_file::{Key, Ruleset, read_file};
+use tws_file::{Ruleset, read_file};
 
 // Level 2 in 20 ticks, a pad, and level 1 in 10 ticks; then the text that is kept of it.
-const UNORDERED: [u8; 52] = [
-    0x35, 0x33, 0x9B, 0x99, 1, 0, 0, 0, 0x10, 0, 0, 0, 2, 0, 0x42, 0x42, 0x42, 0x42, 0, 0, 0, 0, 0,
-    0, 0x14, 0, 0, 0, 0, 0, 0, 0, 0x10, 0, 0, 0, 1, 0, 0x43, 0x43, 0x43, 0x43, 0, 0, 0, 0, 0, 0,
-    0x0A, 0, 0, 0,
-];
+const UNORDERED: &[u8; 52] =
+    b"\x35\x33\x9B\x99\x01\0\0\0\x10\0\0\0\x02\0BBBB\0\0\0\0\0\0\x14\0\0\0\0\0\0\0\x10\0\0\0\x01\0CCCC\0\0\0\0\0\0\x0A\0\0\0";
 
-const ORDERED: [u8; 48] = [
-    0x35, 0x33, 0x9B, 0x99, 1, 0, 0, 0, 0x10, 0, 0, 0, 1, 0, 0x43, 0x43, 0x43, 0x43, 0, 0, 0, 0, 0,
-    0, 0x0A, 0, 0, 0, 0x10, 0, 0, 0, 2, 0, 0x42, 0x42, 0x42, 0x42, 0, 0, 0, 0, 0, 0, 0x14, 0, 0, 0,
-];
+const ORDERED: &[u8; 48] =
+    b"\x35\x33\x9B\x99\x01\0\0\0\x10\0\0\0\x01\0CCCC\0\0\0\0\0\0\x0A\0\0\0\x10\0\0\0\x02\0BBBB\0\0\0\0\0\0\x14\0\0\0";
 
-// The record of level 1, BDHP, with `count` moves of one byte each.
-fn level_1(alloc: Global, ticks: u32, count: usize) -> Result<Vec<u8>, Fail> {
-    Ok(record(alloc, 1, b"BDHP", 0, ticks, &steps(alloc, count)?)?)
-}
-
-// A file with one record: level 1, BDHP, with 100 ticks.
-fn file_of_level_1(alloc: Global, seed: u32, moves: &[u8]) -> Result<Vec<u8>, Fail> {
-    let record = record(alloc, 1, b"BDHP", seed, 100, moves)?;
-    Ok(join(alloc, EMPTY_LYNX, &[&record])?)
-}
-
-// A file of solutions without moves, each with this number, password and ticks.
-fn solutions(alloc: Global, rows: &[(u16, [u8; 4], u32)]) -> Result<Vec<u8>, Fail> {
-    let mut text = Vec::from_slice(alloc, EMPTY_LYNX)?;
-    for (number, password, ticks) in rows {
-        let record = record(alloc, *number, password, 0, *ticks, &[])?;
-        text.extend_from_slice(&record)?;
-    }
-    Ok(text)
-}
+// The same with level 1, BDHP, whose password comes before CCCC.
+const THREE: &[u8; 68] =
+    b"\x35\x33\x9B\x99\x01\0\0\0\x10\0\0\0\x01\0BDHP\0\0\0\0\0\0\x64\0\0\0\x10\0\0\0\x01\0CCCC\0\0\0\0\0\0\x0A\0\0\0\x10\0\0\0\x02\0BBBB\0\0\0\0\0\0\x14\0\0\0";
 
 pub(crate) fn load(alloc: Global, text: &[u8]) -> Result<Collection, Fail> {
     Ok(Collection::load(alloc, &read_file(alloc, text)?)?)
@@ -52,32 +30,13 @@ pub(crate) fn has_text(alloc: Global, collection: &Collection, wanted: &[u8]) ->
     collection.write_text(&mut text).is_ok() && text.as_slice() == wanted
 }
 
-// Whether the files, merged in this order into a collection of this ruleset, result in this text.
-fn are_merged_to(
-    alloc: Global,
-    ruleset: Ruleset,
-    files: &[&[u8]],
-    wanted: &[u8],
-) -> Result<bool, Fail> {
-    let mut collection = Collection::new(alloc, ruleset);
+// Whether the files, merged in this order into a collection of Lynx, result in this text.
+fn are_merged_to(alloc: Global, files: &[&[u8]], wanted: &[u8]) -> Result<bool, Fail> {
+    let mut collection = Collection::new(alloc, Ruleset::Lynx);
     for file in files {
         merge(alloc, &mut collection, file)?;
     }
     Ok(has_text(alloc, &collection, wanted))
-}
-
-#[test]
-fn a_collection_of_no_file(rt: HostRuntime) {
-    let collection = Collection::new(rt.alloc(), Ruleset::Lynx);
-    assert!(rt; collection.is_empty());
-    assert!(rt; has_text(rt.alloc(), &collection, EMPTY_LYNX));
-}
-
-#[test]
-fn a_collection_that_is_loaded(rt: HostRuntime) -> Result<(), Fail> {
-    let loaded = load(rt.alloc(), HUNDRED)?;
-    assert!(rt; has_text(rt.alloc(), &loaded, HUNDRED));
-    Ok(())
 }
 
 // Merges four files after the one with 100 ticks, and returns whether only the second changed the collection.
@@ -118,61 +77,40 @@ fn answers_of_merges(rt: HostRuntime) -> Result<(), Fail> {
     Ok(())
 }
 
+// Merges files into a collection of the one with 100 ticks. Returns whether an early copy of it still has that one.
+fn keeps_early_copy(alloc: Global, collection: &mut Collection) -> Result<bool, Fail> {
+    let early = collection.copy()?;
+    let is_changed = second_alone_changes(alloc, collection)?;
+    Ok(is_changed && has_text(alloc, &early, HUNDRED))
+}
+
 #[test]
 fn copies_stay(rt: HostRuntime) -> Result<(), Fail> {
     let mut collection = load(rt.alloc(), HUNDRED)?;
-    let early = collection.copy()?;
-    let is_changed = second_alone_changes(rt.alloc(), &mut collection)?;
-    let stays = has_text(rt.alloc(), &early, HUNDRED);
-    assert_eq!(rt; (is_changed, stays), (true, true));
+    assert!(rt; keeps_early_copy(rt.alloc(), &mut collection)?);
     Ok(())
 }
 
 #[test]
 fn records_in_order(rt: HostRuntime) -> Result<(), Fail> {
-    let mut collection = load(rt.alloc(), &UNORDERED)?;
-    let is_ordered = has_text(rt.alloc(), &collection, &ORDERED);
-    let before = figures(&collection);
-    let is_changed = merge(rt.alloc(), &mut collection, HUNDRED)?;
-    assert_eq!(rt;
-        (is_ordered, before, is_changed, figures(&collection)),
-        (true, (2, 48, Ruleset::Lynx), true, (3, 68, Ruleset::Lynx))
+    let mut collection = load(rt.alloc(), UNORDERED)?;
+    let before = (
+        has_text(rt.alloc(), &collection, ORDERED),
+        figures(&collection),
     );
-    // Of the two solutions of level 1, BDHP comes before CCCC.
-    let three = join(rt.alloc(), HUNDRED, &[&ORDERED[8..]])?;
-    assert!(rt; has_text(rt.alloc(), &collection, &three));
-    Ok(())
-}
-
-#[test]
-fn records_by_key(rt: HostRuntime) -> Result<(), Fail> {
-    let mut collection = load(rt.alloc(), &UNORDERED)?;
     let is_changed = merge(rt.alloc(), &mut collection, HUNDRED)?;
-    let key = Key {
-        number: 2,
-        password: *b"BBBB",
-    };
-    let other = Key {
-        number: 2,
-        password: *b"CCCC",
-    };
-    assert_eq!(rt;
-        (is_changed, collection.get(key), collection.get(other)),
-        (true, Some(&ORDERED[32..]), None)
+    let after = (
+        has_text(rt.alloc(), &collection, THREE),
+        figures(&collection),
     );
-    Ok(())
-}
-
-#[test]
-fn long_texts(rt: HostRuntime) -> Result<(), Fail> {
-    // More bytes than are gathered before any are written.
-    let mut text = Vec::from_slice(rt.alloc(), EMPTY_LYNX)?;
-    let moves = steps(rt.alloc(), 9000)?;
-    for number in 1..10u16 {
-        let record = record(rt.alloc(), number, b"AAAA", 0, 0, &moves)?;
-        text.extend_from_slice(&record)?;
-    }
-    assert!(rt; are_merged_to(rt.alloc(), Ruleset::Lynx, &[&text], &text)?);
+    assert_eq!(rt;
+        (before, is_changed, after),
+        (
+            (true, (2, 48, Ruleset::Lynx)),
+            true,
+            (true, (3, 68, Ruleset::Lynx))
+        )
+    );
     Ok(())
 }
 
@@ -188,60 +126,69 @@ fn all_orders_give(alloc: Global, files: [&[u8]; 3], wanted: &[u8]) -> Result<bo
         [c, b, a],
     ];
     for order in orders {
-        if !are_merged_to(alloc, Ruleset::Lynx, &order, wanted)? {
+        if !are_merged_to(alloc, &order, wanted)? {
             return Ok(false);
         }
     }
     Ok(true)
 }
 
-fn long_file(alloc: Global) -> Result<Vec<u8>, Fail> {
-    file_of_level_1(alloc, 0, &[1; 4])
-}
+// Level 1 in 100 ticks, with four moves and with two.
+const LONG: &[u8; 32] =
+    b"\x35\x33\x9B\x99\x01\0\0\0\x14\0\0\0\x01\0BDHP\0\0\0\0\0\0\x64\0\0\0\x01\x01\x01\x01";
 
-fn short_file(alloc: Global) -> Result<Vec<u8>, Fail> {
-    file_of_level_1(alloc, 0, &[1; 2])
-}
+const SHORT: &[u8; 30] =
+    b"\x35\x33\x9B\x99\x01\0\0\0\x12\0\0\0\x01\0BDHP\0\0\0\0\0\0\x64\0\0\0\x01\x01";
 
-fn fast_file(alloc: Global) -> Result<Vec<u8>, Fail> {
-    let record = level_1(alloc, 99, 384)?;
-    Ok(join(alloc, EMPTY_LYNX, &[&record])?)
-}
+// The same in 99 ticks, before its 384 moves.
+const FAST_HEAD: &[u8; 28] =
+    b"\x35\x33\x9B\x99\x01\0\0\0\x90\x01\0\0\x01\0BDHP\0\0\0\0\0\0\x63\0\0\0";
 
+// Without moves, with the seeds 1 and 256. As numbers, 1 is below 256; their bytes in a file are 01 00 00 00 and
+// 00 01 00 00.
+const SEED_1: &[u8; 28] = b"\x35\x33\x9B\x99\x01\0\0\0\x10\0\0\0\x01\0BDHP\0\0\x01\0\0\0\x64\0\0\0";
+
+const SEED_256: &[u8; 28] =
+    b"\x35\x33\x9B\x99\x01\0\0\0\x10\0\0\0\x01\0BDHP\0\0\0\x01\0\0\x64\0\0\0";
+
+// Fewer ticks, then fewer bytes, then the bytes in order.
 #[test]
-fn fewer_ticks(rt: HostRuntime) -> Result<(), Fail> {
-    let long = long_file(rt.alloc())?;
-    let short = short_file(rt.alloc())?;
-    let fast = fast_file(rt.alloc())?;
-    assert!(rt; all_orders_give(rt.alloc(), [&long, &short, &fast], &fast)?);
+fn the_best_in_any_order(rt: HostRuntime) -> Result<(), Fail> {
+    let mut fast = [1; 412];
+    fast[..28].copy_from_slice(FAST_HEAD);
+    let rows: [([&[u8]; 3], &[u8]); 3] = [
+        ([LONG, SHORT, &fast], &fast),
+        ([LONG, SHORT, LONG], SHORT),
+        ([SEED_1, SEED_256, SEED_1], SEED_256),
+    ];
+    for (files, wanted) in rows {
+        assert!(rt; all_orders_give(rt.alloc(), files, wanted)?);
+    }
     Ok(())
 }
 
-#[test]
-fn shorter_in_as_many_ticks(rt: HostRuntime) -> Result<(), Fail> {
-    let long = long_file(rt.alloc())?;
-    let short = short_file(rt.alloc())?;
-    assert!(rt; all_orders_give(rt.alloc(), [&long, &short, &long], &short)?);
-    Ok(())
+// Solutions without moves, each with this number, password and ticks.
+type Row = (u16, [u8; 4], u32);
+
+fn file_of(alloc: Global, rows: &[Row]) -> Result<Vec<u8>, Fail> {
+    let mut text = Vec::from_slice(alloc, EMPTY_LYNX)?;
+    for (number, password, ticks) in rows {
+        text.extend_from_slice(&record(alloc, *number, password, 0, *ticks, &[])?)?;
+    }
+    Ok(text)
 }
 
-// As numbers, 1 is below 256. Their bytes in a file are 01 00 00 00 and 00 01 00 00.
-#[test]
-fn bytes_and_not_numbers(rt: HostRuntime) -> Result<(), Fail> {
-    let one = file_of_level_1(rt.alloc(), 1, &[])?;
-    let more = file_of_level_1(rt.alloc(), 256, &[])?;
-    assert!(rt; all_orders_give(rt.alloc(), [&one, &more, &one], &more)?);
-    Ok(())
+fn merge_rows(alloc: Global, collection: &mut Collection, rows: &[Row]) -> Result<bool, Fail> {
+    let text = file_of(alloc, rows)?;
+    merge(alloc, collection, &text)
 }
 
-#[test]
-fn a_last_byte_that_differs(rt: HostRuntime) -> Result<(), Fail> {
-    let low = file_of_level_1(rt.alloc(), 1, &[1, 1])?;
-    let high = file_of_level_1(rt.alloc(), 1, &[1, 0x61])?;
-    assert!(rt; all_orders_give(rt.alloc(), [&high, &low, &high], &low)?);
-    Ok(())
+fn has_rows(alloc: Global, collection: &Collection, rows: &[Row]) -> Result<bool, Fail> {
+    let text = file_of(alloc, rows)?;
+    Ok(has_text(alloc, collection, &text))
 }
 
+// Keys are in the order of their numbers, and then of the bytes of their passwords.
 #[test]
 fn keys_that_are_close(rt: HostRuntime) -> Result<(), Fail> {
     let capital = (255, *b"ABCD", 9);
@@ -249,31 +196,16 @@ fn keys_that_are_close(rt: HostRuntime) -> Result<(), Fail> {
     let seven = (256, [0x41, 0x42, 0x43, 0x7F], 7);
     let eight = (256, [0x41, 0x42, 0x43, 0x80], 6);
     let last = (65535, [0xFF, 0xFF, 0xFF, 0xFF], 5);
-    let wanted = solutions(rt.alloc(), &[capital, small, seven, eight, last])?;
-    let first = solutions(rt.alloc(), &[last, small])?;
-    let second = solutions(rt.alloc(), &[eight, capital])?;
-    let third = solutions(rt.alloc(), &[seven, last])?;
-    assert!(rt; all_orders_give(rt.alloc(), [&first, &second, &third], &wanted)?);
-    Ok(())
-}
-
-// A file that is its own best, and the same file three times.
-#[test]
-fn the_same_file_again(rt: HostRuntime) -> Result<(), Fail> {
-    let once = are_merged_to(rt.alloc(), Ruleset::Lynx, &[&ORDERED], &ORDERED)?;
-    let thrice = all_orders_give(rt.alloc(), [&ORDERED, &ORDERED, &ORDERED], &ORDERED)?;
-    assert_eq!(rt; (once, thrice), (true, true));
-    Ok(())
-}
-
-// A record that is worse than the one that is kept for its key.
-#[test]
-fn nothing_better(rt: HostRuntime) -> Result<(), Fail> {
-    let worse = solutions(rt.alloc(), &[(1, *b"CCCC", 11)])?;
-    let stays = all_orders_give(rt.alloc(), [&ORDERED, &worse, &worse], &ORDERED)?;
-    let mut collection = load(rt.alloc(), &ORDERED)?;
-    let is_changed = merge(rt.alloc(), &mut collection, &worse)?;
-    assert_eq!(rt; (stays, is_changed), (true, false));
+    let mut collection = Collection::new(rt.alloc(), Ruleset::Lynx);
+    merge_rows(rt.alloc(), &mut collection, &[last, small, eight])?;
+    merge_rows(rt.alloc(), &mut collection, &[capital, seven, last])?;
+    assert!(rt;
+        has_rows(
+            rt.alloc(),
+            &collection,
+            &[capital, small, seven, eight, last]
+        )?
+    );
     Ok(())
 }
 
@@ -289,7 +221,7 @@ const BARE: [u8; 10] = [6, 0, 0, 0, 1, 0, 0x42, 0x44, 0x48, 0x50];
 // Whether a file of these records results in a collection with this text.
 fn is_kept_as(alloc: Global, records: &[&[u8]], wanted: &[u8]) -> Result<bool, Fail> {
     let text = join(alloc, EMPTY_LYNX, records)?;
-    are_merged_to(alloc, Ruleset::Lynx, &[&text], wanted)
+    are_merged_to(alloc, &[&text], wanted)
 }
 
 #[test]

@@ -1,12 +1,11 @@
 // Large inputs, which would show a limit that no contract names.
 use crate::collections::{load, merge};
-use byte_output::put;
+use crate::files::is_packed_to;
 use std::alloc::Global;
-use std::io::{self, Write};
 use std::test::Fail;
 use test_samples::{EMPTY_LYNX, record};
 use tws_best::Collection;
-use tws_file::{Ruleset, pack, read_file, write_file};
+use tws_file::Ruleset;
 use tws_moves::{
     Act, Move, SpellFault, check_moves, is_timed, pack_moves, read_moves, write_moves,
 };
@@ -17,24 +16,24 @@ fn repeated(alloc: Global, byte: u8, count: usize) -> Result<Vec<u8>, Fail> {
 }
 
 // How many moves are counted and read, and how many bytes they are packed into; `None` for too many bytes.
-fn counts(alloc: Global, bytes: &[u8]) -> Result<Option<(u64, usize, usize)>, Fail> {
+fn counts(alloc: Global, bytes: &[u8]) -> Option<(u64, usize, usize)> {
     if bytes.len() >= 1 << 32 {
-        return Ok(None);
+        return None;
     }
-    let Ok(counted) = check_moves(bytes) else {
-        return Ok(None);
-    };
-    let read = read_moves(alloc, bytes)?.len();
-    let packed = pack_moves(alloc, bytes)?.len();
-    Ok(Some((counted, read, packed)))
+    let counted = check_moves(bytes).ok()?;
+    let read = read_moves(alloc, bytes).ok()?.len();
+    let packed = pack_moves(alloc, bytes).ok()?.len();
+    Some((counted, read, packed))
 }
 
 #[test]
 fn a_hundred_thousand_moves(rt: HostRuntime) -> Result<(), Fail> {
     // Three plain steps share a byte, and the last one is alone.
     let bytes = repeated(rt.alloc(), 0x61, 100_000)?;
-    let some = counts(rt.alloc(), &bytes)?;
-    assert_eq!(rt; some, Some((100_000, 100_000, 33_334)));
+    assert_eq!(rt;
+        counts(rt.alloc(), &bytes),
+        Some((100_000, 100_000, 33_334))
+    );
     Ok(())
 }
 
@@ -54,16 +53,17 @@ fn late_after(alloc: Global, count: u64) -> Result<Vec<Move>, Fail> {
     Ok(moves)
 }
 
+// Whether the last of so many moves comes too late.
+fn is_last_too_late(alloc: Global, count: u64) -> Result<bool, Fail> {
+    let moves = late_after(alloc, count)?;
+    let index = count as usize;
+    Ok(is_timed(&moves) && write_moves(alloc, &moves).err() == Some(SpellFault::TooLate { index }))
+}
+
 #[test]
 fn the_last_of_many_moves_comes_too_late(rt: HostRuntime) -> Result<(), Fail> {
     for count in [1, 256, 65_536] {
-        let moves = late_after(rt.alloc(), count)?;
-        if !is_timed(&moves) {
-            return Err(Fail::new("the ticks do not rise"));
-        }
-        let fault = write_moves(rt.alloc(), &moves).err();
-        let index = count as usize;
-        assert_eq!(rt; fault, Some(SpellFault::TooLate { index }));
+        assert!(rt; is_last_too_late(rt.alloc(), count)?);
     }
     Ok(())
 }
@@ -81,10 +81,7 @@ fn file_with_set(alloc: Global, count: u32) -> Result<Vec<u8>, Fail> {
 #[test]
 fn a_long_record_of_the_set_is_packed_as_it_is(rt: HostRuntime) -> Result<(), Fail> {
     let bytes = file_with_set(rt.alloc(), 70_000)?;
-    let file = pack(rt.alloc(), &read_file(rt.alloc(), &bytes)?)?;
-    let mut out = Vec::new(rt.alloc());
-    write_file(&file, &mut out)?;
-    assert!(rt; out.as_slice() == bytes.as_slice());
+    assert!(rt; is_packed_to(rt.alloc(), &bytes, &bytes)?);
     Ok(())
 }
 
@@ -116,38 +113,5 @@ fn more_solutions_than_numbers_of_levels(rt: HostRuntime) -> Result<(), Fail> {
         (is_changed, count, length),
         (true, 70_000, bytes.len() as u128)
     );
-    Ok(())
-}
-
-// A writer that takes one byte at a time.
-#[derive(Drop)]
-struct Slow {
-    taken: Vec<u8>,
-}
-
-impl Write for Slow {
-    fn write(&mut self, buf: &[u8]) -> io::Result<usize> {
-        match buf {
-            [first, ..] => {
-                self.taken.push(*first)?;
-                Ok(1)
-            }
-            [] => Ok(0),
-        }
-    }
-
-    fn flush(&mut self) -> io::Result<()> {
-        Ok(())
-    }
-}
-
-#[test]
-fn a_byte_at_a_time(rt: HostRuntime) -> Result<(), Fail> {
-    let bytes = repeated(rt.alloc(), 7, 70_000)?;
-    let mut slow = Slow {
-        taken: Vec::new(rt.alloc()),
-    };
-    put(&mut slow, &bytes)?;
-    assert!(rt; slow.taken.as_slice() == bytes.as_slice());
     Ok(())
 }

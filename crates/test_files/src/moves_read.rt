@@ -1,31 +1,32 @@
 // Given bytes and the moves that they spell, and a plain slow reader to compare with.
 ghost use Rattle.std.specs.Prelude.{◌<◌, ◌^◌, length};
 
-use std::alloc::Allocator;
+use std::alloc::Global;
 use std::test::Fail;
 use tws_moves::{Act, Move, MovesFault, check_moves, is_timed, read_moves};
 
-// The moves as plain pairs.
-fn pairs<A: Allocator + Copy>(alloc: A, bytes: &[u8]) -> Result<Vec<(u64, Act), A>, Fail>
-    requires { length bytes.now < 2 ^ 32 }
-{
-    let mut pairs = Vec::new(alloc);
-    for this in &read_moves(alloc, bytes)? {
-        pairs.push((this.at, this.act))?;
+// Whether the moves have these ticks and acts.
+fn are_moves(read: &[Move], moves: &[(u64, Act)]) -> bool {
+    for (this, (at, act)) in read.iter().zip(moves) {
+        if this.at != *at || this.act != *act {
+            return false;
+        }
     }
-    Ok(pairs)
+    read.len() == moves.len()
 }
 
 // Whether these moves are what is read, and their number what is counted.
-fn are_read<A: Allocator + Copy>(alloc: A, bytes: &[u8], moves: &[(u64, Act)]) -> Result<bool, Fail>
+fn are_read(alloc: Global, bytes: &[u8], moves: &[(u64, Act)]) -> bool
     requires { length bytes.now < 2 ^ 32 }
 {
-    let read = pairs(alloc, bytes)?;
-    Ok(read.as_slice() == moves && check_moves(bytes) == Ok(moves.len() as u64))
+    match read_moves(alloc, bytes) {
+        Ok(read) => are_moves(&read, moves) && check_moves(bytes) == Ok(moves.len() as u64),
+        Err(_) => false,
+    }
 }
 
 #[test]
-fn moves_of_each_layout(rt: HostRuntime) -> Result<(), Fail> {
+fn moves_of_each_layout(rt: HostRuntime) {
     let rows: [(&[u8], &[(u64, Act)]); 10] = [
         (&[], &[]),
         (
@@ -57,13 +58,12 @@ fn moves_of_each_layout(rt: HostRuntime) -> Result<(), Fail> {
         ),
     ];
     for (bytes, moves) in rows {
-        assert!(rt; are_read(rt.alloc(), bytes, moves)?);
+        assert!(rt; are_read(rt.alloc(), bytes, moves));
     }
-    Ok(())
 }
 
 // Whether reading and counting return a cut at this place.
-fn is_cut<A: Allocator>(alloc: A, bytes: &[u8], at: u64) -> bool
+fn is_cut(alloc: Global, bytes: &[u8], at: u64) -> bool
     requires { length bytes.now < 2 ^ 32 }
 {
     let fault = MovesFault::Cut { at };
@@ -85,28 +85,13 @@ fn bytes_that_are_cut(rt: HostRuntime) {
 }
 
 #[test]
-fn texts_of_faults(rt: HostRuntime) -> Result<(), Fail> {
-    let texts = [
-        (MovesFault::Cut { at: 4_294_967_294 }, "Cut(4294967294)"),
-        (MovesFault::Memory, "Memory"),
-    ];
-    for (fault, text) in texts {
-        assert_eq!(rt; format!(in rt.alloc(); "{fault}")?.as_str(), text);
-    }
-    Ok(())
-}
-
-#[test]
-fn ticks_that_rise(rt: HostRuntime) -> Result<(), Fail> {
+fn ticks_that_rise(rt: HostRuntime) {
     let step = Act::Step(0);
     let at_3 = Move { at: 3, act: step };
     let at_4 = Move { at: 4, act: step };
-    assert!(rt; is_timed(&[]));
-    assert!(rt; is_timed(&[at_3]));
-    assert!(rt; is_timed(&[at_3, at_4]));
-    assert!(rt; !is_timed(&[at_3, at_3]));
-    assert!(rt; !is_timed(&[at_3, at_4, at_3]));
-    Ok(())
+    let rise = (is_timed(&[]), is_timed(&[at_3]), is_timed(&[at_3, at_4]));
+    let other = (is_timed(&[at_3, at_3]), is_timed(&[at_3, at_4, at_3]));
+    assert_eq!(rt; (rise, other), ((true, true, true), (false, false)));
 }
 
 // ---- the plain slow reader: fields bit by bit, and each tick as a sum from the first wait on
@@ -134,64 +119,70 @@ fn step(bytes: &[u8], low: usize, high: usize) -> Act {
     Act::Step((field(bytes, low, high) % 8) as u8)
 }
 
-// The waits and acts of the piece that the bytes begin with, and its length.
-fn slow_piece<A: Allocator>(alloc: A, bytes: &[u8]) -> Result<(Vec<(u64, Act), A>, usize), Fail> {
-    let mut waits = Vec::new(alloc);
-    let length = match field(bytes, 0, 1) {
-        0 => {
-            waits.push((3, step(bytes, 2, 3)))?;
-            waits.push((3, step(bytes, 4, 5)))?;
-            waits.push((3, step(bytes, 6, 7)))?;
-            1
-        }
-        1 => {
-            waits.push((field(bytes, 5, 7), step(bytes, 2, 4)))?;
-            1
-        }
-        2 => {
-            waits.push((field(bytes, 5, 15), step(bytes, 2, 4)))?;
-            2
-        }
-        _ if bit(bytes, 4) == 0 => {
-            waits.push((field(bytes, 5, 31), step(bytes, 2, 3)))?;
-            4
-        }
+// The waits and acts of a piece, of which the first `count` count, and its length in bytes.
+#[derive(Clone, Copy)]
+struct Piece {
+    waits: [(u64, Act); 3],
+    count: usize,
+    length: usize,
+}
+
+// A piece of one move.
+fn alone(wait: u64, act: Act, length: usize) -> Piece {
+    Piece {
+        waits: [(wait, act); 3],
+        count: 1,
+        length,
+    }
+}
+
+// The piece that the bytes begin with.
+fn slow_piece(bytes: &[u8]) -> Piece {
+    match field(bytes, 0, 1) {
+        0 => Piece {
+            waits: [
+                (3, step(bytes, 2, 3)),
+                (3, step(bytes, 4, 5)),
+                (3, step(bytes, 6, 7)),
+            ],
+            count: 3,
+            length: 1,
+        },
+        1 => alone(field(bytes, 5, 7), step(bytes, 2, 4), 1),
+        2 => alone(field(bytes, 5, 15), step(bytes, 2, 4), 2),
+        _ if bit(bytes, 4) == 0 => alone(field(bytes, 5, 31), step(bytes, 2, 3), 4),
         _ => {
             let length = 2 + (field(bytes, 2, 3) % 4) as usize;
             let code = Act::Code((field(bytes, 5, 13) % 512) as u16);
-            waits.push((field(bytes, 14, 8 * length - 1), code))?;
-            length
+            alone(field(bytes, 14, 8 * length - 1), code, length)
         }
-    };
-    Ok((waits, length))
+    }
 }
 
-// The waits and acts of all pieces, or the place of the one that is cut.
-fn slow_waits<A: Allocator + Copy>(
-    alloc: A,
-    bytes: &[u8],
-) -> Result<Result<Vec<(u64, Act), A>, usize>, Fail> {
-    let mut all = Vec::new(alloc);
+// Adds the waits and acts of all pieces. Returns the place of the piece that is cut, if one is.
+fn add_waits(bytes: &[u8], all: &mut Vec<(u64, Act)>) -> Result<Option<usize>, Fail> {
     let mut from = 0_usize;
     for _ in 0..bytes.len() {
         let Some(rest) = bytes.get(from..) else {
-            return Ok(Err(from));
+            return Ok(Some(from));
         };
         if rest.is_empty() {
-            break;
+            return Ok(None);
         }
-        let (waits, length) = slow_piece(alloc, rest)?;
-        if rest.len() < length {
-            return Ok(Err(from));
+        let piece = slow_piece(rest);
+        if rest.len() < piece.length {
+            return Ok(Some(from));
         }
-        all.extend_from_slice(&waits)?;
-        from = from.saturating_add(length);
+        for wait in piece.waits.iter().take(piece.count) {
+            all.push(*wait)?;
+        }
+        from = from.saturating_add(piece.length);
     }
-    Ok(Ok(all))
+    Ok(None)
 }
 
 // Move number i, counted from 0, is at the sum of the waits up to its own, plus i.
-fn slow_moves<A: Allocator>(alloc: A, waits: &[(u64, Act)]) -> Result<Vec<(u64, Act), A>, Fail> {
+fn slow_moves(alloc: Global, waits: &[(u64, Act)]) -> Result<Vec<(u64, Act)>, Fail> {
     let mut moves = Vec::new(alloc);
     for (i, (_, act)) in waits.iter().enumerate() {
         let mut at = i as u64;
@@ -203,21 +194,23 @@ fn slow_moves<A: Allocator>(alloc: A, waits: &[(u64, Act)]) -> Result<Vec<(u64, 
     Ok(moves)
 }
 
-// Whether both readers, and the count, agree on the bytes.
-fn compare<A: Allocator + Copy>(alloc: A, bytes: &[u8]) -> Result<bool, Fail>
+// Whether the bytes are read as the moves of these waits.
+fn are_read_as(alloc: Global, bytes: &[u8], waits: &[(u64, Act)]) -> Result<bool, Fail>
     requires { length bytes.now < 2 ^ 32 }
 {
-    Ok(match slow_waits(alloc, bytes)? {
-        Ok(waits) => {
-            let moves = slow_moves(alloc, &waits)?;
-            pairs(alloc, bytes)?.as_slice() == moves.as_slice()
-                && check_moves(bytes) == Ok(moves.len() as u64)
-        }
-        Err(at) => {
-            let fault = MovesFault::Cut { at: at as u64 };
-            read_moves(alloc, bytes).err() == Some(fault) && check_moves(bytes) == Err(fault)
-        }
-    })
+    let moves = slow_moves(alloc, waits)?;
+    Ok(are_read(alloc, bytes, &moves))
+}
+
+// Whether both readers, and the count, agree on the bytes.
+fn compare(alloc: Global, bytes: &[u8]) -> Result<bool, Fail>
+    requires { length bytes.now < 2 ^ 32 }
+{
+    let mut waits = Vec::new(alloc);
+    match add_waits(bytes, &mut waits)? {
+        None => are_read_as(alloc, bytes, &waits),
+        Some(at) => Ok(is_cut(alloc, bytes, at as u64)),
+    }
 }
 
 #[test]
@@ -251,7 +244,7 @@ impl Figures {
         self.total = (self.total % 1_000_003 * 31 + value % 1_000_003) % 1_000_003;
     }
 
-    fn add_string<A: Allocator>(&mut self, alloc: A, bytes: &[u8])
+    fn add_string(&mut self, alloc: Global, bytes: &[u8])
         requires { length bytes.now < 2 ^ 32 }
     {
         match read_moves(alloc, bytes) {

@@ -1,38 +1,60 @@
 // Writing moves, and a plain slow program to compare with, which tries every cut.
 ghost use Rattle.std.specs.Prelude.{◌<◌, ◌^◌, length};
 
-use std::alloc::Allocator;
+use std::alloc::Global;
 use std::test::Fail;
 use tws_moves::{Act, Move, MovesFault, SpellFault, is_timed, pack_moves, read_moves, write_moves};
 
-// The moves with these ticks and acts; numbers too large for an act are reduced to its range.
-fn moves_at<A: Allocator>(alloc: A, pairs: &[(u64, Act)]) -> Result<Vec<Move, A>, Fail> {
+// A move with this act; a number that is too large for it is reduced to its range.
+fn move_at(at: u64, act: Act) -> Move {
+    match act {
+        Act::Step(direction) => Move {
+            at,
+            act: Act::Step(direction % 8),
+        },
+        Act::Code(code) => Move {
+            at,
+            act: Act::Code(code % 512),
+        },
+    }
+}
+
+// The moves with these ticks and acts.
+fn moves_at(alloc: Global, pairs: &[(u64, Act)]) -> Result<Vec<Move>, Fail> {
     let mut moves = Vec::new(alloc);
     for (at, act) in pairs {
-        let act = match act {
-            Act::Step(direction) => Act::Step(*direction % 8),
-            Act::Code(code) => Act::Code(*code % 512),
-        };
-        moves.push(Move { at: *at, act })?;
+        moves.push(move_at(*at, *act))?;
     }
     Ok(moves)
 }
 
+// Whether these moves have rising ticks and are written as these bytes.
+fn are_written_as(alloc: Global, moves: &[Move], bytes: &[u8]) -> bool {
+    if !is_timed(moves) {
+        return false;
+    }
+    match write_moves(alloc, moves) {
+        Ok(written) => written.as_slice() == bytes,
+        Err(_) => false,
+    }
+}
+
+// Whether these bytes are read as these moves.
+fn are_read_as(alloc: Global, bytes: &[u8], moves: &[Move]) -> bool
+    requires { length bytes.now < 2 ^ 32 }
+{
+    match read_moves(alloc, bytes) {
+        Ok(read) => read.as_slice() == moves,
+        Err(_) => false,
+    }
+}
+
 // Whether these bytes are written, and read back as the same moves.
-fn is_written_as<A: Allocator + Copy>(
-    alloc: A,
-    pairs: &[(u64, Act)],
-    bytes: &[u8],
-) -> Result<bool, Fail>
+fn is_written_as(alloc: Global, pairs: &[(u64, Act)], bytes: &[u8]) -> Result<bool, Fail>
     requires { length bytes.now < 2 ^ 32 }
 {
     let moves = moves_at(alloc, pairs)?;
-    if !is_timed(&moves) {
-        return Ok(false);
-    }
-    let written = write_moves(alloc, &moves)?;
-    let read = read_moves(alloc, bytes)?;
-    Ok(written.as_slice() == bytes && read.as_slice() == moves.as_slice())
+    Ok(are_written_as(alloc, &moves, bytes) && are_read_as(alloc, bytes, &moves))
 }
 
 #[test]
@@ -115,17 +137,9 @@ fn three_steps_in_a_byte(rt: HostRuntime) -> Result<(), Fail> {
 }
 
 // Whether these moves have rising ticks, and the one at this index comes too late to be written.
-fn is_too_late<A: Allocator + Copy>(
-    alloc: A,
-    pairs: &[(u64, Act)],
-    index: usize,
-) -> Result<bool, Fail> {
+fn is_too_late(alloc: Global, pairs: &[(u64, Act)], index: usize) -> Result<bool, Fail> {
     let moves = moves_at(alloc, pairs)?;
-    if !is_timed(&moves) {
-        return Ok(false);
-    }
-    let fault = write_moves(alloc, &moves).err();
-    Ok(fault == Some(SpellFault::TooLate { index }))
+    Ok(is_timed(&moves) && write_moves(alloc, &moves).err() == Some(SpellFault::TooLate { index }))
 }
 
 #[test]
@@ -145,29 +159,28 @@ fn moves_that_come_too_late(rt: HostRuntime) -> Result<(), Fail> {
     Ok(())
 }
 
-#[test]
-fn texts_of_faults(rt: HostRuntime) -> Result<(), Fail> {
-    let texts = [
-        (SpellFault::TooLate { index: 7 }, "TooLate(7)"),
-        (SpellFault::Memory, "Memory"),
-    ];
-    for (fault, text) in texts {
-        assert_eq!(rt; format!(in rt.alloc(); "{fault}")?.as_str(), text);
+// Whether packing bytes returns these.
+fn packs_to(alloc: Global, bytes: &[u8], packed: &[u8]) -> bool
+    requires { length bytes.now < 2 ^ 32 }
+{
+    match pack_moves(alloc, bytes) {
+        Ok(done) => done.as_slice() == packed,
+        Err(_) => false,
     }
-    Ok(())
 }
 
 // Whether the moves of these bytes are written as `packed`, and packing returns the same.
-fn is_spelled_anew<A: Allocator + Copy>(alloc: A, bytes: &[u8], packed: &[u8]) -> Result<bool, Fail>
+fn is_spelled_anew(alloc: Global, bytes: &[u8], packed: &[u8]) -> bool
     requires { length bytes.now < 2 ^ 32 }
 {
-    let moves = read_moves(alloc, bytes)?;
-    let written = write_moves(alloc, &moves)?;
-    Ok(written.as_slice() == packed && pack_moves(alloc, bytes)?.as_slice() == packed)
+    match read_moves(alloc, bytes) {
+        Ok(moves) => are_written_as(alloc, &moves, packed) && packs_to(alloc, bytes, packed),
+        Err(_) => false,
+    }
 }
 
 #[test]
-fn bytes_spelled_anew(rt: HostRuntime) -> Result<(), Fail> {
+fn bytes_spelled_anew(rt: HostRuntime) {
     let rows: [(&[u8], &[u8]); 8] = [
         (&[], &[]),
         (&[0x61, 0x61, 0x61, 0x61], &[0x00, 0x61]),
@@ -181,9 +194,8 @@ fn bytes_spelled_anew(rt: HostRuntime) -> Result<(), Fail> {
         (&[0x63, 0x00, 0x00, 0x00, 0x62, 0x00, 0x61], &[0x00]),
     ];
     for (bytes, packed) in rows {
-        assert!(rt; is_spelled_anew(rt.alloc(), bytes, packed)?);
+        assert!(rt; is_spelled_anew(rt.alloc(), bytes, packed));
     }
-    Ok(())
 }
 
 #[test]
@@ -346,31 +358,54 @@ impl Draw {
     }
 }
 
-// Compares for one list: the length, or the first move that comes too late, and the moves read back.
-fn compare<A: Allocator + Copy>(alloc: A, waits: &[(u64, Act)]) -> Result<bool, Fail> {
-    let mut pairs = Vec::new(alloc);
+// The moves with these waits.
+fn moves_after(alloc: Global, waits: &[(u64, Act)]) -> Result<Vec<Move>, Fail> {
+    let mut moves = Vec::new(alloc);
     let mut next = 0_u64;
     for (ticks, act) in waits {
         let at = next.wrapping_add(*ticks);
-        pairs.push((at, *act))?;
+        moves.push(move_at(at, *act))?;
         next = at.wrapping_add(1);
     }
-    let moves = moves_at(alloc, &pairs)?;
-    if !is_timed(&moves) {
-        return Ok(false);
+    Ok(moves)
+}
+
+// Whether the moves with these waits are written as short as any cut, and read back; or the first that comes too late is
+// named.
+fn is_right(alloc: Global, waits: &[(u64, Act)], moves: &[Move]) -> bool {
+    if !is_timed(moves) {
+        return false;
     }
     let late = waits
         .iter()
         .position(|wait| alone(wait.0, wait.1).is_none());
-    Ok(match write_moves(alloc, &moves) {
+    match write_moves(alloc, moves) {
         Ok(bytes) => {
             late == None
                 && slow_least(waits) == Some(bytes.len())
                 && bytes.len() < 64
-                && read_moves(alloc, &bytes)?.as_slice() == moves.as_slice()
+                && are_read_as(alloc, &bytes, moves)
         }
         Err(fault) => late.map(|index| SpellFault::TooLate { index }) == Some(fault),
-    })
+    }
+}
+
+fn draw_waits(alloc: Global, draw: &mut Draw, count: u64) -> Result<Vec<(u64, Act)>, Fail> {
+    let mut waits = Vec::new(alloc);
+    for _ in 0..count {
+        waits.push((draw.ticks(), draw.act()))?;
+    }
+    Ok(waits)
+}
+
+// Draws so many moves. Returns whether they are written rightly, and whether one of them comes too late.
+fn draw_moves(alloc: Global, draw: &mut Draw, count: u64) -> Result<(bool, bool), Fail> {
+    let waits = draw_waits(alloc, draw, count)?;
+    let moves = moves_after(alloc, &waits)?;
+    Ok((
+        is_right(alloc, &waits, &moves),
+        slow_least(&waits).is_none(),
+    ))
 }
 
 #[test]
@@ -378,12 +413,9 @@ fn drawn_moves_are_as_short_as_any_cut(rt: HostRuntime) -> Result<(), Fail> {
     let mut draw = Draw { state: 7 };
     let mut late = 0_u64;
     for count in 0..4_000_u64 {
-        let mut waits = Vec::new(rt.alloc());
-        for _ in 0..count % 10 {
-            waits.push((draw.ticks(), draw.act()))?;
-        }
-        assert!(rt; compare(rt.alloc(), &waits)?);
-        if slow_least(&waits) == None {
+        let (is_right, is_late) = draw_moves(rt.alloc(), &mut draw, count % 10)?;
+        assert!(rt; is_right);
+        if is_late {
             late = late.wrapping_add(1);
         }
     }

@@ -1,14 +1,14 @@
 // Files that arrive in pieces, most of them byte by byte.
 ghost use Rattle.std.specs.Prelude.{◌≤◌};
 
-use crate::files::written;
-use std::alloc::Allocator;
+use crate::files::is_written_as;
+use std::alloc::Global;
 use std::test::Fail;
-use test_samples::{CUT_MOVE, EMPTY_LYNX, EMPTY_MS, HUNDRED, join};
+use test_samples::{CUT_MOVE, EMPTY_MS, HUNDRED};
 use tws_file::{FileFault, Reader};
 
 // Pushes a byte at a time. Returns the number of the first push that failed, and the reader.
-fn push_bytes<A: Allocator + Copy>(alloc: A, bytes: &[u8]) -> (Option<usize>, Reader<A>) {
+fn push_bytes(alloc: Global, bytes: &[u8]) -> (Option<usize>, Reader) {
     let mut reader = Reader::new(alloc);
     let mut first = None;
     for i in 0..bytes.len() {
@@ -19,48 +19,36 @@ fn push_bytes<A: Allocator + Copy>(alloc: A, bytes: &[u8]) -> (Option<usize>, Re
     (first, reader)
 }
 
-// Two bare levels.
-const LEVELS: [u8; 29] = [
-    0x35, 0x33, 0x9B, 0x99, 1, 7, 8, 1, 0x21, 6, 0, 0, 0, 1, 0, 0x42, 0x44, 0x48, 0x50, 6, 0, 0, 0,
-    2, 0, 0x42, 0x44, 0x48, 0x50,
-];
-
-#[test]
-fn a_file_that_comes_byte_by_byte(rt: HostRuntime) -> Result<(), Fail> {
-    let (first, reader) = push_bytes(rt.alloc(), &LEVELS);
-    let file = reader.finish()?;
-    assert_eq!(rt;
-        (first, file.word, file.extra.as_slice(), file.records.len()),
-        (None, [7, 8], &[0x21][..], 2)
-    );
-    assert_eq!(rt; written(rt.alloc(), &file)?.as_slice(), LEVELS.as_slice());
-    Ok(())
+// Whether a reader has read the file with this text.
+fn has_read(alloc: Global, reader: Reader, text: &[u8]) -> bool {
+    match reader.finish() {
+        Ok(file) => is_written_as(alloc, &file, text),
+        Err(_) => false,
+    }
 }
 
-// The text of the file that is read from HUNDRED in two pieces, of which the first has `at` bytes.
-fn read_in_two<A: Allocator + Copy>(alloc: A, at: usize) -> Result<Vec<u8, A>, Fail>
+// Whether HUNDRED is read in two pieces, of which the first has `at` bytes.
+fn is_read_in_two(alloc: Global, at: usize) -> bool
     requires { at ≤ 28 }
 {
     let (first, rest) = HUNDRED.split_at(at);
     let mut reader = Reader::new(alloc);
-    reader.push(first)?;
-    reader.push(rest)?;
-    written(alloc, &reader.finish()?)
+    if reader.push(first).is_err() || reader.push(rest).is_err() {
+        return false;
+    }
+    has_read(alloc, reader, HUNDRED)
 }
 
 #[test]
-fn a_solution_that_comes_in_two_pieces(rt: HostRuntime) -> Result<(), Fail> {
+fn a_solution_that_comes_in_pieces(rt: HostRuntime) {
     for at in 1..28usize {
-        assert_eq!(rt;
-            read_in_two(rt.alloc(), at)?.as_slice(),
-            HUNDRED.as_slice(),
-            "at {at}"
-        );
+        assert!(rt; is_read_in_two(rt.alloc(), at), "at {at}");
     }
     let (first, reader) = push_bytes(rt.alloc(), HUNDRED);
-    let text = written(rt.alloc(), &reader.finish()?)?;
-    assert_eq!(rt; (first, text.as_slice()), (None, HUNDRED.as_slice()));
-    Ok(())
+    assert_eq!(rt;
+        (first, has_read(rt.alloc(), reader, HUNDRED)),
+        (None, true)
+    );
 }
 
 #[test]
@@ -84,21 +72,6 @@ fn moves_that_are_cut_between_pieces(rt: HostRuntime) {
     );
 }
 
-#[test]
-fn a_fault_of_a_record_is_kept(rt: HostRuntime) -> Result<(), Fail> {
-    let bytes = join(
-        rt.alloc(),
-        EMPTY_LYNX,
-        &[&[0, 0, 0, 0, 7, 0, 0, 0, 1, 2, 3]],
-    )?;
-    let (first, reader) = push_bytes(rt.alloc(), &bytes);
-    assert_eq!(rt;
-        (first, reader.finish().err()),
-        (Some(16), Some(FileFault::BadSize(12)))
-    );
-    Ok(())
-}
-
 // The header is read once it is whole.
 #[test]
 fn a_wrong_signature_byte_by_byte(rt: HostRuntime) {
@@ -108,18 +81,5 @@ fn a_wrong_signature_byte_by_byte(rt: HostRuntime) {
     assert_eq!(rt;
         (first, reader.finish().err()),
         (Some(8), Some(FileFault::BadSignature))
-    );
-}
-
-#[test]
-fn a_fault_of_the_header_is_kept(rt: HostRuntime) {
-    let mut reader = Reader::new(rt.alloc());
-    let mut wrong = *EMPTY_LYNX;
-    wrong[3] = 0x98;
-    let pushed = (reader.push(&wrong), reader.push(EMPTY_LYNX));
-    let bad = FileFault::BadSignature;
-    assert_eq!(rt;
-        (pushed, reader.finish().err()),
-        ((Err(bad), Err(bad)), Some(bad))
     );
 }

@@ -1,17 +1,18 @@
 // Snapshots of collections, and the blocks in which they are sent. The expected texts are written out by hand.
 use crate::collections::{has_text, load, merge};
 use std::alloc::Global;
-use std::process::Abort;
 use std::test::Fail;
-use test_samples::{EMPTY_LYNX, EMPTY_MS, join, record, steps};
+use test_samples::{EMPTY_LYNX, record};
 use tftp_packet::Blocks;
 use tws_best::{Collection, Snapshot};
 use tws_file::Ruleset;
 
 // The snapshot of a collection whose text is not too long.
-fn snapshot_of(rt: &impl Abort, collection: &Collection) -> Result<Snapshot, Fail> {
-    assert!(rt; collection.text_len() <= 1_000_000);
-    Ok(collection.snapshot()?)
+fn snapshot_of(collection: &Collection) -> Option<Snapshot> {
+    if collection.text_len() > 1_000_000 {
+        return None;
+    }
+    collection.snapshot().ok()
 }
 
 // All blocks, joined in order.
@@ -33,47 +34,34 @@ fn has_blocks(alloc: Global, snapshot: &Snapshot, wanted: &[u8]) -> bool {
     }
 }
 
-// The record of level 1 ends two bytes before the end of the first block.
-fn long_record(alloc: Global) -> Result<Vec<u8>, Fail> {
-    Ok(record(alloc, 1, b"AAAA", 0, 0, &steps(alloc, 482)?)?)
+// Level 1 with 482 moves, without them, and level 2 without moves.
+const LONG_RECORD: &[u8; 20] = b"\xF2\x01\0\0\x01\0AAAA\0\0\0\0\0\0\0\0\0\0";
+
+const SHORT_RECORD: &[u8; 20] = b"\x10\0\0\0\x02\0BBBB\0\0\0\0\0\0\0\0\0\0";
+
+// The text of both records in order: that of level 1 ends two bytes before the end of the first block.
+fn text_in_order() -> [u8; 530] {
+    let mut text = [1; 530];
+    text[..8].copy_from_slice(EMPTY_LYNX);
+    text[8..28].copy_from_slice(LONG_RECORD);
+    text[510..].copy_from_slice(SHORT_RECORD);
+    text
 }
 
-fn short_record(alloc: Global) -> Result<Vec<u8>, Fail> {
-    Ok(record(alloc, 2, b"BBBB", 0, 0, &[])?)
-}
-
-// A collection of both records, loaded from a file with the second one first.
-fn two_records(alloc: Global) -> Result<Collection, Fail> {
-    let first = long_record(alloc)?;
-    let second = short_record(alloc)?;
-    let text = join(alloc, EMPTY_LYNX, &[&second, &first])?;
-    load(alloc, &text)
-}
-
-// The text of both records in order.
-fn text_in_order(alloc: Global) -> Result<Vec<u8>, Fail> {
-    let first = long_record(alloc)?;
-    let second = short_record(alloc)?;
-    Ok(join(alloc, EMPTY_LYNX, &[&first, &second])?)
+// A file with the second one first.
+fn text_out_of_order() -> [u8; 530] {
+    let mut text = [1; 530];
+    text[..8].copy_from_slice(EMPTY_LYNX);
+    text[8..28].copy_from_slice(SHORT_RECORD);
+    text[28..48].copy_from_slice(LONG_RECORD);
+    text
 }
 
 #[test]
 fn text_of_two_records(rt: HostRuntime) -> Result<(), Fail> {
-    let collection = two_records(rt.alloc())?;
-    let wanted = text_in_order(rt.alloc())?;
-    let has_text = has_text(rt.alloc(), &collection, &wanted);
+    let collection = load(rt.alloc(), &text_out_of_order())?;
+    let has_text = has_text(rt.alloc(), &collection, &text_in_order());
     assert_eq!(rt; (collection.text_len(), has_text), (530, true));
-    Ok(())
-}
-
-#[test]
-fn sizes_in_the_text_of_two_records(rt: HostRuntime) -> Result<(), Fail> {
-    let mut text = Vec::new(rt.alloc());
-    two_records(rt.alloc())?.write_text(&mut text)?;
-    assert_eq!(rt;
-        (text.len(), text.get(8..12), text.get(510..514)),
-        (530, Some(&[0xF2, 1, 0, 0][..]), Some(&[0x10, 0, 0, 0][..]))
-    );
     Ok(())
 }
 
@@ -87,47 +75,31 @@ fn places(snapshot: &Snapshot) -> ([u64; 2], [usize; 2]) {
     (starts, lengths)
 }
 
-#[test]
-fn snapshot_of_two_records(rt: HostRuntime) -> Result<(), Fail> {
-    let collection = two_records(rt.alloc())?;
-    let snapshot = snapshot_of(&rt, &collection)?;
-    assert_eq!(rt; places(&snapshot), ([8, 510], [498, 16]));
-    Ok(())
+// Whether a snapshot has two blocks, of which the first ends with these bytes, and the second is these.
+fn has_two_blocks(snapshot: &Snapshot, first_end: &[u8], second: &[u8]) -> bool {
+    if snapshot.file_len() != 530 {
+        return false;
+    }
+    let mut out = [0; 512];
+    let first_size = snapshot.block(1, &mut out);
+    let is_first = first_size == 512 && out.ends_with(first_end);
+    let size = snapshot.block(2, &mut out);
+    is_first && &out[..size] == second
 }
 
-// The sizes of the two blocks of a text of 530 bytes.
-fn two_blocks(
-    snapshot: &Snapshot,
-    first: &mut [u8; 512],
-    second: &mut [u8; 512],
-) -> Option<(usize, usize)> {
-    if snapshot.file_len() != 530 {
-        return None;
-    }
-    Some((snapshot.block(1, first), snapshot.block(2, second)))
+fn is_snapshot_of_two(snapshot: &Snapshot) -> bool {
+    let second = b"\0\0\x02\0BBBB\0\0\0\0\0\0\0\0\0\0";
+    places(snapshot) == ([8, 510], [498, 16]) && has_two_blocks(snapshot, b"\x10\0", second)
 }
 
 #[test]
 fn blocks_of_two_records(rt: HostRuntime) -> Result<(), Fail> {
-    let collection = two_records(rt.alloc())?;
-    let snapshot = snapshot_of(&rt, &collection)?;
-    let (mut first, mut second) = ([0; 512], [0; 512]);
-    let sizes = two_blocks(&snapshot, &mut first, &mut second);
-    assert_eq!(rt;
-        (sizes, first.last_chunk::<2>(), second.first_chunk::<8>()),
-        (
-            Some((512, 18)),
-            Some(&[0x10, 0]),
-            Some(&[0, 0, 2, 0, 0x42, 0x42, 0x42, 0x42])
-        )
-    );
-    Ok(())
-}
-
-#[test]
-fn the_snapshot_of_no_file(rt: HostRuntime) -> Result<(), Fail> {
-    let empty = snapshot_of(&rt, &Collection::new(rt.alloc(), Ruleset::Ms))?;
-    assert!(rt; has_blocks(rt.alloc(), &empty, EMPTY_MS));
+    let collection = load(rt.alloc(), &text_out_of_order())?;
+    let is_right = match snapshot_of(&collection) {
+        Some(snapshot) => is_snapshot_of_two(&snapshot),
+        None => false,
+    };
+    assert!(rt; is_right);
     Ok(())
 }
 
@@ -141,34 +113,27 @@ fn two_thousand(alloc: Global) -> Result<Vec<u8>, Fail> {
 }
 
 // Whether a copy of the collection, and a snapshot of the copy, have this text.
-fn copy_has_text(
-    rt: &impl Abort,
-    alloc: Global,
-    collection: &Collection,
-    wanted: &[u8],
-) -> Result<bool, Fail> {
+fn copy_has_text(alloc: Global, collection: &Collection, wanted: &[u8]) -> Result<bool, Fail> {
     let copy = collection.copy()?;
-    let snapshot = snapshot_of(rt, &copy)?;
-    Ok(has_text(alloc, &copy, wanted) && has_blocks(alloc, &snapshot, wanted))
+    let is_text = has_text(alloc, &copy, wanted);
+    Ok(match snapshot_of(&copy) {
+        Some(snapshot) => is_text && has_blocks(alloc, &snapshot, wanted),
+        None => false,
+    })
 }
 
-// Merges a file twice into a new collection. Returns the collection, and whether each merge changed it.
-fn merged_twice(alloc: Global, text: &[u8]) -> Result<(Collection, bool, bool), Fail> {
+// Whether a file changes a new collection, and does not change it again; the collection then has this text.
+fn is_kept(alloc: Global, text: &[u8]) -> Result<bool, Fail> {
     let mut collection = Collection::new(alloc, Ruleset::Lynx);
     let first = merge(alloc, &mut collection, text)?;
     let second = merge(alloc, &mut collection, text)?;
-    Ok((collection, first, second))
+    let is_changed_once = first && !second && collection.len() == 2000;
+    Ok(is_changed_once && copy_has_text(alloc, &collection, text)?)
 }
 
 #[test]
 fn two_thousand_records(rt: HostRuntime) -> Result<(), Fail> {
     let wanted = two_thousand(rt.alloc())?;
-    let (collection, first, second) = merged_twice(rt.alloc(), &wanted)?;
-    let is_text = has_text(rt.alloc(), &collection, &wanted);
-    let is_copied = copy_has_text(&rt, rt.alloc(), &collection, &wanted)?;
-    assert_eq!(rt;
-        (first, second, collection.len(), is_text, is_copied),
-        (true, false, 2000, true, true)
-    );
+    assert!(rt; is_kept(rt.alloc(), &wanted)?);
     Ok(())
 }

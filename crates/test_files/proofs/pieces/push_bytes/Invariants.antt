@@ -2,4 +2,4 @@ use Rattle.tws_file.specs.Reader.{HasAtMost}
 use Rattle.test_files.proofs.pieces.push_bytes.Given as goal
 
 abbrev pub invariant-loop-i : goal.invariant-loop-i
-invariant-loop-i g l = HasAtMost l.reader l.i
+invariant-loop-i l = HasAtMost l.reader l.i
