@@ -260,9 +260,10 @@ fn has_body(alloc: Global, solution: &Solution, wanted: &[u8]) -> bool {
 
 #[test]
 fn the_body_of_a_solution(rt: HostRuntime) -> Result<(), Fail> {
-    let file = read_file(rt.alloc(), HUNDRED)?;
+    let text = HUNDRED.as_slice();
+    let file = read_file(rt.alloc(), text)?;
     let is_body = match file.records.as_slice() {
-        [Record::Solution(solution)] => has_body(rt.alloc(), solution, &HUNDRED[12..]),
+        [Record::Solution(solution)] => has_body(rt.alloc(), solution, &text[12..]),
         _ => false,
     };
     assert!(rt; is_body);
