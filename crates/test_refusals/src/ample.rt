@@ -75,7 +75,7 @@ fn a_large_file(rt: HostRuntime) -> Result<(), Fail> {
     let values = value_lines(rt.alloc(), &file);
     assert_eq!(rt;
         (packed, listed, values),
-        (Some(8 + 5000 * 30), Some(5000 * 31), Some(5001))
+        (Some(8 + 5000 * 30), Some(2 + 5000 * 31), Some(5001))
     );
     Ok(())
 }
