@@ -226,15 +226,19 @@ def puts_stop_reading():
 
 
 def drafts_that_are_no_files():
-    """A draft that is a FIFO, or a link to another file, is replaced, and nothing is written through it."""
+    """A draft that is a FIFO, or a link to another file, is removed at the start and replaced by a keep, and nothing is written
+    through it."""
     other = os.path.join(FOLDER, "other")
     with open(other, "wb") as out:
         out.write(b"other")
     for k, make in enumerate((os.mkfifo, lambda path: os.symlink(other, path))):
         folder = os.path.join(FOLDER, f"drafts{k}")
         os.mkdir(folder)
-        make(os.path.join(folder, "lynx.new"))
+        draft = os.path.join(folder, "lynx.new")
+        make(draft)
         with Server("--dir", folder) as server:
+            check("a draft that was left", not os.path.lexists(draft))
+            make(draft)
             path = file("one.tws", record(1))
             status, _, took = server.put(path)
             with open(os.path.join(folder, "lynx.tws"), "rb") as kept, open(path, "rb") as sent:

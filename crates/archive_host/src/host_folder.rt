@@ -1,9 +1,10 @@
 //! A folder of the system.
 
-ghost use Rattle.std.specs.Prelude.{◌≡◌, ◌≤◌, codes, false, IfOk, OnErr};
+ghost use Rattle.std.specs.Prelude.{◌≡◌, ◌≤◌, codes, false, None, Some, IfOk, OnErr, IsSome};
 ghost use Rattle.std.specs.Path.{path_buf_bytes, path_join};
 ghost use Rattle.archive_folder.specs.Folder.{Rises};
 
+use crate::host_file::HostFile;
 use crate::paths::Paths;
 use archive_folder::{FileName, Folder, FolderKeeper};
 use archive_table::KeepFault;
@@ -41,6 +42,7 @@ pub struct HostFolder<R: Files<File = File> + AllocGlobal + Copy> {
     // The folder itself, which holds the lock.
     folder: File,
     faults: u64,
+    error: Option<io::Error>,
 }
 
 // The file that a file replaces or is.
@@ -79,6 +81,7 @@ impl<R: Files<File = File> + AllocGlobal + Copy> HostFolder<R> {
         ensures lynx_draft { IfOk result (λ f. path_buf_bytes f.paths.lynx_draft ≡ path_join dir.now (codes "lynx.new")) }
         ensures ms_draft { IfOk result (λ f. path_buf_bytes f.paths.ms_draft ≡ path_join dir.now (codes "ms.new")) }
         ensures faults { IfOk result (λ f. f.faults ≡ 0) }
+        ensures error { IfOk result (λ f. f.error ≡ None) }
     {
         let Ok(paths) = Paths::new(rt.alloc(), dir) else {
             return Err(OpenFault::Memory);
@@ -92,21 +95,40 @@ impl<R: Files<File = File> + AllocGlobal + Copy> HostFolder<R> {
                 paths,
                 folder,
                 faults: 0,
+                error: None,
             }),
             Err(TryLockError::WouldBlock) => Err(OpenFault::InUse),
             Err(TryLockError::Error(_)) => Err(OpenFault::NoFolder),
         }
     }
 
+    /// What the system said of the call that failed last, `None` if none has.
+    pub fn last_error(&self) -> Option<io::Error>
+        ensures { result ≡ self.now.error }
+    {
+        self.error
+    }
+
+    // Notes a call that failed.
+    fn note(&mut self, error: io::Error)
+        ensures more { self.old.faults ≤ self.new.faults }
+        ensures rises { Rises self.old.faults self.new.faults }
+        ensures error { self.new.error ≡ Some error }
+    {
+        self.faults = self.faults.saturating_add(1);
+        self.error = Some(error);
+    }
+
     // The result of a call, which is counted if it failed.
     fn counted<T>(&mut self, outcome: io::Result<T>) -> Result<T, KeepFault>
         ensures more { self.old.faults ≤ self.new.faults }
         ensures fault { OnErr result (Rises self.old.faults self.new.faults) }
+        ensures error { OnErr result (IsSome self.new.error) }
     {
         match outcome {
             Ok(value) => Ok(value),
             Err(e) => {
-                self.faults = self.faults.saturating_add(1);
+                self.note(e);
                 Err(fault_of(&e))
             }
         }
@@ -155,7 +177,7 @@ impl<R: Files<File = File> + AllocGlobal + Copy> HostFolder<R> {
     }
 
     // `create_new` without counting faults.
-    fn create_file(&self, name: FileName) -> io::Result<File> {
+    fn create_file(&self, name: FileName) -> io::Result<HostFile> {
         let permissions = self.last_permissions(name)?;
         let mut options = OpenOptions::new();
         options.write(true).create_new(true);
@@ -163,7 +185,7 @@ impl<R: Files<File = File> + AllocGlobal + Copy> HostFolder<R> {
         if let Some(permissions) = permissions {
             file.set_permissions(permissions)?;
         }
-        Ok(file)
+        Ok(HostFile::new(file))
     }
 
     // `rename` without counting faults.
@@ -184,7 +206,7 @@ impl<R: Files<File = File> + AllocGlobal + Copy> HostFolder<R> {
 }
 
 impl<R: Files<File = File> + AllocGlobal + Copy> Folder for HostFolder<R> {
-    type File = File;
+    type File = HostFile;
 
     ghost has_model = { false };
 
@@ -209,16 +231,16 @@ impl<R: Files<File = File> + AllocGlobal + Copy> Folder for HostFolder<R> {
         self.counted(result)
     }
 
-    fn create_new(&mut self, name: FileName) -> Result<File, KeepFault> {
+    fn create_new(&mut self, name: FileName) -> Result<HostFile, KeepFault> {
         let result = self.create_file(name);
         self.counted(result)
     }
 
-    fn abandon(&mut self, _file: File) {
-        self.faults = self.faults.saturating_add(1);
+    fn abandon(&mut self, file: HostFile) {
+        self.note(file.fault());
     }
 
-    fn sync(&mut self, _name: FileName, file: File) -> Result<(), KeepFault> {
+    fn sync(&mut self, _name: FileName, file: HostFile) -> Result<(), KeepFault> {
         self.counted(file.sync_all())
     }
 

@@ -8,6 +8,7 @@
 //! called.
 #![tactic(auto)]
 
+mod host_file;
 mod host_folder;
 mod open_port;
 mod open_ports;
@@ -17,5 +18,6 @@ mod udp_wire;
 mod unread;
 mod watch;
 
+pub use host_file::HostFile;
 pub use host_folder::{DirKeeper, HostFolder, OpenFault};
 pub use udp_wire::UdpWire;

@@ -16,8 +16,7 @@ strays_fits w d away unbegun =
 
 pub stray-is_in : (w : World) (d : Datagram) (grant : Grant) (maps : Maps) → StraysIn w d grant maps
 stray-is_in w d grant maps may =
-    let is = sym (strays_fits w d may.0 may.1) in
-    (
+    let is = sym (strays_fits w d may.0 may.1) in (
       subst (λ (v : World). Contains v.net d) is (Has-contains _ d (Has-last w.net d)),
       subst (λ (v : World). Contains v.strays d) is (Has-contains _ d (Has-last w.strays d)),
     )

@@ -163,3 +163,13 @@ step-extends w s = adds_extend (step-adds w s)
 pub run-extends : (steps : List WorldStep) (w : World) → Extends w.past (run_from steps w).past
 run-extends [] w = Extends-same w.past
 run-extends (s ∷ steps) w = Extends-on (step-extends w s) (run-extends steps (happens s w))
+
+-- the end of a run has all that had happened by any moment of it
+pub end-extends : (before after : List WorldStep) (w : World) → Extends (run_from before w).past (run_from (before ++ after) w).past
+end-extends [] after w = run-extends after w
+end-extends (s ∷ before) after w = end-extends before after (happens s w)
+
+-- and by the step that comes then
+pub next-extends : (before after : List WorldStep) (s : WorldStep) (w : World) → Extends (happens s (run_from before w)).past (run_from (before ++ s ∷ after) w).past
+next-extends [] after s w = run-extends after (happens s w)
+next-extends (x ∷ before) after s w = next-extends before after s (happens x w)

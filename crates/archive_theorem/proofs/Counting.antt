@@ -1,5 +1,5 @@
 -- Every operation that has begun is that of an event, and its count of files taken is that of the run before it.
-use Rattle.std.proofs.Common.{◌≡◌, ◌⊎◌, ℕ, List, length, slice_get, Contains, Some, inl, inr}
+use Rattle.std.proofs.Common.{◌≡◌, ℕ, List, length, Contains, inl, inr}
 use Rattle.archive_table.specs.Table.{Maps}
 use Rattle.archive_model.specs.World.{Begun, begin, World, WorldStep, run_from, start_from}
 use Rattle.archive_theorem.specs.Headline.{BeganBy}

@@ -1,10 +1,10 @@
 -- The step at which an operation takes effect, for each put that counts as sent and each get that has fetched.
-use Rattle.std.proofs.Common.{◌≡◌, ◌≢◌, ◌⊎◌, ℕ, ◌<◌, Bool, true, false, ◌==◌, List, [], ◌∷◌, ◌++◌, length, take, slice_get, Contains, Option, None, Some, refl, ap, sym, ◌∙◌, subst, inl, inr, ⊎_elim, arith, length-append, le_refl, take_all}
+use Rattle.std.proofs.Common.{◌≡◌, ◌≢◌, ◌⊎◌, ℕ, ◌<◌, List, [], ◌∷◌, ◌++◌, length, take, slice_get, Contains, Some, refl, ap, sym, ◌∙◌, subst, inl, inr, ⊎_elim, arith, length-append, le_refl, take_all}
 use Rattle.tftp_packet.specs.declared.endpoint.Endpoint.{Endpoint}
 use Rattle.tws_file.specs.declared.«ruleset».Ruleset.{Ruleset}
 use Rattle.tws_best.specs.Best.{collection_text}
-use Rattle.archive_table.specs.Table.{Maps, Taken, Transfer, Grant, memory_verdict, transfer_at, table_request, map_of}
-use Rattle.archive_client.specs.Client.{Operation, put, get, Client, is_too_long}
+use Rattle.archive_table.specs.Table.{Maps, Taken, map_of}
+use Rattle.archive_client.specs.Client.{put, get}
 use Rattle.archive_model.specs.World.{Begun, Opening, to_read, Got, World, WorldStep, server_endpoint, happens, start_from, run_from, HasMerged, AllMerged, Extends}
 use Rattle.archive_theorem.specs.Headline.{IsOwn, AreOver, IsBestOver, files_of}
 use Rattle.archive_theorem.specs.Effects.{HasBegunWith, PutsAt, GetsAt, TakesEffect, ReadsAtOnce}
@@ -13,9 +13,9 @@ use Rattle.archive_theorem.proofs.Claims.{IsStranger, IsAskedBy}
 use Rattle.archive_theorem.proofs.Owning.{own-before, no_stranger, one_text, put_begun}
 use Rattle.archive_theorem.proofs.ServerMoves.{begun_away}
 use Rattle.archive_theorem.proofs.Invariant.{Holds, given-at, start_from-holds}
-use Rattle.archive_theorem.proofs.Happening.{run-append, merged-first, merged-rest, step-holds, run_from-holds}
+use Rattle.archive_theorem.proofs.Happening.{merged-first, merged-rest, step-holds, run_from-holds}
 use Rattle.archive_theorem.proofs.Enduring.{best_at}
-use Rattle.archive_model.proofs.Growing.{step-extends, run-extends, step-adds, begins-apart}
+use Rattle.archive_model.proofs.Growing.{step-extends, step-adds, begins-apart, end-extends, next-extends}
 use Rattle.archive_model.proofs.Origins.{AddedIn, added-in}
 
 -- ---- what a step adds
@@ -70,17 +70,13 @@ module _ (w : World) (h : Holds w) (steps : List WorldStep) (merged : AllMerged 
   next_holds : Holds next
   next_holds = step-holds first step first_holds step_merged
 
-  -- the rest of the run leads from there to its end
-  end_is : run_from steps w ≡ run_from after next
-  end_is = ap (λ (l : List WorldStep). run_from l w) split ∙ run-append before (step ∷ after) w
-
   -- after it the lists have only grown
   next_grows : Extends next.past (run_from steps w).past
-  next_grows = subst (λ (x : World). Extends next.past x.past) (sym end_is) (run-extends after next)
+  next_grows = subst (λ (l : List WorldStep). Extends next.past (run_from l w).past) (sym split) (next-extends before after step w)
 
   -- and since before it
   first_grows : Extends first.past (run_from steps w).past
-  first_grows = subst (λ (x : World). Extends first.past x.past) (sym end_is) (run-extends (step ∷ after) first)
+  first_grows = subst (λ (l : List WorldStep). Extends first.past (run_from l w).past) (sym split) (end-extends before (step ∷ after) w)
 
   -- ---- a put
 

@@ -25,10 +25,10 @@ use Rattle.archive_theorem.proofs.Owning.{one_operation}
 use Rattle.archive_theorem.proofs.Invariant.{AreBest, Holds, start_from-holds}
 use Rattle.archive_theorem.proofs.Collecting.{best-collected}
 use Rattle.archive_theorem.proofs.Remaining.{step-takes}
-use Rattle.archive_theorem.proofs.Happening.{run-append, merged-first, merged-rest, step-holds, run_from-holds}
+use Rattle.archive_theorem.proofs.Happening.{merged-first, merged-rest, step-holds, run_from-holds}
 use Rattle.archive_theorem.proofs.Loading.{loads-the_same}
 use Rattle.archive_theorem.proofs.Persisting.{own-ruleset, event-kept, maps-are, run_from-kept, loads-from}
-use Rattle.archive_model.proofs.Growing.{step-extends, run-extends}
+use Rattle.archive_model.proofs.Growing.{step-extends, end-extends}
 
 -- ---- one collection
 
@@ -180,7 +180,7 @@ module _ (texts : List (List ℕ)) (maps : Maps) (over : AreOver texts maps) whe
   never-worse before after merged =
       let w = run_from before first in
       let v = run_from (before ++ after) first in
-      let more : IsPrefix w.taken v.taken = subst (λ (x : World). IsPrefix w.taken x.taken) (sym (run-append before after first)) (run-extends after w).taken in
+      let more : IsPrefix w.taken v.taken = (end-extends before after first).taken in
       let h = run_from-holds before first at_first (merged-first before after first merged) in
       none-worse w h v.taken v.server.maps more (run_from-holds (before ++ after) first at_first merged).best
 

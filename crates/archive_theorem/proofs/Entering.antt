@@ -1,5 +1,5 @@
 -- Each stranger's datagram entered the network by an event.
-use Rattle.std.proofs.Common.{◌≡◌, ◌⊎◌, ℕ, List, [], ◌∷◌, ◌++◌, Contains, sym, subst, inl, inr}
+use Rattle.std.proofs.Common.{◌≡◌, ℕ, List, [], ◌∷◌, ◌++◌, Contains, sym, subst, inl, inr}
 use Rattle.archive_table.specs.Table.{Maps}
 use Rattle.archive_model.specs.World.{Datagram, stray, World, WorldStep, run_from, start_from}
 use Rattle.archive_theorem.specs.Headline.{StraysBy}

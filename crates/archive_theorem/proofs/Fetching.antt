@@ -13,9 +13,9 @@ use Rattle.archive_theorem.proofs.Claims.{HasGet}
 use Rattle.archive_theorem.proofs.Owning.{get_begun, one_operation, own-each, none_reused-before}
 use Rattle.archive_theorem.proofs.Invariant.{Holds, none-over, start_from-holds}
 use Rattle.archive_theorem.proofs.ServerMoves.{begun_away}
-use Rattle.archive_theorem.proofs.Happening.{run-append, merged-first, run_from-holds}
+use Rattle.archive_theorem.proofs.Happening.{merged-first, run_from-holds}
 use Rattle.archive_theorem.proofs.Concluding.{run-clients}
-use Rattle.archive_model.proofs.Growing.{run-extends}
+use Rattle.archive_model.proofs.Growing.{end-extends, next-extends}
 
 -- the get was counted when it began
 begins_counted : (w : World) (ours : Bool) (e : Endpoint) (rules : Ruleset) → (e.host == server_endpoint.host) ≡ ours →
@@ -88,13 +88,12 @@ fetches-own_sent texts maps over before after s merged e rules is own x has own_
     let first = start_from texts maps in
     let w = run_from before first in
     let v = run_from (before ++ s ∷ after) first in
-    let end : v ≡ run_from after (happens s w) = run-append before (s ∷ after) first in
-    let grows : Extends w.past v.past = subst (λ (x : World). Extends w.past x.past) (sym end) (run-extends (s ∷ after) w) in
+    let grows : Extends w.past v.past = end-extends before (s ∷ after) first in
     let at_first = start_from-holds texts maps over in
     let h = run_from-holds before first at_first (merged-first before (s ∷ after) first merged) in
     let k = run_from-holds (before ++ s ∷ after) first at_first merged in
     let now = begin_counted w s e rules is in
-    let more : Extends (happens s w).past v.past = subst (λ (x : World). Extends (happens s w).past x.past) (sym end) (run-extends after (happens s w)) in
+    let more : Extends (happens s w).past v.past = next-extends before after s first in
     let began =
     either (λ ours. ours) (Has-prefix (happens s w).begun v.begun (record { client = e; operation = get rules; taken = length w.taken }) more.begun) now in
     fetched w v h k grows e own rules began x (Has-from_contains w.sent x has) own_then got (Has-from_contains v.got got has_got) same
@@ -105,8 +104,7 @@ pub fetches-sent : (before after : List WorldStep) (s : WorldStep) → HasOwnPor
 fetches-sent before after s own merged e rules is x has got has_got same =
     let w = run before in
     let v = run (before ++ s ∷ after) in
-    let end : v ≡ run_from after (happens s w) = run-append before (s ∷ after) start in
-    let grows : Extends w.past v.past = subst (λ (x : World). Extends w.past x.past) (sym end) (run-extends (s ∷ after) w) in
+    let grows : Extends w.past v.past = end-extends before (s ∷ after) start in
     let all = run-clients (before ++ s ∷ after) merged in
     let first = run-clients before (merged-first before (s ∷ after) start merged) in
     let getter = subst (IsOwn v) same (own-each v own got.client (all.got got has_got)) in

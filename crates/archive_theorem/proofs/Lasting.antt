@@ -1,5 +1,5 @@
 -- Each claim lasts, whatever else happens.
-use Rattle.std.proofs.Common.{◌⊎◌, ℕ, List, sym, subst, inl, inr, le_trans}
+use Rattle.std.proofs.Common.{ℕ, List, sym, subst, le_trans}
 use Rattle.tftp_packet.specs.declared.endpoint.Endpoint.{Endpoint}
 use Rattle.tftp_packet.specs.Packet.{Packet, read, write, data_block, ack, error}
 use Rattle.tftp_ends.specs.declared.recv_state.RecvState.{RecvState}

@@ -13,10 +13,10 @@ use Rattle.archive_theorem.proofs.Claims.{HasPut, HasGet, IsGot}
 use Rattle.archive_theorem.proofs.Lasting.{text-grown, get-lasts}
 use Rattle.archive_theorem.proofs.Owning.{own-before}
 use Rattle.archive_theorem.proofs.Invariant.{Holds, start_from-holds}
-use Rattle.archive_theorem.proofs.Happening.{run-append, merged-first, run_from-holds}
+use Rattle.archive_theorem.proofs.Happening.{merged-first, run_from-holds}
 use Rattle.archive_theorem.proofs.Enduring.{first_prefix}
 use Rattle.archive_theorem.proofs.Fetching.{begin_counted, counted}
-use Rattle.archive_model.proofs.Growing.{Extends-same, run-extends}
+use Rattle.archive_model.proofs.Growing.{Extends-same, end-extends, next-extends}
 
 -- the operation is the last that has begun
 begins_at : (w : World) (ours : Bool) (e : Endpoint) (operation : Operation) → (e.host == server_endpoint.host) ≡ ours →
@@ -120,16 +120,12 @@ module _ (texts : List (List ℕ)) (maps : Maps) (over : AreOver texts maps) (be
   abbrev last : World
   last = run_from (before ++ s ∷ after) first_world
 
-  -- the run leads there from after the begin
-  last_is : last ≡ run_from after (happens s first)
-  last_is = run-append before (s ∷ after) first_world
-
   grows : Extends first.past last.past
-  grows = subst (λ (x : World). Extends first.past x.past) (sym last_is) (run-extends (s ∷ after) first)
+  grows = end-extends before (s ∷ after) first_world
 
   -- since after the begin the lists have only grown
   more : Extends (happens s first).past last.past
-  more = subst (λ (x : World). Extends (happens s first).past x.past) (sym last_is) (run-extends after (happens s first))
+  more = next-extends before after s first_world
 
   -- the invariant holds before the begin
   first_holds : Holds first

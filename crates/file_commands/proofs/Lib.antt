@@ -4,3 +4,4 @@ pub mod Collecting
 pub mod Paging
 pub mod Comparing
 pub mod Given
+pub mod Sources

@@ -66,6 +66,13 @@ IsSource (Some name) (Named file) = (name ≡ string_bytes file) × (name ≢ co
 abbrev pub HasSource : List Row → Source → Type 0
 HasSource rows source = IsSource (first_of source_rule.id rows) source
 
--- these names of files, in order
-abbrev pub HasFiles : List Row → (names : List Text) → Type 0
-HasFiles rows names = names ≡ unwrap_or (all_of files_rule.id rows) []
+-- the inputs of these names
+abbrev pub AreSources : (names : List Text) → List Source → Type 0
+AreSources [] [] = Unit {0}
+AreSources [] (source ∷ sources) = ⊥
+AreSources (name ∷ names) [] = ⊥
+AreSources (name ∷ names) (source ∷ sources) = IsSource (Some name) source × AreSources names sources
+
+-- the inputs that were named, in order
+abbrev pub HasSources : List Row → List Source → Type 0
+HasSources rows sources = AreSources (unwrap_or (all_of files_rule.id rows) []) sources

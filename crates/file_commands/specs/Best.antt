@@ -1,5 +1,5 @@
 -- The command `best`, which writes the collection over all its inputs.
-use Rattle.std.specs.Prelude.{◌≡◌, ◌≢◌, ◌⊎◌, ℕ, ◌+◌, ◌<◌, ◌≤◌, List, [], ◌∷◌, length, map, take, slice_index_or, Option, Some, string_bytes, codes}
+use Rattle.std.specs.Prelude.{◌≡◌, ◌≢◌, ◌⊎◌, ℕ, ◌+◌, ◌<◌, ◌≤◌, List, [], ◌∷◌, length, map, take, slice_index_or, Option, Some, codes}
 use Rattle.std.specs.List.{AllByRecursion}
 use Rattle.std.specs.Io.KnownBytes.{Appends, IsAtEnd}
 use Rattle.clap.specs.Words.{App, Row, Text, new_app, with_rule}
@@ -12,7 +12,8 @@ use Rattle.tws_best.specs.Best.{Collected, IsCollectionOf, collection_text}
 use Rattle.file_commands.specs.declared.best.BestArguments.{BestArguments}
 use Rattle.file_commands.specs.declared.tool_fault.ToolFault.{ToolFault}
 use Rattle.file_commands.specs.declared.tool_fault.ToolFault.TheVariants.{Read, Write, Unreadable, Memory, Socket, Transfer}
-use Rattle.file_commands.specs.Arguments.{HasFiles, HasRuleset, RulesetNames, files_rule, ruleset_rule}
+use Rattle.file_commands.specs.Arguments.{HasRuleset, HasSources, RulesetNames, files_rule, ruleset_rule}
+use Rattle.file_commands.specs.Inputs.{ReadsAmong, knowns_of}
 
 abbrev pub best_name : Text
 best_name = codes "best"
@@ -24,7 +25,7 @@ best_app names = with_rule (with_rule (new_app best_name) (ruleset_rule names)) 
 -- what was found for its arguments
 pub record AsksForBest (rows : List Row) (arguments : BestArguments) : Type 0 where
   pub rules_are : HasRuleset rows arguments.ruleset
-  pub files_are : HasFiles rows (map string_bytes arguments.files.items)
+  pub files_are : HasSources rows arguments.files.items
 
 -- ---- what it writes
 
@@ -90,10 +91,6 @@ BestFails rules knowns old new = FilesFail (BestPrefix rules knowns old new) kno
 
 -- ---- by the exit status
 
--- what is known of the bytes of its files
-abbrev pub best_knowns : (bytes_of : List ℕ → Option (List ℕ)) → BestArguments → List (Option (List ℕ))
-best_knowns bytes_of arguments = map (λ name. bytes_of (string_bytes name)) arguments.files.items
-
 -- what a command over these inputs did: it wrote its text, or nothing or a proper prefix of it; or an input is unreadable
 pub record FilesRan (Whole Prefix : Type 0) (knowns : List (Option (List ℕ))) (status : ℕ) (old new : Option (List ℕ)) : Type 0 where
   pub done : status ≡ 0 → Whole
@@ -102,8 +99,10 @@ pub record FilesRan (Whole Prefix : Type 0) (knowns : List (Option (List ℕ))) 
   pub never : status ≢ 1
   pub few : status ≤ 3
 
--- what it did, given what is known of the bytes of the file with each name
-abbrev pub BestRan : (bytes_of : List ℕ → Option (List ℕ)) → BestArguments → (status : ℕ) → (old new : Option (List ℕ)) → Type 0
-BestRan bytes_of arguments status old new =
-    let knowns : List (Option (List ℕ)) = best_knowns bytes_of arguments in
-    FilesRan (BestWrites arguments.ruleset knowns old new) (BestPrefix arguments.ruleset knowns old new) knowns status old new
+-- What it did, by the exit status, given what is known of the bytes of the file with each name, and what holds if standard
+-- input was not read: what standard input had and has left, and the output before and after.
+abbrev pub BestRan : (bytes_of : List ℕ → Option (List ℕ)) → (Unread : Type 0) → BestArguments → (status : ℕ) → (given left old new : Option (List ℕ)) → Type 0
+BestRan bytes_of Unread arguments status given left old new =
+    let knowns : List (Option (List ℕ)) = knowns_of bytes_of given arguments.files.items in
+    ReadsAmong arguments.files.items Unread status left
+    × FilesRan (BestWrites arguments.ruleset knowns old new) (BestPrefix arguments.ruleset knowns old new) knowns status old new

@@ -1,5 +1,5 @@
 -- The command `page`, which writes the solutions of all its inputs as a page.
-use Rattle.std.specs.Prelude.{ℕ, List, [], ◌∷◌, map, Option, IfSome, string_bytes, codes}
+use Rattle.std.specs.Prelude.{ℕ, List, [], ◌∷◌, Option, IfSome, codes}
 use Rattle.std.specs.Io.KnownBytes.{Appends}
 use Rattle.clap.specs.Words.{App, Row, Text, new_app, with_rule}
 use Rattle.tws_file.specs.Text.{File, IsText}
@@ -7,7 +7,8 @@ use Rattle.byte_output.specs.Output.{AppendsPrefix}
 use Rattle.tws_tables.specs.Page.{page_of}
 use Rattle.file_commands.specs.declared.page.PageArguments.{PageArguments}
 use Rattle.file_commands.specs.declared.tool_fault.ToolFault.{ToolFault}
-use Rattle.file_commands.specs.Arguments.{HasFiles, files_rule}
+use Rattle.file_commands.specs.Arguments.{HasSources, files_rule}
+use Rattle.file_commands.specs.Inputs.{ReadsAmong, knowns_of}
 use Rattle.file_commands.specs.Best.{FilesFail, FilesRan}
 
 abbrev pub page_name : Text
@@ -19,7 +20,7 @@ page_app = with_rule (new_app page_name) files_rule
 
 -- what was found for its arguments
 abbrev pub AsksForPage : List Row → PageArguments → Type 0
-AsksForPage rows arguments = HasFiles rows (map string_bytes arguments.files.items)
+AsksForPage rows arguments = HasSources rows arguments.files.items
 
 -- these are the files whose texts the inputs are
 abbrev pub AreFiles : List (Option (List ℕ)) → List File → Type 0
@@ -39,12 +40,9 @@ PagePrefix knowns old new = (files : List File) × AreFiles knowns files × Appe
 abbrev pub PageFails : List (Option (List ℕ)) → (old new : Option (List ℕ)) → ToolFault → Type 0
 PageFails knowns old new = FilesFail (PagePrefix knowns old new) knowns old new
 
--- what is known of the bytes of its files
-abbrev pub page_knowns : (bytes_of : List ℕ → Option (List ℕ)) → PageArguments → List (Option (List ℕ))
-page_knowns bytes_of arguments = map (λ name. bytes_of (string_bytes name)) arguments.files.items
-
--- what it did, given what is known of the bytes of the file with each name
-abbrev pub PageRan : (bytes_of : List ℕ → Option (List ℕ)) → PageArguments → (status : ℕ) → (old new : Option (List ℕ)) → Type 0
-PageRan bytes_of arguments status old new =
-    let knowns : List (Option (List ℕ)) = page_knowns bytes_of arguments in
-    FilesRan (PageWrites knowns old new) (PagePrefix knowns old new) knowns status old new
+-- What it did, by the exit status, given what is known of the bytes of the file with each name, and what holds if standard
+-- input was not read: what standard input had and has left, and the output before and after.
+abbrev pub PageRan : (bytes_of : List ℕ → Option (List ℕ)) → (Unread : Type 0) → PageArguments → (status : ℕ) → (given left old new : Option (List ℕ)) → Type 0
+PageRan bytes_of Unread arguments status given left old new =
+    let knowns : List (Option (List ℕ)) = knowns_of bytes_of given arguments.files.items in
+    ReadsAmong arguments.files.items Unread status left × FilesRan (PageWrites knowns old new) (PagePrefix knowns old new) knowns status old new

@@ -5,7 +5,7 @@ ghost use Rattle.clap.specs.Matches.{found_of};
 ghost use Rattle.clap.specs.declared.builder.command.Command.TheViews.{out-Command};
 ghost use Rattle.clap.specs.Words.{app_of, new_app, rows_of, rule_of, first_of};
 ghost use Rattle.tws_file.specs.Listing.{ruleset_name};
-ghost use Rattle.file_commands.specs.Arguments.{AreRulesetNames, Answers, HasFiles, HasRuleset, HasSource, IsNumberUpTo, files_rule, ruleset_rule, source_rule};
+ghost use Rattle.file_commands.specs.Arguments.{AreRulesetNames, AreSources, Answers, HasRuleset, HasSource, HasSources, IsNumberUpTo, IsSource, files_rule, ruleset_rule, source_rule};
 
 use crate::source::Source;
 use clap::builder::ValueParser;
@@ -63,7 +63,7 @@ pub(crate) fn files_argument<'a>(alloc: Global) -> Arg<'a>
         .value_name("FILE")
         .num_args(1..)
         .required(true)
-        .help("The solution files")
+        .help("The solution files; standard input for -")
 }
 
 // ---- what was given
@@ -90,33 +90,42 @@ pub fn string_given(
     }
 }
 
+// Where the input of this name is to be read from.
+fn source_of(alloc: Global, name: &str) -> Result<Source, AllocError>
+    ensures { IfOk result (IsSource (Some name.now)) }
+{
+    match name {
+        "-" => Ok(Source::Standard),
+        _ => Ok(Source::Named(String::from_str(alloc, name)?)),
+    }
+}
+
 /// Where the one input is to be read from.
-pub(crate) fn source_given(alloc: Global, words: &ArgMatches) -> Result<Source, AllocError>
+pub fn source_given(alloc: Global, words: &ArgMatches) -> Result<Source, AllocError>
     ensures { IfOk result (HasSource (rows_of (found_of words.now))) }
 {
     match text_given(words, "file") {
         None => Ok(Source::Standard),
-        Some("-") => Ok(Source::Standard),
-        Some(name) => Ok(Source::Named(String::from_str(alloc, name)?)),
+        Some(name) => source_of(alloc, name),
     }
 }
 
-// Copies of the texts.
-fn copied(alloc: Global, texts: &[&str]) -> Result<Vec<String>, AllocError>
-    ensures { IfOk result (λ copies. map string_bytes copies.items ≡ map (λ text. text.now) texts.now) }
+// Where the inputs of these names are to be read from.
+fn sources_of(alloc: Global, names: &[&str]) -> Result<Vec<Source>, AllocError>
+    ensures { IfOk result (λ sources. AreSources (map (λ name. name.now) names.now) sources.items) }
 {
-    let mut copies = Vec::new(alloc);
-    for text in texts {
-        copies.push(String::from_str(alloc, text)?)?;
+    let mut sources = Vec::new(alloc);
+    for name in names {
+        sources.push(source_of(alloc, name)?)?;
     }
-    Ok(copies)
+    Ok(sources)
 }
 
-/// The names of the files that were given, in order.
-pub(crate) fn files_given(alloc: Global, words: &ArgMatches) -> Result<Vec<String>, AllocError>
-    ensures { IfOk result (λ files. HasFiles (rows_of (found_of words.now)) (map string_bytes files.items)) }
+/// Where several inputs are to be read from, in order.
+pub(crate) fn sources_given(alloc: Global, words: &ArgMatches) -> Result<Vec<Source>, AllocError>
+    ensures { IfOk result (λ sources. HasSources (rows_of (found_of words.now)) sources.items) }
 {
-    copied(alloc, words.get_raw("files").unwrap_or(&[]))
+    sources_of(alloc, words.get_raw("files").unwrap_or(&[]))
 }
 
 /// Parses a number from 1 to `most`.

@@ -1,18 +1,23 @@
 //! The command `best`: the best solutions of several files.
 
-ghost use Rattle.std.specs.Prelude.{◌≡◌, ◌≢◌, false, map, OnOk, IfOk, IfErr};
+ghost use Rattle.std.specs.Prelude.{◌≡◌, ◌≢◌, false, Some, map, OnOk, IfOk, IfErr};
 ghost use Rattle.std.specs.List.{AllByRecursion};
 ghost use Rattle.std.specs.Io.KnownBytes.{IsAtEnd};
 ghost use Rattle.clap.specs.Matches.{found_of};
 ghost use Rattle.clap.specs.Words.{app_of, rows_of};
 ghost use Rattle.clap.specs.declared.builder.command.Command.TheViews.{out-Command};
 ghost use Rattle.file_commands.specs.Arguments.{Answers};
-ghost use Rattle.file_commands.specs.Best.{AsksForBest, Collects, CollectFails, AreReadOut, BestWrites, BestFails, BestRan, best_app};
+ghost use Rattle.file_commands.specs.Best.{AsksForBest, Collects, CollectFails, AreReadOut, BestWrites, BestPrefix, BestFails, BestRan, FilesRan, best_app};
+ghost use Rattle.file_commands.specs.Inputs.{knowns_of};
 
-use crate::arguments::{files_argument, files_given, new_command, ruleset_argument, ruleset_given};
+use crate::arguments::{
+    files_argument, new_command, ruleset_argument, ruleset_given, sources_given,
+};
 use crate::file_system::{FileSystem, NotOpened, open_all};
 use crate::input::read_input;
-use crate::reporting::{finish, report, report_file};
+use crate::reporting::{finish_among, report, report_unopened};
+use crate::source::Source;
+use crate::standard::{has_standard, read_bytes};
 use crate::tool_fault::ToolFault;
 use clap::{ArgMatches, Command};
 use std::alloc::{AllocError, Global};
@@ -25,8 +30,8 @@ use tws_file::Ruleset;
 pub struct BestArguments {
     /// Of files of this ruleset.
     pub ruleset: Ruleset,
-    /// The names of the files.
-    pub files: Vec<String>,
+    /// The files, which standard input may be among.
+    pub files: Vec<Source>,
 }
 
 // What the help of the command begins and ends with.
@@ -52,7 +57,7 @@ pub fn asked(alloc: Global, words: &ArgMatches) -> Result<Option<BestArguments>,
     let Some(ruleset) = ruleset_given(words) else {
         return Ok(None);
     };
-    let files = files_given(alloc, words)?;
+    let files = sources_given(alloc, words)?;
     Ok(Some(BestArguments { ruleset, files }))
 }
 
@@ -102,27 +107,49 @@ pub fn run_best<R: Read, W: Write>(
     Ok(())
 }
 
-/// Runs `best` over the files of these names, and returns the status.
-pub fn run<S: FileSystem, W: Write, E: Write>(
+// Does the same for these sources, where standard input has the bytes `standard`, and returns the status.
+fn run_over<S: FileSystem, W: Write, E: Write>(
     system: &S,
     alloc: Global,
     arguments: &BestArguments,
+    standard: &[u8],
     out: &mut W,
     errors: &mut E,
 ) -> u8
-    ensures ran { BestRan (S.bytes_of system.now) arguments.now result (W.contents out.old) (W.contents out.new) }
+    ensures ran { FilesRan (BestWrites arguments.now.ruleset (knowns_of (S.bytes_of system.now) (Some standard.now) arguments.now.files.items) (W.contents out.old) (W.contents out.new)) (BestPrefix arguments.now.ruleset (knowns_of (S.bytes_of system.now) (Some standard.now) arguments.now.files.items) (W.contents out.old) (W.contents out.new)) (knowns_of (S.bytes_of system.now) (Some standard.now) arguments.now.files.items) result (W.contents out.old) (W.contents out.new) }
     ensures unreadable { result ≡ 3 → out.new ≡ out.old }
     ensures silent { result ≡ 0 → errors.new ≡ errors.old }
 {
-    let names = &arguments.files;
-    match open_all(system, alloc, names) {
-        Ok(mut files) => {
-            let done = run_best(alloc, arguments.ruleset, &mut files, out);
-            finish(done, names, errors)
+    let sources = &arguments.files;
+    match open_all(system, alloc, sources, standard) {
+        Ok(mut inputs) => {
+            let done = run_best(alloc, arguments.ruleset, &mut inputs, out);
+            finish_among(done, sources, errors)
         }
         Err(NotOpened::Memory) => report(ToolFault::Memory, &[], errors),
-        Err(NotOpened::File { index, cause }) => {
-            report_file(ToolFault::Read, names[index].as_str(), &cause, errors)
-        }
+        Err(NotOpened::File { index, cause }) => report_unopened(sources, index, &cause, errors),
+    }
+}
+
+/// Runs `best` over these sources, and returns the status. Standard input is read, whole, before any other input is, and is the
+/// same each time that it is named.
+pub fn run<S: FileSystem, R: Read, W: Write, E: Write>(
+    system: &S,
+    alloc: Global,
+    arguments: &BestArguments,
+    input: &mut R,
+    out: &mut W,
+    errors: &mut E,
+) -> u8
+    ensures ran { BestRan (S.bytes_of system.now) (input.new ≡ input.old) arguments.now result (R.remaining input.old) (R.remaining input.new) (W.contents out.old) (W.contents out.new) }
+    ensures unreadable { result ≡ 3 → out.new ≡ out.old }
+    ensures silent { result ≡ 0 → errors.new ≡ errors.old }
+{
+    if !has_standard(&arguments.files) {
+        return run_over(system, alloc, arguments, &[], out, errors);
+    }
+    match read_bytes(alloc, input) {
+        Ok(bytes) => run_over(system, alloc, arguments, &bytes, out, errors),
+        Err(fault) => report(fault, &[], errors),
     }
 }

@@ -1,10 +1,14 @@
 //! Files by their names.
 
-ghost use Rattle.std.specs.Prelude.{◌≡◌, ℕ, List, Option, length, map, string_bytes, OnOk, OnErr, IfOk, IfErr};
+ghost use Rattle.std.specs.Prelude.{◌≡◌, ℕ, List, Option, Some, length, map, OnOk, OnErr, IfOk, IfErr};
+ghost use Rattle.either.specs.Either.{either};
 ghost use Rattle.file_commands.specs.Files.{IsWithin, Keeps, Publishes};
+ghost use Rattle.file_commands.specs.Inputs.{known_of, knowns_of};
 ghost use Rattle.file_commands.specs.declared.file_system.NotOpened.TheVariants as NotOpened;
 
+use crate::source::Source;
 use crate::tool_fault::ToolFault;
+use either::Either;
 use std::alloc::{AllocFailed, Global};
 use std::io;
 use std::io::{Read, Write};
@@ -72,21 +76,40 @@ impl<T: Drop> From<AllocFailed<T>> for NotOpened {
     }
 }
 
-/// Opens the files of these names, all of them before one is read.
-pub(crate) fn open_all<S: FileSystem>(
+// Opens the input of a source, which for standard input has these bytes.
+fn open_source<'a, S: FileSystem>(
+    system: &S,
+    source: &Source,
+    standard: &'a [u8],
+) -> io::Result<Either<S::File, &'a [u8]>>
+    ensures { IfOk result (λ input. either (λ file. S.File.remaining file) (λ bytes. Some bytes.now) input ≡ known_of (S.bytes_of system.now) (Some standard.now) source.now) }
+{
+    match source {
+        Source::Standard => Ok(Either::Right(standard)),
+        Source::Named(name) => match system.open(name.as_str()) {
+            Ok(file) => Ok(Either::Left(file)),
+            Err(cause) => Err(cause),
+        },
+    }
+}
+
+/// Opens the inputs of these sources, all of them before one is read. Standard input, if it is among them, has the bytes
+/// `standard`.
+pub(crate) fn open_all<'a, S: FileSystem>(
     system: &S,
     alloc: Global,
-    names: &[String],
-) -> Result<Vec<S::File>, NotOpened>
-    ensures opened { IfOk result (λ files. map (λ file. S.File.remaining file) files.items ≡ map (λ name. S.bytes_of system.now (string_bytes name)) names.now) }
-    ensures within { IfErr result (IsWithin (length names.now)) }
+    sources: &[Source],
+    standard: &'a [u8],
+) -> Result<Vec<Either<S::File, &'a [u8]>>, NotOpened>
+    ensures opened { IfOk result (λ inputs. map (either (λ file. S.File.remaining file) (λ bytes. Some bytes.now)) inputs.items ≡ knowns_of (S.bytes_of system.now) (Some standard.now) sources.now) }
+    ensures within { IfErr result (IsWithin (length sources.now)) }
 {
-    let mut files = Vec::new(alloc);
-    for (index, name) in names.iter().enumerate() {
-        match system.open(name.as_str()) {
-            Ok(file) => files.push(file)?,
+    let mut inputs = Vec::new(alloc);
+    for (index, source) in sources.iter().enumerate() {
+        match open_source(system, source, standard) {
+            Ok(input) => inputs.push(input)?,
             Err(cause) => return Err(NotOpened::File { index, cause }),
         }
     }
-    Ok(files)
+    Ok(inputs)
 }

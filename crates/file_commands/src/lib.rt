@@ -36,6 +36,7 @@ pub mod page;
 pub mod reporting;
 pub mod show;
 mod source;
+mod standard;
 pub mod status;
 mod tool_fault;
 pub mod without;

@@ -1,19 +1,22 @@
 //! The command `page`: the solutions of several files as a page of HTML.
 
-ghost use Rattle.std.specs.Prelude.{◌≡◌, false, map, OnOk, IfOk, IfErr};
+ghost use Rattle.std.specs.Prelude.{◌≡◌, false, Some, map, OnOk, IfOk, IfErr};
 ghost use Rattle.std.specs.List.{AllByRecursion};
 ghost use Rattle.std.specs.Io.KnownBytes.{IsAtEnd};
 ghost use Rattle.clap.specs.Matches.{found_of};
 ghost use Rattle.clap.specs.Words.{app_of, rows_of};
 ghost use Rattle.clap.specs.declared.builder.command.Command.TheViews.{out-Command};
-ghost use Rattle.file_commands.specs.Best.{AreReadOut, CollectFails};
-ghost use Rattle.file_commands.specs.Page.{AreFiles, AsksForPage, PageFails, PageRan, PageWrites, page_app};
+ghost use Rattle.file_commands.specs.Best.{AreReadOut, CollectFails, FilesRan};
+ghost use Rattle.file_commands.specs.Page.{AreFiles, AsksForPage, PageFails, PagePrefix, PageRan, PageWrites, page_app};
 ghost use Rattle.file_commands.specs.Faults.{IsBeforeOutput};
+ghost use Rattle.file_commands.specs.Inputs.{knowns_of};
 
-use crate::arguments::{files_argument, files_given, new_command};
+use crate::arguments::{files_argument, new_command, sources_given};
 use crate::file_system::{FileSystem, NotOpened, open_all};
 use crate::input::read_input;
-use crate::reporting::{finish, report, report_file};
+use crate::reporting::{finish_among, report, report_unopened};
+use crate::source::Source;
+use crate::standard::{has_standard, read_bytes};
 use crate::tool_fault::ToolFault;
 use clap::{ArgMatches, Command};
 use std::alloc::{AllocError, Global};
@@ -24,8 +27,8 @@ use tws_tables::write_page;
 /// What `page` is asked for.
 #[derive(Drop)]
 pub struct PageArguments {
-    /// The names of the files.
-    pub files: Vec<String>,
+    /// The files, which standard input may be among.
+    pub files: Vec<Source>,
 }
 
 // What the help of the command begins and ends with.
@@ -46,7 +49,7 @@ pub fn command<'a>(alloc: Global) -> Result<Command<'a>, AllocError>
 pub fn asked(alloc: Global, words: &ArgMatches) -> Result<PageArguments, AllocError>
     ensures { IfOk result (AsksForPage (rows_of (found_of words.now))) }
 {
-    let files = files_given(alloc, words)?;
+    let files = sources_given(alloc, words)?;
     Ok(PageArguments { files })
 }
 
@@ -90,27 +93,49 @@ pub fn run_page<R: Read, W: Write>(
     Ok(())
 }
 
-/// Runs `page` over the files of these names, and returns the status.
-pub fn run<S: FileSystem, W: Write, E: Write>(
+// Does the same for these sources, where standard input has the bytes `standard`, and returns the status.
+fn run_over<S: FileSystem, W: Write, E: Write>(
     system: &S,
     alloc: Global,
     arguments: &PageArguments,
+    standard: &[u8],
     out: &mut W,
     errors: &mut E,
 ) -> u8
-    ensures ran { PageRan (S.bytes_of system.now) arguments.now result (W.contents out.old) (W.contents out.new) }
+    ensures ran { FilesRan (PageWrites (knowns_of (S.bytes_of system.now) (Some standard.now) arguments.now.files.items) (W.contents out.old) (W.contents out.new)) (PagePrefix (knowns_of (S.bytes_of system.now) (Some standard.now) arguments.now.files.items) (W.contents out.old) (W.contents out.new)) (knowns_of (S.bytes_of system.now) (Some standard.now) arguments.now.files.items) result (W.contents out.old) (W.contents out.new) }
     ensures unreadable { result ≡ 3 → out.new ≡ out.old }
     ensures silent { result ≡ 0 → errors.new ≡ errors.old }
 {
-    let names = &arguments.files;
-    match open_all(system, alloc, names) {
+    let sources = &arguments.files;
+    match open_all(system, alloc, sources, standard) {
         Ok(mut inputs) => {
             let done = run_page(alloc, &mut inputs, out);
-            finish(done, names, errors)
+            finish_among(done, sources, errors)
         }
         Err(NotOpened::Memory) => report(ToolFault::Memory, &[], errors),
-        Err(NotOpened::File { index, cause }) => {
-            report_file(ToolFault::Read, names[index].as_str(), &cause, errors)
-        }
+        Err(NotOpened::File { index, cause }) => report_unopened(sources, index, &cause, errors),
+    }
+}
+
+/// Runs `page` over these sources, and returns the status. Standard input is read, whole, before any other input is, and is the
+/// same each time that it is named.
+pub fn run<S: FileSystem, R: Read, W: Write, E: Write>(
+    system: &S,
+    alloc: Global,
+    arguments: &PageArguments,
+    input: &mut R,
+    out: &mut W,
+    errors: &mut E,
+) -> u8
+    ensures ran { PageRan (S.bytes_of system.now) (input.new ≡ input.old) arguments.now result (R.remaining input.old) (R.remaining input.new) (W.contents out.old) (W.contents out.new) }
+    ensures unreadable { result ≡ 3 → out.new ≡ out.old }
+    ensures silent { result ≡ 0 → errors.new ≡ errors.old }
+{
+    if !has_standard(&arguments.files) {
+        return run_over(system, alloc, arguments, &[], out, errors);
+    }
+    match read_bytes(alloc, input) {
+        Ok(bytes) => run_over(system, alloc, arguments, &bytes, out, errors),
+        Err(fault) => report(fault, &[], errors),
     }
 }

@@ -4,12 +4,13 @@ ghost use Rattle.std.specs.Prelude.{◌≡◌, ◌≤◌};
 ghost use Rattle.file_commands.specs.Faults.{status_of, answer_status};
 
 use crate::in_words::InWords;
+use crate::source::Source;
 use crate::status::DONE;
 use crate::tool_fault::ToolFault;
 use arrayvec::ArrayString;
 use std::fmt::Write as _;
-use std::io;
 use std::io::Write;
+use std::{io, slice};
 
 /// Reports why a command failed, in one line, and in a second one more of what is known. Returns the status. `names` are the names of its inputs; an input without a name
 /// is standard input.
@@ -29,6 +30,58 @@ pub fn report<E: Write>(fault: ToolFault, names: &[String], errors: &mut E) -> u
         fault => writeln!(errors, "tws: {fault}"),
     };
     fault.status()
+}
+
+// The names of the input with this index, as `report` takes them: standard input has none.
+fn names_at(sources: &[Source], index: usize) -> &[String] {
+    match sources.get(index) {
+        Some(Source::Named(name)) => slice::from_ref(name),
+        _ => &[],
+    }
+}
+
+/// Does the same for a command of several inputs.
+pub(crate) fn report_among<E: Write>(fault: ToolFault, sources: &[Source], errors: &mut E) -> u8
+    ensures { result ≡ status_of fault }
+{
+    match fault {
+        ToolFault::Unreadable { index, fault } => {
+            let first = ToolFault::Unreadable { index: 0, fault };
+            report(first, names_at(sources, index), errors)
+        }
+        fault => report(fault, &[], errors),
+    }
+}
+
+/// Reports why a command of several inputs failed, if it did, and returns the status.
+pub(crate) fn finish_among<E: Write>(
+    done: Result<(), ToolFault>,
+    sources: &[Source],
+    errors: &mut E,
+) -> u8
+    ensures status { result ≡ answer_status done }
+    ensures silent { result ≡ 0 → errors.new ≡ errors.old }
+{
+    match done {
+        Ok(()) => DONE,
+        Err(fault) => report_among(fault, sources, errors),
+    }
+}
+
+/// Reports that the input with this index cannot be opened, and why, and returns the status.
+pub(crate) fn report_unopened<E: Write>(
+    sources: &[Source],
+    index: usize,
+    cause: &io::Error,
+    errors: &mut E,
+) -> u8
+    ensures { result ≡ 2 }
+{
+    let name = match sources.get(index) {
+        Some(Source::Named(name)) => name.as_str(),
+        _ => "standard input",
+    };
+    report_file(ToolFault::Read, name, cause, errors)
 }
 
 /// Reports why a command failed, if it did, and returns the status.

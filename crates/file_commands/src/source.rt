@@ -1,4 +1,4 @@
-/// Where a command that reads one solution file reads it from.
+/// Where an input is read from.
 #[derive(Drop)]
 pub enum Source {
     /// Standard input: no file was named, or `-`.

@@ -23,15 +23,15 @@ pub short_first : (first : ℕ) → first % 4 ≡ 1 → layout_of first ≡ layo
 short_first first e = rw e
 
 -- with low bits 2, a step in two bytes
-middle_first : (first : ℕ) → first % 4 ≡ 2 → layout_of first ≡ layout.MiddleStep
+pub middle_first : (first : ℕ) → first % 4 ≡ 2 → layout_of first ≡ layout.MiddleStep
 middle_first first e = rw e
 
 -- with low bits 3 and bit 4 clear, a step in four bytes
-long_first : (first : ℕ) → first % 4 ≡ 3 → first / 16 % 2 ≡ 0 → layout_of first ≡ layout.LongStep
+pub long_first : (first : ℕ) → first % 4 ≡ 3 → first / 16 % 2 ≡ 0 → layout_of first ≡ layout.LongStep
 long_first first e f = rw (e, f)
 
 -- with low bits 3 and bit 4 set, a code
-code_first : (first : ℕ) → first % 4 ≡ 3 → first / 16 % 2 ≡ 1 → layout_of first ≡ layout.Code
+pub code_first : (first : ℕ) → first % 4 ≡ 3 → first / 16 % 2 ≡ 1 → layout_of first ≡ layout.Code
 code_first first e f = rw (e, f)
 
 -- what a piece of this layout with the value `n` holds

@@ -12,3 +12,4 @@ pub mod PackedBytes
 pub mod NextPieces
 pub mod LateMoves
 pub mod Repacking
+mod Again

@@ -1,14 +1,16 @@
 -- Definitions for the private steps of reading and writing. Callers need none of them.
-use Rattle.std.specs.Prelude.{◌≡◌, ◌==◌, ℕ, ◌+◌, ◌<◌, ◌≤◌, ◌^◌, nat_lt, List, [], ◌∷◌, ◌++◌, length, map, take, drop, if◌then◌else◌}
+use Rattle.std.specs.Prelude.{◌≡◌, ◌==◌, ℕ, ◌+◌, ◌*◌, ◌<◌, ◌≤◌, ◌^◌, nat_lt, List, [], ◌∷◌, ◌++◌, length, map, take, drop, if◌then◌else◌}
 use Rattle.std.specs.List.{flat_map, AllByRecursion}
 use Rattle.std.specs.Int.{w64, trailing_zeros}
 use Rattle.tws_moves.specs.declared.act.Act.{Act}
 use Rattle.tws_moves.specs.declared.act.Act.TheVariants.{Step, Code}
 use Rattle.tws_moves.specs.declared.pending.Pending.{Pending}
 use Rattle.tws_moves.specs.declared.pending.Pending.TheVariants as pending
-use Rattle.tws_moves.specs.Bytes.{little_bytes}
+use Rattle.tws_moves.specs.declared.layout.Layout.{Layout}
+use Rattle.tws_moves.specs.declared.layout.Layout.TheVariants as layout
+use Rattle.tws_moves.specs.Bytes.{number_of, bits, little_bytes}
 use Rattle.tws_moves.specs.Move.{Move, Wait, IsAct, moves_from, tick_after}
-use Rattle.tws_moves.specs.Spelling.{IsPiece, piece_length, waits_of, join}
+use Rattle.tws_moves.specs.Spelling.{IsPiece, layout_of, piece_length, waits_of, join}
 use Rattle.tws_moves.specs.Shortest.{alone, waits_bytes}
 
 -- the bytes are shorter than the piece that they begin, or there are none
@@ -73,6 +75,26 @@ pub record WritesSoFar (waits : List Wait) (bytes : List ℕ) (index : ℕ) : Ty
   pub split : waits_bytes waits ≡ bytes ++ waits_bytes (drop index waits)
 
 -- ---- packing
+
+-- from which value on a code's piece is the shortest for its wait, by how many bytes it has after its first two
+abbrev pub least_more : ℕ → ℕ
+least_more more = if more == 0 then 0 else 2 ^ (8 + 8 * more)
+
+-- The same of any piece of several bytes, by its layout and its first byte. No piece has 2^40 as its value.
+abbrev pub least_in : Layout → ℕ → ℕ
+least_in layout.ThreeSteps first = 2 ^ 40
+least_in layout.ShortStep first = 2 ^ 40
+least_in layout.MiddleStep first = 2 ^ 8
+least_in layout.LongStep first = 2 ^ 16
+least_in layout.Code first = least_more (bits 2 2 first)
+
+abbrev pub least_value : ℕ → ℕ
+least_value first = least_in (layout_of first) first
+
+-- the piece has several bytes and is the shortest for its wait
+abbrev pub IsShortestAlone : List ℕ → Type 0
+IsShortestAlone [] = ⊥
+IsShortestAlone (first ∷ rest) = least_value first ≤ number_of (first ∷ rest)
 
 -- a step that waits three ticks
 abbrev pub plain_step : ℕ → Wait

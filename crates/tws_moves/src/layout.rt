@@ -1,5 +1,6 @@
 ghost use Rattle.std.specs.Prelude.{◌≡◌, ◌≤◌, ℕ, length};
 ghost use Rattle.tws_moves.specs.Spelling.{layout_of, piece_length, layout_waits};
+ghost use Rattle.tws_moves.specs.Steps.{least_value};
 
 /// How a piece of bytes holds moves: one of the five formats in Tile World's comments.
 #[derive(Clone, Copy)]
@@ -57,4 +58,51 @@ pub(crate) fn piece_length(first: u8) -> usize
     } else {
         usize::from(LENGTHS[usize::from(first % 32)])
     }
+}
+
+// What no piece has as its value.
+const NEVER: u64 = 1 << 40;
+
+// From which value on a piece has several bytes and is the shortest for its wait, by the low five bits of its first
+// byte.
+const LEAST: [u64; 32] = [
+    NEVER,
+    NEVER,
+    1 << 8,
+    1 << 16,
+    NEVER,
+    NEVER,
+    1 << 8,
+    1 << 16,
+    NEVER,
+    NEVER,
+    1 << 8,
+    1 << 16,
+    NEVER,
+    NEVER,
+    1 << 8,
+    1 << 16,
+    NEVER,
+    NEVER,
+    1 << 8,
+    0,
+    NEVER,
+    NEVER,
+    1 << 8,
+    1 << 16,
+    NEVER,
+    NEVER,
+    1 << 8,
+    1 << 24,
+    NEVER,
+    NEVER,
+    1 << 8,
+    1 << 32,
+];
+
+/// From which value on a piece that begins with this byte has several bytes and is the shortest for its wait.
+pub(crate) fn least_value(first: u8) -> u64
+    ensures { result ≡ least_value first }
+{
+    LEAST[usize::from(first % 32)]
 }

@@ -4,15 +4,16 @@
 ghost use Rattle.std.specs.Prelude.{◌≡◌, ℕ, ◌+◌, ◌*◌, ◌<◌, ◌%◌, ◌^◌, List, [], ◌∷◌, length, take, ◌++◌, IfOk, IfErr, OnOk, MatchResult};
 ghost use Rattle.tws_moves.specs.declared.moves_fault.MovesFault.TheVariants as fault;
 ghost use Rattle.tws_moves.specs.declared.layout.Layout.TheVariants as layout;
+ghost use Rattle.tws_moves.specs.Bytes.{number_of};
 ghost use Rattle.tws_moves.specs.Move.{Move as Plain};
 ghost use Rattle.tws_moves.specs.Spelling.{IsPiece, IsSpelling, Spells, MovesFail, layout_waits, waits_of};
 ghost use Rattle.tws_moves.specs.Shortest.{packed_bytes, shortest_of};
-ghost use Rattle.tws_moves.specs.Steps.{HasLayout, IsPending, Packs};
+ghost use Rattle.tws_moves.specs.Steps.{HasLayout, IsPending, IsShortestAlone, Packs};
 
 use crate::act::Act;
-use crate::layout::Layout;
+use crate::layout::{Layout, least_value};
 use crate::moves_fault::MovesFault;
-use crate::number::{bits, number_of_first};
+use crate::number::number_of_first;
 use crate::pending::Pending;
 use crate::piece::Piece;
 use crate::reading::{cut_before, split_piece};
@@ -39,18 +40,23 @@ fn pack_wait<A: Allocator>(
     Ok(Pending::None)
 }
 
-// Adds the three steps of a one-byte piece.
+// Adds the three steps of a one-byte piece: with none pending, they are the same byte again.
 fn pack_three<A: Allocator>(
     packed: &mut Vec<u8, A>,
     pending: Pending,
-    number: u64,
+    byte: u8,
 ) -> Result<Pending, AllocError>
-    requires { IsPending pending }
-    ensures { IfOk result (Packs packed.old.items pending (layout_waits layout.ThreeSteps number) packed.new.items) }
+    requires pending { IsPending pending }
+    requires three { byte % 4 ≡ 0 }
+    ensures { IfOk result (Packs packed.old.items pending (waits_of (byte ∷ [])) packed.new.items) }
 {
-    let pending = pending.add(packed, bits(2, 2, number) as u8)?;
-    let pending = pending.add(packed, bits(4, 2, number) as u8)?;
-    pending.add(packed, bits(6, 2, number) as u8)
+    if let Pending::None = pending {
+        packed.push(byte)?;
+        return Ok(Pending::None);
+    }
+    let pending = pending.add(packed, byte / 4 % 4)?;
+    let pending = pending.add(packed, byte / 16 % 4)?;
+    pending.add(packed, byte / 64)
 }
 
 // Adds the step of a one-byte piece: written alone, it is the same byte again.
@@ -75,6 +81,29 @@ fn pack_short<A: Allocator>(
     Ok(Pending::None)
 }
 
+// Adds the wait of a piece that is the shortest for it: written alone, it is the same bytes again.
+fn pack_again<A: Allocator>(
+    packed: &mut Vec<u8, A>,
+    pending: Pending,
+    piece: &[u8],
+    number: u64,
+) -> Result<Pending, AllocError>
+    requires piece { IsPiece piece.now }
+    requires shortest { IsShortestAlone piece.now }
+    requires number { number ≡ number_of piece.now }
+    requires pending { IsPending pending }
+    ensures { IfOk result (Packs packed.old.items pending (waits_of piece.now) packed.new.items) }
+{
+    pending.push_to(packed)?;
+    let again = Piece {
+        number,
+        length: piece.len(),
+        moves: 1,
+    };
+    again.push_to(packed)?;
+    Ok(Pending::None)
+}
+
 // Adds the moves of the piece that the bytes begin with, in any layout. Kept out of the loop over all pieces, most of
 // which are steps in one byte: the loop is faster that way.
 #[inline(never)]
@@ -90,9 +119,13 @@ fn pack_any<A: Allocator>(
     ensures { IfOk result (Packs packed.old.items pending (waits_of piece.now) packed.new.items) }
 {
     let number = number_of_first(bytes, piece.len());
+    // Most pieces of several bytes: to find out what they hold would be a branch for each layout.
+    if number >= least_value(piece[0]) {
+        return pack_again(packed, pending, piece, number);
+    }
     match Wait::in_layout(Layout::of(piece[0]), number) {
         Some(wait) => pack_wait(packed, pending, wait),
-        None => pack_three(packed, pending, number),
+        None => pack_three(packed, pending, piece[0]),
     }
 }
 

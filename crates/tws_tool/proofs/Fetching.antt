@@ -115,19 +115,19 @@ module _ (old new : Option (List ℕ)) (files now : List ℕ → Option (List �
 module _ (old new : Option (List ℕ)) (known : Known) (now : List ℕ → Option (List ℕ)) (arguments : GetArguments) where
   -- what `get` did, by the exit status, if a host was found
   pub get_ran : (host : ℕ) (before after : Option (List Entry)) (r : Result (Unit {0}) ToolFault) → Locates known.host_of (string_bytes arguments.target.address) (Some host)
-      → OnOk r (Gets (record { host = host; port = arguments.target.port }) arguments.ruleset (string_bytes arguments.target.file) before after (get_drafted known.drafted_of arguments) known.bytes_of now old new)
-      → IfErr r (GetFails (record { host = host; port = arguments.target.port }) arguments.ruleset (string_bytes arguments.target.file) before after (get_drafted known.drafted_of arguments) known.bytes_of now old new)
+      → OnOk r (Gets (record { host = host; port = arguments.target.port }) arguments.ruleset (string_bytes arguments.file) before after (get_drafted known.drafted_of arguments) known.bytes_of now old new)
+      → IfErr r (GetFails (record { host = host; port = arguments.target.port }) arguments.ruleset (string_bytes arguments.file) before after (get_drafted known.drafted_of arguments) known.bytes_of now old new)
       → GetRan known arguments (answer_status r) before after now old new
   get_ran host before after r is gets fails = record {
     found = Some host;
     located = is;
     transfers = transfers old new got_line host r
         (map_ok r (λ g. (g.len, g.line)) gets)
-        (map_err r (λ e failed. get_unsaid old new known.bytes_of now _ arguments.ruleset (string_bytes arguments.target.file) before after (get_drafted known.drafted_of arguments) e failed) fails);
-    readable = none_blamed r (map_err r (λ e failed. get_blames_none old new known.bytes_of now _ arguments.ruleset (string_bytes arguments.target.file) before after (get_drafted known.drafted_of arguments) e failed) fails);
+        (map_err r (λ e failed. get_unsaid old new known.bytes_of now _ arguments.ruleset (string_bytes arguments.file) before after (get_drafted known.drafted_of arguments) e failed) fails);
+    readable = none_blamed r (map_err r (λ e failed. get_blames_none old new known.bytes_of now _ arguments.ruleset (string_bytes arguments.file) before after (get_drafted known.drafted_of arguments) e failed) fails);
     ended = λ other. (host, refl, record { done = r; status_is = refl; gets = gets; fails = fails });
     nowhere = λ one. absurd (no_usage r one);
-    harmless = harmless old new known.bytes_of now r (map_err r (λ e failed. get_keeps old new known.bytes_of now _ arguments.ruleset (string_bytes arguments.target.file) before after (get_drafted known.drafted_of arguments) e failed) fails);
+    harmless = harmless old new known.bytes_of now r (map_err r (λ e failed. get_keeps old new known.bytes_of now _ arguments.ruleset (string_bytes arguments.file) before after (get_drafted known.drafted_of arguments) e failed) fails);
   }
 
   -- nothing is sent if no host was found

@@ -14,14 +14,16 @@ use Rattle.archive_turns.specs.Turn.{Replies}
 use Rattle.archive_turns.specs.Wire.{Entry}
 use Rattle.archive_turns.specs.Run.{Run, RunMakes, PutAfter, begin_opened, begin_sized, put_result}
 use Rattle.archive_turns.specs.Rounds.{PutsInRounds}
+use Rattle.file_commands.specs.declared.source.Source.{Source}
+use Rattle.file_commands.specs.declared.source.Source.TheVariants.{Standard, Named}
 use Rattle.file_commands.specs.declared.tool_fault.ToolFault.{ToolFault}
 use Rattle.file_commands.specs.declared.tool_fault.ToolFault.TheVariants as tool
 use Rattle.file_commands.specs.Faults.{answer_status}
 use Rattle.tws_tool.specs.Faults.{run_fault}
 use Rattle.tws_tool.specs.declared.commands.put.PutArguments.{PutArguments}
 use Rattle.tws_tool.specs.Address.{Locates}
-use Rattle.tws_tool.specs.Commands.Put.{IsBlamed, PutFails, PutRan, PutRuns, Puts, SaysSent, put_known}
-use Rattle.file_commands.specs.Inputs.{IsUnreadable}
+use Rattle.tws_tool.specs.Commands.Put.{IsBlamed, PutEnds, PutFails, PutRan, PutRuns, Puts, SaysSent}
+use Rattle.file_commands.specs.Inputs.{IsUnreadable, ReadsSource, known_of}
 use Rattle.file_commands.proofs.Statuses.{at_zero, map_err, map_ok, no_usage}
 use Rattle.tws_tool.proofs.Statuses.{no_host, transfers}
 use Rattle.tws_tool.specs.Lines.{Unsaid, sent_line}
@@ -117,6 +119,11 @@ put_blames known server before after old new (tool.Transfer why) fails = tt
 
 -- ---- by the exit status
 
+-- an input that was not read, at the status of a usage error
+unread_source : (source : Source) (Unread : Type 0) (status : ℕ) (left : Option (List ℕ)) → status ≡ 1 → Unread → ReadsSource source Unread status left
+unread_source Standard Unread status left one unread = (λ none. absurd (omega (arith, none, one)), λ is. unread)
+unread_source (Named name) Unread status left one unread = unread
+
 module _ (old new : Option (List ℕ)) where
   -- a put that fails has written no line, or a proper prefix of it
   put_unsaid : (known : Option (List ℕ)) (server : Endpoint) (before after : Option (List Entry)) (e : ToolFault) → PutFails known server before after old new e → Unsaid sent_line old new e
@@ -137,27 +144,35 @@ module _ (old new : Option (List ℕ)) where
   blamed known (Err tool.Socket) blames three = absurd (omega (arith, three))
   blamed known (Err (tool.Transfer why)) blames three = absurd (omega (arith, three))
 
-  module _ (bytes_of : List ℕ → Option (List ℕ)) (host_of : List ℕ → Option (Option ℕ)) (arguments : PutArguments) where
+  module _ (bytes_of : List ℕ → Option (List ℕ)) (host_of : List ℕ → Option (Option ℕ)) (Unread : Type 0) (arguments : PutArguments) (given left : Option (List ℕ)) where
     -- what `put` did, by the exit status, if a host was found
-    pub put_ran : (host : ℕ) (before after : Option (List Entry)) (r : Result (Unit {0}) ToolFault) → Locates host_of (string_bytes arguments.target.address) (Some host)
-        → OnOk r (Puts (put_known bytes_of arguments) (record { host = host; port = arguments.target.port }) before after old new)
-        → IfErr r (PutFails (put_known bytes_of arguments) (record { host = host; port = arguments.target.port }) before after old new)
-        → PutRan bytes_of host_of arguments (answer_status r) before after old new
-    put_ran host before after r is puts fails = record {
-      found = Some host;
-      located = is;
-      transfers = transfers old new sent_line host r
-          (map_ok r (λ p. (p.len, p.said)) puts) (map_err r (put_unsaid (put_known bytes_of arguments) _ before after) fails);
-      sent = at_zero r (map_ok r (put_says (put_known bytes_of arguments) _ before after old new) puts);
-      unreadable = blamed (put_known bytes_of arguments) r (map_err r (put_blames (put_known bytes_of arguments) _ before after old new) fails);
-      ended = λ other. (host, refl, record { done = r; status_is = refl; puts = puts; fails = fails });
-      nowhere = λ one. absurd (no_usage r one);
-    }
+    pub put_ran : (source : Source) (known : Option (List ℕ)) (host : ℕ) (before after : Option (List Entry)) (r : Result (Unit {0}) ToolFault)
+        → arguments.source ≡ source → known ≡ known_of bytes_of given source → Locates host_of (string_bytes arguments.target.address) (Some host)
+        → OnOk r (Puts known (record { host = host; port = arguments.target.port }) before after old new)
+        → IfErr r (PutFails known (record { host = host; port = arguments.target.port }) before after old new)
+        → ReadsSource source Unread (answer_status r) left → PutRan bytes_of host_of Unread arguments (answer_status r) before after given left old new
+    put_ran source known host before after r source-is known-is is puts fails input =
+        let same : known ≡ known_of bytes_of given arguments.source = known-is ∙ ap (known_of bytes_of given) (sym source-is) in
+        record {
+          found = Some host;
+          located = is;
+          transfers = transfers old new sent_line host r (map_ok r (λ p. (p.len, p.said)) puts) (map_err r (put_unsaid known _ before after) fails);
+          sent = subst (λ (k : Option (List ℕ)). answer_status r ≡ 0 → SaysSent k old new) same (at_zero r (map_ok r (put_says known _ before after old new) puts));
+          unreadable = subst (λ (k : Option (List ℕ)). answer_status r ≡ 3 → IsUnreadable k) same (blamed known r (map_err r (put_blames known _ before after old new) fails));
+          ended = λ other. (
+            host,
+            refl,
+            subst (λ (k : Option (List ℕ)). PutEnds k (record { host = host; port = arguments.target.port }) (answer_status r) before after old new) same
+                (record { done = r; status_is = refl; puts = puts; fails = fails }),
+          );
+          nowhere = λ one. absurd (no_usage r one);
+          input = subst (λ (s : Source). ReadsSource s Unread (answer_status r) left) (sym source-is) input;
+        }
 
-    -- nothing is sent if no host was found
+    -- nothing is sent, and nothing read, if no host was found
     pub put_nowhere : (status : ℕ) (log : Option (List Entry)) → status ≡ 1 → Locates host_of (string_bytes arguments.target.address) None →
-        new ≡ old → PutRan bytes_of host_of arguments status log log old new
-    put_nowhere status log one is same =
+        new ≡ old → Unread → PutRan bytes_of host_of Unread arguments status log log given left old new
+    put_nowhere status log one is same unread =
         record {
           found = None;
           located = is;
@@ -167,4 +182,5 @@ module _ (old new : Option (List ℕ)) where
               λ e. absurd (omega (arith, e, one));
           ended = λ other. absurd (other one);
           nowhere = λ e. refl;
+          input = unread_source arguments.source Unread status left one unread;
         }

@@ -22,8 +22,11 @@ pub record NumberOption : Type 0 where
   pub most : ℕ
   pub default : ℕ
 
+abbrev pub number_rule_to : (most : ℕ) → (name : Text) → Rule
+number_rule_to most name = record (new_rule name) { long = Some name; value_names = 1; parser = Some (parser.Unsigned 1 most) }
+
 abbrev pub number_rule : NumberOption → Rule
-number_rule option = record (new_rule option.name) { long = Some option.name; value_names = 1; parser = Some (parser.Unsigned 1 option.most) }
+number_rule option = number_rule_to option.most option.name
 
 -- `[--port N]`
 abbrev pub port_option : NumberOption
@@ -42,5 +45,4 @@ HasNumber option rows n = IsNumberOr option.default option.most (first_of option
 -- what was found for the arguments that `put` and `get` share
 pub record HasTarget (rows : List Row) (target : Target) : Type 0 where
   pub address_is : first_of address_rule.id rows ≡ Some (string_bytes target.address)
-  pub file_is : first_of file_rule.id rows ≡ Some (string_bytes target.file)
   pub port_is : HasNumber port_option rows target.port

@@ -57,11 +57,11 @@ abbrev pub JobRuns : (known : Known) (now : List ℕ → Option (List ℕ)) → 
 JobRuns known now Unread (Ok (job.Show arguments)) status before after had left old new = (after ≡ before) × (now ≡ known.bytes_of) × ShowRan known.bytes_of Unread arguments status had left old new
 JobRuns known now Unread (Ok (job.Pack arguments)) status before after had left old new = (after ≡ before) × (now ≡ known.bytes_of) × PackRan known.bytes_of Unread arguments status had left old new
 JobRuns known now Unread (Ok (job.Without arguments)) status before after had left old new = (after ≡ before) × (now ≡ known.bytes_of) × WithoutRan known.bytes_of Unread arguments status had left old new
-JobRuns known now Unread (Ok (job.Best arguments)) status before after had left old new = (after ≡ before) × (now ≡ known.bytes_of) × Unread × BestRan known.bytes_of arguments status old new
+JobRuns known now Unread (Ok (job.Best arguments)) status before after had left old new = (after ≡ before) × (now ≡ known.bytes_of) × BestRan known.bytes_of Unread arguments status had left old new
 JobRuns known now Unread (Ok (job.Compare arguments)) status before after had left old new = (after ≡ before) × (now ≡ known.bytes_of) × Unread × CompareRan known.bytes_of arguments status old new
-JobRuns known now Unread (Ok (job.Page arguments)) status before after had left old new = (after ≡ before) × (now ≡ known.bytes_of) × Unread × PageRan known.bytes_of arguments status old new
+JobRuns known now Unread (Ok (job.Page arguments)) status before after had left old new = (after ≡ before) × (now ≡ known.bytes_of) × PageRan known.bytes_of Unread arguments status had left old new
 JobRuns known now Unread (Ok (job.Serve arguments)) status before after had left old new = (after ≡ before) × (now ≡ known.bytes_of) × Unread × ServeRan arguments status old new
-JobRuns known now Unread (Ok (job.Put arguments)) status before after had left old new = (now ≡ known.bytes_of) × Unread × PutRan known.bytes_of known.host_of arguments status before after old new
+JobRuns known now Unread (Ok (job.Put arguments)) status before after had left old new = (now ≡ known.bytes_of) × PutRan known.bytes_of known.host_of Unread arguments status before after had left old new
 JobRuns known now Unread (Ok (job.Get arguments)) status before after had left old new = Unread × GetRan known arguments status before after now old new
 JobRuns known now Unread (Err (fault.Words error)) status before after had left old new = (after ≡ before) × (now ≡ known.bytes_of) × Unread × Explained error status old new
 JobRuns known now Unread (Err fault.Memory) status before after had left old new = (after ≡ before) × (now ≡ known.bytes_of) × Unread × (status ≡ 2) × (new ≡ old)

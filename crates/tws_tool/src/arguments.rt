@@ -4,7 +4,7 @@ ghost use Rattle.std.specs.Prelude.{◌≡◌, ℕ, false, Some, None, IfOk, IfS
 ghost use Rattle.clap.specs.Matches.{found_of};
 ghost use Rattle.clap.specs.Words.{rows_of, rule_of, first_of, one_of};
 ghost use Rattle.file_commands.specs.Arguments.{Answers, IsFlag};
-ghost use Rattle.tws_tool.specs.Arguments.{HasNumber, HasTarget, IsNumberOr, address_rule, file_rule, number_rule, port_option};
+ghost use Rattle.tws_tool.specs.Arguments.{HasNumber, HasTarget, IsNumberOr, address_rule, file_rule, number_rule, number_rule_to, port_option};
 
 use crate::limits::{MAX_PORT, PORT};
 use crate::target::Target;
@@ -35,15 +35,35 @@ pub(crate) fn file_argument<'a>(alloc: Global, help: &'a str) -> Arg<'a>
         .help(help)
 }
 
+/// An option with a number from 1 to `most`.
+pub(crate) fn number_argument<'a>(
+    alloc: Global,
+    name: &'a str,
+    value: &'a str,
+    most: u64,
+    help: &'a str,
+) -> Arg<'a>
+    ensures rule { rule_of result ≡ number_rule_to most name.now }
+    ensures local { result.global ≡ false }
+{
+    Arg::new(alloc, name)
+        .long(name)
+        .value_name(value)
+        .value_parser(ValueParser::Unsigned(1, most))
+        .help(help)
+}
+
 pub(crate) fn port_argument<'a>(alloc: Global) -> Arg<'a>
     ensures rule { rule_of result ≡ number_rule port_option }
     ensures local { result.global ≡ false }
 {
-    Arg::new(alloc, "port")
-        .long("port")
-        .value_name("N")
-        .value_parser(ValueParser::Unsigned(1, MAX_PORT as u64))
-        .help("The server's port, 6969 if none is given")
+    number_argument(
+        alloc,
+        "port",
+        "N",
+        MAX_PORT as u64,
+        "The server's port, 6969 if none is given",
+    )
 }
 
 // ---- what was given
@@ -76,7 +96,7 @@ pub(crate) fn port_given(words: &ArgMatches) -> Option<u16>
     Some(port as u16)
 }
 
-/// The target that was given; `None` if there is none, or the port is out of range.
+/// Where the archive is that was given; `None` if no address was, or the port is out of range.
 pub(crate) fn target_given(alloc: Global, words: &ArgMatches) -> Result<Option<Target>, AllocError>
     ensures { IfOk result (Answers (HasTarget (rows_of (found_of words.now)))) }
 {
@@ -86,12 +106,5 @@ pub(crate) fn target_given(alloc: Global, words: &ArgMatches) -> Result<Option<T
     let Some(address) = string_given(alloc, words, "address")? else {
         return Ok(None);
     };
-    let Some(file) = string_given(alloc, words, "file")? else {
-        return Ok(None);
-    };
-    Ok(Some(Target {
-        address,
-        file,
-        port,
-    }))
+    Ok(Some(Target { address, port }))
 }

@@ -152,11 +152,11 @@ pub(crate) fn run_job<
         Job::Show(arguments) => show::run(system, alloc, arguments, input, out, errors),
         Job::Pack(arguments) => pack::run(system, alloc, arguments, input, out, errors),
         Job::Without(arguments) => without::run(system, alloc, arguments, input, out, errors),
-        Job::Best(arguments) => best::run(system, alloc, arguments, out, errors),
+        Job::Best(arguments) => best::run(system, alloc, arguments, input, out, errors),
         Job::Compare(arguments) => compare::run(system, alloc, arguments, out, errors),
-        Job::Page(arguments) => page::run(system, alloc, arguments, out, errors),
+        Job::Page(arguments) => page::run(system, alloc, arguments, input, out, errors),
         Job::Serve(arguments) => serve::run(rt, alloc, arguments, out, errors),
-        Job::Put(arguments) => put::run(system, wire, alloc, arguments, out, errors),
+        Job::Put(arguments) => put::run(system, wire, alloc, arguments, input, out, errors),
         Job::Get(arguments) => get::run(system, wire, alloc, arguments, out, errors),
     }
 }

@@ -3,8 +3,8 @@
 ghost use Rattle.std.specs.Prelude.{◌≡◌, ◌≤◌};
 ghost use Rattle.file_commands.specs.Faults.{status_of, answer_status};
 
-use crate::printable::Printable;
 use archive_client::Cause;
+use archive_log::Printable;
 use file_commands::ToolFault;
 use file_commands::reporting::report;
 use file_commands::status::{DONE, USAGE};
@@ -31,7 +31,7 @@ pub(crate) fn report_transfer<E: Write>(
     let status = report(fault, names, errors);
     if let ToolFault::Transfer(Cause::Refused(_)) = fault {
         if !refusal.is_empty() {
-            let _ = writeln!(errors, "tws: the server says: {}", Printable(refusal));
+            let _ = writeln!(errors, "tws: the server says: {}", Printable::of(refusal));
         }
     }
     status

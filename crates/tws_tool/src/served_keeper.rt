@@ -1,8 +1,12 @@
 ghost use Rattle.std.specs.Prelude.{◌≡◌, Bool, true};
 
-use archive_folder::{Folder, FolderKeeper};
+use archive_folder::FolderKeeper;
+use archive_host::HostFolder;
 use archive_limit::Limited;
 use archive_table::{Keeper, NoKeeper};
+use std::fs::File;
+use std::io;
+use std::rt::Files;
 
 /// A keeper that a server can serve with, which reports when that has to end.
 pub trait ServedKeeper: Keeper {
@@ -13,6 +17,9 @@ pub trait ServedKeeper: Keeper {
     /// collection or the last one, so the server has to end.
     fn is_usable(&self) -> bool
         ensures { result ≡ usable self.now };
+
+    /// What the system said of its call that failed last, if one has.
+    fn last_error(&self) -> Option<io::Error>;
 }
 
 impl ServedKeeper for NoKeeper {
@@ -21,13 +28,21 @@ impl ServedKeeper for NoKeeper {
     fn is_usable(&self) -> bool {
         true
     }
+
+    fn last_error(&self) -> Option<io::Error> {
+        None
+    }
 }
 
-impl<F: Folder> ServedKeeper for FolderKeeper<F> {
+impl<R: Files<File = File> + AllocGlobal + Copy> ServedKeeper for FolderKeeper<HostFolder<R>> {
     ghost usable = { λ k. k.is_usable };
 
     fn is_usable(&self) -> bool {
         FolderKeeper::is_usable(self)
+    }
+
+    fn last_error(&self) -> Option<io::Error> {
+        self.folder().last_error()
     }
 }
 
@@ -36,5 +51,9 @@ impl<K: ServedKeeper> ServedKeeper for Limited<K> {
 
     fn is_usable(&self) -> bool {
         self.keeper().is_usable()
+    }
+
+    fn last_error(&self) -> Option<io::Error> {
+        self.keeper().last_error()
     }
 }

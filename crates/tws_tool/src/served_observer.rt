@@ -1,12 +1,13 @@
 use archive_log::{HistoryFolder, ServerLog};
-use archive_table::{NoObserver, Observer, Table};
+use archive_table::{NoObserver, Table};
+use archive_turns::ServerObserver;
 use log::Log;
 use std::alloc::Global;
 use std::time::Clock;
 use tftp_packet::Endpoint;
 
 /// An observer that a server can serve with, which is told when the server starts and stops. No contract depends on it.
-pub trait ServedObserver: Observer {
+pub trait ServedObserver: ServerObserver {
     /// The server listens at this address and port, with the collections of its table, kept in this folder if there is
     /// one.
     fn started(&mut self, at: Endpoint, folder: Option<&str>, table: &Table);

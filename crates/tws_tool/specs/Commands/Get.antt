@@ -1,7 +1,7 @@
 -- The command `get`: what it does over any wire, any file and any output.
 use Rattle.std.specs.Prelude.{◌≡◌, ◌≢◌, ◌⊎◌, ℕ, List, Option, Some, Result, Ok, Err, OnOk, IfErr, string_bytes, codes}
 use Rattle.std.specs.Io.KnownBytes.{Appends}
-use Rattle.clap.specs.Words.{App, Row, Text, new_app, with_rule}
+use Rattle.clap.specs.Words.{App, Row, Text, first_of, new_app, with_rule}
 use Rattle.tws_file.specs.declared.«ruleset».Ruleset.{Ruleset}
 use Rattle.tftp_packet.specs.declared.endpoint.Endpoint.{Endpoint}
 use Rattle.archive_turns.specs.declared.run_fault.RunFault.{RunFault}
@@ -31,6 +31,7 @@ get_app names = with_rule (with_rule (with_rule (with_rule (new_app get_name) ad
 -- what was found for its arguments
 pub record AsksToGet (rows : List Row) (arguments : GetArguments) : Type 0 where
   pub rules_are : HasRuleset rows arguments.ruleset
+  pub file_is : first_of file_rule.id rows ≡ Some (string_bytes arguments.file)
   pub target_is : HasTarget rows arguments.target
 
 -- ---- what it does
@@ -96,7 +97,7 @@ pub record GetEnds (server : Endpoint) (rules : Ruleset) (name : List ℕ) (stat
 
 -- what is known that a draft for its file begins with
 abbrev pub get_drafted : (drafted_of : List ℕ → Option (List ℕ)) → GetArguments → Option (List ℕ)
-get_drafted drafted_of arguments = drafted_of (string_bytes arguments.target.file)
+get_drafted drafted_of arguments = drafted_of (string_bytes arguments.file)
 
 -- What it did, by the exit status, given what is known of files and hosts, and of the bytes of the files afterwards. The
 -- server is at the host to which the address that was given leads, and at the port. Only a get whose whole collection
@@ -106,6 +107,6 @@ pub record GetRan (known : Known) (arguments : GetArguments) (status : ℕ) (bef
   pub located : Locates known.host_of (string_bytes arguments.target.address) found
   pub transfers : Transfers found got_line status old new
   pub readable : status ≢ 3
-  pub ended : status ≢ 1 → (host : ℕ) × (found ≡ Some host) × GetEnds (record { host = host; port = arguments.target.port }) arguments.ruleset (string_bytes arguments.target.file) status before after (get_drafted known.drafted_of arguments) known.bytes_of now old new
+  pub ended : status ≢ 1 → (host : ℕ) × (found ≡ Some host) × GetEnds (record { host = host; port = arguments.target.port }) arguments.ruleset (string_bytes arguments.file) status before after (get_drafted known.drafted_of arguments) known.bytes_of now old new
   pub nowhere : status ≡ 1 → (after ≡ before) × Keeps known.bytes_of now
   pub harmless : status ≢ 0 → status ≢ 2 → Keeps known.bytes_of now

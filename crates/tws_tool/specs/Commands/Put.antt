@@ -19,7 +19,8 @@ use Rattle.file_commands.specs.declared.tool_fault.ToolFault.TheVariants.{Read, 
 use Rattle.tws_tool.specs.Address.{Locates}
 use Rattle.tws_tool.specs.Arguments.{HasTarget, address_rule, file_rule, number_rule, port_option}
 use Rattle.file_commands.specs.Faults.{answer_status}
-use Rattle.file_commands.specs.Inputs.{IsUnreadable}
+use Rattle.file_commands.specs.Arguments.{HasSource}
+use Rattle.file_commands.specs.Inputs.{IsUnreadable, ReadsSource, known_of}
 use Rattle.tws_tool.specs.Lines.{Transfers, sent_line}
 
 abbrev pub put_name : Text
@@ -30,8 +31,9 @@ abbrev pub put_app : App
 put_app = with_rule (with_rule (with_rule (new_app put_name) address_rule) file_rule) (number_rule port_option)
 
 -- what was found for its arguments
-abbrev pub AsksToPut : List Row → PutArguments → Type 0
-AsksToPut rows arguments = HasTarget rows arguments.target
+pub record AsksToPut (rows : List Row) (arguments : PutArguments) : Type 0 where
+  pub source_is : HasSource rows arguments.source
+  pub target_is : HasTarget rows arguments.target
 
 -- ---- what it does
 
@@ -116,17 +118,16 @@ pub record PutEnds (known : Option (List ℕ)) (server : Endpoint) (status : ℕ
   pub puts : OnOk done (Puts known server before after old new)
   pub fails : IfErr done (PutFails known server before after old new)
 
--- what is known of the bytes of its file
-abbrev pub put_known : (bytes_of : List ℕ → Option (List ℕ)) → PutArguments → Option (List ℕ)
-put_known bytes_of arguments = bytes_of (string_bytes arguments.target.file)
-
 -- What it did, by the exit status, given what is known of the bytes of the file with each name, and of the hosts of
--- names. The server is at the host to which the address that was given leads, and at the port.
-pub record PutRan (bytes_of : List ℕ → Option (List ℕ)) (host_of : List ℕ → Option (Option ℕ)) (arguments : PutArguments) (status : ℕ) (before after : Option (List Entry)) (old new : Option (List ℕ)) : Type 0 where
+-- names, and what holds if standard input was not read: the log of the wire before and after, what standard input had and
+-- has left, and the output before and after. The server is at the host to which the address that was given leads, and at
+-- the port.
+pub record PutRan (bytes_of : List ℕ → Option (List ℕ)) (host_of : List ℕ → Option (Option ℕ)) (Unread : Type 0) (arguments : PutArguments) (status : ℕ) (before after : Option (List Entry)) (given left old new : Option (List ℕ)) : Type 0 where
   pub found : Option ℕ
   pub located : Locates host_of (string_bytes arguments.target.address) found
   pub transfers : Transfers found sent_line status old new
-  pub sent : status ≡ 0 → SaysSent (put_known bytes_of arguments) old new
-  pub unreadable : status ≡ 3 → IsUnreadable (put_known bytes_of arguments)
-  pub ended : status ≢ 1 → (host : ℕ) × (found ≡ Some host) × PutEnds (put_known bytes_of arguments) (record { host = host; port = arguments.target.port }) status before after old new
+  pub sent : status ≡ 0 → SaysSent (known_of bytes_of given arguments.source) old new
+  pub unreadable : status ≡ 3 → IsUnreadable (known_of bytes_of given arguments.source)
+  pub ended : status ≢ 1 → (host : ℕ) × (found ≡ Some host) × PutEnds (known_of bytes_of given arguments.source) (record { host = host; port = arguments.target.port }) status before after old new
   pub nowhere : status ≡ 1 → after ≡ before
+  pub input : ReadsSource arguments.source Unread status left

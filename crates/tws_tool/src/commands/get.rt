@@ -21,7 +21,7 @@ use crate::run_fault::of_run;
 use crate::target::Target;
 use archive_turns::{GetRun, RunFault, get_in_rounds};
 use clap::{ArgMatches, Command};
-use file_commands::arguments::{new_command, ruleset_argument, ruleset_given};
+use file_commands::arguments::{new_command, ruleset_argument, ruleset_given, string_given};
 use file_commands::reporting::report_file;
 use file_commands::status::DONE;
 use file_commands::{FileSystem, ToolFault};
@@ -36,7 +36,9 @@ use tws_file::Ruleset;
 pub struct GetArguments {
     /// The collection of this ruleset.
     pub ruleset: Ruleset,
-    /// The file that is written, and where the archive is.
+    /// The name of the file that is written.
+    pub file: String,
+    /// Where the archive is.
     pub target: Target,
 }
 
@@ -64,10 +66,17 @@ pub(crate) fn asked(alloc: Global, words: &ArgMatches) -> Result<Option<GetArgum
     let Some(ruleset) = ruleset_given(words) else {
         return Ok(None);
     };
+    let Some(file) = string_given(alloc, words, "file")? else {
+        return Ok(None);
+    };
     let Some(target) = target_given(alloc, words)? else {
         return Ok(None);
     };
-    Ok(Some(GetArguments { ruleset, target }))
+    Ok(Some(GetArguments {
+        ruleset,
+        file,
+        target,
+    }))
 }
 
 /// Why a collection was not fetched, or not reported.
@@ -203,11 +212,11 @@ pub(crate) fn run<S: FileSystem + Resolver, N: TransferWire, W: Write, E: Write>
         alloc,
         Endpoint { host, port },
         arguments.ruleset,
-        target.file.as_str(),
+        arguments.file.as_str(),
         out,
     );
     match done {
         Ok(()) => DONE,
-        Err(fault) => report_get(fault, target.file.as_str(), wire.refusal(), errors),
+        Err(fault) => report_get(fault, arguments.file.as_str(), wire.refusal(), errors),
     }
 }

@@ -28,9 +28,9 @@ use crate::target::Target;
 use archive_client::Cause;
 use archive_turns::{RunFault, put_in_rounds};
 use clap::{ArgMatches, Command};
-use file_commands::arguments::new_command;
+use file_commands::arguments::{new_command, source_given};
 use file_commands::reporting::report_file;
-use file_commands::{FileSystem, INPUT_READS, ToolFault};
+use file_commands::{FileSystem, INPUT_READS, Source, ToolFault};
 use std::alloc::{AllocError, Global};
 use std::io::{Read, Write};
 use std::slice;
@@ -41,7 +41,9 @@ use tws_file::read_file;
 /// What `put` is asked for.
 #[derive(Drop)]
 pub struct PutArguments {
-    /// The file that is sent, and where to.
+    /// The solution file.
+    pub source: Source,
+    /// Where it is sent.
     pub target: Target,
 }
 
@@ -57,7 +59,7 @@ pub(crate) fn command<'a>(alloc: Global) -> Result<Command<'a>, AllocError>
 {
     new_command(alloc, "put", ABOUT, HELP)
         .arg(address_argument(alloc))?
-        .arg(file_argument(alloc, "The solution file"))?
+        .arg(file_argument(alloc, "The solution file; standard input if it is -"))?
         .arg(port_argument(alloc))
 }
 
@@ -68,7 +70,8 @@ pub(crate) fn asked(alloc: Global, words: &ArgMatches) -> Result<Option<PutArgum
     let Some(target) = target_given(alloc, words)? else {
         return Ok(None);
     };
-    Ok(Some(PutArguments { target }))
+    let source = source_given(alloc, words)?;
+    Ok(Some(PutArguments { source, target }))
 }
 
 // Reads all bytes of an input, in at most `INPUT_READS` reads. One that is longer than a file may be is left once it is
@@ -158,15 +161,17 @@ pub fn put_file<R: Read, N: TransferWire, W: Write>(
 }
 
 /// Runs `put` over this wire, and returns the status.
-pub(crate) fn run<S: FileSystem + Resolver, N: TransferWire, W: Write, E: Write>(
+pub(crate) fn run<S: FileSystem + Resolver, N: TransferWire, R: Read, W: Write, E: Write>(
     system: &S,
     wire: &mut N,
     alloc: Global,
     arguments: &PutArguments,
+    input: &mut R,
     out: &mut W,
     errors: &mut E,
 ) -> u8
-    ensures ran { PutRan (S.bytes_of system.now) (S.host_of system.now) arguments.now result (N.log wire.old) (N.log wire.new) (W.contents out.old) (W.contents out.new) }
+    ensures ran { PutRan (S.bytes_of system.now) (S.host_of system.now) (input.new ≡ input.old) arguments.now result (N.log wire.old) (N.log wire.new) (R.remaining input.old) (R.remaining input.new) (W.contents out.old) (W.contents out.new) }
+    ensures usage { result ≡ 1 → input.new ≡ input.old }
     ensures unwritten { result ≢ 0 → result ≢ 2 → out.new ≡ out.old }
     ensures silent { result ≡ 0 → errors.new ≡ errors.old }
 {
@@ -174,11 +179,19 @@ pub(crate) fn run<S: FileSystem + Resolver, N: TransferWire, W: Write, E: Write>
     let Some(host) = locate(system, target.address.as_str()) else {
         return bad_address(errors);
     };
-    let mut input = match system.open(target.file.as_str()) {
-        Ok(input) => input,
-        Err(cause) => return report_file(ToolFault::Read, target.file.as_str(), &cause, errors),
-    };
     let port = target.port;
-    let done = put_file(alloc, &mut input, wire, Endpoint { host, port }, out);
-    finish_transfer(done, wire.refusal(), slice::from_ref(&target.file), errors)
+    let server = Endpoint { host, port };
+    match &arguments.source {
+        Source::Standard => {
+            let done = put_file(alloc, input, wire, server, out);
+            finish_transfer(done, wire.refusal(), &[], errors)
+        }
+        Source::Named(name) => match system.open(name.as_str()) {
+            Ok(mut file) => {
+                let done = put_file(alloc, &mut file, wire, server, out);
+                finish_transfer(done, wire.refusal(), slice::from_ref(name), errors)
+            }
+            Err(cause) => report_file(ToolFault::Read, name.as_str(), &cause, errors),
+        },
+    }
 }

@@ -1,6 +1,8 @@
 //! The command `serve`.
 
-ghost use Rattle.std.specs.Prelude.{◌≡◌, ◌⊎◌, ◌++◌, ◌<◌, ◌≤◌, ◌+◌, Bool, true, false, None, OnOk, IfOk, IfErr, IfSome, IfNone, option_map, string_bytes};
+ghost use Rattle.std.specs.Prelude.{◌≡◌, ◌⊎◌, ◌++◌, ◌<◌, ◌≤◌, ◌+◌, Bool, true, false, min, None, OnOk, IfOk, IfErr, IfSome, IfNone, option_map, string_bytes};
+ghost use Rattle.tftp_ends.specs.declared.limits.TheConstants.{MAX_FILE};
+ghost use Rattle.archive_limit.specs.Limited.{own_log};
 ghost use Rattle.archive_table.specs.declared.limits.TheConstants.{LIVE};
 ghost use Rattle.archive_turns.specs.Turn.{MakesPass, count_if, fresh_server};
 ghost use Rattle.file_commands.specs.Faults.{answer_status};
@@ -11,19 +13,20 @@ use crate::commands::serve_arguments::ServeArguments;
 use crate::limits::TURNS;
 use crate::line::write_line;
 use crate::reporting::bad_address;
+use crate::reporting_keeper::ReportingKeeper;
 use crate::served_keeper::ServedKeeper;
 use crate::served_observer::ServedObserver;
 use archive_host::{DirKeeper, HostFolder, OpenFault, UdpWire};
-use archive_limit::Limited;
 use archive_log::{HostHistory, ServerLog};
-use archive_table::{Keeper, NoKeeper, NoObserver, Observer};
-use archive_turns::{ReadyWire, Server};
+use archive_table::{Keeper, NoKeeper, NoObserver};
+use archive_turns::{ReadyWire, Server, ServerObserver};
 use file_commands::ToolFault;
 use file_commands::reporting::finish;
 use file_commands::status::FAILED;
 use log::sink::Console;
 use std::alloc::Global;
 use std::fs::File;
+use std::io;
 use std::io::Write;
 use std::net::Net;
 use std::random::RandomSource;
@@ -62,8 +65,8 @@ fn count_of(passes: Passes) -> u64
     }
 }
 
-// Makes one turn or round of a server. The observer is told of the steps of a round. Returns how many files were taken, of which there were `taken` before.
-fn make_pass<N: ReadyWire, K: Keeper, O: Observer>(
+// Makes one turn or round of a server. Returns how many files were taken, of which there were `taken` before.
+fn make_pass<N: ReadyWire, K: Keeper, O: ServerObserver>(
     wire: &mut N,
     keeper: &mut K,
     observer: &mut O,
@@ -76,14 +79,14 @@ fn make_pass<N: ReadyWire, K: Keeper, O: Observer>(
     ensures few { result ≤ taken + 1 }
 {
     let took = match passes {
-        Passes::Turns(_) => server.turn(wire, keeper),
+        Passes::Turns(_) => server.turn(wire, keeper, observer),
         Passes::Rounds(_) => server.round(wire, keeper, observer),
     };
     if took { taken + 1 } else { taken }
 }
 
 // Makes these turns or rounds of a server, as long as its keeper is usable. Returns how many files were taken.
-fn make_passes<N: ReadyWire, K: ServedKeeper, O: Observer>(
+fn make_passes<N: ReadyWire, K: ServedKeeper, O: ServerObserver>(
     wire: &mut N,
     keeper: &mut K,
     observer: &mut O,
@@ -107,13 +110,13 @@ fn make_passes<N: ReadyWire, K: ServedKeeper, O: Observer>(
 }
 
 /// Prints that a server serves on this port, makes these turns or rounds of it, and prints how many files were taken.
-/// Once its keeper is not usable it makes none any more. The observer is told of the steps of rounds.
+/// Once its keeper is not usable it makes none any more.
 ///
 /// # Errors
 ///
 /// `Write` if the writer fails, and `Memory` if out of memory for a line. If that is the first line no turn or round
 /// was made.
-pub fn serve_archive<N: ReadyWire, K: ServedKeeper, O: Observer, W: Write>(
+pub fn serve_archive<N: ReadyWire, K: ServedKeeper, O: ServerObserver, W: Write>(
     alloc: Global,
     wire: &mut N,
     keeper: &mut K,
@@ -145,6 +148,18 @@ fn not_opened<E: Write>(fault: OpenFault, name: &str, errors: &mut E) -> u8
 {
     let status = not_loaded(name, errors);
     let _ = writeln!(errors, "tws: {name}: {fault}");
+    status
+}
+
+// Reports that nothing can be kept in a folder, with the system's cause on a second line, and returns the status.
+fn not_writable<E: Write>(cause: Option<io::Error>, name: &str, errors: &mut E) -> u8
+    ensures { result ≡ 2 }
+{
+    let status = not_loaded(name, errors);
+    let _ = match cause {
+        Some(cause) => writeln!(errors, "tws: {name}: folder not writable: {cause}"),
+        None => writeln!(errors, "tws: {name}: folder not writable"),
+    };
     status
 }
 
@@ -266,7 +281,12 @@ fn serve_with<
     end_serving(done, keeper.is_usable(), name, errors)
 }
 
-// The same with the log and the history that were asked for. Neither knows of turns.
+// Standard error, if there is to be a log.
+fn console<P: Eprint + Copy>(rt: P, is_logged: bool) -> Option<Console<P>> {
+    if is_logged { Some(Console(rt)) } else { None }
+}
+
+// The same with the log and the history that were asked for.
 fn serve_logged<
     P: Files<File = File> + Net + Clock + RandomSource + Eprint + AllocGlobal + Copy,
     K: ServedKeeper,
@@ -278,19 +298,20 @@ fn serve_logged<
     arguments: &ServeArguments,
     host: u32,
     server: Server,
-    keeper: &mut K,
+    keeper: &mut ReportingKeeper<K, P, Option<Console<P>>>,
     name: &str,
     out: &mut W,
     errors: &mut E,
 ) -> u8
     requires fresh { server ≡ fresh_server LIVE server.table }
     requires port { server.table.request ≡ arguments.now.port }
-    ensures served { Served arguments.now.port arguments.now.turns arguments.now.per_host server.table result (K.usable keeper.new) (K.log keeper.old) (K.log keeper.new) (W.contents out.old) (W.contents out.new) }
+    // What is longer is refused by such a keeper.
+    requires limit { keeper.old.keeper.limit ≡ min arguments.now.limit MAX_FILE }
+    ensures served { Served arguments.now.port arguments.now.turns arguments.now.per_host server.table result (K.usable keeper.new.keeper.keeper) (own_log (K.log keeper.old.keeper.keeper) keeper.old.keeper.entries) (own_log (K.log keeper.new.keeper.keeper) keeper.new.keeper.entries) (W.contents out.old) (W.contents out.new) }
     ensures status { (result ≡ 0) ⊎ (result ≡ 2) }
     ensures silent { result ≡ 0 → errors.new ≡ errors.old }
 {
-    let is_logged = arguments.log || arguments.history.is_some();
-    if !is_logged || arguments.turns < TURNS {
+    if !arguments.log && arguments.history.is_none() {
         return serve_with(
             rt,
             alloc,
@@ -311,12 +332,7 @@ fn serve_logged<
         },
         None => None,
     };
-    let sink = if arguments.log {
-        Some(Console(rt))
-    } else {
-        None
-    };
-    let mut log = ServerLog::new(alloc, rt, sink, history);
+    let mut log = ServerLog::new(alloc, rt, console(rt, arguments.log), history);
     serve_with(
         rt, alloc, arguments, host, server, keeper, &mut log, name, out, errors,
     )
@@ -334,9 +350,10 @@ fn serve_at<
     ensures silent { result ≡ 0 → errors.new ≡ errors.old }
 {
     let limit = arguments.limit;
+    let log = console(rt, arguments.log);
     let Some(dir) = &arguments.dir else {
         let server = Server::new(alloc, arguments.port);
-        let mut keeper = Limited::new(NoKeeper, limit);
+        let mut keeper = ReportingKeeper::new(NoKeeper, limit, rt, log);
         return serve_logged(
             rt,
             alloc,
@@ -355,10 +372,13 @@ fn serve_at<
         Err(fault) => return not_opened(fault, name, errors),
     };
     let mut keeper = DirKeeper::new(folder);
+    if keeper.clear_drafts().is_err() {
+        return not_writable(keeper.last_error(), name, errors);
+    }
     let Ok(server) = Server::load(alloc, arguments.port, &mut keeper) else {
         return not_loaded(name, errors);
     };
-    let mut keeper = Limited::new(keeper, limit);
+    let mut keeper = ReportingKeeper::new(keeper, limit, rt, log);
     serve_logged(
         rt,
         alloc,

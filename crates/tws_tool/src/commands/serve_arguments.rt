@@ -5,13 +5,12 @@ ghost use Rattle.clap.specs.Matches.{found_of};
 ghost use Rattle.clap.specs.Words.{app_of, rows_of, rule_of};
 ghost use Rattle.clap.specs.declared.builder.command.Command.TheViews.{out-Command};
 ghost use Rattle.file_commands.specs.Arguments.{Answers};
-ghost use Rattle.tws_tool.specs.Arguments.{number_rule};
-ghost use Rattle.tws_tool.specs.Commands.Serve.{AsksToServe, bound_rule, dir_rule, history_rule, limit_option, log_rule, numbers_app, per_host_option, places_app, serve_app, turns_option};
+ghost use Rattle.tws_tool.specs.Commands.Serve.{AsksToServe, log_rule, numbers_app, places_app, serve_app, text_rule};
 
-use crate::arguments::{flag_given, number_given, port_argument, port_given};
+use crate::arguments::{flag_given, number_argument, number_given, port_argument, port_given};
 use crate::limits::{PER_HOST, TURNS};
 use archive_table::LIVE;
-use clap::builder::{ArgAction, ValueParser};
+use clap::builder::ArgAction;
 use clap::{Arg, ArgMatches, Command};
 use file_commands::arguments::{new_command, string_given};
 use std::alloc::{AllocError, Global};
@@ -38,57 +37,15 @@ pub struct ServeArguments {
     pub history: Option<String>,
 }
 
-fn turns_argument<'a>(alloc: Global) -> Arg<'a>
-    ensures rule { rule_of result ≡ number_rule turns_option }
+// An option with a text.
+fn text_argument<'a>(alloc: Global, name: &'a str, value: &'a str, help: &'a str) -> Arg<'a>
+    ensures rule { rule_of result ≡ text_rule name.now }
     ensures local { result.global ≡ false }
 {
-    Arg::new(alloc, "turns")
-        .long("turns")
-        .value_name("N")
-        .value_parser(ValueParser::Unsigned(1, TURNS))
-        .help("Stop after this many turns")
-}
-
-fn per_host_argument<'a>(alloc: Global) -> Arg<'a>
-    ensures rule { rule_of result ≡ number_rule per_host_option }
-    ensures local { result.global ≡ false }
-{
-    Arg::new(alloc, "per-host")
-        .long("per-host")
-        .value_name("N")
-        .value_parser(ValueParser::Unsigned(1, LIVE as u64))
-        .help("At most this many transfers of one host, 32 if none is given")
-}
-
-fn limit_argument<'a>(alloc: Global) -> Arg<'a>
-    ensures rule { rule_of result ≡ number_rule limit_option }
-    ensures local { result.global ≡ false }
-{
-    Arg::new(alloc, "limit")
-        .long("limit")
-        .value_name("BYTES")
-        .value_parser(ValueParser::Unsigned(1, MAX_FILE))
-        .help("Keep no collection of more bytes; all that can be served if none is given")
-}
-
-fn bound_argument<'a>(alloc: Global) -> Arg<'a>
-    ensures rule { rule_of result ≡ bound_rule }
-    ensures local { result.global ≡ false }
-{
-    Arg::new(alloc, "address")
-        .long("address")
-        .value_name("ADDRESS")
-        .help("This IPv4 address of this host, every one if none is given")
-}
-
-fn dir_argument<'a>(alloc: Global) -> Arg<'a>
-    ensures rule { rule_of result ≡ dir_rule }
-    ensures local { result.global ≡ false }
-{
-    Arg::new(alloc, "dir")
-        .long("dir")
-        .value_name("DIR")
-        .help("The folder that keeps the collections")
+    Arg::new(alloc, name)
+        .long(name)
+        .value_name(value)
+        .help(help)
 }
 
 fn log_argument<'a>(alloc: Global) -> Arg<'a>
@@ -101,16 +58,6 @@ fn log_argument<'a>(alloc: Global) -> Arg<'a>
         .help("With a line on standard error for each event")
 }
 
-fn history_argument<'a>(alloc: Global) -> Arg<'a>
-    ensures rule { rule_of result ≡ history_rule }
-    ensures local { result.global ≡ false }
-{
-    Arg::new(alloc, "history")
-        .long("history")
-        .value_name("DIR")
-        .help("The folder that keeps each file that changes a collection")
-}
-
 // The command with only its options that are numbers.
 fn numbers_command<'a>(alloc: Global) -> Result<Command<'a>, AllocError>
     ensures app { IfOk result (λ command. app_of command ≡ numbers_app) }
@@ -118,9 +65,21 @@ fn numbers_command<'a>(alloc: Global) -> Result<Command<'a>, AllocError>
 {
     new_command(alloc, "serve", ABOUT, HELP)
         .arg(port_argument(alloc))?
-        .arg(turns_argument(alloc))?
-        .arg(per_host_argument(alloc))?
-        .arg(limit_argument(alloc))
+        .arg(number_argument(alloc, "turns", "N", TURNS, "Stop after this many turns"))?
+        .arg(number_argument(
+            alloc,
+            "per-host",
+            "N",
+            LIVE as u64,
+            "At most this many transfers of one host, 32 if none is given",
+        ))?
+        .arg(number_argument(
+            alloc,
+            "limit",
+            "BYTES",
+            MAX_FILE,
+            "Keep no collection of more bytes; all that can be served if none is given",
+        ))
 }
 
 // What the help of the command begins and ends with.
@@ -135,8 +94,13 @@ fn places_command<'a>(alloc: Global) -> Result<Command<'a>, AllocError>
     ensures local { IfOk result (λ command. (out-Command command).has_globals ≡ false) }
 {
     numbers_command(alloc)?
-        .arg(bound_argument(alloc))?
-        .arg(dir_argument(alloc))
+        .arg(text_argument(
+            alloc,
+            "address",
+            "ADDRESS",
+            "This IPv4 address of this host, every one if none is given",
+        ))?
+        .arg(text_argument(alloc, "dir", "DIR", "The folder that keeps the collections"))
 }
 
 pub(crate) fn command<'a>(alloc: Global) -> Result<Command<'a>, AllocError>
@@ -145,7 +109,12 @@ pub(crate) fn command<'a>(alloc: Global) -> Result<Command<'a>, AllocError>
 {
     places_command(alloc)?
         .arg(log_argument(alloc))?
-        .arg(history_argument(alloc))
+        .arg(text_argument(
+            alloc,
+            "history",
+            "DIR",
+            "The folder that keeps each file that changes a collection",
+        ))
 }
 
 /// What the arguments ask for; `None` if a number is out of range.

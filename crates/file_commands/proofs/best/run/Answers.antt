@@ -1,20 +1,37 @@
-use Rattle.std.proofs.Common.{◌≡◌, ◌∙◌, ℕ, List, Option, map, OnOk, IfErr, ap, sym, subst, string_bytes}
-use Rattle.file_commands.specs.Best.{BestFails, BestPrefix, BestRan, BestWrites, best_knowns}
-use Rattle.file_commands.proofs.Collecting.{files_ran}
+use Rattle.std.proofs.Common.{◌≡◌, ◌∙◌, ℕ, true, false, List, [], Option, Some, IfSome, refl, ap, sym, subst, true≢false}
+use Rattle.file_commands.specs.Best.{FilesRan}
+use Rattle.file_commands.specs.Best.{BestPrefix, BestWrites}
+use Rattle.file_commands.specs.Inputs.{has_standard}
+use Rattle.file_commands.proofs.Sources.{best_read, knowns_without}
 use Rattle.file_commands.proofs.best.run.Goals as goal
+
+pub returns-then-not-has_standard-clause-ran : goal.returns-then-not-has_standard-clause-ran
+returns-then-not-has_standard-clause-ran g c =
+    let bytes_of = g.S.FileSystem.bytes_of c.args.system.now in
+    let arguments = c.args.arguments.now in
+    let sources = arguments.files.items in
+    let rules = arguments.ruleset in
+    let given = g.R.Read.remaining c.args.input.now in
+    let old = g.W.Write.contents c.args.out.now in
+    let new = g.W.Write.contents c.run_over.new.out in
+    let none : has_standard sources ≡ false = ap has_standard (sym c.deref.ensures.value) ∙ sym c.has_standard.ensures ∙ c.if-not-has_standard.true in (
+      record { unread = λ is. refl; ended = λ is zero. absurd (true≢false (sym is ∙ none)) },
+      subst (λ (ks : List (Option (List ℕ))). FilesRan (BestWrites rules ks old new) (BestPrefix rules ks old new) ks c.run_over.result old new) (knowns_without bytes_of (Some []) given sources none) c.run_over.ensures.ran,
+    )
 
 pub returns-in-Ok-clause-ran : goal.returns-in-Ok-clause-ran
 returns-in-Ok-clause-ran g c =
-    let old = g.W.Write.contents c.args.out.now in
-    let new = g.W.Write.contents c.run_best-done.new.out in
     let bytes_of = g.S.FileSystem.bytes_of c.args.system.now in
     let arguments = c.args.arguments.now in
+    let sources = arguments.files.items in
     let rules = arguments.ruleset in
-    let knowns = best_knowns bytes_of arguments in
-    let done = c.run_best-done.result in
-    let same : map (λ file. g.S.File.Read.remaining file) c.deref_mut.result.now ≡ knowns =
-    ap (λ xs. map (λ file. g.S.File.Read.remaining file) xs) c.deref_mut.ensures.value ∙ c.in-Ok.ensures.opened ∙ ap (λ xs. map (λ name. bytes_of (string_bytes name)) xs) c.deref.ensures.value in
-    let writes = subst (λ (ks : List (Option (List ℕ))). OnOk done (BestWrites rules ks old new)) same c.run_best-done.ensures.collected in
-    let fails = subst (λ (ks : List (Option (List ℕ))). IfErr done (BestFails rules ks old new)) same c.run_best-done.ensures.fails in
-    subst (λ (n : ℕ). BestRan bytes_of arguments n old new) (sym c.finish.ensures.status)
-    (files_ran (BestWrites rules knowns old new) (BestPrefix rules knowns old new) knowns done old new writes fails)
+    let given = g.R.Read.remaining c.args.input.now in
+    let old = g.W.Write.contents c.args.out.now in
+    let new = g.W.Write.contents c.run_over-in-Ok.new.out in
+    let bytes = c.deref-in-Ok.result.now in
+    let some : has_standard sources ≡ true = ap has_standard (sym c.deref.ensures.value) ∙ sym c.has_standard.ensures ∙ c.if-not-has_standard.false in
+    let same : IfSome given (λ (xs : List ℕ). bytes ≡ xs) =
+    subst (λ (ys : List ℕ). IfSome given (λ (xs : List ℕ). ys ≡ xs)) (sym c.deref-in-Ok.ensures.value) c.in-Ok.ensures.bytes in (
+      record { unread = λ is. absurd (true≢false (sym some ∙ is)); ended = λ is zero. c.in-Ok.ensures.end },
+      best_read bytes_of bytes sources given same c.run_over-in-Ok.result old new rules c.run_over-in-Ok.ensures.ran,
+    )

@@ -18,7 +18,7 @@ returns-in-Ok-clause-ran g c =
     let arguments = c.args.arguments.now in
     let host = c.in-Some.host in
     let text : c.as_str.result.now ≡ string_bytes arguments.target.address = search rules in
-    let name : c.as_str-2.result.now ≡ string_bytes arguments.target.file = search rules in
+    let name : c.as_str-2.result.now ≡ string_bytes arguments.file = search rules in
     let here = subst (λ (t : List ℕ). Locates host_of t (Some host)) text (subst (λ (f : Option ℕ). Locates host_of c.as_str.result.now f) c.in-Some.is c.locate.ensures) in
     get_ran old new (record { bytes_of = files; drafted_of = drafted_of; host_of = host_of }) now arguments host before after (Ok tt) here
     (subst (λ (n : List ℕ). Gets (record { host = host; port = arguments.target.port }) arguments.ruleset n before after (drafted_of n) files now old new) name c.in-Ok.ensures.got)
@@ -37,7 +37,7 @@ returns-in-Err-clause-ran g c =
     let arguments = c.args.arguments.now in
     let host = c.in-Some.host in
     let text : c.as_str.result.now ≡ string_bytes arguments.target.address = search rules in
-    let name : c.as_str-2.result.now ≡ string_bytes arguments.target.file = search rules in
+    let name : c.as_str-2.result.now ≡ string_bytes arguments.file = search rules in
     let here = subst (λ (t : List ℕ). Locates host_of t (Some host)) text (subst (λ (f : Option ℕ). Locates host_of c.as_str.result.now f) c.in-Some.is c.locate.ensures) in
     let known : Known = record { bytes_of = files; drafted_of = drafted_of; host_of = host_of } in
     subst (λ (n : ℕ). GetRan known arguments n before after now old new) (sym c.report_get.ensures)

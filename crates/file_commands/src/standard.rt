@@ -1,0 +1,41 @@
+//! Standard input, where it is among several inputs.
+
+ghost use Rattle.std.specs.Prelude.{◌≡◌, IfOk, IfErr, IfSome, OnOk};
+ghost use Rattle.std.specs.Io.KnownBytes.{IsAtEnd};
+ghost use Rattle.file_commands.specs.Faults.{IsReadFault};
+ghost use Rattle.file_commands.specs.Inputs.{has_standard};
+
+use crate::input::INPUT_READS;
+use crate::source::Source;
+use crate::tool_fault::ToolFault;
+use std::alloc::Global;
+use std::io::Read;
+
+/// Whether standard input is among these.
+pub(crate) fn has_standard(sources: &[Source]) -> bool
+    ensures { result ≡ has_standard sources.now }
+{
+    sources
+        .iter()
+        .any(|source| matches!(source, Source::Standard))
+}
+
+/// Reads all bytes of an input.
+pub(crate) fn read_bytes<R: Read>(alloc: Global, input: &mut R) -> Result<Vec<u8>, ToolFault>
+    ensures bytes { IfOk result (λ bytes. IfSome (R.remaining input.old) (λ xs. bytes.items ≡ xs)) }
+    ensures end { OnOk result (IsAtEnd (R.remaining input.new)) }
+    ensures fault { IfErr result IsReadFault }
+{
+    let mut bytes = Vec::new(alloc);
+    let mut piece = [0; 1 << 16];
+    for _ in 0..INPUT_READS {
+        let Ok(count) = input.read(&mut piece) else {
+            return Err(ToolFault::Read);
+        };
+        if count == 0 {
+            return Ok(bytes);
+        }
+        bytes.extend_from_slice(&piece[..count])?;
+    }
+    Err(ToolFault::Read)
+}
