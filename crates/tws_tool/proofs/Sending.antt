@@ -168,19 +168,3 @@ module _ (old new : Option (List ℕ)) where
           nowhere = λ one. absurd (no_usage r one);
           input = subst (λ (s : Source). ReadsSource s Unread (answer_status r) left) (sym source-is) input;
         }
-
-    -- nothing is sent, and nothing read, if no host was found
-    pub put_nowhere : (status : ℕ) (log : Option (List Entry)) → status ≡ 1 → Locates host_of (string_bytes arguments.target.address) None →
-        new ≡ old → Unread → PutRan bytes_of host_of Unread arguments status log log given left old new
-    put_nowhere status log one is same unread =
-        record {
-          found = None;
-          located = is;
-          transfers = no_host old new sent_line status one same;
-          sent = λ e. absurd (omega (arith, e, one));
-          unreadable =
-              λ e. absurd (omega (arith, e, one));
-          ended = λ other. absurd (other one);
-          nowhere = λ e. refl;
-          input = unread_source arguments.source Unread status left one unread;
-        }
