@@ -124,7 +124,7 @@ impl Beside {
         self.made = None;
     }
 
-    /// Writes into the file, which is made first.
+    /// Writes bytes into the file, which is made first, and returns how many.
     pub(crate) fn write<P: Files<File = File> + Clock + AllocGlobal>(
         &mut self,
         rt: &P,
