@@ -25,7 +25,7 @@ use Rattle.tws_tool.specs.Address.{Locates}
 use Rattle.tws_tool.specs.Commands.Put.{IsBlamed, PutEnds, PutFails, PutRan, PutRuns, Puts, SaysSent}
 use Rattle.file_commands.specs.Inputs.{IsUnreadable, ReadsSource, known_of}
 use Rattle.file_commands.proofs.Statuses.{at_zero, map_err, map_ok, no_usage}
-use Rattle.tws_tool.proofs.Statuses.{no_host, transfers}
+use Rattle.tws_tool.proofs.Statuses.{transfers}
 use Rattle.tws_tool.specs.Lines.{Unsaid, sent_line}
 
 -- a put writes nothing, so it has no write fault
@@ -118,11 +118,6 @@ put_blames known server before after old new tool.Socket fails = tt
 put_blames known server before after old new (tool.Transfer why) fails = tt
 
 -- ---- by the exit status
-
--- an input that was not read, at the status of a usage error
-unread_source : (source : Source) (Unread : Type 0) (status : ℕ) (left : Option (List ℕ)) → status ≡ 1 → Unread → ReadsSource source Unread status left
-unread_source Standard Unread status left one unread = (λ none. absurd (omega (arith, none, one)), λ is. unread)
-unread_source (Named name) Unread status left one unread = unread
 
 module _ (old new : Option (List ℕ)) where
   -- a put that fails has written no line, or a proper prefix of it
