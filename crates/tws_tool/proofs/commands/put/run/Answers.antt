@@ -7,15 +7,15 @@ use Rattle.tws_tool.specs.Commands.Put.{PutRan}
 use Rattle.tws_tool.proofs.Sending.{put_nowhere, put_ran}
 use Rattle.tws_tool.proofs.commands.put.run.Goals as goal
 
-pub returns-in-None-clause-ran : goal.returns-in-None-clause-ran
-returns-in-None-clause-ran g c =
+pub returns-in_default-clause-ran : goal.returns-in_default-clause-ran
+returns-in_default-clause-ran g c =
     let old = g.W.Write.contents c.args.out.now in
     let given = g.R.Read.remaining c.args.input.now in
     let log = g.N.Wire.log c.args.wire.now in
     let host_of = g.S.Resolver.host_of c.args.system.now in
     let address = string_bytes c.args.arguments.now.target.address in
     let text : c.as_str.result.now ≡ address = search rules in
-    let here = subst (λ (t : List ℕ). Locates host_of t None) text (subst (λ (f : Option ℕ). Locates host_of c.as_str.result.now f) c.in-None.is c.locate.ensures) in
+    let here = subst (λ (t : List ℕ). Locates host_of t None) text (subst (λ (f : Option ℕ). Locates host_of c.as_str.result.now f) c.in_default.is c.locate.ensures) in
     put_nowhere old old (g.S.FileSystem.bytes_of c.args.system.now) host_of (c.args.input.now ≡ c.args.input.now) c.args.arguments.now given given c.bad_address.result log c.bad_address.ensures here refl refl
 
 pub returns-in-Standard-clause-ran : goal.returns-in-Standard-clause-ran
@@ -42,22 +42,22 @@ returns-in-Standard-clause-ran g c =
 pub returns-in-Ok-clause-ran : goal.returns-in-Ok-clause-ran
 returns-in-Ok-clause-ran g c =
     let old = g.W.Write.contents c.args.out.now in
-    let new = g.W.Write.contents c.put_file-done.new.out in
+    let new = g.W.Write.contents c.put_file-done-in-Ok.new.out in
     let given = g.R.Read.remaining c.args.input.now in
     let before = g.N.Wire.log c.args.wire.now in
-    let after = g.N.Wire.log c.put_file-done.new.wire in
+    let after = g.N.Wire.log c.put_file-done-in-Ok.new.wire in
     let bytes_of = g.S.FileSystem.bytes_of c.args.system.now in
     let host_of = g.S.Resolver.host_of c.args.system.now in
     let arguments = c.args.arguments.now in
     let unread = c.args.input.now ≡ c.args.input.now in
     let host = c.in-Some.host in
-    let done = c.put_file-done.result in
-    let sent = c.put_file-done.ensures in
+    let done = c.put_file-done-in-Ok.result in
+    let sent = c.put_file-done-in-Ok.ensures in
     let text : c.as_str.result.now ≡ string_bytes arguments.target.address = search rules in
-    let name : c.as_str-2.result.now ≡ string_bytes c.in-Named.name = search rules in
+    let name : c.as_str-in-Named.result.now ≡ string_bytes c.in-Named.name = search rules in
     let here = subst (λ (t : List ℕ). Locates host_of t (Some host)) text (subst (λ (f : Option ℕ). Locates host_of c.as_str.result.now f) c.in-Some.is c.locate.ensures) in
     let known : g.S.File.Read.remaining c.in-Ok.file ≡ bytes_of (string_bytes c.in-Named.name) = c.in-Ok.ensures ∙ ap bytes_of name in
-    subst (λ (n : ℕ). PutRan bytes_of host_of unread arguments n before after given given old new) (sym c.finish_transfer.ensures.status)
+    subst (λ (n : ℕ). PutRan bytes_of host_of unread arguments n before after given given old new) (sym c.finish_transfer-in-Ok.ensures.status)
     (put_ran old new bytes_of host_of unread arguments given given (Named c.in-Named.name) (g.S.File.Read.remaining c.in-Ok.file) host before after done c.in-Named.is known here sent.sent sent.fails refl)
 
 pub returns-in-Err-clause-ran : goal.returns-in-Err-clause-ran
