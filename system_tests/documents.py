@@ -147,7 +147,8 @@ def files():
 def options():
     """The options of the program, by its command line."""
     sources = [path.read_text() for crate in ("file_commands", "tws_tool") for path in Path(f"crates/{crate}/src").rglob("*.rt")]
-    return {f"--{name}" for text in sources for name in re.findall(r'\.long\(\s*"([\w-]+)"', text)} | {"--help", "--version"}
+    names = re.compile(r'(?:\.long\(|(?:number|text)_argument\(\s*alloc,)\s*"([\w-]+)"')
+    return {f"--{name}" for text in sources for name in names.findall(text)} | {"--help", "--version"}
 
 
 class Names:

@@ -246,7 +246,15 @@ fn help_to_a_full_writer(rt: HostRuntime) -> Result<(), Fail> {
     let mut out = room.as_mut_slice();
     let mut input = HUNDRED.as_slice();
     let mut errors = Vec::new(rt.alloc());
-    let status = run_words(&rt, rt.alloc(), &words, None::<Vec<u8>>, &mut input, &mut out, &mut errors);
+    let status = run_words(
+        &rt,
+        rt.alloc(),
+        &words,
+        None::<Vec<u8>>,
+        &mut input,
+        &mut out,
+        &mut errors,
+    );
     assert_eq!(rt;
         (status, room, errors.as_slice()),
         (2, *b"Lists, pac", b"tws: write fault\n".as_slice())

@@ -23,7 +23,15 @@ pub(crate) fn run(rt: &HostRuntime, words: &[&str], input: &[u8]) -> Result<Outc
     let mut input = input;
     let mut out = Vec::new(rt.alloc());
     let mut errors = Vec::new(rt.alloc());
-    let status = run_words(rt, rt.alloc(), &owned, None::<Vec<u8>>, &mut input, &mut out, &mut errors);
+    let status = run_words(
+        rt,
+        rt.alloc(),
+        &owned,
+        None::<Vec<u8>>,
+        &mut input,
+        &mut out,
+        &mut errors,
+    );
     Ok(Outcome {
         status,
         out,

@@ -9,8 +9,20 @@ use tws_tool::run_words;
 fn run(rt: &HostRuntime) -> io::Result<u8> {
     let words: Vec<String> = env::args(rt)?.collect(rt.alloc())?;
     let (mut input, mut out, mut errors) = (rt.stdin(), rt.stdout(), rt.stderr());
-    let terminal = if errors.is_terminal() { Some(rt.stderr()) } else { None };
-    Ok(run_words(rt, rt.alloc(), &words, terminal, &mut input, &mut out, &mut errors))
+    let terminal = if errors.is_terminal() {
+        Some(rt.stderr())
+    } else {
+        None
+    };
+    Ok(run_words(
+        rt,
+        rt.alloc(),
+        &words,
+        terminal,
+        &mut input,
+        &mut out,
+        &mut errors,
+    ))
 }
 
 // Reports why the process's arguments could not be read.

@@ -1,5 +1,7 @@
 //! A draft in a file beside the one that it is to replace.
 
+ghost use Rattle.std.specs.Prelude.{◌≤◌, length, IfOk};
+
 use std::fs::{File, Metadata};
 use std::io::{ErrorKind, Write};
 use std::path::PathBuf;
@@ -122,12 +124,14 @@ impl Beside {
         self.made = None;
     }
 
-    /// Writes into the file, which is made first.
+    /// Writes bytes into the file, which is made first, and returns how many.
     pub(crate) fn write<P: Files<File = File> + Clock + AllocGlobal>(
         &mut self,
         rt: &P,
         buf: &[u8],
-    ) -> io::Result<usize> {
+    ) -> io::Result<usize>
+        ensures { IfOk result (λ count. count ≤ length buf.now) }
+    {
         self.make(rt)?;
         match &mut self.made {
             Some((file, _)) => file.write(buf),

@@ -1,3 +1,5 @@
+ghost use Rattle.std.specs.Prelude.{◌≤◌, length, IfOk};
+
 use crate::beside::Beside;
 use std::fs::File;
 use std::io;
@@ -48,12 +50,26 @@ impl<P: Files<File = File> + Clock + AllocGlobal + Copy> SystemDraft<P> {
     }
 }
 
+impl Place {
+    // Writes bytes there, and returns how many.
+    fn write<P: Files<File = File> + Clock + AllocGlobal>(
+        &mut self,
+        rt: &P,
+        buf: &[u8],
+    ) -> io::Result<usize>
+        ensures { IfOk result (λ count. count ≤ length buf.now) }
+    {
+        match self {
+            Place::Itself(file) => file.write(buf),
+            Place::Over(file) => file.write(buf),
+            Place::Beside(beside) => beside.write(rt, buf),
+        }
+    }
+}
+
 impl<P: Files<File = File> + Clock + AllocGlobal + Copy> Write for SystemDraft<P> {
     fn write(&mut self, buf: &[u8]) -> io::Result<usize> {
-        let count = match &mut self.place {
-            Place::Itself(file) | Place::Over(file) => file.write(buf)?,
-            Place::Beside(beside) => beside.write(&self.rt, buf)?,
-        };
+        let count = self.place.write(&self.rt, buf)?;
         self.len = self.len.saturating_add(count as u64);
         Ok(count)
     }
