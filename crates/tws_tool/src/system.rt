@@ -83,7 +83,12 @@ impl<P: Files<File = File> + Net + Clock + AllocGlobal + Copy> FileSystem for Sy
     ghost drafted_of = { λ _ _. None };
 
     fn open(&self, name: &str) -> io::Result<SystemFile> {
-        Ok(SystemFile(fs::open(&self.0, name)?))
+        let file = fs::open(&self.0, name)?;
+        // A folder can be opened, but not read. Its name is still known here.
+        if file.metadata()?.is_dir() {
+            return Err(io::Error::from(ErrorKind::IsADirectory));
+        }
+        Ok(SystemFile(file))
     }
 
     fn begin(&mut self, name: &str) -> io::Result<SystemDraft<P>> {
