@@ -6,7 +6,7 @@ use test_samples::{
     ACK_0, ACK_1, ACK_2, DATA_HUNDRED, FILE_TOO_LONG, HUNDRED, RRQ_LYNX, SERVER, UNKNOWN_TRANSFER,
     WRQ, at, whole_block,
 };
-use tftp_packet::{Endpoint, Out};
+use tftp_packet::Out;
 use tws_file::Ruleset;
 
 fn goes(out: &Option<Out>, port: u16, bytes: &[u8]) -> bool {
@@ -20,130 +20,180 @@ fn filled(alloc: Global, len: usize) -> Result<Vec<u8>, Fail> {
     Ok(vec![in alloc; 7; len]?)
 }
 
+// What a client is given: a datagram from this port, or a time-out.
+#[derive(Clone, Copy)]
+enum Input<'a> {
+    From(u16, &'a [u8]),
+    Nothing,
+}
+
+// An input, what the client sends then and to which port, and its state after that.
+type Row<'a> = (Input<'a>, Option<(u16, &'a [u8])>, State);
+
+fn is_sent(out: &Option<Out>, wanted: Option<(u16, &[u8])>) -> bool {
+    match wanted {
+        Some((port, bytes)) => goes(out, port, bytes),
+        None => out.is_none(),
+    }
+}
+
+// Whether a put follows this row.
+fn is_put_row(put: &mut Put, row: Row<'_>) -> bool {
+    let (input, wanted, state) = row;
+    let out = match input {
+        Input::From(port, bytes) => put.on_datagram(at(port), bytes),
+        Input::Nothing => put.on_timeout(),
+    };
+    is_sent(&out, wanted) && put.state() == state
+}
+
+fn plays_put(put: &mut Put, rows: &[Row<'_>]) -> bool {
+    for row in rows {
+        if !is_put_row(put, *row) {
+            return false;
+        }
+    }
+    true
+}
+
+// Whether a put of this file sends its request, follows these rows, and is over.
+fn puts(file: Vec<u8>, rows: &[Row<'_>]) -> bool {
+    match Put::start(5000, SERVER, file) {
+        Ok((mut put, request)) => {
+            goes(&Some(request), 6969, WRQ) && plays_put(&mut put, rows) && put.over()
+        }
+        Err(_fault) => false,
+    }
+}
+
 #[test]
 fn a_put_of_one_whole_block(rt: HostRuntime) -> Result<(), Fail> {
-    let file = filled(rt.alloc(), 512)?;
-    let Ok((mut put, request)) = Put::start(5000, SERVER, file) else {
-        return Err(Fail::new("too long"));
-    };
-    assert!(rt; goes(&Some(request), 6969, WRQ));
-    let out = put.on_datagram(at(4000), ACK_0);
-    assert!(rt; goes(&out, 4000, &whole_block(1, 7)));
-    let out = put.on_datagram(at(4000), ACK_1);
-    assert!(rt; goes(&out, 4000, b"\0\x03\0\x02"));
-    assert_eq!(rt; put.state(), State::Running);
-    assert!(rt; put.on_datagram(at(4000), ACK_2).is_none());
-    assert_eq!(rt; (put.state(), put.over()), (State::Sent, true));
+    let block = whole_block(1, 7);
+    let rows: [Row<'_>; 3] = [
+        (
+            Input::From(4000, ACK_0),
+            Some((4000, &block)),
+            State::Running,
+        ),
+        (
+            Input::From(4000, ACK_1),
+            Some((4000, b"\0\x03\0\x02")),
+            State::Running,
+        ),
+        (Input::From(4000, ACK_2), None, State::Sent),
+    ];
+    assert!(rt; puts(filled(rt.alloc(), 512)?, &rows));
     Ok(())
 }
 
 // Two copies of the request opened two transfers: the client stays with the port that it bound to.
 #[test]
 fn a_put_that_two_ports_answer(rt: HostRuntime) -> Result<(), Fail> {
-    let file = Vec::from_slice(rt.alloc(), HUNDRED)?;
-    let Ok((mut put, _)) = Put::start(5000, SERVER, file) else {
-        return Err(Fail::new("too long"));
-    };
-    let out = put.on_datagram(at(4000), ACK_0);
-    assert!(rt; goes(&out, 4000, DATA_HUNDRED));
-    let out = put.on_datagram(at(4001), ACK_0);
-    assert!(rt; goes(&out, 4001, UNKNOWN_TRANSFER));
-    assert!(rt; put.on_datagram(at(4000), ACK_1).is_none());
-    assert_eq!(rt; put.state(), State::Sent);
+    let rows: [Row<'_>; 3] = [
+        (
+            Input::From(4000, ACK_0),
+            Some((4000, DATA_HUNDRED)),
+            State::Running,
+        ),
+        (
+            Input::From(4001, ACK_0),
+            Some((4001, UNKNOWN_TRANSFER)),
+            State::Running,
+        ),
+        (Input::From(4000, ACK_1), None, State::Sent),
+    ];
+    assert!(rt; puts(Vec::from_slice(rt.alloc(), HUNDRED)?, &rows));
     Ok(())
 }
 
 #[test]
 fn a_put_that_is_never_answered(rt: HostRuntime) -> Result<(), Fail> {
-    let Ok((mut put, request)) = Put::start(5000, SERVER, filled(rt.alloc(), 1)?) else {
-        return Err(Fail::new("too long"));
-    };
-    assert!(rt; goes(&Some(request), 6969, WRQ));
-    for _ in 0..4 {
-        assert!(rt; goes(&put.on_timeout(), 6969, WRQ));
-        assert_eq!(rt; put.state(), State::Running);
-    }
-    assert!(rt; put.on_timeout().is_none());
-    assert_eq!(rt;
-        (put.state(), put.over()),
-        (State::Failed(Cause::TimedOut), true)
-    );
+    let again: Row<'_> = (Input::Nothing, Some((6969, WRQ)), State::Running);
+    let last: Row<'_> = (Input::Nothing, None, State::Failed(Cause::TimedOut));
+    assert!(rt; puts(filled(rt.alloc(), 1)?, &[again, again, again, again, last]));
     Ok(())
 }
 
-// Whether a put of `len` bytes begins.
-fn starts(alloc: Global, len: usize) -> Result<bool, Fail> {
-    let file = filled(alloc, len)?;
+// Whether a put of this file begins.
+fn starts(file: Vec<u8>) -> bool {
     match Put::start(5000, SERVER, file) {
-        Ok((put, request)) => {
-            Ok(put.state() == State::Running && goes(&Some(request), 6969, WRQ))
-        }
-        Err(_fault) => Ok(false),
+        Ok((put, request)) => put.state() == State::Running && goes(&Some(request), 6969, WRQ),
+        Err(_fault) => false,
     }
 }
 
-// It has 8,191 whole blocks, and an empty one ends it.
+// 8,191 whole blocks, which an empty one ends, and the greatest file.
 #[test]
-fn a_file_of_many_whole_blocks(rt: HostRuntime) -> Result<(), Fail> {
-    assert!(rt; starts(rt.alloc(), 4193792)?);
+fn long_files(rt: HostRuntime) -> Result<(), Fail> {
+    for len in [4193792, 33553919] {
+        assert!(rt; starts(filled(rt.alloc(), len)?), "{len}");
+    }
     Ok(())
 }
 
-#[test]
-fn the_greatest_file(rt: HostRuntime) -> Result<(), Fail> {
-    assert!(rt; starts(rt.alloc(), 33553919)?);
-    Ok(())
+// Whether this file is too long, and comes back.
+fn comes_back(file: Vec<u8>) -> bool {
+    match Put::start(5000, SERVER, file) {
+        Ok(_begun) => false,
+        Err(TooLong { file }) => file.len() == 33553920 && file.iter().all(|b| *b == 7),
+    }
 }
 
 #[test]
 fn a_file_that_is_too_long(rt: HostRuntime) -> Result<(), Fail> {
-    let file = filled(rt.alloc(), 33553920)?;
-    let Err(TooLong { file }) = Put::start(5000, SERVER, file) else {
-        return Err(Fail::new("not too long"));
-    };
-    assert_eq!(rt; file.len(), 33553920);
-    assert!(rt; file.iter().all(|b| *b == 7));
+    assert!(rt; comes_back(filled(rt.alloc(), 33553920)?));
     Ok(())
 }
 
-// Asks for the file too early. Returns the client that comes back.
-fn asked_too_early(get: Get) -> Result<Get, Fail> {
+// Whether a get gives this datagram the answer ACK 1.
+fn acknowledges(get: &mut Get, data: &[u8]) -> bool {
+    goes(&get.on_datagram(at(4001), data), 4001, ACK_1)
+}
+
+fn hands_out(alloc: Global, get: Get, bytes: &[u8]) -> bool {
     match get.into_file() {
-        Ok(_file) => Err(Fail::new("a file before any answer")),
-        Err(get) => Ok(get),
+        Ok(file) => match file.to_vec(alloc) {
+            Ok(read) => read.as_slice() == bytes,
+            Err(_fault) => false,
+        },
+        Err(_get) => false,
     }
 }
 
-fn hands_out(alloc: Global, get: Get, bytes: &[u8]) -> Result<bool, Fail> {
+// Whether a get takes its file, waits, and is not ended by an ERROR from then on.
+fn takes_file(get: &mut Get) -> bool {
+    get.state() == State::Running
+        && acknowledges(get, DATA_HUNDRED)
+        && get.state() == State::Got
+        && !get.over()
+        && get.on_datagram(at(4001), b"\0\x05\0\0\0").is_none()
+}
+
+// Whether a get that is asked for its file before any answer comes back, goes on, and hands the file out.
+fn gets(alloc: Global, get: Get) -> bool {
     match get.into_file() {
-        Ok(file) => Ok(file.to_vec(alloc)?.as_slice() == bytes),
-        Err(_get) => Ok(false),
+        Ok(_file) => false,
+        Err(mut get) => takes_file(&mut get) && hands_out(alloc, get, HUNDRED),
     }
 }
 
-// The file is asked for before any answer, and the client that comes back goes on.
 #[test]
-fn a_get(rt: HostRuntime) -> Result<(), Fail> {
+fn a_get(rt: HostRuntime) {
     let (get, request) = Get::start(rt.alloc(), 5000, SERVER, Ruleset::Lynx);
-    assert!(rt; goes(&Some(request), 6969, RRQ_LYNX));
-    let mut get = asked_too_early(get)?;
-    assert_eq!(rt; get.state(), State::Running);
-    assert!(rt; goes(&get.on_datagram(at(4001), DATA_HUNDRED), 4001, ACK_1));
-    assert_eq!(rt; (get.state(), get.over()), (State::Got, false));
-    assert!(rt; get.on_datagram(at(4001), b"\0\x05\0\0\0").is_none());
-    assert!(rt; hands_out(rt.alloc(), get, HUNDRED)?);
-    Ok(())
+    let is_asked = goes(&Some(request), 6969, RRQ_LYNX);
+    assert_eq!(rt; (is_asked, gets(rt.alloc(), get)), (true, true));
+}
+
+fn takes_whole_block(get: &mut Get, n: u16) -> bool {
+    let [high, low] = n.to_be_bytes();
+    let out = get.on_datagram(at(4001), &whole_block(n, 7));
+    goes(&out, 4001, &[0, 4, high, low])
 }
 
 // Whether each of 65,534 whole blocks of sevens is acknowledged.
 fn takes_whole_blocks(get: &mut Get) -> bool {
     for n in 1..65535_u16 {
-        let [high, low] = n.to_be_bytes();
-        if !goes(
-            &get.on_datagram(at(4001), &whole_block(n, 7)),
-            4001,
-            &[0, 4, high, low],
-        ) {
+        if !takes_whole_block(get, n) {
             return false;
         }
     }
@@ -157,16 +207,14 @@ fn refuses_a_block(get: &mut Get) -> bool {
         && goes(&get.on_datagram(at(4001), &data), 4001, FILE_TOO_LONG)
         && get.on_datagram(at(4001), &data).is_none()
         && get.on_timeout().is_none()
+        && get.state() == State::Failed(Cause::TooLong)
+        && get.over()
 }
 
 #[test]
 fn a_get_of_a_block_too_many(rt: HostRuntime) {
-    let (mut get, _) = Get::start(rt.alloc(), 5000, SERVER, Ruleset::Ms);
-    let is_refused = refuses_a_block(&mut get);
-    assert_eq!(rt;
-        (is_refused, get.state(), get.over()),
-        (true, State::Failed(Cause::TooLong), true)
-    );
+    let (mut get, _request) = Get::start(rt.alloc(), 5000, SERVER, Ruleset::Ms);
+    assert!(rt; refuses_a_block(&mut get));
 }
 
 // Whether one that is not whole ends the file.
@@ -177,16 +225,19 @@ fn takes_the_last(get: &mut Get) -> bool {
 }
 
 // Whether the greatest file is fetched.
-fn fetches_the_greatest(alloc: Global) -> Result<bool, Fail> {
-    let file = filled(alloc, 33553919)?;
-    let (mut get, _) = Get::start(alloc, 5000, SERVER, Ruleset::Ms);
-    Ok(takes_the_last(&mut get) && hands_out(alloc, get, &file)?)
+fn fetches_the_greatest(alloc: Global, file: &[u8]) -> bool {
+    let (mut get, _request) = Get::start(alloc, 5000, SERVER, Ruleset::Ms);
+    takes_the_last(&mut get) && hands_out(alloc, get, file)
 }
 
 #[test]
 fn a_get_of_the_greatest_file(rt: HostRuntime) -> Result<(), Fail> {
-    assert!(rt; fetches_the_greatest(rt.alloc())?);
+    assert!(rt; fetches_the_greatest(rt.alloc(), &filled(rt.alloc(), 33553919)?));
     Ok(())
+}
+
+fn has_name(alloc: Global, cause: Cause, name: &str) -> Result<bool, Fail> {
+    Ok(format!(in alloc; "{cause}")?.as_str() == name)
 }
 
 #[test]
@@ -197,7 +248,7 @@ fn causes_by_name(rt: HostRuntime) -> Result<(), Fail> {
         (Cause::TooLong, "too long"),
         (Cause::Memory, "out of memory"),
     ] {
-        assert_eq!(rt; format!(in rt.alloc(); "{cause}")?.as_str(), name);
+        assert!(rt; has_name(rt.alloc(), cause, name)?, "{name}");
     }
     Ok(())
 }

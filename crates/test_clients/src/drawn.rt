@@ -39,42 +39,45 @@ fn block(len: usize, n: u16) -> (usize, usize) {
 }
 
 fn push_packet(out: &mut Vec<u8>, opcode: u8, n: u16) -> Result<(), Fail> {
-    out.push(0)?;
-    out.push(opcode)?;
-    for b in n.to_be_bytes() {
-        out.push(b)?;
+    let [high, low] = n.to_be_bytes();
+    out.extend_from_slice(&[0, opcode, high, low])?;
+    Ok(())
+}
+
+// Block `n` of a file, if `len` bytes of it are sent.
+fn push_data(out: &mut Vec<u8>, n: u16, len: usize) -> Result<(), Fail> {
+    push_packet(out, 3, n)?;
+    let start = usize::from(n.saturating_sub(1)).wrapping_mul(512);
+    for i in 0..len {
+        out.push(byte(start.wrapping_add(i)))?;
+    }
+    Ok(())
+}
+
+fn push_input(out: &mut Vec<u8>, input: Input) -> Result<(), Fail> {
+    match input {
+        Input::Request => out.extend_from_slice(RRQ_MS)?,
+        Input::Data(n, len) => push_data(out, n, len)?,
+        Input::Ack(n) => push_packet(out, 4, n)?,
+        Input::Error(code) => {
+            push_packet(out, 5, code)?;
+            out.push(0)?;
+        }
+        // An ACK with one byte too many.
+        Input::Malformed => out.extend_from_slice(b"\0\x04\0\0\0")?,
+        Input::TimeOut => {}
     }
     Ok(())
 }
 
 fn input_bytes(alloc: Global, input: Input) -> Result<Vec<u8>, Fail> {
     let mut bytes = Vec::new(alloc);
-    match input {
-        Input::Request => bytes.extend_from_slice(RRQ_MS)?,
-        Input::Data(n, len) => {
-            push_packet(&mut bytes, 3, n)?;
-            let start = usize::from(n.saturating_sub(1)).wrapping_mul(512);
-            for i in 0..len {
-                bytes.push(byte(start.wrapping_add(i)))?;
-            }
-        }
-        Input::Ack(n) => push_packet(&mut bytes, 4, n)?,
-        Input::Error(code) => {
-            push_packet(&mut bytes, 5, code)?;
-            bytes.push(0)?;
-        }
-        // An ACK with one byte too many.
-        Input::Malformed => {
-            push_packet(&mut bytes, 4, 0)?;
-            bytes.push(0)?;
-        }
-        Input::TimeOut => {}
-    }
+    push_input(&mut bytes, input)?;
     Ok(bytes)
 }
 
 // The plain program. A put has a length, a get has none.
-#[derive(Drop)]
+#[derive(Clone, Copy)]
 struct Plain {
     put: Option<usize>,
     peer: Option<u16>,
@@ -197,21 +200,23 @@ fn source(plain: &Plain, draws: &mut Draws) -> Endpoint {
     }
 }
 
+fn push_reply(out: &mut Vec<u8>, plain: &Plain, reply: Reply) -> Result<(), Fail> {
+    match (reply, plain.put) {
+        (Reply::Request, Some(_)) => out.extend_from_slice(WRQ)?,
+        (Reply::Request, None) => out.extend_from_slice(RRQ_MS)?,
+        (Reply::Data(n), len) => {
+            let (start, end) = block(len.unwrap_or(0), n);
+            push_data(out, n, end.saturating_sub(start))?;
+        }
+        (Reply::Ack(n), _) => push_packet(out, 4, n)?,
+        (Reply::Stray, _) => out.extend_from_slice(UNKNOWN_TRANSFER)?,
+    }
+    Ok(())
+}
+
 fn reply_bytes(alloc: Global, plain: &Plain, reply: Reply) -> Result<Vec<u8>, Fail> {
     let mut bytes = Vec::new(alloc);
-    match (reply, plain.put) {
-        (Reply::Request, Some(_)) => bytes.extend_from_slice(WRQ)?,
-        (Reply::Request, None) => bytes.extend_from_slice(RRQ_MS)?,
-        (Reply::Data(n), len) => {
-            push_packet(&mut bytes, 3, n)?;
-            let (start, end) = block(len.unwrap_or(0), n);
-            for i in start..end {
-                bytes.push(byte(i))?;
-            }
-        }
-        (Reply::Ack(n), _) => push_packet(&mut bytes, 4, n)?,
-        (Reply::Stray, _) => bytes.extend_from_slice(UNKNOWN_TRANSFER)?,
-    }
+    push_reply(&mut bytes, plain, reply)?;
     Ok(bytes)
 }
 
@@ -291,81 +296,149 @@ fn agree(
     Ok(())
 }
 
-fn run_put(alloc: Global, draws: &mut Draws, len: usize) -> Result<State, Fail> {
+// One input for a put.
+fn step_put(
+    alloc: Global,
+    draws: &mut Draws,
+    plain: &mut Plain,
+    client: &mut Put,
+) -> Result<(), Fail> {
+    let drawn = draw(alloc, draws, plain)?;
+    let out = match &drawn.bytes {
+        Some(bytes) => client.on_datagram(drawn.from, bytes),
+        None => client.on_timeout(),
+    };
+    agree(alloc, plain, &drawn, &out, client.state(), client.over())
+}
+
+// All inputs for a put of a file of this length. Returns the state in which it ended.
+fn play_put(alloc: Global, draws: &mut Draws, client: &mut Put, len: usize) -> Result<State, Fail> {
+    let mut plain = start(Some(len));
+    for _ in 0..60 {
+        step_put(alloc, draws, &mut plain, client)?;
+    }
+    Ok(plain.state)
+}
+
+fn file_of(alloc: Global, len: usize) -> Result<Vec<u8>, Fail> {
     let mut file = Vec::new(alloc);
     for i in 0..len {
         file.push(byte(i))?;
     }
-    let Ok((mut client, _)) = Put::start(5000, SERVER, file) else {
-        return Err(Fail::new("too long"));
-    };
-    let mut plain = start(Some(len));
-    for _ in 0..60 {
-        let drawn = draw(alloc, draws, &mut plain)?;
-        let out = match &drawn.bytes {
-            Some(bytes) => client.on_datagram(drawn.from, bytes),
-            None => client.on_timeout(),
-        };
-        agree(alloc, &plain, &drawn, &out, client.state(), client.over())?;
+    Ok(file)
+}
+
+fn run_put(alloc: Global, draws: &mut Draws, len: usize) -> Result<State, Fail> {
+    match Put::start(5000, SERVER, file_of(alloc, len)?) {
+        Ok((mut client, _request)) => play_put(alloc, draws, &mut client, len),
+        Err(_fault) => Err(Fail::new("too long")),
     }
-    Ok(plain.state)
 }
 
 fn is_file(bytes: &[u8], len: usize) -> bool {
     bytes.len() == len && bytes.iter().enumerate().all(|(i, b)| *b == byte(i))
 }
 
-// The state in which a get ended. It hands out its file exactly if the plain one has got it, and otherwise comes back
-// as the same client.
-fn how_it_ended(alloc: Global, client: Get, plain: &Plain) -> Result<State, Fail> {
-    match (plain.state, client.into_file()) {
-        (State::Got, Ok(file)) if is_file(&file.to_vec(alloc)?, plain.got) => Ok(State::Got),
-        (State::Got, _) => Err(Fail::new("another file")),
-        (_, Ok(_)) => Err(Fail::new("a file too early")),
-        (state, Err(client)) if client.state() == state => Ok(state),
-        _ => Err(Fail::new("another client")),
+// Whether a get hands out its file exactly if the plain one has got it, and otherwise comes back as the same client.
+fn ends_alike(alloc: Global, client: Get, plain: &Plain) -> bool {
+    match client.into_file() {
+        Ok(file) => match file.to_vec(alloc) {
+            Ok(bytes) => plain.state == State::Got && is_file(&bytes, plain.got),
+            Err(_fault) => false,
+        },
+        Err(client) => plain.state != State::Got && client.state() == plain.state,
     }
 }
 
-fn run_get(alloc: Global, draws: &mut Draws) -> Result<State, Fail> {
-    let (mut client, _) = Get::start(alloc, 5000, SERVER, Ruleset::Ms);
+// One input for a get.
+fn step_get(
+    alloc: Global,
+    draws: &mut Draws,
+    plain: &mut Plain,
+    client: &mut Get,
+) -> Result<(), Fail> {
+    let drawn = draw(alloc, draws, plain)?;
+    let out = match &drawn.bytes {
+        Some(bytes) => client.on_datagram(drawn.from, bytes),
+        None => client.on_timeout(),
+    };
+    agree(alloc, plain, &drawn, &out, client.state(), client.over())
+}
+
+// All inputs for a get. Returns the plain one.
+fn play_get(alloc: Global, draws: &mut Draws, client: &mut Get) -> Result<Plain, Fail> {
     let mut plain = start(None);
     for _ in 0..60 {
-        let drawn = draw(alloc, draws, &mut plain)?;
-        let out = match &drawn.bytes {
-            Some(bytes) => client.on_datagram(drawn.from, bytes),
-            None => client.on_timeout(),
-        };
-        agree(alloc, &plain, &drawn, &out, client.state(), client.over())?;
+        step_get(alloc, draws, &mut plain, client)?;
     }
-    how_it_ended(alloc, client, &plain)
+    Ok(plain)
+}
+
+fn run_get(alloc: Global, draws: &mut Draws) -> Result<State, Fail> {
+    let (mut client, _request) = Get::start(alloc, 5000, SERVER, Ruleset::Ms);
+    let plain = play_get(alloc, draws, &mut client)?;
+    if ends_alike(alloc, client, &plain) {
+        Ok(plain.state)
+    } else {
+        Err(Fail::new("another file, or another client"))
+    }
+}
+
+// How many runs ended in each state.
+#[derive(Clone, Copy)]
+struct Ended {
+    sent: u32,
+    got: u32,
+    refused: u32,
+    timed_out: u32,
+}
+
+impl Ended {
+    fn count(&mut self, state: State) {
+        match state {
+            State::Sent => self.sent = self.sent.wrapping_add(1),
+            State::Got => self.got = self.got.wrapping_add(1),
+            State::Failed(Cause::Refused(_)) => self.refused = self.refused.wrapping_add(1),
+            State::Failed(Cause::TimedOut) => self.timed_out = self.timed_out.wrapping_add(1),
+            State::Running | State::Failed(_) => {}
+        }
+    }
+}
+
+fn run_one(alloc: Global, draws: &mut Draws, is_put: bool) -> Result<State, Fail> {
+    if is_put {
+        let size = SIZES.get(usize::from(draws.below(5))).copied().unwrap_or(0);
+        run_put(alloc, draws, size.min(2000))
+    } else {
+        run_get(alloc, draws)
+    }
+}
+
+fn count_runs(alloc: Global) -> Result<Ended, Fail> {
+    let mut draws = Draws::new(11);
+    let mut ended = Ended {
+        sent: 0,
+        got: 0,
+        refused: 0,
+        timed_out: 0,
+    };
+    for i in 0..1000 {
+        ended.count(run_one(alloc, &mut draws, i % 2 == 0)?);
+    }
+    Ok(ended)
 }
 
 #[test]
 fn drawn_clients(rt: HostRuntime) -> Result<(), Fail> {
-    let mut draws = Draws::new(11);
-    let mut sent: u32 = 0;
-    let mut got: u32 = 0;
-    let mut refused: u32 = 0;
-    let mut timed_out: u32 = 0;
-    for i in 0..1000 {
-        let state = if i % 2 == 0 {
-            let size = SIZES.get(usize::from(draws.below(5))).copied().unwrap_or(0);
-            run_put(rt.alloc(), &mut draws, size.min(2000))?
-        } else {
-            run_get(rt.alloc(), &mut draws)?
-        };
-        match state {
-            State::Sent => sent = sent.wrapping_add(1),
-            State::Got => got = got.wrapping_add(1),
-            State::Failed(Cause::Refused(_)) => refused = refused.wrapping_add(1),
-            State::Failed(Cause::TimedOut) => timed_out = timed_out.wrapping_add(1),
-            State::Running | State::Failed(_) => {}
-        }
+    let ended = count_runs(rt.alloc())?;
+    let rows = [
+        ("sent", ended.sent, 50),
+        ("got", ended.got, 50),
+        ("refused", ended.refused, 50),
+        ("timed out", ended.timed_out, 10),
+    ];
+    for (state, count, least) in rows {
+        assert!(rt; count > least, "{state}: {count}");
     }
-    assert!(rt; sent > 50, "{sent}");
-    assert!(rt; got > 50, "{got}");
-    assert!(rt; refused > 50, "{refused}");
-    assert!(rt; timed_out > 10, "{timed_out}");
     Ok(())
 }

@@ -1,7 +1,7 @@
 // Given datagrams and files: what each is by RFC 1350, and what real clients send.
 use std::alloc::Global;
 use std::test::Fail;
-use test_samples::{DATA_HUNDRED, HUNDRED};
+use test_samples::{DATA_HUNDRED, HUNDRED, join};
 use tftp_packet::{
     Blocks, Dgram, Owned, Packet, PacketFault, Refusal, decode, encode_ack, encode_data,
     encode_error, encode_read, encode_write, is_octet,
@@ -210,37 +210,36 @@ fn modes(rt: HostRuntime) {
     }
 }
 
+fn is_dgram(dgram: Dgram, bytes: &[u8]) -> bool {
+    dgram.bytes() == bytes
+}
+
 #[test]
 fn requests_and_data_that_are_sent(rt: HostRuntime) {
-    let rows: [(Dgram, &[u8]); 5] = [
-        (encode_read(b"lynx.tws"), b"\0\x01lynx.tws\0octet\0"),
-        (encode_write(b"upload.tws"), b"\0\x02upload.tws\0octet\0"),
-        (encode_data(1, HUNDRED), DATA_HUNDRED),
-        (
-            encode_data(1, b"\x35\x33\x9B\x99\x02\0\0\0"),
-            b"\0\x03\0\x01\x35\x33\x9B\x99\x02\0\0\0",
-        ),
-        (encode_data(65535, b""), b"\0\x03\xFF\xFF"),
+    let file = b"\x35\x33\x9B\x99\x02\0\0\0";
+    let data = b"\0\x03\0\x01\x35\x33\x9B\x99\x02\0\0\0";
+    let are_right = [
+        is_dgram(encode_read(b"lynx.tws"), b"\0\x01lynx.tws\0octet\0"),
+        is_dgram(encode_write(b"upload.tws"), b"\0\x02upload.tws\0octet\0"),
+        is_dgram(encode_data(1, HUNDRED), DATA_HUNDRED),
+        is_dgram(encode_data(1, file), data),
+        is_dgram(encode_data(65535, b""), b"\0\x03\xFF\xFF"),
     ];
-    for (dgram, bytes) in rows {
-        assert_eq!(rt; dgram.bytes(), bytes);
-    }
+    assert_eq!(rt; are_right, [true; 5]);
 }
 
 #[test]
 fn answers_that_are_sent(rt: HostRuntime) {
-    let rows: [(Dgram, &[u8]); 4] = [
-        (encode_ack(0), b"\0\x04\0\0"),
-        (encode_ack(1), b"\0\x04\0\x01"),
-        (encode_ack(258), b"\0\x04\x01\x02"),
-        (
+    let are_right = [
+        is_dgram(encode_ack(0), b"\0\x04\0\0"),
+        is_dgram(encode_ack(1), b"\0\x04\0\x01"),
+        is_dgram(encode_ack(258), b"\0\x04\x01\x02"),
+        is_dgram(
             encode_error(7, b"no such user"),
             b"\0\x05\0\x07no such user\0",
         ),
     ];
-    for (dgram, bytes) in rows {
-        assert_eq!(rt; dgram.bytes(), bytes);
-    }
+    assert_eq!(rt; are_right, [true; 4]);
 }
 
 // The codes of RFC 1350 section 5, and the messages of this server and its clients.
@@ -290,26 +289,27 @@ const REFUSALS: [(Refusal, u16, &[u8], &[u8]); 8] = [
     (Refusal::NotKept, 0, b"not kept", b"\0\x05\0\0not kept\0"),
 ];
 
+fn is_refusal(refusal: Refusal, code: u16, text: &[u8], bytes: &[u8]) -> bool {
+    refusal.code() == code && refusal.text() == text && is_dgram(refusal.dgram(), bytes)
+}
+
 #[test]
 fn refusals_that_are_sent(rt: HostRuntime) {
     for (refusal, code, text, bytes) in REFUSALS {
-        assert_eq!(rt; (refusal.code(), refusal.text()), (code, text));
-        assert_eq!(rt; refusal.dgram().bytes(), bytes);
+        assert!(rt; is_refusal(refusal, code, text, bytes), "at {bytes:?}");
     }
 }
 
 // 512 bytes of value 1, 512 of value 2, and one of value 3.
 fn three_blocks(alloc: Global) -> Result<Owned, Fail> {
-    let mut bytes = vec![in alloc; 1; 512]?;
-    bytes.extend_from_slice(&[2; 512])?;
-    bytes.push(3)?;
-    Ok(Owned::of(bytes))
+    Ok(Owned::of(join(alloc, &[1; 512], &[&[2; 512], &[3]])?))
 }
 
-#[test]
-fn blocks_in_order(rt: HostRuntime) -> Result<(), Fail> {
-    let file = three_blocks(rt.alloc())?;
-    assert_eq!(rt; file.as_slice().len(), 1_025);
+// Whether these are the blocks of a file, and no more.
+fn has_three_blocks(file: &Owned) -> bool {
+    if file.as_slice().len() != 1_025 {
+        return false;
+    }
     let mut out = [9; 512];
     let count = file.block(1, &mut out);
     let first = (count, out);
@@ -317,7 +317,17 @@ fn blocks_in_order(rt: HostRuntime) -> Result<(), Fail> {
     let second = (count, out);
     let count = file.block(3, &mut out);
     let third = (count, out[0]);
-    assert_eq!(rt; (first, second), ((512, [1; 512]), (512, [2; 512])));
-    assert_eq!(rt; (third, file.into_vec().pop()), ((1, 3), Some(3)));
+    (first, second, third) == ((512, [1; 512]), (512, [2; 512]), (1, 3))
+}
+
+// The same, and the last byte of the file's vector.
+fn blocks_and_last(file: Owned) -> (bool, Option<u8>) {
+    let is_right = has_three_blocks(&file);
+    (is_right, file.into_vec().pop())
+}
+
+#[test]
+fn blocks_in_order(rt: HostRuntime) -> Result<(), Fail> {
+    assert_eq!(rt; blocks_and_last(three_blocks(rt.alloc())?), (true, Some(3)));
     Ok(())
 }

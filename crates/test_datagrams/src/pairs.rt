@@ -118,34 +118,51 @@ fn holds(pair: &Pair, file: &[u8]) -> bool {
     }
 }
 
-fn run(alloc: Global, draws: &mut Draws, file: &[u8]) -> Result<Pair, Fail> {
+// A sender of this file, and what it sends first.
+fn start(alloc: Global, file: &[u8]) -> Result<(Sender<Owned>, Dgram), Fail> {
     let bytes = Vec::from_slice(alloc, file)?;
     if bytes.len() > 33_553_919 {
         return Err(Fail::new("too long"));
     }
-    let (sender, first) = Sender::start(Owned::of(bytes));
+    Ok(Sender::start(Owned::of(bytes)))
+}
+
+fn begin(alloc: Global, file: &[u8]) -> Result<Pair, Fail> {
+    let (sender, first) = start(alloc, file)?;
     let mut pair = Pair {
         sender,
         receiver: Receiver::new(alloc),
-        sent: vec![in alloc; first]?,
+        sent: Vec::new(alloc),
         resent: 0,
     };
-    for _ in 0..draws.below(201) {
-        step(&mut pair, draws)?;
-        if !holds(&pair, file) {
-            return Err(Fail::new("the law of one pair does not hold"));
-        }
-    }
+    pair.sent.push(first)?;
     Ok(pair)
 }
 
+// Makes up to 200 steps, each of which must be right.
+fn play(pair: &mut Pair, draws: &mut Draws, file: &[u8]) -> Result<(), Fail> {
+    for _ in 0..draws.below(201) {
+        step(pair, draws)?;
+        if !holds(pair, file) {
+            return Err(Fail::new("the law of one pair does not hold"));
+        }
+    }
+    Ok(())
+}
+
+fn has_bytes(alloc: Global, received: &Received, file: &[u8]) -> bool {
+    match received.to_vec(alloc) {
+        Ok(bytes) => bytes.as_slice() == file,
+        Err(_fault) => false,
+    }
+}
+
 // Whether the receiver hands out its file once, if it has it.
-fn gives_file(alloc: Global, receiver: &mut Receiver, file: &[u8]) -> Result<bool, Fail> {
-    let Some(received) = receiver.take_file() else {
-        return Ok(true);
-    };
-    let is_right = received.to_vec(alloc)?.as_slice() == file;
-    Ok(is_right && receiver.take_file().is_none())
+fn gives_file(alloc: Global, receiver: &mut Receiver, file: &[u8]) -> bool {
+    match receiver.take_file() {
+        Some(received) => has_bytes(alloc, &received, file) && receiver.take_file().is_none(),
+        None => true,
+    }
 }
 
 // How many runs ended like this.
@@ -157,36 +174,49 @@ struct Ended {
     given_up: u64,
 }
 
-// Makes one run, of a file that is a prefix of these bytes. Returns how it ended.
-fn run_one(alloc: Global, draws: &mut Draws, bytes: &[u8; 1200]) -> Result<Ended, Fail> {
-    let size = SIZES.get(draws.place(7)).copied().unwrap_or(0).min(1200);
-    let file = &bytes[..size];
-    let mut pair = run(alloc, draws, file)?;
+// Makes one run of this pair. Returns how it ended.
+fn run(alloc: Global, draws: &mut Draws, pair: &mut Pair, file: &[u8]) -> Result<Ended, Fail> {
+    play(pair, draws, file)?;
     let ended = Ended {
         finished: u64::from(pair.sender.state() == SendState::Finished),
         given_up: u64::from(pair.receiver.state() == RecvState::TimedOut),
     };
-    if !gives_file(alloc, &mut pair.receiver, file)? {
+    if !gives_file(alloc, &mut pair.receiver, file) {
         return Err(Fail::new("another file was received"));
     }
     Ok(ended)
 }
 
+// Makes one run, of a file that is a prefix of these bytes. Returns how it ended.
+fn run_one(alloc: Global, draws: &mut Draws, bytes: &[u8; 1200]) -> Result<Ended, Fail> {
+    let size = SIZES.get(draws.place(7)).copied().unwrap_or(0).min(1200);
+    let file = &bytes[..size];
+    let mut pair = begin(alloc, file)?;
+    run(alloc, draws, &mut pair, file)
+}
+
+fn run_all(alloc: Global, bytes: &[u8; 1200]) -> Result<Ended, Fail> {
+    let mut draws = Draws::new(7);
+    let mut all = Ended {
+        finished: 0,
+        given_up: 0,
+    };
+    for _ in 0..1000 {
+        let ended = run_one(alloc, &mut draws, bytes)?;
+        all.finished = all.finished.wrapping_add(ended.finished);
+        all.given_up = all.given_up.wrapping_add(ended.given_up);
+    }
+    Ok(all)
+}
+
 #[test]
 fn pairs(rt: HostRuntime) -> Result<(), Fail> {
-    let mut draws = Draws::new(7);
-    let mut finished: u64 = 0;
-    let mut given_up: u64 = 0;
     let mut bytes = [0; 1200];
     for (i, b) in bytes.iter_mut().enumerate() {
         *b = (i % 251) as u8;
     }
-    for _ in 0..1000 {
-        let ended = run_one(rt.alloc(), &mut draws, &bytes)?;
-        finished = finished.wrapping_add(ended.finished);
-        given_up = given_up.wrapping_add(ended.given_up);
-    }
-    assert!(rt; finished > 100, "{finished}");
-    assert!(rt; given_up > 10, "{given_up}");
+    let ended = run_all(rt.alloc(), &bytes)?;
+    assert!(rt; ended.finished > 100, "{}", ended.finished);
+    assert!(rt; ended.given_up > 10, "{}", ended.given_up);
     Ok(())
 }

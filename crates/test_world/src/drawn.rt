@@ -1,6 +1,6 @@
 // Lists of events that are drawn: six operations at six endpoints, whose datagrams are mostly delivered, and now and then
 // lost, repeated or overtaken; time-outs, strangers' datagrams and restarts.
-use crate::scene::{Act, STRANGER, bytes_of, event_of};
+use crate::scene::{Act, STRANGER, event_of};
 use archive_table::MemoryKeeper;
 use archive_world::{Datagram, Event, Op, OpKind, Outcome, SERVER, WorldFault, replay};
 use std::alloc::Global;
@@ -9,7 +9,7 @@ use test_samples::{
     ACK_0, ACK_1, ACK_2, Draws, EMPTY_LYNX, EMPTY_MS, WRQ, at, client, join, record, steps,
 };
 use tftp_packet::Endpoint;
-use tws_file::Ruleset;
+use tws_file::{Bytes, Ruleset};
 
 // The most events in a list.
 const EVENTS: usize = 60;
@@ -32,19 +32,28 @@ pub(crate) struct Drawn {
     begun: u16,
 }
 
-// A file of one solution of one of three levels, of either ruleset. One in twelve is cut, and so is not a solution
-// file.
-fn file(alloc: Global, draws: &mut Draws) -> Result<Vec<u8>, Fail> {
-    let count = MOVES.get(usize::from(draws.below(8))).copied().unwrap_or(0);
+// The record of one of three levels, with so many bytes of moves.
+fn solution(alloc: Global, draws: &mut Draws, count: usize) -> Result<Vec<u8>, Fail> {
+    let (number, ticks) = (draws.below(3), u32::from(draws.below(5)));
     let moves = steps(alloc, count)?;
+    Ok(record(alloc, number, b"BDHP", 0, ticks, &moves)?)
+}
+
+// A file of one solution, of either ruleset.
+fn whole_file(alloc: Global, draws: &mut Draws) -> Result<Vec<u8>, Fail> {
+    let count = MOVES.get(usize::from(draws.below(8))).copied().unwrap_or(0);
     let header = if draws.once_in(4) {
         EMPTY_MS
     } else {
         EMPTY_LYNX
     };
-    let (number, ticks) = (draws.below(3), u32::from(draws.below(5)));
-    let solution = record(alloc, number, b"BDHP", 0, ticks, &moves)?;
-    let mut bytes = join(alloc, header, &[&solution])?;
+    let solution = solution(alloc, draws, count)?;
+    Ok(join(alloc, header, &[&solution])?)
+}
+
+// The same; but one in twelve is cut, and so is not a solution file.
+fn file(alloc: Global, draws: &mut Draws) -> Result<Vec<u8>, Fail> {
+    let mut bytes = whole_file(alloc, draws)?;
     if draws.once_in(12) {
         let _last = bytes.pop();
     }
@@ -64,7 +73,7 @@ fn begin(alloc: Global, draws: &mut Draws, drawn: &mut Drawn) -> Result<(), Fail
     let kind = if draws.once_in(3) {
         OpKind::Get(ruleset(draws))
     } else {
-        OpKind::Put(bytes_of(alloc, &file(alloc, draws)?)?)
+        OpKind::Put(Bytes::of(file(alloc, draws)?))
     };
     let client = client(drawn.begun);
     drawn.begun = drawn.begun.wrapping_add(1);
@@ -134,10 +143,15 @@ fn stranger(draws: &mut Draws) -> Endpoint {
     }
 }
 
-// DATA 1 to a transfer of a stranger. Its file is cut if it is longer than a block.
+// DATA 1 with a file, which is cut if it is longer than a block.
+fn data_of_file(alloc: Global, draws: &mut Draws) -> Result<Vec<u8>, Fail> {
+    let file = file(alloc, draws)?;
+    Ok(join(alloc, b"\0\x03\0\x01", &[&file])?)
+}
+
+// That DATA to a transfer of a stranger.
 fn stray_file(alloc: Global, draws: &mut Draws, peer: Endpoint, port: u16) -> Result<Event, Fail> {
-    let mut bytes = Vec::from_slice(alloc, b"\0\x03\0\x01")?;
-    bytes.extend_from_slice(&file(alloc, draws)?)?;
+    let mut bytes = data_of_file(alloc, draws)?;
     bytes.truncate(400);
     event_of(alloc, Act::Stray(peer, at(port), &bytes))
 }
@@ -195,7 +209,45 @@ fn disturb(
     }
 }
 
-// Adds one event, or a loss, while these datagrams are on their way.
+// The delivery of one of the datagrams that are on their way, if it is not lost.
+fn deliver_pending(
+    draws: &mut Draws,
+    drawn: &mut Drawn,
+    pending: &mut Vec<usize>,
+) -> Option<Event> {
+    let place = if draws.once_in(4) {
+        draws.place(pending.len())
+    } else {
+        0
+    };
+    if place >= pending.len() {
+        return None;
+    }
+    let i = pending.remove(place);
+    if draws.once_in(12) {
+        take(drawn, i);
+        return None;
+    }
+    Some(deliver(draws, drawn, i))
+}
+
+// One event, or a loss, while these datagrams are on their way.
+fn next_event(
+    alloc: Global,
+    draws: &mut Draws,
+    drawn: &mut Drawn,
+    outcome: &Outcome,
+    pending: &mut Vec<usize>,
+) -> Result<Option<Event>, Fail> {
+    if draws.once_in(5) {
+        return Ok(Some(disturb(alloc, draws, drawn, outcome)?));
+    }
+    if pending.is_empty() {
+        return Ok(Some(wait(draws, drawn, outcome)));
+    }
+    Ok(deliver_pending(draws, drawn, pending))
+}
+
 fn step(
     alloc: Global,
     draws: &mut Draws,
@@ -203,32 +255,10 @@ fn step(
     outcome: &Outcome,
     pending: &mut Vec<usize>,
 ) -> Result<(), Fail> {
-    if draws.once_in(5) {
-        let event = disturb(alloc, draws, drawn, outcome)?;
-        drawn.events.push(event)?;
-        return Ok(());
+    match next_event(alloc, draws, drawn, outcome, pending)? {
+        Some(event) => Ok(drawn.events.push(event)?),
+        None => Ok(()),
     }
-    if pending.is_empty() {
-        let event = wait(draws, drawn, outcome);
-        drawn.events.push(event)?;
-        return Ok(());
-    }
-    let place = if draws.once_in(4) {
-        draws.place(pending.len())
-    } else {
-        0
-    };
-    if place >= pending.len() {
-        return Ok(());
-    }
-    let i = pending.remove(place);
-    if draws.once_in(12) {
-        take(drawn, i);
-    } else {
-        let event = deliver(draws, drawn, i);
-        drawn.events.push(event)?;
-    }
-    Ok(())
 }
 
 // The outcome of the events so far, if they have a run.
@@ -238,21 +268,48 @@ fn run(alloc: Global, drawn: &Drawn) -> Result<Outcome, WorldFault> {
     replay(alloc, &mut keeper, &drawn.events)
 }
 
+// Leaves out the event that has no run.
+fn leave_out(drawn: &mut Drawn, fault: WorldFault) -> Result<(), Fail> {
+    match fault {
+        WorldFault::Memory => Err(Fail::new("out of memory")),
+        WorldFault::BadEvent(i) | WorldFault::PortReused(i) | WorldFault::NotLoaded(i) => {
+            if i >= drawn.events.len() {
+                return Err(Fail::new("a fault of no event"));
+            }
+            let _left_out = drawn.events.remove(i);
+            Ok(())
+        }
+    }
+}
+
 // The outcome of the events so far. An event that has no run is left out.
 fn settle(alloc: Global, drawn: &mut Drawn) -> Result<Outcome, Fail> {
     for _ in 0..EVENTS {
         match run(alloc, drawn) {
             Ok(outcome) => return Ok(outcome),
-            Err(WorldFault::Memory) => return Err(Fail::new("out of memory")),
-            Err(WorldFault::BadEvent(i) | WorldFault::PortReused(i) | WorldFault::NotLoaded(i)) => {
-                if i >= drawn.events.len() {
-                    return Err(Fail::new("a fault of no event"));
-                }
-                let _left_out = drawn.events.remove(i);
-            }
+            Err(fault) => leave_out(drawn, fault)?,
         }
     }
     Err(Fail::new("too many faults"))
+}
+
+// Adds some events, while these datagrams are on their way.
+fn add_events(
+    alloc: Global,
+    draws: &mut Draws,
+    drawn: &mut Drawn,
+    outcome: &Outcome,
+    pending: &mut Vec<usize>,
+) -> Result<(), Fail> {
+    if drawn.begun < OPERATIONS && (pending.len() < 2 || draws.once_in(4)) {
+        begin(alloc, draws, drawn)?;
+    }
+    for _ in 0..pending.len().clamp(1, 5) {
+        if drawn.events.len() < EVENTS {
+            step(alloc, draws, drawn, outcome, pending)?;
+        }
+    }
+    Ok(())
 }
 
 // Adds some events, all of them about what was sent so far.
@@ -266,15 +323,7 @@ fn round(
         drawn.gone.push(false)?;
     }
     let mut pending = pending(alloc, drawn, outcome)?;
-    if drawn.begun < OPERATIONS && (pending.len() < 2 || draws.once_in(4)) {
-        begin(alloc, draws, drawn)?;
-    }
-    for _ in 0..pending.len().clamp(1, 5) {
-        if drawn.events.len() < EVENTS {
-            step(alloc, draws, drawn, outcome, &mut pending)?;
-        }
-    }
-    Ok(())
+    add_events(alloc, draws, drawn, outcome, &mut pending)
 }
 
 // Adds a round after this outcome. Returns the new outcome.

@@ -1,9 +1,7 @@
 // Lists of events without a run.
-use crate::scene::{
-    Act, NO_CALL, NOTHING, ONE_PUT, Wanted, fault, fault_by, other_after, was_given,
-};
-use archive_table::MemoryKeeper;
+use crate::scene::{Act, NO_CALL, NOTHING, Wanted, failing, fault, other_after};
 use archive_world::{SERVER, WorldFault};
+use std::alloc::Global;
 use std::test::Fail;
 use test_samples::{ALICE, BOB, HUNDRED, RRQ_MS, WRQ, at};
 use tftp_packet::Endpoint;
@@ -51,17 +49,25 @@ fn clients_where_none_may_be(rt: HostRuntime) -> Result<(), Fail> {
     Ok(())
 }
 
-// Also if an operation has begun there before.
+// The fault of a put of a file, and that of one where an operation has begun before.
+fn faults_of_put(
+    alloc: Global,
+    file: &[u8],
+) -> Result<(Option<WorldFault>, Option<WorldFault>), Fail> {
+    let first = fault(alloc, &[Act::Put(ALICE, file)])?;
+    let second = fault(alloc, &[Act::Put(ALICE, HUNDRED), Act::Put(ALICE, file)])?;
+    Ok((first, second))
+}
+
+fn faults_of_long_put(alloc: Global) -> Result<(Option<WorldFault>, Option<WorldFault>), Fail> {
+    let file = vec![in alloc; 7; 33_553_920]?;
+    faults_of_put(alloc, &file)
+}
+
 #[test]
 fn a_put_of_a_file_that_is_too_long(rt: HostRuntime) -> Result<(), Fail> {
-    let file = vec![in rt.alloc(); 7; 33_553_920]?;
-    let first = fault(rt.alloc(), &[Act::Put(ALICE, &file)])?;
-    let second = fault(
-        rt.alloc(),
-        &[Act::Put(ALICE, HUNDRED), Act::Put(ALICE, &file)],
-    )?;
     assert_eq!(rt;
-        (first, second),
+        faults_of_long_put(rt.alloc())?,
         (Some(WorldFault::BadEvent(0)), Some(WorldFault::BadEvent(1)))
     );
     Ok(())
@@ -98,7 +104,6 @@ fn two_transfers_of_one_client_at_one_port(rt: HostRuntime) -> Result<(), Fail> 
 // What the keeper was given before the fault stays.
 #[test]
 fn a_fault_after_a_file_was_taken(rt: HostRuntime) -> Result<(), Fail> {
-    let mut keeper = MemoryKeeper::new(rt.alloc());
     let acts = [
         Act::Put(ALICE, HUNDRED),
         Act::Ask(0, 4000),
@@ -107,10 +112,9 @@ fn a_fault_after_a_file_was_taken(rt: HostRuntime) -> Result<(), Fail> {
         Act::Deliver(4),
     ];
     assert_eq!(rt;
-        fault_by(rt.alloc(), &mut keeper, &acts)?,
-        Some(WorldFault::BadEvent(4))
+        failing(rt.alloc(), NO_CALL, &acts)?,
+        (Some(WorldFault::BadEvent(4)), true)
     );
-    assert!(rt; was_given(&keeper, ONE_PUT.given));
     Ok(())
 }
 

@@ -95,22 +95,35 @@ fn a_get_of_an_empty_collection(rt: HostRuntime) -> Result<(), Fail> {
 }
 
 // 65 gets begin, and all their requests arrive. The last client receives the answer, and times out once.
+fn act_of_crowd(i: u16) -> Act<'static> {
+    if i < 65 {
+        return Act::Get(client(i), Ruleset::Lynx);
+    }
+    if i < 130 {
+        return Act::Ask(usize::from(i - 65), 4001_u16.wrapping_add(i - 65));
+    }
+    if i == 130 {
+        Act::Deliver(129)
+    } else {
+        Act::ClientWaits(client(64))
+    }
+}
+
 fn crowd(alloc: Global) -> Result<Vec<Act<'static>>, Fail> {
     let mut acts = Vec::new(alloc);
-    for i in 0..65 {
-        acts.push(Act::Get(client(i), Ruleset::Lynx))?;
+    for i in 0..132 {
+        acts.push(act_of_crowd(i))?;
     }
-    for i in 0..65 {
-        acts.push(Act::Ask(usize::from(i), 4001_u16.wrapping_add(i)))?;
-    }
-    acts.push(Act::Deliver(129))?;
-    acts.push(Act::ClientWaits(client(64)))?;
     Ok(acts)
+}
+
+fn outcome_of(alloc: Global, acts: &[Act<'_>]) -> Result<Outcome, Fail> {
+    run(alloc, &mut MemoryKeeper::new(alloc), acts)
 }
 
 // The outcome of that.
 fn after_crowd(alloc: Global) -> Result<Outcome, Fail> {
-    run(alloc, &mut MemoryKeeper::new(alloc), &crowd(alloc)?)
+    outcome_of(alloc, &crowd(alloc)?)
 }
 
 // Whether this get was requested, as datagram i, and answered as datagram 65 + i by DATA 1 of the empty collection.
@@ -168,16 +181,16 @@ fn has_no_file(outcome: &Outcome) -> bool {
 }
 
 // The server has room for 64 transfers. The client that is refused sends nothing more.
+fn is_right(outcome: &Outcome) -> (bool, bool, bool) {
+    (
+        are_served(outcome),
+        is_one_refused(outcome),
+        has_no_file(outcome),
+    )
+}
+
 #[test]
 fn a_get_too_many(rt: HostRuntime) -> Result<(), Fail> {
-    let outcome = after_crowd(rt.alloc())?;
-    assert_eq!(rt;
-        (
-            are_served(&outcome),
-            is_one_refused(&outcome),
-            has_no_file(&outcome)
-        ),
-        (true, true, true)
-    );
+    assert_eq!(rt; is_right(&after_crowd(rt.alloc())?), (true, true, true));
     Ok(())
 }

@@ -2,7 +2,6 @@
 use archive_table::MemoryKeeper;
 use archive_world::{Asked, Event, GotFile, Op, OpKind, Opening, Outcome, TakenFile, replay};
 use std::alloc::Global;
-use std::test::Fail;
 use tftp_packet::Endpoint;
 use tws_best::Collection;
 use tws_file::{Ruleset, read_file};
@@ -134,41 +133,51 @@ fn are_sent_once(events: &[Event], outcome: &Outcome) -> bool {
 
 // ---- the best over files
 
-// Merges a file into what is best so far, if it is readable.
-fn merge(alloc: Global, best: &mut Collection, file: &[u8]) -> Result<(), Fail> {
-    if let Ok(file) = read_file(alloc, file) {
-        let _changed = best.merge(&file)?;
+// Merges a file into what is best so far, if it is readable. Returns whether there was memory for that.
+fn merge(alloc: Global, best: &mut Collection, file: &[u8]) -> bool {
+    match read_file(alloc, file) {
+        Ok(file) => best.merge(&file).is_ok(),
+        Err(_fault) => true,
     }
-    Ok(())
 }
 
-// The text of the best over these files. They are merged from the last one to the first, since order has no effect.
-fn best_over(alloc: Global, ruleset: Ruleset, files: &[TakenFile]) -> Result<Vec<u8>, Fail> {
-    let mut best = Collection::new(alloc, ruleset);
+// Merges files from the last one to the first, since order has no effect.
+fn merge_all(alloc: Global, best: &mut Collection, files: &[TakenFile]) -> bool {
     for one in files.iter().rev() {
-        merge(alloc, &mut best, one.file.as_slice())?;
+        if !merge(alloc, best, one.file.as_slice()) {
+            return false;
+        }
     }
-    let mut text = Vec::new(alloc);
-    best.write_text(&mut text)?;
-    Ok(text)
+    true
 }
 
-fn are_best(alloc: Global, outcome: &Outcome) -> Result<bool, Fail> {
-    let lynx = best_over(alloc, Ruleset::Lynx, outcome.taken.as_slice())?;
-    let ms = best_over(alloc, Ruleset::Ms, outcome.taken.as_slice())?;
-    Ok(lynx.as_slice() == outcome.lynx.as_slice() && ms.as_slice() == outcome.ms.as_slice())
+fn has_text(alloc: Global, best: &Collection, wanted: &[u8]) -> bool {
+    let mut text = Vec::new(alloc);
+    best.write_text(&mut text).is_ok() && text.as_slice() == wanted
+}
+
+// Whether this is the text of the best over these files.
+fn is_best_over(alloc: Global, ruleset: Ruleset, files: &[TakenFile], wanted: &[u8]) -> bool {
+    let mut best = Collection::new(alloc, ruleset);
+    merge_all(alloc, &mut best, files) && has_text(alloc, &best, wanted)
+}
+
+fn are_best(alloc: Global, outcome: &Outcome) -> bool {
+    let taken = outcome.taken.as_slice();
+    is_best_over(alloc, Ruleset::Lynx, taken, outcome.lynx.as_slice())
+        && is_best_over(alloc, Ruleset::Ms, taken, outcome.ms.as_slice())
 }
 
 // ---- a finished get
 
-// How many files are taken by the events before this one. The keeper fails at the same call.
-fn taken_before(alloc: Global, events: &[Event], i: usize, fails: u64) -> Result<usize, Fail> {
-    let Some(before) = events.get(..i) else {
-        return Err(Fail::new("no such event"));
-    };
+// How many files are taken by these events, if they have a run. This call of the keeper fails.
+fn taken_by(alloc: Global, events: &[Event], fails: u64) -> Option<usize> {
     let mut keeper = MemoryKeeper::new(alloc);
     keeper.fail_at(fails);
-    Ok(replay(alloc, &mut keeper, before)?.taken.len())
+    match replay(alloc, &mut keeper, events) {
+        Ok(outcome) => Some(outcome.taken.len()),
+        Err(_fault) => None,
+    }
 }
 
 // Whether this opening is for the get and has what was taken when the get began, and what was fetched is the collection
@@ -180,15 +189,29 @@ fn is_from(
     got: &GotFile,
     ruleset: Ruleset,
     since: usize,
-) -> Result<bool, Fail> {
+) -> bool {
     let is_own = opening.peer == got.client && opening.asked == Asked::Read(ruleset);
     if !is_own || opening.taken < since {
-        return Ok(false);
+        return false;
     }
     match taken.get(..opening.taken) {
-        Some(first) => Ok(best_over(alloc, ruleset, first)?.as_slice() == got.file.as_slice()),
-        None => Ok(false),
+        Some(first) => is_best_over(alloc, ruleset, first, got.file.as_slice()),
+        None => false,
     }
+}
+
+// The ruleset of the get that ended with this file, and how many files were taken when it began. The keeper fails at the
+// same call.
+fn get_and_taken(
+    alloc: Global,
+    events: &[Event],
+    got: &GotFile,
+    fails: u64,
+) -> Option<(Ruleset, usize)> {
+    let (i, op) = op_at(events, got.client)?;
+    let ruleset = get_of(op)?;
+    let since = taken_by(alloc, events.get(..i)?, fails)?;
+    Some((ruleset, since))
 }
 
 fn is_finished_get(
@@ -197,41 +220,26 @@ fn is_finished_get(
     outcome: &Outcome,
     got: &GotFile,
     fails: u64,
-) -> Result<bool, Fail> {
-    let Some((i, op)) = op_at(events, got.client) else {
-        return Ok(false);
+) -> bool {
+    let Some((ruleset, since)) = get_and_taken(alloc, events, got, fails) else {
+        return false;
     };
-    let Some(ruleset) = get_of(op) else {
-        return Ok(false);
-    };
-    let since = taken_before(alloc, events, i, fails)?;
+    let taken = outcome.taken.as_slice();
     for opening in &outcome.opened {
-        if is_from(
-            alloc,
-            outcome.taken.as_slice(),
-            opening,
-            got,
-            ruleset,
-            since,
-        )? {
-            return Ok(true);
+        if is_from(alloc, taken, opening, got, ruleset, since) {
+            return true;
         }
     }
-    Ok(false)
+    false
 }
 
-fn are_finished_gets(
-    alloc: Global,
-    events: &[Event],
-    outcome: &Outcome,
-    fails: u64,
-) -> Result<bool, Fail> {
+fn are_finished_gets(alloc: Global, events: &[Event], outcome: &Outcome, fails: u64) -> bool {
     for got in &outcome.got {
-        if !is_finished_get(alloc, events, outcome, got, fails)? {
-            return Ok(false);
+        if !is_finished_get(alloc, events, outcome, got, fails) {
+            return false;
         }
     }
-    Ok(true)
+    true
 }
 
 // ---- no end is out of memory
@@ -252,21 +260,21 @@ pub(crate) fn broken_promise(
     events: &[Event],
     outcome: &Outcome,
     fails: u64,
-) -> Result<Option<&'static str>, Fail> {
+) -> Option<&'static str> {
     if !are_taken_once(events, outcome.taken.as_slice()) {
-        return Ok(Some("taken at most once and unchanged"));
+        return Some("taken at most once and unchanged");
     }
     if !are_sent_once(events, outcome) {
-        return Ok(Some("exactly once if counted as sent"));
+        return Some("exactly once if counted as sent");
     }
-    if !are_best(alloc, outcome)? {
-        return Ok(Some("best of"));
+    if !are_best(alloc, outcome) {
+        return Some("best of");
     }
-    if !are_finished_gets(alloc, events, outcome, fails)? {
-        return Ok(Some("a finished get"));
+    if !are_finished_gets(alloc, events, outcome, fails) {
+        return Some("a finished get");
     }
     if has_error_three(events, outcome) {
-        return Ok(Some("no end out of memory"));
+        return Some("no end out of memory");
     }
-    Ok(None)
+    None
 }

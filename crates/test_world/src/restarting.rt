@@ -1,7 +1,5 @@
 // A server that restarts, and a keeper that fails.
-use crate::scene::{
-    Act, NO_CALL, NOTHING, ONE_PUT, Wanted, fault, fault_by, other_after, was_given,
-};
+use crate::scene::{Act, NO_CALL, NOTHING, ONE_PUT, Wanted, failing, fault, fault_by, other_after};
 use archive_table::MemoryKeeper;
 use archive_world::{Asked, SERVER, WorldFault};
 use std::alloc::Global;
@@ -156,14 +154,6 @@ fn a_restart_after_a_put(rt: HostRuntime) -> Result<(), Fail> {
     Ok(())
 }
 
-// The fault of these events if this call of the keeper fails, and whether the keeper was given the put's file.
-fn failing(alloc: Global, call: u64, acts: &[Act<'_>]) -> Result<(Option<WorldFault>, bool), Fail> {
-    let mut keeper = MemoryKeeper::new(alloc);
-    keeper.fail_at(call);
-    let fault = fault_by(alloc, &mut keeper, acts)?;
-    Ok((fault, was_given(&keeper, ONE_PUT.given)))
-}
-
 // A load fails: there is no run, and the keeper has what was kept before.
 #[test]
 fn a_restart_that_fails(rt: HostRuntime) -> Result<(), Fail> {
@@ -183,16 +173,23 @@ fn a_restart_that_fails(rt: HostRuntime) -> Result<(), Fail> {
     Ok(())
 }
 
+// The fault of a put and then a restart, with a keeper that has this for Lynx.
+fn fault_with(alloc: Global, text: &[u8]) -> Result<Option<WorldFault>, Fail> {
+    let text = Vec::from_slice(alloc, text)?;
+    let mut keeper = MemoryKeeper::with(alloc, Some(text), None)?;
+    fault_by(
+        alloc,
+        &mut keeper,
+        &[Act::Put(ALICE, HUNDRED), Act::Restart],
+    )
+}
+
 // What a keeper has is not loaded if it is not a file of the ruleset.
 #[test]
 fn a_restart_with_bytes_that_are_no_collection(rt: HostRuntime) -> Result<(), Fail> {
-    let alloc = rt.alloc();
     for text in [UNREADABLE.as_slice(), EMPTY_MS.as_slice()] {
-        let text = Vec::from_slice(alloc, text)?;
-        let mut keeper = MemoryKeeper::with(alloc, Some(text), None)?;
-        let acts = [Act::Put(ALICE, HUNDRED), Act::Restart];
         assert_eq!(rt;
-            fault_by(alloc, &mut keeper, &acts)?,
+            fault_with(rt.alloc(), text)?,
             Some(WorldFault::NotLoaded(1))
         );
     }

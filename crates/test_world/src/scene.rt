@@ -28,7 +28,7 @@ pub(crate) enum Act<'a> {
     Restart,
 }
 
-pub(crate) fn bytes_of(alloc: Global, bytes: &[u8]) -> Result<Bytes, Fail> {
+fn bytes_of(alloc: Global, bytes: &[u8]) -> Result<Bytes, Fail> {
     Ok(Bytes::of(Vec::from_slice(alloc, bytes)?))
 }
 
@@ -53,11 +53,20 @@ pub(crate) fn event_of(alloc: Global, act: Act<'_>) -> Result<Event, Fail> {
     })
 }
 
-pub(crate) fn events_of(alloc: Global, acts: &[Act<'_>]) -> Result<Vec<Event>, Fail> {
-    let mut events = Vec::new(alloc);
+pub(crate) fn add_events(
+    alloc: Global,
+    events: &mut Vec<Event>,
+    acts: &[Act<'_>],
+) -> Result<(), Fail> {
     for act in acts {
         events.push(event_of(alloc, *act)?)?;
     }
+    Ok(())
+}
+
+pub(crate) fn events_of(alloc: Global, acts: &[Act<'_>]) -> Result<Vec<Event>, Fail> {
+    let mut events = Vec::new(alloc);
+    add_events(alloc, &mut events, acts)?;
     Ok(events)
 }
 
@@ -71,7 +80,7 @@ pub(crate) fn run(
     Ok(replay(alloc, keeper, &events)?)
 }
 
-// Why these events have no run with this keeper.
+// Why these events have no run with this keeper, if they have none.
 pub(crate) fn fault_by(
     alloc: Global,
     keeper: &mut MemoryKeeper,
@@ -86,6 +95,18 @@ pub(crate) fn fault_by(
 
 pub(crate) fn fault(alloc: Global, acts: &[Act<'_>]) -> Result<Option<WorldFault>, Fail> {
     fault_by(alloc, &mut MemoryKeeper::new(alloc), acts)
+}
+
+// The fault of these events if this call of the keeper fails, and whether the keeper was given the file of `ONE_PUT`.
+pub(crate) fn failing(
+    alloc: Global,
+    call: u64,
+    acts: &[Act<'_>],
+) -> Result<(Option<WorldFault>, bool), Fail> {
+    let mut keeper = MemoryKeeper::new(alloc);
+    keeper.fail_at(call);
+    let fault = fault_by(alloc, &mut keeper, acts)?;
+    Ok((fault, was_given(&keeper, ONE_PUT.given)))
 }
 
 // The call of a keeper that fails, if none does.
@@ -198,7 +219,7 @@ fn other_part(outcome: &Outcome, wanted: &Wanted<'_>) -> Option<&'static str> {
 }
 
 // Whether a keeper was given exactly these texts, and kept each or not.
-pub(crate) fn was_given(keeper: &MemoryKeeper, wanted: &[(Ruleset, &[u8], bool)]) -> bool {
+fn was_given(keeper: &MemoryKeeper, wanted: &[(Ruleset, &[u8], bool)]) -> bool {
     let kept = keeper.kept();
     for (one, (ruleset, text, ok)) in kept.iter().zip(wanted) {
         if one.ruleset != *ruleset || one.text.as_slice() != *text || one.ok != *ok {
@@ -208,7 +229,22 @@ pub(crate) fn was_given(keeper: &MemoryKeeper, wanted: &[(Ruleset, &[u8], bool)]
     kept.len() == wanted.len()
 }
 
-// The part of these events' outcome that is not as expected, if there is one. This call of the keeper fails.
+// The part of these events' outcome with this keeper that is not as expected, if there is one.
+fn other_with(
+    alloc: Global,
+    keeper: &mut MemoryKeeper,
+    acts: &[Act<'_>],
+    wanted: &Wanted<'_>,
+) -> Result<Option<&'static str>, Fail> {
+    let outcome = run(alloc, keeper, acts)?;
+    Ok(if was_given(keeper, wanted.given) {
+        other_part(&outcome, wanted)
+    } else {
+        Some("given")
+    })
+}
+
+// The same with a new keeper, of which this call fails.
 pub(crate) fn other_after(
     alloc: Global,
     acts: &[Act<'_>],
@@ -217,9 +253,5 @@ pub(crate) fn other_after(
 ) -> Result<Option<&'static str>, Fail> {
     let mut keeper = MemoryKeeper::new(alloc);
     keeper.fail_at(fails);
-    let outcome = run(alloc, &mut keeper, acts)?;
-    if !was_given(&keeper, wanted.given) {
-        return Ok(Some("given"));
-    }
-    Ok(other_part(&outcome, wanted))
+    other_with(alloc, &mut keeper, acts, wanted)
 }

@@ -2,7 +2,7 @@
 // each with its own test.
 use crate::drawn::{Drawn, draw};
 use crate::promises::{begin_counts, broken_promise};
-use crate::scene::{Act, are_got, are_opened, are_taken, events_of};
+use crate::scene::{Act, add_events, are_got, are_opened, are_taken, events_of};
 use archive_table::MemoryKeeper;
 use archive_world::{Asked, Datagram, Event, Outcome, SERVER, replay};
 use std::alloc::Global;
@@ -78,10 +78,14 @@ fn were_sent(datagrams: &[Datagram], wanted: &[(Endpoint, Endpoint, Line)]) -> b
     datagrams.len() == wanted.len()
 }
 
+fn outcome_of(alloc: Global, events: &[Event]) -> Result<Outcome, Fail> {
+    Ok(replay(alloc, &mut MemoryKeeper::new(alloc), events)?)
+}
+
 // The outcome of these events, which must break no promise.
 fn unbroken(alloc: Global, events: &[Event]) -> Result<Outcome, Fail> {
-    let outcome = replay(alloc, &mut MemoryKeeper::new(alloc), events)?;
-    match broken_promise(alloc, events, &outcome, 0)? {
+    let outcome = outcome_of(alloc, events)?;
+    match broken_promise(alloc, events, &outcome, 0) {
         Some(promise) => Err(Fail::new(promise)),
         None => Ok(outcome),
     }
@@ -114,10 +118,15 @@ const SLOW_PUT: [(Endpoint, Endpoint, Line); 8] = [
     (PEER, ALICE, Line::Ack(3)),
 ];
 
+fn events_after_put(alloc: Global, slow: &[u8], acts: &[Act<'_>]) -> Result<Vec<Event>, Fail> {
+    let mut events = events_of(alloc, &slow_put(slow))?;
+    add_events(alloc, &mut events, acts)?;
+    Ok(events)
+}
+
 // The outcome of that put and then these events.
 fn outcome_after_put(alloc: Global, slow: &[u8], acts: &[Act<'_>]) -> Result<Outcome, Fail> {
-    let mut events = events_of(alloc, &slow_put(slow))?;
-    events.append(&mut events_of(alloc, acts)?)?;
+    let events = events_after_put(alloc, slow, acts)?;
     unbroken(alloc, &events)
 }
 
@@ -163,16 +172,20 @@ fn has_gone_round(outcome: &Outcome, file: &[u8]) -> bool {
         && outcome.ms.as_slice() == EMPTY_MS.as_slice()
 }
 
+// Whether the datagrams, the files and the transfers of that are right.
+fn is_right_after_get(outcome: &Outcome, file: &[u8]) -> (bool, bool, bool) {
+    let opened = [(ALICE, 4000, Asked::Write, 0), (BOB, 4001, READ, 1)];
+    (
+        were_sent_after_put(outcome.datagrams.as_slice(), &get_lines()),
+        has_gone_round(outcome, file),
+        are_opened(outcome.opened.as_slice(), &opened),
+    )
+}
+
 #[test]
 fn a_get_after_a_put(rt: HostRuntime) -> Result<(), Fail> {
     let file = slow_file();
-    let outcome = outcome_after_put(rt.alloc(), &file, &GET)?;
-    let opened = [(ALICE, 4000, Asked::Write, 0), (BOB, 4001, READ, 1)];
-    let is_right = (
-        were_sent_after_put(outcome.datagrams.as_slice(), &get_lines()),
-        has_gone_round(&outcome, &file),
-        are_opened(outcome.opened.as_slice(), &opened),
-    );
+    let is_right = is_right_after_get(&outcome_after_put(rt.alloc(), &file, &GET)?, &file);
     assert_eq!(rt; is_right, (true, true, true));
     Ok(())
 }
@@ -243,21 +256,26 @@ fn has_crossed(outcome: &Outcome, slow: &[u8], fast: &[u8]) -> bool {
         && outcome.ms.as_slice() == EMPTY_MS.as_slice()
 }
 
-#[test]
-fn two_gets_across_a_put(rt: HostRuntime) -> Result<(), Fail> {
-    let (slow, fast) = (slow_file(), fast_file());
-    let outcome = outcome_after_put(rt.alloc(), &slow, &crossing(&fast))?;
+// Whether the datagrams, the files and the transfers of the crossing are right.
+fn is_right_after_crossing(outcome: &Outcome, slow: &[u8], fast: &[u8]) -> (bool, bool, bool) {
     let opened = [
         (ALICE, 4000, Asked::Write, 0),
         (BOB, 4001, READ, 1),
         (CAROL, 4002, Asked::Write, 1),
         (DAVE, 4003, READ, 1),
     ];
-    let is_right = (
+    (
         were_sent_after_put(outcome.datagrams.as_slice(), &crossed_lines()),
-        has_crossed(&outcome, &slow, &fast),
+        has_crossed(outcome, slow, fast),
         are_opened(outcome.opened.as_slice(), &opened),
-    );
+    )
+}
+
+#[test]
+fn two_gets_across_a_put(rt: HostRuntime) -> Result<(), Fail> {
+    let (slow, fast) = (slow_file(), fast_file());
+    let outcome = outcome_after_put(rt.alloc(), &slow, &crossing(&fast))?;
+    let is_right = is_right_after_crossing(&outcome, &slow, &fast);
     assert_eq!(rt; is_right, (true, true, true));
     Ok(())
 }
@@ -265,7 +283,7 @@ fn two_gets_across_a_put(rt: HostRuntime) -> Result<(), Fail> {
 // ---- the drawn lists
 
 // How often each thing has happened in all lists.
-#[derive(Drop)]
+#[derive(Clone, Copy)]
 struct Tally {
     puts: usize,
     sent: usize,
@@ -367,25 +385,32 @@ fn last_kept(keeper: &MemoryKeeper, ruleset: Ruleset) -> &[u8] {
     }
 }
 
+// Whether this keeper has the collections of an outcome.
+fn has_collections(keeper: &MemoryKeeper, outcome: &Outcome) -> bool {
+    last_kept(keeper, Ruleset::Lynx) == outcome.lynx.as_slice()
+        && last_kept(keeper, Ruleset::Ms) == outcome.ms.as_slice()
+}
+
 // Whether the keeper of a list has the collections that are in its outcome.
-fn has_kept(alloc: Global, drawn: &Drawn, outcome: &Outcome) -> Result<bool, Fail> {
+fn has_kept(alloc: Global, drawn: &Drawn, outcome: &Outcome) -> bool {
     let mut keeper = MemoryKeeper::new(alloc);
     keeper.fail_at(drawn.fails);
-    let _same = replay(alloc, &mut keeper, &drawn.events)?;
-    Ok(
-        last_kept(&keeper, Ruleset::Lynx) == outcome.lynx.as_slice()
-            && last_kept(&keeper, Ruleset::Ms) == outcome.ms.as_slice(),
-    )
+    replay(alloc, &mut keeper, &drawn.events).is_ok() && has_collections(&keeper, outcome)
+}
+
+// The promise that a list breaks, if it breaks one.
+fn broken_by(alloc: Global, drawn: &Drawn, outcome: &Outcome) -> Option<&'static str> {
+    if !has_kept(alloc, drawn, outcome) {
+        return Some("what is taken is kept");
+    }
+    broken_promise(alloc, &drawn.events, outcome, drawn.fails)
 }
 
 // Draws a list, which must break no promise, and counts what happened in it.
 fn count_draw(alloc: Global, draws: &mut Draws, tally: &mut Tally) -> Result<(), Fail> {
     let (drawn, outcome) = draw(alloc, draws)?;
     tally.count(&drawn.events, &outcome);
-    if !has_kept(alloc, &drawn, &outcome)? {
-        return Err(Fail::new("what is taken is kept"));
-    }
-    match broken_promise(alloc, &drawn.events, &outcome, drawn.fails)? {
+    match broken_by(alloc, &drawn, &outcome) {
         Some(promise) => Err(Fail::new(promise)),
         None => Ok(()),
     }
