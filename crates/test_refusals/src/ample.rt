@@ -82,7 +82,9 @@ fn a_large_file(rt: HostRuntime) -> Result<(), Fail> {
 
 // How many solutions a page has.
 fn rows_of_page(text: &[u8]) -> usize {
-    text.windows(8).filter(|part| *part == b"<tr><td>".as_slice()).count()
+    text.windows(8)
+        .filter(|part| *part == b"<tr><td>".as_slice())
+        .count()
 }
 
 fn page_rows(alloc: Global, files: &[TwsFile]) -> Option<usize> {

@@ -3,9 +3,7 @@ use archive_client::{Cause, Get, Put, State};
 use refusing::{Outcome, Refusing, refuse_each};
 use std::alloc::{Allocator, Global};
 use std::test::Fail;
-use test_samples::{
-    ACK_0, ACK_1, DATA_HUNDRED, HUNDRED, OUT_OF_MEMORY, PEER, SERVER, WRQ,
-};
+use test_samples::{ACK_0, ACK_1, DATA_HUNDRED, HUNDRED, OUT_OF_MEMORY, PEER, SERVER, WRQ};
 use tftp_packet::{Endpoint, Out};
 use tws_file::Ruleset;
 

@@ -35,8 +35,7 @@ fn requests(refusing: &Refusing<Global>) -> Option<[u64; 6]> {
     let waited = refusing.requests();
     let is_received = is_acked(&mut table, &file.first, ACK_1);
     let received = refusing.requests();
-    let is_repeated =
-        is_acked(&mut table, &file.first, ACK_1) && is_sent_again(&mut table, ACK_1);
+    let is_repeated = is_acked(&mut table, &file.first, ACK_1) && is_sent_again(&mut table, ACK_1);
     let repeated = refusing.requests();
     let is_taken = handle(&mut table, 4000, ALICE, &file.second)
         .taken
