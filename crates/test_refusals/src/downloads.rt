@@ -87,7 +87,7 @@ fn closes_at<A: Allocator + Copy>(table: &mut Table<A>, port: u16) -> bool {
 
 // How many requests for memory were made when a first download had begun, when a second one had, when the first had
 // ended and begun again, and when both had ended and one begun again; `None` if an answer is wrong.
-fn requests_of_two(refusing: &Refusing<Global>) -> Option<[u64; 4]> {
+fn requests_of_two(refusing: &Refusing<Global>) -> Option<(u64, u64, u64, u64)> {
     let mut table = Table::new(refusing, REQUEST);
     let is_first = takes(&mut table, &Blocks::new()) && opens_at(&mut table, 4001);
     let first = refusing.requests();
@@ -101,14 +101,14 @@ fn requests_of_two(refusing: &Refusing<Global>) -> Option<[u64; 4]> {
     if !(is_first && is_second && is_third && is_last) {
         return None;
     }
-    Some([first, second, third, refusing.requests()])
+    Some((first, second, third, refusing.requests()))
 }
 
 // The second download has the snapshot of the first, and so has one after both have ended.
 #[test]
 fn downloads_of_one_text(rt: HostRuntime) -> Result<(), Fail> {
     let refusing: Refusing<Global> = Refusing::new(rt.alloc(), 0);
-    let Some([first, second, third, last]) = requests_of_two(&refusing) else {
+    let Some((first, second, third, last)) = requests_of_two(&refusing) else {
         return Err(Fail::new("another answer"));
     };
     assert_eq!(rt; (second, third, last), (first, first, first));

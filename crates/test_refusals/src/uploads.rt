@@ -26,7 +26,7 @@ fn dallies<A: Allocator + Copy>(table: &mut Table<A>, block: &[u8]) -> bool {
 
 // How many requests for memory were made after the open, after the time-out that follows, after the first block, after
 // it is repeated and a time-out, after the second block, and at the end; `None` if an answer is wrong.
-fn requests(refusing: &Refusing<Global>) -> Option<[u64; 6]> {
+fn requests(refusing: &Refusing<Global>) -> Option<(u64, u64, u64, u64, u64, u64)> {
     let mut table = Table::new(refusing, REQUEST);
     let file = Blocks::new();
     let is_opened = open(&mut table, 4000, ALICE, WRQ).is_ok();
@@ -45,20 +45,20 @@ fn requests(refusing: &Refusing<Global>) -> Option<[u64; 6]> {
     if !(is_opened && is_first && is_received && is_repeated && is_taken && is_over) {
         return None;
     }
-    Some([
+    Some((
         opened,
         waited,
         received,
         repeated,
         taken,
         refusing.requests(),
-    ])
+    ))
 }
 
 #[test]
 fn repeated_blocks_and_timeouts(rt: HostRuntime) -> Result<(), Fail> {
     let refusing: Refusing<Global> = Refusing::new(rt.alloc(), 0);
-    let Some([opened, waited, received, repeated, taken, over]) = requests(&refusing) else {
+    let Some((opened, waited, received, repeated, taken, over)) = requests(&refusing) else {
         return Err(Fail::new("another answer"));
     };
     assert_eq!(rt; (waited, repeated, over), (opened, received, taken));
