@@ -497,18 +497,3 @@ fn files_in_chunks(rt: HostRuntime) {
         );
     }
 }
-
-fn has_name(alloc: Global, fault: RecvFault, name: &str) -> Result<bool, Fail> {
-    Ok(format!(in alloc; "{fault}")?.as_str() == name)
-}
-
-#[test]
-fn faults_by_name(rt: HostRuntime) -> Result<(), Fail> {
-    for (fault, name) in [
-        (RecvFault::Memory, "Memory"),
-        (RecvFault::TooLong, "TooLong"),
-    ] {
-        assert!(rt; has_name(rt.alloc(), fault, name)?, "{name}");
-    }
-    Ok(())
-}

@@ -7,4 +7,6 @@ mod datagrams;
 #[cfg(test)]
 mod ends;
 #[cfg(test)]
+mod faults;
+#[cfg(test)]
 mod pairs;
