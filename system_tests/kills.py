@@ -23,7 +23,7 @@ MOST = 30
 BEFORE = 2
 LATEST = 0.06
 # How long a client whose server was killed may take to receive what is already sent.
-HEARS = 0.3
+GRACE = 0.3
 # How often a file is put whose client gives up, what such a client prints, and how many of them there are at most: a disk
 # that stops for a while holds back one put of each server.
 TRIES = 3
@@ -119,7 +119,7 @@ class Archive:
         self.server.kill()
         self.server.wait()
         self.killed.set()
-        time.sleep(HEARS)
+        time.sleep(GRACE)
         self.client.kill()
 
     def puts_until_killed(self):
