@@ -178,7 +178,9 @@ impl<A: Allocator + Copy> Table<A> {
     }
 
     // Handles a datagram of these bytes, received from `from` at a transfer's port. The port is looked up once, and
-    // once more if the transfer ends.
+    // once more if the transfer ends. It is not inlined: where it is, LLVM no longer leaves out the copies of the step
+    // in its caller.
+    #[inline(never)]
     #[tactic(auto, using(crate::proofs::Decoded::packet_come, crate::proofs::Decoded::nothing_come))]
     pub(super) fn handle<K: Keeper>(
         &mut self,
