@@ -1,5 +1,5 @@
 -- A line of the log is printable ASCII alone.
-use Rattle.std.proofs.Common.{◌≡◌, ℕ, zero, suc, ◌+◌, ◌/◌, ◌%◌, ◌≤◌, ◌==◌, ◌&&◌, Bool, true, false, List, [], ◌∷◌, ◌++◌, Option, None, Some, refl, arith}
+use Rattle.std.proofs.Common.{◌≡◌, ℕ, zero, suc, ◌/◌, ◌%◌, ◌==◌, ◌&&◌, Bool, true, false, List, [], ◌∷◌, ◌++◌, Option, None, Some, refl, arith}
 use Rattle.std.specs.Prelude.{codes, nat_le, slice_index, option_map, if◌then◌else◌}
 use Rattle.std.specs.Fmt.{decimal, digits, digits_onto, digit_glyph}
 use Rattle.std.specs.List.{All, AllByRecursion}
@@ -18,7 +18,6 @@ use Rattle.tws_file.specs.declared.«ruleset».Ruleset.{Ruleset}
 use Rattle.tws_file.specs.declared.«ruleset».Ruleset.TheVariants.{Lynx, Ms}
 use Rattle.tws_file.specs.declared.file_fault.FileFault.{FileFault}
 use Rattle.tws_file.specs.declared.file_fault.FileFault.TheVariants as fault
-use Rattle.tws_file.specs.Listing.{ruleset_name}
 use Rattle.archive_log.specs.declared.cause.Cause.{Cause}
 use Rattle.archive_log.specs.declared.cause.Cause.TheVariants.{Refused, PeerError, TimedOut}
 use Rattle.archive_log.specs.declared.history_fault.HistoryFault.{HistoryFault}
@@ -74,8 +73,8 @@ dotted_plain a b c d =
     let dot = word (codes ".") refl in
     let two = join (decimal a ++ codes ".") (decimal b) (join (decimal a) (codes ".") (number_plain a) dot) (number_plain b) in
     let three =
-        join (decimal a ++ codes "." ++ decimal b ++ codes ".") (decimal c)
-        (join (decimal a ++ codes "." ++ decimal b) (codes ".") two dot) (number_plain c) in
+    join (decimal a ++ codes "." ++ decimal b ++ codes ".") (decimal c)
+    (join (decimal a ++ codes "." ++ decimal b) (codes ".") two dot) (number_plain c) in
     join (decimal a ++ codes "." ++ decimal b ++ codes "." ++ decimal c ++ codes ".") (decimal d)
     (join (decimal a ++ codes "." ++ decimal b ++ codes "." ++ decimal c) (codes ".") three dot) (number_plain d)
 
@@ -160,12 +159,19 @@ event_plain (event.Started at lynx ms folder) =
     ((word (codes "at") refl, peer_plain at), (number_key (codes "lynx") refl lynx, (number_key (codes "ms") refl ms, folder_plain (option_map (λ f. f.now) folder))))
 event_plain (event.Refused peer why) = (peer_key peer, ((word (codes "why") refl, shown_plain (refusal_text why)), tt))
 event_plain (event.Dropped peer) = (peer_key peer, ((word (codes "why") refl, word (codes "too many transfers of its host") refl), tt))
-event_plain (event.Taken upload millis) =
-    (peer_key upload.peer,
-    (number_key (codes "bytes") refl upload.bytes,
-    (rules_key upload.«ruleset»,
-    ((word (codes "fault") refl, fault_plain upload.fault),
-    (number_key (codes "better") refl upload.better, (number_key (codes "millis") refl millis, tt))))))
+event_plain (event.Taken upload millis) = (
+  peer_key upload.peer,
+  (
+    number_key (codes "bytes") refl upload.bytes,
+    (
+      rules_key upload.«ruleset»,
+      (
+        (word (codes "fault") refl, fault_plain upload.fault),
+        (number_key (codes "better") refl upload.better, (number_key (codes "millis") refl millis, tt)),
+      ),
+    ),
+  ),
+)
 event_plain (event.PutFailed peer block why) = (peer_key peer, (number_key (codes "block") refl block, (cause_key why, tt)))
 event_plain (event.GetFailed peer rules block why) =
     (peer_key peer, (rules_key rules, (number_key (codes "block") refl block, (cause_key why, tt))))

@@ -1,4 +1,4 @@
-use Rattle.std.proofs.Common.{◌≡◌, ℕ, List, Option, Some, ap, sym, subst, ◌∙◌}
+use Rattle.std.proofs.Common.{ℕ, List, Option, Some, ap, sym, subst, ◌∙◌}
 use Rattle.archive_table.specs.Table.{Step, Taken}
 use Rattle.archive_log.specs.ServerLog.{Logged, KeepsTaken, files_of}
 use Rattle.archive_log.proofs.server_log.ServerLog.report_and_record.Goals as goal
