@@ -1,4 +1,5 @@
 mod Shown
+mod Printing
 mod Recording
 mod Chunks
 mod Changes

@@ -1,5 +1,5 @@
 -- The lines of the log: one for each event.
-use Rattle.std.specs.Prelude.{ℕ, ◌&&◌, nat_le, List, [], ◌∷◌, ◌++◌, map, Option, None, Some, option_map, codes, decimal, if◌then◌else◌}
+use Rattle.std.specs.Prelude.{ℕ, ◌≤◌, ◌&&◌, nat_le, List, [], ◌∷◌, ◌++◌, map, Option, None, Some, option_map, codes, decimal, if◌then◌else◌}
 use Rattle.std.specs.Int.{w32, to_be_bytes}
 use Rattle.std.specs.Net.Text.{ipv4_text}
 use Rattle.log.specs.declared.level.Level.{Level}
@@ -129,3 +129,9 @@ timed_pairs time event = (codes "time", time) ∷ pairs_of event
 -- `[INFO  tws] put taken time=2026-11-27T09:15:00.123Z peer=127.0.0.1:5000 ..`
 abbrev pub line_of : (time : List ℕ) → Event → List ℕ
 line_of time event = header_text (level_of event) (codes "tws") ++ message_of event ++ pairs_text (timed_pairs time event)
+
+-- ---- what a line is made of
+
+-- a character of ASCII that is no control character
+abbrev pub IsPrintable : (byte : ℕ) → Type 0
+IsPrintable byte = (32 ≤ byte) × (byte ≤ 126)

@@ -12,6 +12,10 @@ stamp_text at = datetime_text false 84 (Some 3) at ++ zulu_text false
 abbrev pub IsStamp : Timestamp → List ℕ → Type 0
 IsStamp moment text = (at : DateTime) × (civil_nanos at ≡ moment.nanosecond) × (text ≡ stamp_text at)
 
+-- what it shows at some moment
+abbrev pub ShowsMoment : List ℕ → Type 0
+ShowsMoment text = (moment : Timestamp) × IsStamp moment text
+
 abbrev pub is_dash_or_colon : (c : ℕ) → Bool
 is_dash_or_colon c = (c == 45) || (c == 58)
 

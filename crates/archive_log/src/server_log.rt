@@ -1,6 +1,7 @@
 //! The observer that writes the log and the history.
 
 ghost use Rattle.std.specs.Prelude.{◌≡◌, [], true, Some, option_copied};
+ghost use Rattle.archive_log.specs.Times.{ShowsMoment};
 ghost use Rattle.archive_log.specs.ServerLog.{FollowsStep, IsUploadOf, KeepsTaken, files_of};
 
 use crate::entry::Entry;
@@ -145,17 +146,25 @@ impl<C: Clock, L: Log, H: HistoryFolder, A: Allocator + Copy> ServerLog<C, L, H,
 
     // Puts a file that was taken into the history, or reports why it is not there.
     fn record<T: Allocator>(&mut self, time: &Stamp, taken: &Taken<T>, upload: &Upload)
+        requires said { IsUploadOf (Some taken.now) (Some upload.now) }
+        requires stamped { ShowsMoment time.now }
         ensures transfers { self.new.transfers ≡ self.old.transfers }
         ensures history { H.has_model ≡ true → KeepsTaken (Some taken.now) (files_of H.file_at self.old.history) (files_of H.file_at self.new.history) }
     {
-        if let Err(why) = keep(self.alloc, &mut self.history, time, taken, upload) {
+        if let Err(why) = add_to_history(self.alloc, &mut self.history, time, taken, upload) {
             let peer = upload.peer;
             self.report(time, Event::NotRecorded { peer, why });
         }
     }
 
     // Reports an event, and puts the file that its step took into the history.
-    fn tell<T: Allocator>(&mut self, event: Event<'_>, step: &Step<T>, upload: Option<Upload>)
+    fn report_and_record<T: Allocator>(
+        &mut self,
+        event: Event<'_>,
+        step: &Step<T>,
+        upload: Option<Upload>,
+    )
+        requires { IsUploadOf step.now.taken upload }
         ensures transfers { self.new.transfers ≡ self.old.transfers }
         ensures history { H.has_model ≡ true → KeepsTaken step.now.taken (files_of H.file_at self.old.history) (files_of H.file_at self.new.history) }
     {
@@ -186,19 +195,21 @@ impl<C: Clock, L: Log, H: HistoryFolder, A: Allocator + Copy> ServerLog<C, L, H,
         let now = millis_now(&self.clock);
         let upload = self.upload(step, bettered);
         if let Some(event) = self.transfers.on_step(now, port, from, upload, step) {
-            self.tell(event, step, upload);
+            self.report_and_record(event, step, upload);
         }
     }
 }
 
 // Puts a file that changed a collection into the history, if there is one.
-fn keep<H: HistoryFolder, A: Allocator + Copy, T: Allocator>(
+fn add_to_history<H: HistoryFolder, A: Allocator + Copy, T: Allocator>(
     alloc: A,
     history: &mut Option<H>,
     time: &Stamp,
     taken: &Taken<T>,
     upload: &Upload,
 ) -> Result<(), HistoryFault>
+    requires said { IsUploadOf (Some taken.now) (Some upload.now) }
+    requires stamped { ShowsMoment time.now }
     ensures { H.has_model ≡ true → KeepsTaken (Some taken.now) (files_of H.file_at history.old) (files_of H.file_at history.new) }
 {
     let Some(ruleset) = upload.ruleset else {

@@ -1,7 +1,7 @@
 //! Times as a log and the history spell them.
 
 ghost use Rattle.std.specs.Prelude.{◌≡◌, IfOk, string_bytes};
-ghost use Rattle.archive_log.specs.Times.{IsStamp, compact};
+ghost use Rattle.archive_log.specs.Times.{IsStamp, ShowsMoment, compact};
 
 use arrayvec::ArrayString;
 use jiff::Timestamp;
@@ -36,7 +36,9 @@ impl Stamp {
     }
 
     /// The moment that the clock shows. One that cannot be read counts as one at the start of 1970.
-    pub fn now(clock: &impl Clock) -> Self {
+    pub fn now(clock: &impl Clock) -> Self
+        ensures { ShowsMoment result }
+    {
         Stamp::of(Timestamp::now(clock).unwrap_or(Timestamp::UNIX_EPOCH))
     }
 

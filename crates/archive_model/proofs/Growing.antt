@@ -1,41 +1,52 @@
 -- Every event adds at most one member to each list of what has happened, and takes nothing back.
-use Rattle.std.proofs.Common.{◌≡◌, ◌⊎◌, ℕ, Bool, true, false, List, [], ◌∷◌, ◌++◌, Option, None, Some, refl, sym, subst, inl, inr}
+use Rattle.std.proofs.Common.{◌≡◌, ◌⊎◌, ℕ, Bool, true, false, List, [], ◌∷◌, ◌++◌, Option, None, Some, refl, ap, sym, subst, inl, inr, slice_get}
+use Rattle.std.specs.Prelude.{IfSome}
+use Rattle.std.proofs.lemmas.Option.{IfSome_then}
 use Rattle.tftp_packet.specs.declared.endpoint.Endpoint.{Endpoint}
 use Rattle.tftp_packet.specs.declared.out.Out.{Out}
-use Rattle.archive_table.specs.Table.{Taken}
-use Rattle.archive_model.specs.World.{Datagram, Opening, Got, Past, World, Event, WorldStep, IsPrefix, Extends, net_with, opened_with, taken_with, sent_with, got_with, happens, run_from}
-use Rattle.archive_model.specs.Adding.{AddsOne, Adds}
+use Rattle.archive_table.specs.Table.{Taken, memory_verdict, table_request, table_datagram, table_timeout}
+use Rattle.archive_client.specs.Client.{client_datagram, client_timeout, phase_file}
+use Rattle.archive_model.specs.World.{Datagram, Opening, Got, Past, World, Event, deliver, WorldStep, IsPrefix, Extends, net_with, opened_with, taken_with, sent_with, got_with, happens, run_from}
+use Rattle.archive_model.specs.Adding.{AddsOne, Delivers, Adds}
 use Rattle.archive_model.proofs.Places.{IsPrefix-same, IsPrefix-on}
-use Rattle.archive_model.proofs.Doing.{Does, nothing, begun, answers, transfers, acts, strayed, restarted, event-does}
+use Rattle.archive_model.proofs.Sources.{timeout-takes, datagram-takes, timeout-ends}
+use Rattle.archive_model.proofs.Doing.{Does, nothing, begun, answers, transfers, acts, expires, waits, strayed, restarted, event-does}
 
 -- ---- one list
 
--- a list to which anything may be added
-abbrev AddsAny : {A : Type 0} → (old new : List A) → Type 0
-AddsAny {A} old new = AddsOne (λ (x : A). Unit {0}) old new
+-- of less that holds of the one
+pub AddsOne-weaker : {A : Type 0} {Fits Weaker : A → Type 0} {old new : List A} → ((x : A) → Fits x → Weaker x) → AddsOne Fits old new → AddsOne Weaker old new
+AddsOne-weaker weaker (inl same) = inl same
+AddsOne-weaker weaker (inr one) = inr (one.0, one.1, weaker one.0 one.2)
 
-net_adds : (host : ℕ) (net : List Datagram) (out : Option Out) → AddsAny net (net_with host net out)
+net_adds : (host : ℕ) (net : List Datagram) (out : Option Out) → AddsOne (λ (d : Datagram). Unit {0}) net (net_with host net out)
 net_adds host net None = inl refl
 net_adds host net (Some out) = inr (_, refl, tt)
 
-taken_adds : (taken : Option Taken) (ts : List Taken) → AddsAny ts (taken_with taken ts)
-taken_adds None ts = inl refl
-taken_adds (Some t) ts = inr (t, refl, tt)
+taken_adds : {Fits : Taken → Type 0} (taken : Option Taken) (ts : List Taken) → IfSome taken Fits → AddsOne Fits ts (taken_with taken ts)
+taken_adds None ts fits = inl refl
+taken_adds (Some t) ts fits = inr (t, refl, fits)
 
-sent_adds : (newly : Bool) (e : Endpoint) (es : List Endpoint) → AddsAny es (sent_with newly e es)
-sent_adds true e es = inr (e, refl, tt)
-sent_adds false e es = inl refl
+sent_adds : {Fits : Endpoint → Type 0} (newly : Bool) (e : Endpoint) (es : List Endpoint) → Fits e → AddsOne Fits es (sent_with newly e es)
+sent_adds true e es fits = inr (e, refl, fits)
+sent_adds false e es fits = inl refl
 
-got_adds : (newly : Bool) (e : Endpoint) (file : Option (List ℕ)) (gs : List Got) → AddsAny gs (got_with newly e file gs)
-got_adds true e (Some file) gs = inr (_, refl, tt)
-got_adds true e None gs = inl refl
-got_adds false e file gs = inl refl
+got_adds : {Fits : Got → Type 0} (newly : Bool) (e : Endpoint) (file : Option (List ℕ)) (gs : List Got) →
+    ((text : List ℕ) → Fits (record { client = e; file = text })) → AddsOne Fits gs (got_with newly e file gs)
+got_adds true e (Some file) gs fits = inr (_, refl, fits file)
+got_adds true e None gs fits = inl refl
+got_adds false e file gs fits = inl refl
 
 opened_adds : {Fits : Opening → Type 0} (opened : Bool) (o : Opening) (os : List Opening) → Fits o → AddsOne Fits os (opened_with opened o os)
 opened_adds true o os fits = inr (o, refl, fits)
 opened_adds false o os fits = inl refl
 
 -- ---- what an event does
+
+-- it delivers this datagram
+delivery : {past : Past} {Fits : (spare : ℕ) → Datagram → Type 0} (index spare : ℕ) (d : Datagram) → slice_get past.net index ≡ Some d → Fits spare d →
+    Delivers (deliver index spare) past Fits
+delivery index spare d is fits = record { index = index; spare = spare; datagram = d; event_is = refl; is = is; fits = fits }
 
 does_adds : {w v : World} {event : Event} → Does w event v → Adds event w.past v.past
 does_adds (nothing event) =
@@ -50,33 +61,60 @@ does_adds (begun e operation) =
       opened = inl refl;
       strays = inl refl;
     }
-does_adds {w} (answers event peer port asked a) =
+does_adds {w} (answers index spare grant d is) =
+    let a = table_request (memory_verdict grant) spare d.source d.bytes w.server in
     record {
       net = net_adds _ w.net a.step.out;
       begun = inl refl;
       taken = inl refl;
       sent = inl refl;
       got = inl refl;
-      opened = opened_adds a.step.opened _ w.opened refl;
+      opened = opened_adds a.step.opened _ w.opened (refl, delivery index spare d is (record { peer = refl; port = refl; asked = refl }));
       strays = inl refl;
     }
-does_adds {w} (transfers event a) =
+does_adds {w} (transfers index spare grant maps d is) =
+    let a = table_datagram grant maps d.target.port d.source d.bytes w.server in
     record {
       net = net_adds _ w.net a.step.out;
       begun = inl refl;
-      taken = taken_adds a.step.taken w.taken;
+      taken =
+          taken_adds a.step.taken w.taken
+          (IfSome_then a.step.taken (datagram-takes grant maps d.target.port d.source d.bytes w.server) (λ t from. delivery index spare d is from));
       sent = inl refl;
       got = inl refl;
       opened = inl refl;
       strays = inl refl;
     }
-does_adds {w} (acts event e c a) =
+does_adds {w} (acts index spare grant d c is) =
+    let a = client_datagram (memory_verdict grant) d.source d.bytes c in
+    record {
+      net = net_adds d.target.host w.net a.out;
+      begun = inl refl;
+      taken = inl refl;
+      sent = sent_adds _ d.target w.sent (delivery index spare d is refl);
+      got = got_adds _ d.target _ w.got (λ text. delivery index spare d is refl);
+      opened = inl refl;
+      strays = inl refl;
+    }
+does_adds {w} (expires port) =
+    let a = table_timeout port w.server in
+    record {
+      net = net_adds _ w.net a.step.out;
+      begun = inl refl;
+      taken = inl (ap (λ (t : Option Taken). taken_with t w.taken) (timeout-takes port w.server));
+      sent = inl refl;
+      got = inl refl;
+      opened = inl refl;
+      strays = inl refl;
+    }
+does_adds {w} (waits e c) =
+    let a = client_timeout c in
     record {
       net = net_adds e.host w.net a.out;
       begun = inl refl;
       taken = inl refl;
-      sent = sent_adds _ e w.sent;
-      got = got_adds _ e _ w.got;
+      sent = inl (ap (λ (newly : Bool). sent_with newly e w.sent) (timeout-ends c).sent);
+      got = inl (ap (λ (newly : Bool). got_with newly e (phase_file a.client.phase) w.got) (timeout-ends c).got);
       opened = inl refl;
       strays = inl refl;
     }
@@ -101,9 +139,11 @@ step-adds w s = does_adds (event-does w s.event s.grant s.maps)
 does_apart : {w v : World} {event : Event} → Does w event v → (v.begun ≡ w.begun) ⊎ ((v.taken ≡ w.taken) × (v.opened ≡ w.opened))
 does_apart (nothing event) = inl refl
 does_apart (begun e operation) = inr (refl, refl)
-does_apart (answers event peer port asked a) = inl refl
-does_apart (transfers event a) = inl refl
-does_apart (acts event e c a) = inl refl
+does_apart (answers index spare grant d is) = inl refl
+does_apart (transfers index spare grant maps d is) = inl refl
+does_apart (acts index spare grant d c is) = inl refl
+does_apart (expires port) = inl refl
+does_apart (waits e c) = inl refl
 does_apart (strayed d) = inl refl
 does_apart restarted = inl refl
 

@@ -1,4 +1,6 @@
 pub mod Places
+pub mod Endpoints
+pub mod Sources
 pub mod Doing
 pub mod Growing
 pub mod Origins

@@ -1,7 +1,7 @@
-ghost use Rattle.std.specs.Prelude.{◌≡◌, [], ◌∷◌, max, true, None, Some, is_some, OnErr, IfErr};
+ghost use Rattle.std.specs.Prelude.{◌≡◌, ◌≤◌, [], ◌∷◌, max, true, None, Some, is_some, OnErr, IfErr, IfOk, IfSome};
 ghost use Rattle.tftp_packet.specs.Decode.{decode_bytes};
 ghost use Rattle.archive_table.specs.Keeper.{FailsAt};
-ghost use Rattle.archive_turns.specs.Wire.{Grows, sent, waited, was_done};
+ghost use Rattle.archive_turns.specs.Wire.{Grows, opened, closed, received, sent, waited, port_opened, was_done};
 ghost use Rattle.archive_progress.specs.Shown.{Draws, Erases, contents_of};
 ghost use Rattle.archive_progress.specs.Tally.{acknowledged, due_at, looked, new_tally};
 
@@ -85,11 +85,23 @@ impl<N: ReadyWire, W: Write> Wire for ProgressWire<N, W> {
 
     ghost failed = { λ w. N.failed w.wire };
 
-    fn open(&mut self) -> Result<u16, WireFault> {
+    fn open(&mut self) -> Result<u16, WireFault>
+        ensures log { Grows (N.log self.old.wire) (N.log self.new.wire) (opened (port_opened result) ∷ []) }
+        ensures fault { IfErr result (λ e. e ≡ WireFault.Open) }
+        ensures failed { OnErr result (FailsAt (N.failed self.old.wire) (N.failed self.new.wire)) }
+        ensures tally { self.new.tally ≡ self.old.tally }
+        ensures terminal { self.new.terminal ≡ self.old.terminal }
+    {
         self.wire.open()
     }
 
-    fn close(&mut self, port: u16) -> Result<(), WireFault> {
+    fn close(&mut self, port: u16) -> Result<(), WireFault>
+        ensures log { Grows (N.log self.old.wire) (N.log self.new.wire) (closed port (was_done result) ∷ []) }
+        ensures fault { IfErr result (λ e. e ≡ WireFault.Close) }
+        ensures failed { OnErr result (FailsAt (N.failed self.old.wire) (N.failed self.new.wire)) }
+        ensures tally { self.new.tally ≡ self.old.tally }
+        ensures terminal { self.new.terminal ≡ self.old.terminal }
+    {
         self.wire.close(port)
     }
 
@@ -97,7 +109,14 @@ impl<N: ReadyWire, W: Write> Wire for ProgressWire<N, W> {
         &mut self,
         port: u16,
         buffer: &mut [u8; RECEIVE_SIZE],
-    ) -> Result<Option<(usize, Endpoint)>, WireFault> {
+    ) -> Result<Option<(usize, Endpoint)>, WireFault>
+        ensures log { Grows (N.log self.old.wire) (N.log self.new.wire) (received port result buffer.new ∷ []) }
+        ensures count { IfOk result (λ got. IfSome got (λ g. g.0 ≤ RECEIVE_SIZE)) }
+        ensures fault { IfErr result (λ e. e ≡ WireFault.Receive) }
+        ensures failed { OnErr result (FailsAt (N.failed self.old.wire) (N.failed self.new.wire)) }
+        ensures tally { self.new.tally ≡ self.old.tally }
+        ensures terminal { self.new.terminal ≡ self.old.terminal }
+    {
         self.wire.receive(port, buffer)
     }
 

@@ -21,7 +21,7 @@ use Rattle.archive_theorem.specs.Headline.{IsOwn, AreOver}
 use Rattle.archive_theorem.specs.Traces.{Member}
 use Rattle.archive_model.proofs.Places.{Has, Has-prefix, Has-from_contains, Has-last, IsPrefix-push}
 use Rattle.archive_theorem.proofs.Owning.{one_operation, same_put, same_get}
-use Rattle.archive_theorem.proofs.Endpoints.{exact_endpoint, same_endpoint}
+use Rattle.archive_model.proofs.Endpoints.{exact_endpoint, same_endpoint}
 use Rattle.archive_theorem.proofs.Keyed.{lookup-written}
 use Rattle.archive_running.specs.Members.{visit_members, late_members}
 use Rattle.archive_running.specs.Archive.{Archive, Brings, after_server, own_endpoint, after_client_turn, Moves, server_turns, server_rounds, server_restarts, client_begins, client_rounds, client_turns, Reaches}

@@ -14,7 +14,7 @@ use Rattle.archive_client.specs.Client as client
 use Rattle.archive_model.specs.World.{Datagram, World, server_endpoint, has_begun, asked_of, taken_with, after_request, after_transfer, after_client, client_receives, client_waits, begins, restarts, strays_in, AllMayHappen, MayDeliver, IsFree}
 use Rattle.archive_theorem.specs.Traces.{Member, server_waits_long, client_waits_long, starts, loads, is_same_datagram, position_after, position_of, named_in, server_comes, comes, after_deed, delivery, steps_with, member_steps, trace_from, DeedMerged}
 use Rattle.archive_model.proofs.Places.{Has, at-last}
-use Rattle.archive_theorem.proofs.Endpoints.{same_endpoint}
+use Rattle.archive_model.proofs.Endpoints.{same_endpoint}
 use Rattle.archive_theorem.proofs.Remaining.{timeout_leaves, decoded_leaves}
 use Rattle.archive_theorem.proofs.Totality.{not_more, one_last}
 use Rattle.archive_theorem.proofs.Tracing.{found_at}

@@ -17,7 +17,7 @@ use Rattle.archive_model.specs.World.{Datagram, Begun, Opening, Got, World, serv
 use Rattle.archive_theorem.specs.Traces.{named_in}
 use Rattle.archive_model.proofs.Places.{Has, Has-contains, Has-from_contains, Has-prefix, IsPrefix-push, Has-last, Has-push, either}
 use Rattle.archive_theorem.proofs.Keyed.{lookup-set}
-use Rattle.archive_theorem.proofs.Endpoints.{exact_endpoint}
+use Rattle.archive_model.proofs.Endpoints.{exact_endpoint}
 use Rattle.archive_theorem.proofs.ServerMoves.{served}
 use Rattle.archive_running.specs.Archive.{Archive, Mirrors, after_restart}
 use Rattle.archive_running.proofs.Ports.{IsApart}

@@ -12,7 +12,7 @@ use Rattle.archive_model.specs.World.{Datagram, Begun, World, server_endpoint, c
 use Rattle.archive_theorem.specs.Headline.{IsOwn}
 use Rattle.archive_model.proofs.Doing as doing
 use Rattle.archive_model.proofs.Places.{Has, Has-last, Has-push, IsPrefix-push, at-prefix, at-last, before_last, either}
-use Rattle.archive_theorem.proofs.Endpoints.{exact_endpoint}
+use Rattle.archive_model.proofs.Endpoints.{exact_endpoint}
 use Rattle.archive_theorem.proofs.Claims.{HasBegun, IsStranger, PutsBlock, ServesBlock, Fetches, ServerAcks, Says, IsHonest, Binds, IsBound, IsAskingFor, IsFaithful, MayBind}
 use Rattle.archive_theorem.proofs.Lasting.{honest-lasts, live-lasts, faithful-lasts, opening-lasts, is_taken-lasts, sent-lasts, got-lasts}
 use Rattle.archive_theorem.proofs.Owning.{own-before, no_stranger, put_begun, get_begun}

@@ -14,7 +14,7 @@ use Rattle.archive_client.specs.declared.state.State.TheVariants as state
 use Rattle.archive_client.specs.Client.{Phase, failed, Client, in_phase, out_to, client_stays, moves, fails, phase_state, phase_file}
 use Rattle.archive_model.specs.World.{World, Got, newly_sent, newly_got, sent_with, got_with, after_client, client_at, IsPrefix}
 use Rattle.archive_model.proofs.Places.{Has, Has-push, IsPrefix-same, IsPrefix-push}
-use Rattle.archive_theorem.proofs.Endpoints.{endpoint_is}
+use Rattle.archive_model.proofs.Endpoints.{endpoint_is}
 use Rattle.archive_theorem.proofs.Claims.{Says, Binds, IsPursuing, MayBind, IsSent, IsGot}
 use Rattle.archive_theorem.proofs.Invariant.{Holds}
 use Rattle.archive_theorem.proofs.Sending.{honest_packet}

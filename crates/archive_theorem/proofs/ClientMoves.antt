@@ -10,7 +10,7 @@ use Rattle.archive_model.specs.World.{Datagram, World, Got, server_endpoint, dat
 use Rattle.archive_theorem.specs.Headline.{IsOwn}
 use Rattle.archive_model.proofs.Places.{Has, IsPrefix-same, Has-push, either}
 use Rattle.archive_theorem.proofs.Keyed.{NewOrOld, lookup-set, lookup-written}
-use Rattle.archive_theorem.proofs.Endpoints.{endpoint_is, exact_endpoint}
+use Rattle.archive_model.proofs.Endpoints.{endpoint_is, exact_endpoint}
 use Rattle.archive_theorem.proofs.Claims.{HasBegun, IsHonest, Binds, IsBound, IsUntaken, IsRunning, IsFaithful, MayBind, IsSent, IsGot}
 use Rattle.archive_theorem.proofs.Lasting.{honest-lasts, live-lasts, faithful-lasts, opening-lasts, is_taken-lasts, sent-lasts, got-lasts}
 use Rattle.archive_theorem.proofs.Invariant.{Holds}

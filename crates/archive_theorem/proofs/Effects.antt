@@ -15,7 +15,7 @@ use Rattle.archive_theorem.proofs.ServerMoves.{begun_away}
 use Rattle.archive_theorem.proofs.Invariant.{Holds, given-at, start_from-holds}
 use Rattle.archive_theorem.proofs.Happening.{merged-first, merged-rest, step-holds, run_from-holds}
 use Rattle.archive_theorem.proofs.Enduring.{best_at}
-use Rattle.archive_model.proofs.Growing.{step-extends, step-adds, begins-apart, end-extends, next-extends}
+use Rattle.archive_model.proofs.Growing.{AddsOne-weaker, step-extends, step-adds, begins-apart, end-extends, next-extends}
 use Rattle.archive_model.proofs.Origins.{AddedIn, added-in}
 
 -- ---- what a step adds
@@ -201,7 +201,7 @@ module _ (texts : List (List ℕ)) (maps : Maps) (over : AreOver texts maps) (st
       let there = (s.is_taken own).among in
       let away = begun_away last_world at_last e (put_begun e s.file s.began) in
       put_split e own away there.position s.file
-      (added-in (λ (v : World). v.taken) (λ v s u. Unit {0}) (λ v s. (step-adds v s).taken) steps first_world there.position _ there.is)
+      (added-in (λ (v : World). v.taken) (λ v s u. Unit {0}) (λ v s. AddsOne-weaker (λ u fits. tt) (step-adds v s).taken) steps first_world there.position _ there.is)
 
   -- at first no transfer was opened, so some step opened it
   get_split : (g : Got) → IsOwn last_world g.client → (rules : Ruleset) (port count : ℕ) →
@@ -226,5 +226,5 @@ module _ (texts : List (List ℕ)) (maps : Maps) (over : AreOver texts maps) (st
       let is = at_last.got g (Has-from_contains last_world.got g among) in
       let f = is.whose own in
       get_split g own is.rules f.port f.serves.count f.serves.is_text.best f.serves.opened.among.position
-      (added-in (λ (v : World). v.opened) (λ v s o. o.taken ≡ length v.taken) (λ v s. (step-adds v s).opened) steps first_world f.serves.opened.among.position _
+      (added-in (λ (v : World). v.opened) (λ v s o. o.taken ≡ length v.taken) (λ v s. AddsOne-weaker (λ o fits. fits.0) (step-adds v s).opened) steps first_world f.serves.opened.among.position _
       f.serves.opened.among.is)

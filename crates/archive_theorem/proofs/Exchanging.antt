@@ -18,7 +18,7 @@ use Rattle.archive_table.specs.Table as table
 use Rattle.archive_client.specs.Client.{put, sending, asking, Client, operation_request, client_start, put_sent, put_answered, client_by_input, client_datagram}
 use Rattle.archive_client.specs.Client as client
 use Rattle.archive_model.specs.World.{server_endpoint}
-use Rattle.archive_theorem.proofs.Endpoints.{same_endpoint}
+use Rattle.archive_model.proofs.Endpoints.{same_endpoint}
 use Rattle.archive_theorem.proofs.Answering.{request_fields}
 
 -- ---- the ends

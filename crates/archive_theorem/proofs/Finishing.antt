@@ -19,7 +19,7 @@ use Rattle.archive_theorem.specs.Headline.{AreOver}
 use Rattle.archive_theorem.specs.Freeing.{time_outs}
 use Rattle.archive_theorem.specs.Progress.{CanPut, IsUnstuck}
 use Rattle.archive_model.proofs.Places.{Has-last, Has-contains}
-use Rattle.archive_theorem.proofs.Endpoints.{exact_endpoint}
+use Rattle.archive_model.proofs.Endpoints.{exact_endpoint}
 use Rattle.archive_theorem.proofs.Keyed.{lookup-written}
 use Rattle.archive_theorem.proofs.Totality.{one_last, merged-of}
 use Rattle.archive_theorem.proofs.Freeing.{found_first, set_first, run_from-freed}

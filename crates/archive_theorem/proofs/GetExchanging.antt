@@ -20,7 +20,7 @@ use Rattle.archive_table.specs.Table as table
 use Rattle.archive_client.specs.Client.{get, receiving, Client, ClientAnswer, moves, out_to, operation_request, client_start, get_took, get_sent, client_by_input, client_datagram}
 use Rattle.archive_client.specs.Client as client
 use Rattle.archive_model.specs.World.{server_endpoint}
-use Rattle.archive_theorem.proofs.Endpoints.{same_endpoint}
+use Rattle.archive_model.proofs.Endpoints.{same_endpoint}
 use Rattle.archive_theorem.proofs.Answering.{request_fields, own_name}
 
 module _ (text : List ℕ) (short : length text ≤ MAX_FILE) (e : Endpoint) (p : ℕ) where

@@ -22,7 +22,7 @@ use Rattle.archive_theorem.specs.Headline.{AreOver}
 use Rattle.archive_theorem.specs.Freeing.{time_outs}
 use Rattle.archive_theorem.specs.Progress.{CanGet, GetIsUnstuck}
 use Rattle.archive_model.proofs.Places.{Has-last, Has-contains}
-use Rattle.archive_theorem.proofs.Endpoints.{exact_endpoint}
+use Rattle.archive_model.proofs.Endpoints.{exact_endpoint}
 use Rattle.archive_theorem.proofs.Keyed.{lookup-written}
 use Rattle.archive_theorem.proofs.Freeing.{found_first, set_first, run_from-freed}
 use Rattle.archive_theorem.proofs.InTurn.{at-end, one-longer, Leads, none-taken, before, to_port, from_port, server-comes, server-may, client-comes, client-may, begun-size, asking-at, from-begun, has-slot, request-comes, request-may}

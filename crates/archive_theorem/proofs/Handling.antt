@@ -12,7 +12,7 @@ use Rattle.archive_table.specs.Table.{Maps, Grant, End, Transfer, sending, recei
 use Rattle.archive_model.specs.World.{Datagram, World, server_endpoint, after_transfer}
 use Rattle.archive_theorem.specs.Headline.{IsOwn}
 use Rattle.archive_model.proofs.Places.{Has}
-use Rattle.archive_theorem.proofs.Endpoints.{endpoint_is, exact_endpoint}
+use Rattle.archive_model.proofs.Endpoints.{endpoint_is, exact_endpoint}
 use Rattle.archive_theorem.proofs.Claims.{IsStranger, PutsBlock, Binds, IsBound, IsLiveEnd}
 use Rattle.archive_theorem.proofs.Owning.{no_stranger}
 use Rattle.archive_theorem.proofs.Invariant.{Holds}

@@ -10,7 +10,7 @@ use Rattle.archive_table.specs.Table.{Maps, all, Transfer, TableAnswer, at_port,
 use Rattle.archive_client.specs.Client.{Operation, Client, operation_request, client_start, client_datagram, is_too_long}
 use Rattle.archive_model.specs.World.{Datagram, Event, begin, deliver, WorldStep, World, server_endpoint, client_at, after_request, after_transfer, after_client, begins, asked_of, request_comes, server_receives, client_receives, arrives, delivers, event_happens, run_from, HasMerged, AllMerged, MayHappen, MayDeliver, AllMayHappen}
 use Rattle.archive_model.proofs.Places.{at-last}
-use Rattle.archive_theorem.proofs.Endpoints.{same_endpoint}
+use Rattle.archive_model.proofs.Endpoints.{same_endpoint}
 use Rattle.archive_theorem.proofs.Totality.{not_more}
 use Rattle.archive_theorem.proofs.Tracing.{begins_fits}
 

@@ -11,7 +11,6 @@ pub mod Merging
 pub mod Taking
 pub mod Coming
 pub mod Receiving
-pub mod Endpoints
 pub mod Handling
 pub mod Openings
 pub mod Requests

@@ -7,7 +7,7 @@ use Rattle.archive_model.specs.World.{Datagram, Begun, Opening, World, start, ha
 use Rattle.archive_theorem.specs.Headline.{IsOwn}
 use Rattle.archive_theorem.specs.Reuse.{has_strayed, was_opened, is_opening_at, begins_once, opens_apart, OwnTests, own_tests, IsOwnByTests}
 use Rattle.archive_model.proofs.Places.{Has-contains, Has-from_contains}
-use Rattle.archive_theorem.proofs.Endpoints.{exact_endpoint}
+use Rattle.archive_model.proofs.Endpoints.{exact_endpoint}
 use Rattle.archive_theorem.proofs.Reusing.{all_fail, begun_any, strayed_any, opened_any, same_by, begun_none, strayed_none, opened_none, none_there}
 
 head_is : {A : Type 0} (a x : A) (xs : List A) → slice_get (a ∷ xs) 0 ≡ Some x → a ≡ x

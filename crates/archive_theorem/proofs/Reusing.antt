@@ -9,7 +9,7 @@ use Rattle.archive_model.specs.World.{Datagram, Begun, Opening, World, start, ha
 use Rattle.archive_theorem.specs.Headline.{OwnPorts, HasOwnPorts, HasOperation}
 use Rattle.archive_theorem.specs.Reuse.{has_strayed, is_opening_at, was_opened, IsUnused, BeginKeepsOwn, OpeningKeepsOwn, StrayKeepsOwn}
 use Rattle.archive_model.proofs.Places.{Has, Has-last, Has-push, Has-contains, Has-from_contains, OldOrLast, at-push, at-append, at-last, before_last}
-use Rattle.archive_theorem.proofs.Endpoints.{exact_endpoint, same_endpoint}
+use Rattle.archive_model.proofs.Endpoints.{exact_endpoint, same_endpoint}
 
 -- ---- a test of any member
 

@@ -16,7 +16,7 @@ use Rattle.archive_theorem.proofs.Concluding.{run_from-clients, headline}
 use Rattle.archive_theorem.proofs.Invariant.{none-over}
 use Rattle.archive_theorem.proofs.Strangers.{AreFromOthers, run-from_others}
 use Rattle.archive_model.proofs.Places.{at-last}
-use Rattle.archive_theorem.proofs.Endpoints.{endpoint_is, exact_endpoint}
+use Rattle.archive_model.proofs.Endpoints.{endpoint_is, exact_endpoint}
 use Rattle.archive_model.proofs.Entries.{strays_fits}
 
 -- ---- the place of a datagram

@@ -23,7 +23,7 @@ use Rattle.archive_world.specs.Replays.{IsDue, Makes, Reuses}
 use Rattle.archive_world.specs.Exits.{Comes}
 use Rattle.archive_theorem.proofs.Remaining.{Remain, client_remains, request_remains}
 use Rattle.archive_theorem.proofs.Reusing.{opening-keeps_own}
-use Rattle.archive_theorem.proofs.Endpoints.{endpoint_is}
+use Rattle.archive_model.proofs.Endpoints.{endpoint_is}
 use Rattle.archive_theorem.proofs.Totality.{not_more, one_last}
 use Rattle.archive_world.proofs.Exiting.{no_restart, remain-merged}
 use Rattle.archive_theorem.proofs.Tracing.{delivers_fits}

@@ -1,5 +1,5 @@
-// What an observer is told: each step, its sender, and what it made, after the calls of the wire for it; and each request that
-// is dropped.
+// What an observer is notified of: each step, its sender, and what it made, after the calls of the wire for it; and each request
+// that is dropped.
 use crate::wires::*;
 use archive_table::{NoKeeper, Observer, Step, Table};
 use archive_turns::{
@@ -64,7 +64,7 @@ impl ReadyWire for CountedWire<'_> {
     }
 }
 
-// What an observer is told of a step.
+// What an observer is notified of at a step.
 #[derive(Clone, Copy, Debug, PartialEq, Eq)]
 struct Seen {
     port: u16,
@@ -93,7 +93,7 @@ const NOTHING: Seen = Seen {
     calls: 0,
 };
 
-// Where a test keeps what it is told. A step for which there is no memory is missing there.
+// Where a test keeps what it is notified of. A step for which there is no memory is missing there.
 #[derive(Drop)]
 struct Collecting<'a> {
     seen: Vec<Seen>,
@@ -256,7 +256,7 @@ fn watch(
 }
 
 #[test]
-fn an_observer_is_told_of_each_step(rt: HostRuntime) -> Result<(), Fail> {
+fn an_observer_is_notified_of_each_step(rt: HostRuntime) -> Result<(), Fail> {
     let calls = Cell::new(0);
     let mut wire = CountedWire {
         wire: wire_of(rt.alloc(), &[4001, 4000])?,
@@ -298,7 +298,7 @@ impl ServerObserver for Dropped {
 // Of a host that may have one transfer the second request is dropped. What is no request is not reported, nor is the
 // request of another host.
 #[test]
-fn an_observer_is_told_of_a_request_that_is_dropped(rt: HostRuntime) -> Result<(), Fail> {
+fn an_observer_is_notified_of_a_dropped_request(rt: HostRuntime) -> Result<(), Fail> {
     let alloc = rt.alloc();
     let mut wire = wire_of(alloc, &[4001, 4000])?;
     let mut server = Server::new(alloc, 6969);
