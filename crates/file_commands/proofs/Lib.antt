@@ -3,5 +3,5 @@ pub mod Statuses
 pub mod Collecting
 pub mod Paging
 pub mod Comparing
-pub mod Given
 pub mod Sources
+pub mod Adding

@@ -1,5 +1,5 @@
 -- The command `best`, which writes the collection over all its inputs.
-use Rattle.std.specs.Prelude.{◌≡◌, ◌≢◌, ◌⊎◌, ℕ, ◌+◌, ◌<◌, ◌≤◌, List, [], ◌∷◌, length, map, take, slice_index_or, Option, Some, codes}
+use Rattle.std.specs.Prelude.{◌≡◌, ◌≢◌, ◌⊎◌, ℕ, ◌+◌, ◌<◌, ◌≤◌, List, [], ◌∷◌, length, take, slice_index_or, Option, Some, codes}
 use Rattle.std.specs.List.{AllByRecursion}
 use Rattle.std.specs.Io.KnownBytes.{Appends, IsAtEnd}
 use Rattle.clap.specs.Words.{App, Row, Text, new_app, with_rule}
@@ -10,10 +10,10 @@ use Rattle.tws_file.specs.Fault.{HasFileFault}
 use Rattle.byte_output.specs.Output.{AppendsPrefix}
 use Rattle.tws_best.specs.Best.{Collected, IsCollectionOf, collection_text}
 use Rattle.file_commands.specs.declared.best.BestArguments.{BestArguments}
-use Rattle.file_commands.specs.declared.tool_fault.ToolFault.{ToolFault}
-use Rattle.file_commands.specs.declared.tool_fault.ToolFault.TheVariants.{Read, Write, Unreadable, Memory, Socket, Transfer}
-use Rattle.file_commands.specs.Arguments.{HasRuleset, HasSources, RulesetNames, files_rule, ruleset_rule}
-use Rattle.file_commands.specs.Inputs.{ReadsAmong, knowns_of}
+use Rattle.command_line.specs.declared.tool_fault.ToolFault.{ToolFault}
+use Rattle.command_line.specs.declared.tool_fault.ToolFault.TheVariants.{Read, Write, Unreadable, Memory, Socket, Transfer}
+use Rattle.command_line.specs.Arguments.{HasRuleset, HasSources, RulesetNames, files_rule, ruleset_rule}
+use Rattle.command_line.specs.Inputs.{ReadsAmong, knowns_of}
 
 abbrev pub best_name : Text
 best_name = codes "best"

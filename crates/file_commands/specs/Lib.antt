@@ -1,11 +1,9 @@
-pub mod Arguments
-pub mod Inputs
-pub mod Faults
 pub mod Written
-pub mod Files
+pub mod Opening
 pub mod Show
 pub mod Pack
 pub mod Without
 pub mod Best
 pub mod Compare
 pub mod Page
+pub mod FileJobs

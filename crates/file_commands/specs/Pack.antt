@@ -3,7 +3,7 @@ use Rattle.std.specs.Prelude.{ℕ, List, Option, codes}
 use Rattle.clap.specs.Words.{App, Row, Text, new_app, with_rule}
 use Rattle.tws_file.specs.Packing.{packed_text}
 use Rattle.file_commands.specs.declared.pack.PackArguments.{PackArguments}
-use Rattle.file_commands.specs.Arguments.{HasSource, source_rule}
+use Rattle.command_line.specs.Arguments.{HasSource, source_rule}
 use Rattle.file_commands.specs.Written.{RanFrom}
 
 abbrev pub pack_name : Text

@@ -6,7 +6,7 @@ use Rattle.tws_file.specs.Listing.{listing_of}
 use Rattle.tws_file.specs.Text.{File}
 use Rattle.tws_tables.specs.Csv.{csv_of}
 use Rattle.file_commands.specs.declared.show.ShowArguments.{ShowArguments}
-use Rattle.file_commands.specs.Arguments.{HasFlag, HasSource, source_rule}
+use Rattle.command_line.specs.Arguments.{HasFlag, HasSource, source_rule}
 use Rattle.file_commands.specs.Written.{RanFrom}
 
 abbrev pub show_name : Text

@@ -5,7 +5,7 @@ use Rattle.clap.specs.declared.builder.value_parser.ValueParser.TheVariants as p
 use Rattle.tws_compare.specs.Password.{IsShown}
 use Rattle.tws_compare.specs.Without.{text_without}
 use Rattle.file_commands.specs.declared.without.WithoutArguments.{WithoutArguments}
-use Rattle.file_commands.specs.Arguments.{HasSource, IsNumberUpTo, source_rule}
+use Rattle.command_line.specs.Arguments.{HasSource, IsNumberUpTo, source_rule}
 use Rattle.file_commands.specs.Written.{RanFrom}
 
 abbrev pub without_name : Text

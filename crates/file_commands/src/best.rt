@@ -6,20 +6,20 @@ ghost use Rattle.std.specs.Io.KnownBytes.{IsAtEnd};
 ghost use Rattle.clap.specs.Matches.{found_of};
 ghost use Rattle.clap.specs.Words.{app_of, rows_of};
 ghost use Rattle.clap.specs.declared.builder.command.Command.TheViews.{out-Command};
-ghost use Rattle.file_commands.specs.Arguments.{Answers};
+ghost use Rattle.command_line.specs.Arguments.{Answers};
 ghost use Rattle.file_commands.specs.Best.{AsksForBest, Collects, CollectFails, AreReadOut, BestWrites, BestPrefix, BestFails, BestRan, FilesRan, best_app};
-ghost use Rattle.file_commands.specs.Inputs.{knowns_of};
+ghost use Rattle.command_line.specs.Inputs.{knowns_of};
 
-use crate::arguments::{
-    files_argument, new_command, ruleset_argument, ruleset_given, sources_given,
-};
-use crate::file_system::{FileSystem, NotOpened, open_all};
+use crate::arguments::files_argument;
 use crate::input::read_input;
-use crate::reporting::{finish_among, report, report_unopened};
-use crate::source::Source;
+use crate::opening::{NotOpened, open_all};
+use crate::reporting::{finish_among, report_unopened};
 use crate::standard::{has_standard, read_bytes};
-use crate::tool_fault::ToolFault;
 use clap::{ArgMatches, Command};
+use command_line::{
+    FileSystem, Source, ToolFault, new_command, report, ruleset_argument, ruleset_given,
+    sources_given,
+};
 use std::alloc::{AllocError, Global};
 use std::io::{Read, Write};
 use tws_best::Collection;
@@ -41,7 +41,7 @@ const HELP: &str =
     "The best has the fewest ticks. The collection goes to standard output.\n\nExample: tws best lynx mine.tws yours.tws > best.tws";
 
 /// The command, as `clap` reads it, with these names of the rulesets.
-pub fn command<'a>(alloc: Global, names: &'a [&'a str]) -> Result<Command<'a>, AllocError>
+pub(crate) fn command<'a>(alloc: Global, names: &'a [&'a str]) -> Result<Command<'a>, AllocError>
     ensures app { IfOk result (λ command. app_of command ≡ best_app names.entry) }
     ensures local { IfOk result (λ command. (out-Command command).has_globals ≡ false) }
 {
@@ -51,7 +51,7 @@ pub fn command<'a>(alloc: Global, names: &'a [&'a str]) -> Result<Command<'a>, A
 }
 
 /// What the arguments ask for; `None` if the ruleset is unknown.
-pub fn asked(alloc: Global, words: &ArgMatches) -> Result<Option<BestArguments>, AllocError>
+pub(crate) fn asked(alloc: Global, words: &ArgMatches) -> Result<Option<BestArguments>, AllocError>
     ensures { IfOk result (Answers (AsksForBest (rows_of (found_of words.now)))) }
 {
     let Some(ruleset) = ruleset_given(words) else {
@@ -133,7 +133,7 @@ fn run_over<S: FileSystem, W: Write, E: Write>(
 
 /// Runs `best` over these sources, and returns the status. Standard input is read, whole, before any other input is, and is the
 /// same each time that it is named.
-pub fn run<S: FileSystem, R: Read, W: Write, E: Write>(
+pub(crate) fn run<S: FileSystem, R: Read, W: Write, E: Write>(
     system: &S,
     alloc: Global,
     arguments: &BestArguments,

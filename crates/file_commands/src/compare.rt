@@ -5,18 +5,16 @@ ghost use Rattle.std.specs.Io.KnownBytes.{IsAtEnd};
 ghost use Rattle.clap.specs.Matches.{found_of};
 ghost use Rattle.clap.specs.Words.{app_of, rows_of, rule_of};
 ghost use Rattle.clap.specs.declared.builder.command.Command.TheViews.{out-Command};
-ghost use Rattle.file_commands.specs.Arguments.{Answers};
+ghost use Rattle.command_line.specs.Arguments.{Answers};
 ghost use Rattle.file_commands.specs.Compare.{AsksToCompare, CompareFails, CompareRan, Compares, ComparesFiles, FilesFail, compare_app, compare_status, mine_rule, theirs_rule};
-ghost use Rattle.file_commands.specs.Faults.{status_of};
+ghost use Rattle.command_line.specs.Faults.{status_of};
 
-use crate::arguments::{new_command, string_given};
-use crate::file_system::FileSystem;
 use crate::input::read_input;
-use crate::reporting::{report, report_file};
-use crate::status::{DONE, USAGE};
-use crate::tool_fault::ToolFault;
 use byte_output::put;
 use clap::{Arg, ArgAction, ArgMatches, Command};
+use command_line::{
+    DONE, FileSystem, ToolFault, USAGE, new_command, report, report_file, string_given,
+};
 use std::alloc::{AllocError, Global};
 use std::io::{Read, Write};
 use std::slice;
@@ -61,7 +59,7 @@ const HELP: &str =
     "Writes a line for each level number and password, and one with their counts.\n\nExample: tws compare mine.tws lynx.tws";
 
 /// The command, as `clap` reads it.
-pub fn command<'a>(alloc: Global) -> Result<Command<'a>, AllocError>
+pub(crate) fn command<'a>(alloc: Global) -> Result<Command<'a>, AllocError>
     ensures app { IfOk result (λ command. app_of command ≡ compare_app) }
     ensures local { IfOk result (λ command. (out-Command command).has_globals ≡ false) }
 {
@@ -76,7 +74,10 @@ pub fn command<'a>(alloc: Global) -> Result<Command<'a>, AllocError>
 }
 
 /// What the arguments ask for; `None` if a file has no name.
-pub fn asked(alloc: Global, words: &ArgMatches) -> Result<Option<CompareArguments>, AllocError>
+pub(crate) fn asked(
+    alloc: Global,
+    words: &ArgMatches,
+) -> Result<Option<CompareArguments>, AllocError>
     ensures { IfOk result (Answers (AsksToCompare (rows_of (found_of words.now)))) }
 {
     let Some(mine) = string_given(alloc, words, "mine")? else {
@@ -219,7 +220,7 @@ fn end<E: Write>(done: Result<bool, ToolFault>, arguments: &CompareArguments, er
 }
 
 /// Runs `compare` over the files of these names, and returns the status.
-pub fn run<S: FileSystem, W: Write, E: Write>(
+pub(crate) fn run<S: FileSystem, W: Write, E: Write>(
     system: &S,
     alloc: Global,
     arguments: &CompareArguments,

@@ -1,16 +1,13 @@
 //! A whole input, up to its end.
 
 ghost use Rattle.std.specs.Prelude.{IfOk, IfErr};
-ghost use Rattle.file_commands.specs.Faults.{ReadFails, IsReadOut};
-ghost use Rattle.file_commands.specs.Inputs.{IsRead};
+ghost use Rattle.command_line.specs.Faults.{ReadFails, IsReadOut};
+ghost use Rattle.command_line.specs.Inputs.{IsRead};
 
-use crate::tool_fault::ToolFault;
+use command_line::{INPUT_READS, ToolFault};
 use std::alloc::Global;
 use std::io::Read;
 use tws_file::{FileFault, Reader, TwsFile};
-
-/// How often one input is read at most. An input has ended once a read returned no bytes, even the last one allowed.
-pub const INPUT_READS: u32 = 1 << 26;
 
 // Reads the solution file in the input with this index. A fault of its bytes is returned once it was read to its end.
 pub(crate) fn read_input<R: Read>(

@@ -1,11 +1,10 @@
-//! The commands of the program `tws` on files, over any reader and writer, and what every command stands on: its faults,
-//! its exit status, its arguments, and files by their names. Read `specs/Inputs.antt` first, then `specs/Written.antt`, and
-//! for a command the file of its name.
+//! The commands of the program `tws` on files, over any reader and writer, and the list of them. Read `specs/FileJobs.antt`
+//! first, then `specs/Written.antt`, and for a command the file of its name.
 //!
 //! Each command is a module with `command`, its command line, `asked`, what its arguments ask for, `run`, which does that,
-//! and a function over any reader and writer, such as `run_show`.
+//! and a function over any reader and writer, such as `run_show`. The list is in `file_job.rt`.
 //!
-//! How to call it, from a crate that lists `file_commands` and `tws_file`; this needs no proof file:
+//! How to call it, from a crate that lists `file_commands`, `command_line` and `tws_file`; this needs no proof file:
 //!
 //! ```text
 //! ghost use Rattle.std.specs.Prelude.{[], true, IfOk, Some};
@@ -24,31 +23,23 @@
 //! ```
 #![tactic(auto)]
 
-pub mod arguments;
-pub mod best;
-pub mod compare;
-mod file_system;
-mod in_words;
+mod arguments;
+mod best;
+mod compare;
+mod file_job;
 mod input;
-mod laws;
-pub mod pack;
-pub mod page;
-pub mod reporting;
-pub mod show;
-mod source;
+mod opening;
+mod pack;
+mod page;
+mod reporting;
+mod show;
 mod standard;
-pub mod status;
-mod tool_fault;
-pub mod without;
+mod without;
 
 pub use best::{BestArguments, run_best};
 pub use compare::{CompareArguments, run_compare};
-pub use file_system::FileSystem;
-pub use input::INPUT_READS;
-pub use laws::limit_values;
+pub use file_job::{FileJob, file_job_of, run_file_job, with_file_commands};
 pub use pack::{PackArguments, run_pack};
 pub use page::{PageArguments, run_page};
 pub use show::{ShowArguments, run_csv, run_show};
-pub use source::Source;
-pub use tool_fault::ToolFault;
 pub use without::{WithoutArguments, run_without};

@@ -7,16 +7,13 @@ ghost use Rattle.clap.specs.Words.{app_of, rows_of};
 ghost use Rattle.clap.specs.declared.builder.command.Command.TheViews.{out-Command};
 ghost use Rattle.tws_file.specs.Packing.{packed_text};
 ghost use Rattle.file_commands.specs.Pack.{AsksToPack, PackRan, pack_app};
-ghost use Rattle.file_commands.specs.Faults.{IsReadOut};
+ghost use Rattle.command_line.specs.Faults.{IsReadOut};
 ghost use Rattle.file_commands.specs.Written.{Writes, WriteFails};
 
-use crate::arguments::{new_command, source_argument, source_given};
-use crate::file_system::FileSystem;
+use crate::arguments::source_argument;
 use crate::input::read_input;
-use crate::reporting::{finish, report_file};
-use crate::source::Source;
-use crate::tool_fault::ToolFault;
 use clap::{ArgMatches, Command};
+use command_line::{FileSystem, Source, ToolFault, finish, new_command, report_file, source_given};
 use std::alloc::{AllocError, Global};
 use std::io::{Read, Write};
 use std::slice;
@@ -36,7 +33,7 @@ const HELP: &str =
     "Nothing but the bytes of the moves changes. The file goes to standard output.\n\nExample: tws pack mine.tws > packed.tws";
 
 /// The command, as `clap` reads it.
-pub fn command<'a>(alloc: Global) -> Result<Command<'a>, AllocError>
+pub(crate) fn command<'a>(alloc: Global) -> Result<Command<'a>, AllocError>
     ensures app { IfOk result (λ command. app_of command ≡ pack_app) }
     ensures local { IfOk result (λ command. (out-Command command).has_globals ≡ false) }
 {
@@ -44,7 +41,7 @@ pub fn command<'a>(alloc: Global) -> Result<Command<'a>, AllocError>
 }
 
 /// What the arguments ask for.
-pub fn asked(alloc: Global, words: &ArgMatches) -> Result<PackArguments, AllocError>
+pub(crate) fn asked(alloc: Global, words: &ArgMatches) -> Result<PackArguments, AllocError>
     ensures { IfOk result (AsksToPack (rows_of (found_of words.now))) }
 {
     let source = source_given(alloc, words)?;
@@ -77,7 +74,7 @@ pub fn run_pack<R: Read, W: Write>(
 }
 
 /// Runs `pack`, and returns the status.
-pub fn run<S: FileSystem, R: Read, W: Write, E: Write>(
+pub(crate) fn run<S: FileSystem, R: Read, W: Write, E: Write>(
     system: &S,
     alloc: Global,
     arguments: &PackArguments,

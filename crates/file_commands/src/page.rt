@@ -8,17 +8,16 @@ ghost use Rattle.clap.specs.Words.{app_of, rows_of};
 ghost use Rattle.clap.specs.declared.builder.command.Command.TheViews.{out-Command};
 ghost use Rattle.file_commands.specs.Best.{AreReadOut, CollectFails, FilesRan};
 ghost use Rattle.file_commands.specs.Page.{AreFiles, AsksForPage, PageFails, PagePrefix, PageRan, PageWrites, page_app};
-ghost use Rattle.file_commands.specs.Faults.{IsBeforeOutput};
-ghost use Rattle.file_commands.specs.Inputs.{knowns_of};
+ghost use Rattle.command_line.specs.Faults.{IsBeforeOutput};
+ghost use Rattle.command_line.specs.Inputs.{knowns_of};
 
-use crate::arguments::{files_argument, new_command, sources_given};
-use crate::file_system::{FileSystem, NotOpened, open_all};
+use crate::arguments::files_argument;
 use crate::input::read_input;
-use crate::reporting::{finish_among, report, report_unopened};
-use crate::source::Source;
+use crate::opening::{NotOpened, open_all};
+use crate::reporting::{finish_among, report_unopened};
 use crate::standard::{has_standard, read_bytes};
-use crate::tool_fault::ToolFault;
 use clap::{ArgMatches, Command};
+use command_line::{FileSystem, Source, ToolFault, new_command, report, sources_given};
 use std::alloc::{AllocError, Global};
 use std::io::{Read, Write};
 use tws_file::TwsFile;
@@ -38,7 +37,7 @@ const HELP: &str =
     "The page needs no other file. It goes to standard output.\n\nExample: tws page lynx.tws ms.tws > best.html";
 
 /// The command, as `clap` reads it.
-pub fn command<'a>(alloc: Global) -> Result<Command<'a>, AllocError>
+pub(crate) fn command<'a>(alloc: Global) -> Result<Command<'a>, AllocError>
     ensures app { IfOk result (λ command. app_of command ≡ page_app) }
     ensures local { IfOk result (λ command. (out-Command command).has_globals ≡ false) }
 {
@@ -46,7 +45,7 @@ pub fn command<'a>(alloc: Global) -> Result<Command<'a>, AllocError>
 }
 
 /// What the arguments ask for.
-pub fn asked(alloc: Global, words: &ArgMatches) -> Result<PageArguments, AllocError>
+pub(crate) fn asked(alloc: Global, words: &ArgMatches) -> Result<PageArguments, AllocError>
     ensures { IfOk result (AsksForPage (rows_of (found_of words.now))) }
 {
     let files = sources_given(alloc, words)?;
@@ -119,7 +118,7 @@ fn run_over<S: FileSystem, W: Write, E: Write>(
 
 /// Runs `page` over these sources, and returns the status. Standard input is read, whole, before any other input is, and is the
 /// same each time that it is named.
-pub fn run<S: FileSystem, R: Read, W: Write, E: Write>(
+pub(crate) fn run<S: FileSystem, R: Read, W: Write, E: Write>(
     system: &S,
     alloc: Global,
     arguments: &PageArguments,

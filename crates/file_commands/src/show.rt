@@ -8,16 +8,13 @@ ghost use Rattle.clap.specs.declared.builder.command.Command.TheViews.{out-Comma
 ghost use Rattle.tws_file.specs.Listing.{listing_of};
 ghost use Rattle.tws_tables.specs.Csv.{csv_of};
 ghost use Rattle.file_commands.specs.Show.{AsksToShow, ShowRan, csv_rule, moves_rule, show_app, shown_text};
-ghost use Rattle.file_commands.specs.Faults.{IsBeforeOutput, IsReadOut};
+ghost use Rattle.command_line.specs.Faults.{IsBeforeOutput, IsReadOut};
 ghost use Rattle.file_commands.specs.Written.{Writes, WriteFails};
 
-use crate::arguments::{new_command, source_argument, source_given};
-use crate::file_system::FileSystem;
+use crate::arguments::source_argument;
 use crate::input::read_input;
-use crate::reporting::{finish, report_file};
-use crate::source::Source;
-use crate::tool_fault::ToolFault;
 use clap::{Arg, ArgAction, ArgMatches, Command};
+use command_line::{FileSystem, Source, ToolFault, finish, new_command, report_file, source_given};
 use std::alloc::{AllocError, Global};
 use std::io::{Read, Write};
 use std::slice;
@@ -62,7 +59,7 @@ const HELP: &str =
     "Writes a line for the header, one for each record, and one for their number.\n\nExample: tws show --moves mine.tws";
 
 /// The command, as `clap` reads it.
-pub fn command<'a>(alloc: Global) -> Result<Command<'a>, AllocError>
+pub(crate) fn command<'a>(alloc: Global) -> Result<Command<'a>, AllocError>
     ensures app { IfOk result (λ command. app_of command ≡ show_app) }
     ensures local { IfOk result (λ command. (out-Command command).has_globals ≡ false) }
 {
@@ -73,7 +70,7 @@ pub fn command<'a>(alloc: Global) -> Result<Command<'a>, AllocError>
 }
 
 /// What the arguments ask for.
-pub fn asked(alloc: Global, words: &ArgMatches) -> Result<ShowArguments, AllocError>
+pub(crate) fn asked(alloc: Global, words: &ArgMatches) -> Result<ShowArguments, AllocError>
     ensures { IfOk result (AsksToShow (rows_of (found_of words.now))) }
 {
     let source = source_given(alloc, words)?;
@@ -151,7 +148,7 @@ fn show_input<R: Read, W: Write>(
 }
 
 /// Runs `show`, and returns the status.
-pub fn run<S: FileSystem, R: Read, W: Write, E: Write>(
+pub(crate) fn run<S: FileSystem, R: Read, W: Write, E: Write>(
     system: &S,
     alloc: Global,
     arguments: &ShowArguments,

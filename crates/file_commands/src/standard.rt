@@ -2,12 +2,10 @@
 
 ghost use Rattle.std.specs.Prelude.{◌≡◌, IfOk, IfErr, IfSome, OnOk};
 ghost use Rattle.std.specs.Io.KnownBytes.{IsAtEnd};
-ghost use Rattle.file_commands.specs.Faults.{IsReadFault};
-ghost use Rattle.file_commands.specs.Inputs.{has_standard};
+ghost use Rattle.command_line.specs.Faults.{IsReadFault};
+ghost use Rattle.command_line.specs.Inputs.{has_standard};
 
-use crate::input::INPUT_READS;
-use crate::source::Source;
-use crate::tool_fault::ToolFault;
+use command_line::{INPUT_READS, Source, ToolFault};
 use std::alloc::Global;
 use std::io::Read;
 

@@ -6,22 +6,19 @@ ghost use Rattle.clap.specs.Matches.{found_of};
 ghost use Rattle.clap.specs.Words.{app_of, first_of, rows_of, rule_of};
 ghost use Rattle.clap.specs.declared.builder.command.Command.TheViews.{out-Command};
 ghost use Rattle.tws_compare.specs.Without.{text_without};
-ghost use Rattle.file_commands.specs.Arguments.{Answers};
+ghost use Rattle.command_line.specs.Arguments.{Answers};
 ghost use Rattle.file_commands.specs.Without.{AsksForWithout, IsLevel, WithoutRan, level_rule, password_rule, without_app};
-ghost use Rattle.file_commands.specs.Faults.{IsReadOut};
+ghost use Rattle.command_line.specs.Faults.{IsReadOut};
 ghost use Rattle.file_commands.specs.Written.{RanFrom, Writes, WriteFails};
 
-use crate::arguments::{
-    new_command, number_up_to, source_argument, source_given, string_given, text_given,
-};
-use crate::file_system::FileSystem;
+use crate::arguments::source_argument;
 use crate::input::read_input;
-use crate::reporting::{finish, report_file};
-use crate::source::Source;
-use crate::status::USAGE;
-use crate::tool_fault::ToolFault;
 use clap::builder::ValueParser;
 use clap::{Arg, ArgMatches, Command};
+use command_line::{
+    FileSystem, Source, ToolFault, USAGE, finish, new_command, number_up_to, report_file,
+    source_given, string_given, text_given,
+};
 use std::alloc::{AllocError, Global};
 use std::io::{Read, Write};
 use std::slice;
@@ -67,7 +64,7 @@ const HELP: &str =
     "Everything else stays as it is. The file goes to standard output.\n\nExample: tws without 1 BDHP lynx.tws > mended.tws";
 
 /// The command, as `clap` reads it.
-pub fn command<'a>(alloc: Global) -> Result<Command<'a>, AllocError>
+pub(crate) fn command<'a>(alloc: Global) -> Result<Command<'a>, AllocError>
     ensures app { IfOk result (λ command. app_of command ≡ without_app) }
     ensures local { IfOk result (λ command. (out-Command command).has_globals ≡ false) }
 {
@@ -87,7 +84,10 @@ fn level_given(words: &ArgMatches) -> Option<u16>
 }
 
 /// What the arguments ask for; `None` if the number of the level is out of range.
-pub fn asked(alloc: Global, words: &ArgMatches) -> Result<Option<WithoutArguments>, AllocError>
+pub(crate) fn asked(
+    alloc: Global,
+    words: &ArgMatches,
+) -> Result<Option<WithoutArguments>, AllocError>
     ensures { IfOk result (Answers (AsksForWithout (rows_of (found_of words.now)))) }
 {
     let Some(level) = level_given(words) else {
@@ -166,7 +166,7 @@ fn bad_password<E: Write>(errors: &mut E) -> u8
 }
 
 /// Runs `without`, and returns the status.
-pub fn run<S: FileSystem, R: Read, W: Write, E: Write>(
+pub(crate) fn run<S: FileSystem, R: Read, W: Write, E: Write>(
     system: &S,
     alloc: Global,
     arguments: &WithoutArguments,

@@ -5,12 +5,13 @@ use Rattle.clap.specs.declared.parser.matches.ArgMatches.{ArgMatches}
 use Rattle.clap.specs.declared.error.Error.{Error}
 use Rattle.clap.specs.declared.error.kind.ErrorKind.TheVariants.{DisplayVersion, OutOfMemory}
 use Rattle.clap.proofs.OnLiterals.{clap_on_literals}
-use Rattle.tws_tool.specs.declared.commands.Job.TheVariants.{Show, Pack, Serve}
-use Rattle.file_commands.specs.declared.source.Source.TheVariants.{Standard}
+use Rattle.file_commands.specs.declared.file_job.FileJob.TheVariants.{Show, Pack}
+use Rattle.tws_tool.specs.declared.commands.Job.TheVariants.{Files, Serve}
+use Rattle.command_line.specs.declared.source.Source.TheVariants.{Standard}
 use Rattle.tws_tool.specs.declared.job.JobFault.{JobFault}
 use Rattle.tws_tool.specs.declared.job.JobFault.TheVariants.{Words, Memory}
 use Rattle.std.specs.Str.Parse.{IsNumeral, digits_value, without_leading_plus}
-use Rattle.file_commands.specs.Arguments.{AreRulesetNames, IsNumberUpTo, RulesetNames}
+use Rattle.command_line.specs.Arguments.{AreRulesetNames, IsNumberUpTo, RulesetNames}
 use Rattle.tws_tool.specs.Commands.{tws_app}
 use Rattle.tws_tool.specs.CommandLine.{RefusesWords, WordsAskFor}
 
@@ -55,22 +56,22 @@ refused words names error e are has gives =
 -- ---- examples
 
 -- `tws show`
-pub asks_for_show : (names : RulesetNames) (program : Text) → WordsAskFor names (program ∷ codes "show" ∷ []) (Show (record { source = Standard; moves = false; csv = false }))
+pub asks_for_show : (names : RulesetNames) (program : Text) → WordsAskFor names (program ∷ codes "show" ∷ []) (Files (Show (record { source = Standard; moves = false; csv = false })))
 unfolding clap_on_literals
 asks_for_show names program = (refl, (_, refl, (refl, record { source_is = tt; moves_are = ((λ e. absurd cc), (λ e. refl), (λ e. refl)); csv_is = ((λ e. absurd cc), (λ e. refl), (λ e. refl)) })))
 
 -- `tws show --moves`
-pub asks_for_moves : (names : RulesetNames) (program : Text) → WordsAskFor names (program ∷ codes "show" ∷ codes "--moves" ∷ []) (Show (record { source = Standard; moves = true; csv = false }))
+pub asks_for_moves : (names : RulesetNames) (program : Text) → WordsAskFor names (program ∷ codes "show" ∷ codes "--moves" ∷ []) (Files (Show (record { source = Standard; moves = true; csv = false })))
 unfolding clap_on_literals
 asks_for_moves names program = (refl, (_, refl, (refl, record { source_is = tt; moves_are = ((λ e. refl), (λ e. absurd cc), (λ e. absurd cc)); csv_is = ((λ e. absurd cc), (λ e. refl), (λ e. refl)) })))
 
 -- `tws show --csv`
-pub asks_for_csv : (names : RulesetNames) (program : Text) → WordsAskFor names (program ∷ codes "show" ∷ codes "--csv" ∷ []) (Show (record { source = Standard; moves = false; csv = true }))
+pub asks_for_csv : (names : RulesetNames) (program : Text) → WordsAskFor names (program ∷ codes "show" ∷ codes "--csv" ∷ []) (Files (Show (record { source = Standard; moves = false; csv = true })))
 unfolding clap_on_literals
 asks_for_csv names program = (refl, (_, refl, (refl, record { source_is = tt; moves_are = ((λ e. absurd cc), (λ e. refl), (λ e. refl)); csv_is = ((λ e. refl), (λ e. absurd cc), (λ e. absurd cc)) })))
 
 -- `tws pack`
-pub asks_for_pack : (names : RulesetNames) (program : Text) → WordsAskFor names (program ∷ codes "pack" ∷ codes "-" ∷ []) (Pack (record { source = Standard }))
+pub asks_for_pack : (names : RulesetNames) (program : Text) → WordsAskFor names (program ∷ codes "pack" ∷ codes "-" ∷ []) (Files (Pack (record { source = Standard })))
 unfolding clap_on_literals
 asks_for_pack names program = (refl, (_, refl, (refl, refl)))
 

@@ -1,8 +1,8 @@
 -- What a transfer printed, by its result.
 use Rattle.std.proofs.Common.{[], ◌∷◌, ◌++◌, ◌≡◌, ◌≢◌, ◌≤◌, ℕ, List, length, Option, Some, None, Result, Ok, Err, OnOk, IfErr, refl, arith, ap, length-append, inl}
-use Rattle.file_commands.specs.declared.tool_fault.ToolFault.{ToolFault}
-use Rattle.file_commands.specs.declared.tool_fault.ToolFault.TheVariants.{Read, Write, Unreadable, Memory, Socket, Transfer}
-use Rattle.file_commands.specs.Faults.{answer_status, status_of}
+use Rattle.command_line.specs.declared.tool_fault.ToolFault.{ToolFault}
+use Rattle.command_line.specs.declared.tool_fault.ToolFault.TheVariants.{Read, Write, Unreadable, Memory, Socket, Transfer}
+use Rattle.command_line.specs.Faults.{answer_status, status_of}
 use Rattle.tws_tool.specs.Lines.{IsCutText, Says, Transfers, Unsaid}
 
 -- a text that ends a line has a byte

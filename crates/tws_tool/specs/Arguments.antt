@@ -2,7 +2,7 @@
 use Rattle.std.specs.Prelude.{◌≡◌, ℕ, true, List, Option, Some, None, string_bytes, codes}
 use Rattle.clap.specs.Words.{Row, Rule, Text, first_of, new_rule}
 use Rattle.clap.specs.declared.builder.value_parser.ValueParser.TheVariants as parser
-use Rattle.file_commands.specs.Arguments.{IsNumberUpTo}
+use Rattle.command_line.specs.Arguments.{IsNumberUpTo}
 use Rattle.tws_tool.specs.declared.limits.TheConstants.{PORT, MAX_PORT}
 use Rattle.tws_tool.specs.declared.target.Target.{Target}
 

@@ -9,7 +9,7 @@ use Rattle.clap.specs.declared.error.kind.ErrorKind.TheVariants.{InvalidSubcomma
 use Rattle.tws_tool.specs.declared.commands.Job.{Job}
 use Rattle.tws_tool.specs.declared.job.JobFault.{JobFault}
 use Rattle.tws_tool.specs.declared.job.JobFault.TheVariants as fault
-use Rattle.file_commands.specs.Arguments.{AreRulesetNames, RulesetNames}
+use Rattle.command_line.specs.Arguments.{AreRulesetNames, RulesetNames}
 use Rattle.tws_tool.specs.Commands.{AsksFor, tws_app}
 
 -- what was found in the arguments, which have no fault

@@ -1,5 +1,5 @@
--- The lists over all commands: the command line, which job each command asks for, and what each job did. A command is
--- defined in a file of its own in `Commands/`.
+-- The lists over all commands: the command line, which job each command asks for, and what each job did. The list of the
+-- commands on files is that of `file_commands`; a command of the archive is defined in a file of its own in `Commands/`.
 pub mod Serve
 pub mod Put
 pub mod Get
@@ -10,13 +10,8 @@ use Rattle.tws_tool.specs.declared.commands.Job.{Job}
 use Rattle.tws_tool.specs.declared.commands.Job.TheVariants as job
 use Rattle.tws_tool.specs.declared.job.JobFault.{JobFault}
 use Rattle.tws_tool.specs.declared.job.JobFault.TheVariants as fault
-use Rattle.file_commands.specs.Arguments.{RulesetNames}
-use Rattle.file_commands.specs.Show.{AsksToShow, ShowRan, show_app, show_name}
-use Rattle.file_commands.specs.Pack.{AsksToPack, PackRan, pack_app, pack_name}
-use Rattle.file_commands.specs.Without.{AsksForWithout, WithoutRan, without_app, without_name}
-use Rattle.file_commands.specs.Best.{AsksForBest, BestRan, best_app, best_name}
-use Rattle.file_commands.specs.Compare.{AsksToCompare, CompareRan, compare_app, compare_name}
-use Rattle.file_commands.specs.Page.{AsksForPage, PageRan, page_app, page_name}
+use Rattle.command_line.specs.Arguments.{RulesetNames}
+use Rattle.file_commands.specs.FileJobs.{AsksForFiles, FileJobRan, with_file_apps}
 use Rattle.tws_tool.specs.Commands.Serve.{AsksToServe, ServeRan, serve_app, serve_name}
 use Rattle.tws_tool.specs.Commands.Put.{AsksToPut, PutRan, put_app, put_name}
 use Rattle.tws_tool.specs.Commands.Get.{AsksToGet, GetRan, get_app, get_name}
@@ -26,25 +21,16 @@ use Rattle.tws_tool.specs.Help.{Explained}
 abbrev pub top_app : App
 top_app = let plain : App = new_app (codes "tws") in record plain { top = record plain.top { has_version = true; arg_required_else_help = true; subcommand_required = true } }
 
--- with only the commands on one file
-abbrev pub one_file_app : App
-one_file_app = with_subcommand (with_subcommand (with_subcommand top_app show_app.top) pack_app.top) without_app.top
-
 -- with only the commands on files
 abbrev pub files_app : RulesetNames → App
-files_app names = with_subcommand (with_subcommand (with_subcommand one_file_app (best_app names).top) compare_app.top) page_app.top
+files_app names = with_file_apps names top_app
 
 abbrev pub tws_app : RulesetNames → App
 tws_app names = with_subcommand (with_subcommand (with_subcommand (files_app names) serve_app.top) put_app.top) (get_app names).top
 
 -- the command of this name, with what was found for its arguments, asks for the job
 abbrev pub AsksFor : Text × List Row → Job → Type 0
-AsksFor command (job.Show arguments) = (command.0 ≡ show_name) × AsksToShow command.1 arguments
-AsksFor command (job.Pack arguments) = (command.0 ≡ pack_name) × AsksToPack command.1 arguments
-AsksFor command (job.Without arguments) = (command.0 ≡ without_name) × AsksForWithout command.1 arguments
-AsksFor command (job.Best arguments) = (command.0 ≡ best_name) × AsksForBest command.1 arguments
-AsksFor command (job.Compare arguments) = (command.0 ≡ compare_name) × AsksToCompare command.1 arguments
-AsksFor command (job.Page arguments) = (command.0 ≡ page_name) × AsksForPage command.1 arguments
+AsksFor command (job.Files files) = AsksForFiles command files
 AsksFor command (job.Serve arguments) = (command.0 ≡ serve_name) × AsksToServe command.1 arguments
 AsksFor command (job.Put arguments) = (command.0 ≡ put_name) × AsksToPut command.1 arguments
 AsksFor command (job.Get arguments) = (command.0 ≡ get_name) × AsksToGet command.1 arguments
@@ -54,12 +40,7 @@ AsksFor command (job.Get arguments) = (command.0 ≡ get_name) × AsksToGet comm
 -- known of the bytes of the files afterwards, and what holds if standard input was not read; then the log of the wire
 -- before and after, what standard input had and has left, and the output before and after. Only `get` changes a file.
 abbrev pub JobRuns : (known : Known) (now : List ℕ → Option (List ℕ)) → (Unread : Type 0) → Result Job JobFault → (status : ℕ) → (before after : Option (List Entry)) → (had left old new : Option (List ℕ)) → Type 0
-JobRuns known now Unread (Ok (job.Show arguments)) status before after had left old new = (after ≡ before) × (now ≡ known.bytes_of) × ShowRan known.bytes_of Unread arguments status had left old new
-JobRuns known now Unread (Ok (job.Pack arguments)) status before after had left old new = (after ≡ before) × (now ≡ known.bytes_of) × PackRan known.bytes_of Unread arguments status had left old new
-JobRuns known now Unread (Ok (job.Without arguments)) status before after had left old new = (after ≡ before) × (now ≡ known.bytes_of) × WithoutRan known.bytes_of Unread arguments status had left old new
-JobRuns known now Unread (Ok (job.Best arguments)) status before after had left old new = (after ≡ before) × (now ≡ known.bytes_of) × BestRan known.bytes_of Unread arguments status had left old new
-JobRuns known now Unread (Ok (job.Compare arguments)) status before after had left old new = (after ≡ before) × (now ≡ known.bytes_of) × Unread × CompareRan known.bytes_of arguments status old new
-JobRuns known now Unread (Ok (job.Page arguments)) status before after had left old new = (after ≡ before) × (now ≡ known.bytes_of) × PageRan known.bytes_of Unread arguments status had left old new
+JobRuns known now Unread (Ok (job.Files files)) status before after had left old new = (after ≡ before) × (now ≡ known.bytes_of) × FileJobRan known.bytes_of Unread files status had left old new
 JobRuns known now Unread (Ok (job.Serve arguments)) status before after had left old new = (after ≡ before) × (now ≡ known.bytes_of) × Unread × ServeRan arguments status old new
 JobRuns known now Unread (Ok (job.Put arguments)) status before after had left old new = (now ≡ known.bytes_of) × PutRan known.bytes_of known.host_of Unread arguments status before after had left old new
 JobRuns known now Unread (Ok (job.Get arguments)) status before after had left old new = Unread × GetRan known arguments status before after now old new

@@ -6,8 +6,8 @@ use Rattle.clap.specs.Words.{kind_of}
 use Rattle.clap.specs.declared.error.Error.{Error}
 use Rattle.clap.specs.declared.error.kind.ErrorKind.TheVariants.{DisplayHelp, DisplayVersion}
 use Rattle.byte_output.specs.Output.{AppendsPrefix}
-use Rattle.file_commands.specs.declared.tool_fault.ToolFault.{ToolFault}
-use Rattle.file_commands.specs.declared.tool_fault.ToolFault.TheVariants.{Read, Write, Unreadable, Memory, Socket, Transfer}
+use Rattle.command_line.specs.declared.tool_fault.ToolFault.{ToolFault}
+use Rattle.command_line.specs.declared.tool_fault.ToolFault.TheVariants.{Read, Write, Unreadable, Memory, Socket, Transfer}
 
 pub record WritesHelp (old new : Option (List ℕ)) : Type 0 where
   pub page : List ℕ

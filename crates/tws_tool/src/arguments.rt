@@ -3,14 +3,14 @@
 ghost use Rattle.std.specs.Prelude.{◌≡◌, ℕ, false, Some, None, IfOk, IfSome, IfNone};
 ghost use Rattle.clap.specs.Matches.{found_of};
 ghost use Rattle.clap.specs.Words.{rows_of, rule_of, first_of, one_of};
-ghost use Rattle.file_commands.specs.Arguments.{Answers, IsFlag};
+ghost use Rattle.command_line.specs.Arguments.{Answers, IsFlag};
 ghost use Rattle.tws_tool.specs.Arguments.{HasNumber, HasTarget, IsNumberOr, address_rule, file_rule, number_rule, number_rule_to, port_option};
 
 use crate::limits::{MAX_PORT, PORT};
 use crate::target::Target;
 use clap::builder::ValueParser;
 use clap::{Arg, ArgMatches};
-use file_commands::arguments::{number_up_to, string_given, text_given};
+use command_line::{number_up_to, string_given, text_given};
 use std::alloc::{AllocError, Global};
 
 // ---- the arguments

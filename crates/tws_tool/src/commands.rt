@@ -1,11 +1,11 @@
-//! The lists over all commands: what the program is asked to do, its command line, and how each job is done. A command on files
-//! is a module of `file_commands`, and one of the archive is in a file of its own in `commands/`.
+//! The lists over all commands: what the program is asked to do, its command line, and how each job is done. The commands on
+//! files are a list of their own, that of `file_commands`; one of the archive is in a file of its own in `commands/`.
 
 ghost use Rattle.std.specs.Prelude.{◌≡◌, ◌≤◌, Ok, IfOk};
 ghost use Rattle.clap.specs.Matches.{found_of};
 ghost use Rattle.clap.specs.Words.{app_of, rows_of};
-ghost use Rattle.file_commands.specs.Arguments.{Answers};
-ghost use Rattle.tws_tool.specs.Commands.{AsksFor, JobRuns, files_app, one_file_app, top_app, tws_app};
+ghost use Rattle.command_line.specs.Arguments.{Answers};
+ghost use Rattle.tws_tool.specs.Commands.{AsksFor, JobRuns, files_app, top_app, tws_app};
 
 mod get;
 mod put;
@@ -16,10 +16,8 @@ use crate::limits::VERSION;
 use crate::overhearing::TransferWire;
 use crate::resolver::Resolver;
 use clap::{ArgMatches, Command};
-use file_commands::{
-    BestArguments, CompareArguments, FileSystem, PackArguments, PageArguments, ShowArguments,
-    WithoutArguments, best, compare, pack, page, show, without,
-};
+use command_line::FileSystem;
+use file_commands::{FileJob, file_job_of, run_file_job, with_file_commands};
 pub use get::{GetArguments, GetFault, get_file};
 pub use put::{PutArguments, put_file};
 pub use serve::{Passes, serve_archive};
@@ -35,18 +33,8 @@ use std::time::Clock;
 /// What the program is asked to do.
 #[derive(Drop)]
 pub enum Job {
-    /// To list a solution file.
-    Show(ShowArguments),
-    /// To write a solution file with its moves in the fewest bytes.
-    Pack(PackArguments),
-    /// To write a solution file without the solutions of a level.
-    Without(WithoutArguments),
-    /// To write the collection of the best solutions of several files.
-    Best(BestArguments),
-    /// To compare two solution files.
-    Compare(CompareArguments),
-    /// To write the solutions of several files as a page of HTML.
-    Page(PageArguments),
+    /// What a command on files is asked for.
+    Files(FileJob),
     /// To serve the archive.
     Serve(ServeArguments),
     /// To send a solution file to an archive.
@@ -66,28 +54,11 @@ fn no_commands<'a>(alloc: Global) -> Command<'a>
         .subcommand_required(true)
 }
 
-// The program with only its commands on one file.
-fn one_file_commands<'a>(alloc: Global) -> Result<Command<'a>, AllocError>
-    ensures { IfOk result (λ command. app_of command ≡ one_file_app) }
-{
-    let show = show::command(alloc)?;
-    let command = no_commands(alloc).subcommand(show)?;
-    let pack = pack::command(alloc)?;
-    let command = command.subcommand(pack)?;
-    let without = without::command(alloc)?;
-    command.subcommand(without)
-}
-
 // The program with only its commands on files.
 fn commands_on_files<'a>(alloc: Global, names: &'a [&'a str]) -> Result<Command<'a>, AllocError>
     ensures { IfOk result (λ command. app_of command ≡ files_app names.entry) }
 {
-    let best = best::command(alloc, names)?;
-    let command = one_file_commands(alloc)?.subcommand(best)?;
-    let compare = compare::command(alloc)?;
-    let command = command.subcommand(compare)?;
-    let page = page::command(alloc)?;
-    command.subcommand(page)
+    with_file_commands(alloc, no_commands(alloc), names)
 }
 
 /// The command line of the program, with these names of the rulesets.
@@ -110,13 +81,10 @@ pub(crate) fn asked(
 ) -> Result<Option<Job>, AllocError>
     ensures { IfOk result (Answers (AsksFor (name.now, rows_of (found_of words.now)))) }
 {
+    if let Some(job) = file_job_of(alloc, name, words)? {
+        return Ok(Some(Job::Files(job)));
+    }
     match name {
-        "show" => Ok(Some(Job::Show(show::asked(alloc, words)?))),
-        "pack" => Ok(Some(Job::Pack(pack::asked(alloc, words)?))),
-        "without" => Ok(without::asked(alloc, words)?.map(Job::Without)),
-        "best" => Ok(best::asked(alloc, words)?.map(Job::Best)),
-        "compare" => Ok(compare::asked(alloc, words)?.map(Job::Compare)),
-        "page" => Ok(Some(Job::Page(page::asked(alloc, words)?))),
         "serve" => Ok(serve_arguments::asked(alloc, words)?.map(Job::Serve)),
         "put" => Ok(put::asked(alloc, words)?.map(Job::Put)),
         "get" => Ok(get::asked(alloc, words)?.map(Job::Get)),
@@ -149,12 +117,7 @@ pub(crate) fn run_job<
     ensures silent { result ≡ 0 → errors.new ≡ errors.old }
 {
     match job {
-        Job::Show(arguments) => show::run(system, alloc, arguments, input, out, errors),
-        Job::Pack(arguments) => pack::run(system, alloc, arguments, input, out, errors),
-        Job::Without(arguments) => without::run(system, alloc, arguments, input, out, errors),
-        Job::Best(arguments) => best::run(system, alloc, arguments, input, out, errors),
-        Job::Compare(arguments) => compare::run(system, alloc, arguments, out, errors),
-        Job::Page(arguments) => page::run(system, alloc, arguments, input, out, errors),
+        Job::Files(job) => run_file_job(system, alloc, job, input, out, errors),
         Job::Serve(arguments) => serve::run(rt, alloc, arguments, out, errors),
         Job::Put(arguments) => put::run(system, wire, alloc, arguments, input, out, errors),
         Job::Get(arguments) => get::run(system, wire, alloc, arguments, out, errors),

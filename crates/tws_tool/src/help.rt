@@ -4,9 +4,7 @@ ghost use Rattle.std.specs.Prelude.{◌≡◌, OnOk, IfErr};
 ghost use Rattle.tws_tool.specs.Help.{Explained, WritesHelp, HelpFails};
 
 use byte_output::put;
-use file_commands::ToolFault;
-use file_commands::reporting::finish;
-use file_commands::status::USAGE;
+use command_line::{ToolFault, USAGE, finish};
 use std::alloc::Global;
 use std::io::Write;
 

@@ -3,14 +3,14 @@
 ghost use Rattle.std.specs.Prelude.{◌≡◌, ◌≢◌, ◌⊎◌, map, IfOk, IfErr, string_bytes};
 ghost use Rattle.clap.specs.Values.{kind_of};
 ghost use Rattle.clap.specs.declared.error.kind.ErrorKind.TheVariants.{OutOfMemory, InvalidSubcommand};
-ghost use Rattle.file_commands.specs.Arguments.{AreRulesetNames};
+ghost use Rattle.command_line.specs.Arguments.{AreRulesetNames};
 ghost use Rattle.tws_tool.specs.CommandLine.{FindsCommand, RefusesWords, AnswersWords};
 ghost use Rattle.tws_tool.specs.declared.job.JobFault.TheVariants.{Memory, Words};
 
 use crate::commands::{Job, asked, command};
 use clap::ArgMatches;
 use clap::error::ErrorKind;
-use file_commands::arguments::ruleset_names;
+use command_line::ruleset_names;
 use std::alloc::{AllocError, Global};
 
 /// Why the arguments ask for no job.

@@ -1,5 +1,5 @@
 //! The program `tws`: the commands of the archive, over any wire and keeper, and the job that the arguments ask for, of
-//! these commands or of those on files (`file_commands`). Read `specs/Lines.antt` first, then `specs/Commands.antt`.
+//! these commands or of those on files (`file_commands`); both stand on `command_line`. Read `specs/Lines.antt` first, then `specs/Commands.antt`.
 //!
 //! How to call it, from a crate that lists `tws_tool`, `archive_turns` and `tftp_packet`; this needs no proof file:
 //!
@@ -51,14 +51,14 @@ pub use archive_turns::{
     Entry, GetRun, MemoryWire, PutRun, ReadyWire, RunFault, Server, Wire, WireFault, get_in_rounds,
     put_in_rounds, run_get, run_put, serve_rounds, serve_turns,
 };
+pub use command_line::{FileSystem, INPUT_READS, Source, ToolFault};
 pub use commands::{
     GetArguments, GetFault, Job, Passes, PutArguments, ServeArguments, get_file, put_file,
     serve_archive,
 };
 pub use file_commands::{
-    BestArguments, CompareArguments, FileSystem, INPUT_READS, PackArguments, PageArguments,
-    ShowArguments, Source, ToolFault, WithoutArguments, run_best, run_compare, run_csv, run_pack,
-    run_page, run_show, run_without,
+    BestArguments, CompareArguments, FileJob, PackArguments, PageArguments, ShowArguments,
+    WithoutArguments, run_best, run_compare, run_csv, run_pack, run_page, run_show, run_without,
 };
 pub use job::{JobFault, job_of};
 pub use laws::{limit_values, words_of_commands};

@@ -1,13 +1,11 @@
 //! Reports of why a command of the archive failed, and its exit status.
 
 ghost use Rattle.std.specs.Prelude.{◌≡◌, ◌≤◌};
-ghost use Rattle.file_commands.specs.Faults.{status_of, answer_status};
+ghost use Rattle.command_line.specs.Faults.{status_of, answer_status};
 
 use archive_client::Cause;
 use archive_log::Printable;
-use file_commands::ToolFault;
-use file_commands::reporting::report;
-use file_commands::status::{DONE, USAGE};
+use command_line::{DONE, ToolFault, USAGE, report};
 use std::io::Write;
 
 /// Reports a malformed address, and returns the status.

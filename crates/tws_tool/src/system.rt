@@ -5,7 +5,7 @@ ghost use Rattle.std.specs.Prelude.{None};
 use crate::beside::Beside;
 use crate::resolver::Resolver;
 use crate::system_draft::{Place, SystemDraft};
-use file_commands::FileSystem;
+use command_line::FileSystem;
 use std::fs::{File, Metadata, OpenOptions};
 use std::io::{ErrorKind, Read};
 use std::net::{Net, SocketAddr, ToSocketAddrs};

@@ -2,7 +2,8 @@ ghost use Rattle.std.specs.Prelude.{[], true, IfOk, Some};
 ghost use Rattle.tws_file.specs.Listing.{listing_of};
 ghost use Rattle.file_commands.specs.Written.{Writes};
 
-use file_commands::{ToolFault, run_show};
+use command_line::ToolFault;
+use file_commands::run_show;
 use std::alloc::Global;
 
 /// The listing of a solution file, with a line for each move.

@@ -12,6 +12,7 @@ pub mod calling_archive_table;
 pub mod calling_archive_turns;
 pub mod calling_archive_world;
 pub mod calling_byte_output;
+pub mod calling_command_line;
 pub mod calling_file_commands;
 pub mod calling_refusing;
 pub mod calling_tftp_ends;

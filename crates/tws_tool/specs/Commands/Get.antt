@@ -11,13 +11,13 @@ use Rattle.archive_turns.specs.Run.{Run}
 use Rattle.archive_turns.specs.Rounds.{GetsInRounds, MakesDally}
 use Rattle.tws_tool.specs.declared.commands.get.GetArguments.{GetArguments}
 use Rattle.tws_tool.specs.declared.limits.TheConstants.{ROUNDS}
-use Rattle.file_commands.specs.declared.tool_fault.ToolFault.{ToolFault}
-use Rattle.file_commands.specs.declared.tool_fault.ToolFault.TheVariants.{Read, Write, Unreadable, Memory, Socket, Transfer}
+use Rattle.command_line.specs.declared.tool_fault.ToolFault.{ToolFault}
+use Rattle.command_line.specs.declared.tool_fault.ToolFault.TheVariants.{Read, Write, Unreadable, Memory, Socket, Transfer}
 use Rattle.tws_tool.specs.Address.{Locates}
-use Rattle.file_commands.specs.Arguments.{HasRuleset, RulesetNames, ruleset_rule}
+use Rattle.command_line.specs.Arguments.{HasRuleset, RulesetNames, ruleset_rule}
 use Rattle.tws_tool.specs.Arguments.{HasTarget, address_rule, file_rule, number_rule, port_option}
-use Rattle.file_commands.specs.Faults.{answer_status}
-use Rattle.file_commands.specs.Files.{Keeps, Publishes}
+use Rattle.command_line.specs.Faults.{answer_status}
+use Rattle.command_line.specs.Files.{Keeps, Publishes}
 use Rattle.tws_tool.specs.Known.{Known}
 use Rattle.tws_tool.specs.Lines.{LineFails, Transfers, got_line}
 

@@ -13,10 +13,10 @@ use Rattle.tws_tool.specs.declared.commands.serve.Passes.{Passes}
 use Rattle.tws_tool.specs.declared.commands.serve.Passes.TheVariants.{Turns, Rounds}
 use Rattle.tws_tool.specs.declared.commands.serve_arguments.ServeArguments.{ServeArguments}
 use Rattle.tws_tool.specs.declared.limits.TheConstants.{PER_HOST, TURNS}
-use Rattle.file_commands.specs.declared.tool_fault.ToolFault.{ToolFault}
-use Rattle.file_commands.specs.declared.tool_fault.ToolFault.TheVariants.{Socket}
+use Rattle.command_line.specs.declared.tool_fault.ToolFault.{ToolFault}
+use Rattle.command_line.specs.declared.tool_fault.ToolFault.TheVariants.{Socket}
 use Rattle.tws_tool.specs.Address.{IsAddress, IsNoAddress}
-use Rattle.file_commands.specs.Arguments.{HasFlag}
+use Rattle.command_line.specs.Arguments.{HasFlag}
 use Rattle.tws_tool.specs.Arguments.{HasNumber, NumberOption, number_rule, port_option}
 use Rattle.tws_tool.specs.Lines.{LineFails, serving_line, taken_line}
 

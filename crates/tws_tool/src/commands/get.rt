@@ -4,9 +4,9 @@ ghost use Rattle.std.specs.Prelude.{◌≡◌, ◌≢◌, ◌⊎◌, false, OnOk
 ghost use Rattle.clap.specs.Matches.{found_of};
 ghost use Rattle.clap.specs.Words.{app_of, rows_of};
 ghost use Rattle.clap.specs.declared.builder.command.Command.TheViews.{out-Command};
-ghost use Rattle.file_commands.specs.Arguments.{Answers};
+ghost use Rattle.command_line.specs.Arguments.{Answers};
 ghost use Rattle.tws_tool.specs.Commands.Get.{AsksToGet, FetchFails, Fetches, GetFails, GetRan, Gets, get_app};
-ghost use Rattle.file_commands.specs.Faults.{status_of};
+ghost use Rattle.command_line.specs.Faults.{status_of};
 ghost use Rattle.tws_tool.specs.Faults.{run_fault};
 ghost use Rattle.tws_tool.specs.Lines.{Unless};
 
@@ -21,10 +21,10 @@ use crate::run_fault::of_run;
 use crate::target::Target;
 use archive_turns::{GetRun, RunFault, get_in_rounds};
 use clap::{ArgMatches, Command};
-use file_commands::arguments::{new_command, ruleset_argument, ruleset_given, string_given};
-use file_commands::reporting::report_file;
-use file_commands::status::DONE;
-use file_commands::{FileSystem, ToolFault};
+use command_line::{
+    DONE, FileSystem, ToolFault, new_command, report_file, ruleset_argument, ruleset_given,
+    string_given,
+};
 use std::alloc::{AllocError, Global};
 use std::io;
 use std::io::Write;

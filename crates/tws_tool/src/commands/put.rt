@@ -10,9 +10,9 @@ ghost use Rattle.tws_file.specs.Text.{IsReadable};
 ghost use Rattle.tws_file.specs.Fault.{HasFileFault};
 ghost use Rattle.tftp_ends.specs.declared.limits.TheConstants.{MAX_FILE};
 ghost use Rattle.tws_tool.specs.declared.limits.TheConstants.{ROUNDS};
-ghost use Rattle.file_commands.specs.Arguments.{Answers};
+ghost use Rattle.command_line.specs.Arguments.{Answers};
 ghost use Rattle.tws_tool.specs.Commands.Put.{AsksToPut, InputFails, IsWholeInput, PutFails, PutRan, PutRuns, Puts, ReadsAtMost, WholeFails, put_app};
-ghost use Rattle.file_commands.specs.Faults.{IsReadOut};
+ghost use Rattle.command_line.specs.Faults.{IsReadOut};
 ghost use Rattle.tws_tool.specs.Faults.{run_fault};
 ghost use Rattle.tws_tool.specs.Lines.{Unless};
 
@@ -28,9 +28,9 @@ use crate::target::Target;
 use archive_client::Cause;
 use archive_turns::{RunFault, put_in_rounds};
 use clap::{ArgMatches, Command};
-use file_commands::arguments::{new_command, source_given};
-use file_commands::reporting::report_file;
-use file_commands::{FileSystem, INPUT_READS, Source, ToolFault};
+use command_line::{
+    FileSystem, INPUT_READS, Source, ToolFault, new_command, report_file, source_given,
+};
 use std::alloc::{AllocError, Global};
 use std::io::{Read, Write};
 use std::slice;

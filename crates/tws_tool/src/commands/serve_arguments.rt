@@ -4,7 +4,7 @@ ghost use Rattle.std.specs.Prelude.{◌≡◌, false, IfOk};
 ghost use Rattle.clap.specs.Matches.{found_of};
 ghost use Rattle.clap.specs.Words.{app_of, rows_of, rule_of};
 ghost use Rattle.clap.specs.declared.builder.command.Command.TheViews.{out-Command};
-ghost use Rattle.file_commands.specs.Arguments.{Answers};
+ghost use Rattle.command_line.specs.Arguments.{Answers};
 ghost use Rattle.tws_tool.specs.Commands.Serve.{AsksToServe, log_rule, numbers_app, places_app, serve_app, text_rule};
 
 use crate::arguments::{flag_given, number_argument, number_given, port_argument, port_given};
@@ -12,7 +12,7 @@ use crate::limits::{PER_HOST, TURNS};
 use archive_table::LIVE;
 use clap::builder::ArgAction;
 use clap::{Arg, ArgMatches, Command};
-use file_commands::arguments::{new_command, string_given};
+use command_line::{new_command, string_given};
 use std::alloc::{AllocError, Global};
 use tftp_ends::MAX_FILE;
 

@@ -1,5 +1,6 @@
 use Rattle.std.proofs.Common.{◌++◌, take, rules, arith, length-append, length-take}
-use Rattle.file_commands.proofs.Taking.{Consumes-then, was_taken}
+use Rattle.command_line.proofs.Taking.{Consumes-then}
+use Rattle.file_commands.proofs.Taking.{was_taken}
 use Rattle.file_commands.proofs.input.read_input.Goals as goal
 
 pub loop-preserved : goal.loop-preserved

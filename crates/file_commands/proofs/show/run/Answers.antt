@@ -1,7 +1,7 @@
 use Rattle.std.proofs.Common.{rules, refl, ◌≡◌, ◌∙◌, ℕ, List, Option, ap, sym, subst, string_bytes}
-use Rattle.file_commands.specs.declared.source.Source.{Source}
+use Rattle.command_line.specs.declared.source.Source.{Source}
 use Rattle.file_commands.specs.Show.{shown_text}
-use Rattle.file_commands.specs.Faults.{answer_status}
+use Rattle.command_line.specs.Faults.{answer_status}
 use Rattle.file_commands.specs.Written.{FileRan, RanFrom}
 use Rattle.file_commands.proofs.Statuses.{file_ran, ran}
 use Rattle.file_commands.proofs.show.run.Goals as goal

@@ -1,5 +1,5 @@
 use Rattle.std.proofs.Common.{◌++◌, take, arith, length-append, length-take}
-use Rattle.file_commands.proofs.Taking.{Consumes-then}
+use Rattle.command_line.proofs.Taking.{Consumes-then}
 use Rattle.tws_tool.proofs.commands.put.read_bytes.Goals as goal
 
 pub returns-in_err-extend_from_slice-clause-most : goal.returns-in_err-extend_from_slice-clause-most

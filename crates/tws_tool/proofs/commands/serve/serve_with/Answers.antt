@@ -1,6 +1,6 @@
 use Rattle.std.proofs.Common.{◌≡◌, ◌∙◌}
 use Rattle.tws_tool.proofs.Listening.{served, server_served, serves_so, stops_so}
-use Rattle.file_commands.proofs.Statuses.{map_err, map_ok}
+use Rattle.command_line.proofs.Statuses.{map_err, map_ok}
 use Rattle.tws_tool.proofs.commands.serve.serve_with.Goals as goal
 
 pub returns-clause-served : goal.returns-clause-served

@@ -1,0 +1,4 @@
+pub mod Statuses
+pub mod Taking
+mod Given
+mod Sources

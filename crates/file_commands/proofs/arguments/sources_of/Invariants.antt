@@ -1,6 +1,0 @@
-use Rattle.std.proofs.Common.{ℕ, List, Bor, map, take}
-use Rattle.file_commands.specs.Arguments.{AreSources}
-use Rattle.file_commands.proofs.arguments.sources_of.Given as goal
-
-abbrev pub invariant-loop-name : goal.invariant-loop-name
-invariant-loop-name l = AreSources (map (λ (name : Bor (List ℕ)). name.now) (take l.name-index l.fn.names)) l.sources.items
