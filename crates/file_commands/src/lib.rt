@@ -44,6 +44,7 @@ pub mod without;
 pub use best::{BestArguments, run_best};
 pub use compare::{CompareArguments, run_compare};
 pub use file_system::FileSystem;
+pub use in_words::InWords;
 pub use input::INPUT_READS;
 pub use laws::limit_values;
 pub use pack::{PackArguments, run_pack};
