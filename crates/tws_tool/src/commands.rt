@@ -13,8 +13,8 @@ mod serve;
 mod serve_arguments;
 
 use crate::limits::VERSION;
-use crate::overhearing::TransferWire;
 use crate::resolver::Resolver;
+use crate::transfer_wire::TransferWire;
 use clap::{ArgMatches, Command};
 use file_commands::{
     BestArguments, CompareArguments, FileSystem, PackArguments, PageArguments, ShowArguments,
