@@ -96,22 +96,22 @@ server_served Begins turns per_host usable kept now passes begun limited last ar
 
 -- an address that was given is one
 some_host : (given : Option (List ℕ)) (host : ℕ) → HasHost given host → IsNoHost given → ⊥
-some_host None host is none = none
-some_host (Some address) host is none = none host is
+some_host None host is never = never
+some_host (Some address) host is never = never host is
 
 -- a server at the host of the address that was given
 pub serve_ran : (arguments : ServeArguments) (status host : ℕ) (old new : Option (List ℕ)) → HasHost (given_address arguments) host → (status ≡ 0) ⊎ (status ≡ 2)
     → ServedFrom arguments status old new → ServeRan arguments status old new
 serve_ran arguments status host old new is few served = record {
   bad =
-      (λ one. absurd (⊎_elim (λ zero_is. omega (arith, one, zero_is)) (λ two_is. omega (arith, one, two_is)) few), λ none. absurd (some_host (given_address arguments) host is none));
+      (λ one. absurd (⊎_elim (λ zero_is. omega (arith, one, zero_is)) (λ two_is. omega (arith, one, two_is)) few), λ never. absurd (some_host (given_address arguments) host is never));
   nowhere = λ one. absurd (⊎_elim (λ zero_is. omega (arith, one, zero_is)) (λ two_is. omega (arith, one, two_is)) few);
   served = λ other. served;
 }
 
 -- nothing is served at a text that is no address
 pub serve_nowhere : (arguments : ServeArguments) (status : ℕ) (held : Option (List ℕ)) → status ≡ 1 → IsNoHost (given_address arguments) → ServeRan arguments status held held
-serve_nowhere arguments status held one none = record { bad = (λ is. none, λ is. one); nowhere = λ is. refl; served = λ other. absurd (other one) }
+serve_nowhere arguments status held one never = record { bad = (λ is. never, λ is. one); nowhere = λ is. refl; served = λ other. absurd (other one) }
 
 -- ---- turns and rounds
 

@@ -14,9 +14,9 @@ loop-pass-init g c =
 pub returns-then-not-is_usable-2-clause-made : goal.returns-then-not-is_usable-2-clause-made
 returns-then-not-is_usable-2-clause-made g c =
     passes_ended (HasUsable g.K.ServedKeeper.usable g.K.Keeper.log) _ _ _ _ _ _ _ _ _ c.count_of-pass-end.ensures c.loop-pass-test.true c.loop-pass.invariant c.make_pass-taken.ensures.pass
-    (sym c.is_usable-in-loop-pass.ensures ∙ c.if-not-is_usable-2.true)
+    (sym c.is_usable-is_usable.ensures ∙ c.if-not-is_usable-2.true)
 
 pub loop-pass-preserved : goal.loop-pass-preserved
 loop-pass-preserved g c =
     some_more (HasUsable g.K.ServedKeeper.usable g.K.Keeper.log) _ _ _ _ _ _ _ c.loop-pass.invariant c.make_pass-taken.ensures.pass c.make_pass-taken.ensures.few
-    (c.make_pass-taken.new.keeper, sym c.is_usable-in-loop-pass.ensures ∙ c.if-not-is_usable-2.false, refl)
+    (c.make_pass-taken.new.keeper, sym c.is_usable-is_usable.ensures ∙ c.if-not-is_usable-2.false, refl)
