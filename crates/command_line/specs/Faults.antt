@@ -1,5 +1,5 @@
 -- Why a command fails.
-use Rattle.std.specs.Prelude.{◌≡◌, ◌⊎◌, ℕ, List, Option, IfSome, Result, Ok, Err}
+use Rattle.std.specs.Prelude.{◌≡◌, ◌⊎◌, ℕ, List, ◌++◌, Option, IfSome, Result, Ok, Err, codes, decimal}
 use Rattle.std.specs.Io.KnownBytes.{IsAtEnd}
 use Rattle.tws_file.specs.declared.file_fault.FileFault.{FileFault}
 use Rattle.tws_file.specs.declared.file_fault.FileFault.TheVariants as file
@@ -63,3 +63,14 @@ status_of (Transfer why) = 4
 abbrev pub answer_status : Result (Unit {0}) ToolFault → ℕ
 answer_status (Ok done) = 0
 answer_status (Err e) = status_of e
+
+-- ---- why a file is unreadable, in words
+
+abbrev pub fault_words : FileFault → List ℕ
+fault_words (file.ShortHeader len) = codes "the file ends inside its header, after " ++ (decimal len ++ codes " bytes")
+fault_words file.BadSignature = codes "the file does not begin with the bytes 35 33 9B 99"
+fault_words (file.BadRuleset byte) = codes "byte 4 is " ++ (decimal byte ++ codes ", which is no ruleset")
+fault_words (file.ShortRecord at) = codes "the file ends inside the record at byte " ++ decimal at
+fault_words (file.BadSize at) = codes "the size at byte " ++ (decimal at ++ codes " is that of no record")
+fault_words (file.MoveCut at) = codes "the moves end inside the move at byte " ++ decimal at
+fault_words file.Memory = codes "out of memory"

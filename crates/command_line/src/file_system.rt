@@ -47,7 +47,8 @@ pub trait FileSystem {
         ensures published { OnOk result (Publishes name.now (Self.Draft.contents draft) (bytes_of self.old) (bytes_of self.new)) }
         ensures kept { OnErr result (Keeps (bytes_of self.old) (bytes_of self.new)) };
 
-    /// Drops a draft. The file for which it was begun stays as it is.
-    fn abandon(&mut self, draft: Self::Draft)
+    /// Drops a draft. The file for which it was begun stays as it is. Returns what the system said of the write into the
+    /// draft that failed last, if one has and that is known.
+    fn abandon(&mut self, draft: Self::Draft) -> Option<io::Error>
         ensures { Keeps (bytes_of self.old) (bytes_of self.new) };
 }

@@ -1,12 +1,17 @@
+ghost use Rattle.std.specs.Prelude.{Some};
+ghost use Rattle.command_line.specs.Faults.{fault_words};
+
 use std::fmt;
 use std::fmt::{Display, Formatter, Write};
 use tws_file::FileFault;
 
 /// A fault of a file in words.
 #[derive(Clone, Copy)]
-pub(crate) struct InWords(pub(crate) FileFault);
+pub struct InWords(pub FileFault);
 
 impl Display for InWords {
+    ghost output = { λ words. Some (fault_words words.0) };
+
     fn fmt<W: Write>(&self, f: &mut Formatter<W>) -> fmt::Result {
         match self.0 {
             FileFault::ShortHeader(len) => {

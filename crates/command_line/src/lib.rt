@@ -20,9 +20,10 @@ pub use arguments::{
     sources_given, string_given, text_given,
 };
 pub use file_system::FileSystem;
+pub use in_words::InWords;
 pub use laws::limit_values;
 pub use limits::INPUT_READS;
-pub use reporting::{finish, report, report_file};
+pub use reporting::{finish, report, report_cause, report_file};
 pub use source::Source;
 pub use status::{DONE, FAILED, NOT_TRANSFERRED, UNREADABLE, USAGE};
 pub use tool_fault::ToolFault;

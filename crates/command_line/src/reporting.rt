@@ -54,14 +54,21 @@ fn without_code(text: &str) -> &str {
 // How many bytes of a cause are printed at most.
 const CAUSE: usize = 256;
 
-/// Reports a fault of the file of this name, with the system's cause in a second line, and returns the status.
-pub fn report_file<E: Write>(fault: ToolFault, name: &str, cause: &io::Error, errors: &mut E) -> u8
-    ensures { result ≡ status_of fault }
+/// Prints what the system said of the file or stream of this name, in a line of its own. Returns the status that it is
+/// given.
+pub fn report_cause<E: Write>(status: u8, name: &str, cause: &io::Error, errors: &mut E) -> u8
+    ensures { result ≡ status }
 {
-    let status = report(fault, &[], errors);
     let mut text = ArrayString::<CAUSE>::new();
     // What does not fit is left out.
     let _ = write!(text, "{cause}");
     let _ = writeln!(errors, "tws: {name}: {}", without_code(text.as_str()));
     status
+}
+
+/// Reports a fault of the file of this name, with the system's cause in a second line, and returns the status.
+pub fn report_file<E: Write>(fault: ToolFault, name: &str, cause: &io::Error, errors: &mut E) -> u8
+    ensures { result ≡ status_of fault }
+{
+    report_cause(report(fault, &[], errors), name, cause, errors)
 }

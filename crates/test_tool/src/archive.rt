@@ -166,7 +166,9 @@ impl FileSystem for Shelf {
         Ok(())
     }
 
-    fn abandon(&mut self, _draft: ShelfDraft) {}
+    fn abandon(&mut self, _draft: ShelfDraft) -> Option<io::Error> {
+        None
+    }
 }
 
 // What a get at which these datagrams arrive leaves of a file of two bytes, what it prints, and how many requests and

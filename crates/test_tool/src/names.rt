@@ -88,7 +88,9 @@ impl<'a> FileSystem for One<'a> {
         Ok(())
     }
 
-    fn abandon(&mut self, _draft: io::Sink) {}
+    fn abandon(&mut self, _draft: io::Sink) -> Option<io::Error> {
+        None
+    }
 }
 
 impl Resolver for One<'_> {

@@ -1,5 +1,7 @@
-// Inputs for the tests.
+// Inputs for the tests, and what is said of one that failed.
 use std::io;
+use std::io::Read;
+use tws_tool::{Noted, report_streams};
 
 // Fails at its first read, and returns these bytes after that.
 #[derive(Drop)]
@@ -49,4 +51,33 @@ impl io::Read for Breaks<'_> {
             None => Err(io::Error::from(self.kind)),
         }
     }
+}
+
+// What is printed of an input that fails at its second read, after so many reads, at this status.
+fn said_after(rt: &HostRuntime, reads: u32, status: u8) -> Vec<u8> {
+    let mut input = Noted::new(Breaks {
+        bytes: Some(b"ab"),
+        kind: io::ErrorKind::PermissionDenied,
+    });
+    let mut buffer = [0; 4];
+    for _ in 0..reads {
+        let _ = input.read(&mut buffer);
+    }
+    let out = Noted::new(io::sink());
+    let mut errors = Vec::new(rt.alloc());
+    let _ = report_streams(status, &input, &out, &mut errors);
+    errors
+}
+
+#[test]
+fn an_input_that_failed(rt: HostRuntime) {
+    let (early, failed, other) = (
+        said_after(&rt, 1, 2),
+        said_after(&rt, 2, 2),
+        said_after(&rt, 2, 4),
+    );
+    assert_eq!(rt;
+        (early.as_slice(), failed.as_slice(), other.as_slice()),
+        (b"".as_slice(), b"tws: standard input: permission denied\n".as_slice(), b"".as_slice())
+    );
 }

@@ -4,17 +4,18 @@
 use std::io::IsTerminal;
 use std::process::ExitCode;
 use std::{env, io};
-use tws_tool::run_words;
+use tws_tool::{Noted, report_streams, run_words};
 
 fn run(rt: &HostRuntime) -> io::Result<u8> {
     let words: Vec<String> = env::args(rt)?.collect(rt.alloc())?;
-    let (mut input, mut out, mut errors) = (rt.stdin(), rt.stdout(), rt.stderr());
+    let (mut input, mut out) = (Noted::new(rt.stdin()), Noted::new(rt.stdout()));
+    let mut errors = rt.stderr();
     let terminal = if errors.is_terminal() {
         Some(rt.stderr())
     } else {
         None
     };
-    Ok(run_words(
+    let status = run_words(
         rt,
         rt.alloc(),
         &words,
@@ -22,7 +23,8 @@ fn run(rt: &HostRuntime) -> io::Result<u8> {
         &mut input,
         &mut out,
         &mut errors,
-    ))
+    );
+    Ok(report_streams(status, &input, &out, &mut errors))
 }
 
 // Reports why the process's arguments could not be read.

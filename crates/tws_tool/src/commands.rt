@@ -13,8 +13,8 @@ mod serve;
 mod serve_arguments;
 
 use crate::limits::VERSION;
-use crate::overhearing::TransferWire;
 use crate::resolver::Resolver;
+use crate::transfer_wire::TransferWire;
 use clap::{ArgMatches, Command};
 use command_line::FileSystem;
 use file_commands::{FileJob, file_job_of, run_file_job, with_file_commands};

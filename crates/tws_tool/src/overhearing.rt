@@ -1,44 +1,18 @@
 ghost use Rattle.std.specs.Prelude.{◌≡◌};
 
-use archive_progress::ProgressWire;
-use archive_turns::{MemoryWire, RECEIVE_SIZE, Ready, ReadyWire, Wire, WireFault};
+use crate::transfer_wire::TransferWire;
+use archive_turns::{RECEIVE_SIZE, Ready, ReadyWire, Wire, WireFault};
 use arrayvec::ArrayVec;
-use std::io::Write;
 use tftp_packet::{Endpoint, Out, Packet, decode};
 
 // How many bytes of a refusal are kept.
 const REFUSAL: usize = 128;
 
-/// A wire that can say why a server refused a transfer, and may show how far one has come.
-pub trait TransferWire: ReadyWire {
-    /// The text of the ERROR that was received last, as far as it was kept; empty if there was none.
-    fn refusal(&self) -> &[u8];
-
-    /// The file that is to be sent has so many bytes.
-    fn expect(&mut self, length: u64)
-        ensures { Self.log self.new ≡ Self.log self.old };
-
-    /// The transfer has ended: nothing more is shown of it.
-    fn finish(&mut self)
-        ensures { Self.log self.new ≡ Self.log self.old };
-}
-
-/// A wire in memory keeps no such text, and shows nothing.
-impl TransferWire for MemoryWire {
-    fn refusal(&self) -> &[u8] {
-        &[]
-    }
-
-    fn expect(&mut self, _length: u64) {}
-
-    fn finish(&mut self) {}
-}
-
 /// A wire that notes the text of the last ERROR that is received over it. In all else it is the wire below.
 #[derive(Drop)]
 pub(crate) struct Overhearing<N: ReadyWire> {
     wire: N,
-    refusal: ArrayVec<u8, 128>,
+    refusal: ArrayVec<u8, REFUSAL>,
 }
 
 impl<N: ReadyWire> Overhearing<N> {
@@ -53,7 +27,7 @@ impl<N: ReadyWire> Overhearing<N> {
 }
 
 // Notes the text of an ERROR, if these bytes are one.
-fn note(refusal: &mut ArrayVec<u8, 128>, bytes: &[u8]) {
+fn note(refusal: &mut ArrayVec<u8, REFUSAL>, bytes: &[u8]) {
     if let Ok(Packet::Error { text, .. }) = decode(bytes) {
         refusal.clear();
         for byte in text.iter().take(REFUSAL) {
@@ -110,18 +84,4 @@ impl<N: ReadyWire> TransferWire for Overhearing<N> {
     fn expect(&mut self, _length: u64) {}
 
     fn finish(&mut self) {}
-}
-
-impl<N: TransferWire, W: Write> TransferWire for ProgressWire<N, W> {
-    fn refusal(&self) -> &[u8] {
-        self.wire().refusal()
-    }
-
-    fn expect(&mut self, length: u64) {
-        ProgressWire::expect(self, length);
-    }
-
-    fn finish(&mut self) {
-        ProgressWire::finish(self);
-    }
 }

@@ -120,8 +120,9 @@ impl<P: Files<File = File> + Net + Clock + AllocGlobal + Copy> FileSystem for Sy
         }
     }
 
-    fn abandon(&mut self, mut draft: SystemDraft<P>) {
+    fn abandon(&mut self, mut draft: SystemDraft<P>) -> Option<io::Error> {
         draft.remove();
+        draft.error()
     }
 }
 

@@ -25,12 +25,24 @@ pub(crate) struct SystemDraft<P: Files<File = File> + Clock + AllocGlobal + Copy
     place: Place,
     // How many bytes were written.
     len: u64,
+    // What the system said of the write that failed last, if one has.
+    error: Option<io::Error>,
 }
 
 impl<P: Files<File = File> + Clock + AllocGlobal + Copy> SystemDraft<P> {
     /// An empty draft that is written there.
     pub(crate) fn new(rt: P, place: Place) -> Self {
-        SystemDraft { rt, place, len: 0 }
+        SystemDraft {
+            rt,
+            place,
+            len: 0,
+            error: None,
+        }
+    }
+
+    /// What the system said of the write that failed last, if one has.
+    pub(crate) fn error(&self) -> Option<io::Error> {
+        self.error
     }
 
     /// Removes the file of the draft, if it has one of its own.
@@ -69,9 +81,16 @@ impl Place {
 
 impl<P: Files<File = File> + Clock + AllocGlobal + Copy> Write for SystemDraft<P> {
     fn write(&mut self, buf: &[u8]) -> io::Result<usize> {
-        let count = self.place.write(&self.rt, buf)?;
-        self.len = self.len.saturating_add(count as u64);
-        Ok(count)
+        match self.place.write(&self.rt, buf) {
+            Ok(count) => {
+                self.len = self.len.saturating_add(count as u64);
+                Ok(count)
+            }
+            Err(error) => {
+                self.error = Some(error);
+                Err(error)
+            }
+        }
     }
 
     fn flush(&mut self) -> io::Result<()> {

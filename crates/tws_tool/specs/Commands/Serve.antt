@@ -109,6 +109,19 @@ pub record MakesPasses (passes : Passes) (usable : Bool) (old new : Server) (tak
   pub made : MakesMany (pass_of passes) count old new taken before after kept now
   pub ends : (usable ≡ false) ⊎ (count ≡ count_of passes)
 
+-- a keeper that is usable has this log
+abbrev pub HasUsable : {K : Type 0} (usable : K → Bool) (log : K → Option (List Keeping)) → Option (List Keeping) → Type 0
+HasUsable {K} usable log kept = (keeper : K) × (usable keeper ≡ true) × (log keeper ≡ kept)
+
+-- a turn or round before which this holds of what the keeper has
+abbrev pub begun_when : (Begins : Option (List Keeping) → Type 0) → Pass → Pass
+begun_when Begins Is old new taken calls kept now = Begins kept × Is old new taken calls kept now
+
+-- the same, and each of them began when this held of what the keeper had
+pub record MakesPassesWhile (Begins : Option (List Keeping) → Type 0) (passes : Passes) (usable : Bool) (old new : Server) (taken : ℕ) (before after : Option (List Entry)) (kept now : Option (List Keeping)) : Type 0 where
+  pub passes_are : MakesPasses passes usable old new taken before after kept now
+  pub begun : MakesMany (begun_when Begins (pass_of passes)) passes_are.count old new taken before after kept now
+
 -- what a server makes that is given this many turns: if they are the most there are, rounds, more of them than any server
 -- will live to make
 abbrev pub ArePassesFor : (turns : ℕ) → Passes → Type 0

@@ -14,11 +14,11 @@ use crate::address::locate;
 use crate::arguments::{address_argument, file_argument, port_argument, target_given};
 use crate::limits::ROUNDS;
 use crate::line::write_line;
-use crate::overhearing::TransferWire;
 use crate::reporting::{bad_address, report_transfer};
 use crate::resolver::Resolver;
 use crate::run_fault::of_run;
 use crate::target::Target;
+use crate::transfer_wire::TransferWire;
 use archive_turns::{GetRun, RunFault, get_in_rounds};
 use clap::{ArgMatches, Command};
 use command_line::{
@@ -99,13 +99,17 @@ impl GetFault {
         }
     }
 
-    // The transfer failed.
-    fn of_run(fault: RunFault) -> Self
+    // The transfer failed, whose file the system said this of, if a write into it failed.
+    fn of_run(fault: RunFault, cause: Option<io::Error>) -> Self
         ensures { result.fault ≡ run_fault fault }
     {
+        let cause = match fault {
+            RunFault::Write => cause,
+            RunFault::Socket | RunFault::Transfer(_) | RunFault::Memory => None,
+        };
         GetFault {
             fault: of_run(fault),
-            cause: None,
+            cause,
         }
     }
 }
@@ -142,8 +146,8 @@ fn fetch<S: FileSystem, N: TransferWire>(
             Err(cause) => Err(GetFault::of_file(cause)),
         },
         Err(fault) => {
-            system.abandon(draft);
-            Err(GetFault::of_run(fault))
+            let cause = system.abandon(draft);
+            Err(GetFault::of_run(fault, cause))
         }
     }
 }

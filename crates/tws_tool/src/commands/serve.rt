@@ -6,7 +6,7 @@ ghost use Rattle.archive_limit.specs.Limited.{own_log};
 ghost use Rattle.archive_table.specs.declared.limits.TheConstants.{LIVE};
 ghost use Rattle.archive_turns.specs.Turn.{MakesPass, count_if, fresh_server};
 ghost use Rattle.command_line.specs.Faults.{answer_status};
-ghost use Rattle.tws_tool.specs.Commands.Serve.{ArePassesFor, HasHost, IsNoHost, MakesPasses, ServeFails, ServeRan, ServeStops, Served, ServedFrom, Serves, count_of, pass_of};
+ghost use Rattle.tws_tool.specs.Commands.Serve.{ArePassesFor, HasHost, HasUsable, IsNoHost, MakesPassesWhile, ServeFails, ServeRan, ServeStops, Served, ServedFrom, Serves, count_of, pass_of};
 
 use crate::address::Address;
 use crate::commands::serve_arguments::ServeArguments;
@@ -14,13 +14,14 @@ use crate::limits::TURNS;
 use crate::line::write_line;
 use crate::reporting::bad_address;
 use crate::reporting_keeper::ReportingKeeper;
+use crate::served_folder::{keeper_of, report_unloaded};
 use crate::served_keeper::ServedKeeper;
 use crate::served_observer::ServedObserver;
-use archive_host::{DirKeeper, HostFolder, OpenFault, UdpWire};
+use archive_host::UdpWire;
 use archive_log::{HostHistory, ServerLog};
 use archive_table::{Keeper, NoKeeper, NoObserver};
 use archive_turns::{ReadyWire, Server, ServerObserver};
-use command_line::{FAILED, ToolFault, finish};
+use command_line::{FAILED, ToolFault, finish, report_cause};
 use log::sink::Console;
 use std::alloc::Global;
 use std::fs::File;
@@ -84,6 +85,7 @@ fn make_pass<N: ReadyWire, K: Keeper, O: ServerObserver>(
 }
 
 // Makes these turns or rounds of a server, as long as its keeper is usable. Returns how many files were taken.
+#[tactic(auto, using(crate::proofs::Listening::passes_made))]
 fn make_passes<N: ReadyWire, K: ServedKeeper, O: ServerObserver>(
     wire: &mut N,
     keeper: &mut K,
@@ -91,7 +93,7 @@ fn make_passes<N: ReadyWire, K: ServedKeeper, O: ServerObserver>(
     server: &mut Server,
     passes: Passes,
 ) -> u64
-    ensures made { MakesPasses passes (K.usable keeper.new) server.old server.new result (N.log wire.old) (N.log wire.new) (K.log keeper.old) (K.log keeper.new) }
+    ensures made { MakesPassesWhile (HasUsable K.usable K.log) passes (K.usable keeper.new) server.old server.new result (N.log wire.old) (N.log wire.new) (K.log keeper.old) (K.log keeper.new) }
     ensures unusable { K.usable keeper.old ≡ false → (result ≡ 0) × (server.new ≡ server.old) × (K.log keeper.new ≡ K.log keeper.old) }
 {
     let mut taken = 0;
@@ -100,7 +102,8 @@ fn make_passes<N: ReadyWire, K: ServedKeeper, O: ServerObserver>(
     }
     for _pass in 0..count_of(passes) {
         taken = make_pass(wire, keeper, observer, server, passes, taken);
-        if !keeper.is_usable() {
+        let is_usable = keeper.is_usable();
+        if !is_usable {
             return taken;
         }
     }
@@ -124,41 +127,12 @@ pub fn serve_archive<N: ReadyWire, K: ServedKeeper, O: ServerObserver, W: Write>
     passes: Passes,
     out: &mut W,
 ) -> Result<(), ToolFault>
-    ensures served { OnOk result (Serves port (λ taken. MakesPasses passes (K.usable keeper.new) server.old server.new taken (N.log wire.old) (N.log wire.new) (K.log keeper.old) (K.log keeper.new)) (W.contents out.old) (W.contents out.new)) }
-    ensures fails { IfErr result (ServeFails port ((server.new ≡ server.old) × (N.log wire.new ≡ N.log wire.old) × (K.log keeper.new ≡ K.log keeper.old)) (λ taken. MakesPasses passes (K.usable keeper.new) server.old server.new taken (N.log wire.old) (N.log wire.new) (K.log keeper.old) (K.log keeper.new)) (W.contents out.old) (W.contents out.new)) }
+    ensures served { OnOk result (Serves port (λ taken. MakesPassesWhile (HasUsable K.usable K.log) passes (K.usable keeper.new) server.old server.new taken (N.log wire.old) (N.log wire.new) (K.log keeper.old) (K.log keeper.new)) (W.contents out.old) (W.contents out.new)) }
+    ensures fails { IfErr result (ServeFails port ((server.new ≡ server.old) × (N.log wire.new ≡ N.log wire.old) × (K.log keeper.new ≡ K.log keeper.old)) (λ taken. MakesPassesWhile (HasUsable K.usable K.log) passes (K.usable keeper.new) server.old server.new taken (N.log wire.old) (N.log wire.new) (K.log keeper.old) (K.log keeper.new)) (W.contents out.old) (W.contents out.new)) }
 {
     write_line(alloc, "serving on port ", port as u64, "", out)?;
     let taken = make_passes(wire, keeper, observer, server, passes);
     write_line(alloc, "taken ", taken, "", out)
-}
-
-// Reports that a folder's collections could not be loaded, and returns the status.
-fn not_loaded<E: Write>(name: &str, errors: &mut E) -> u8
-    ensures { result ≡ 2 }
-{
-    let _ = writeln!(errors, "tws: {name}: not loaded");
-    FAILED
-}
-
-// Reports that a folder cannot be opened, with the cause on a second line, and returns the status.
-fn not_opened<E: Write>(fault: OpenFault, name: &str, errors: &mut E) -> u8
-    ensures { result ≡ 2 }
-{
-    let status = not_loaded(name, errors);
-    let _ = writeln!(errors, "tws: {name}: {fault}");
-    status
-}
-
-// Reports that nothing can be kept in a folder, with the system's cause on a second line, and returns the status.
-fn not_writable<E: Write>(cause: Option<io::Error>, name: &str, errors: &mut E) -> u8
-    ensures { result ≡ 2 }
-{
-    let status = not_loaded(name, errors);
-    let _ = match cause {
-        Some(cause) => writeln!(errors, "tws: {name}: folder not writable: {cause}"),
-        None => writeln!(errors, "tws: {name}: folder not writable"),
-    };
-    status
 }
 
 // Reports that it is not known whether the folder kept a collection, and returns the status.
@@ -187,8 +161,8 @@ fn listen_and_serve<
     out: &mut W,
 ) -> Result<(), ToolFault>
     requires { server.old.table.request ≡ at.port }
-    ensures served { OnOk result (Serves at.port (λ taken. MakesPasses passes (K.usable keeper.new) server.old server.new taken None None (K.log keeper.old) (K.log keeper.new)) (W.contents out.old) (W.contents out.new)) }
-    ensures stops { IfErr result (ServeStops at.port (K.log keeper.new ≡ K.log keeper.old) (λ taken. MakesPasses passes (K.usable keeper.new) server.old server.new taken None None (K.log keeper.old) (K.log keeper.new)) (W.contents out.old) (W.contents out.new)) }
+    ensures served { OnOk result (Serves at.port (λ taken. MakesPassesWhile (HasUsable K.usable K.log) passes (K.usable keeper.new) server.old server.new taken None None (K.log keeper.old) (K.log keeper.new)) (W.contents out.old) (W.contents out.new)) }
+    ensures stops { IfErr result (ServeStops at.port (K.log keeper.new ≡ K.log keeper.old) (λ taken. MakesPassesWhile (HasUsable K.usable K.log) passes (K.usable keeper.new) server.old server.new taken None None (K.log keeper.old) (K.log keeper.new)) (W.contents out.old) (W.contents out.new)) }
 {
     let Ok(mut wire) = UdpWire::listen_at(rt, at) else {
         return Err(ToolFault::Socket);
@@ -228,12 +202,13 @@ fn folder_of(arguments: &ServeArguments) -> Option<&str> {
     }
 }
 
-// Reports that the folder of the history cannot be opened, and returns the status.
-fn no_history<E: Write>(name: &str, errors: &mut E) -> u8
+// Reports that the folder of the history cannot be opened, with the system's cause on a second line, and returns the
+// status.
+fn no_history<E: Write>(cause: &io::Error, name: &str, errors: &mut E) -> u8
     ensures { result ≡ 2 }
 {
     let _ = writeln!(errors, "tws: {name}: no folder");
-    FAILED
+    report_cause(FAILED, name, cause, errors)
 }
 
 // Makes the turns or rounds of a server at this address of this host, with this keeper, whose name its faults are reported
@@ -326,7 +301,7 @@ fn serve_logged<
     let history = match &arguments.history {
         Some(dir) => match HostHistory::open(rt, dir.as_str()) {
             Ok(history) => Some(history),
-            Err(_) => return no_history(dir.as_str(), errors),
+            Err(cause) => return no_history(&cause, dir.as_str(), errors),
         },
         None => None,
     };
@@ -365,16 +340,11 @@ fn serve_at<
         );
     };
     let name = dir.as_str();
-    let folder = match HostFolder::open(rt, name) {
-        Ok(folder) => folder,
-        Err(fault) => return not_opened(fault, name, errors),
+    let Some(mut keeper) = keeper_of(rt, name, errors) else {
+        return FAILED;
     };
-    let mut keeper = DirKeeper::new(folder);
-    if keeper.clear_drafts().is_err() {
-        return not_writable(keeper.last_error(), name, errors);
-    }
     let Ok(server) = Server::load(alloc, arguments.port, &mut keeper) else {
-        return not_loaded(name, errors);
+        return report_unloaded(alloc, &mut keeper, name, errors);
     };
     let mut keeper = ReportingKeeper::new(keeper, limit, rt, log);
     serve_logged(

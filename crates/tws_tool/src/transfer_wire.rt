@@ -1,0 +1,44 @@
+ghost use Rattle.std.specs.Prelude.{◌≡◌};
+
+use archive_progress::ProgressWire;
+use archive_turns::{MemoryWire, ReadyWire};
+use std::io::Write;
+
+/// A wire that can say why a server refused a transfer, and may show how far one has come.
+pub trait TransferWire: ReadyWire {
+    /// The text of the ERROR that was received last, as far as it was kept; empty if there was none.
+    fn refusal(&self) -> &[u8];
+
+    /// The file that is to be sent has so many bytes.
+    fn expect(&mut self, length: u64)
+        ensures { Self.log self.new ≡ Self.log self.old };
+
+    /// The transfer has ended: nothing more is shown of it.
+    fn finish(&mut self)
+        ensures { Self.log self.new ≡ Self.log self.old };
+}
+
+/// A wire in memory keeps no such text, and shows nothing.
+impl TransferWire for MemoryWire {
+    fn refusal(&self) -> &[u8] {
+        &[]
+    }
+
+    fn expect(&mut self, _length: u64) {}
+
+    fn finish(&mut self) {}
+}
+
+impl<N: TransferWire, W: Write> TransferWire for ProgressWire<N, W> {
+    fn refusal(&self) -> &[u8] {
+        self.wire().refusal()
+    }
+
+    fn expect(&mut self, length: u64) {
+        ProgressWire::expect(self, length);
+    }
+
+    fn finish(&mut self) {
+        ProgressWire::finish(self);
+    }
+}
