@@ -85,7 +85,6 @@ fn make_pass<N: ReadyWire, K: Keeper, O: ServerObserver>(
 }
 
 // Makes these turns or rounds of a server, as long as its keeper is usable. Returns how many files were taken.
-#[tactic(auto, using(crate::proofs::Listening::passes_made))]
 fn make_passes<N: ReadyWire, K: ServedKeeper, O: ServerObserver>(
     wire: &mut N,
     keeper: &mut K,

@@ -1,6 +1,6 @@
-use Rattle.std.proofs.Common.{refl, sym, ◌∙◌}
+use Rattle.std.proofs.Common.{refl, arith, sym, ◌∙◌}
 use Rattle.tws_tool.specs.Commands.Serve.{HasUsable}
-use Rattle.tws_tool.proofs.Listening.{passes_ended, passes_unmade, some_more, some_none}
+use Rattle.tws_tool.proofs.Listening.{passes_ended, passes_made, passes_unmade, some_more, some_none}
 use Rattle.tws_tool.proofs.commands.serve.make_passes.Goals as goal
 
 pub returns-then-not-is_usable-clause-made : goal.returns-then-not-is_usable-clause-made
@@ -20,3 +20,8 @@ pub loop-pass-preserved : goal.loop-pass-preserved
 loop-pass-preserved g c =
     some_more (HasUsable g.K.ServedKeeper.usable g.K.Keeper.log) _ _ _ _ _ _ _ c.loop-pass.invariant c.make_pass-taken.ensures.pass c.make_pass-taken.ensures.few
     (c.make_pass-taken.new.keeper, sym c.is_usable-is_usable.ensures ∙ c.if-not-is_usable-2.false, refl)
+
+pub returns-clause-made : goal.returns-clause-made
+returns-clause-made g c =
+    passes_made (HasUsable g.K.ServedKeeper.usable g.K.Keeper.log) c.args.passes _ c.loop-pass._pass _ _ _ _ _ _ _
+    (omega (arith, c.count_of-pass-end.ensures, c.loop-pass-test.false, c.loop-pass.auto._pass-end)) c.loop-pass.invariant
