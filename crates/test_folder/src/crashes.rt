@@ -8,19 +8,25 @@ use tws_file::Ruleset;
 
 // Keeps NINETY over HUNDRED in a folder that passes this many calls on. Returns the result, and the folder.
 fn keep_with(rt: HostRuntime, calls: u64) -> Result<(Result<(), FolderFault>, MemoryFolder), Fail> {
+    let next = collection(rt, NINETY)?;
     let mut fuse = Fuse::new(folder(rt)?, calls);
-    let result = replace(&mut fuse, Ruleset::Lynx, &collection(rt, NINETY)?);
+    let result = replace(&mut fuse, Ruleset::Lynx, &next);
     Ok((result, fuse.into_folder()))
+}
+
+// Which text a keeper loads that also has the MS collection.
+fn loaded_beside_ms(rt: HostRuntime, keeper: &mut FolderKeeper<MemoryFolder>) -> Result<u8, Fail> {
+    if loads_ms(rt, keeper)? {
+        Ok(loaded(rt, keeper)?)
+    } else {
+        Err(Fail::new("the other collection has changed"))
+    }
 }
 
 // Which text is loaded after a crash at that moment.
 fn left(rt: HostRuntime, folder: MemoryFolder, are_names_lost: bool) -> Result<u8, Fail> {
     let mut keeper = FolderKeeper::new(folder.after_crash(are_names_lost)?);
-    let text = loaded(rt, &mut keeper)?;
-    if !loads_ms(rt, &mut keeper)? {
-        return Err(Fail::new("the other collection has changed"));
-    }
-    Ok(text)
+    loaded_beside_ms(rt, &mut keeper)
 }
 
 // The result of a keep with this many calls, and which text is loaded afterwards: if the changes of names are lost, and
@@ -38,47 +44,73 @@ const UNKNOWN: Result<(), FolderFault> = Err(FolderFault::Unknown);
 
 // The calls are: remove the draft, create it, sync it, rename it, sync the folder.
 #[test]
-fn a_crash_before_the_rename(rt: HostRuntime) -> Result<(), Fail> {
-    assert_eq!(rt; outcome(rt, 0)?, (NOT_KEPT, 1, 1));
-    assert_eq!(rt; outcome(rt, 1)?, (NOT_KEPT, 1, 1));
-    assert_eq!(rt; outcome(rt, 2)?, (NOT_KEPT, 1, 1));
+fn a_crash_at_each_call(rt: HostRuntime) -> Result<(), Fail> {
+    for (calls, left) in [
+        (0, (NOT_KEPT, 1, 1)),
+        (1, (NOT_KEPT, 1, 1)),
+        (2, (NOT_KEPT, 1, 1)),
+        (3, (UNKNOWN, 1, 1)),
+        (4, (UNKNOWN, 1, 2)),
+        (5, (Ok(()), 2, 2)),
+    ] {
+        assert_eq!(rt; outcome(rt, calls)?, left);
+    }
     Ok(())
 }
 
-#[test]
-fn a_crash_after_it(rt: HostRuntime) -> Result<(), Fail> {
-    assert_eq!(rt; outcome(rt, 3)?, (UNKNOWN, 1, 1));
-    assert_eq!(rt; outcome(rt, 4)?, (UNKNOWN, 1, 2));
-    assert_eq!(rt; outcome(rt, 5)?, (Ok(()), 2, 2));
-    Ok(())
+type FusedKeeper = FolderKeeper<Fuse<MemoryFolder>>;
+
+// The results of two keeps, whether the keeper is usable after the first, and how many calls failed.
+fn keep_twice(
+    rt: HostRuntime,
+    keeper: &mut FusedKeeper,
+) -> Result<([Result<(), KeepFault>; 2], bool, u64), Fail> {
+    let first = keep(rt, keeper, NINETY)?;
+    let usable = keeper.is_usable();
+    let second = keep(rt, keeper, NINETY)?;
+    Ok(([first, second], usable, keeper.failures()))
+}
+
+// The same in a folder whose fifth call fails.
+fn kept_twice(rt: HostRuntime) -> Result<([Result<(), KeepFault>; 2], bool, u64), Fail> {
+    let mut keeper = FolderKeeper::new(Fuse::new(folder(rt)?, 4));
+    keep_twice(rt, &mut keeper)
 }
 
 // The folder's sync fails. Then the keeper is not usable, and the next keep fails at once.
 #[test]
 fn an_unknown_outcome_ends_the_keeper(rt: HostRuntime) -> Result<(), Fail> {
-    let mut keeper = FolderKeeper::new(Fuse::new(folder(rt)?, 4));
-    let next = collection(rt, NINETY)?;
-    let first = keeper.keep(Ruleset::Lynx, &next);
-    let usable = keeper.is_usable();
-    let second = keeper.keep(Ruleset::Lynx, &next);
-    assert_eq!(rt;
-        (first, usable, second, keeper.failures()),
-        (Err(KeepFault::Device), false, Err(KeepFault::Device), 2)
-    );
+    assert_eq!(rt; kept_twice(rt)?, ([Err(KeepFault::Device); 2], false, 2));
     Ok(())
 }
 
-// The keeper of a folder that fails at once, after a keep and a load: its results, and how many calls failed.
-fn fails_at_both(rt: HostRuntime) -> Result<(bool, bool, bool, u64), Fail> {
-    let mut keeper = FolderKeeper::new(Fuse::new(folder(rt)?, 0));
-    let kept = keeper.keep(Ruleset::Lynx, &collection(rt, NINETY)?);
-    let loaded = keeper.load(rt.alloc(), Ruleset::Lynx);
+fn fails_to_load(rt: HostRuntime, keeper: &mut FusedKeeper) -> bool {
+    matches!(
+        keeper.load(rt.alloc(), Ruleset::Lynx),
+        Err(KeepFault::Device)
+    )
+}
+
+// A keeper after a keep and a load: whether both failed, whether it is usable, and how many calls failed.
+fn keep_and_load(
+    rt: HostRuntime,
+    keeper: &mut FusedKeeper,
+) -> Result<(bool, bool, bool, u64), Fail> {
+    let kept = keep(rt, keeper, NINETY)?;
+    let has_failed = kept == Err(KeepFault::Device);
+    let is_unloaded = fails_to_load(rt, keeper);
     Ok((
-        kept == Err(KeepFault::Device),
-        matches!(loaded, Err(KeepFault::Device)),
+        has_failed,
+        is_unloaded,
         keeper.is_usable(),
         keeper.failures(),
     ))
+}
+
+// The same of a folder that fails at once.
+fn fails_at_both(rt: HostRuntime) -> Result<(bool, bool, bool, u64), Fail> {
+    let mut keeper = FolderKeeper::new(Fuse::new(folder(rt)?, 0));
+    keep_and_load(rt, &mut keeper)
 }
 
 #[test]
@@ -87,20 +119,25 @@ fn a_folder_that_fails(rt: HostRuntime) -> Result<(), Fail> {
     Ok(())
 }
 
-// A crash leaves a draft. It is not loaded, and the next keep replaces it.
+// What a keeper loads before a keep of NINETY and after it.
+fn load_around(rt: HostRuntime, keeper: &mut FolderKeeper<MemoryFolder>) -> Result<(u8, u8), Fail> {
+    let before = loaded(rt, keeper)?;
+    keep(rt, keeper, NINETY)??;
+    Ok((before, loaded(rt, keeper)?))
+}
+
+// The same of a new keeper over this folder.
+fn loaded_around(rt: HostRuntime, folder: MemoryFolder) -> Result<(u8, u8), Fail> {
+    let mut keeper = FolderKeeper::new(folder);
+    load_around(rt, &mut keeper)
+}
+
+// A crash leaves a draft. It is not loaded, and the next keep replaces it. From an empty folder nothing is loaded.
 #[test]
 fn a_draft_that_is_left(rt: HostRuntime) -> Result<(), Fail> {
     let (_, folder) = keep_with(rt, 3)?;
-    let mut keeper = FolderKeeper::new(folder.after_crash(false)?);
-    let before = loaded(rt, &mut keeper)?;
-    keeper.keep(Ruleset::Lynx, &collection(rt, NINETY)?)?;
-    assert_eq!(rt; (before, loaded(rt, &mut keeper)?), (1, 2));
-    Ok(())
-}
-
-#[test]
-fn an_empty_folder(rt: HostRuntime) -> Result<(), Fail> {
-    let mut keeper = FolderKeeper::new(MemoryFolder::new(rt.alloc()));
-    assert_eq!(rt; loaded(rt, &mut keeper)?, 0);
+    let left = folder.after_crash(false)?;
+    assert_eq!(rt; loaded_around(rt, left)?, (1, 2));
+    assert_eq!(rt; loaded_around(rt, MemoryFolder::new(rt.alloc()))?, (0, 2));
     Ok(())
 }

@@ -96,24 +96,40 @@ impl Folder for FullFolder {
     }
 }
 
-// The result of a keep of NINETY over HUNDRED whose file takes this many bytes, what is loaded then, whether there is a draft, and
-// whether the keeper can still be used.
-fn kept_in(rt: HostRuntime, room: usize) -> Result<(Result<(), KeepFault>, u8, bool, bool), Fail> {
+// Whether there is a draft.
+fn has_draft(rt: HostRuntime, folder: FullFolder) -> Result<bool, KeepFault> {
+    let mut folder = folder;
+    let draft = folder.read(rt.alloc(), FileName::Draft(Ruleset::Lynx))?;
+    Ok(draft.is_some())
+}
+
+// The result of a keep of NINETY over HUNDRED, and what is loaded then.
+fn keep_and_load<K: Keeper>(
+    rt: HostRuntime,
+    keeper: &mut K,
+) -> Result<(Result<(), KeepFault>, u8), Fail> {
+    let result = keep(rt, keeper, NINETY)?;
+    Ok((result, loaded(rt, keeper)?))
+}
+
+// The same in a folder whose files take this many bytes; whether there is a draft, and whether the keeper can still be
+// used.
+fn kept_in(
+    rt: HostRuntime,
+    room: usize,
+) -> Result<((Result<(), KeepFault>, u8), bool, bool), Fail> {
     let folder = folder(rt)?;
     let mut keeper = FolderKeeper::new(FullFolder { folder, room });
-    let result = keeper.keep(Ruleset::Lynx, &collection(rt, NINETY)?);
-    let text = loaded(rt, &mut keeper)?;
+    let kept = keep_and_load(rt, &mut keeper)?;
     let usable = keeper.is_usable();
-    let mut folder = keeper.into_folder();
-    let draft = folder.read(rt.alloc(), FileName::Draft(Ruleset::Lynx))?;
-    Ok((result, text, draft.is_some(), usable))
+    Ok((kept, has_draft(rt, keeper.into_folder())?, usable))
 }
 
 #[test]
 fn a_write_that_fails(rt: HostRuntime) -> Result<(), Fail> {
-    let failed = (Err(KeepFault::Device), 1, false, true);
-    assert_eq!(rt; kept_in(rt, 0)?, failed);
-    assert_eq!(rt; kept_in(rt, 27)?, failed);
-    assert_eq!(rt; kept_in(rt, 28)?, (Ok(()), 2, false, true));
+    let failed = (Err(KeepFault::Device), 1);
+    for (room, kept) in [(0, failed), (27, failed), (28, (Ok(()), 2))] {
+        assert_eq!(rt; kept_in(rt, room)?, (kept, false, true));
+    }
     Ok(())
 }

@@ -8,22 +8,62 @@ use test_samples::{ALICE, DATA_HUNDRED, EMPTY_MS, HUNDRED, NINETY, WRQ};
 use tws_best::Collection;
 use tws_file::{Ruleset, read_file};
 
-// A new folder in the system's temporary one.
-pub(crate) fn folder(rt: &HostRuntime, name: &str) -> Result<String, Fail> {
+// The path of a folder in the system's temporary one.
+fn path_of(rt: &HostRuntime, name: &str) -> Result<String, Fail> {
     let process = process::id(rt.process());
     let name = format!(in rt.alloc(); "tws-host-{process}-{name}")?;
-    let path = env::temp_dir(rt)?.join(rt.alloc(), name.as_str())?;
-    fs::create_dir(rt, path.as_path())?;
-    Ok(path.into_string())
+    Ok(
+        env::temp_dir(rt)?
+            .join(rt.alloc(), name.as_str())?
+            .into_string(),
+    )
+}
+
+// A new folder there.
+pub(crate) fn folder(rt: &HostRuntime, name: &str) -> Result<String, Fail> {
+    let path = path_of(rt, name)?;
+    fs::create_dir(rt, path.as_str())?;
+    Ok(path)
+}
+
+// Removes a folder with all that it has.
+pub(crate) fn remove(rt: &HostRuntime, dir: String) -> Result<(), Fail> {
+    fs::remove_dir_all(rt, dir.as_str())?;
+    Ok(())
 }
 
 pub(crate) fn file_in(rt: &HostRuntime, dir: &str, name: &str) -> Result<String, Fail> {
     Ok(format!(in rt.alloc(); "{dir}/{name}")?)
 }
 
+// Writes a file of these bytes in a folder.
+pub(crate) fn write_in(rt: &HostRuntime, dir: &str, name: &str, bytes: &[u8]) -> Result<(), Fail> {
+    let path = file_in(rt, dir, name)?;
+    fs::write(rt, path.as_str(), bytes)?;
+    Ok(())
+}
+
+// Whether a file of a folder has these bytes.
+pub(crate) fn is_in(rt: &HostRuntime, dir: &str, name: &str, bytes: &[u8]) -> Result<bool, Fail> {
+    let path = file_in(rt, dir, name)?;
+    let found = fs::read(rt, path.as_str())?;
+    Ok(found.as_slice() == bytes)
+}
+
+// Whether a folder has no file of this name.
+fn is_missing(rt: &HostRuntime, dir: &str, name: &str) -> Result<bool, Fail> {
+    let path = file_in(rt, dir, name)?;
+    Ok(fs::metadata(rt, path.as_str()).is_err())
+}
+
 pub(crate) fn keeper_of(rt: HostRuntime, dir: &str) -> Result<DirKeeper<HostRuntime>, Fail> {
     let folder = HostFolder::open(rt, dir)?;
     Ok(DirKeeper::new(folder))
+}
+
+fn collection(rt: HostRuntime, text: &[u8]) -> Result<Collection, Fail> {
+    let file = read_file(rt.alloc(), text)?;
+    Ok(Collection::load(rt.alloc(), &file)?)
 }
 
 // Keeps the Lynx collection of a file. Returns the keeper's result.
@@ -32,8 +72,7 @@ pub(crate) fn keep(
     keeper: &mut DirKeeper<HostRuntime>,
     text: &[u8],
 ) -> Result<Result<(), KeepFault>, Fail> {
-    let file = read_file(rt.alloc(), text)?;
-    let collection = Collection::load(rt.alloc(), &file)?;
+    let collection = collection(rt, text)?;
     Ok(keeper.keep(Ruleset::Lynx, &collection))
 }
 
@@ -57,62 +96,81 @@ fn loads_none(
     Ok(keeper.load(rt.alloc(), ruleset)?.is_none())
 }
 
-// Whether a keeper over a new folder loads nothing, keeps the first file and loads it, and keeps the second.
-fn keeps_both(rt: HostRuntime, dir: &str) -> Result<bool, Fail> {
-    let mut keeper = keeper_of(rt, dir)?;
-    let empty = loads_none(rt, &mut keeper, Ruleset::Lynx)?;
-    let first = keep(rt, &mut keeper, HUNDRED)?;
-    let loaded = loads(rt, &mut keeper, Ruleset::Lynx, HUNDRED)?;
-    let second = keep(rt, &mut keeper, NINETY)?;
+// Whether a keeper loads nothing, keeps the first file and loads it, and keeps the second.
+fn keeps_both(rt: HostRuntime, keeper: &mut DirKeeper<HostRuntime>) -> Result<bool, Fail> {
+    let empty = loads_none(rt, keeper, Ruleset::Lynx)?;
+    let first = keep(rt, keeper, HUNDRED)?;
+    let loaded = loads(rt, keeper, Ruleset::Lynx, HUNDRED)?;
+    let second = keep(rt, keeper, NINETY)?;
     Ok(empty && first.is_ok() && loaded && second.is_ok() && keeper.failures() == 0)
 }
 
-// Whether another keeper over that folder loads the second file, and nothing of the other ruleset.
-fn loads_the_second(rt: HostRuntime, dir: &str) -> Result<bool, Fail> {
-    let mut keeper = keeper_of(rt, dir)?;
-    let second = loads(rt, &mut keeper, Ruleset::Lynx, NINETY)?;
-    let none = loads_none(rt, &mut keeper, Ruleset::Ms)?;
+// Whether a keeper loads the second file, and nothing of the other ruleset.
+fn loads_the_second(rt: HostRuntime, keeper: &mut DirKeeper<HostRuntime>) -> Result<bool, Fail> {
+    let second = loads(rt, keeper, Ruleset::Lynx, NINETY)?;
+    let none = loads_none(rt, keeper, Ruleset::Ms)?;
     Ok(second && none && keeper.failures() == 0)
 }
 
-// Whether the folder has the second file, and none that was not renamed.
-fn has_the_second(rt: HostRuntime, dir: &str) -> Result<bool, Fail> {
-    let kept = file_in(&rt, dir, "lynx.tws")?;
-    let new = file_in(&rt, dir, "lynx.new")?;
-    let text = fs::read(&rt, kept.as_str())?;
-    Ok(text.as_slice() == NINETY.as_slice() && fs::metadata(&rt, new.as_str()).is_err())
+fn folder_keeps_both(rt: HostRuntime, dir: &str) -> Result<bool, Fail> {
+    let mut keeper = keeper_of(rt, dir)?;
+    keeps_both(rt, &mut keeper)
+}
+
+fn folder_loads_the_second(rt: HostRuntime, dir: &str) -> Result<bool, Fail> {
+    let mut keeper = keeper_of(rt, dir)?;
+    loads_the_second(rt, &mut keeper)
+}
+
+// Whether a keeper over this folder keeps both files, another one over it loads the second, and the folder has that one,
+// and none that was not renamed.
+fn keeps_the_last(rt: HostRuntime, dir: &str) -> Result<[bool; 4], Fail> {
+    Ok([
+        folder_keeps_both(rt, dir)?,
+        folder_loads_the_second(rt, dir)?,
+        is_in(&rt, dir, "lynx.tws", NINETY)?,
+        is_missing(&rt, dir, "lynx.new")?,
+    ])
 }
 
 #[test]
 fn a_folder_keeps_the_last_collection(rt: HostRuntime) -> Result<(), Fail> {
     let dir = folder(&rt, "keeps")?;
-    let kept = keeps_both(rt, &dir)?;
-    let loaded = loads_the_second(rt, &dir)?;
-    assert_eq!(rt;
-        (kept, loaded, has_the_second(rt, &dir)?),
-        (true, true, true)
-    );
-    fs::remove_dir_all(&rt, dir.as_str())?;
+    let kept = keeps_the_last(rt, &dir)?;
+    remove(&rt, dir)?;
+    assert_eq!(rt; kept, [true; 4]);
     Ok(())
 }
 
-// Whether a keeper loads nothing from this folder, keeps an empty collection, and loads that.
-fn keeps_an_empty_one(rt: HostRuntime, dir: &str) -> Result<bool, Fail> {
+fn keep_empty(rt: HostRuntime, keeper: &mut DirKeeper<HostRuntime>) -> Result<(), KeepFault> {
+    keeper.keep(Ruleset::Ms, &Collection::new(rt.alloc(), Ruleset::Ms))
+}
+
+// Whether a keeper loads nothing, keeps an empty collection, and loads that.
+fn keeps_an_empty_one(rt: HostRuntime, keeper: &mut DirKeeper<HostRuntime>) -> Result<bool, Fail> {
+    let none = loads_none(rt, keeper, Ruleset::Ms)?;
+    keep_empty(rt, keeper)?;
+    Ok(none && loads(rt, keeper, Ruleset::Ms, EMPTY_MS)?)
+}
+
+fn folder_keeps_an_empty_one(rt: HostRuntime, dir: &str) -> Result<bool, Fail> {
     let mut keeper = keeper_of(rt, dir)?;
-    let none = loads_none(rt, &mut keeper, Ruleset::Ms)?;
-    keeper.keep(Ruleset::Ms, &Collection::new(rt.alloc(), Ruleset::Ms))?;
-    Ok(none && loads(rt, &mut keeper, Ruleset::Ms, EMPTY_MS)?)
+    keeps_an_empty_one(rt, &mut keeper)
+}
+
+// Whether that is so in a folder with a file that was not renamed, which is gone afterwards.
+fn replaces_a_stale_file(rt: HostRuntime, dir: &str) -> Result<(bool, bool), Fail> {
+    write_in(&rt, dir, "ms.new", &[7; 100])?;
+    let is_kept = folder_keeps_an_empty_one(rt, dir)?;
+    Ok((is_kept, is_missing(&rt, dir, "ms.new")?))
 }
 
 #[test]
 fn a_new_file_that_is_left_is_harmless(rt: HostRuntime) -> Result<(), Fail> {
     let dir = folder(&rt, "stale")?;
-    let stale = file_in(&rt, &dir, "ms.new")?;
-    fs::write(&rt, stale.as_str(), [7u8; 100].as_slice())?;
-    let is_kept = keeps_an_empty_one(rt, &dir)?;
-    let is_gone = fs::metadata(&rt, stale.as_str()).is_err();
-    fs::remove_dir_all(&rt, dir.as_str())?;
-    assert_eq!(rt; (is_kept, is_gone), (true, true));
+    let replaced = replaces_a_stale_file(rt, &dir)?;
+    remove(&rt, dir)?;
+    assert_eq!(rt; replaced, (true, true));
     Ok(())
 }
 
@@ -124,12 +182,16 @@ fn fails_to_keep(rt: HostRuntime, keeper: &mut DirKeeper<HostRuntime>) -> Result
     Ok(kept == Err(KeepFault::Device) && counted && none)
 }
 
-// Whether a load and a keep fail if the collection's file is a folder.
-fn fails_at_both(rt: HostRuntime, keeper: &mut DirKeeper<HostRuntime>) -> Result<bool, Fail> {
-    let loaded = matches!(
+pub(crate) fn fails_to_load(rt: HostRuntime, keeper: &mut DirKeeper<HostRuntime>) -> bool {
+    matches!(
         keeper.load(rt.alloc(), Ruleset::Lynx),
         Err(KeepFault::Device)
-    );
+    )
+}
+
+// Whether a load and a keep fail if the collection's file is a folder.
+fn fails_at_both(rt: HostRuntime, keeper: &mut DirKeeper<HostRuntime>) -> Result<bool, Fail> {
+    let loaded = fails_to_load(rt, keeper);
     let kept = keep(rt, keeper, HUNDRED)?;
     Ok(loaded && kept == Err(KeepFault::Device) && keeper.failures() == 3)
 }
@@ -137,25 +199,34 @@ fn fails_at_both(rt: HostRuntime, keeper: &mut DirKeeper<HostRuntime>) -> Result
 // Makes a folder with a folder in the place of the collection's file.
 fn obstruct(rt: &HostRuntime, dir: &str) -> Result<(), Fail> {
     fs::create_dir(rt, dir)?;
-    fs::create_dir(rt, file_in(rt, dir, "lynx.tws")?.as_str())?;
+    let file = file_in(rt, dir, "lynx.tws")?;
+    fs::create_dir(rt, file.as_str())?;
     Ok(())
 }
 
-// Whether the calls fail as above once the folder is removed, and then with a folder in the place of the collection's
-// file.
-fn fails_twice(rt: HostRuntime, dir: &str) -> Result<(bool, bool), Fail> {
-    let mut keeper = keeper_of(rt, dir)?;
+// Whether the calls of a keeper over this folder fail as above once the folder is removed, and then with a folder in the
+// place of the collection's file.
+fn fails_twice(
+    rt: HostRuntime,
+    dir: &str,
+    keeper: &mut DirKeeper<HostRuntime>,
+) -> Result<(bool, bool), Fail> {
     fs::remove_dir_all(&rt, dir)?;
-    let without = fails_to_keep(rt, &mut keeper)?;
+    let without = fails_to_keep(rt, keeper)?;
     obstruct(&rt, dir)?;
-    Ok((without, fails_at_both(rt, &mut keeper)?))
+    Ok((without, fails_at_both(rt, keeper)?))
+}
+
+fn folder_fails_twice(rt: HostRuntime, dir: &str) -> Result<(bool, bool), Fail> {
+    let mut keeper = keeper_of(rt, dir)?;
+    fails_twice(rt, dir, &mut keeper)
 }
 
 #[test]
 fn a_folder_that_fails(rt: HostRuntime) -> Result<(), Fail> {
     let dir = folder(&rt, "fails")?;
-    let failed = fails_twice(rt, &dir)?;
-    fs::remove_dir_all(&rt, dir.as_str())?;
+    let failed = folder_fails_twice(rt, &dir)?;
+    remove(&rt, dir)?;
     assert_eq!(rt; failed, (true, true));
     Ok(())
 }
@@ -176,23 +247,32 @@ fn taken(rt: HostRuntime, dir: &str) -> Result<u64, Fail> {
     Ok(serve_turns(&mut wire, &mut keeper, &mut server, 2))
 }
 
-// The Lynx collection of a server that loads this folder.
-fn loaded(rt: HostRuntime, dir: &str) -> Result<Vec<u8>, Fail> {
-    let server = Server::load(rt.alloc(), 6969, &mut keeper_of(rt, dir)?)?;
+// Whether this is the Lynx collection of a server.
+fn has_text(rt: HostRuntime, server: &Server, wanted: &[u8]) -> bool {
     let mut text = Vec::new(rt.alloc());
-    server
-        .table()
-        .collection(Ruleset::Lynx)
-        .write_text(&mut text)?;
-    Ok(text)
+    let collection = server.table().collection(Ruleset::Lynx);
+    collection.write_text(&mut text).is_ok() && text.as_slice() == wanted
+}
+
+// Whether a server that loads this folder has the file.
+fn has_loaded(rt: HostRuntime, dir: &str) -> Result<bool, Fail> {
+    let mut keeper = keeper_of(rt, dir)?;
+    match Server::load(rt.alloc(), 6969, &mut keeper) {
+        Ok(server) => Ok(has_text(rt, &server, HUNDRED)),
+        Err(_fault) => Ok(false),
+    }
+}
+
+fn taken_and_loaded(rt: HostRuntime, dir: &str) -> Result<(u64, bool), Fail> {
+    let taken = taken(rt, dir)?;
+    Ok((taken, has_loaded(rt, dir)?))
 }
 
 #[test]
 fn a_restart_finds_what_was_taken(rt: HostRuntime) -> Result<(), Fail> {
     let dir = folder(&rt, "restart")?;
-    let taken = taken(rt, &dir)?;
-    let loaded = loaded(rt, &dir)?;
-    fs::remove_dir_all(&rt, dir.as_str())?;
-    assert_eq!(rt; (taken, loaded.as_slice()), (1, HUNDRED.as_slice()));
+    let found = taken_and_loaded(rt, &dir)?;
+    remove(&rt, dir)?;
+    assert_eq!(rt; found, (1, true));
     Ok(())
 }

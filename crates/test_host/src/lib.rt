@@ -6,6 +6,8 @@ mod folders;
 #[cfg(test)]
 mod obstacles;
 #[cfg(test)]
+mod pairs;
+#[cfg(test)]
 mod ports;
 #[cfg(test)]
 mod wires;

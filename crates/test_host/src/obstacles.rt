@@ -10,23 +10,23 @@ use test_samples::{HUNDRED, NINETY};
 use tws_file::Ruleset;
 
 // Why a folder cannot be opened, if it cannot.
-fn open_fault(rt: HostRuntime, dir: &str) -> Result<Option<OpenFault>, Fail> {
-    Ok(HostFolder::open(rt, dir).err())
+fn open_fault(rt: HostRuntime, dir: &str) -> Option<OpenFault> {
+    HostFolder::open(rt, dir).err()
 }
 
 // The faults of no name, of a name that is missing, and of the name of a file.
 fn no_folders(rt: HostRuntime, dir: &str) -> Result<[Option<OpenFault>; 3], Fail> {
     let name = file_in(&rt, dir, "name")?;
-    let missing = open_fault(rt, name.as_str())?;
-    fs::write(&rt, name.as_str(), HUNDRED.as_slice())?;
-    Ok([open_fault(rt, "")?, missing, open_fault(rt, name.as_str())?])
+    let missing = open_fault(rt, name.as_str());
+    write_in(&rt, dir, "name", HUNDRED)?;
+    Ok([open_fault(rt, ""), missing, open_fault(rt, name.as_str())])
 }
 
 #[test]
 fn what_is_no_folder(rt: HostRuntime) -> Result<(), Fail> {
     let dir = folder(&rt, "none")?;
     let faults = no_folders(rt, &dir)?;
-    fs::remove_dir_all(&rt, dir.as_str())?;
+    remove(&rt, dir)?;
     assert_eq!(rt; faults, [Some(OpenFault::NoFolder); 3]);
     Ok(())
 }
@@ -34,81 +34,126 @@ fn what_is_no_folder(rt: HostRuntime) -> Result<(), Fail> {
 // Why a folder cannot be opened while a keeper has it, and after that.
 fn opened_twice(rt: HostRuntime, dir: &str) -> Result<Option<OpenFault>, Fail> {
     let _keeper = keeper_of(rt, dir)?;
-    open_fault(rt, dir)
+    Ok(open_fault(rt, dir))
 }
 
 #[test]
 fn a_folder_is_locked(rt: HostRuntime) -> Result<(), Fail> {
     let dir = folder(&rt, "locked")?;
     let during = opened_twice(rt, &dir)?;
-    let after = open_fault(rt, &dir)?;
-    fs::remove_dir_all(&rt, dir.as_str())?;
+    let after = open_fault(rt, &dir);
+    remove(&rt, dir)?;
     assert_eq!(rt; (during, after), (Some(OpenFault::InUse), None));
     Ok(())
 }
 
-// Makes a file with HUNDRED outside the names of the keeper, and a link to it of this name.
-fn link(rt: &HostRuntime, dir: &str, name: &str) -> Result<(), Fail> {
-    let target = file_in(rt, dir, "target")?;
-    fs::write(rt, target.as_str(), HUNDRED.as_slice())?;
-    symlink(rt, target.as_str(), file_in(rt, dir, name)?.as_str())?;
+// Makes a link of this name to a file outside the names of the keeper.
+fn link_to(rt: &HostRuntime, target: &str, dir: &str, name: &str) -> Result<(), Fail> {
+    let link = file_in(rt, dir, name)?;
+    symlink(rt, target, link.as_str())?;
     Ok(())
 }
 
-// Whether that file is as it was.
-fn is_untouched(rt: &HostRuntime, dir: &str) -> Result<bool, Fail> {
-    let text = fs::read(rt, file_in(rt, dir, "target")?.as_str())?;
-    Ok(text.as_slice() == HUNDRED.as_slice())
+// The same to a new file with HUNDRED.
+fn link(rt: &HostRuntime, dir: &str, name: &str) -> Result<(), Fail> {
+    write_in(rt, dir, "target", HUNDRED)?;
+    let target = file_in(rt, dir, "target")?;
+    link_to(rt, target.as_str(), dir, name)
 }
 
-// Whether a load and a keep fail where the collection's file is a link.
+// Whether a load and a keep of this keeper fail.
+fn fails_at_both(rt: HostRuntime, keeper: &mut DirKeeper<HostRuntime>) -> Result<bool, Fail> {
+    let loaded = fails_to_load(rt, keeper);
+    let kept = keep(rt, keeper, NINETY)?;
+    Ok(loaded && kept == Err(KeepFault::Device))
+}
+
+// The same where the collection's file is a link.
 fn refuses_a_link(rt: HostRuntime, dir: &str) -> Result<bool, Fail> {
     link(&rt, dir, "lynx.tws")?;
     let mut keeper = keeper_of(rt, dir)?;
-    let loaded = matches!(
-        keeper.load(rt.alloc(), Ruleset::Lynx),
-        Err(KeepFault::Device)
-    );
-    let kept = keep(rt, &mut keeper, NINETY)?;
-    Ok(loaded && kept == Err(KeepFault::Device) && is_untouched(&rt, dir)?)
+    fails_at_both(rt, &mut keeper)
 }
 
-// Whether a keep replaces a link in the place of the draft.
+// Whether this keeper keeps the file and loads it.
+fn keeps_and_loads(rt: HostRuntime, keeper: &mut DirKeeper<HostRuntime>) -> Result<bool, Fail> {
+    let kept = keep(rt, keeper, NINETY)?;
+    Ok(kept.is_ok() && loads(rt, keeper, Ruleset::Lynx, NINETY)?)
+}
+
+// The same where the draft is a link.
 fn replaces_a_link(rt: HostRuntime, dir: &str) -> Result<bool, Fail> {
     link(&rt, dir, "lynx.new")?;
     let mut keeper = keeper_of(rt, dir)?;
-    let kept = keep(rt, &mut keeper, NINETY)?;
-    let loaded = loads(rt, &mut keeper, Ruleset::Lynx, NINETY)?;
-    Ok(kept.is_ok() && loaded && is_untouched(&rt, dir)?)
+    keeps_and_loads(rt, &mut keeper)
+}
+
+// Whether a keep refuses the one and replaces the other, each in a folder of its own, and leaves what the link leads to.
+fn withstands_links(rt: HostRuntime, collection: &str, draft: &str) -> Result<[bool; 4], Fail> {
+    Ok([
+        refuses_a_link(rt, collection)?,
+        is_in(&rt, collection, "target", HUNDRED)?,
+        replaces_a_link(rt, draft)?,
+        is_in(&rt, draft, "target", HUNDRED)?,
+    ])
+}
+
+fn withstands_links_beside(rt: HostRuntime, collection: &str) -> Result<[bool; 4], Fail> {
+    let draft = folder(&rt, "draft-link")?;
+    let found = withstands_links(rt, collection, &draft)?;
+    remove(&rt, draft)?;
+    Ok(found)
 }
 
 #[test]
 fn nothing_is_written_through_a_link(rt: HostRuntime) -> Result<(), Fail> {
     let collection = folder(&rt, "link")?;
-    let draft = folder(&rt, "draft-link")?;
-    let refused = refuses_a_link(rt, &collection)?;
-    let replaced = replaces_a_link(rt, &draft)?;
-    fs::remove_dir_all(&rt, collection.as_str())?;
-    fs::remove_dir_all(&rt, draft.as_str())?;
-    assert_eq!(rt; (refused, replaced), (true, true));
+    let found = withstands_links_beside(rt, &collection)?;
+    remove(&rt, collection)?;
+    assert_eq!(rt; found, [true; 4]);
     Ok(())
 }
 
-// The permissions of the collection's file once it was replaced. At first they are set to these.
+fn set_mode(rt: &HostRuntime, dir: &str, mode: u32) -> Result<(), Fail> {
+    let file = file_in(rt, dir, "lynx.tws")?;
+    fs::set_permissions(rt, file.as_str(), Permissions::from_mode(mode))?;
+    Ok(())
+}
+
+fn mode_of(rt: &HostRuntime, dir: &str) -> Result<u32, Fail> {
+    let file = file_in(rt, dir, "lynx.tws")?;
+    Ok(fs::metadata(rt, file.as_str())?.permissions().mode() & 0o777)
+}
+
+// Replaces the collection's file of a folder, whose permissions are set to these before.
+fn replace_with_mode(
+    rt: HostRuntime,
+    dir: &str,
+    mode: u32,
+    keeper: &mut DirKeeper<HostRuntime>,
+) -> Result<(), Fail> {
+    keep(rt, keeper, HUNDRED)??;
+    set_mode(&rt, dir, mode)?;
+    keep(rt, keeper, NINETY)??;
+    Ok(())
+}
+
+fn replace_in(rt: HostRuntime, dir: &str, mode: u32) -> Result<(), Fail> {
+    let mut keeper = keeper_of(rt, dir)?;
+    replace_with_mode(rt, dir, mode, &mut keeper)
+}
+
+// The permissions of that file afterwards.
 fn permissions_after(rt: HostRuntime, dir: &str, mode: u32) -> Result<u32, Fail> {
-    let mut keeper: DirKeeper<HostRuntime> = keeper_of(rt, dir)?;
-    keep(rt, &mut keeper, HUNDRED)??;
-    let file = file_in(&rt, dir, "lynx.tws")?;
-    fs::set_permissions(&rt, file.as_str(), Permissions::from_mode(mode))?;
-    keep(rt, &mut keeper, NINETY)??;
-    Ok(fs::metadata(&rt, file.as_str())?.permissions().mode() & 0o777)
+    replace_in(rt, dir, mode)?;
+    mode_of(&rt, dir)
 }
 
 #[test]
 fn permissions_stay(rt: HostRuntime) -> Result<(), Fail> {
     let dir = folder(&rt, "permissions")?;
     let mode = permissions_after(rt, &dir, 0o604)?;
-    fs::remove_dir_all(&rt, dir.as_str())?;
+    remove(&rt, dir)?;
     assert_eq!(rt; mode, 0o604);
     Ok(())
 }

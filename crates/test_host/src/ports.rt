@@ -1,7 +1,6 @@
 // The ports that a wire opens.
 use archive_host::UdpWire;
 use archive_turns::{Wire, WireFault};
-use std::test::Fail;
 
 // The least port for private use, RFC 6335 section 6. The greatest is 65535.
 const FIRST: u16 = 49152;
@@ -50,32 +49,48 @@ fn do_rise(ports: &[u16; 20]) -> bool {
     true
 }
 
+// Whether twenty ports that a wire opens are apart, and whether they rise; and how many calls failed.
+fn draw(wire: &mut UdpWire<HostRuntime>) -> Result<(bool, bool, u64), WireFault> {
+    let mut ports = [0; 20];
+    open_all(wire, &mut ports)?;
+    Ok((are_apart(&ports), do_rise(&ports), wire.failures()))
+}
+
 // Who knows a port cannot tell the next one: of twenty drawn ones, one order in 20! rises.
 #[test]
-fn ports_are_drawn(rt: HostRuntime) -> Result<(), Fail> {
+fn ports_are_drawn(rt: HostRuntime) {
     let mut wire = UdpWire::new(rt);
-    let mut ports = [0; 20];
-    open_all(&mut wire, &mut ports)?;
-    assert_eq!(rt;
-        (are_apart(&ports), do_rise(&ports), wire.failures()),
-        (true, false, 0)
-    );
-    Ok(())
+    let drawn = draw(&mut wire);
+    assert_eq!(rt; drawn, Ok((true, false, 0)));
+}
+
+// A port that a wire opens while another socket has this one. If that fails, a socket of another program has it.
+fn open_beside(
+    rt: HostRuntime,
+    wire: &mut UdpWire<HostRuntime>,
+    taken: u16,
+) -> Result<u16, WireFault> {
+    let _other = UdpWire::listen(rt, taken);
+    wire.open()
+}
+
+// Whether a port that was closed unused is the next one, and whether it is also when it is another socket's; and how many
+// calls failed.
+fn open_again(
+    rt: HostRuntime,
+    wire: &mut UdpWire<HostRuntime>,
+) -> Result<(bool, bool, u64), WireFault> {
+    let unused = past_port(wire)?;
+    let again = past_port(wire)?;
+    let port = open_beside(rt, wire, unused)?;
+    Ok((again == unused, port == unused, wire.failures()))
 }
 
 // A port that was closed unused is the next one. When it is another socket's by then, the wire opens another, and that
 // is no failure.
 #[test]
-fn a_port_in_use_is_passed_over(rt: HostRuntime) -> Result<(), Fail> {
+fn a_port_in_use_is_passed_over(rt: HostRuntime) {
     let mut wire = UdpWire::new(rt);
-    let unused = past_port(&mut wire)?;
-    let again = past_port(&mut wire)?;
-    // If this fails, a socket of another program has the port.
-    let _other = UdpWire::listen(rt, unused);
-    let port = wire.open()?;
-    assert_eq!(rt;
-        (again == unused, port == unused, wire.failures()),
-        (true, false, 0)
-    );
-    Ok(())
+    let opened = open_again(rt, &mut wire);
+    assert_eq!(rt; opened, Ok((true, false, 0)));
 }

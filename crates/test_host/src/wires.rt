@@ -9,17 +9,14 @@ use std::net::{Ipv4Addr, SocketAddr, UdpSocket};
 use std::test::Fail;
 use std::time::Instant;
 use test_samples::HUNDRED;
-use tftp_packet::{Endpoint, Out, Packet, decode, encode_ack};
+use tftp_packet::{Endpoint, Out, encode_ack};
 use tws_file::Ruleset;
-
-// The result of a read of a port: the number of an ACK's block, and where the ACK came from.
-type Came = Option<(u16, Endpoint)>;
 
 // The loopback address of this host, 127.0.0.1.
 const LOOPBACK: u32 = 0x7F00_0001;
 
 // A port of this host.
-fn loopback(port: u16) -> Endpoint {
+pub(crate) fn loopback(port: u16) -> Endpoint {
     Endpoint {
         host: LOOPBACK,
         port,
@@ -27,7 +24,7 @@ fn loopback(port: u16) -> Endpoint {
 }
 
 // A wire that listens, and its port.
-fn listening(rt: HostRuntime) -> Result<(UdpWire<HostRuntime>, u16), Fail> {
+pub(crate) fn listening(rt: HostRuntime) -> Result<(UdpWire<HostRuntime>, u16), Fail> {
     for port in 47000..48000u16 {
         if let Ok(wire) = UdpWire::listen(rt, port) {
             return Ok((wire, port));
@@ -36,7 +33,7 @@ fn listening(rt: HostRuntime) -> Result<(UdpWire<HostRuntime>, u16), Fail> {
     Err(Fail::new("no port is free"))
 }
 
-fn ack(from_port: u16, to: u16, block: u16) -> Out {
+pub(crate) fn ack(from_port: u16, to: u16, block: u16) -> Out {
     Out {
         from_port,
         to: loopback(to),
@@ -102,10 +99,11 @@ fn connected(rt: HostRuntime) -> Result<(Ends, Endpoint), Fail> {
 }
 
 // Whether the server takes a put of the file.
-fn puts_the_file(rt: HostRuntime, ends: &mut Ends, server: Endpoint) -> Result<bool, Fail> {
-    let file = Vec::from_slice(rt.alloc(), HUNDRED)?;
-    let sent = run_put(ends, server, file, 100);
-    Ok(sent == Ok(28) && ends.taken)
+fn puts_the_file(rt: HostRuntime, ends: &mut Ends, server: Endpoint) -> bool {
+    match Vec::from_slice(rt.alloc(), HUNDRED) {
+        Ok(file) => run_put(ends, server, file, 100) == Ok(28) && ends.taken,
+        Err(_fault) => false,
+    }
 }
 
 // Whether a get fetches the file.
@@ -118,7 +116,7 @@ fn gets_the_file(rt: HostRuntime, ends: &mut Ends, server: Endpoint) -> bool {
 // Whether a put and a get succeed, and how many calls of either wire failed.
 fn put_and_get(rt: HostRuntime) -> Result<(bool, bool, u64, u64), Fail> {
     let (mut ends, server) = connected(rt)?;
-    let put = puts_the_file(rt, &mut ends, server)?;
+    let put = puts_the_file(rt, &mut ends, server);
     let got = gets_the_file(rt, &mut ends, server);
     Ok((put, got, ends.failures(), ends.wire.failures()))
 }
@@ -129,53 +127,100 @@ fn loopback_put_get(rt: HostRuntime) -> Result<(), Fail> {
     Ok(())
 }
 
+// Why a wire does not listen at a port that another one has.
+fn taken_port(rt: HostRuntime) -> Result<Option<WireFault>, Fail> {
+    let (_other, taken) = listening(rt)?;
+    Ok(UdpWire::listen(rt, taken).err())
+}
+
 #[test]
 fn a_taken_port_is_not_opened(rt: HostRuntime) -> Result<(), Fail> {
-    let (_other, taken) = listening(rt)?;
-    assert!(rt; matches!(UdpWire::listen(rt, taken), Err(WireFault::Open)));
+    assert_eq!(rt; taken_port(rt)?, Some(WireFault::Open));
     Ok(())
+}
+
+// What a close of a port that is not open, a send from it and a receive there return, and how many calls failed.
+fn fail_at_a_closed_port(
+    wire: &mut UdpWire<HostRuntime>,
+    taken: u16,
+) -> (Result<(), WireFault>, Result<(), WireFault>, bool, u64) {
+    let closed = wire.close(5);
+    let sent = wire.send(&ack(5, taken, 1));
+    let received = wire.receive(5, &mut [0; RECEIVE_SIZE]);
+    (
+        closed,
+        sent,
+        received == Err(WireFault::Receive),
+        wire.failures(),
+    )
+}
+
+// What a send from a port that was open returns, and how many calls failed.
+fn send_from_past_port(
+    wire: &mut UdpWire<HostRuntime>,
+    taken: u16,
+) -> Result<(Result<(), WireFault>, u64), WireFault> {
+    let port = past_port(wire)?;
+    let sent = wire.send(&ack(port, taken, 1));
+    Ok((sent, wire.failures()))
+}
+
+// Whether these calls fail, and each is counted, beside a port that is taken.
+fn are_counted(rt: HostRuntime) -> Result<(bool, bool), Fail> {
+    let (_other, taken) = listening(rt)?;
+    let mut wire = UdpWire::new(rt);
+    let first = fail_at_a_closed_port(&mut wire, taken);
+    let second = send_from_past_port(&mut wire, taken);
+    Ok((
+        first == (Err(WireFault::Close), Err(WireFault::Send), true, 3),
+        second == Ok((Err(WireFault::Send), 4)),
+    ))
 }
 
 #[test]
 fn calls_that_fail_are_counted(rt: HostRuntime) -> Result<(), Fail> {
-    let (_other, taken) = listening(rt)?;
-    let mut wire = UdpWire::new(rt);
-    let closed = wire.close(5);
-    let sent = wire.send(&ack(5, taken, 1));
-    let received = wire.receive(5, &mut [0; RECEIVE_SIZE]);
-    assert_eq!(rt;
-        (closed, sent),
-        (Err(WireFault::Close), Err(WireFault::Send))
-    );
-    assert_eq!(rt; (received, wire.failures()), (Err(WireFault::Receive), 3));
-    let port = past_port(&mut wire)?;
-    let sent = wire.send(&ack(port, taken, 1));
-    assert_eq!(rt; (sent, wire.failures()), (Err(WireFault::Send), 4));
+    assert_eq!(rt; are_counted(rt)?, (true, true));
     Ok(())
 }
 
-// No datagram goes to port 0, and none to all hosts at once without leave.
-#[test]
-fn addresses_that_the_system_refuses(rt: HostRuntime) -> Result<(), Fail> {
-    let (_other, taken) = listening(rt)?;
-    let mut wire = UdpWire::new(rt);
+fn send_to(wire: &mut UdpWire<HostRuntime>, from_port: u16, to: Endpoint) -> Result<(), WireFault> {
+    wire.send(&Out {
+        from_port,
+        to,
+        dgram: encode_ack(1),
+    })
+}
+
+// The results of sends to port 0, to all hosts at once, and to a port that is taken, and how many calls had failed before
+// the last of them and after it.
+fn send_to_each(
+    wire: &mut UdpWire<HostRuntime>,
+    taken: u16,
+) -> Result<([Result<(), WireFault>; 3], u64, u64), WireFault> {
     let from_port = wire.open()?;
     let everyone = Endpoint {
         host: u32::MAX,
         port: taken,
     };
-    for to in [loopback(0), everyone] {
-        let dgram = encode_ack(1);
-        let out = Out {
-            from_port,
-            to,
-            dgram,
-        };
-        assert_eq!(rt; wire.send(&out), Err(WireFault::Send));
-    }
-    assert_eq!(rt; wire.failures(), 2);
-    let sent = wire.send(&ack(from_port, taken, 1));
-    assert_eq!(rt; (sent, wire.failures()), (Ok(()), 2));
+    let to_0 = send_to(wire, from_port, loopback(0));
+    let to_everyone = send_to(wire, from_port, everyone);
+    let before = wire.failures();
+    let to_taken = send_to(wire, from_port, loopback(taken));
+    Ok(([to_0, to_everyone, to_taken], before, wire.failures()))
+}
+
+// Whether the first two fail, and both are counted.
+fn are_refused(rt: HostRuntime) -> Result<bool, Fail> {
+    let (_other, taken) = listening(rt)?;
+    let mut wire = UdpWire::new(rt);
+    let sent = send_to_each(&mut wire, taken);
+    Ok(sent == Ok(([Err(WireFault::Send), Err(WireFault::Send), Ok(())], 2, 2)))
+}
+
+// No datagram goes to port 0, and none to all hosts at once without leave.
+#[test]
+fn addresses_that_the_system_refuses(rt: HostRuntime) -> Result<(), Fail> {
+    assert!(rt; are_refused(rt)?);
     Ok(())
 }
 
@@ -190,28 +235,53 @@ fn is_quiet(wire: &mut UdpWire<HostRuntime>, port: u16) -> bool {
     true
 }
 
-#[test]
-fn a_quiet_port_is_waited_at(rt: HostRuntime) -> Result<(), Fail> {
-    let (mut wire, port) = listening(rt)?;
+// How many milliseconds that takes, if nothing arrives.
+fn time_of_quiet(
+    rt: HostRuntime,
+    wire: &mut UdpWire<HostRuntime>,
+    port: u16,
+) -> Result<u128, Fail> {
+    let start = Instant::now(&rt)?;
+    if !is_quiet(wire, port) {
+        return Err(Fail::new("a datagram came"));
+    }
+    Ok(start.elapsed(&rt)?.as_millis())
+}
+
+// The least time of eight.
+fn least_time(rt: HostRuntime, wire: &mut UdpWire<HostRuntime>, port: u16) -> Result<u128, Fail> {
     let mut least = u128::MAX;
     for _ in 0..8 {
-        let start = Instant::now(&rt)?;
-        assert_eq!(rt; is_quiet(&mut wire, port), true);
-        least = least.min(start.elapsed(&rt)?.as_millis());
+        least = least.min(time_of_quiet(rt, wire, port)?);
     }
+    Ok(least)
+}
+
+fn least_time_of_new(rt: HostRuntime) -> Result<u128, Fail> {
+    let (mut wire, port) = listening(rt)?;
+    least_time(rt, &mut wire, port)
+}
+
+#[test]
+fn a_quiet_port_is_waited_at(rt: HostRuntime) -> Result<(), Fail> {
+    let least = least_time_of_new(rt)?;
     assert_eq!(rt; (least >= 80, least < 230), (true, true));
     Ok(())
 }
 
 // Sends three datagrams to a port: one that is too long for a packet, an empty one, and one of the greatest length.
-// Returns where they come from.
-fn send_three(rt: HostRuntime, port: u16) -> Result<Endpoint, Fail> {
-    let peer = UdpSocket::bind(&rt, SocketAddr::from((Ipv4Addr::LOCALHOST, 0)))?;
+// Returns the port that they come from.
+fn send_from(peer: &UdpSocket, port: u16) -> Result<u16, Fail> {
     let target = SocketAddr::from((Ipv4Addr::LOCALHOST, port));
     peer.send_to(&[7; 600], target)?;
     peer.send_to(&[], target)?;
     peer.send_to(&[8; 516], target)?;
-    Ok(loopback(peer.local_addr()?.port()))
+    Ok(peer.local_addr()?.port())
+}
+
+fn send_three(rt: HostRuntime, port: u16) -> Result<Endpoint, Fail> {
+    let peer = UdpSocket::bind(&rt, SocketAddr::from((Ipv4Addr::LOCALHOST, 0)))?;
+    Ok(loopback(send_from(&peer, port)?))
 }
 
 // Whether three reads of a port return these datagrams.
@@ -227,215 +297,43 @@ fn reads_three(
     Ok(long && empty && greatest && buffer.starts_with(&[8; 516]))
 }
 
+// Whether a port reads the datagrams that are sent to it.
+fn reads_what_is_sent(
+    rt: HostRuntime,
+    wire: &mut UdpWire<HostRuntime>,
+    port: u16,
+) -> Result<bool, Fail> {
+    let from = send_three(rt, port)?;
+    Ok(reads_three(wire, port, from)?)
+}
+
+fn reads_at_a_new_port(rt: HostRuntime) -> Result<bool, Fail> {
+    let (mut wire, port) = listening(rt)?;
+    reads_what_is_sent(rt, &mut wire, port)
+}
+
 #[test]
 fn long_and_empty_datagrams(rt: HostRuntime) -> Result<(), Fail> {
+    assert!(rt; reads_at_a_new_port(rt)?);
+    Ok(())
+}
+
+// The ports that are ready at a wait for a moment that is past, and at one for thirty milliseconds; and whether that
+// moment has come then.
+fn wait_twice(wire: &mut UdpWire<HostRuntime>, port: u16) -> (Option<u16>, Option<u16>, bool) {
+    let first = wire.wait(0, Some(0));
+    let until = first.time.saturating_add(30);
+    let second = wire.wait(port, Some(until));
+    (first.port, second.port, second.time >= until)
+}
+
+fn new_wire_waits_twice(rt: HostRuntime) -> Result<(Option<u16>, Option<u16>, bool), Fail> {
     let (mut wire, port) = listening(rt)?;
-    let from = send_three(rt, port)?;
-    assert!(rt; reads_three(&mut wire, port, from)?);
-    Ok(())
-}
-
-// A wire with two ports, and a peer that sends to them.
-#[derive(Drop)]
-struct Pair {
-    wire: UdpWire<HostRuntime>,
-    low: u16,
-    high: u16,
-    peer: UdpWire<HostRuntime>,
-    from: u16,
-}
-
-impl Pair {
-    fn open(rt: HostRuntime) -> Result<Self, Fail> {
-        let (mut wire, low) = listening(rt)?;
-        let high = wire.open()?;
-        let mut peer = UdpWire::new(rt);
-        let from = peer.open()?;
-        Ok(Pair {
-            wire,
-            low,
-            high,
-            peer,
-            from,
-        })
-    }
-
-    fn send(&mut self, to: u16, block: u16) -> Result<(), WireFault> {
-        self.peer.send(&ack(self.from, to, block))
-    }
-
-    // Reads an ACK at a port.
-    fn read(&mut self, port: u16) -> Result<Came, Fail> {
-        let mut buffer = [0; RECEIVE_SIZE];
-        let Some((count, from)) = self.wire.receive(port, &mut buffer)? else {
-            return Ok(None);
-        };
-        match decode(&buffer[..count]) {
-            Ok(Packet::Ack { block }) => Ok(Some((block, from))),
-            _ => Err(Fail::new("another datagram came")),
-        }
-    }
-
-    // Waits for the next port after this one, however long, and reads it.
-    fn visit(&mut self, after: u16) -> Result<(u16, Came), Fail> {
-        let Some(port) = self.wire.wait(after, None).port else {
-            return Err(Fail::new("no port is ready"));
-        };
-        Ok((port, self.read(port)?))
-    }
-}
-
-// Sends three ACKs to each port.
-fn send_to_both(pair: &mut Pair) -> Result<(), WireFault> {
-    for (low, high) in [(1, 4), (2, 5), (3, 6)] {
-        pair.send(pair.low, low)?;
-        pair.send(pair.high, high)?;
-    }
-    Ok(())
-}
-
-// Whether the next visits are to these ports, and find the ACKs of these blocks there.
-fn visits(pair: &mut Pair, acks: [(u16, u16); 6]) -> Result<bool, Fail> {
-    let mut last = 0;
-    for (port, block) in acks {
-        if pair.visit(last)? != (port, Some((block, loopback(pair.from)))) {
-            return Ok(false);
-        }
-        last = port;
-    }
-    Ok(true)
-}
-
-#[test]
-fn ready_ports_in_turn(rt: HostRuntime) -> Result<(), Fail> {
-    let mut pair = Pair::open(rt)?;
-    let (low, high) = (pair.low, pair.high);
-    send_to_both(&mut pair)?;
-    let acks = [
-        (low, 1),
-        (high, 4),
-        (low, 2),
-        (high, 5),
-        (low, 3),
-        (high, 6),
-    ];
-    assert!(rt; visits(&mut pair, acks)?);
-    Ok(())
+    Ok(wait_twice(&mut wire, port))
 }
 
 #[test]
 fn a_wait_ends_at_its_moment(rt: HostRuntime) -> Result<(), Fail> {
-    let (mut wire, port) = listening(rt)?;
-    let first = wire.wait(0, Some(0));
-    assert_eq!(rt; first.port, None);
-    let until = first.time.saturating_add(30);
-    let second = wire.wait(port, Some(until));
-    assert_eq!(rt; second.port, None);
-    assert!(rt; second.time >= until);
-    Ok(())
-}
-
-// How many microseconds a read of the lower port takes that finds nothing.
-fn time_to_find_nothing(rt: HostRuntime, pair: &mut Pair) -> Result<u128, Fail> {
-    let start = Instant::now(&rt)?;
-    if pair.read(pair.low)?.is_some() {
-        return Err(Fail::new("an ACK came"));
-    }
-    Ok(start.elapsed(&rt)?.as_micros())
-}
-
-// After the lower port was read, a wait returns it once more, but it has nothing. How long the next read of it takes, and
-// the one after that.
-fn times_of_two_reads(rt: HostRuntime, pair: &mut Pair) -> Result<(u128, u128), Fail> {
-    pair.send(pair.low, 1)?;
-    let visited = pair.visit(0)?;
-    let given = pair.wire.wait(0, Some(0)).port;
-    if visited != (pair.low, Some((1, loopback(pair.from)))) || given != Some(pair.low) {
-        return Err(Fail::new("another port is ready"));
-    }
-    Ok((
-        time_to_find_nothing(rt, pair)?,
-        time_to_find_nothing(rt, pair)?,
-    ))
-}
-
-// The port that a wait has just returned is read at once, and after that it is waited at again.
-#[test]
-fn a_port_that_is_given_is_not_waited_at(rt: HostRuntime) -> Result<(), Fail> {
-    let mut pair = Pair::open(rt)?;
-    let (mut first, mut second) = (u128::MAX, u128::MAX);
-    for _ in 0..20 {
-        let (given, again) = times_of_two_reads(rt, &mut pair)?;
-        first = first.min(given);
-        second = second.min(again);
-    }
-    assert!(rt; first < 4000 && 4000 <= second, "{first} {second}");
-    Ok(())
-}
-
-// The ports that three waits return. Three datagrams have arrived at the upper port, and one arrives at the lower after
-// the upper one was read.
-fn three_waits(pair: &mut Pair) -> Result<(u16, u16, Option<u16>), Fail> {
-    let (low, high) = (pair.low, pair.high);
-    for block in [1, 2, 3] {
-        pair.send(high, block)?;
-    }
-    let (first, _) = pair.visit(0)?;
-    pair.send(low, 4)?;
-    let (second, _) = pair.visit(high)?;
-    Ok((first, second, pair.wire.wait(low, None).port))
-}
-
-#[test]
-fn a_busy_port_starves_no_other(rt: HostRuntime) -> Result<(), Fail> {
-    let mut pair = Pair::open(rt)?;
-    let (low, high) = (pair.low, pair.high);
-    assert_eq!(rt; three_waits(&mut pair)?, (high, low, Some(high)));
-    Ok(())
-}
-
-// Closes the upper port. Returns the ready port of the next wait, the result of a read of the lower port, and the ready
-// port of the wait after it.
-fn after_close(pair: &mut Pair) -> Result<(Option<u16>, Came, Option<u16>), Fail> {
-    pair.wire.close(pair.high)?;
-    let ready = pair.wire.wait(pair.high, Some(0)).port;
-    let got = pair.read(pair.low)?;
-    let last = pair.wire.wait(pair.low, Some(0)).port;
-    Ok((ready, got, last))
-}
-
-// The upper port is closed while it is ready. The lower one is read again, and then none is ready.
-#[test]
-fn a_closed_port_is_not_given(rt: HostRuntime) -> Result<(), Fail> {
-    let mut pair = Pair::open(rt)?;
-    let low = pair.low;
-    three_waits(&mut pair)?;
-    assert_eq!(rt; after_close(&mut pair)?, (Some(low), None, None));
-    Ok(())
-}
-
-// How often the upper port is read in forty visits. Two datagrams have arrived at it, and before each visit another
-// arrives at the lower port.
-fn visits_above(pair: &mut Pair) -> Result<u32, Fail> {
-    pair.send(pair.high, 1)?;
-    pair.send(pair.high, 2)?;
-    let mut last = 0;
-    let mut visits = 0_u32;
-    for block in 0..40 {
-        pair.send(pair.low, block)?;
-        let (port, got) = pair.visit(last)?;
-        if port == pair.high && got.is_some() {
-            visits = visits.wrapping_add(1);
-        }
-        last = port;
-    }
-    Ok(visits)
-}
-
-// The upper port is read twice within twenty laps.
-#[test]
-fn a_second_datagram_is_not_kept_back(rt: HostRuntime) -> Result<(), Fail> {
-    let mut pair = Pair::open(rt)?;
-    assert_eq!(rt; visits_above(&mut pair)?, 2);
+    assert_eq!(rt; new_wire_waits_twice(rt)?, (None, None, true));
     Ok(())
 }

@@ -1,14 +1,16 @@
 // The files of a history.
 ghost use Rattle.std.specs.Prelude.{None, false};
 
-use crate::site::{Input, Morning, log_step};
+use crate::site::{Input, Morning, log_steps};
 use archive_log::{CallFailed, HistoryFolder, MemoryHistory, ServerLog};
 use archive_table::{NoKeeper, Table};
+use log::Log;
 use log::sink::{Discard, Memory};
 use std::alloc::Global;
 use std::io;
 use std::io::{ErrorKind, Write};
 use std::test::Fail;
+use std::time::Clock;
 use test_samples::{DATA_HUNDRED, DATA_NINETY, DATA_UNREADABLE, HUNDRED, NINETY, WRQ};
 
 const FIRST: &str = "20261127T091500.123Z-0.0.0.2-5000-lynx.tws";
@@ -19,9 +21,26 @@ const THIRD: &str = "20261127T091500.123Z-0.0.0.2-5000-lynx-2.tws";
 
 const DRAFT: &str = "20261127T091500.123Z-0.0.0.2-5000-lynx.tws.new";
 
-// A put of this last block by the first client.
-fn put<'a>(port: u16, data: &'a [u8]) -> [Input<'a>; 2] {
-    [Input::Ask(port, 0, WRQ), Input::Recv(port, 0, data)]
+// Lets a new server without a keeper make these steps, and logs them.
+fn serve<C: Clock, L: Log, H: HistoryFolder>(
+    alloc: Global,
+    log: &mut ServerLog<C, L, H>,
+    inputs: &[Input<'_>],
+) -> Result<(), Fail> {
+    let mut table = Table::new(alloc, 6969);
+    log_steps(&mut table, &mut NoKeeper, log, inputs)
+}
+
+// The history in memory of a server that has made these steps.
+fn history_of(alloc: Global, inputs: &[Input<'_>]) -> Result<Option<MemoryHistory>, Fail> {
+    let mut log = ServerLog::new(
+        alloc,
+        Morning::new(),
+        Discard,
+        Some(MemoryHistory::new(alloc)),
+    );
+    serve(alloc, &mut log, inputs)?;
+    Ok(log.into_history())
 }
 
 // Whether a name has this file.
@@ -32,65 +51,80 @@ fn is_file(history: &MemoryHistory, name: &str, wanted: &[u8]) -> bool {
     }
 }
 
+// Whether a history has the slower solution, the faster one, and nothing else.
+fn has_both(history: &Option<MemoryHistory>) -> bool {
+    match history {
+        Some(history) => {
+            is_file(history, FIRST, HUNDRED)
+                && is_file(history, SECOND, NINETY)
+                && history.file(THIRD).is_none()
+                && history.file(DRAFT).is_none()
+        }
+        None => false,
+    }
+}
+
 // After four puts, of a solution, of the same, of a better one, and of bytes that are no file, there are two files.
 #[test]
 fn what_changes_a_collection(rt: HostRuntime) -> Result<(), Fail> {
-    let alloc = rt.alloc();
-    let mut table = Table::new(alloc, 6969);
-    let mut log = ServerLog::new(
-        alloc,
-        Morning::new(),
-        Discard,
-        Some(MemoryHistory::new(alloc)),
-    );
-    let puts = [
-        put(4000, DATA_HUNDRED),
-        put(4001, DATA_HUNDRED),
-        put(4002, DATA_NINETY),
-        put(4003, DATA_UNREADABLE),
+    let inputs = [
+        Input::Ask(4000, 0, WRQ),
+        Input::Recv(4000, 0, DATA_HUNDRED),
+        Input::Ask(4001, 0, WRQ),
+        Input::Recv(4001, 0, DATA_HUNDRED),
+        Input::Ask(4002, 0, WRQ),
+        Input::Recv(4002, 0, DATA_NINETY),
+        Input::Ask(4003, 0, WRQ),
+        Input::Recv(4003, 0, DATA_UNREADABLE),
     ];
-    for inputs in puts {
-        for input in inputs {
-            log_step(&mut table, &mut NoKeeper, &mut log, input)?;
-        }
-    }
-    let Some(history) = log.into_history() else {
-        return Err(Fail::new("no history"));
-    };
-    assert!(rt; is_file(&history, FIRST, HUNDRED));
-    assert!(rt; is_file(&history, SECOND, NINETY));
-    assert_eq!(rt; (history.file(THIRD), history.file(DRAFT)), (None, None));
+    let history = history_of(rt.alloc(), &inputs)?;
+    assert!(rt; has_both(&history));
     Ok(())
 }
 
-// A put whose history fails from a call on: the last line, and whether the file is there.
-fn recorded<H: HistoryFolder>(alloc: Global, history: H) -> Result<(String, Option<H>), Fail>
+// Lets a server with this history take the solution, and logs that here. Returns the history.
+fn record<H: HistoryFolder>(alloc: Global, sink: &Memory, history: H) -> Result<Option<H>, Fail>
+where
+    H: Drop,
+{
+    let mut log = ServerLog::new(alloc, Morning::new(), sink, Some(history));
+    let inputs = [Input::Ask(4000, 0, WRQ), Input::Recv(4000, 0, DATA_HUNDRED)];
+    serve(alloc, &mut log, &inputs)?;
+    Ok(log.into_history())
+}
+
+// Whether this is the last line.
+fn ends_with(sink: Memory, wanted: &str) -> bool {
+    match sink.into_lines().as_slice().last() {
+        Some(line) => line.as_str() == wanted,
+        None => false,
+    }
+}
+
+// A put whose history fails from a call on: whether this is the last line, and the history.
+fn recorded<H: HistoryFolder>(
+    alloc: Global,
+    history: H,
+    wanted: &str,
+) -> Result<(bool, Option<H>), Fail>
 where
     H: Drop,
 {
     let sink = Memory::new(alloc);
-    let mut table = Table::new(alloc, 6969);
-    let mut log = ServerLog::new(alloc, Morning::new(), &sink, Some(history));
-    for input in put(4000, DATA_HUNDRED) {
-        log_step(&mut table, &mut NoKeeper, &mut log, input)?;
-    }
-    let history = log.into_history();
-    match sink.into_lines().into_vec().pop() {
-        Some(line) => Ok((line, history)),
-        None => Err(Fail::new("no line")),
-    }
+    let history = record(alloc, &sink, history)?;
+    Ok((ends_with(sink, wanted), history))
 }
 
-// The same with a history in memory that lets so many calls pass.
+// The same with a history in memory that lets so many calls pass, and whether the file is there.
 fn recorded_until(alloc: Global, left: u64, wanted: &str) -> Result<(bool, bool), Fail> {
     let mut history = MemoryHistory::new(alloc);
     history.fail_after(left);
-    let (line, history) = recorded(alloc, history)?;
+    let (is_last, history) = recorded(alloc, history, wanted)?;
     let is_there = match history {
         Some(history) => history.file(FIRST).is_some(),
         None => false,
     };
-    Ok((line.as_str() == wanted, is_there))
+    Ok((is_last, is_there))
 }
 
 #[test]
@@ -169,15 +203,20 @@ impl HistoryFolder for FullHistory {
     }
 }
 
-#[test]
-fn a_write_fails(rt: HostRuntime) -> Result<(), Fail> {
-    let (line, history) = recorded(rt.alloc(), FullHistory { was_cleared: false })?;
+// Whether this is the last line of a put to such a folder, and the draft was removed.
+fn recorded_in_full(alloc: Global, wanted: &str) -> Result<(bool, bool), Fail> {
+    let (is_last, history) = recorded(alloc, FullHistory { was_cleared: false }, wanted)?;
     let was_cleared = match history {
         Some(history) => history.was_cleared,
         None => false,
     };
+    Ok((is_last, was_cleared))
+}
+
+#[test]
+fn a_write_fails(rt: HostRuntime) -> Result<(), Fail> {
     let wanted =
         "[ERROR tws] not recorded time=2026-11-27T09:15:00.123Z peer=0.0.0.2:5000 why=not written";
-    assert_eq!(rt; (line.as_str(), was_cleared), (wanted, true));
+    assert_eq!(rt; recorded_in_full(rt.alloc(), wanted)?, (true, true));
     Ok(())
 }

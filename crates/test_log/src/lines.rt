@@ -1,47 +1,72 @@
 // The lines of a log.
-use crate::site::{Input, Morning, log_step};
-use archive_log::{Entry, Event, MemoryHistory, ServerLog, Stamp};
+use crate::site::{Input, Morning, log_steps};
+use archive_log::{Entry, Event, HistoryFolder, MemoryHistory, ServerLog, Stamp};
 use archive_table::{MemoryKeeper, Table};
 use jiff::Timestamp;
+use log::Log;
 use log::sink::{Lines, Memory};
 use std::alloc::Global;
 use std::test::Fail;
+use std::time::Clock;
 use test_samples::{ACK_1, DATA_HUNDRED, DATA_UNREADABLE, RRQ_LYNX, WRQ};
 use tftp_packet::Endpoint;
 
-// The lines, each ended by a line feed.
-fn joined(alloc: Global, lines: &Lines) -> Result<String, Fail> {
-    let mut text = String::new(alloc);
-    for line in lines.as_slice() {
-        text.push_str(line.as_str())?;
-        text.push_str("\n")?;
-    }
-    Ok(text)
+// The lines of a server that starts, makes these steps and stops.
+fn log_run<C: Clock, L: Log, H: HistoryFolder>(
+    table: &mut Table,
+    keeper: &mut MemoryKeeper,
+    log: &mut ServerLog<C, L, H>,
+    inputs: &[Input<'_>],
+) -> Result<(), Fail> {
+    let at = Endpoint {
+        host: 0,
+        port: 6969,
+    };
+    log.started(at, Some("kept here"), table);
+    log_steps(table, keeper, log, inputs)?;
+    log.stopped();
+    Ok(())
 }
 
-// The lines of a server that starts, makes these steps and stops. This keep of it fails.
-fn lines_of(alloc: Global, failing: u64, inputs: &[Input<'_>]) -> Result<String, Fail> {
-    let sink = Memory::new(alloc);
+// The same for a new server. This keep of it fails.
+fn log_new(alloc: Global, sink: &Memory, failing: u64, inputs: &[Input<'_>]) -> Result<(), Fail> {
     let mut keeper = MemoryKeeper::new(alloc);
     keeper.fail_at(failing);
     let mut table = Table::new(alloc, 6969);
     let mut log: ServerLog<Morning, &Memory, MemoryHistory> = ServerLog::new(
         alloc,
         Morning::new(),
-        &sink,
+        sink,
         None,
     );
-    let at = Endpoint {
-        host: 0,
-        port: 6969,
-    };
-    log.started(at, Some("kept here"), &table);
-    for input in inputs {
-        log_step(&mut table, &mut keeper, &mut log, *input)?;
+    log_run(&mut table, &mut keeper, &mut log, inputs)
+}
+
+// The index of the first of these lines that is another one, or is missing on one side.
+fn first_other(lines: &Lines, wanted: &[&str]) -> Option<usize> {
+    let lines = lines.as_slice();
+    for (i, (line, wanted)) in lines.iter().zip(wanted).enumerate() {
+        if line.as_str() != *wanted {
+            return Some(i);
+        }
     }
-    log.stopped();
-    drop(log);
-    joined(alloc, &sink.into_lines())
+    if lines.len() == wanted.len() {
+        None
+    } else {
+        Some(lines.len().min(wanted.len()))
+    }
+}
+
+// The same for the lines of that server.
+fn other_line(
+    alloc: Global,
+    failing: u64,
+    inputs: &[Input<'_>],
+    wanted: &[&str],
+) -> Result<Option<usize>, Fail> {
+    let sink = Memory::new(alloc);
+    log_new(alloc, &sink, failing, inputs)?;
+    Ok(first_other(&sink.into_lines(), wanted))
 }
 
 #[test]
@@ -58,13 +83,13 @@ fn a_put_and_a_get(rt: HostRuntime) -> Result<(), Fail> {
         Input::Recv(4001, 2, ACK_1),
         Input::Recv(4001, 1, ACK_1),
     ];
-    let wanted = "\
-[INFO  tws] started time=2026-11-27T09:15:00.123Z at=0.0.0.0:6969 lynx=0 ms=0 folder=kept here
-[INFO  tws] put taken time=2026-11-27T09:15:00.123Z peer=0.0.0.2:5000 bytes=28 ruleset=lynx fault=none better=1 millis=5
-[INFO  tws] get finished time=2026-11-27T09:15:00.123Z peer=0.0.0.3:5000 ruleset=lynx bytes=28 millis=10
-[INFO  tws] stopped time=2026-11-27T09:15:00.123Z taken=1 served=1
-";
-    assert_eq!(rt; lines_of(rt.alloc(), 0, &inputs)?.as_str(), wanted);
+    let wanted = [
+        "[INFO  tws] started time=2026-11-27T09:15:00.123Z at=0.0.0.0:6969 lynx=0 ms=0 folder=kept here",
+        "[INFO  tws] put taken time=2026-11-27T09:15:00.123Z peer=0.0.0.2:5000 bytes=28 ruleset=lynx fault=none better=1 millis=5",
+        "[INFO  tws] get finished time=2026-11-27T09:15:00.123Z peer=0.0.0.3:5000 ruleset=lynx bytes=28 millis=10",
+        "[INFO  tws] stopped time=2026-11-27T09:15:00.123Z taken=1 served=1",
+    ];
+    assert_eq!(rt; other_line(rt.alloc(), 0, &inputs, &wanted)?, None);
     Ok(())
 }
 
@@ -91,19 +116,26 @@ fn what_fails(rt: HostRuntime) -> Result<(), Fail> {
         Input::Wait(4003),
         Input::Wait(4003),
     ];
-    let wanted = "\
-[INFO  tws] started time=2026-11-27T09:15:00.123Z at=0.0.0.0:6969 lynx=0 ms=0 folder=kept here
-[WARN  tws] request refused time=2026-11-27T09:15:00.123Z peer=0.0.0.2:5000 why=no such file
-[WARN  tws] request refused time=2026-11-27T09:15:00.123Z peer=0.0.0.2:5000 why=octet only
-[WARN  tws] request dropped time=2026-11-27T09:15:00.123Z peer=0.0.0.2:5000 why=too many transfers of its host
-[WARN  tws] put failed time=2026-11-27T09:15:00.123Z peer=0.0.0.2:5000 block=0 why=error from the peer
-[ERROR tws] put failed time=2026-11-27T09:15:00.123Z peer=0.0.0.3:5000 block=0 why=not kept
-[WARN  tws] put taken time=2026-11-27T09:15:00.123Z peer=0.0.0.4:5000 bytes=7 ruleset=ms fault=ShortHeader better=0 millis=5
-[WARN  tws] get failed time=2026-11-27T09:15:00.123Z peer=0.0.0.5:5000 ruleset=lynx block=1 why=timed out
-[INFO  tws] stopped time=2026-11-27T09:15:00.123Z taken=1 served=0
-";
-    assert_eq!(rt; lines_of(rt.alloc(), 1, &inputs)?.as_str(), wanted);
+    let wanted = [
+        "[INFO  tws] started time=2026-11-27T09:15:00.123Z at=0.0.0.0:6969 lynx=0 ms=0 folder=kept here",
+        "[WARN  tws] request refused time=2026-11-27T09:15:00.123Z peer=0.0.0.2:5000 why=no such file",
+        "[WARN  tws] request refused time=2026-11-27T09:15:00.123Z peer=0.0.0.2:5000 why=octet only",
+        "[WARN  tws] request dropped time=2026-11-27T09:15:00.123Z peer=0.0.0.2:5000 why=too many transfers of its host",
+        "[WARN  tws] put failed time=2026-11-27T09:15:00.123Z peer=0.0.0.2:5000 block=0 why=error from the peer",
+        "[ERROR tws] put failed time=2026-11-27T09:15:00.123Z peer=0.0.0.3:5000 block=0 why=not kept",
+        "[WARN  tws] put taken time=2026-11-27T09:15:00.123Z peer=0.0.0.4:5000 bytes=7 ruleset=ms fault=ShortHeader better=0 millis=5",
+        "[WARN  tws] get failed time=2026-11-27T09:15:00.123Z peer=0.0.0.5:5000 ruleset=lynx block=1 why=timed out",
+        "[INFO  tws] stopped time=2026-11-27T09:15:00.123Z taken=1 served=0",
+    ];
+    assert_eq!(rt; other_line(rt.alloc(), 1, &inputs, &wanted)?, None);
     Ok(())
+}
+
+// The line of an entry, as above.
+fn other_line_of(alloc: Global, entry: &Entry<'_>, wanted: &[&str]) -> Result<Option<usize>, Fail> {
+    let mut lines = Lines::new(alloc);
+    lines.push(&entry.record())?;
+    Ok(first_other(&lines, wanted))
 }
 
 // A name of a folder with a line break, an escape and a letter that is not ASCII.
@@ -120,10 +152,9 @@ fn only_printable_ascii(rt: HostRuntime) -> Result<(), Fail> {
         folder: Some("a\n[ERROR tws] b\u{1b}[2J\u{7f}\u{e9}~"),
     };
     let entry = Entry { time: &time, event };
-    let mut lines = Lines::new(rt.alloc());
-    lines.push(&entry.record())?;
-    let wanted =
-        "[INFO  tws] started time=2026-11-27T09:15:00.123Z at=127.0.0.1:69 lynx=12 ms=0 folder=a?[ERROR tws] b?[2J???~\n";
-    assert_eq!(rt; joined(rt.alloc(), &lines)?.as_str(), wanted);
+    let wanted = [
+        "[INFO  tws] started time=2026-11-27T09:15:00.123Z at=127.0.0.1:69 lynx=12 ms=0 folder=a?[ERROR tws] b?[2J???~",
+    ];
+    assert_eq!(rt; other_line_of(rt.alloc(), &entry, &wanted)?, None);
     Ok(())
 }

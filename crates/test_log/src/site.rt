@@ -75,3 +75,16 @@ pub(crate) fn log_step<C: Clock, L: Log, H: HistoryFolder, K: Keeper>(
     }
     Ok(())
 }
+
+// The same for inputs in order.
+pub(crate) fn log_steps<C: Clock, L: Log, H: HistoryFolder, K: Keeper>(
+    table: &mut Table,
+    keeper: &mut K,
+    log: &mut ServerLog<C, L, H>,
+    inputs: &[Input<'_>],
+) -> Result<(), Fail> {
+    for input in inputs {
+        log_step(table, keeper, log, *input)?;
+    }
+    Ok(())
+}

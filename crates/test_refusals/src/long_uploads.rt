@@ -18,6 +18,23 @@ fn three_long(global: Global) -> Result<Vec<u8>, Fail> {
     Ok(join(global, EMPTY_LYNX, &[&first, &second, &third])?)
 }
 
+// Passes a block to the open transfer. Returns its step; `None` if there is no memory for the datagram.
+fn give_block<A: Allocator + Copy>(
+    global: Global,
+    table: &mut Table<A>,
+    number: u16,
+    block: &[u8],
+) -> Option<Step<A>> {
+    let [high, low] = number.to_be_bytes();
+    let data = join(global, &[0, 3, high, low], &[block]).ok()?;
+    Some(handle(table, 4000, ALICE, &data))
+}
+
+fn is_acked<A: Allocator + Copy>(step: &Step<A>, number: u16) -> bool {
+    let [high, low] = number.to_be_bytes();
+    goes(&step.out, 4000, ALICE, &[0, 4, high, low])
+}
+
 // Passes the blocks of a file to its open transfer. Returns the step that took the file or closed the transfer, and the
 // number of its block; `None` if an earlier block was not acknowledged.
 fn give_blocks<A: Allocator + Copy>(
@@ -28,13 +45,11 @@ fn give_blocks<A: Allocator + Copy>(
     let mut number = 0_u16;
     for block in file.chunks(512) {
         number = number.wrapping_add(1);
-        let [high, low] = number.to_be_bytes();
-        let data = join(global, &[0, 3, high, low], &[block]).ok()?;
-        let step = handle(table, 4000, ALICE, &data);
+        let step = give_block(global, table, number, block)?;
         if step.taken.is_some() || step.closed {
             return Some((number, step));
         }
-        if !goes(&step.out, 4000, ALICE, &[0, 4, high, low]) {
+        if !is_acked(&step, number) {
             return None;
         }
     }
@@ -47,7 +62,23 @@ fn has_text<A: Allocator + Copy>(global: Global, table: &Table<A>, text: &[u8]) 
     table.collection(Ruleset::Lynx).write_text(&mut out).is_ok() && out.as_slice() == text
 }
 
-// Puts the file. Notes the number of the block that was refused.
+// What a put comes to whose last step this is, at the block of this number. Notes that number if the block was refused.
+fn judge<A: Allocator + Copy>(
+    global: Global,
+    table: &Table<A>,
+    file: &[u8],
+    number: u16,
+    step: &Step<A>,
+    refused: &Cell<u16>,
+) -> Outcome {
+    if step.closed {
+        refused.set(number);
+        return Outcome::refused(is_let_go(table, step));
+    }
+    Outcome::of(number == 65 && is_acked(step, 65) && has_text(global, table, file))
+}
+
+// Puts the file.
 fn put<A: Allocator + Copy>(
     global: Global,
     table: &mut Table<A>,
@@ -57,15 +88,10 @@ fn put<A: Allocator + Copy>(
     if let Err(outcome) = open(table, 4000, ALICE, WRQ) {
         return outcome;
     }
-    let Some((number, step)) = give_blocks(global, table, file) else {
-        return Outcome::Wrong;
-    };
-    if step.closed {
-        refused.set(number);
-        return Outcome::refused(is_let_go(table, &step));
+    match give_blocks(global, table, file) {
+        Some((number, step)) => judge(global, table, file, number, &step, refused),
+        None => Outcome::Wrong,
     }
-    let is_acked = number == 65 && goes(&step.out, 4000, ALICE, b"\0\x04\0\x41");
-    Outcome::of(is_acked && has_text(global, table, file))
 }
 
 // Puts the file to a new table. After a put that was refused, with no change to the collection, the next one is taken.

@@ -186,15 +186,22 @@ fn ends_with_nothing<A: Allocator + Copy>(alloc: Global, receiver: &mut Receiver
     }
 }
 
+// Whether the calls on a receiver are right, and how many requests for memory were made before the first block, after
+// those that fill a chunk, and at the end.
+fn receive_a_chunk(alloc: Global, refusing: &Refusing<Global>) -> ([bool; 3], u64, u64, u64) {
+    let mut receiver = Receiver::new(refusing);
+    let waits = waits_for_the_first_block(&mut receiver);
+    let before = refusing.requests();
+    let takes = takes_a_chunk(&mut receiver);
+    let after = refusing.requests();
+    let ends = ends_with_nothing(alloc, &mut receiver);
+    ([waits, takes, ends], before, after, refusing.requests())
+}
+
 // No other call allocates, nor does an empty block after a full chunk.
 #[test]
 fn calls_without_memory(rt: HostRuntime) {
     let refusing = Refusing::new(rt.alloc(), 0);
-    let mut receiver = Receiver::new(&refusing);
-    assert!(rt; waits_for_the_first_block(&mut receiver));
-    assert_eq!(rt; refusing.requests(), 0);
-    assert!(rt; takes_a_chunk(&mut receiver));
-    let requests = refusing.requests();
-    assert!(rt; ends_with_nothing(rt.alloc(), &mut receiver));
-    assert_eq!(rt; refusing.requests(), requests);
+    let (are_right, before, after, ended) = receive_a_chunk(rt.alloc(), &refusing);
+    assert_eq!(rt; (are_right, before, ended), ([true; 3], 0, after));
 }

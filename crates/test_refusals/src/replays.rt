@@ -94,21 +94,19 @@ fn has_file<A: Allocator>(left: &Left<A>, sent: &[Endpoint]) -> bool {
 
 const REQUEST: [(usize, u16); 2] = [(0, 4000), (1, 0)];
 
-fn request(global: Global, refusing: &Refusing<Global>, unopened: &Cell<bool>) -> Outcome {
-    let Ok(events) = put_events(refusing, &REQUEST) else {
-        return Outcome::OutOfMemory;
-    };
-    let left = match replay(refusing, &mut MemoryKeeper::new(global), &events) {
-        Ok(left) => left,
-        Err(fault) => return Outcome::refused(fault == WorldFault::Memory),
-    };
+// What is left if the request is refused, and if it is not.
+fn judge_refused<A: Allocator>(left: &Left<A>) -> Outcome {
+    let sent: [(Endpoint, Endpoint, &[u8]); 2] = [
+        (ALICE, SERVER, WRQ),
+        (SERVER, ALICE, OUT_OF_MEMORY),
+    ];
+    Outcome::refused(has_nothing(left) && were_sent(left.datagrams.as_slice(), &sent))
+}
+
+fn judge_request<A: Allocator>(left: &Left<A>, unopened: &Cell<bool>) -> Outcome {
     if left.opened.is_empty() {
         unopened.set(true);
-        let sent = [
-            (ALICE, SERVER, WRQ.as_slice()),
-            (SERVER, ALICE, OUT_OF_MEMORY),
-        ];
-        return Outcome::refused(has_nothing(&left) && were_sent(left.datagrams.as_slice(), &sent));
+        return judge_refused(left);
     }
     let sent: [(Endpoint, Endpoint, &[u8]); 3] = [
         (ALICE, SERVER, WRQ),
@@ -116,7 +114,17 @@ fn request(global: Global, refusing: &Refusing<Global>, unopened: &Cell<bool>) -
         (ALICE, at(4000), DATA_HUNDRED),
     ];
     let is_sent = were_sent(left.datagrams.as_slice(), &sent);
-    Outcome::of(has_nothing(&left) && is_sent && were_opened(left.opened.as_slice(), &[4000]))
+    Outcome::of(has_nothing(left) && is_sent && were_opened(left.opened.as_slice(), &[4000]))
+}
+
+fn request(global: Global, refusing: &Refusing<Global>, unopened: &Cell<bool>) -> Outcome {
+    let Ok(events) = put_events(refusing, &REQUEST) else {
+        return Outcome::OutOfMemory;
+    };
+    match replay(refusing, &mut MemoryKeeper::new(global), &events) {
+        Ok(left) => judge_request(&left, unopened),
+        Err(fault) => Outcome::refused(fault == WorldFault::Memory),
+    }
 }
 
 // A request and its answer: the replay is out of memory, or the request is refused, or everything is as it is with
@@ -151,27 +159,31 @@ fn were_sent_twice<A: Allocator>(datagrams: &[Datagram<A>], last: &[u8]) -> bool
     were_sent(datagrams, &sent)
 }
 
-fn request_twice(global: Global, refusing: &Refusing<Global>, unopened: &Cell<bool>) -> Outcome {
-    let Ok(events) = put_events(refusing, &TWICE) else {
-        return Outcome::OutOfMemory;
-    };
-    let left = match replay(refusing, &mut MemoryKeeper::new(global), &events) {
-        Ok(left) => left,
-        // One of the requests is refused, so there are too few datagrams.
-        Err(WorldFault::BadEvent(5)) => {
-            unopened.set(true);
-            return Outcome::OutOfMemory;
-        }
-        Err(fault) => return Outcome::refused(fault == WorldFault::Memory),
-    };
+// What is left if both requests are served.
+fn judge_twice<A: Allocator>(left: &Left<A>) -> Outcome {
     let datagrams = left.datagrams.as_slice();
     let is_opened = were_opened(left.opened.as_slice(), &[4000, 4001]);
     if left.taken.is_empty() {
         let is_sent = were_sent_twice(datagrams, OUT_OF_MEMORY);
-        return Outcome::refused(has_nothing(&left) && is_opened && is_sent);
+        return Outcome::refused(has_nothing(left) && is_opened && is_sent);
     }
     let is_sent = were_sent_twice(datagrams, ACK_1);
-    Outcome::of(has_file(&left, &[ALICE]) && is_opened && is_sent)
+    Outcome::of(has_file(left, &[ALICE]) && is_opened && is_sent)
+}
+
+fn request_twice(global: Global, refusing: &Refusing<Global>, unopened: &Cell<bool>) -> Outcome {
+    let Ok(events) = put_events(refusing, &TWICE) else {
+        return Outcome::OutOfMemory;
+    };
+    match replay(refusing, &mut MemoryKeeper::new(global), &events) {
+        Ok(left) => judge_twice(&left),
+        // One of the requests is refused, so there are too few datagrams.
+        Err(WorldFault::BadEvent(5)) => {
+            unopened.set(true);
+            Outcome::OutOfMemory
+        }
+        Err(fault) => Outcome::refused(fault == WorldFault::Memory),
+    }
 }
 
 // A request that is refused is answered, and no block is sent to a second transfer: a later event is then about a
@@ -239,35 +251,64 @@ fn was_refused_a_keep<A: Allocator>(left: &Left<A>) -> bool {
     }
 }
 
-// The keeper's allocations are refused too.
-fn put_and_restart(refusing: &Refusing<Global>, seen: &Seen) -> Outcome {
-    let Ok(mut events) = put_events(refusing, &WHOLE) else {
-        return Outcome::OutOfMemory;
-    };
-    if events.push(Event::Restart).is_err() {
-        return Outcome::OutOfMemory;
-    }
-    let mut keeper = MemoryKeeper::new(refusing);
-    match replay(refusing, &mut keeper, &events) {
-        Ok(left) => {
-            if was_refused_a_keep(&left) {
-                seen.keep.set(true);
-            }
-            judge_restart(&left, &keeper)
-        }
-        Err(WorldFault::BadEvent(3)) => {
+// A put, and then a restart.
+fn restart_events<A: Allocator + Copy>(alloc: A) -> Result<Vec<Event<A>, A>, AllocError> {
+    let mut events = put_events(alloc, &WHOLE)?;
+    events.push(Event::Restart)?;
+    Ok(events)
+}
+
+// What a replay of these events comes to that failed.
+fn judge_fault<A: Allocator + Copy>(
+    fault: WorldFault,
+    keeper: &MemoryKeeper<A>,
+    seen: &Seen,
+) -> Outcome {
+    match fault {
+        WorldFault::BadEvent(3) => {
             seen.request.set(true);
             Outcome::refused(keeper.kept().is_empty())
         }
-        Err(WorldFault::NotLoaded(4)) => {
+        WorldFault::NotLoaded(4) => {
             seen.load.set(true);
-            Outcome::refused(keeps_file(&keeper))
+            Outcome::refused(keeps_file(keeper))
         }
-        Err(fault) => {
-            let is_either = keeper.kept().is_empty() || keeps_file(&keeper);
+        fault => {
+            let is_either = keeper.kept().is_empty() || keeps_file(keeper);
             Outcome::refused(fault == WorldFault::Memory && is_either)
         }
     }
+}
+
+fn judge_left<A: Allocator + Copy>(
+    left: &Left<A>,
+    keeper: &MemoryKeeper<A>,
+    seen: &Seen,
+) -> Outcome {
+    if was_refused_a_keep(left) {
+        seen.keep.set(true);
+    }
+    judge_restart(left, keeper)
+}
+
+fn replay_with<'a>(
+    refusing: &'a Refusing<Global>,
+    keeper: &mut MemoryKeeper<&'a Refusing<Global>>,
+    events: &[Event<&'a Refusing<Global>>],
+    seen: &Seen,
+) -> Outcome {
+    match replay(refusing, keeper, events) {
+        Ok(left) => judge_left(&left, keeper, seen),
+        Err(fault) => judge_fault(fault, keeper, seen),
+    }
+}
+
+// The keeper's allocations are refused too.
+fn put_and_restart(refusing: &Refusing<Global>, seen: &Seen) -> Outcome {
+    let Ok(events) = restart_events(refusing) else {
+        return Outcome::OutOfMemory;
+    };
+    replay_with(refusing, &mut MemoryKeeper::new(refusing), &events, seen)
 }
 
 // After the restart the server has the file if it was taken, and nothing if it was not.

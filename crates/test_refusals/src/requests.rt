@@ -77,7 +77,47 @@ fn is_served_later<A: Allocator + Copy>(
     }
 }
 
-// Makes the requests, each of which is answered with `first`, up to one that is refused; notes the number of that one.
+// Makes a request to a table with `count` transfers, which is answered with `first`. Returns an outcome if it is refused;
+// notes the number of that one.
+fn open_next<A: Allocator + Copy>(
+    table: &mut Table<A>,
+    count: u16,
+    request: &[u8],
+    first: &[u8],
+    refused: &Cell<u16>,
+) -> Result<(), Outcome> {
+    let Some(step) = ask_next(table, count, request) else {
+        return Err(Outcome::Wrong);
+    };
+    if step.opened {
+        return right(is_open(table, count, first, &step));
+    }
+    refused.set(count);
+    Err(Outcome::refused(is_served_later(table, count, request, first, &step)))
+}
+
+fn right(is_right: bool) -> Result<(), Outcome> {
+    if is_right {
+        Ok(())
+    } else {
+        Err(Outcome::Wrong)
+    }
+}
+
+// Makes the requests up to one that is refused.
+fn open_each<A: Allocator + Copy>(
+    table: &mut Table<A>,
+    request: &[u8],
+    first: &[u8],
+    refused: &Cell<u16>,
+) -> Result<(), Outcome> {
+    for count in 0..TRANSFERS {
+        open_next(table, count, request, first, refused)?;
+    }
+    right(are_live(table, TRANSFERS))
+}
+
+// The same for a new table.
 fn open_all(
     refusing: &Refusing<Global>,
     request: &[u8],
@@ -85,23 +125,11 @@ fn open_all(
     refused: &Cell<u16>,
 ) -> Outcome {
     let mut table = Table::new(refusing, REQUEST);
-    if refusing.requests() != 0 {
-        return Outcome::Wrong;
+    let is_empty = refusing.requests() == 0;
+    match open_each(&mut table, request, first, refused) {
+        Ok(()) => Outcome::of(is_empty),
+        Err(outcome) => outcome,
     }
-    for count in 0..TRANSFERS {
-        let Some(step) = ask_next(&mut table, count, request) else {
-            return Outcome::Wrong;
-        };
-        if !step.opened {
-            refused.set(count);
-            let is_later = is_served_later(&mut table, count, request, first, &step);
-            return Outcome::refused(is_later);
-        }
-        if !is_open(&table, count, first, &step) {
-            return Outcome::Wrong;
-        }
-    }
-    Outcome::of(are_live(&table, TRANSFERS))
 }
 
 // The last request that was refused was made while others were live.

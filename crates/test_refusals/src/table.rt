@@ -1,7 +1,7 @@
 // The server's table: the block that completes a file, a keeper, and a start, with each allocation refused in turn.
 use archive_table::{KeepFault, Keeper, LoadFault, MemoryKeeper, NoKeeper, Step, Table};
 use refusing::{Outcome, Refusing, refuse_each};
-use std::alloc::{Allocator, Global};
+use std::alloc::{AllocError, Allocator, Global};
 use std::cell::Cell;
 use std::test::Fail;
 use test_samples::{
@@ -85,16 +85,25 @@ fn has_taken<A: Allocator + Copy>(global: Global, step: &Step<A>, file: &[u8]) -
         && goes(&step.out, 4000, ALICE, ACK_1)
 }
 
+// Returns an outcome if a step has not taken the file and acknowledged its block.
+fn judge_taken<A: Allocator + Copy>(
+    global: Global,
+    table: &Table<A>,
+    step: &Step<A>,
+) -> Result<(), Outcome> {
+    if step.taken.is_none() {
+        Err(Outcome::refused(is_let_go(table, step)))
+    } else if has_taken(global, step, HUNDRED) {
+        Ok(())
+    } else {
+        Err(Outcome::Wrong)
+    }
+}
+
 // Passes the block that completes a file to its open transfer. Returns an outcome if it is not taken and acknowledged.
 fn give_file<A: Allocator + Copy>(global: Global, table: &mut Table<A>) -> Result<(), Outcome> {
     let step = handle(table, 4000, ALICE, DATA_HUNDRED);
-    if step.taken.is_none() {
-        return Err(Outcome::refused(is_let_go(table, &step)));
-    }
-    if !has_taken(global, &step, HUNDRED) {
-        return Err(Outcome::Wrong);
-    }
-    Ok(())
+    judge_taken(global, table, &step)
 }
 
 // Opens a transfer and passes it a file in one block. Returns an outcome if the file is not taken.
@@ -154,27 +163,42 @@ fn acks_again<A: Allocator + Copy>(table: &mut Table<A>) -> bool {
     step.taken.is_none() && goes(&step.out, 4000, ALICE, ACK_1)
 }
 
-// Requests the collection, which is the file. After a request that was refused the other transfer goes on, and the
-// request is served when it is made again.
+// Whether a request for the collection is served now.
+fn serves<A: Allocator + Copy>(table: &mut Table<A>) -> bool {
+    match ask(table, 4001, BOB, RRQ_LYNX) {
+        Some(step) => is_served(table, &step),
+        None => false,
+    }
+}
+
+// What a request for the collection, which is the file, comes to whose step this is. After one that was refused the other
+// transfer goes on, and the request is served when it is made again.
+fn judge_read<A: Allocator + Copy>(
+    global: Global,
+    table: &mut Table<A>,
+    step: &Step<A>,
+    refused: &Cell<u64>,
+) -> Outcome {
+    if step.opened {
+        return Outcome::of(is_served(table, step) && has_texts(global, table, HUNDRED));
+    }
+    refused.set(refused.get().saturating_add(1));
+    let is_as_before = is_turned_down(table, step)
+        && has_texts(global, table, HUNDRED)
+        && acks_again(table);
+    Outcome::refused(is_as_before && serves(table))
+}
+
+// Requests the collection.
 fn read_file<A: Allocator + Copy>(
     global: Global,
     table: &mut Table<A>,
     refused: &Cell<u64>,
 ) -> Outcome {
-    let Some(step) = ask(table, 4001, BOB, RRQ_LYNX) else {
-        return Outcome::Wrong;
-    };
-    if step.opened {
-        return Outcome::of(is_served(table, &step) && has_texts(global, table, HUNDRED));
+    match ask(table, 4001, BOB, RRQ_LYNX) {
+        Some(step) => judge_read(global, table, &step, refused),
+        None => Outcome::Wrong,
     }
-    refused.set(refused.get().saturating_add(1));
-    let is_as_before = is_turned_down(table, &step)
-        && has_texts(global, table, HUNDRED)
-        && acks_again(table);
-    let Some(again) = ask(table, 4001, BOB, RRQ_LYNX) else {
-        return Outcome::Wrong;
-    };
-    Outcome::refused(is_as_before && is_served(table, &again))
 }
 
 fn read_one(global: Global, refusing: &Refusing<Global>, refused: &Cell<u64>) -> Outcome {
@@ -316,21 +340,34 @@ fn is_refused(fault: LoadFault, in_keeper: &Cell<u64>) -> bool {
     }
 }
 
-fn load_one(global: Global, refusing: &Refusing<Global>, in_keeper: &Cell<u64>) -> Outcome {
-    let Ok(text) = Vec::from_slice(global, HUNDRED) else {
-        return Outcome::Wrong;
-    };
-    let Ok(mut keeper) = MemoryKeeper::with(global, Some(text), None) else {
-        return Outcome::Wrong;
-    };
-    match Table::load(refusing, REQUEST, &mut keeper) {
+// A keeper that has the file.
+fn keeper_of_file(global: Global) -> Result<MemoryKeeper, AllocError> {
+    let text = Vec::from_slice(global, HUNDRED)?;
+    MemoryKeeper::with(global, Some(text), None)
+}
+
+// A start with what a keeper has, which is the file.
+fn start(
+    global: Global,
+    refusing: &Refusing<Global>,
+    keeper: &mut MemoryKeeper,
+    in_keeper: &Cell<u64>,
+) -> Outcome {
+    match Table::load(refusing, REQUEST, keeper) {
         Ok(table) => Outcome::of(
-            has_texts(global, &table, HUNDRED) && has_kept(&keeper, &[HUNDRED]),
+            has_texts(global, &table, HUNDRED) && has_kept(keeper, &[HUNDRED]),
         ),
         Err(fault) => {
-            let is_as_before = is_refused(fault, in_keeper) && has_kept(&keeper, &[HUNDRED]);
-            Outcome::refused(is_as_before && starts_with(global, &mut keeper, HUNDRED))
+            let is_as_before = is_refused(fault, in_keeper) && has_kept(keeper, &[HUNDRED]);
+            Outcome::refused(is_as_before && starts_with(global, keeper, HUNDRED))
         }
+    }
+}
+
+fn load_one(global: Global, refusing: &Refusing<Global>, in_keeper: &Cell<u64>) -> Outcome {
+    match keeper_of_file(global) {
+        Ok(mut keeper) => start(global, refusing, &mut keeper, in_keeper),
+        Err(_fault) => Outcome::Wrong,
     }
 }
 
@@ -363,16 +400,17 @@ fn has_both<A: Allocator + Copy>(keeper: &MemoryKeeper<A>) -> bool {
     }
 }
 
+// A keeper that has them.
+fn keeper_of_both<A: Allocator + Copy>(alloc: A) -> Result<MemoryKeeper<A>, AllocError> {
+    let lynx = Vec::from_slice(alloc, HUNDRED)?;
+    let ms = Vec::from_slice(alloc, EMPTY_MS)?;
+    MemoryKeeper::with(alloc, Some(lynx), Some(ms))
+}
+
 fn make_keeper(refusing: &Refusing<Global>) -> Outcome {
-    let Ok(lynx) = Vec::from_slice(refusing, HUNDRED) else {
-        return Outcome::OutOfMemory;
-    };
-    let Ok(ms) = Vec::from_slice(refusing, EMPTY_MS) else {
-        return Outcome::OutOfMemory;
-    };
-    match MemoryKeeper::with(refusing, Some(lynx), Some(ms)) {
+    match keeper_of_both(refusing) {
         Ok(keeper) => Outcome::of(has_both(&keeper) && keeper.failures() == 0),
-        Err(_) => Outcome::OutOfMemory,
+        Err(_fault) => Outcome::OutOfMemory,
     }
 }
 

@@ -16,14 +16,20 @@ fn wire_of(rt: &HostRuntime, opens: &[u16]) -> Result<MemoryWire, Fail> {
     Ok(MemoryWire::new(rt.alloc(), Vec::from_slice(rt.alloc(), opens)?))
 }
 
-// A client's wire, at which these datagrams arrive from the server's transfer.
-pub(crate) fn answered(rt: &HostRuntime, answers: &[&[u8]]) -> Result<MemoryWire, Fail> {
-    let mut wire = wire_of(rt, &[ALICE.port])?;
+// Lets these datagrams arrive at a client's wire from the server's transfer.
+fn answer(rt: &HostRuntime, wire: &mut MemoryWire, answers: &[&[u8]]) -> Result<(), Fail> {
     for bytes in answers {
         if bytes.len() <= 517 {
             wire.arrive(rt.alloc(), ALICE.port, PEER, bytes)?;
         }
     }
+    Ok(())
+}
+
+// A client's wire, at which these datagrams arrive so.
+pub(crate) fn answered(rt: &HostRuntime, answers: &[&[u8]]) -> Result<MemoryWire, Fail> {
+    let mut wire = wire_of(rt, &[ALICE.port])?;
+    answer(rt, &mut wire, answers)?;
     Ok(wire)
 }
 
@@ -44,17 +50,28 @@ pub(crate) fn sent(wire: &MemoryWire, to: Endpoint, bytes: &[u8]) -> usize {
 
 // ---- put
 
-#[test]
-fn a_put(rt: HostRuntime) -> Result<(), Fail> {
-    let mut wire = answered(&rt, &[ACK_0, ACK_1])?;
+// Whether a put of the solution ends well, prints its line, and leaves nothing of its input.
+fn puts_all(rt: &HostRuntime, wire: &mut MemoryWire) -> bool {
     let mut out = Vec::new(rt.alloc());
     let mut input = HUNDRED.as_slice();
-    put_file(rt.alloc(), &mut input, &mut wire, SERVER, &mut out)?;
-    let (requests, blocks) = (sent(&wire, SERVER, WRQ), sent(&wire, PEER, DATA_HUNDRED));
-    assert_eq!(rt;
-        (out.as_slice(), requests, blocks, input.len()),
-        (b"sent 28 bytes\n".as_slice(), 1, 1, 0)
-    );
+    let done = put_file(rt.alloc(), &mut input, wire, SERVER, &mut out);
+    done.is_ok() && out.as_slice() == b"sent 28 bytes\n".as_slice() && input.is_empty()
+}
+
+// The same for a put that is answered, and how many requests and blocks it sends.
+fn put_answered(rt: &HostRuntime) -> Result<(bool, usize, usize), Fail> {
+    let mut wire = answered(rt, &[ACK_0, ACK_1])?;
+    let is_put = puts_all(rt, &mut wire);
+    Ok((
+        is_put,
+        sent(&wire, SERVER, WRQ),
+        sent(&wire, PEER, DATA_HUNDRED),
+    ))
+}
+
+#[test]
+fn a_put(rt: HostRuntime) -> Result<(), Fail> {
+    assert_eq!(rt; put_answered(&rt)?, (true, 1, 1));
     Ok(())
 }
 
@@ -72,28 +89,40 @@ fn put_of<R: io::Read>(
 // The most bytes of a file that can be sent.
 const MOST: u32 = 33_553_919;
 
-// It is left at the first byte that is too many.
-#[test]
-fn a_put_of_an_input_that_does_not_end(rt: HostRuntime) -> Result<(), Fail> {
-    let mut input = Drops { left: u32::MAX };
-    let put = put_of(&rt, &mut input)?;
-    let fault = ToolFault::Transfer(Cause::TooLong);
-    assert_eq!(rt;
-        (put, input.left),
-        ((Err(fault), 0, 0), u32::MAX - MOST - 1)
-    );
-    Ok(())
+// What a put of so many zeros comes to, and how many of them it has not read.
+fn put_of_zeros(
+    rt: &HostRuntime,
+    count: u32,
+) -> Result<((Result<(), ToolFault>, usize, usize), u32), Fail> {
+    let mut input = Drops { left: count };
+    let put = put_of(rt, &mut input)?;
+    Ok((put, input.left))
 }
 
+// An input that does not end is left at the first byte that is too many; the longest is read to its end.
 #[test]
-fn a_put_of_the_longest_input(rt: HostRuntime) -> Result<(), Fail> {
-    let mut input = Drops { left: MOST };
-    let fault = ToolFault::Unreadable {
+fn a_put_of_zeros(rt: HostRuntime) -> Result<(), Fail> {
+    let too_long = ToolFault::Transfer(Cause::TooLong);
+    let unreadable = ToolFault::Unreadable {
         index: 0,
         fault: FileFault::BadSignature,
     };
-    assert_eq!(rt; put_of(&rt, &mut input)?, (Err(fault), 0, 0));
+    for (count, fault, left) in [
+        (u32::MAX, too_long, u32::MAX - MOST - 1),
+        (MOST, unreadable, 0),
+    ] {
+        assert_eq!(rt; put_of_zeros(&rt, count)?, ((Err(fault), 0, 0), left));
+    }
     Ok(())
+}
+
+// What a put comes to whose input returns these bytes, and then fails.
+fn put_that_breaks(
+    rt: &HostRuntime,
+    bytes: Option<&[u8]>,
+    kind: io::ErrorKind,
+) -> Result<(Result<(), ToolFault>, usize, usize), Fail> {
+    put_of(rt, &mut Breaks { bytes, kind })
 }
 
 // Nothing is sent for a file that is read in part. A reader that runs out of memory is reported as `Read`, not as
@@ -106,19 +135,26 @@ fn a_put_of_an_input_that_breaks(rt: HostRuntime) -> Result<(), Fail> {
         (Some(&file[..10]), io::ErrorKind::Other),
         (Some(file), io::ErrorKind::OutOfMemory),
     ] {
-        let mut input = Breaks { bytes, kind };
-        assert_eq!(rt; put_of(&rt, &mut input)?, (Err(ToolFault::Read), 0, 0));
+        assert_eq!(rt;
+            put_that_breaks(&rt, bytes, kind)?,
+            (Err(ToolFault::Read), 0, 0)
+        );
     }
     Ok(())
 }
 
-#[test]
-fn a_put_of_an_input_that_stumbles(rt: HostRuntime) -> Result<(), Fail> {
+// What a put comes to whose input fails at its first read, and would then return a whole file.
+fn put_that_stumbles(rt: &HostRuntime) -> Result<(Result<(), ToolFault>, usize, usize), Fail> {
     let mut input = Stumbles {
         bytes: HUNDRED,
         has_failed: false,
     };
-    assert_eq!(rt; put_of(&rt, &mut input)?, (Err(ToolFault::Read), 0, 0));
+    put_of(rt, &mut input)
+}
+
+#[test]
+fn a_put_of_an_input_that_stumbles(rt: HostRuntime) -> Result<(), Fail> {
+    assert_eq!(rt; put_that_stumbles(&rt)?, (Err(ToolFault::Read), 0, 0));
     Ok(())
 }
 
@@ -171,44 +207,56 @@ impl FileSystem for Shelf {
     }
 }
 
-// What a get at which these datagrams arrive leaves of a file of two bytes, what it prints, and how many requests and
-// acknowledgements of block 1 it sends.
-fn get_of(rt: &HostRuntime, answers: &[&[u8]]) -> Result<(Vec<u8>, Vec<u8>, usize, usize), Fail> {
-    let mut wire = answered(rt, answers)?;
+// Whether a get leaves this of a file of two bytes, and prints this.
+fn leaves(
+    rt: &HostRuntime,
+    wire: &mut MemoryWire,
+    file: &[u8],
+    printed: &[u8],
+) -> Result<bool, Fail> {
     let mut shelf = Shelf {
         file: Vec::from_slice(rt.alloc(), b"ab")?,
     };
     let mut out = Vec::new(rt.alloc());
     let _ = get_file(
         &mut shelf,
-        &mut wire,
+        wire,
         rt.alloc(),
         SERVER,
         Ruleset::Lynx,
         "best",
         &mut out,
     );
-    let (requests, acks) = (sent(&wire, SERVER, RRQ_LYNX), sent(&wire, PEER, ACK_1));
-    Ok((shelf.file, out, requests, acks))
+    Ok(shelf.file.as_slice() == file && out.as_slice() == printed)
+}
+
+// The same for a get at which these datagrams arrive, and how many requests and acknowledgements of block 1 it sends.
+fn get_of(
+    rt: &HostRuntime,
+    answers: &[&[u8]],
+    file: &[u8],
+    printed: &[u8],
+) -> Result<(bool, usize, usize), Fail> {
+    let mut wire = answered(rt, answers)?;
+    let is_left = leaves(rt, &mut wire, file, printed)?;
+    Ok((
+        is_left,
+        sent(&wire, SERVER, RRQ_LYNX),
+        sent(&wire, PEER, ACK_1),
+    ))
 }
 
 #[test]
 fn a_get(rt: HostRuntime) -> Result<(), Fail> {
-    let (file, out, requests, acks) = get_of(&rt, &[DATA_HUNDRED])?;
-    assert_eq!(rt;
-        (file.as_slice(), out.as_slice(), requests, acks),
-        (HUNDRED.as_slice(), b"got 28 bytes\n".as_slice(), 1, 1)
-    );
+    let got = get_of(&rt, &[DATA_HUNDRED], HUNDRED, b"got 28 bytes\n")?;
+    assert_eq!(rt; got, (true, 1, 1));
     Ok(())
 }
 
 #[test]
 fn a_get_that_is_refused(rt: HostRuntime) -> Result<(), Fail> {
-    let (file, out, requests, acks) = get_of(&rt, &[b"\0\x05\0\0collection too long\0"])?;
-    assert_eq!(rt;
-        (file.as_slice(), out.as_slice(), requests, acks),
-        (b"ab".as_slice(), b"".as_slice(), 1, 0)
-    );
+    let got = get_of(&rt, &[b"\0\x05\0\0collection too long\0"], b"ab", b"")?;
+    assert_eq!(rt; got, (true, 1, 0));
     Ok(())
 }
 
@@ -216,23 +264,25 @@ fn a_get_that_is_refused(rt: HostRuntime) -> Result<(), Fail> {
 
 const LINES: &[u8; 29] = b"serving on port 6969\ntaken 1\n";
 
-// A server's wire with a put of the solution by the client in two datagrams.
-fn put_wire(rt: &HostRuntime) -> Result<MemoryWire, Fail> {
-    let mut wire = wire_of(rt, &[7000])?;
+// Lets a put of the solution by the client arrive in two datagrams.
+fn arrive(rt: &HostRuntime, wire: &mut MemoryWire) -> Result<(), Fail> {
     wire.arrive(rt.alloc(), 6969, ALICE, WRQ)?;
     wire.arrive(rt.alloc(), 7000, ALICE, DATA_HUNDRED)?;
+    Ok(())
+}
+
+// A server's wire with that put.
+fn put_wire(rt: &HostRuntime) -> Result<MemoryWire, Fail> {
+    let mut wire = wire_of(rt, &[7000])?;
+    arrive(rt, &mut wire)?;
     Ok(wire)
 }
 
-// Makes two turns or rounds of a new server, whose lines go to `out`.
-fn serve_two(
-    rt: &HostRuntime,
-    passes: Passes,
-    wire: &mut MemoryWire,
-    out: &mut Vec<u8>,
-) -> Result<(), ToolFault> {
+// Whether a new server that makes two turns or rounds at a wire prints its lines.
+fn serves_two(rt: &HostRuntime, passes: Passes, wire: &mut MemoryWire) -> bool {
+    let mut out = Vec::new(rt.alloc());
     let mut server = Server::new(rt.alloc(), 6969);
-    serve_archive(
+    let done = serve_archive(
         rt.alloc(),
         wire,
         &mut NoKeeper,
@@ -240,18 +290,22 @@ fn serve_two(
         &mut server,
         6969,
         passes,
-        out,
-    )
+        &mut out,
+    );
+    done.is_ok() && out.as_slice() == LINES.as_slice()
+}
+
+// The same at a wire with that put, and how often its block is acknowledged.
+fn serve_put(rt: &HostRuntime, passes: Passes) -> Result<(bool, usize), Fail> {
+    let mut wire = put_wire(rt)?;
+    let is_served = serves_two(rt, passes, &mut wire);
+    Ok((is_served, sent(&wire, ALICE, ACK_1)))
 }
 
 #[test]
 fn serving(rt: HostRuntime) -> Result<(), Fail> {
     for passes in [Passes::Turns(2), Passes::Rounds(2)] {
-        let mut wire = put_wire(&rt)?;
-        let mut out = Vec::new(rt.alloc());
-        serve_two(&rt, passes, &mut wire, &mut out)?;
-        let taken = sent(&wire, ALICE, ACK_1);
-        assert_eq!(rt; (out.as_slice(), taken), (LINES.as_slice(), 1));
+        assert_eq!(rt; serve_put(&rt, passes)?, (true, 1));
     }
     Ok(())
 }

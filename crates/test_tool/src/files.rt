@@ -13,65 +13,40 @@ const MOVED: [u8; 30] = [
     0x48, 0x50, 0x00, 0x00, 0x00, 0x00, 0x00, 0x00, 0x64, 0x00, 0x00, 0x00, 0x00, 0x61,
 ];
 
+// The solution with four moves in four bytes.
+const LOOSE: &[u8; 32] =
+    b"\x35\x33\x9B\x99\x01\0\0\0\x14\0\0\0\x01\0BDHP\0\0\0\0\0\0\x64\0\0\0aaaa";
+
 #[test]
 fn show_lists_moves(rt: HostRuntime) -> Result<(), Fail> {
-    let outcome = run(&rt, &["tws", "show", "--moves"], &MOVED)?;
     let listing =
-        "ruleset lynx word 0000 extra 0\nlevel 1 BDHP ticks 100 flags 00 start 00 seed 0 bytes 2\n at 3 step 0\n at 7 step 0\n at 11 step 0\n at 15 step 0\nrecords 1\n";
-    assert_eq!(rt;
-        (outcome.status, outcome.out.as_slice()),
-        (0, listing.as_bytes())
-    );
+        b"ruleset lynx word 0000 extra 0\nlevel 1 BDHP ticks 100 flags 00 start 00 seed 0 bytes 2\n at 3 step 0\n at 7 step 0\n at 11 step 0\n at 15 step 0\nrecords 1\n";
+    assert!(rt; prints(&rt, &["tws", "show", "--moves"], &MOVED, listing)?);
     Ok(())
 }
 
+// Without `--moves`, `show` counts their bytes. `pack` writes the fewest bytes, and leaves what is packed.
 #[test]
-fn show_counts_bytes_of_moves(rt: HostRuntime) -> Result<(), Fail> {
-    let outcome = run(&rt, &["tws", "show"], &MOVED)?;
+fn what_is_printed(rt: HostRuntime) -> Result<(), Fail> {
     let listing =
-        "ruleset lynx word 0000 extra 0\nlevel 1 BDHP ticks 100 flags 00 start 00 seed 0 bytes 2\nrecords 1\n";
-    assert_eq!(rt;
-        (outcome.status, outcome.out.as_slice()),
-        (0, listing.as_bytes())
-    );
-    Ok(())
-}
-
-// The solution with four moves in four bytes.
-fn long_moves(rt: &HostRuntime) -> Result<Vec<u8>, Fail> {
-    let mut bytes = Vec::from_slice(rt.alloc(), HUNDRED)?;
-    bytes.extend_from_slice(&[0x61, 0x61, 0x61, 0x61])?;
-    bytes[8] = 0x14;
-    Ok(bytes)
-}
-
-#[test]
-fn pack_writes_the_fewest_bytes(rt: HostRuntime) -> Result<(), Fail> {
-    let bytes = long_moves(&rt)?;
-    let outcome = run(&rt, &["tws", "pack"], &bytes)?;
-    assert_eq!(rt;
-        (outcome.status, outcome.out.as_slice()),
-        (0, MOVED.as_slice())
-    );
-    Ok(())
-}
-
-#[test]
-fn pack_leaves_what_is_packed(rt: HostRuntime) -> Result<(), Fail> {
-    for packed in [HUNDRED.as_slice(), &MOVED, &UNSOLVED] {
-        let outcome = run(&rt, &["tws", "pack"], packed)?;
-        assert_eq!(rt; (outcome.status, outcome.out.as_slice()), (0, packed));
+        b"ruleset lynx word 0000 extra 0\nlevel 1 BDHP ticks 100 flags 00 start 00 seed 0 bytes 2\nrecords 1\n";
+    let rows: [(&str, &[u8], &[u8]); 5] = [
+        ("show", &MOVED, listing),
+        ("pack", LOOSE, &MOVED),
+        ("pack", HUNDRED, HUNDRED),
+        ("pack", &MOVED, &MOVED),
+        ("pack", &UNSOLVED, &UNSOLVED),
+    ];
+    for (command, input, wanted) in rows {
+        let are_printed = prints(&rt, &["tws", command], input, wanted)?;
+        assert!(rt; are_printed, "{command} of {} bytes", input.len());
     }
     Ok(())
 }
 
-#[test]
-fn pack_refuses_what_is_no_file(rt: HostRuntime) -> Result<(), Fail> {
-    let outcome = run(&rt, &["tws", "pack"], &[0x35, 0x33, 0x9B, 0x98, 2, 0, 0, 0])?;
-    let line =
-        "tws: standard input: unreadable: BadSignature\ntws: standard input: the file does not begin with the bytes 35 33 9B 99\n";
-    assert!(rt; fails_with(&outcome, 3, line));
-    Ok(())
+// Whether a command fails because of its input, with these lines.
+fn refuses(rt: &HostRuntime, command: &str, input: &[u8], lines: &str) -> Result<bool, Fail> {
+    Ok(fails_with(&run(rt, &["tws", command], input)?, 3, lines))
 }
 
 // The result of `best` for these inputs, and how many bytes it writes.
@@ -89,29 +64,37 @@ fn show_of<R: io::Read>(rt: &HostRuntime, input: &mut R) -> (Result<(), ToolFaul
 }
 
 #[test]
-fn show_refuses_what_is_no_file(rt: HostRuntime) -> Result<(), Fail> {
+fn what_is_no_file(rt: HostRuntime) -> Result<(), Fail> {
     let file = HUNDRED.as_slice();
-    let faults: [(&[u8], &str); 4] = [
+    let rows: [(&str, &[u8], &str); 5] = [
         (
+            "show",
             &[],
             "tws: standard input: unreadable: ShortHeader(0)\ntws: standard input: the file ends inside its header, after 0 bytes\n",
         ),
         (
+            "show",
             &file[..27],
             "tws: standard input: unreadable: ShortRecord(8)\ntws: standard input: the file ends inside the record at byte 8\n",
         ),
         (
-            &[0x35, 0x33, 0x9B, 0x98, 2, 0, 0, 0],
+            "show",
+            &UNSIGNED,
             "tws: standard input: unreadable: BadSignature\ntws: standard input: the file does not begin with the bytes 35 33 9B 99\n",
         ),
         (
+            "show",
             CUT_MOVE,
             "tws: standard input: unreadable: MoveCut(29)\ntws: standard input: the moves end inside the move at byte 29\n",
         ),
+        (
+            "pack",
+            &UNSIGNED,
+            "tws: standard input: unreadable: BadSignature\ntws: standard input: the file does not begin with the bytes 35 33 9B 99\n",
+        ),
     ];
-    for (bytes, line) in faults {
-        let outcome = run(&rt, &["tws", "show"], bytes)?;
-        assert!(rt; fails_with(&outcome, 3, line), "{line}");
+    for (command, input, lines) in rows {
+        assert!(rt; refuses(&rt, command, input, lines)?, "{command}: {lines}");
     }
     Ok(())
 }
@@ -214,40 +197,47 @@ fn best_answers_the_first_input_that_fails(rt: HostRuntime) {
     assert_eq!(rt; best_of(&rt, &mut files), (Err(fault), 0));
 }
 
-// A Lynx file of `count` records that have only a level's password, and its listing.
-fn passwords(rt: &HostRuntime, count: u32) -> Result<(Vec<u8>, Vec<u8>), Fail> {
-    let mut bytes = Vec::from_slice(rt.alloc(), EMPTY_LYNX)?;
-    let mut listing = Vec::from_slice(rt.alloc(), b"ruleset lynx word 0000 extra 0\n")?;
+// A text, and then another so often.
+fn repeated(rt: &HostRuntime, first: &[u8], each: &[u8], count: u32) -> Result<Vec<u8>, Fail> {
+    let mut text = Vec::from_slice(rt.alloc(), first)?;
     for _ in 0..count {
-        bytes.extend_from_slice(&[6, 0, 0, 0, 1, 0, 0x42, 0x44, 0x48, 0x50])?;
-        listing.extend_from_slice(b"level 1 BDHP\n")?;
+        text.extend_from_slice(each)?;
     }
-    Ok((bytes, listing))
+    Ok(text)
+}
+
+// Whether a writer that takes 70,000 bytes of this listing fails, and has these.
+fn fails_after_70_000(rt: &HostRuntime, bytes: &[u8], listing: &[u8]) -> bool {
+    let mut room = [0u8; 70_000];
+    let mut out = room.as_mut_slice();
+    let mut input = bytes;
+    let done = run_show(rt.alloc(), &mut input, &mut out, false);
+    done == Err(ToolFault::Write) && Some(room.as_slice()) == listing.get(..70_000)
+}
+
+// The same for a Lynx file of 6,000 records that have only a level's password.
+fn fails_late(rt: &HostRuntime) -> Result<bool, Fail> {
+    let record = [6, 0, 0, 0, 1, 0, 0x42, 0x44, 0x48, 0x50];
+    let bytes = repeated(rt, EMPTY_LYNX, &record, 6000)?;
+    let head = b"ruleset lynx word 0000 extra 0\n";
+    let listing = repeated(rt, head, b"level 1 BDHP\n", 6000)?;
+    Ok(fails_after_70_000(rt, &bytes, &listing))
 }
 
 #[test]
 fn show_to_a_writer_that_fails_late(rt: HostRuntime) -> Result<(), Fail> {
-    let (bytes, listing) = passwords(&rt, 6000)?;
-    let mut room = [0u8; 70_000];
-    let mut out = room.as_mut_slice();
-    let mut input = bytes.as_slice();
-    let done = run_show(rt.alloc(), &mut input, &mut out, false);
-    assert_eq!(rt;
-        (done, Some(room.as_slice())),
-        (Err(ToolFault::Write), listing.get(..70_000))
-    );
+    assert!(rt; fails_late(&rt)?);
     Ok(())
 }
 
-#[test]
-fn help_to_a_full_writer(rt: HostRuntime) -> Result<(), Fail> {
-    let words = owned(&rt, &["tws", "--help"])?;
-    let mut room = [0u8; 10];
-    let mut out = room.as_mut_slice();
+// The status of a run that writes its help into this room, and whether it reports that it could not.
+fn help_into(rt: &HostRuntime, room: &mut [u8]) -> Result<(u8, bool), Fail> {
+    let words = owned(rt, &["tws", "--help"])?;
+    let mut out = room;
     let mut input = HUNDRED.as_slice();
     let mut errors = Vec::new(rt.alloc());
     let status = run_words(
-        &rt,
+        rt,
         rt.alloc(),
         &words,
         None::<Vec<u8>>,
@@ -255,9 +245,16 @@ fn help_to_a_full_writer(rt: HostRuntime) -> Result<(), Fail> {
         &mut out,
         &mut errors,
     );
-    assert_eq!(rt;
-        (status, room, errors.as_slice()),
-        (2, *b"Lists, pac", b"tws: write fault\n".as_slice())
-    );
+    Ok((
+        status,
+        errors.as_slice() == b"tws: write fault\n".as_slice(),
+    ))
+}
+
+#[test]
+fn help_to_a_full_writer(rt: HostRuntime) -> Result<(), Fail> {
+    let mut room = [0u8; 10];
+    let done = help_into(&rt, &mut room)?;
+    assert_eq!(rt; (done, room), ((2, true), *b"Lists, pac"));
     Ok(())
 }

@@ -10,44 +10,51 @@ use std::{env, fs, io, process};
 use test_samples::{ACK_0, ACK_1, EMPTY_MS, HUNDRED, NINETY, SERVER, UNREADABLE, WRQ};
 use tws_tool::{FileSystem, Resolver, run_words_with};
 
-// Writes a file of these bytes in the system's temporary folder. Returns its name.
-fn file(rt: &HostRuntime, name: &str, bytes: &[u8]) -> Result<String, Fail> {
+// The path of a file of the system's temporary folder.
+fn path_of(rt: &HostRuntime, name: &str) -> Result<String, Fail> {
     let process = process::id(rt.process());
     let name = format!(in rt.alloc(); "tws-{process}-{name}")?;
-    let path = env::temp_dir(rt)?.join(rt.alloc(), name.as_str())?;
-    let path = String::from_str(rt.alloc(), path.as_str())?;
+    Ok(
+        env::temp_dir(rt)?
+            .join(rt.alloc(), name.as_str())?
+            .into_string(),
+    )
+}
+
+// Writes a file of these bytes there. Returns its path.
+fn file(rt: &HostRuntime, name: &str, bytes: &[u8]) -> Result<String, Fail> {
+    let path = path_of(rt, name)?;
     fs::write(rt, path.as_str(), bytes)?;
     Ok(path)
 }
 
-// The solution in 100 ticks and in 90, each in a file.
-fn two_files(rt: &HostRuntime) -> Result<(String, String), Fail> {
-    let slow = file(rt, "slow", HUNDRED)?;
-    let fast = file(rt, "fast", NINETY)?;
-    Ok((slow, fast))
+fn remove(rt: &HostRuntime, path: String) -> Result<(), Fail> {
+    fs::remove_file(rt, path.as_str())?;
+    Ok(())
 }
 
-fn remove(rt: &HostRuntime, first: &str, second: &str) -> Result<(), Fail> {
-    fs::remove_file(rt, first)?;
-    fs::remove_file(rt, second)?;
-    Ok(())
+// Whether the best of two files are the faster solution for Lynx, and none for MS.
+fn bests(rt: &HostRuntime, slow: &str, fast: &str) -> Result<(bool, bool), Fail> {
+    Ok((
+        prints(rt, &["tws", "best", "lynx", slow, fast], &[], NINETY)?,
+        prints(rt, &["tws", "best", "ms", slow, fast], &[], EMPTY_MS)?,
+    ))
+}
+
+// The same for a file with the slower solution and one with the solution in 90 ticks, which is removed afterwards.
+fn bests_with_fast(rt: &HostRuntime, slow: &str) -> Result<(bool, bool), Fail> {
+    let fast = file(rt, "fast", NINETY)?;
+    let found = bests(rt, slow, &fast)?;
+    remove(rt, fast)?;
+    Ok(found)
 }
 
 #[test]
 fn best_of_files(rt: HostRuntime) -> Result<(), Fail> {
-    let (slow, fast) = two_files(&rt)?;
-    let lynx = run(&rt, &["tws", "best", "lynx", &slow, &fast], &[])?;
-    let ms = run(&rt, &["tws", "best", "ms", &slow, &fast], &[])?;
-    remove(&rt, &slow, &fast)?;
-    assert_eq!(rt;
-        (
-            lynx.status,
-            lynx.out.as_slice(),
-            ms.status,
-            ms.out.as_slice()
-        ),
-        (0, NINETY.as_slice(), 0, EMPTY_MS.as_slice())
-    );
+    let slow = file(&rt, "slow", HUNDRED)?;
+    let found = bests_with_fast(&rt, &slow)?;
+    remove(&rt, slow)?;
+    assert_eq!(rt; found, (true, true));
     Ok(())
 }
 
@@ -107,7 +114,7 @@ fn run_with(
     system: &mut One,
     wire: &mut MemoryWire,
     words: &[String],
-) -> Result<Outcome, Fail> {
+) -> Outcome {
     let mut input = io::empty();
     let mut out = Vec::new(rt.alloc());
     let mut errors = Vec::new(rt.alloc());
@@ -121,91 +128,103 @@ fn run_with(
         &mut out,
         &mut errors,
     );
-    Ok(Outcome {
+    Outcome {
         status,
         out,
         errors,
-    })
+    }
 }
 
-// The Lynx collection over these files of a system that has one.
-fn best_of_one(rt: &HostRuntime, system: &mut One, names: &[&str]) -> Result<Outcome, Fail> {
+fn best_words(rt: &HostRuntime, names: &[&str]) -> Result<Vec<String>, Fail> {
     let mut words = owned(rt, &["tws", "best", "lynx"])?;
-    words.append(&mut owned(rt, names)?)?;
+    push_words(rt, &mut words, names)?;
+    Ok(words)
+}
+
+// The Lynx collection over these files of a system that has one, of this name and these bytes.
+fn best_of_one(
+    rt: &HostRuntime,
+    name: &str,
+    bytes: &[u8],
+    names: &[&str],
+) -> Result<Outcome, Fail> {
+    let words = best_words(rt, names)?;
+    let mut system = One {
+        name,
+        bytes,
+        host: None,
+    };
     let mut wire = MemoryWire::new(rt.alloc(), Vec::new(rt.alloc()));
-    run_with(rt, system, &mut wire, &words)
+    Ok(run_with(rt, &mut system, &mut wire, &words))
+}
+
+// Whether the best over these names of a file with the solution is that file.
+fn is_best(rt: &HostRuntime, names: &[&str]) -> Result<bool, Fail> {
+    let outcome = best_of_one(rt, "slow", HUNDRED, names)?;
+    Ok(has_printed(&outcome, HUNDRED))
 }
 
 #[test]
 fn best_of_a_hundred_names(rt: HostRuntime) -> Result<(), Fail> {
-    let mut system = One {
-        name: "slow",
-        bytes: HUNDRED,
-        host: None,
-    };
-    let outcome = best_of_one(&rt, &mut system, &["slow"; 100])?;
-    assert_eq!(rt;
-        (outcome.status, outcome.out.as_slice()),
-        (0, HUNDRED.as_slice())
-    );
+    assert!(rt; is_best(&rt, &["slow"; 100])?);
     Ok(())
+}
+
+// Whether the best over these files fails so. Only one is there, `short`, and is unreadable.
+fn best_fails(rt: &HostRuntime, names: &[&str], status: u8, lines: &str) -> Result<bool, Fail> {
+    let outcome = best_of_one(rt, "short", UNREADABLE, names)?;
+    Ok(fails_with(&outcome, status, lines))
 }
 
 #[test]
 fn best_of_a_file_that_is_unreadable(rt: HostRuntime) -> Result<(), Fail> {
-    let mut system = One {
-        name: "short",
-        bytes: UNREADABLE,
-        host: None,
-    };
-    let outcome = best_of_one(&rt, &mut system, &["short"])?;
-    let line =
+    let lines =
         "tws: short: unreadable: ShortHeader(7)\ntws: short: the file ends inside its header, after 7 bytes\n";
-    assert!(rt; fails_with(&outcome, 3, line));
+    assert!(rt; best_fails(&rt, &["short"], 3, lines)?);
     Ok(())
 }
 
 #[test]
 fn best_of_a_file_that_is_missing(rt: HostRuntime) -> Result<(), Fail> {
-    let mut system = One {
-        name: "short",
-        bytes: UNREADABLE,
-        host: None,
-    };
-    let outcome = best_of_one(&rt, &mut system, &["short", "missing"])?;
-    assert!(rt;
-        fails_with(
-            &outcome,
-            2,
-            "tws: read fault\ntws: missing: entity not found\n"
-        )
-    );
+    let lines = "tws: read fault\ntws: missing: entity not found\n";
+    assert!(rt; best_fails(&rt, &["short", "missing"], 2, lines)?);
     Ok(())
 }
 
-// What a put of a solution to the host with a name comes to, and how many requests went to the host of the server.
-fn put_to_a_name(rt: &HostRuntime, host: Option<u32>) -> Result<(Outcome, usize), Fail> {
+// The status of a put of a solution to the host with a name, and whether it failed as a bad address.
+fn put_with(
+    rt: &HostRuntime,
+    host: Option<u32>,
+    wire: &mut MemoryWire,
+) -> Result<(u8, bool), Fail> {
+    let words = owned(rt, &["tws", "put", "archive.test", "fast"])?;
     let mut system = One {
         name: "fast",
         bytes: HUNDRED,
         host,
     };
+    let outcome = run_with(rt, &mut system, wire, &words);
+    Ok((
+        outcome.status,
+        fails_with(&outcome, 1, "tws: bad address\n"),
+    ))
+}
+
+// The same, and how many requests went to the host of the server.
+fn put_to_a_name(rt: &HostRuntime, host: Option<u32>) -> Result<((u8, bool), usize), Fail> {
     let mut wire = answered(rt, &[ACK_0, ACK_1])?;
-    let words = owned(rt, &["tws", "put", "archive.test", "fast"])?;
-    let outcome = run_with(rt, &mut system, &mut wire, &words)?;
-    Ok((outcome, sent(&wire, SERVER, WRQ)))
+    let done = put_with(rt, host, &mut wire)?;
+    Ok((done, sent(&wire, SERVER, WRQ)))
 }
 
 #[test]
 fn a_put_to_the_host_of_a_name(rt: HostRuntime) -> Result<(), Fail> {
-    let (outcome, requests) = put_to_a_name(&rt, Some(SERVER.host))?;
-    assert_eq!(rt; (outcome.status, requests), (0, 1));
+    assert_eq!(rt; put_to_a_name(&rt, Some(SERVER.host))?, ((0, false), 1));
     Ok(())
 }
 
 #[test]
 fn a_put_to_a_name_of_no_host(rt: HostRuntime) -> Result<(), Fail> {
-    let (outcome, requests) = put_to_a_name(&rt, None)?;
-    assert!(rt; requests == 0 && fails_with(&outcome, 1, "tws: bad address\n"));
+    assert_eq!(rt; put_to_a_name(&rt, None)?, ((1, true), 0));
     Ok(())
 }

@@ -173,7 +173,20 @@ fn finish_put(
     Ok(taken == 1)
 }
 
-// Puts a file. Whether it was taken, and the client knows.
+// The same, and whether the client knows.
+fn is_put(
+    alloc: Global,
+    archive: &mut Archive,
+    client: &mut MemoryWire,
+    run: &mut PutRun,
+    host: u32,
+    answers: usize,
+) -> Result<bool, Fail> {
+    let taken = finish_put(alloc, archive, client, run, host, answers)?;
+    Ok(taken && run.client().state() == State::Sent)
+}
+
+// The same for a new put of a file.
 fn puts(
     alloc: Global,
     archive: &mut Archive,
@@ -183,8 +196,7 @@ fn puts(
 ) -> Result<bool, Fail> {
     let mut client = wire_of(alloc, &[5000])?;
     let mut run = begun_put(alloc, &mut client, file)?;
-    let taken = finish_put(alloc, archive, &mut client, &mut run, host, answers)?;
-    Ok(taken && run.client().state() == State::Sent)
+    is_put(alloc, archive, &mut client, &mut run, host, answers)
 }
 
 // Begins a get, whose request arrives.
@@ -241,14 +253,24 @@ fn gets(
     has_got(alloc, archive, &mut client, &mut run, host, n, file)
 }
 
-// The requests of a get and of a put of a better file arrive; that put ends, and then the get's first block arrives.
-// Whether the put was taken, and the get has the collection as it was when it began.
+// A put of a better file begins and ends, and then the first block of a get arrives that had begun before. Whether the put
+// was taken, and the get has the collection as it was when it began.
+fn finish_both(
+    alloc: Global,
+    archive: &mut Archive,
+    client: &mut MemoryWire,
+    run: &mut GetRun,
+) -> Result<(bool, bool), Fail> {
+    let put = puts(alloc, archive, 4, NINETY, 3)?;
+    let got = has_got(alloc, archive, client, run, 3, 2, HUNDRED)?;
+    Ok((put, got))
+}
+
+// The same for a new get, whose request arrives.
 fn crosses(alloc: Global, archive: &mut Archive) -> Result<(bool, bool), Fail> {
     let mut client = wire_of(alloc, &[5000])?;
     let mut run = asked(alloc, archive, &mut client, 3)?;
-    let put = puts(alloc, archive, 4, NINETY, 3)?;
-    let got = has_got(alloc, archive, &mut client, &mut run, 3, 2, HUNDRED)?;
-    Ok((put, got))
+    finish_both(alloc, archive, &mut client, &mut run)
 }
 
 // A put, the get and the put that cross, and another get: whether each is right.

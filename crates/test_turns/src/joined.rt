@@ -178,7 +178,21 @@ fn gets(
     )
 }
 
-// Whether a new server takes this file once, and a get then fetches `wanted`.
+// Whether a server takes this file once, and a get then fetches `wanted`.
+fn puts_and_gets(
+    alloc: Global,
+    server: &mut Server,
+    keeper: &mut MemoryKeeper,
+    wire: &mut MemoryWire,
+    times: u8,
+    file: &[u8],
+    wanted: &[u8],
+) -> Result<bool, Fail> {
+    let taken = put(alloc, server, keeper, wire, file, times)?;
+    Ok(taken == 1 && gets(alloc, server, keeper, wire, times, wanted)?)
+}
+
+// The same with a new server.
 fn gets_after_put(
     alloc: Global,
     keeper: &mut MemoryKeeper,
@@ -188,8 +202,7 @@ fn gets_after_put(
     wanted: &[u8],
 ) -> Result<bool, Fail> {
     let mut server = Server::new(alloc, 6969);
-    let taken = put(alloc, &mut server, keeper, wire, file, times)?;
-    Ok(taken == 1 && gets(alloc, &mut server, keeper, wire, times, wanted)?)
+    puts_and_gets(alloc, &mut server, keeper, wire, times, file, wanted)
 }
 
 // Whether a get fetches this from a server that starts with what the keeper has.
@@ -208,6 +221,19 @@ fn gets_after_restart(
 
 // Whether gets fetch `wanted` after a put of this file: from the server that took it, and from the same one after a
 // restart.
+fn gets_twice(
+    alloc: Global,
+    keeper: &mut MemoryKeeper,
+    wire: &mut MemoryWire,
+    times: u8,
+    file: &[u8],
+    wanted: &[u8],
+) -> Result<bool, Fail> {
+    let is_first = gets_after_put(alloc, keeper, wire, times, file, wanted)?;
+    Ok(is_first && gets_after_restart(alloc, keeper, wire, times, wanted)?)
+}
+
+// The same with a new keeper.
 fn comes_back(
     alloc: Global,
     wire: &mut MemoryWire,
@@ -216,8 +242,7 @@ fn comes_back(
     wanted: &[u8],
 ) -> Result<bool, Fail> {
     let mut keeper = MemoryKeeper::new(alloc);
-    let is_first = gets_after_put(alloc, &mut keeper, wire, times, file, wanted)?;
-    Ok(is_first && gets_after_restart(alloc, &mut keeper, wire, times, wanted)?)
+    gets_twice(alloc, &mut keeper, wire, times, file, wanted)
 }
 
 // A put of a file with `size` bytes of records, and both gets. Whether what is fetched is the file, or only its header
@@ -244,12 +269,26 @@ fn files_of_many_sizes(rt: HostRuntime) -> Result<(), Fail> {
     Ok(())
 }
 
+fn push_record(
+    alloc: Global,
+    text: &mut Vec<u8>,
+    number: u16,
+    ticks: u32,
+) -> Result<(), AllocError> {
+    let record = record(alloc, number, b"BDHP", 0, ticks, &[])?;
+    text.extend_from_slice(&record)
+}
+
 // A Lynx file with a solution without moves for each of 5,000 levels, all but the last in 100 ticks.
 fn five_thousand(alloc: Global, last: u32) -> Result<Vec<u8>, AllocError> {
     let mut text = Vec::from_slice(alloc, EMPTY_LYNX)?;
     for number in 1..5001u16 {
-        let ticks = if number == 5000 { last } else { 100 };
-        text.extend_from_slice(&record(alloc, number, b"BDHP", 0, ticks, &[])?)?;
+        push_record(
+            alloc,
+            &mut text,
+            number,
+            if number == 5000 { last } else { 100 },
+        )?;
     }
     Ok(text)
 }
@@ -257,15 +296,25 @@ fn five_thousand(alloc: Global, last: u32) -> Result<Vec<u8>, AllocError> {
 // Level 5000 in 90 ticks.
 const BETTER: &[u8; 28] = b"\x35\x33\x9B\x99\x01\0\0\0\x10\0\0\0\x88\x13BDHP\0\0\0\0\0\0\x5A\0\0\0";
 
-// Whether a server takes the file of 5,000 solutions, and then that one.
+// How many files a server takes that is sent the file of 5,000 solutions.
+fn put_all(
+    alloc: Global,
+    server: &mut Server,
+    keeper: &mut MemoryKeeper,
+    wire: &mut MemoryWire,
+) -> Result<u64, Fail> {
+    let all = five_thousand(alloc, 100)?;
+    put(alloc, server, keeper, wire, &all, 1)
+}
+
+// Whether a server takes that file, and then the better one.
 fn takes_both(
     alloc: Global,
     server: &mut Server,
     keeper: &mut MemoryKeeper,
     wire: &mut MemoryWire,
 ) -> Result<bool, Fail> {
-    let all = five_thousand(alloc, 100)?;
-    let first = put(alloc, server, keeper, wire, &all, 1)?;
+    let first = put_all(alloc, server, keeper, wire)?;
     let second = put(alloc, server, keeper, wire, BETTER, 1)?;
     Ok((first, second) == (1, 1))
 }
@@ -281,18 +330,27 @@ fn gets_both(
     gets(alloc, server, keeper, wire, 1, &wanted)
 }
 
-// Whether both are so with a new server and keeper.
-fn are_both_right(alloc: Global, wire: &mut MemoryWire) -> Result<bool, Fail> {
+// Whether both are so.
+fn takes_and_gets(
+    alloc: Global,
+    server: &mut Server,
+    keeper: &mut MemoryKeeper,
+    wire: &mut MemoryWire,
+) -> Result<bool, Fail> {
+    Ok(takes_both(alloc, server, keeper, wire)? && gets_both(alloc, server, keeper, wire)?)
+}
+
+// The same with a new server, keeper and wire.
+fn are_both_right(alloc: Global) -> Result<bool, Fail> {
+    let mut wire = wire_of(alloc, &[4000, 4001, 4002])?;
     let mut keeper = MemoryKeeper::new(alloc);
     let mut server = Server::new(alloc, 6969);
-    let are_taken = takes_both(alloc, &mut server, &mut keeper, wire)?;
-    Ok(are_taken && gets_both(alloc, &mut server, &mut keeper, wire)?)
+    takes_and_gets(alloc, &mut server, &mut keeper, &mut wire)
 }
 
 // No call is out of memory because a collection is large.
 #[test]
 fn one_of_five_thousand_solutions(rt: HostRuntime) -> Result<(), Fail> {
-    let mut wire = wire_of(rt.alloc(), &[4000, 4001, 4002])?;
-    assert!(rt; are_both_right(rt.alloc(), &mut wire)?);
+    assert!(rt; are_both_right(rt.alloc())?);
     Ok(())
 }

@@ -31,24 +31,37 @@ fn left(
     )
 }
 
-// ---- the server that counts turns
+// Makes one turn, or one round. Returns how many files are taken.
+fn pass(
+    wire: &mut MemoryWire,
+    keeper: &mut MemoryKeeper,
+    server: &mut Server,
+    in_rounds: bool,
+) -> u64 {
+    if in_rounds {
+        serve_rounds(wire, keeper, &mut NoObserver, server, 1)
+    } else {
+        serve_turns(wire, keeper, server, 1)
+    }
+}
 
-// Lets the request and the block of a put arrive, each before a turn. Returns how many files are taken.
-fn put_in_turns(
+// Lets the request and the block of a put arrive, each before a turn or a round. Returns how many files are taken.
+fn put(
     alloc: Global,
     wire: &mut MemoryWire,
     keeper: &mut MemoryKeeper,
     server: &mut Server,
+    in_rounds: bool,
     port: u16,
     client: Endpoint,
 ) -> Result<u64, Fail> {
     wire.arrive(alloc, 6969, client, WRQ)?;
-    let first = serve_turns(wire, keeper, server, 1);
+    let first = pass(wire, keeper, server, in_rounds);
     wire.arrive(alloc, port, client, DATA_HUNDRED)?;
-    Ok(first.saturating_add(serve_turns(wire, keeper, server, 1)))
+    Ok(first.saturating_add(pass(wire, keeper, server, in_rounds)))
 }
 
-// Whether the calls of a wire were those of a put that is not kept.
+// Whether the calls of a wire were those of a put in turns that is not kept.
 fn has_refused(wire: &MemoryWire) -> bool {
     let [came, opened, first, next, last, closed] = wire.log() else {
         return false;
@@ -61,82 +74,65 @@ fn has_refused(wire: &MemoryWire) -> bool {
         && is_closed(closed, 4000)
 }
 
-// A put whose keep fails, and then one of the same file by another client. Returns what is left of each, and whether the
-// calls for the first one were the expected ones.
-fn puts_in_turns(
+// A put whose keep fails, and then one of the same file by another client. Returns what is left of each, and, in turns,
+// whether the calls for the first one were the expected ones.
+fn put_twice(
     alloc: Global,
     wire: &mut MemoryWire,
     keeper: &mut MemoryKeeper,
     server: &mut Server,
+    in_rounds: bool,
 ) -> Result<(bool, Left, Left), Fail> {
-    let taken = put_in_turns(alloc, wire, keeper, server, 4000, ALICE)?;
-    let has_refused = has_refused(wire);
+    let taken = put(alloc, wire, keeper, server, in_rounds, 4000, ALICE)?;
+    let has_refused = in_rounds || has_refused(wire);
     let refused = (4000, ALICE, NOT_KEPT.as_slice());
     let first = left(alloc, wire, server.table(), taken, refused, EMPTY_LYNX);
-    let taken = put_in_turns(alloc, wire, keeper, server, 4001, BOB)?;
+    let taken = put(alloc, wire, keeper, server, in_rounds, 4001, BOB)?;
     let acked = (4001, BOB, ACK_1.as_slice());
     let second = left(alloc, wire, server.table(), taken, acked, HUNDRED);
     Ok((has_refused, first, second))
 }
 
-// The first put is refused, is merged into no collection, and is closed. The file is taken when it is put again.
+// The same to a new server.
+fn put_twice_to_new(
+    alloc: Global,
+    wire: &mut MemoryWire,
+    keeper: &mut MemoryKeeper,
+    in_rounds: bool,
+) -> Result<(bool, Left, Left), Fail> {
+    let mut server = Server::new(alloc, 6969);
+    put_twice(alloc, wire, keeper, &mut server, in_rounds)
+}
+
+// The same with a new keeper, and whether it was given the file both times.
+fn put_and_keep(
+    alloc: Global,
+    wire: &mut MemoryWire,
+    in_rounds: bool,
+) -> Result<((bool, Left, Left), bool), Fail> {
+    let mut keeper = MemoryKeeper::new(alloc);
+    keeper.fail_at(1);
+    let puts = put_twice_to_new(alloc, wire, &mut keeper, in_rounds)?;
+    Ok((puts, was_given(&keeper, &[false, true])))
+}
+
+// The same at a new wire.
+fn put_at_new(alloc: Global, in_rounds: bool) -> Result<((bool, Left, Left), bool), Fail> {
+    let mut wire = wire_of(alloc, &[4000, 4001])?;
+    put_and_keep(alloc, &mut wire, in_rounds)
+}
+
+// The first put is refused, is merged into no collection, and is closed. The file is taken when it is put again. So it is
+// in turns, and in rounds.
 #[test]
 fn a_keep_that_fails(rt: HostRuntime) -> Result<(), Fail> {
-    let mut wire = wire_of(rt.alloc(), &[4000, 4001])?;
-    let mut keeper = MemoryKeeper::new(rt.alloc());
-    keeper.fail_at(1);
-    let mut server = Server::new(rt.alloc(), 6969);
-    let puts = puts_in_turns(rt.alloc(), &mut wire, &mut keeper, &mut server)?;
-    assert_eq!(rt;
-        (puts, was_given(&keeper, &[false, true])),
-        ((true, (0, 0, true, true), (1, 1, true, true)), true)
-    );
-    Ok(())
-}
-
-// ---- rounds
-
-// The same with a round for each.
-fn put_in_rounds(
-    alloc: Global,
-    wire: &mut MemoryWire,
-    keeper: &mut MemoryKeeper,
-    server: &mut Server,
-    port: u16,
-    client: Endpoint,
-) -> Result<u64, Fail> {
-    wire.arrive(alloc, 6969, client, WRQ)?;
-    let first = serve_rounds(wire, keeper, &mut NoObserver, server, 1);
-    wire.arrive(alloc, port, client, DATA_HUNDRED)?;
-    Ok(first.saturating_add(serve_rounds(wire, keeper, &mut NoObserver, server, 1)))
-}
-
-fn puts_in_rounds(
-    alloc: Global,
-    wire: &mut MemoryWire,
-    keeper: &mut MemoryKeeper,
-    server: &mut Server,
-) -> Result<(Left, Left), Fail> {
-    let taken = put_in_rounds(alloc, wire, keeper, server, 4000, ALICE)?;
-    let refused = (4000, ALICE, NOT_KEPT.as_slice());
-    let first = left(alloc, wire, server.table(), taken, refused, EMPTY_LYNX);
-    let taken = put_in_rounds(alloc, wire, keeper, server, 4001, BOB)?;
-    let acked = (4001, BOB, ACK_1.as_slice());
-    let second = left(alloc, wire, server.table(), taken, acked, HUNDRED);
-    Ok((first, second))
-}
-
-#[test]
-fn a_keep_that_fails_in_a_round(rt: HostRuntime) -> Result<(), Fail> {
-    let mut wire = wire_of(rt.alloc(), &[4000, 4001])?;
-    let mut keeper = MemoryKeeper::new(rt.alloc());
-    keeper.fail_at(1);
-    let mut server = Server::new(rt.alloc(), 6969);
-    let puts = puts_in_rounds(rt.alloc(), &mut wire, &mut keeper, &mut server)?;
-    assert_eq!(rt;
-        (puts, was_given(&keeper, &[false, true])),
-        (((0, 0, true, true), (1, 1, true, true)), true)
-    );
+    for in_rounds in [false, true] {
+        assert_eq!(rt;
+            put_at_new(rt.alloc(), in_rounds)?,
+            ((true, (0, 0, true, true), (1, 1, true, true)), true),
+            "{in_rounds}"
+        );
+    }
     Ok(())
 }
 

@@ -1,5 +1,5 @@
-// What an observer is notified of: each step, its sender, and what it made, after the calls of the wire for it; and each request
-// that is dropped.
+// What an observer is told: each step, its sender, and what it made, after the calls of the wire for it; and each request that
+// is dropped.
 use crate::wires::*;
 use archive_table::{NoKeeper, Observer, Step, Table};
 use archive_turns::{
@@ -64,7 +64,7 @@ impl ReadyWire for CountedWire<'_> {
     }
 }
 
-// What an observer is notified of at a step.
+// What an observer is told of a step.
 #[derive(Clone, Copy, Debug, PartialEq, Eq)]
 struct Seen {
     port: u16,
@@ -93,7 +93,7 @@ const NOTHING: Seen = Seen {
     calls: 0,
 };
 
-// Where a test keeps what it is notified of. A step for which there is no memory is missing there.
+// Where a test keeps what it is told. A step for which there is no memory is missing there.
 #[derive(Drop)]
 struct Collecting<'a> {
     seen: Vec<Seen>,
@@ -189,49 +189,36 @@ fn put(
     round_for_each(alloc, wire, observer, server, &[(6969, BOB, WRQ)])
 }
 
+// A step that answers its sender with a datagram that begins so, and how often the wire had sent and closed by then.
+fn answer(from: Endpoint, head: u32, calls: u8) -> Seen {
+    Seen {
+        from: Some(from),
+        to: Some(from),
+        head,
+        calls,
+        ..NOTHING
+    }
+}
+
 // The steps of that put: a request that is refused, and whose port is closed; the request, the block, the block again, a
 // stranger's datagram, and two time-outs.
 fn steps_of_put() -> [Seen; 7] {
-    let from_alice = Seen {
-        from: Some(ALICE),
-        to: Some(ALICE),
-        ..NOTHING
-    };
-    let from_bob = Seen {
-        from: Some(BOB),
-        to: Some(BOB),
-        ..NOTHING
-    };
     [
         Seen {
             port: 6969,
-            head: 0x0005_0001,
             live: 0,
-            calls: 2,
-            ..from_bob
+            ..answer(BOB, 0x0005_0001, 2)
         },
         Seen {
-            head: 0x0004_0000,
             opened: true,
-            calls: 3,
-            ..from_alice
+            ..answer(ALICE, 0x0004_0000, 3)
         },
         Seen {
-            head: 0x0004_0001,
             taken: true,
-            calls: 4,
-            ..from_alice
+            ..answer(ALICE, 0x0004_0001, 4)
         },
-        Seen {
-            head: 0x0004_0001,
-            calls: 5,
-            ..from_alice
-        },
-        Seen {
-            head: 0x0005_0005,
-            calls: 6,
-            ..from_bob
-        },
+        answer(ALICE, 0x0004_0001, 5),
+        answer(BOB, 0x0005_0005, 6),
         Seen {
             calls: 6,
             ..NOTHING
@@ -255,19 +242,30 @@ fn watch(
     put(alloc, wire, observer, &mut server)
 }
 
-#[test]
-fn an_observer_is_notified_of_each_step(rt: HostRuntime) -> Result<(), Fail> {
+// What an observer sees of that put at this wire.
+fn seen_at(alloc: Global, wire: &mut CountedWire<'_>, calls: &Cell<u8>) -> Result<Vec<Seen>, Fail> {
+    let mut observer = Collecting {
+        seen: Vec::new(alloc),
+        calls,
+    };
+    watch(alloc, wire, &mut observer)?;
+    Ok(observer.seen)
+}
+
+// The same at a new wire.
+fn all_seen(alloc: Global) -> Result<Vec<Seen>, Fail> {
     let calls = Cell::new(0);
     let mut wire = CountedWire {
-        wire: wire_of(rt.alloc(), &[4001, 4000])?,
+        wire: wire_of(alloc, &[4001, 4000])?,
         calls: &calls,
     };
-    let mut observer = Collecting {
-        seen: Vec::new(rt.alloc()),
-        calls: &calls,
-    };
-    watch(rt.alloc(), &mut wire, &mut observer)?;
-    assert_eq!(rt; observer.seen.as_slice(), steps_of_put().as_slice());
+    seen_at(alloc, &mut wire, &calls)
+}
+
+#[test]
+fn an_observer_is_notified_of_each_step(rt: HostRuntime) -> Result<(), Fail> {
+    let seen = all_seen(rt.alloc())?;
+    assert_eq!(rt; seen.as_slice(), steps_of_put().as_slice());
     Ok(())
 }
 
@@ -295,24 +293,48 @@ impl ServerObserver for Dropped {
     }
 }
 
-// Of a host that may have one transfer the second request is dropped. What is no request is not reported, nor is the
-// request of another host.
-#[test]
-fn an_observer_is_notified_of_a_dropped_request(rt: HostRuntime) -> Result<(), Fail> {
-    let alloc = rt.alloc();
-    let mut wire = wire_of(alloc, &[4001, 4000])?;
+// Makes a round for each of these datagrams at the request port, which arrive one by one.
+fn round_for_requests(
+    alloc: Global,
+    wire: &mut MemoryWire,
+    observer: &mut Dropped,
+    server: &mut Server,
+    requests: &[(Endpoint, &[u8])],
+) -> Result<(), Fail> {
+    for (from, bytes) in requests {
+        if bytes.len() > RECEIVE_SIZE {
+            return Err(Fail::new("too long"));
+        }
+        wire.arrive(alloc, 6969, *from, bytes)?;
+        server.round(wire, &mut NoKeeper, observer);
+    }
+    Ok(())
+}
+
+// The last request that a new server drops of which one host may have one transfer, how many it drops, and how many
+// transfers are live then.
+fn dropped_at(
+    alloc: Global,
+    wire: &mut MemoryWire,
+    requests: &[(Endpoint, &[u8])],
+) -> Result<(Option<Endpoint>, u8, usize), Fail> {
     let mut server = Server::new(alloc, 6969);
     server.limit_per_host(1);
     let mut observer = Dropped {
         last: None,
         count: 0,
     };
+    round_for_requests(alloc, wire, &mut observer, &mut server, requests)?;
+    Ok((observer.last, observer.count, server.table().live()))
+}
+
+// Of a host that may have one transfer the second request is dropped. What is no request is not reported, nor is the
+// request of another host.
+#[test]
+fn an_observer_is_notified_of_a_request_that_is_dropped(rt: HostRuntime) -> Result<(), Fail> {
+    let mut wire = wire_of(rt.alloc(), &[4001, 4000])?;
     let requests: [(Endpoint, &[u8]); 4] = [(ALICE, WRQ), (ALICE, ACK_0), (ALICE, WRQ), (BOB, WRQ)];
-    for (from, bytes) in requests {
-        wire.arrive(alloc, 6969, from, bytes)?;
-        server.round(&mut wire, &mut NoKeeper, &mut observer);
-    }
-    let Dropped { last, count } = observer;
-    assert_eq!(rt; (last, count, server.table().live()), (Some(ALICE), 1, 2));
+    let dropped = dropped_at(rt.alloc(), &mut wire, &requests)?;
+    assert_eq!(rt; dropped, (Some(ALICE), 1, 2));
     Ok(())
 }

@@ -43,8 +43,8 @@ fn takes_and_waits(alloc: Global, wire: &mut MemoryWire) -> Result<bool, Fail> {
 #[test]
 fn a_put_to_the_ready_server(rt: HostRuntime) -> Result<(), Fail> {
     let mut wire = request_wire(rt.alloc(), 4000)?;
-    assert!(rt; takes_and_waits(rt.alloc(), &mut wire)?);
-    assert_eq!(rt; send_count(&wire), 2);
+    let is_put = takes_and_waits(rt.alloc(), &mut wire)?;
+    assert_eq!(rt; (is_put, send_count(&wire)), (true, 2));
     Ok(())
 }
 

@@ -1,37 +1,37 @@
 // Runs of clients over wires in memory.
 use crate::wires::*;
 use archive_client::Cause;
-use archive_turns::{MemoryWire, RunFault, Wire, run_get, run_put};
+use archive_turns::{RunFault, Wire, run_get, run_put};
 use std::alloc::Global;
 use std::test::Fail;
-use test_samples::{ACK_0, ACK_1, ACK_2, DATA_HUNDRED, HUNDRED, SERVER, at};
+use test_samples::{HUNDRED, SERVER};
 use tws_file::Ruleset;
+
+// What a put of one whole block returns, and how many datagrams are sent.
+fn put_a_block(alloc: Global) -> Result<(Result<u64, RunFault>, usize), Fail> {
+    let file = vec![in alloc; 7; 512]?;
+    let mut wire = acking_wire(alloc)?;
+    let put = run_put(&mut wire, SERVER, file, 3);
+    Ok((put, send_count(&wire)))
+}
 
 #[test]
 fn a_put_of_one_whole_block(rt: HostRuntime) -> Result<(), Fail> {
-    let mut wire = wire_of(rt.alloc(), &[5000])?;
-    for ack in [ACK_0, ACK_1, ACK_2] {
-        wire.arrive(rt.alloc(), 5000, at(4000), ack)?;
-    }
-    let file = vec![in rt.alloc(); 7; 512]?;
-    let put = run_put(&mut wire, SERVER, file, 3);
-    assert_eq!(rt; (put, send_count(&wire)), (Ok(512), 3));
+    assert_eq!(rt; put_a_block(rt.alloc())?, (Ok(512), 3));
     Ok(())
 }
 
-// A wire at which the only block of HUNDRED has arrived.
-fn answered_wire(alloc: Global) -> Result<MemoryWire, Fail> {
-    let mut wire = wire_of(alloc, &[5000])?;
-    wire.arrive(alloc, 5000, at(4000), DATA_HUNDRED)?;
-    Ok(wire)
+// What a get returns, and whether it has the file.
+fn got(alloc: Global) -> Result<(Result<u64, RunFault>, bool), Fail> {
+    let mut wire = answered_wire(alloc)?;
+    let mut out = Vec::new(alloc);
+    let got = run_get(alloc, &mut wire, SERVER, Ruleset::Lynx, 1, &mut out);
+    Ok((got, out.as_slice() == HUNDRED.as_slice()))
 }
 
 #[test]
 fn a_get_in_one_turn(rt: HostRuntime) -> Result<(), Fail> {
-    let mut wire = answered_wire(rt.alloc())?;
-    let mut out = Vec::new(rt.alloc());
-    let got = run_get(rt.alloc(), &mut wire, SERVER, Ruleset::Lynx, 1, &mut out);
-    assert_eq!(rt; (got, out.as_slice()), (Ok(28), HUNDRED.as_slice()));
+    assert_eq!(rt; got(rt.alloc())?, (Ok(28), true));
     Ok(())
 }
 

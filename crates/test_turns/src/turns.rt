@@ -28,12 +28,16 @@ fn has_put(wire: &MemoryWire) -> bool {
         && is_sent(last, 4000, ALICE, ACK_1, true)
 }
 
+// What is left of a put in two turns, how many calls failed, and whether they were the expected ones.
+fn put_in_two_turns(alloc: Global) -> Result<((u64, usize, usize), u64, bool), Fail> {
+    let mut wire = put_wire(alloc, 4000)?;
+    let served = serve(alloc, &mut wire, 2);
+    Ok((served, wire.failures(), wire.telling() && has_put(&wire)))
+}
+
 #[test]
 fn a_put_in_two_turns(rt: HostRuntime) -> Result<(), Fail> {
-    let mut wire = put_wire(rt.alloc(), 4000)?;
-    let served = serve(rt.alloc(), &mut wire, 2);
-    let is_put = wire.telling() && has_put(&wire);
-    assert_eq!(rt; (served, wire.failures(), is_put), ((1, 1, 1), 0, true));
+    assert_eq!(rt; put_in_two_turns(rt.alloc())?, ((1, 1, 1), 0, true));
     Ok(())
 }
 
@@ -45,14 +49,16 @@ fn has_opened_alone(wire: &MemoryWire, port: Option<u16>) -> bool {
     is_came(came, 6969, ALICE, WRQ) && is_opened(opened, port) && is_quiet(quiet, 6969)
 }
 
+// What is left of a put in two turns whose spare port is 0, and whether nothing more arrived.
+fn put_to_port_0(alloc: Global) -> Result<((u64, usize, usize), bool), Fail> {
+    let mut wire = put_wire(alloc, 0)?;
+    let served = serve(alloc, &mut wire, 2);
+    Ok((served, has_opened_alone(&wire, Some(0))))
+}
+
 #[test]
 fn a_spare_port_of_0(rt: HostRuntime) -> Result<(), Fail> {
-    let mut wire = put_wire(rt.alloc(), 0)?;
-    let served = serve(rt.alloc(), &mut wire, 2);
-    assert_eq!(rt;
-        (served, has_opened_alone(&wire, Some(0))),
-        ((0, 0, 0), true)
-    );
+    assert_eq!(rt; put_to_port_0(rt.alloc())?, ((0, 0, 0), true));
     Ok(())
 }
 

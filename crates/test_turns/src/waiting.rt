@@ -4,18 +4,20 @@ use archive_client::Cause;
 use archive_turns::{GetRun, MemoryWire, ReadyWire, RunFault, get_in_rounds, put_in_rounds};
 use std::alloc::Global;
 use std::test::Fail;
-use test_samples::{ACK_0, ACK_1, ACK_2, DATA_HUNDRED, HUNDRED, SERVER, at};
+use test_samples::{DATA_HUNDRED, HUNDRED, SERVER, at};
 use tws_file::Ruleset;
+
+// What a put of one whole block returns, and how many datagrams are sent.
+fn put_a_block(alloc: Global) -> Result<(Result<u64, RunFault>, usize), Fail> {
+    let file = vec![in alloc; 7; 512]?;
+    let mut wire = acking_wire(alloc)?;
+    let put = put_in_rounds(&mut wire, SERVER, file, 3);
+    Ok((put, send_count(&wire)))
+}
 
 #[test]
 fn a_put_in_rounds(rt: HostRuntime) -> Result<(), Fail> {
-    let mut wire = wire_of(rt.alloc(), &[5000])?;
-    for ack in [ACK_0, ACK_1, ACK_2] {
-        wire.arrive(rt.alloc(), 5000, at(4000), ack)?;
-    }
-    let file = vec![in rt.alloc(); 7; 512]?;
-    let put = put_in_rounds(&mut wire, SERVER, file, 3);
-    assert_eq!(rt; (put, send_count(&wire)), (Ok(512), 3));
+    assert_eq!(rt; put_a_block(rt.alloc())?, (Ok(512), 3));
     Ok(())
 }
 
@@ -56,13 +58,21 @@ fn got_and_dallied(
     }
 }
 
+// The same at a wire with that block, and whether it has the file.
+fn got_at(alloc: Global, wire: &mut MemoryWire) -> Result<((u64, (usize, u64)), bool), Fail> {
+    let mut out = Vec::new(alloc);
+    let got = got_and_dallied(alloc, wire, &mut out)?;
+    Ok((got, out.as_slice() == HUNDRED.as_slice()))
+}
+
+fn got(alloc: Global) -> Result<((u64, (usize, u64)), bool), Fail> {
+    let mut wire = answered_wire(alloc)?;
+    got_at(alloc, &mut wire)
+}
+
 // A get writes its file in the round in which it has it. It ends 250 milliseconds after the repeated block.
 #[test]
 fn a_get_in_rounds(rt: HostRuntime) -> Result<(), Fail> {
-    let mut wire = wire_of(rt.alloc(), &[5000])?;
-    wire.arrive(rt.alloc(), 5000, at(4000), DATA_HUNDRED)?;
-    let mut out = Vec::new(rt.alloc());
-    let got = got_and_dallied(rt.alloc(), &mut wire, &mut out)?;
-    assert_eq!(rt; (got, out.as_slice()), ((28, (3, 250)), HUNDRED.as_slice()));
+    assert_eq!(rt; got(rt.alloc())?, ((28, (3, 250)), true));
     Ok(())
 }

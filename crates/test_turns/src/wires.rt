@@ -3,7 +3,7 @@ use archive_table::{MemoryKeeper, Table};
 use archive_turns::{Entry, MemoryWire, PutRun};
 use std::alloc::Global;
 use std::test::Fail;
-use test_samples::{ALICE, DATA_HUNDRED, HUNDRED, SERVER, WRQ};
+use test_samples::{ACK_0, ACK_1, ACK_2, ALICE, DATA_HUNDRED, HUNDRED, SERVER, WRQ, at};
 use tftp_packet::Endpoint;
 use tws_file::Ruleset;
 
@@ -22,6 +22,27 @@ pub(crate) fn request_wire(alloc: Global, opens: u16) -> Result<MemoryWire, Fail
 pub(crate) fn put_wire(alloc: Global, opens: u16) -> Result<MemoryWire, Fail> {
     let mut wire = request_wire(alloc, opens)?;
     wire.arrive(alloc, 4000, ALICE, DATA_HUNDRED)?;
+    Ok(wire)
+}
+
+// A client's wire at which the only block of HUNDRED has arrived.
+pub(crate) fn answered_wire(alloc: Global) -> Result<MemoryWire, Fail> {
+    let mut wire = wire_of(alloc, &[5000])?;
+    wire.arrive(alloc, 5000, at(4000), DATA_HUNDRED)?;
+    Ok(wire)
+}
+
+fn acknowledge(alloc: Global, wire: &mut MemoryWire) -> Result<(), Fail> {
+    for ack in [ACK_0, ACK_1, ACK_2] {
+        wire.arrive(alloc, 5000, at(4000), ack)?;
+    }
+    Ok(())
+}
+
+// A client's wire at which the request of a put and its two blocks are acknowledged.
+pub(crate) fn acking_wire(alloc: Global) -> Result<MemoryWire, Fail> {
+    let mut wire = wire_of(alloc, &[5000])?;
+    acknowledge(alloc, &mut wire)?;
     Ok(wire)
 }
 
