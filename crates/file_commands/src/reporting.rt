@@ -12,8 +12,8 @@ use std::fmt::Write as _;
 use std::io::Write;
 use std::{io, slice};
 
-/// Reports why a command failed, in one line, and in a second one more of what is known. Returns the status. `names` are the names of its inputs; an input without a name
-/// is standard input.
+/// Reports why a command failed, and returns the status. What is wrong with an unreadable input is said in words on a second
+/// line. `names` are the names of the inputs; an input without a name is standard input.
 pub fn report<E: Write>(fault: ToolFault, names: &[String], errors: &mut E) -> u8
     ensures { result ≡ status_of fault }
 {
@@ -40,7 +40,7 @@ fn names_at(sources: &[Source], index: usize) -> &[String] {
     }
 }
 
-/// Does the same for a command of several inputs.
+/// Reports why a command of several inputs failed, as `report` does, and returns the status.
 pub(crate) fn report_among<E: Write>(fault: ToolFault, sources: &[Source], errors: &mut E) -> u8
     ensures { result ≡ status_of fault }
 {

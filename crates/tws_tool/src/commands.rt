@@ -1,5 +1,5 @@
-//! The lists over all commands: what the program is asked to do, its command line, and how each job is done. A command on files
-//! is a module of `file_commands`, and one of the archive is in a file of its own in `commands/`.
+//! The lists over all commands: what the program is asked to do, its command line, and how each job is done. A command on
+//! files is a module of `file_commands`, and one of the archive is in a file of its own in `commands/`.
 
 ghost use Rattle.std.specs.Prelude.{◌≡◌, ◌≤◌, Ok, IfOk};
 ghost use Rattle.clap.specs.Matches.{found_of};
