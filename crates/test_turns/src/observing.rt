@@ -1,4 +1,4 @@
-// What an observer is told: each step, its sender, and what it made, after the calls of the wire for it; and each request that
+// What an observer is notified of: each step, its sender, and what it made, after the calls of the wire for it; and each request that
 // is dropped.
 use crate::wires::*;
 use archive_table::{NoKeeper, Observer, Step, Table};
@@ -64,7 +64,7 @@ impl ReadyWire for CountedWire<'_> {
     }
 }
 
-// What an observer is told of a step.
+// What an observer sees of a step.
 #[derive(Clone, Copy, Debug, PartialEq, Eq)]
 struct Seen {
     port: u16,
@@ -93,7 +93,7 @@ const NOTHING: Seen = Seen {
     calls: 0,
 };
 
-// Where a test keeps what it is told. A step for which there is no memory is missing there.
+// Where a test collects what it observes. A step for which there is no memory is missing there.
 #[derive(Drop)]
 struct Collecting<'a> {
     seen: Vec<Seen>,
