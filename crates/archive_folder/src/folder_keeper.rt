@@ -58,7 +58,7 @@ impl<F: Folder> FolderKeeper<F> {
         &self.folder
     }
 
-    /// The folder again.
+    /// Gives the folder back.
     pub fn into_folder(self) -> F
         ensures { result ≡ self.folder }
     {

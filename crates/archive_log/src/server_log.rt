@@ -78,7 +78,7 @@ impl<C: Clock, L: Log, H: HistoryFolder, A: Allocator + Copy> ServerLog<C, L, H,
         self.history.as_ref()
     }
 
-    /// The folder of the history again, if there is one.
+    /// Gives the folder of the history back, if there is one, and drops the rest.
     pub fn into_history(self) -> Option<H>
     where
         C: Drop,

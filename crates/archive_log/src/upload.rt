@@ -25,7 +25,7 @@ pub struct Upload {
     pub ruleset: Option<Ruleset>,
     /// Why it is not a solution file, if it is none. `Memory` says nothing of it.
     pub fault: Option<FileFault>,
-    /// How many keys have a better solution by it.
+    /// How many of its solutions were better than what was there for their key, or the first there, when they were merged.
     pub better: u64,
 }
 
@@ -79,7 +79,7 @@ fn ruleset_in<A: Allocator>(file: &Received<A>) -> Option<Ruleset>
 }
 
 impl Upload {
-    /// What is said of a file by which so many keys have a better solution. It is read once more.
+    /// What is said of a file, so many of whose solutions improved a collection. It is read once more.
     pub fn of<A: Allocator + Copy, B: Allocator>(alloc: A, taken: &Taken<B>, better: u64) -> Self
         ensures peer { result.peer ≡ taken.now.peer }
         ensures bytes { result.bytes ≡ length taken.now.file }

@@ -1,4 +1,4 @@
--- What the turns of archive_turns are in the world of archive_theorem: a datagram that is received and not dropped is a
+-- What the turns of archive_turns are in the world of archive_model: a datagram that is received and not dropped is a
 -- `receives`, and a time-out is a `client_waits_long` or a `server_waits_long`.
 use Rattle.std.specs.Prelude.{ℕ, Bool, true, false, nat_le, List, [], ◌∷◌, map, flat_map, Option, None, Some}
 use Rattle.tftp_packet.specs.declared.endpoint.Endpoint.{Endpoint}

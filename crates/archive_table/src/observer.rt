@@ -3,9 +3,9 @@ use crate::table::Table;
 use std::alloc::Allocator;
 use tftp_packet::Endpoint;
 
-/// Is told of each step of a table, once it was made and its datagram was sent.
+/// Is notified of each step of a table, once it was made and its datagram was sent.
 ///
-/// It borrows what it is told of, and has no ghost member: so it changes nothing but itself, and no contract depends on
+/// It borrows what it observes, and has no ghost member: so it changes nothing but itself, and no contract depends on
 /// it.
 pub trait Observer {
     /// Observes a step. `port` is that of the transfer, also of one that the step opened or closed, or the request port

@@ -1,7 +1,8 @@
 //! The running archive over any wire: one turn of a server or of a client, and the loops over them.
 //!
 //! Read `specs/Turn.antt` first: which calls of the wire a turn makes, and which steps of the table. `specs/Wire.antt`
-//! has the ghost log of a wire's calls, `specs/Run.antt` and `specs/Rounds.antt` the runs of clients. The crate's README shows how it is called.
+//! has the ghost log of a wire's calls, `specs/Run.antt` and `specs/Rounds.antt` the runs of clients. The crate's README shows how it
+//! is called.
 #![tactic(auto)]
 
 mod arrival;

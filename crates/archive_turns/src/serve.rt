@@ -33,7 +33,7 @@ pub fn serve_turns<A: Allocator + Copy, W: Wire, K: Keeper>(
     taken
 }
 
-/// Makes this many rounds of a server, of whose steps the observer is told. Returns how many files were taken.
+/// Makes this many rounds of a server, and notifies the observer of its steps. Returns how many files were taken.
 pub fn serve_rounds<A: Allocator + Copy, W: ReadyWire, K: Keeper, O: ServerObserver>(
     wire: &mut W,
     keeper: &mut K,

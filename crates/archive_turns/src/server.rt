@@ -176,7 +176,7 @@ impl<A: Allocator + Copy> Server<A> {
     ///
     /// For a datagram at the request port a spare port is opened, and closed again unless a transfer was opened on it.
     /// A turn in which nothing was received is quiet; a transfer times out after `QUIET_TURNS` quiet turns since it was
-    /// opened or last sent. A failed call of the wire is a loss or is ignored. The observer is told of each step, as in a
+    /// opened or last sent. A failed call of the wire is a loss or is ignored. The observer is notified of each step, as in a
     /// round.
     pub fn turn<W: Wire, K: Keeper, O: ServerObserver>(
         &mut self,
@@ -207,7 +207,7 @@ impl<A: Allocator + Copy> Server<A> {
     /// peer, once all that had arrived by then was handed out. One that only waits for a repeated last block gives way
     /// when all places are taken.
     ///
-    /// The observer is told of each step, the time-outs too, after the step's calls of the wire, and of each request that is
+    /// The observer is notified of each step, time-outs too, after the step's calls of the wire, and of each request that is
     /// dropped for its host. It changes nothing.
     pub fn round<W: ReadyWire, K: Keeper, O: ServerObserver>(
         &mut self,

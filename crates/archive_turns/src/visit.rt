@@ -239,14 +239,14 @@ pub(crate) fn visit_request<A: Allocator + Copy, W: Wire, O: ServerObserver>(
     }
 }
 
-// Tells an observer of a datagram at the request port that was not let in, if it is a request.
+// Notifies an observer of a datagram at the request port that was not admitted, if it is a request.
 fn observe_drop<O: ServerObserver>(observer: &mut O, from: Endpoint, bytes: &[u8]) {
     if is_request(bytes) {
         observer.on_dropped(from);
     }
 }
 
-// Tells an observer of the step of a request.
+// Notifies an observer of the step of a request.
 fn observe_request<A: Allocator + Copy, O: Observer>(
     table: &Table<A>,
     observer: &mut O,

@@ -1,7 +1,7 @@
 //! A replay of a list of events on the real table and clients: it has the outcome that the theorem of archive_theorem
 //! speaks of. docs/HEADLINE.md states the promise and why it holds.
 //!
-//! Read `specs/World.antt` of archive_theorem first: what a world is, and what each event does to it. Then here
+//! Read `specs/World.antt` of archive_model first: what a world is, and what each event does to it. Then here
 //! `Outcomes` has the outcome of a run, and `Replays` what a replay guarantees. README.md shows how `replay` is called.
 #![tactic(auto)]
 

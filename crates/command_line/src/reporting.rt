@@ -11,8 +11,8 @@ use std::fmt::Write as _;
 use std::io;
 use std::io::Write;
 
-/// Reports why a command failed, in one line, and in a second one more of what is known. Returns the status. `names` are
-/// the names of its inputs; an input without a name is standard input.
+/// Reports why a command failed, and returns the status. What is wrong with an unreadable input is said in words on a second
+/// line. `names` are the names of the inputs; an input without a name is standard input.
 pub fn report<E: Write>(fault: ToolFault, names: &[String], errors: &mut E) -> u8
     ensures { result ≡ status_of fault }
 {

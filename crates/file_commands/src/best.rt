@@ -131,8 +131,8 @@ fn run_over<S: FileSystem, W: Write, E: Write>(
     }
 }
 
-/// Runs `best` over these sources, and returns the status. Standard input is read, whole, before any other input is, and is the
-/// same each time that it is named.
+/// Runs `best` over these sources, and returns the status. Standard input, if it is among them, is read whole before any other
+/// input, and is the same each time that it is named.
 pub(crate) fn run<S: FileSystem, R: Read, W: Write, E: Write>(
     system: &S,
     alloc: Global,

@@ -1,26 +1,8 @@
 //! The commands of the program `tws` on files, over any reader and writer, and the list of them. Read `specs/FileJobs.antt`
-//! first, then `specs/Written.antt`, and for a command the file of its name.
+//! first, then `specs/Written.antt`, and for a command the file of its name. The crate's README shows how it is called.
 //!
 //! Each command is a module with `command`, its command line, `asked`, what its arguments ask for, `run`, which does that,
 //! and a function over any reader and writer, such as `run_show`. The list is in `file_job.rt`.
-//!
-//! How to call it, from a crate that lists `file_commands`, `command_line` and `tws_file`; this needs no proof file:
-//!
-//! ```text
-//! ghost use Rattle.std.specs.Prelude.{[], true, IfOk, Some};
-//! ghost use Rattle.tws_file.specs.Listing.{listing_of};
-//! ghost use Rattle.file_commands.specs.Written.{Writes};
-//!
-//! /// The listing of a solution file, with a line for each move.
-//! fn listing(alloc: Global, bytes: &[u8]) -> Result<Vec<u8>, ToolFault>
-//!     ensures { IfOk result (λ text. Writes (listing_of true) (Some bytes.now) (Some []) (Some text.items)) }
-//! {
-//!     let mut input = bytes;
-//!     let mut out = Vec::new(alloc);
-//!     run_show(alloc, &mut input, &mut out, true)?;
-//!     Ok(out)
-//! }
-//! ```
 #![tactic(auto)]
 
 mod arguments;

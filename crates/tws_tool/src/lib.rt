@@ -1,27 +1,6 @@
 //! The program `tws`: the commands of the archive, over any wire and keeper, and the job that the arguments ask for, of
-//! these commands or of those on files (`file_commands`); both stand on `command_line`. Read `specs/Lines.antt` first, then `specs/Commands.antt`.
-//!
-//! How to call it, from a crate that lists `tws_tool`, `archive_turns` and `tftp_packet`; this needs no proof file:
-//!
-//! ```text
-//! ghost use Rattle.std.specs.Prelude.{OnOk, Some};
-//! ghost use Rattle.tws_tool.specs.Commands.Put.{Puts};
-//! ghost use Rattle.tws_tool.specs.declared.limits.TheConstants.{PORT};
-//!
-//! /// Sends the bytes of a solution file to the archive at this host, at its usual port.
-//! fn send<N: TransferWire, W: Write>(
-//!     alloc: Global,
-//!     bytes: &[u8],
-//!     wire: &mut N,
-//!     host: u32,
-//!     out: &mut W,
-//! ) -> Result<(), ToolFault>
-//!     ensures { OnOk result (Puts (Some bytes.now) (record { host = host; port = PORT }) (N.log wire.old) (N.log wire.new) (W.contents out.old) (W.contents out.new)) }
-//! {
-//!     let mut input = bytes;
-//!     put_file(alloc, &mut input, wire, Endpoint { host, port: PORT }, out)
-//! }
-//! ```
+//! these commands or of those on files (`file_commands`); both stand on `command_line`. Read `specs/Lines.antt` first, then
+//! `specs/Commands.antt`. The crate's README shows how it is called.
 #![tactic(auto)]
 
 mod address;

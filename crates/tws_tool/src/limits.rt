@@ -14,5 +14,5 @@ pub const TURNS: u64 = 1_000_000_000;
 /// The most rounds that a client makes, each of which waits a second at most.
 pub const ROUNDS: u64 = 1_000_000_000;
 
-/// How many transfers one host may have, if `serve` is not told otherwise: half of the places.
+/// How many transfers one host may have, unless `serve` is given another number: half of the places.
 pub const PER_HOST: u64 = 32;

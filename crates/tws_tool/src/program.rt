@@ -59,7 +59,7 @@ fn run_answer<
 /// `system` are read and replaced, and `put` and `get` go over `wire` to the hosts that `system` finds; the folder and the
 /// sockets of `serve` are the runtime's.
 ///
-/// A fault goes to `errors` as one line. The status is 0 if all was done, and for help, whose text goes to `out`; 1 for
+/// A fault goes to `errors`, on one line or two. The status is 0 if all was done, and for help, whose text goes to `out`; 1 for
 /// a usage error or a bad address; 2 if reading, writing, a socket or memory failed; 3 for an unreadable solution file;
 /// 4 for a failed transfer.
 pub fn run_words_with<

@@ -6,7 +6,8 @@ use std::alloc::Global;
 use std::time::Clock;
 use tftp_packet::Endpoint;
 
-/// An observer that a server can serve with, which is told when the server starts and stops. No contract depends on it.
+/// An observer that a server can serve with, which is also notified when the server starts and stops. No contract depends
+/// on it.
 pub trait ServedObserver: ServerObserver {
     /// The server listens at this address and port, with the collections of its table, kept in this folder if there is
     /// one.

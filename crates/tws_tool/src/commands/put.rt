@@ -134,10 +134,10 @@ fn put_shown<N: TransferWire>(
 ///
 /// # Errors
 ///
-/// `Read` if the reader fails, `Transfer(TooLong)` if the file has more than
-/// `MAX_FILE` bytes, of which no more than 65,536 are read, and `Unreadable` with index 0 and the fault of the bytes:
-/// then nothing is sent. `Socket` if no port was opened, and `Transfer` with the cause of the failed
-/// transfer. `Write` if the writer fails, after the file was sent. `Memory` if an allocation was refused.
+/// `Read` if the reader fails or does not end within `INPUT_READS` reads, `Transfer(TooLong)` if the input has more than
+/// `MAX_FILE` bytes, of which at most 65,536 beyond these are read, and `Unreadable` with index 0 and the fault of the
+/// bytes: then nothing is sent. `Socket` if no port was opened, and `Transfer` with the cause of the failed transfer.
+/// `Write` if the writer fails, after the file was sent. `Memory` if an allocation was refused.
 pub fn put_file<R: Read, N: TransferWire, W: Write>(
     alloc: Global,
     input: &mut R,

@@ -110,7 +110,7 @@ fn make_passes<N: ReadyWire, K: ServedKeeper, O: ServerObserver>(
 }
 
 /// Prints that a server serves on this port, makes these turns or rounds of it, and prints how many files were taken.
-/// Once its keeper is not usable it makes none any more.
+/// Once its keeper is not usable, no further one is made.
 ///
 /// # Errors
 ///
