@@ -78,6 +78,10 @@ fn an_input_that_failed(rt: HostRuntime) {
     );
     assert_eq!(rt;
         (early.as_slice(), failed.as_slice(), other.as_slice()),
-        (b"".as_slice(), b"tws: standard input: permission denied\n".as_slice(), b"".as_slice())
+        (
+            b"".as_slice(),
+            b"tws: standard input: permission denied\n".as_slice(),
+            b"".as_slice()
+        )
     );
 }
