@@ -5,7 +5,8 @@ ghost use Rattle.clap.specs.Matches.{found_of};
 ghost use Rattle.clap.specs.Words.{app_of, rows_of, rule_of};
 ghost use Rattle.clap.specs.declared.builder.command.Command.TheViews.{out-Command};
 ghost use Rattle.command_line.specs.Arguments.{Answers};
-ghost use Rattle.tws_tool.specs.Commands.Serve.{AsksToServe, log_rule, numbers_app, places_app, serve_app, text_rule};
+ghost use Rattle.tws_tool.specs.Arguments.{number_rule};
+ghost use Rattle.tws_tool.specs.Commands.Serve.{AsksToServe, limit_option, log_rule, numbers_app, per_host_option, places_app, serve_app, text_rule, turns_option};
 
 use crate::arguments::{flag_given, number_argument, number_given, port_argument, port_given};
 use crate::limits::{PER_HOST, TURNS};
@@ -58,6 +59,39 @@ fn log_argument<'a>(alloc: Global) -> Arg<'a>
         .help("With a line on standard error for each event")
 }
 
+fn turns_argument<'a>(alloc: Global) -> Arg<'a>
+    ensures rule { rule_of result ≡ number_rule turns_option }
+    ensures local { result.global ≡ false }
+{
+    number_argument(alloc, "turns", "N", TURNS, "Stop after this many turns")
+}
+
+fn per_host_argument<'a>(alloc: Global) -> Arg<'a>
+    ensures rule { rule_of result ≡ number_rule per_host_option }
+    ensures local { result.global ≡ false }
+{
+    number_argument(
+        alloc,
+        "per-host",
+        "N",
+        LIVE as u64,
+        "At most this many transfers of one host, 32 if none is given",
+    )
+}
+
+fn limit_argument<'a>(alloc: Global) -> Arg<'a>
+    ensures rule { rule_of result ≡ number_rule limit_option }
+    ensures local { result.global ≡ false }
+{
+    number_argument(
+        alloc,
+        "limit",
+        "BYTES",
+        MAX_FILE,
+        "Keep no collection of more bytes; all that can be served if none is given",
+    )
+}
+
 // The command with only its options that are numbers.
 fn numbers_command<'a>(alloc: Global) -> Result<Command<'a>, AllocError>
     ensures app { IfOk result (λ command. app_of command ≡ numbers_app) }
@@ -65,21 +99,9 @@ fn numbers_command<'a>(alloc: Global) -> Result<Command<'a>, AllocError>
 {
     new_command(alloc, "serve", ABOUT, HELP)
         .arg(port_argument(alloc))?
-        .arg(number_argument(alloc, "turns", "N", TURNS, "Stop after this many turns"))?
-        .arg(number_argument(
-            alloc,
-            "per-host",
-            "N",
-            LIVE as u64,
-            "At most this many transfers of one host, 32 if none is given",
-        ))?
-        .arg(number_argument(
-            alloc,
-            "limit",
-            "BYTES",
-            MAX_FILE,
-            "Keep no collection of more bytes; all that can be served if none is given",
-        ))
+        .arg(turns_argument(alloc))?
+        .arg(per_host_argument(alloc))?
+        .arg(limit_argument(alloc))
 }
 
 // What the help of the command begins and ends with.
