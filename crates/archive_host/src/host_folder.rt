@@ -16,11 +16,11 @@ use std::{fs, io};
 use thiserror::Error;
 
 /// Why a folder cannot be opened.
-#[derive(Clone, Copy, Debug, PartialEq, Eq, Error)]
+#[derive(Clone, Copy, Debug, Error)]
 pub enum OpenFault {
-    /// There is no folder of this name, or the system does not open it.
-    #[error("no folder")]
-    NoFolder,
+    /// There is no folder of this name, or the system does not open it, for this cause.
+    #[error("no folder: {0}")]
+    NoFolder(io::Error),
     /// It is open already, in this program or another.
     #[error("folder in use")]
     InUse,
@@ -86,8 +86,9 @@ impl<R: Files<File = File> + AllocGlobal + Copy> HostFolder<R> {
         let Ok(paths) = Paths::new(rt.alloc(), dir) else {
             return Err(OpenFault::Memory);
         };
-        let Ok(folder) = open_folder(&rt, dir) else {
-            return Err(OpenFault::NoFolder);
+        let folder = match open_folder(&rt, dir) {
+            Ok(folder) => folder,
+            Err(cause) => return Err(OpenFault::NoFolder(cause)),
         };
         match folder.try_lock() {
             Ok(()) => Ok(HostFolder {
@@ -98,7 +99,7 @@ impl<R: Files<File = File> + AllocGlobal + Copy> HostFolder<R> {
                 error: None,
             }),
             Err(TryLockError::WouldBlock) => Err(OpenFault::InUse),
-            Err(TryLockError::Error(_)) => Err(OpenFault::NoFolder),
+            Err(TryLockError::Error(cause)) => Err(OpenFault::NoFolder(cause)),
         }
     }
 

@@ -4,22 +4,26 @@ use archive_host::{DirKeeper, HostFolder, OpenFault};
 use archive_table::{KeepFault, Keeper};
 use std::fs;
 use std::fs::Permissions;
+use std::io::ErrorKind;
 use std::os::unix::fs::{PermissionsExt, symlink};
 use std::test::Fail;
 use test_samples::{HUNDRED, NINETY};
 use tws_file::Ruleset;
 
-// Why a folder cannot be opened, if it cannot.
-fn open_fault(rt: HostRuntime, dir: &str) -> Option<OpenFault> {
-    HostFolder::open(rt, dir).err()
+// What the system says of a folder that it does not open.
+fn no_folder(rt: HostRuntime, dir: &str) -> Option<ErrorKind> {
+    match HostFolder::open(rt, dir) {
+        Err(OpenFault::NoFolder(cause)) => Some(cause.kind()),
+        _ => None,
+    }
 }
 
 // The faults of no name, of a name that is missing, and of the name of a file.
-fn no_folders(rt: HostRuntime, dir: &str) -> Result<[Option<OpenFault>; 3], Fail> {
+fn no_folders(rt: HostRuntime, dir: &str) -> Result<[Option<ErrorKind>; 3], Fail> {
     let name = file_in(&rt, dir, "name")?;
-    let missing = open_fault(rt, name.as_str());
+    let missing = no_folder(rt, name.as_str());
     write_in(&rt, dir, "name", HUNDRED)?;
-    Ok([open_fault(rt, ""), missing, open_fault(rt, name.as_str())])
+    Ok([no_folder(rt, ""), missing, no_folder(rt, name.as_str())])
 }
 
 #[test]
@@ -27,23 +31,30 @@ fn what_is_no_folder(rt: HostRuntime) -> Result<(), Fail> {
     let dir = folder(&rt, "none")?;
     let faults = no_folders(rt, &dir)?;
     remove(&rt, dir)?;
-    assert_eq!(rt; faults, [Some(OpenFault::NoFolder); 3]);
+    assert_eq!(rt;
+        faults,
+        [
+            Some(ErrorKind::NotFound),
+            Some(ErrorKind::NotFound),
+            Some(ErrorKind::NotADirectory)
+        ]
+    );
     Ok(())
 }
 
-// Why a folder cannot be opened while a keeper has it, and after that.
-fn opened_twice(rt: HostRuntime, dir: &str) -> Result<Option<OpenFault>, Fail> {
+// Whether a folder is found in use while a keeper has it.
+fn is_locked_while_kept(rt: HostRuntime, dir: &str) -> Result<bool, Fail> {
     let _keeper = keeper_of(rt, dir)?;
-    Ok(open_fault(rt, dir))
+    Ok(matches!(HostFolder::open(rt, dir), Err(OpenFault::InUse)))
 }
 
 #[test]
 fn a_folder_is_locked(rt: HostRuntime) -> Result<(), Fail> {
     let dir = folder(&rt, "locked")?;
-    let during = opened_twice(rt, &dir)?;
-    let after = open_fault(rt, &dir);
+    let is_locked = is_locked_while_kept(rt, &dir)?;
+    let is_free = HostFolder::open(rt, &dir).is_ok();
     remove(&rt, dir)?;
-    assert_eq!(rt; (during, after), (Some(OpenFault::InUse), None));
+    assert_eq!(rt; (is_locked, is_free), (true, true));
     Ok(())
 }
 

@@ -21,7 +21,11 @@ fn not_loaded<E: Write>(name: &str, errors: &mut E) {
 // Reports that a folder cannot be opened, with the cause on a second line.
 fn not_opened<E: Write>(fault: OpenFault, name: &str, errors: &mut E) {
     not_loaded(name, errors);
-    let _ = writeln!(errors, "tws: {name}: {fault}");
+    if let OpenFault::NoFolder(cause) = fault {
+        let _status = report_cause(FAILED, name, &cause, errors);
+    } else {
+        let _ = writeln!(errors, "tws: {name}: {fault}");
+    }
 }
 
 // Reports that nothing can be kept in a folder, with the system's cause on a second line.
