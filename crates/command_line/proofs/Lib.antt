@@ -2,3 +2,4 @@ pub mod Statuses
 pub mod Taking
 mod Given
 mod Sources
+pub mod Finding

@@ -1,8 +1,12 @@
 -- The exit status of a command, by its result.
-use Rattle.std.proofs.Common.{◌≡◌, ◌≢◌, Result, Ok, Err, OnOk, IfErr, arith}
+use Rattle.std.proofs.Common.{◌≡◌, ◌≢◌, ℕ, List, [], ◌∷◌, ◌++◌, length, length-append, ap, Result, Ok, Err, OnOk, IfErr, arith}
 use Rattle.command_line.specs.declared.tool_fault.ToolFault.{ToolFault}
 use Rattle.command_line.specs.declared.tool_fault.ToolFault.TheVariants.{Read, Write, Unreadable, Memory, Socket, Transfer}
 use Rattle.command_line.specs.Faults.{answer_status, status_of}
+
+-- a text that ends a line has a byte
+pub line_some : (line text : List ℕ) → text ≡ line ++ 10 ∷ [] → text ≢ []
+line_some line text is = λ none. let bad : length text ≡ 0 = ap length none in omega (arith, bad, ap length is, length-append line (10 ∷ []))
 
 -- no fault has status 0
 status_some : (e : ToolFault) → status_of e ≢ 0

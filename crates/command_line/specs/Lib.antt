@@ -1,4 +1,6 @@
 pub mod Arguments
+pub mod CommandLine
+pub mod Help
 pub mod Inputs
 pub mod Faults
 pub mod Files

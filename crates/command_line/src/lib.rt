@@ -1,18 +1,26 @@
 //! What every command of the program `tws` stands on: its arguments as `clap` reads them, where its input is read from,
 //! files by their names, why it fails, and how that is reported. README.md has a caller, and what is proved.
 //!
-//! Read `specs/Arguments.antt` first: it says what was given for an argument. `specs/Faults.antt` has the exit statuses,
-//! `specs/Inputs.antt` what is known of an input, and `specs/Files.antt` how files change.
+//! Read `specs/Arguments.antt` first: it says what was given for an argument. `specs/CommandLine.antt` says what the
+//! arguments of a program ask for, `specs/Help.antt` what a run did that was asked for no job; `specs/Faults.antt` has the
+//! exit statuses, `specs/Inputs.antt` what is known of an input, and `specs/Files.antt` how files change.
 #![tactic(auto)]
 
 mod arguments;
+mod beside;
 mod file_system;
+mod help;
 mod in_words;
+mod job_fault;
 mod laws;
 mod limits;
+mod noted;
+mod program;
 mod reporting;
 mod source;
 mod status;
+mod system;
+mod system_draft;
 mod tool_fault;
 
 pub use arguments::{
@@ -20,10 +28,16 @@ pub use arguments::{
     sources_given, string_given, text_given,
 };
 pub use file_system::FileSystem;
+pub use help::report_job_fault;
 pub use in_words::InWords;
+pub use job_fault::JobFault;
 pub use laws::limit_values;
-pub use limits::INPUT_READS;
-pub use reporting::{finish, report, report_cause, report_file};
+pub use limits::{INPUT_READS, VERSION};
+pub use noted::{Noted, report_streams};
+pub use program::{found_in, new_program, unknown_command};
+pub use reporting::{finish, report, report_arguments, report_cause, report_file};
 pub use source::Source;
 pub use status::{DONE, FAILED, NOT_TRANSFERRED, UNREADABLE, USAGE};
+pub use system::{System, SystemFile};
+pub use system_draft::SystemDraft;
 pub use tool_fault::ToolFault;

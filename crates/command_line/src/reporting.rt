@@ -1,10 +1,10 @@
 //! Reports of why a command failed, and its exit status.
 
-ghost use Rattle.std.specs.Prelude.{◌≡◌, ◌≤◌};
+ghost use Rattle.std.specs.Prelude.{◌≡◌, ◌⊎◌, ◌≤◌};
 ghost use Rattle.command_line.specs.Faults.{status_of, answer_status};
 
 use crate::in_words::InWords;
-use crate::status::DONE;
+use crate::status::{DONE, FAILED, USAGE};
 use crate::tool_fault::ToolFault;
 use arrayvec::ArrayString;
 use std::fmt::Write as _;
@@ -71,4 +71,17 @@ pub fn report_file<E: Write>(fault: ToolFault, name: &str, cause: &io::Error, er
     ensures { result ≡ status_of fault }
 {
     report_cause(report(fault, &[], errors), name, cause, errors)
+}
+
+/// Reports why the process's arguments could not be read, and returns the status: that of a usage error for one that is not
+/// UTF-8.
+pub fn report_arguments<E: Write>(error: &io::Error, errors: &mut E) -> u8
+    ensures { (result ≡ 1) ⊎ (result ≡ 2) }
+{
+    let (status, text) = match error.kind() {
+        io::ErrorKind::OutOfMemory => (FAILED, "out of memory"),
+        _ => (USAGE, "an argument is not UTF-8"),
+    };
+    let _ = writeln!(errors, "tws: {text}");
+    status
 }

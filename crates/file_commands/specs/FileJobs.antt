@@ -1,8 +1,12 @@
 -- The list of the commands on files: their command line, which job each asks for, and what each job did. A command is
 -- defined in the file of its name.
-use Rattle.std.specs.Prelude.{◌≡◌, ℕ, List, Option}
+use Rattle.std.specs.Prelude.{◌≡◌, ℕ, List, Option, Result, Ok, Err}
 use Rattle.clap.specs.Words.{App, Row, Text, with_subcommand}
-use Rattle.command_line.specs.Arguments.{RulesetNames}
+use Rattle.clap.specs.declared.parser.matches.ArgMatches.{ArgMatches}
+use Rattle.command_line.specs.Arguments.{AreRulesetNames, RulesetNames}
+use Rattle.command_line.specs.CommandLine.{AnswersIn, FindsCommand, top_app}
+use Rattle.command_line.specs.Help.{NoJobRan}
+use Rattle.command_line.specs.declared.job_fault.JobFault.{JobFault}
 use Rattle.file_commands.specs.declared.file_job.FileJob.{FileJob}
 use Rattle.file_commands.specs.declared.file_job.FileJob.TheVariants as job
 use Rattle.file_commands.specs.Show.{AsksToShow, ShowRan, show_app, show_name}
@@ -24,6 +28,10 @@ with_several_file_apps names program = with_subcommand (with_subcommand (with_su
 abbrev pub with_file_apps : RulesetNames → App → App
 with_file_apps names program = with_several_file_apps names (with_one_file_apps program)
 
+-- the program with only these commands
+abbrev pub files_app : RulesetNames → App
+files_app names = with_file_apps names top_app
+
 -- the command of this name, with what was found for its arguments, asks for the job
 abbrev pub AsksForFiles : Text × List Row → FileJob → Type 0
 AsksForFiles command (job.Show arguments) = (command.0 ≡ show_name) × AsksToShow command.1 arguments
@@ -44,3 +52,18 @@ FileJobRan bytes_of Unread (job.Without arguments) status had left old new = Wit
 FileJobRan bytes_of Unread (job.Best arguments) status had left old new = BestRan bytes_of Unread arguments status had left old new
 FileJobRan bytes_of Unread (job.Compare arguments) status had left old new = Unread × CompareRan bytes_of arguments status old new
 FileJobRan bytes_of Unread (job.Page arguments) status had left old new = PageRan bytes_of Unread arguments status had left old new
+
+-- ---- the program with only these commands
+
+-- what was found in the arguments, which have no fault
+abbrev pub FindsFileCommand : List Text → ArgMatches → Type 0
+FindsFileCommand words found = (names : RulesetNames) × AreRulesetNames names × FindsCommand (files_app names) words found
+
+-- what the arguments ask for, or why they ask for no job
+abbrev pub AnswersFileWords : List Text → Result FileJob JobFault → Type 0
+AnswersFileWords words answer = (names : RulesetNames) × AreRulesetNames names × AnswersIn AsksForFiles (files_app names) words answer
+
+-- what a run did that was asked for this job, or for none
+abbrev pub FileWordsRan : (bytes_of : List ℕ → Option (List ℕ)) → (Unread : Type 0) → Result FileJob JobFault → (status : ℕ) → (had left old new : Option (List ℕ)) → Type 0
+FileWordsRan bytes_of Unread (Ok job) status had left old new = FileJobRan bytes_of Unread job status had left old new
+FileWordsRan bytes_of Unread (Err why) status had left old new = Unread × NoJobRan why status old new

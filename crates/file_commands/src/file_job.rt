@@ -4,7 +4,7 @@ ghost use Rattle.std.specs.Prelude.{◌≡◌, ◌≤◌, IfOk};
 ghost use Rattle.clap.specs.Matches.{found_of};
 ghost use Rattle.clap.specs.Words.{app_of, rows_of};
 ghost use Rattle.command_line.specs.Arguments.{Answers};
-ghost use Rattle.file_commands.specs.FileJobs.{AsksForFiles, FileJobRan, with_file_apps, with_one_file_apps, with_several_file_apps};
+ghost use Rattle.file_commands.specs.FileJobs.{AsksForFiles, FileJobRan, files_app, with_file_apps, with_one_file_apps, with_several_file_apps};
 
 use crate::best::BestArguments;
 use crate::compare::CompareArguments;
@@ -14,7 +14,7 @@ use crate::show::ShowArguments;
 use crate::without::WithoutArguments;
 use crate::{best, compare, pack, page, show, without};
 use clap::{ArgMatches, Command};
-use command_line::FileSystem;
+use command_line::{FileSystem, new_program};
 use std::alloc::{AllocError, Global};
 use std::io::{Read, Write};
 
@@ -66,9 +66,8 @@ fn with_several_file_commands<'a>(
     command.subcommand(page)
 }
 
-/// Adds the commands on files to the command line of a program, with these names of the rulesets: `show`, `pack`,
-/// `without`, `best`, `compare` and `page`, in this order.
-pub fn with_file_commands<'a>(
+// Adds the commands on files to the command line of a program, with these names of the rulesets.
+fn with_file_commands<'a>(
     alloc: Global,
     program: Command<'a>,
     names: &'a [&'a str],
@@ -77,6 +76,14 @@ pub fn with_file_commands<'a>(
 {
     let program = with_one_file_commands(alloc, program)?;
     with_several_file_commands(alloc, program, names)
+}
+
+/// The command line of the program with only the commands on files, with these names of the rulesets: `show`, `pack`,
+/// `without`, `best`, `compare` and `page`, in this order.
+pub fn file_program<'a>(alloc: Global, names: &'a [&'a str]) -> Result<Command<'a>, AllocError>
+    ensures { IfOk result (λ command. app_of command ≡ files_app names.entry) }
+{
+    with_file_commands(alloc, new_program(alloc), names)
 }
 
 /// What the arguments of the command of this name ask for; `None` if they ask for nothing, or no command on files has this

@@ -4,7 +4,7 @@
 use std::io::IsTerminal;
 use std::process::ExitCode;
 use std::{env, io};
-use tws_tool::{Noted, report_streams, run_words};
+use tws_tool::{Noted, report_arguments, report_streams, run_words};
 
 fn run(rt: &HostRuntime) -> io::Result<u8> {
     let words: Vec<String> = env::args(rt)?.collect(rt.alloc())?;
@@ -27,21 +27,10 @@ fn run(rt: &HostRuntime) -> io::Result<u8> {
     Ok(report_streams(status, &input, &out, &mut errors))
 }
 
-// Reports why the process's arguments could not be read.
-fn refuse(rt: &HostRuntime, error: io::Error) -> u8 {
-    let (status, text) = match error.kind() {
-        io::ErrorKind::OutOfMemory => (2, "out of memory"),
-        _ => (1, "an argument is not UTF-8"),
-    };
-    // There is nowhere left to report that this failed.
-    let _ = eprintln!(rt; "tws: {text}");
-    status
-}
-
 fn main(rt: HostRuntime) -> ExitCode {
     let status = match run(&rt) {
         Ok(status) => status,
-        Err(error) => refuse(&rt, error),
+        Err(error) => report_arguments(&error, &mut rt.stderr()),
     };
     ExitCode::from(status)
 }

@@ -5,10 +5,6 @@ use Rattle.command_line.specs.declared.tool_fault.ToolFault.TheVariants.{Read, W
 use Rattle.command_line.specs.Faults.{answer_status, status_of}
 use Rattle.tws_tool.specs.Lines.{IsCutText, Says, Transfers, Unsaid}
 
--- a text that ends a line has a byte
-pub line_some : (line text : List ℕ) → text ≡ line ++ 10 ∷ [] → text ≢ []
-line_some line text is = λ none. let bad : length text ≡ 0 = ap length none in omega (arith, bad, ap length is, length-append line (10 ∷ []))
-
 -- a command none of whose faults blames an input has not status 3
 pub none_blamed : (r : Result (Unit {0}) ToolFault) → IfErr r (λ e. status_of e ≢ 3) → answer_status r ≢ 3
 none_blamed (Ok done) other = λ e. omega (arith, e)

@@ -3,27 +3,19 @@
 pub mod Serve
 pub mod Put
 pub mod Get
-use Rattle.std.specs.Prelude.{◌≡◌, ℕ, true, List, Option, Result, Ok, Err, codes}
-use Rattle.clap.specs.Words.{App, Row, Text, new_app, with_subcommand}
+use Rattle.std.specs.Prelude.{◌≡◌, ℕ, List, Option, Result, Ok, Err}
+use Rattle.clap.specs.Words.{App, Row, Text, with_subcommand}
 use Rattle.archive_turns.specs.Wire.{Entry}
 use Rattle.tws_tool.specs.declared.commands.Job.{Job}
 use Rattle.tws_tool.specs.declared.commands.Job.TheVariants as job
-use Rattle.tws_tool.specs.declared.job.JobFault.{JobFault}
-use Rattle.tws_tool.specs.declared.job.JobFault.TheVariants as fault
+use Rattle.command_line.specs.declared.job_fault.JobFault.{JobFault}
 use Rattle.command_line.specs.Arguments.{RulesetNames}
-use Rattle.file_commands.specs.FileJobs.{AsksForFiles, FileJobRan, with_file_apps}
+use Rattle.file_commands.specs.FileJobs.{AsksForFiles, FileJobRan, files_app}
 use Rattle.tws_tool.specs.Commands.Serve.{AsksToServe, ServeRan, serve_app, serve_name}
 use Rattle.tws_tool.specs.Commands.Put.{AsksToPut, PutRan, put_app, put_name}
 use Rattle.tws_tool.specs.Commands.Get.{AsksToGet, GetRan, get_app, get_name}
 use Rattle.tws_tool.specs.Known.{Known}
-use Rattle.tws_tool.specs.Help.{Explained}
-
-abbrev pub top_app : App
-top_app = let plain : App = new_app (codes "tws") in record plain { top = record plain.top { has_version = true; arg_required_else_help = true; subcommand_required = true } }
-
--- with only the commands on files
-abbrev pub files_app : RulesetNames → App
-files_app names = with_file_apps names top_app
+use Rattle.command_line.specs.Help.{NoJobRan}
 
 abbrev pub tws_app : RulesetNames → App
 tws_app names = with_subcommand (with_subcommand (with_subcommand (files_app names) serve_app.top) put_app.top) (get_app names).top
@@ -44,5 +36,4 @@ JobRuns known now Unread (Ok (job.Files files)) status before after had left old
 JobRuns known now Unread (Ok (job.Serve arguments)) status before after had left old new = (after ≡ before) × (now ≡ known.bytes_of) × Unread × ServeRan arguments status old new
 JobRuns known now Unread (Ok (job.Put arguments)) status before after had left old new = (now ≡ known.bytes_of) × PutRan known.bytes_of known.host_of Unread arguments status before after had left old new
 JobRuns known now Unread (Ok (job.Get arguments)) status before after had left old new = Unread × GetRan known arguments status before after now old new
-JobRuns known now Unread (Err (fault.Words error)) status before after had left old new = (after ≡ before) × (now ≡ known.bytes_of) × Unread × Explained error status old new
-JobRuns known now Unread (Err fault.Memory) status before after had left old new = (after ≡ before) × (now ≡ known.bytes_of) × Unread × (status ≡ 2) × (new ≡ old)
+JobRuns known now Unread (Err why) status before after had left old new = (after ≡ before) × (now ≡ known.bytes_of) × Unread × NoJobRan why status old new

@@ -1,7 +1,6 @@
 pub mod Address
 pub mod Arguments
 pub mod Faults
-pub mod Help
 pub mod Known
 pub mod Lines
 pub mod Commands

@@ -5,19 +5,18 @@ ghost use Rattle.std.specs.Prelude.{◌≡◌, ◌≤◌, Ok, IfOk};
 ghost use Rattle.clap.specs.Matches.{found_of};
 ghost use Rattle.clap.specs.Words.{app_of, rows_of};
 ghost use Rattle.command_line.specs.Arguments.{Answers};
-ghost use Rattle.tws_tool.specs.Commands.{AsksFor, JobRuns, files_app, top_app, tws_app};
+ghost use Rattle.tws_tool.specs.Commands.{AsksFor, JobRuns, tws_app};
 
 mod get;
 mod put;
 mod serve;
 mod serve_arguments;
 
-use crate::limits::VERSION;
 use crate::resolver::Resolver;
 use crate::transfer_wire::TransferWire;
 use clap::{ArgMatches, Command};
 use command_line::FileSystem;
-use file_commands::{FileJob, file_job_of, run_file_job, with_file_commands};
+use file_commands::{FileJob, file_job_of, file_program, run_file_job};
 pub use get::{GetArguments, GetFault, get_file};
 pub use put::{PutArguments, put_file};
 pub use serve::{Passes, serve_archive};
@@ -43,30 +42,12 @@ pub enum Job {
     Get(GetArguments),
 }
 
-// The program without its commands.
-fn no_commands<'a>(alloc: Global) -> Command<'a>
-    ensures { app_of result ≡ top_app }
-{
-    Command::new(alloc, "tws")
-        .about("Lists, packs and collects Tile World solution files, and archives them by TFTP")
-        .version(VERSION)
-        .arg_required_else_help(true)
-        .subcommand_required(true)
-}
-
-// The program with only its commands on files.
-fn commands_on_files<'a>(alloc: Global, names: &'a [&'a str]) -> Result<Command<'a>, AllocError>
-    ensures { IfOk result (λ command. app_of command ≡ files_app names.entry) }
-{
-    with_file_commands(alloc, no_commands(alloc), names)
-}
-
 /// The command line of the program, with these names of the rulesets.
 pub(crate) fn command<'a>(alloc: Global, names: &'a [&'a str]) -> Result<Command<'a>, AllocError>
     ensures { IfOk result (λ command. app_of command ≡ tws_app names.entry) }
 {
     let serve = serve_arguments::command(alloc)?;
-    let command = commands_on_files(alloc, names)?.subcommand(serve)?;
+    let command = file_program(alloc, names)?.subcommand(serve)?;
     let put = put::command(alloc)?;
     let command = command.subcommand(put)?;
     let get = get::command(alloc, names)?;

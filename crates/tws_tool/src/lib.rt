@@ -5,14 +5,11 @@
 
 mod address;
 mod arguments;
-mod beside;
 mod commands;
-mod help;
 mod job;
 mod laws;
 mod limits;
 mod line;
-mod noted;
 mod overhearing;
 mod program;
 mod reporting;
@@ -22,8 +19,6 @@ mod run_fault;
 mod served_folder;
 mod served_keeper;
 mod served_observer;
-mod system;
-mod system_draft;
 mod target;
 mod transfer_wire;
 
@@ -33,7 +28,10 @@ pub use archive_turns::{
     Entry, GetRun, MemoryWire, PutRun, ReadyWire, RunFault, Server, Wire, WireFault, get_in_rounds,
     put_in_rounds, run_get, run_put, serve_rounds, serve_turns,
 };
-pub use command_line::{FileSystem, INPUT_READS, Source, ToolFault};
+pub use command_line::{
+    FileSystem, INPUT_READS, JobFault, Noted, Source, System, ToolFault, VERSION, report_arguments,
+    report_streams,
+};
 pub use commands::{
     GetArguments, GetFault, Job, Passes, PutArguments, ServeArguments, get_file, put_file,
     serve_archive,
@@ -42,10 +40,9 @@ pub use file_commands::{
     BestArguments, CompareArguments, FileJob, PackArguments, PageArguments, ShowArguments,
     WithoutArguments, run_best, run_compare, run_csv, run_pack, run_page, run_show, run_without,
 };
-pub use job::{JobFault, job_of};
+pub use job::job_of;
 pub use laws::{limit_values, words_of_commands};
-pub use limits::{PER_HOST, PORT, ROUNDS, TURNS, VERSION};
-pub use noted::{Noted, report_streams};
+pub use limits::{PER_HOST, PORT, ROUNDS, TURNS};
 pub use program::{run_words, run_words_with};
 pub use resolver::Resolver;
 pub use served_keeper::ServedKeeper;

@@ -1,6 +1,3 @@
-/// The version of the program, as `tws --version` prints it.
-pub const VERSION: &str = "1.0.0";
-
 /// The default request port, which needs no privileges.
 pub const PORT: u16 = 6969;
 

@@ -2,20 +2,18 @@
 
 ghost use Rattle.std.specs.Prelude.{◌≡◌, ◌⊎◌, ◌≤◌, None, Result, map, string_bytes};
 ghost use Rattle.tws_tool.specs.declared.commands.Job.{Job};
-ghost use Rattle.tws_tool.specs.declared.job.JobFault.{JobFault};
+ghost use Rattle.command_line.specs.declared.job_fault.JobFault.{JobFault};
 ghost use Rattle.tws_tool.specs.Commands.{JobRuns};
 ghost use Rattle.tws_tool.specs.CommandLine.{AnswersWords};
 
 use crate::commands::{Job, run_job};
-use crate::help::explain;
-use crate::job::{JobFault, job_of};
+use crate::job::job_of;
 use crate::overhearing::Overhearing;
 use crate::resolver::Resolver;
-use crate::system::System;
 use crate::transfer_wire::TransferWire;
 use archive_host::UdpWire;
 use archive_progress::ProgressWire;
-use command_line::{FileSystem, ToolFault, report};
+use command_line::{FileSystem, JobFault, System, report_job_fault};
 use std::alloc::Global;
 use std::fs::File;
 use std::io::{Read, Write};
@@ -50,8 +48,7 @@ fn run_answer<
 {
     match job {
         Ok(job) => run_job(system, wire, *rt, alloc, &job, input, out, errors),
-        Err(JobFault::Words(error)) => explain(alloc, &error, out, errors),
-        Err(JobFault::Memory) => report(ToolFault::Memory, &[], errors),
+        Err(fault) => report_job_fault(alloc, &fault, out, errors),
     }
 }
 

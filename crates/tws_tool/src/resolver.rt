@@ -1,4 +1,10 @@
-ghost use Rattle.std.specs.Prelude.{◌≡◌, ℕ, List, Option, IfSome};
+ghost use Rattle.std.specs.Prelude.{◌≡◌, ℕ, List, Option, IfSome, None};
+
+use command_line::System;
+use std::fs::File;
+use std::net::{Net, SocketAddr, ToSocketAddrs};
+use std::rt::Files;
+use std::time::Clock;
 
 /// Finds hosts by their names.
 pub trait Resolver {
@@ -9,4 +15,20 @@ pub trait Resolver {
     /// of the four numbers as they are written, or `None` if no address is found.
     fn look_up(&self, name: &str) -> Option<u32>
         ensures { IfSome (host_of self.now name.now) (λ host. result ≡ host) };
+}
+
+impl<P: Files<File = File> + Net + Clock + AllocGlobal + Copy> Resolver for System<P> {
+    ghost host_of = { λ _ _. None };
+
+    fn look_up(&self, name: &str) -> Option<u32> {
+        let Ok(found) = (name, 0u16).to_socket_addrs(&self.0) else {
+            return None;
+        };
+        for address in found {
+            if let SocketAddr::V4(address) = address {
+                return Some(address.ip().to_bits());
+            }
+        }
+        None
+    }
 }

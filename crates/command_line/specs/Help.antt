@@ -6,6 +6,8 @@ use Rattle.clap.specs.Words.{kind_of}
 use Rattle.clap.specs.declared.error.Error.{Error}
 use Rattle.clap.specs.declared.error.kind.ErrorKind.TheVariants.{DisplayHelp, DisplayVersion}
 use Rattle.byte_output.specs.Output.{AppendsPrefix}
+use Rattle.command_line.specs.declared.job_fault.JobFault.{JobFault}
+use Rattle.command_line.specs.declared.job_fault.JobFault.TheVariants as fault
 use Rattle.command_line.specs.declared.tool_fault.ToolFault.{ToolFault}
 use Rattle.command_line.specs.declared.tool_fault.ToolFault.TheVariants.{Read, Write, Unreadable, Memory, Socket, Transfer}
 
@@ -37,3 +39,8 @@ pub record Explained (error : Error) (status : ℕ) (old new : Option (List ℕ)
   pub failed : status ≡ 2 → IsHelp error × ((new ≡ old) ⊎ WritesHelpPrefix old new)
   pub usage : status ≡ 1 → new ≡ old
   pub few : status ≤ 2
+
+-- what a run did whose arguments ask for no job
+abbrev pub NoJobRan : JobFault → (status : ℕ) → (old new : Option (List ℕ)) → Type 0
+NoJobRan (fault.Words error) status old new = Explained error status old new
+NoJobRan fault.Memory status old new = (status ≡ 2) × (new ≡ old)

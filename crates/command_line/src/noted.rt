@@ -4,7 +4,8 @@ ghost use Rattle.std.specs.Prelude.{◌≡◌, ◌≢◌, None, Some, OnOk, IfEr
 ghost use Rattle.std.specs.Io.{ReadsAtMost, WritesAtMost};
 ghost use Rattle.std.specs.Io.KnownBytes.{Keeps, ReadConsumes, WriteAppends};
 
-use command_line::{FAILED, report_cause};
+use crate::reporting::report_cause;
+use crate::status::FAILED;
 use std::io;
 use std::io::{Read, Write};
 

@@ -20,7 +20,7 @@ pub(crate) enum Place {
 
 /// What is to become the contents of a file of the system. It has no ghost contents.
 #[derive(Drop)]
-pub(crate) struct SystemDraft<P: Files<File = File> + Clock + AllocGlobal + Copy> {
+pub struct SystemDraft<P: Files<File = File> + Clock + AllocGlobal + Copy> {
     rt: P,
     place: Place,
     // How many bytes were written.

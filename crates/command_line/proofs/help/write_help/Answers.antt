@@ -1,6 +1,6 @@
 use Rattle.std.proofs.Common.{rules}
-use Rattle.tws_tool.proofs.Statuses.{line_some}
-use Rattle.tws_tool.proofs.help.write_help.Goals as goal
+use Rattle.command_line.proofs.Statuses.{line_some}
+use Rattle.command_line.proofs.help.write_help.Goals as goal
 
 pub returns-clause-written : goal.returns-clause-written
 returns-clause-written g c = record {

@@ -1,10 +1,13 @@
 //! What is printed for arguments that have a fault or ask for help.
 
-ghost use Rattle.std.specs.Prelude.{◌≡◌, OnOk, IfErr};
-ghost use Rattle.tws_tool.specs.Help.{Explained, WritesHelp, HelpFails};
+ghost use Rattle.std.specs.Prelude.{◌≡◌, ◌≤◌, OnOk, IfErr};
+ghost use Rattle.command_line.specs.Help.{Explained, HelpFails, NoJobRan, WritesHelp};
 
+use crate::job_fault::JobFault;
+use crate::reporting::{finish, report};
+use crate::status::USAGE;
+use crate::tool_fault::ToolFault;
 use byte_output::put;
-use command_line::{ToolFault, USAGE, finish};
 use std::alloc::Global;
 use std::io::Write;
 
@@ -20,8 +23,8 @@ fn write_help<W: Write>(alloc: Global, error: &clap::Error, out: &mut W) -> Resu
     Ok(())
 }
 
-/// Prints help, or reports what is wrong with the arguments, and returns the status.
-pub(crate) fn explain<W: Write, E: Write>(
+// Prints help, or reports what is wrong with the arguments, and returns the status.
+fn explain<W: Write, E: Write>(
     alloc: Global,
     error: &clap::Error,
     out: &mut W,
@@ -36,4 +39,22 @@ pub(crate) fn explain<W: Write, E: Write>(
         return USAGE;
     }
     finish(write_help(alloc, error, out), &[], errors)
+}
+
+/// Prints the help that the arguments ask for, or reports why they ask for no job, and returns the exit status.
+pub fn report_job_fault<W: Write, E: Write>(
+    alloc: Global,
+    fault: &JobFault,
+    out: &mut W,
+    errors: &mut E,
+) -> u8
+    ensures ran { NoJobRan fault.now result (W.contents out.old) (W.contents out.new) }
+    ensures usage { result ≡ 1 → out.new ≡ out.old }
+    ensures few { result ≤ 2 }
+    ensures silent { result ≡ 0 → errors.new ≡ errors.old }
+{
+    match fault {
+        JobFault::Words(error) => explain(alloc, error, out, errors),
+        JobFault::Memory => report(ToolFault::Memory, &[], errors),
+    }
 }

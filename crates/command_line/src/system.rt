@@ -1,25 +1,23 @@
-//! The system's files, and its resolver.
+//! The system's files.
 
 ghost use Rattle.std.specs.Prelude.{None};
 
 use crate::beside::Beside;
-use crate::resolver::Resolver;
+use crate::file_system::FileSystem;
 use crate::system_draft::{Place, SystemDraft};
-use command_line::FileSystem;
 use std::fs::{File, Metadata, OpenOptions};
 use std::io::{ErrorKind, Read};
-use std::net::{Net, SocketAddr, ToSocketAddrs};
 use std::rt::Files;
 use std::time::Clock;
 use std::{fs, io};
 
-/// The files of the system, as a runtime opens them, and its resolver.
+/// The files of the system, as a runtime opens them. They have no ghost contents.
 #[derive(Clone, Copy)]
-pub(crate) struct System<P: Files<File = File> + Net + Clock + AllocGlobal + Copy>(pub(crate) P);
+pub struct System<P: Files<File = File> + Clock + AllocGlobal + Copy>(pub P);
 
 /// A file of the system that is open to be read. It has no ghost contents.
 #[derive(Drop)]
-pub(crate) struct SystemFile(File);
+pub struct SystemFile(File);
 
 impl Read for SystemFile {
     fn read(&mut self, buf: &mut [u8]) -> io::Result<usize> {
@@ -35,7 +33,7 @@ fn is_forbidden(kind: ErrorKind) -> bool {
     )
 }
 
-impl<P: Files<File = File> + Net + Clock + AllocGlobal + Copy> System<P> {
+impl<P: Files<File = File> + Clock + AllocGlobal + Copy> System<P> {
     // A draft that is written into the file itself.
     fn begin_itself(&self, name: &str) -> io::Result<SystemDraft<P>> {
         // If a standard stream is closed, the new file gets its descriptor, and what is printed would go into the file. A
@@ -73,7 +71,7 @@ impl<P: Files<File = File> + Net + Clock + AllocGlobal + Copy> System<P> {
     }
 }
 
-impl<P: Files<File = File> + Net + Clock + AllocGlobal + Copy> FileSystem for System<P> {
+impl<P: Files<File = File> + Clock + AllocGlobal + Copy> FileSystem for System<P> {
     type File = SystemFile;
 
     type Draft = SystemDraft<P>;
@@ -123,21 +121,5 @@ impl<P: Files<File = File> + Net + Clock + AllocGlobal + Copy> FileSystem for Sy
     fn abandon(&mut self, mut draft: SystemDraft<P>) -> Option<io::Error> {
         draft.remove();
         draft.error()
-    }
-}
-
-impl<P: Files<File = File> + Net + Clock + AllocGlobal + Copy> Resolver for System<P> {
-    ghost host_of = { λ _ _. None };
-
-    fn look_up(&self, name: &str) -> Option<u32> {
-        let Ok(found) = (name, 0u16).to_socket_addrs(&self.0) else {
-            return None;
-        };
-        for address in found {
-            if let SocketAddr::V4(address) = address {
-                return Some(address.ip().to_bits());
-            }
-        }
-        None
     }
 }
