@@ -1,8 +1,8 @@
 //! The pairs of an event, which its line shows.
 
-ghost use Rattle.std.specs.Prelude.{◌≡◌, codes, option_map, OnOk, IfSome};
+ghost use Rattle.std.specs.Prelude.{◌≡◌, ◌∷◌, [], codes, decimal, option_map, OnOk, IfSome};
 ghost use Rattle.std.specs.List.{FoldsTo};
-ghost use Rattle.archive_log.specs.Lines.{pairs_of, folder_pairs, peer_text, ruleset_text, fault_text};
+ghost use Rattle.archive_log.specs.Lines.{pairs_of, folder_pairs, peer_text, ruleset_text, fault_text, cause_text};
 
 use crate::cause::Cause;
 use crate::event::Event;
@@ -63,14 +63,34 @@ fn visit_peer<V: VisitSource>(visitor: &mut V, peer: Endpoint) -> Result<(), kv:
 fn visit_folder<V: VisitSource>(visitor: &mut V, folder: Option<&str>) -> Result<(), kv::Error>
     ensures { OnOk result (FoldsTo V.visit_pair_gives visitor.old (folder_pairs (option_map (λ f. f.now) folder.entry)) visitor.new) }
 {
-    if let Some(folder) = folder {
-        visit_pair(
+    match folder {
+        Some(folder) => visit_pair(
             visitor,
             "folder",
             &display(Printable::of(folder.as_bytes())),
-        )?;
+        ),
+        None => Ok(()),
     }
-    Ok(())
+}
+
+// Two numbers, which some lines end with.
+fn visit_numbers<V: VisitSource>(
+    visitor: &mut V,
+    first: (&'static str, u64),
+    second: (&'static str, u64),
+) -> Result<(), kv::Error>
+    ensures { OnOk result (FoldsTo V.visit_pair_gives visitor.old ((first.entry.0.now, decimal first.entry.1) ∷ (second.entry.0.now, decimal second.entry.1) ∷ []) visitor.new) }
+{
+    visit_pair(visitor, first.0, &first.1)?;
+    visit_pair(visitor, second.0, &second.1)
+}
+
+// The last block of a transfer that failed, and why it did.
+fn visit_failure<V: VisitSource>(visitor: &mut V, block: u16, why: Cause) -> Result<(), kv::Error>
+    ensures { OnOk result (FoldsTo V.visit_pair_gives visitor.old ((codes "block", decimal block) ∷ (codes "why", cause_text why) ∷ []) visitor.new) }
+{
+    visit_pair(visitor, "block", &block)?;
+    visit_pair(visitor, "why", &display(why))
 }
 
 fn visit_started<V: VisitSource>(
@@ -85,8 +105,7 @@ fn visit_started<V: VisitSource>(
     visit_pair(visitor, "at", &display(peer_address(at)))?;
     visit_pair(visitor, "lynx", &lynx)?;
     visit_pair(visitor, "ms", &ms)?;
-    visit_folder(visitor, folder)?;
-    Ok(())
+    visit_folder(visitor, folder)
 }
 
 fn visit_refused<V: VisitSource>(
@@ -97,16 +116,14 @@ fn visit_refused<V: VisitSource>(
     ensures { OnOk result (FoldsTo V.visit_pair_gives visitor.old (pairs_of (Event.Refused peer why)) visitor.new) }
 {
     visit_peer(visitor, peer)?;
-    visit_pair(visitor, "why", &display(Printable::of(why.text())))?;
-    Ok(())
+    visit_pair(visitor, "why", &display(Printable::of(why.text())))
 }
 
 fn visit_dropped<V: VisitSource>(visitor: &mut V, peer: Endpoint) -> Result<(), kv::Error>
     ensures { OnOk result (FoldsTo V.visit_pair_gives visitor.old (pairs_of (Event.Dropped peer)) visitor.new) }
 {
     visit_peer(visitor, peer)?;
-    visit_pair(visitor, "why", &"too many transfers of its host")?;
-    Ok(())
+    visit_pair(visitor, "why", &"too many transfers of its host")
 }
 
 fn visit_taken<V: VisitSource>(
@@ -120,9 +137,7 @@ fn visit_taken<V: VisitSource>(
     visit_pair(visitor, "bytes", &upload.bytes)?;
     visit_pair(visitor, "ruleset", &ruleset_word(upload.ruleset))?;
     visit_pair(visitor, "fault", &fault_word(upload.fault))?;
-    visit_pair(visitor, "better", &upload.better)?;
-    visit_pair(visitor, "millis", &millis)?;
-    Ok(())
+    visit_numbers(visitor, ("better", upload.better), ("millis", millis))
 }
 
 fn visit_put_failed<V: VisitSource>(
@@ -134,9 +149,7 @@ fn visit_put_failed<V: VisitSource>(
     ensures { OnOk result (FoldsTo V.visit_pair_gives visitor.old (pairs_of (Event.PutFailed peer block why)) visitor.new) }
 {
     visit_peer(visitor, peer)?;
-    visit_pair(visitor, "block", &block)?;
-    visit_pair(visitor, "why", &display(why))?;
-    Ok(())
+    visit_failure(visitor, block, why)
 }
 
 fn visit_get_failed<V: VisitSource>(
@@ -150,9 +163,7 @@ fn visit_get_failed<V: VisitSource>(
 {
     visit_peer(visitor, peer)?;
     visit_pair(visitor, "ruleset", &ruleset_word(ruleset))?;
-    visit_pair(visitor, "block", &block)?;
-    visit_pair(visitor, "why", &display(why))?;
-    Ok(())
+    visit_failure(visitor, block, why)
 }
 
 fn visit_get_finished<V: VisitSource>(
@@ -166,9 +177,7 @@ fn visit_get_finished<V: VisitSource>(
 {
     visit_peer(visitor, peer)?;
     visit_pair(visitor, "ruleset", &ruleset_word(ruleset))?;
-    visit_pair(visitor, "bytes", &bytes)?;
-    visit_pair(visitor, "millis", &millis)?;
-    Ok(())
+    visit_numbers(visitor, ("bytes", bytes), ("millis", millis))
 }
 
 fn visit_keep_failed<V: VisitSource>(
@@ -181,8 +190,7 @@ fn visit_keep_failed<V: VisitSource>(
 {
     visit_pair(visitor, "ruleset", &ruleset_word(Some(ruleset)))?;
     visit_pair(visitor, "bytes", &bytes)?;
-    visit_pair(visitor, "why", &display(Printable::of(why.as_bytes())))?;
-    Ok(())
+    visit_pair(visitor, "why", &display(Printable::of(why.as_bytes())))
 }
 
 fn visit_not_recorded<V: VisitSource>(
@@ -193,16 +201,13 @@ fn visit_not_recorded<V: VisitSource>(
     ensures { OnOk result (FoldsTo V.visit_pair_gives visitor.old (pairs_of (Event.NotRecorded peer why)) visitor.new) }
 {
     visit_peer(visitor, peer)?;
-    visit_pair(visitor, "why", &display(why))?;
-    Ok(())
+    visit_pair(visitor, "why", &display(why))
 }
 
 fn visit_stopped<V: VisitSource>(visitor: &mut V, taken: u64, served: u64) -> Result<(), kv::Error>
     ensures { OnOk result (FoldsTo V.visit_pair_gives visitor.old (pairs_of (Event.Stopped taken served)) visitor.new) }
 {
-    visit_pair(visitor, "taken", &taken)?;
-    visit_pair(visitor, "served", &served)?;
-    Ok(())
+    visit_numbers(visitor, ("taken", taken), ("served", served))
 }
 
 /// The pairs of its line, without the time.

@@ -11,7 +11,7 @@ use tftp_packet::Endpoint;
 pub(crate) fn host_address(peer: Endpoint) -> Ipv4Addr
     ensures { ipv4_octets result ≡ to_be_bytes w32 peer.host }
 {
-    Ipv4Addr::from_bits(peer.host)
+    Ipv4Addr::from(peer.host.to_be_bytes())
 }
 
 /// The address and port of an endpoint, which show as `127.0.0.1:5000`.
