@@ -1,5 +1,5 @@
 -- What a record that fails leaves.
-use Rattle.std.proofs.Common.{◌≡◌, ◌≢◌, inl, inr, ℕ, List, [], Option, None, Some, Result, Ok, Err, OnOk, IfErr, refl, ap, sym, subst, ◌∙◌}
+use Rattle.std.proofs.Common.{◌≡◌, ◌≢◌, inl, inr, ℕ, List, Option, Some, Result, Ok, Err, OnOk, IfErr, refl, ap, sym, subst, ◌∙◌}
 use Rattle.tftp_packet.specs.declared.endpoint.Endpoint.{Endpoint}
 use Rattle.tws_file.specs.declared.«ruleset».Ruleset.{Ruleset}
 use Rattle.archive_table.specs.Table.{Taken}
@@ -19,11 +19,6 @@ adds_nothing draft name old mid new is same h = (name, λ other ne. h other (λ 
 pub on_any_error : {T E : Type 0} (r : Result T E) (e : E) (P : Type 0) → P → IfErr r (λ d. d ≢ e → P)
 on_any_error (Ok x) e P p = tt
 on_any_error (Err d) e P p = λ _. p
-
--- no file was changed
-pub keeps_same : (taken : Option Taken) (old new : List ℕ → Option (List ℕ)) → ((name : List ℕ) → new name ≡ old name) → KeepsTaken taken old new
-keeps_same None old new same = same
-keeps_same (Some t) old new same = inl ([], λ other apart. same other)
 
 -- the file was added under a name of what was said of it
 taken_by : (t : Taken) (u : Upload) (time : List ℕ) (rules : Ruleset) (stem text : List ℕ) (old new : List ℕ → Option (List ℕ)) → ShowsMoment time → IsUploadOf (Some t) (Some u) →

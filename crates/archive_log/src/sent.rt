@@ -19,7 +19,7 @@ const REFUSALS: [Refusal; 8] = [
 ];
 
 /// What was sent in a step.
-#[derive(Clone, Copy, Debug, PartialEq, Eq)]
+#[derive(Clone, Copy)]
 pub enum Sent {
     /// Nothing, or what no server sends.
     Nothing,
