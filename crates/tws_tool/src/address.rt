@@ -16,10 +16,7 @@ pub struct Address {
 fn number_of(bytes: [u8; 4]) -> u32
     ensures { result ≡ ((slice_index bytes 0 * 256 + slice_index bytes 1) * 256 + slice_index bytes 2) * 256 + slice_index bytes 3 }
 {
-    let [a, b, c, d] = bytes;
-    let high = u32::from(a) * 256 + u32::from(b);
-    let low = u32::from(c) * 256 + u32::from(d);
-    high * 65_536 + low
+    u32::from_be_bytes(bytes)
 }
 
 impl Address {
