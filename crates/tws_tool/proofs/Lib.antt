@@ -5,3 +5,4 @@ pub mod Listening
 pub mod Asking
 pub mod Addresses
 pub mod Building
+pub mod Reading
