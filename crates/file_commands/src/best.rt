@@ -22,6 +22,7 @@ use command_line::{
 };
 use std::alloc::{AllocError, Global};
 use std::io::{Read, Write};
+use std::mem;
 use tws_best::Collection;
 use tws_file::Ruleset;
 
@@ -103,7 +104,10 @@ pub fn run_best<R: Read, W: Write>(
     ensures unwritten { IfErr result (λ e. e ≢ ToolFault.Write → out.new ≡ out.old) }
 {
     let collection = collect(alloc, ruleset, files)?;
-    collection.write_text(out)?;
+    let written = collection.write_text(out);
+    // The process ends next and gives all memory back at once, which is faster than to free each body.
+    mem::forget(collection);
+    written?;
     Ok(())
 }
 
