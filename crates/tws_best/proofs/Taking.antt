@@ -1,8 +1,9 @@
 -- What is best after one more solution is the best of all so far.
-use Rattle.std.proofs.Common.{◌≡◌, ◌≢◌, ◌+◌, List, [], ◌∷◌, ◌++◌, Some, None, refl, ap, sym, ◌∙◌, subst, inl, inr, append_assoc, ℕ, if◌then◌else◌, arith, Result, Ok, Err, OnOk}
+use Rattle.std.proofs.Common.{◌≡◌, ◌≢◌, ◌+◌, List, [], ◌∷◌, ◌++◌, Some, None, refl, ap, sym, ◌∙◌, subst, inl, inr, append_assoc, ℕ, if◌then◌else◌, arith, Result, Ok, Err, OnOk, Option, IfSome, true, false}
 use Rattle.std.specs.declared.cmp.Ordering.{Ordering}
 use Rattle.std.specs.declared.cmp.Ordering.TheVariants.{Less, Equal, Greater}
 use Rattle.std.specs.Ordering.{is_lt, match_ordering}
+use Rattle.std.specs.Option.{MatchOption}
 use Rattle.std.specs.List.{Contains, AllByRecursion}
 use Rattle.std.specs.Map.{lookup, keys_of}
 use Rattle.std.specs.List.Sorted.{IsStrictlySortedBy, IsPermutation}
@@ -11,17 +12,17 @@ use Rattle.std.proofs.lemmas.List.Elements.{Contains-append_left, Contains-appen
 use Rattle.std.proofs.lemmas.List.Sorted.{Contains-permutation, IsPermutation-sym}
 use Rattle.tws_file.specs.declared.key.Key.{Key}
 use Rattle.tws_file.specs.Text.{Solution, Record, pad, set, bare, solution, IsRecord, body_of}
-use Rattle.tws_best.specs.Rank.{rank_of, IsBelow}
+use Rattle.tws_best.specs.Rank.{rank_of, rank_cmp, IsBelow}
 use Rattle.tws_best.specs.Best.{KeyedBody, IsKeyedBody, IsBestOf, IsRising, AreCollected, key_cmp, keyed_body, solved_in}
 use Rattle.tws_best.specs.Bodies.{BodyPair, keyed_bodies}
 use Rattle.tws_best.specs.Choice.{placed, better_of, put_in}
 use Rattle.tws_best.specs.Steps.{IsHeld, IsBetter, Stays, Enters, Takes, IsTaken}
 use Rattle.tws_best.proofs.Members.{Contains-none, Contains-here, Contains-there, Contains-cases, all_at, all_from}
-use Rattle.tws_best.proofs.Orders.{key_tie, no_better}
+use Rattle.tws_best.proofs.Orders.{key_tie, no_better, less_not}
 use Rattle.tws_best.proofs.Rising.{one_entry}
 use Rattle.tws_best.proofs.Bests.{widen, same_best, own_best, held_itself, held_by_best}
 use Rattle.tws_best.proofs.Sets.{best_of_best}
-use Rattle.tws_best.proofs.Choices.{put_best}
+use Rattle.tws_best.proofs.Choices.{put_best, is_less}
 use Rattle.tws_best.proofs.Found.{entry, found, not_found, rising_of}
 
 -- ---- whether a solution enters
@@ -70,6 +71,18 @@ put_inserts k b (p ∷ ps) better =
 -- a solution's key and body are its entry
 pub entry_same : (s : Solution) (key : Key) (b : List ℕ) → key ≡ s.key → b ≡ body_of (solution s) → entry key b ≡ keyed_body s
 entry_same s key b key-is b-is = ap (λ (x : List ℕ). entry key x) b-is ∙ ap (λ (k : Key). entry k (body_of (solution s))) key-is
+
+-- it is better than what its key has, if that has anything
+pub better_by : (ps : List BodyPair) (k : Key) (b : List ℕ) (old : Option (List ℕ)) → old ≡ lookup (is_at (key_cmp k)) ps
+    → IfSome old (λ (was : List ℕ). is_lt (rank_cmp (rank_of b) (rank_of was)) ≡ true) → IsRising (keyed_bodies ps) → IsBetter (keyed_bodies ps) (entry k b)
+better_by ps k b None had better rising = better_than_none ps k b (sym had)
+better_by ps k b (Some was) had better rising = better_than_found ps k b was rising (sym had) (is_less (rank_cmp (rank_of b) (rank_of was)) better)
+
+-- its key has something that is no worse
+pub held_by : (ps : List BodyPair) (k : Key) (b : List ℕ) (found : Option (List ℕ)) → lookup (is_at (key_cmp k)) ps ≡ found
+    → MatchOption found ⊥ (λ (was : List ℕ). is_lt (rank_cmp (rank_of b) (rank_of was)) ≡ false) → IsHeld (Contains (keyed_bodies ps)) (entry k b)
+held_by ps k b None is held = absurd held
+held_by ps k b (Some was) is held = held_by_found ps k b was is (less_not (rank_cmp (rank_of b) (rank_of was)) held)
 
 -- a better solution that was inserted has entered
 pub enters_by : {E : Type 0} (r : Result (Unit {0}) E) (k : Key) (b : List ℕ) (ps new : List BodyPair) (was is : ℕ) →

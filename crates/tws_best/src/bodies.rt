@@ -1,18 +1,21 @@
 //! The best body so far at each key, with the length of all their records.
 
-ghost use Rattle.std.specs.Prelude.{◌≡◌, ◌<◌, ◌^◌, length, [], None, OnOk, OnErr, unwrap_or, option_map, option_copied};
+ghost use Rattle.std.specs.Prelude.{◌≡◌, ◌<◌, ◌^◌, length, [], None, OnOk, OnErr, IfOk, IfSome, IfNone, MatchOption, true, false, unwrap_or, option_map, option_copied};
 ghost use Rattle.std.specs.List.{flat_map};
 ghost use Rattle.std.specs.List.Sorted.{IsStrictlySortedBy};
 ghost use Rattle.std.specs.Map.{lookup, remove_entry, keys_of, values_of};
 ghost use Rattle.std.specs.BTreeMap.{is_at, insert_entry};
-ghost use Rattle.tws_best.specs.Best.{key_cmp, body_text};
+ghost use Rattle.std.specs.Ordering.{is_lt};
+ghost use Rattle.tws_best.specs.Rank.{rank_of, rank_cmp};
+ghost use Rattle.tws_best.specs.Best.{key_cmp, body_text, keyed_body};
 
 use crate::body::Body;
+use crate::merging::offer;
 use std::alloc::{AllocError, Allocator};
 use std::clone::Clone;
 use std::collections::BTreeMap;
 use std::marker::Model;
-use tws_file::Key;
+use tws_file::{Key, Solution};
 
 // Each key with its body.
 pub(crate) type BodyMap<A> = BTreeMap<Key, Body<A>, A>;
@@ -73,6 +76,36 @@ impl<A: Allocator + Copy> Bodies<A> {
                 Ok(())
             }
             Err(_) => Err(AllocError),
+        }
+    }
+}
+
+impl<A: Allocator + Copy> Bodies<A> {
+    // Sets the body of a key if it has none, or a worse one than the solution's. Returns what the key had, or `None` if
+    // nothing changed.
+    pub(crate) fn offer<B: Allocator>(
+        &mut self,
+        alloc: A,
+        key: Key,
+        solution: &Solution<B>,
+    ) -> Result<Option<Option<Body<A>>>, AllocError>
+        ensures kept { OnErr result (self.new ≡ self.old) }
+        ensures stays { IfOk result (λ r. IfNone r (self.new ≡ self.old)) }
+        ensures held { IfOk result (λ r. IfNone r (MatchOption (lookup (is_at (key_cmp key)) self.old) ⊥ (λ b. is_lt (rank_cmp (rank_of (keyed_body solution.now).body) (rank_of b)) ≡ false))) }
+        ensures enters { IfOk result (λ r. IfSome r (λ _. self.new ≡ insert_entry key_cmp self.old key (keyed_body solution.now).body)) }
+        ensures better { IfOk result (λ r. IfSome r (λ old. IfSome old (λ b. is_lt (rank_cmp (rank_of (keyed_body solution.now).body) (rank_of b)) ≡ true))) }
+        ensures had { IfOk result (λ r. IfSome r (λ old. old ≡ lookup (is_at (key_cmp key)) self.old)) }
+        ensures was_ordered { IsStrictlySortedBy key_cmp (keys_of self.old) }
+    {
+        let more = 4 + u128::from(solution.body_len());
+        let _count = self.map.len();
+        match offer(alloc, &mut self.map, key, solution) {
+            Ok(Some(old)) => {
+                self.records_len = self.records_len + more - len_of(&old);
+                Ok(Some(old))
+            }
+            Ok(None) => Ok(None),
+            Err(fault) => Err(fault),
         }
     }
 }

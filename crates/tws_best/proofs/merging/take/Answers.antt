@@ -1,48 +1,41 @@
-use Rattle.std.proofs.Common.{◌≡◌, ap, sym, ◌∙◌, subst, length, OnOk, inl, refl}
-use Rattle.std.specs.declared.cmp.Ordering.TheVariants.{Less}
-use Rattle.tws_best.specs.Rank.{rank_of, rank_cmp}
+use Rattle.std.proofs.Common.{◌≡◌, ◌+◌, ap, sym, subst, [], ◌∷◌, length, inl, refl, ℕ, Ok, arith, length-append}
+use Rattle.byte_output.proofs.Lists.{at_some, at_none}
 use Rattle.tws_best.specs.Best.{KeyedBody, keyed_body}
 use Rattle.tws_best.specs.Steps.{Takes}
-use Rattle.tws_best.proofs.Choices.{is_less}
-use Rattle.tws_best.proofs.Found.{entry}
-use Rattle.tws_best.proofs.Orders.{less_not}
-use Rattle.tws_best.proofs.Taking.{entry_same, enters_by, better_than_found, better_than_none, held_by_found}
+use Rattle.tws_best.proofs.Changes.{one_more}
+use Rattle.tws_best.proofs.Taking.{entry_same, enters_by, better_by, held_by}
 use Rattle.tws_best.proofs.merging.take.Goals as goal
 
-pub returns-in_ok-of-in-Some-clause-ok : goal.returns-in_ok-of-in-Some-clause-ok
-returns-in_ok-of-in-Some-clause-ok g c =
+pub returns-in-Some-clause-ok : goal.returns-in-Some-clause-ok
+returns-in-Some-clause-ok g c =
     let key = c.solution.inside.key in
-    let whole = (keyed_body c.args.solution.now).body in
-    let body = c.in_ok-of-in-Some.field-0 in
-    let body-is = c.in_ok-of-in-Some.ensures ∙ c.in_ok-bytes-in-Some.ensures in
-    let same = entry_same c.args.solution.now key body (ap (λ s. s.key) c.solution.view_is) body-is in
-    let order = rank_cmp (rank_of whole) (rank_of c.in-Some.old.now) in
-    let below = subst (λ b. rank_cmp (rank_of b) (rank_of c.in-Some.old.now) ≡ Less) (sym body-is) (is_less order (sym c.is_worse_than.ensures ∙ c.if-is_worse_than.true)) in
-    let new = c.replace.new.best in
-    subst (λ (x : KeyedBody). OnOk c.replace.result (Takes x c.args.best.now new (length c.args.done.now.items) (length c.replace.new.done.items))) same
-    (enters_by c.replace.result key body c.args.best.now new (length c.args.done.now.items) (length c.replace.new.done.items)
-    (λ rising. better_than_found c.args.best.now key body c.in-Some.old.now rising (sym c.in-Some.ensures.value) below)
-    c.replace.ensures.ok c.replace.ensures.noted c.replace.ensures.ordered)
-
-pub returns-in-Some-2-clause-ok : goal.returns-in-Some-2-clause-ok
-returns-in-Some-2-clause-ok g c =
-    let key = c.solution.inside.key in
+    let best = c.args.best.now in
     let body = (keyed_body c.args.solution.now).body in
     let same = entry_same c.args.solution.now key body (ap (λ s. s.key) c.solution.view_is) refl in
-    let best = c.args.best.now in
-    let count = length c.args.done.now.items in
-    let order = rank_cmp (rank_of body) (rank_of c.in-Some.old.now) in
-    let worse = less_not order (sym c.is_worse_than.ensures ∙ c.if-is_worse_than.false) in
-    let stays : Takes (entry key body) best best count count = inl (record { held = held_by_found best key body c.in-Some.old.now (sym c.in-Some.ensures.value) worse; same = refl; count = refl }) in
-    subst (λ (x : KeyedBody). Takes x best best count count) same stays
+    let inserted = at_some _ _ _ c.in-Some.is c.in_ok-old.ensures.enters in
+    let had = at_some _ _ _ c.in-Some.is c.in_ok-old.ensures.had in
+    let better = at_some _ _ _ c.in-Some.is c.in_ok-old.ensures.better in
+    let count : length c.push_reserved.new.self.items ≡ length c.args.done.now.items + 1 = omega (arith, ap length c.push_reserved.ensures.items, length-append c.reserve.new.self.items ((key, c.in-Some.old) ∷ []), ap length c.reserve.ensures.items) in
+    subst (λ (x : KeyedBody). Takes x best c.offer.new.self (length c.args.done.now.items) (length c.push_reserved.new.self.items)) same
+    (enters_by {E = ℕ} (Ok tt) key body best c.offer.new.self (length c.args.done.now.items) (length c.push_reserved.new.self.items)
+    (better_by best key body c.in-Some.old had better) inserted count c.offer.ensures.was_ordered)
 
-pub returns-in_ok-of-in-None-clause-ok : goal.returns-in_ok-of-in-None-clause-ok
-returns-in_ok-of-in-None-clause-ok g c =
+pub returns-in-Some-clause-undo : goal.returns-in-Some-clause-undo
+returns-in-Some-clause-undo g c = λ first u.
     let key = c.solution.inside.key in
-    let body = c.in_ok-of-in-None.field-0 in
-    let same = entry_same c.args.solution.now key body (ap (λ s. s.key) c.solution.view_is) (c.in_ok-of-in-None.ensures ∙ c.in_ok-bytes-in-None.ensures) in
-    let new = c.replace-in-None.new.best in
-    subst (λ (x : KeyedBody). OnOk c.replace-in-None.result (Takes x c.args.best.now new (length c.args.done.now.items) (length c.replace-in-None.new.done.items))) same
-    (enters_by c.replace-in-None.result key body c.args.best.now new (length c.args.done.now.items) (length c.replace-in-None.new.done.items)
-    (λ rising. better_than_none c.args.best.now key body (sym c.in-None.ensures.value))
-    c.replace-in-None.ensures.ok c.replace-in-None.ensures.noted c.replace-in-None.ensures.ordered)
+    let body = (keyed_body c.args.solution.now).body in
+    let inserted = at_some _ _ _ c.in-Some.is c.in_ok-old.ensures.enters in
+    let had = at_some _ _ _ c.in-Some.is c.in_ok-old.ensures.had in
+    rw (c.push_reserved.ensures.items, c.reserve.ensures.items, inserted)
+    (one_more first c.args.done.now.items c.args.best.now key body c.in-Some.old c.offer.ensures.was_ordered (sym had) u)
+
+pub returns-in_default-clause-ok : goal.returns-in_default-clause-ok
+returns-in_default-clause-ok g c =
+    let key = c.solution.inside.key in
+    let best = c.args.best.now in
+    let body = (keyed_body c.args.solution.now).body in
+    let same = entry_same c.args.solution.now key body (ap (λ s. s.key) c.solution.view_is) refl in
+    let stays = at_none _ c.in_default.is c.in_ok-old.ensures.stays in
+    let held = at_none _ c.in_default.is c.in_ok-old.ensures.held in
+    subst (λ (x : KeyedBody). Takes x best c.offer.new.self (length c.args.done.now.items) (length c.reserve.new.self.items)) same
+    (inl (record { held = held_by best key body _ refl held; same = stays; count = ap length c.reserve.ensures.items }))
