@@ -1,8 +1,9 @@
 // The calls on files that allocate, each once with ample memory at a large size: none is out of memory because an input
 // is large. What they return is compared by its length or its count; their contracts say the rest.
+use crate::answers::has_text;
+use crate::texts::add_record;
 use std::alloc::{AllocError, Global};
-use std::test::Fail;
-use test_samples::{EMPTY_LYNX, record};
+use test_samples::EMPTY_LYNX;
 use tws_best::Collection;
 use tws_compare::{Row, better, compare, comparison_text};
 use tws_file::{FileFault, Record, Solution, TwsFile, pack, read_file, show, write_file};
@@ -13,12 +14,18 @@ const LEVELS: u16 = 5000;
 
 const MOVES: &[u8; 30] = &[0x61; 30];
 
-// A Lynx file with a solution of each level in this many ticks.
+// Appends a solution of each level in this many ticks.
+fn add_levels(alloc: Global, text: &mut Vec<u8>, ticks: u32) -> Result<(), AllocError> {
+    for number in 1..=LEVELS {
+        add_record(alloc, text, number, b"BDHP", ticks, MOVES)?;
+    }
+    Ok(())
+}
+
+// A Lynx file of these.
 fn text_of(alloc: Global, ticks: u32) -> Result<Vec<u8>, AllocError> {
     let mut text = Vec::from_slice(alloc, EMPTY_LYNX)?;
-    for number in 1..=LEVELS {
-        text.extend_from_slice(&record(alloc, number, b"BDHP", 0, ticks, MOVES)?)?;
-    }
+    add_levels(alloc, &mut text, ticks)?;
     Ok(text)
 }
 
@@ -32,13 +39,15 @@ fn line_count(text: &[u8]) -> usize {
     text.iter().filter(|byte| **byte == b'\n').count()
 }
 
+// ---- a file
+
 // How many bytes are written for a file.
 fn written_size(alloc: Global, file: &TwsFile) -> Option<usize> {
     let mut text = Vec::new(alloc);
-    if write_file(file, &mut text).is_err() {
-        return None;
+    match write_file(file, &mut text) {
+        Ok(()) => Some(text.len()),
+        Err(_) => None,
     }
-    Some(text.len())
 }
 
 fn packed_size(alloc: Global, file: &TwsFile) -> Option<usize> {
@@ -51,33 +60,40 @@ fn packed_size(alloc: Global, file: &TwsFile) -> Option<usize> {
 // How many lines the listing of a file has, with its moves.
 fn listed_lines(alloc: Global, file: &TwsFile) -> Option<usize> {
     let mut listing = Vec::new(alloc);
-    if show(alloc, file, true, &mut listing).is_err() {
-        return None;
+    match show(alloc, file, true, &mut listing) {
+        Ok(()) => Some(line_count(&listing)),
+        Err(_) => None,
     }
-    Some(line_count(&listing))
 }
 
 // How many lines its comma-separated values have.
 fn value_lines(alloc: Global, file: &TwsFile) -> Option<usize> {
     let mut values = Vec::new(alloc);
-    if write_csv(alloc, file, &mut values).is_err() {
-        return None;
+    match write_csv(alloc, file, &mut values) {
+        Ok(()) => Some(line_count(&values)),
+        Err(_) => None,
     }
-    Some(line_count(&values))
+}
+
+// These sizes of a large file.
+fn sizes(alloc: Global) -> Option<(Option<usize>, Option<usize>, Option<usize>)> {
+    match file_of(alloc, 100) {
+        Ok(file) => Some((
+            packed_size(alloc, &file),
+            listed_lines(alloc, &file),
+            value_lines(alloc, &file),
+        )),
+        Err(_) => None,
+    }
 }
 
 // Three steps share a byte.
 #[test]
-fn a_large_file(rt: HostRuntime) -> Result<(), Fail> {
-    let file = file_of(rt.alloc(), 100)?;
-    let packed = packed_size(rt.alloc(), &file);
-    let listed = listed_lines(rt.alloc(), &file);
-    let values = value_lines(rt.alloc(), &file);
+fn a_large_file(rt: HostRuntime) {
     assert_eq!(rt;
-        (packed, listed, values),
-        (Some(8 + 5000 * 30), Some(2 + 5000 * 31), Some(5001))
+        sizes(rt.alloc()),
+        Some((Some(8 + 5000 * 30), Some(2 + 5000 * 31), Some(5001)))
     );
-    Ok(())
 }
 
 // How many solutions a page has.
@@ -89,31 +105,38 @@ fn rows_of_page(text: &[u8]) -> usize {
 
 fn page_rows(alloc: Global, files: &[TwsFile]) -> Option<usize> {
     let mut page = Vec::new(alloc);
-    if write_page(alloc, files, &mut page).is_err() {
-        return None;
+    match write_page(alloc, files, &mut page) {
+        Ok(()) => Some(rows_of_page(&page)),
+        Err(_) => None,
     }
-    Some(rows_of_page(&page))
+}
+
+fn rows_of_large(alloc: Global) -> Option<usize> {
+    match file_of(alloc, 100) {
+        Ok(file) => {
+            let files = [file];
+            page_rows(alloc, &files)
+        }
+        Err(_) => None,
+    }
 }
 
 #[test]
-fn a_page_of_a_large_file(rt: HostRuntime) -> Result<(), Fail> {
-    let files = [file_of(rt.alloc(), 100)?];
-    assert_eq!(rt; page_rows(rt.alloc(), &files), Some(5000));
-    Ok(())
+fn a_page_of_a_large_file(rt: HostRuntime) {
+    assert_eq!(rt; rows_of_large(rt.alloc()), Some(5000));
 }
 
-// Whether a collection has this text.
-fn has_text(alloc: Global, collection: &Collection, wanted: &[u8]) -> bool {
-    let mut text = Vec::new(alloc);
-    collection.write_text(&mut text).is_ok() && text.as_slice() == wanted
-}
+// ---- a collection
 
 // How many records the snapshot of a collection has.
 fn snapshot_count(collection: &Collection) -> Option<usize> {
     if collection.text_len() > 1_000_000 {
         return None;
     }
-    Some(collection.snapshot().ok()?.record_count())
+    match collection.snapshot() {
+        Ok(snapshot) => Some(snapshot.record_count()),
+        Err(_) => None,
+    }
 }
 
 // Whether a copy of a collection, and a snapshot of the copy, are whole.
@@ -124,31 +147,48 @@ fn is_copied(alloc: Global, collection: &Collection, wanted: &[u8]) -> bool {
     }
 }
 
-// Whether a file betters each solution of a collection.
-fn betters(alloc: Global, collection: &mut Collection, ticks: u32) -> Result<bool, Fail> {
-    let faster = file_of(alloc, ticks)?;
-    Ok(collection.merge(&faster)?)
+// Whether a collection that has become better is whole.
+fn is_whole(alloc: Global, collection: &Collection) -> bool {
+    match text_of(alloc, 90) {
+        Ok(wanted) => is_copied(alloc, collection, &wanted),
+        Err(_) => false,
+    }
 }
 
-fn loaded(alloc: Global, ticks: u32) -> Result<Collection, Fail> {
-    let file = file_of(alloc, ticks)?;
+// Whether a file changes a collection.
+fn changes(collection: &mut Collection, file: &TwsFile) -> bool {
+    match collection.merge(file) {
+        Ok(is_changed) => is_changed,
+        Err(_) => false,
+    }
+}
+
+// Whether a file betters each solution of a collection.
+fn betters(alloc: Global, collection: &mut Collection) -> bool {
+    match file_of(alloc, 90) {
+        Ok(faster) => changes(collection, &faster),
+        Err(_) => false,
+    }
+}
+
+fn loaded(alloc: Global) -> Result<Collection, FileFault> {
+    let file = file_of(alloc, 100)?;
     Ok(Collection::load(alloc, &file)?)
 }
 
-// Whether a collection that has become better is whole.
-fn is_whole(alloc: Global, collection: &Collection) -> Result<bool, Fail> {
-    let wanted = text_of(alloc, 90)?;
-    Ok(is_copied(alloc, collection, &wanted))
+fn is_bettered(alloc: Global) -> bool {
+    match loaded(alloc) {
+        Ok(mut collection) => betters(alloc, &mut collection) && is_whole(alloc, &collection),
+        Err(_) => false,
+    }
 }
 
 #[test]
-fn a_large_collection(rt: HostRuntime) -> Result<(), Fail> {
-    let mut collection = loaded(rt.alloc(), 100)?;
-    let is_changed = betters(rt.alloc(), &mut collection, 90)?;
-    let is_whole = is_whole(rt.alloc(), &collection)?;
-    assert_eq!(rt; (is_changed, is_whole), (true, true));
-    Ok(())
+fn a_large_collection(rt: HostRuntime) {
+    assert!(rt; is_bettered(rt.alloc()));
 }
+
+// ---- two files
 
 // How many lines the text of a comparison has.
 fn text_lines(alloc: Global, rows: &[Row]) -> Option<usize> {
@@ -173,30 +213,45 @@ fn better_count(alloc: Global, mine: TwsFile, theirs: &TwsFile) -> Option<usize>
 }
 
 // How many lines a comparison with a faster file has, and how many solutions of that are better.
-fn compared(alloc: Global, theirs: &TwsFile) -> Result<(Option<usize>, Option<usize>), Fail> {
-    let mine = file_of(alloc, 90)?;
-    let lines = compared_lines(alloc, &mine, theirs);
-    Ok((lines, better_count(alloc, mine, theirs)))
+fn compared(alloc: Global, theirs: &TwsFile) -> Option<(Option<usize>, Option<usize>)> {
+    match file_of(alloc, 90) {
+        Ok(mine) => {
+            let lines = compared_lines(alloc, &mine, theirs);
+            Some((lines, better_count(alloc, mine, theirs)))
+        }
+        Err(_) => None,
+    }
+}
+
+fn compared_large(alloc: Global) -> Option<(Option<usize>, Option<usize>)> {
+    match file_of(alloc, 100) {
+        Ok(theirs) => compared(alloc, &theirs),
+        Err(_) => None,
+    }
 }
 
 #[test]
-fn comparing_large_files(rt: HostRuntime) -> Result<(), Fail> {
-    let theirs = file_of(rt.alloc(), 100)?;
-    assert_eq!(rt; compared(rt.alloc(), &theirs)?, (Some(5001), Some(5000)));
-    Ok(())
+fn comparing_large_files(rt: HostRuntime) {
+    assert_eq!(rt; compared_large(rt.alloc()), Some((Some(5001), Some(5000))));
 }
 
-// A file of one solution with a million moves.
-fn long_file(alloc: Global) -> Result<TwsFile, Fail> {
+// ---- a solution of a million moves
+
+fn add_long_record(alloc: Global, text: &mut Vec<u8>) -> Result<(), AllocError> {
+    let moves = vec![in alloc; 0x61; 1_000_000]?;
+    add_record(alloc, text, 1, b"BDHP", 100, &moves)
+}
+
+// A file of it alone.
+fn long_text(alloc: Global) -> Result<Vec<u8>, AllocError> {
     let mut text = Vec::from_slice(alloc, EMPTY_LYNX)?;
     add_long_record(alloc, &mut text)?;
-    Ok(read_file(alloc, &text)?)
+    Ok(text)
 }
 
-fn add_long_record(alloc: Global, text: &mut Vec<u8>) -> Result<(), Fail> {
-    let moves = vec![in alloc; 0x61; 1_000_000]?;
-    text.extend_from_slice(&record(alloc, 1, b"BDHP", 0, 100, &moves)?)?;
-    Ok(())
+fn long_file(alloc: Global) -> Result<TwsFile, FileFault> {
+    let text = long_text(alloc)?;
+    read_file(alloc, &text)
 }
 
 fn body_size(alloc: Global, solution: &Solution) -> Option<usize> {
@@ -206,13 +261,21 @@ fn body_size(alloc: Global, solution: &Solution) -> Option<usize> {
     }
 }
 
-#[test]
-fn the_body_of_a_long_solution(rt: HostRuntime) -> Result<(), Fail> {
-    let file = long_file(rt.alloc())?;
-    let size = match file.records.as_slice() {
-        [Record::Solution(solution)] => body_size(rt.alloc(), solution),
+fn only_body_size(alloc: Global, records: &[Record]) -> Option<usize> {
+    match records {
+        [Record::Solution(solution)] => body_size(alloc, solution),
         _ => None,
-    };
-    assert_eq!(rt; size, Some(1_000_016));
-    Ok(())
+    }
+}
+
+fn long_body_size(alloc: Global) -> Option<usize> {
+    match long_file(alloc) {
+        Ok(file) => only_body_size(alloc, file.records.as_slice()),
+        Err(_) => None,
+    }
+}
+
+#[test]
+fn the_body_of_a_long_solution(rt: HostRuntime) {
+    assert_eq!(rt; long_body_size(rt.alloc()), Some(1_000_016));
 }

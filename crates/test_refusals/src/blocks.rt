@@ -1,6 +1,7 @@
 use test_samples::whole_block;
+
 // A file in two blocks.
-#[derive(Drop)]
+#[derive(Clone, Copy)]
 pub(crate) struct Blocks {
     pub(crate) first: [u8; 516],
     pub(crate) second: [u8; 220],

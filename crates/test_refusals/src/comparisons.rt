@@ -1,43 +1,33 @@
 // Comparing two files, and the collection of what is better in one of them. The texts are written out by hand.
-use refusing::{Outcome, Refusing, refuse_each};
+use crate::answers::has_text;
+use refusing::{Complaint, Outcome, Refusing, refuse_each};
 use std::alloc::{Allocator, Global};
-use std::test::Fail;
-use test_samples::{EMPTY_LYNX, record};
-use tws_compare::{CompareFault, better, compare, comparison_text};
+use test_samples::{EMPTY_LYNX, join};
+use tws_best::Collection;
+use tws_compare::{CompareFault, Row, better, compare, comparison_text};
 use tws_file::{FileFault, TwsFile, read_file};
 
-// A solution: a level's number, a letter that is its password four times, seed, ticks and moves.
-type Solution = (u16, u8, u32, u32, &'static [u8]);
-
-// A Lynx file of these solutions.
-fn file_of(alloc: Global, solutions: &[Solution]) -> Result<TwsFile, FileFault> {
-    let mut text = Vec::from_slice(alloc, EMPTY_LYNX)?;
-    for (number, letter, seed, ticks, moves) in solutions {
-        let solution = record(alloc, *number, &[*letter; 4], *seed, *ticks, moves)?;
-        text.extend_from_slice(&solution)?;
-    }
-    read_file(alloc, &text)
-}
-
-// Mine are not in order, and of one level there are two.
-const MINE: [Solution; 7] = [
-    (6, 0x47, 1, 70, &[]),
-    (1, 0x42, 0, 50, &[]),
-    (1, 0x41, 0, 110, &[]),
-    (1, 0x41, 0, 100, &[]),
-    (4, 0x45, 0, 45, &[]),
-    (3, 0x44, 0, 60, &[]),
-    (2, 0x43, 0, 30, &[]),
+// My records, which are not in order: level 6 GGGG in 70 ticks with the seed 1, level 1 BBBB in 50, level 1 AAAA in 110
+// and in 100, level 4 EEEE in 45, level 3 DDDD in 60 and level 2 CCCC in 30.
+const MINE: [&[u8]; 7] = [
+    b"\x10\0\0\0\x06\0GGGG\0\0\x01\0\0\0\x46\0\0\0",
+    b"\x10\0\0\0\x01\0BBBB\0\0\0\0\0\0\x32\0\0\0",
+    b"\x10\0\0\0\x01\0AAAA\0\0\0\0\0\0\x6E\0\0\0",
+    b"\x10\0\0\0\x01\0AAAA\0\0\0\0\0\0\x64\0\0\0",
+    b"\x10\0\0\0\x04\0EEEE\0\0\0\0\0\0\x2D\0\0\0",
+    b"\x10\0\0\0\x03\0DDDD\0\0\0\0\0\0\x3C\0\0\0",
+    b"\x10\0\0\0\x02\0CCCC\0\0\0\0\0\0\x1E\0\0\0",
 ];
 
-// Of level 2 theirs has a move more, and of level 6 the seed 256, whose bytes are the smaller ones.
-const THEIRS: [Solution; 6] = [
-    (1, 0x41, 0, 120, &[]),
-    (2, 0x43, 0, 30, &[1]),
-    (3, 0x44, 0, 60, &[]),
-    (4, 0x45, 0, 40, &[]),
-    (5, 0x46, 0, 10, &[]),
-    (6, 0x47, 256, 70, &[]),
+// Theirs: level 1 AAAA in 120 ticks, level 2 CCCC in 30 with a move more, level 3 DDDD in 60, level 4 EEEE in 40, level 5
+// FFFF in 10, and level 6 GGGG in 70 with the seed 256, whose bytes are the smaller ones.
+const THEIRS: [&[u8]; 6] = [
+    b"\x10\0\0\0\x01\0AAAA\0\0\0\0\0\0\x78\0\0\0",
+    b"\x11\0\0\0\x02\0CCCC\0\0\0\0\0\0\x1E\0\0\0\x01",
+    b"\x10\0\0\0\x03\0DDDD\0\0\0\0\0\0\x3C\0\0\0",
+    b"\x10\0\0\0\x04\0EEEE\0\0\0\0\0\0\x28\0\0\0",
+    b"\x10\0\0\0\x05\0FFFF\0\0\0\0\0\0\x0A\0\0\0",
+    b"\x10\0\0\0\x06\0GGGG\0\0\0\x01\0\0\x46\0\0\0",
 ];
 
 const COMPARISON: &str = "level 1 AAAA mine better by 20 ticks
@@ -51,56 +41,73 @@ levels 7 only mine 1 only theirs 1 mine better 2 theirs better 2 equal 1
 ";
 
 // A file of level 1 AAAA in 100 ticks, level 1 BBBB in 50 and level 2 CCCC in 30.
-const BETTER: [u8; 68] = [
-    0x35, 0x33, 0x9B, 0x99, 1, 0, 0, 0, 0x10, 0, 0, 0, 1, 0, 0x41, 0x41, 0x41, 0x41, 0, 0, 0, 0, 0,
-    0, 0x64, 0, 0, 0, 0x10, 0, 0, 0, 1, 0, 0x42, 0x42, 0x42, 0x42, 0, 0, 0, 0, 0, 0, 0x32, 0, 0, 0,
-    0x10, 0, 0, 0, 2, 0, 0x43, 0x43, 0x43, 0x43, 0, 0, 0, 0, 0, 0, 0x1E, 0, 0, 0,
-];
+const BETTER: &[u8; 68] =
+    b"\x35\x33\x9B\x99\x01\0\0\0\x10\0\0\0\x01\0AAAA\0\0\0\0\0\0\x64\0\0\0\x10\0\0\0\x01\0BBBB\0\0\0\0\0\0\x32\0\0\0\x10\0\0\0\x02\0CCCC\0\0\0\0\0\0\x1E\0\0\0";
 
-fn compared<A: Allocator + Copy>(
-    alloc: A,
-    mine: &TwsFile,
-    theirs: &TwsFile,
-) -> Result<String<A>, CompareFault> {
-    let rows = compare(alloc, mine, theirs)?;
-    Ok(comparison_text(alloc, &rows)?)
+// A Lynx file of these records.
+fn file_of(global: Global, records: &[&[u8]]) -> Result<TwsFile, FileFault> {
+    let text = join(global, EMPTY_LYNX, records)?;
+    read_file(global, &text)
 }
 
-#[test]
-fn comparing(rt: HostRuntime) -> Result<(), Fail> {
-    let mine = file_of(rt.alloc(), &MINE)?;
-    let theirs = file_of(rt.alloc(), &THEIRS)?;
-    Ok(refuse_each(
-        rt.alloc(),
-        5,
-        &|refusing: &Refusing<Global>| match compared(refusing, &mine, &theirs) {
-            Ok(text) => Outcome::of(text.as_str() == COMPARISON),
-            Err(fault) => Outcome::refused(fault == CompareFault::Memory),
-        },
-    )?)
+fn write_rows<A: Allocator>(alloc: A, rows: &[Row]) -> Outcome {
+    match comparison_text(alloc, rows) {
+        Ok(text) => Outcome::of(text.as_str() == COMPARISON),
+        Err(_) => Outcome::OutOfMemory,
+    }
 }
 
-fn improve(global: Global, refusing: &Refusing<Global>, theirs: &TwsFile) -> Outcome {
-    let Ok(mine) = file_of(global, &MINE) else {
-        return Outcome::Wrong;
-    };
-    match better(refusing, mine, theirs) {
-        Ok(collection) => {
-            let mut text = Vec::new(global);
-            let is_written = collection.write_text(&mut text).is_ok();
-            Outcome::of(is_written && text.as_slice() == BETTER.as_slice())
-        }
+fn compare_both(refusing: &Refusing<Global>, mine: &TwsFile, theirs: &TwsFile) -> Outcome {
+    match compare(refusing, mine, theirs) {
+        Ok(rows) => write_rows(refusing, &rows),
         Err(fault) => Outcome::refused(fault == CompareFault::Memory),
     }
 }
 
+fn compare_with(refusing: &Refusing<Global>, theirs: &TwsFile) -> Outcome {
+    match file_of(refusing.inner, &MINE) {
+        Ok(mine) => compare_both(refusing, &mine, theirs),
+        Err(_) => Outcome::Wrong,
+    }
+}
+
+fn compare_files(refusing: &Refusing<Global>) -> Outcome {
+    match file_of(refusing.inner, &THEIRS) {
+        Ok(theirs) => compare_with(refusing, &theirs),
+        Err(_) => Outcome::Wrong,
+    }
+}
+
 #[test]
-fn what_is_better(rt: HostRuntime) -> Result<(), Fail> {
-    let global = rt.alloc();
-    let theirs = file_of(global, &THEIRS)?;
-    Ok(refuse_each(
-        global,
-        5,
-        &|refusing: &Refusing<Global>| improve(global, refusing, &theirs),
-    )?)
+fn comparing(rt: HostRuntime) -> Result<(), Complaint> {
+    refuse_each(rt.alloc(), 5, &compare_files)
+}
+
+fn judge_better<A: Allocator + Copy>(
+    global: Global,
+    improved: Result<Collection<A>, CompareFault>,
+) -> Outcome {
+    match improved {
+        Ok(collection) => Outcome::of(has_text(global, &collection, BETTER)),
+        Err(fault) => Outcome::refused(fault == CompareFault::Memory),
+    }
+}
+
+fn improve_on(refusing: &Refusing<Global>, theirs: &TwsFile) -> Outcome {
+    match file_of(refusing.inner, &MINE) {
+        Ok(mine) => judge_better(refusing.inner, better(refusing, mine, theirs)),
+        Err(_) => Outcome::Wrong,
+    }
+}
+
+fn improve(refusing: &Refusing<Global>) -> Outcome {
+    match file_of(refusing.inner, &THEIRS) {
+        Ok(theirs) => improve_on(refusing, &theirs),
+        Err(_) => Outcome::Wrong,
+    }
+}
+
+#[test]
+fn what_is_better(rt: HostRuntime) -> Result<(), Complaint> {
+    refuse_each(rt.alloc(), 5, &improve)
 }

@@ -1,20 +1,17 @@
 // A download from the server's table does not allocate after its first block, nor to open if another one has its text.
+use crate::answers::goes;
 use crate::blocks::Blocks;
-use crate::table::{REQUEST, ask, goes, handle};
+use crate::table_steps::{REQUEST, answers, ask, handle, open, repeats, takes_block};
 use archive_table::Table;
-use refusing::Refusing;
+use refusing::{Outcome, Refusing};
 use std::alloc::{Allocator, Global};
-use std::test::Fail;
-use test_samples::{ACK_0, ACK_1, ACK_2, ALICE, BOB, RRQ_LYNX, UNKNOWN_TRANSFER, WRQ};
+use test_samples::{ACK_0, ACK_1, ACK_2, ALICE, BOB, RRQ_LYNX, UNKNOWN_TRANSFER};
 
 // Whether a file is taken.
 fn takes<A: Allocator + Copy>(table: &mut Table<A>, file: &Blocks) -> bool {
-    let Some(step) = ask(table, 4000, ALICE, WRQ) else {
-        return false;
-    };
-    step.opened
-        && handle(table, 4000, ALICE, &file.first).taken.is_none()
-        && handle(table, 4000, ALICE, &file.second).taken.is_some()
+    open(table) == Outcome::Right
+        && takes_block(table, &file.first, ACK_1, false)
+        && takes_block(table, &file.second, ACK_2, true)
 }
 
 // Whether a download is opened, and its first block is the file's.
@@ -25,51 +22,55 @@ fn opens<A: Allocator + Copy>(table: &mut Table<A>, file: &Blocks) -> bool {
     }
 }
 
+// Whether ACK 0 has no effect.
+fn ignores_ack_0<A: Allocator + Copy>(table: &mut Table<A>) -> bool {
+    let step = handle(table, 4001, BOB, ACK_0);
+    step.out.is_none()
+}
+
 // Whether a block is sent again at a time-out, ACK 0 has no effect, and a stranger is sent its ERROR.
-fn repeats<A: Allocator + Copy>(table: &mut Table<A>, block: &[u8]) -> bool {
-    goes(&table.on_timeout(4001).out, 4001, BOB, block)
-        && handle(table, 4001, BOB, ACK_0).out.is_none()
-        && goes(
-            &handle(table, 4001, ALICE, ACK_1).out,
-            4001,
-            ALICE,
-            UNKNOWN_TRANSFER,
-        )
+fn waits<A: Allocator + Copy>(table: &mut Table<A>, block: &[u8]) -> bool {
+    repeats(table, 4001, BOB, block)
+        && ignores_ack_0(table)
+        && answers(table, 4001, ALICE, ACK_1, UNKNOWN_TRANSFER)
+}
+
+// Whether the transfer ends at the ACK of the second block.
+fn ends<A: Allocator + Copy>(table: &mut Table<A>) -> bool {
+    let step = handle(table, 4001, BOB, ACK_2);
+    step.closed && table.live() == 1
 }
 
 // Whether the rest of the download is right: each block is sent once more at a time-out, the second one at the ACK of
 // the first, and the transfer ends at the ACK of the second.
 fn goes_on<A: Allocator + Copy>(table: &mut Table<A>, file: &Blocks) -> bool {
-    if !repeats(table, &file.first) {
-        return false;
-    }
-    let second = handle(table, 4001, BOB, ACK_1);
-    goes(&second.out, 4001, BOB, &file.second)
-        && repeats(table, &file.second)
-        && handle(table, 4001, BOB, ACK_2).closed
-        && table.live() == 1
+    waits(table, &file.first)
+        && answers(table, 4001, BOB, ACK_1, &file.second)
+        && waits(table, &file.second)
+        && ends(table)
 }
 
-// How many requests for memory were made when a download had begun, and when it had ended; `None` if an answer is wrong.
-fn requests(refusing: &Refusing<Global>) -> Option<(u64, u64)> {
-    let mut table = Table::new(refusing, REQUEST);
-    let file = Blocks::new();
-    let is_begun = takes(&mut table, &file) && opens(&mut table, &file);
+// Whether a file is taken and downloaded, with no request for memory after the download has begun.
+fn downloads<A: Allocator + Copy>(
+    refusing: &Refusing<Global>,
+    table: &mut Table<A>,
+    file: &Blocks,
+) -> bool {
+    let is_begun = takes(table, file) && opens(table, file);
     let begun = refusing.requests();
-    if !is_begun || !goes_on(&mut table, &file) {
-        return None;
-    }
-    Some((begun, refusing.requests()))
+    is_begun && goes_on(table, file) && refusing.requests() == begun
+}
+
+// The same for a new table.
+fn is_downloaded(refusing: &Refusing<Global>) -> bool {
+    let mut table = Table::new(refusing, REQUEST);
+    downloads(refusing, &mut table, &Blocks::new())
 }
 
 #[test]
-fn a_download_after_its_first_block(rt: HostRuntime) -> Result<(), Fail> {
+fn a_download_after_its_first_block(rt: HostRuntime) {
     let refusing: Refusing<Global> = Refusing::new(rt.alloc(), 0);
-    let Some((begun, ended)) = requests(&refusing) else {
-        return Err(Fail::new("another answer"));
-    };
-    assert_eq!(rt; ended, begun);
-    Ok(())
+    assert!(rt; is_downloaded(&refusing));
 }
 
 // Whether a download is opened at this port.
@@ -82,35 +83,36 @@ fn opens_at<A: Allocator + Copy>(table: &mut Table<A>, port: u16) -> bool {
 
 // Whether an ERROR of its peer closes it.
 fn closes_at<A: Allocator + Copy>(table: &mut Table<A>, port: u16) -> bool {
-    handle(table, port, BOB, b"\0\x05\0\0\0").closed
+    let step = handle(table, port, BOB, b"\0\x05\0\0\0");
+    step.closed
 }
 
-// How many requests for memory were made when a first download had begun, when a second one had, when the first had
-// ended and begun again, and when both had ended and one begun again; `None` if an answer is wrong.
-fn requests_of_two(refusing: &Refusing<Global>) -> Option<(u64, u64, u64, u64)> {
-    let mut table = Table::new(refusing, REQUEST);
-    let is_first = takes(&mut table, &Blocks::new()) && opens_at(&mut table, 4001);
+// Whether a second download is opened, the first one ends and begins again, and both end and one begins again.
+fn opens_others<A: Allocator + Copy>(table: &mut Table<A>) -> bool {
+    opens_at(table, 4002)
+        && closes_at(table, 4001)
+        && opens_at(table, 4001)
+        && closes_at(table, 4001)
+        && closes_at(table, 4002)
+        && opens_at(table, 4001)
+}
+
+// Whether that is so after a first download has begun, and makes no request for memory.
+fn shares<A: Allocator + Copy>(refusing: &Refusing<Global>, table: &mut Table<A>) -> bool {
+    let is_first = takes(table, &Blocks::new()) && opens_at(table, 4001);
     let first = refusing.requests();
-    let is_second = opens_at(&mut table, 4002);
-    let second = refusing.requests();
-    let is_third = closes_at(&mut table, 4001) && opens_at(&mut table, 4001);
-    let third = refusing.requests();
-    let is_last = closes_at(&mut table, 4001)
-        && closes_at(&mut table, 4002)
-        && opens_at(&mut table, 4001);
-    if !(is_first && is_second && is_third && is_last) {
-        return None;
-    }
-    Some((first, second, third, refusing.requests()))
+    is_first && opens_others(table) && refusing.requests() == first
+}
+
+// The same for a new table.
+fn is_shared(refusing: &Refusing<Global>) -> bool {
+    let mut table = Table::new(refusing, REQUEST);
+    shares(refusing, &mut table)
 }
 
 // The second download has the snapshot of the first, and so has one after both have ended.
 #[test]
-fn downloads_of_one_text(rt: HostRuntime) -> Result<(), Fail> {
+fn downloads_of_one_text(rt: HostRuntime) {
     let refusing: Refusing<Global> = Refusing::new(rt.alloc(), 0);
-    let Some((first, second, third, last)) = requests_of_two(&refusing) else {
-        return Err(Fail::new("another answer"));
-    };
-    assert_eq!(rt; (second, third, last), (first, first, first));
-    Ok(())
+    assert!(rt; is_shared(&refusing));
 }

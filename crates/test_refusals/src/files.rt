@@ -2,9 +2,8 @@
 ghost use Rattle.std.specs.Prelude.{ℕ, ◌+◌, length};
 ghost use Rattle.tws_file.specs.Reader.{HasRoomFor, HasAtMost};
 
-use refusing::{Outcome, Refusing, refuse_each};
+use refusing::{Complaint, Outcome, Refusing, refuse_each};
 use std::alloc::{Allocator, Global};
-use std::test::Fail;
 use test_samples::CUT_MOVE;
 use tws_file::{FileFault, OutFault, Reader, TwsFile, read_file, show};
 
@@ -25,52 +24,60 @@ fn is_listed<A: Allocator>(global: Global, file: &TwsFile<A>) -> bool {
     show(global, file, true, &mut out).is_ok() && out.as_slice() == LISTING.as_bytes()
 }
 
+fn read(refusing: &Refusing<Global>) -> Outcome {
+    match read_file(refusing, &EVERY_RULESET) {
+        Ok(file) => Outcome::of(is_listed(refusing.inner, &file)),
+        Err(fault) => Outcome::refused(fault == FileFault::Memory),
+    }
+}
+
 #[test]
-fn reading(rt: HostRuntime) -> Result<(), Fail> {
-    let global = rt.alloc();
-    Ok(refuse_each(
-        global,
-        4,
-        &|refusing: &Refusing<Global>| {
-            match read_file(refusing, &EVERY_RULESET) {
-                Ok(file) => Outcome::of(is_listed(global, &file)),
-                Err(fault) => Outcome::refused(fault == FileFault::Memory),
-            }
-        },
-    )?)
+fn reading(rt: HostRuntime) -> Result<(), Complaint> {
+    refuse_each(rt.alloc(), 4, &read)
 }
 
 // The sink keeps the plain allocator: if it ran out of memory, that would be a fault of the writer.
-fn list(global: Global, refusing: &Refusing<Global>, file: &TwsFile) -> Outcome {
-    let mut out = Vec::new(global);
+fn list_file(refusing: &Refusing<Global>, file: &TwsFile) -> Outcome {
+    let mut out = Vec::new(refusing.inner);
     match show(refusing, file, true, &mut out) {
         Ok(()) => Outcome::of(out.as_slice() == LISTING.as_bytes()),
         Err(fault) => Outcome::refused(fault == OutFault::Memory),
     }
 }
 
+fn list(refusing: &Refusing<Global>) -> Outcome {
+    match read_file(refusing.inner, &EVERY_RULESET) {
+        Ok(file) => list_file(refusing, &file),
+        Err(_) => Outcome::Wrong,
+    }
+}
+
 #[test]
-fn listing(rt: HostRuntime) -> Result<(), Fail> {
-    let global = rt.alloc();
-    let file = read_file(global, &EVERY_RULESET)?;
-    Ok(refuse_each(
-        global,
-        2,
-        &|refusing: &Refusing<Global>| list(global, refusing, &file),
-    )?)
+fn listing(rt: HostRuntime) -> Result<(), Complaint> {
+    refuse_each(rt.alloc(), 2, &list)
+}
+
+// A record of the greatest size, of which two bytes have come.
+const CUT: &[u8; 14] = b"\x35\x33\x9B\x99\x01\0\0\0\xFF\xFF\xFF\xFF\x01\0";
+
+// Why a file is not read; `None` if it is.
+fn fault_of<A: Allocator + Copy>(alloc: A, bytes: &[u8]) -> Option<FileFault> {
+    match read_file(alloc, bytes) {
+        Ok(_file) => None,
+        Err(fault) => Some(fault),
+    }
 }
 
 // Nothing is allocated for a size field before the bytes that it announces have arrived: the one request is for the
 // bytes that arrived and are not read yet.
 #[test]
 fn a_cut_record_of_the_greatest_size(rt: HostRuntime) {
-    let bytes = [
-        0x35, 0x33, 0x9B, 0x99, 0x01, 0x00, 0x00, 0x00, 0xFF, 0xFF, 0xFF, 0xFF, 0x01, 0x00,
-    ];
     let refusing = Refusing::new(rt.alloc(), 2);
-    let outcome = read_file(&refusing, &bytes);
-    assert_eq!(rt; outcome.err(), Some(FileFault::ShortRecord(8)));
-    assert_eq!(rt; refusing.requests(), 1);
+    let fault = fault_of(&refusing, CUT);
+    assert_eq!(rt;
+        (fault, refusing.requests()),
+        (Some(FileFault::ShortRecord(8)), 1)
+    );
 }
 
 // Pushes a piece, and once more if that was out of memory.
@@ -84,23 +91,30 @@ fn push_again<A: Allocator + Copy>(reader: &mut Reader<A>, piece: &[u8]) -> Resu
     }
 }
 
-// Reads the file byte by byte. A push that was out of memory is made again, so that the answer is the complete one.
-fn read_again(global: Global, refusing: &Refusing<Global>) -> Result<bool, FileFault> {
-    let mut reader = Reader::new(refusing);
-    for i in 0..EVERY_RULESET.len() {
-        push_again(&mut reader, &EVERY_RULESET[i..i + 1])?;
+// Whether a reader has read the file.
+fn has_read<A: Allocator + Copy>(global: Global, reader: Reader<A>) -> bool {
+    match reader.finish() {
+        Ok(file) => is_listed(global, &file),
+        Err(_) => false,
     }
-    Ok(is_listed(global, &reader.finish()?))
+}
+
+// Reads the file byte by byte. A push that was out of memory is made again, so that the answer is the complete one.
+fn read_again(refusing: &Refusing<Global>) -> Outcome {
+    let mut reader = Reader::new(refusing);
+    let mut are_pushed = true;
+    for i in 0..EVERY_RULESET.len() {
+        if push_again(&mut reader, &EVERY_RULESET[i..i + 1]).is_err() {
+            are_pushed = false;
+        }
+    }
+    let is_read = has_read(refusing.inner, reader);
+    Outcome::of(are_pushed && is_read)
 }
 
 #[test]
-fn reading_in_pieces(rt: HostRuntime) -> Result<(), Fail> {
-    let global = rt.alloc();
-    Ok(refuse_each(
-        global,
-        6,
-        &|refusing: &Refusing<Global>| { Outcome::of(read_again(global, refusing) == Ok(true)) },
-    )?)
+fn reading_in_pieces(rt: HostRuntime) -> Result<(), Complaint> {
+    refuse_each(rt.alloc(), 6, &read_again)
 }
 
 // The same for the first piece.
@@ -121,14 +135,12 @@ fn read_cut_in_two(refusing: &Refusing<Global>) -> Result<(), FileFault> {
     Ok(())
 }
 
+fn read_cut(refusing: &Refusing<Global>) -> Outcome {
+    Outcome::of(read_cut_in_two(refusing) == Err(FileFault::MoveCut(29)))
+}
+
 // The first request is made in the first push. If it is refused, that push succeeds when it is made again.
 #[test]
-fn a_push_of_twenty_bytes(rt: HostRuntime) -> Result<(), Fail> {
-    Ok(refuse_each(
-        rt.alloc(),
-        2,
-        &|refusing: &Refusing<Global>| {
-            Outcome::of(read_cut_in_two(refusing) == Err(FileFault::MoveCut(29)))
-        },
-    )?)
+fn a_push_of_twenty_bytes(rt: HostRuntime) -> Result<(), Complaint> {
+    refuse_each(rt.alloc(), 2, &read_cut)
 }

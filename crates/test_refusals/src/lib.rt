@@ -6,6 +6,8 @@
 #[cfg(test)]
 mod ample;
 #[cfg(test)]
+mod answers;
+#[cfg(test)]
 mod blocks;
 #[cfg(test)]
 mod clients;
@@ -34,7 +36,11 @@ mod runs;
 #[cfg(test)]
 mod table;
 #[cfg(test)]
+mod table_steps;
+#[cfg(test)]
 mod tables;
+#[cfg(test)]
+mod texts;
 #[cfg(test)]
 mod uploads;
 #[cfg(test)]

@@ -1,7 +1,6 @@
 // Reading and writing moves, and packing bytes.
-use refusing::{Outcome, Refusing, refuse_each};
+use refusing::{Complaint, Outcome, Refusing, refuse_each};
 use std::alloc::Global;
-use std::test::Fail;
 use tws_moves::{Act, Move, MovesFault, SpellFault, pack_moves, read_moves, write_moves};
 
 // Ten moves, in each of the five layouts.
@@ -44,22 +43,20 @@ fn spelled_moves() -> [Move; 10] {
     ]
 }
 
-#[test]
-fn reading(rt: HostRuntime) -> Result<(), Fail> {
-    let whole = spelled_moves();
-    Ok(refuse_each(
-        rt.alloc(),
-        1,
-        &|refusing: &Refusing<Global>| match read_moves(refusing, &SPELLED) {
-            Ok(moves) => Outcome::of(moves.as_slice() == whole.as_slice()),
-            Err(MovesFault::Memory) => Outcome::OutOfMemory,
-            Err(MovesFault::Cut { .. }) => Outcome::Wrong,
-        },
-    )?)
+fn read(refusing: &Refusing<Global>) -> Outcome {
+    match read_moves(refusing, &SPELLED) {
+        Ok(moves) => Outcome::of(moves.as_slice() == spelled_moves().as_slice()),
+        Err(fault) => Outcome::refused(fault == MovesFault::Memory),
+    }
 }
 
-fn write(global: Global, refusing: &Refusing<Global>) -> Outcome {
-    let Ok(moves) = read_moves(global, &SPELLED) else {
+#[test]
+fn reading(rt: HostRuntime) -> Result<(), Complaint> {
+    refuse_each(rt.alloc(), 1, &read)
+}
+
+fn write(refusing: &Refusing<Global>) -> Outcome {
+    let Ok(moves) = read_moves(refusing.inner, &SPELLED) else {
         return Outcome::Wrong;
     };
     match write_moves(refusing, &moves) {
@@ -69,24 +66,18 @@ fn write(global: Global, refusing: &Refusing<Global>) -> Outcome {
 }
 
 #[test]
-fn writing(rt: HostRuntime) -> Result<(), Fail> {
-    let global = rt.alloc();
-    Ok(refuse_each(
-        global,
-        1,
-        &|refusing: &Refusing<Global>| write(global, refusing),
-    )?)
+fn writing(rt: HostRuntime) -> Result<(), Complaint> {
+    refuse_each(rt.alloc(), 1, &write)
+}
+
+fn pack(refusing: &Refusing<Global>) -> Outcome {
+    match pack_moves(refusing, &SPELLED) {
+        Ok(bytes) => Outcome::of(bytes.as_slice() == SPELLED.as_slice()),
+        Err(fault) => Outcome::refused(fault == MovesFault::Memory),
+    }
 }
 
 #[test]
-fn packing(rt: HostRuntime) -> Result<(), Fail> {
-    Ok(refuse_each(
-        rt.alloc(),
-        1,
-        &|refusing: &Refusing<Global>| match pack_moves(refusing, &SPELLED) {
-            Ok(bytes) => Outcome::of(bytes.as_slice() == SPELLED.as_slice()),
-            Err(MovesFault::Memory) => Outcome::OutOfMemory,
-            Err(MovesFault::Cut { .. }) => Outcome::Wrong,
-        },
-    )?)
+fn packing(rt: HostRuntime) -> Result<(), Complaint> {
+    refuse_each(rt.alloc(), 1, &pack)
 }

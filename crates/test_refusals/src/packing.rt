@@ -1,55 +1,65 @@
 // Packing a solution file, and taking a body out.
-use refusing::{Outcome, Refusing, refuse_each};
+use refusing::{Complaint, Outcome, Refusing, refuse_each};
 use std::alloc::{Allocator, Global};
-use std::test::Fail;
-use tws_file::{Record, TwsFile, pack, read_file, write_file};
+use tws_file::{Record, Solution, TwsFile, pack, read_file, write_file};
 
 // One further header byte, a set record, and a solution whose four moves take four bytes.
-const LOOSE: [u8; 53] = [
-    0x35, 0x33, 0x9B, 0x99, 0x02, 0x00, 0x00, 0x01, 0xAB, 0x10, 0x00, 0x00, 0x00, 0x00, 0x00, 0x00,
-    0x00, 0x00, 0x00, 0x61, 0x20, 0x73, 0x65, 0x74, 0x20, 0x6F, 0x66, 0x20, 0x6C, 0x14, 0x00, 0x00,
-    0x00, 0x01, 0x00, 0x42, 0x44, 0x48, 0x50, 0x00, 0x00, 0x00, 0x00, 0x00, 0x00, 0x64, 0x00, 0x00,
-    0x00, 0x61, 0x61, 0x61, 0x61,
-];
+const LOOSE: &[u8; 53] =
+    b"\x35\x33\x9B\x99\x02\0\0\x01\xAB\x10\0\0\0\0\0\0\0\0\0a set of l\x14\0\0\0\x01\0BDHP\0\0\0\0\0\0\x64\0\0\0aaaa";
 
-// Whether the file is the same, with the moves in two bytes.
+// The same with the moves in two bytes.
+const PACKED: &[u8; 51] =
+    b"\x35\x33\x9B\x99\x02\0\0\x01\xAB\x10\0\0\0\0\0\0\0\0\0a set of l\x12\0\0\0\x01\0BDHP\0\0\0\0\0\0\x64\0\0\0\0a";
+
+// The body of its solution.
+const BODY: &[u8; 20] = b"\x01\0BDHP\0\0\0\0\0\0\x64\0\0\0aaaa";
+
 fn is_packed<A: Allocator>(global: Global, file: &TwsFile<A>) -> bool {
     let mut out = Vec::new(global);
-    if write_file(file, &mut out).is_err() {
-        return false;
+    write_file(file, &mut out).is_ok() && out.as_slice() == PACKED.as_slice()
+}
+
+fn pack_file(refusing: &Refusing<Global>, file: &TwsFile) -> Outcome {
+    match pack(refusing, file) {
+        Ok(packed) => Outcome::of(is_packed(refusing.inner, &packed)),
+        Err(_) => Outcome::OutOfMemory,
     }
-    out.len() == 51
-        && out.get(..29) == LOOSE.get(..29)
-        && out.get(29).copied() == Some(0x12)
-        && out.get(30..49) == LOOSE.get(30..49)
-        && out.get(49..) == Some(&[0x00, 0x61])
+}
+
+fn pack_loose(refusing: &Refusing<Global>) -> Outcome {
+    match read_file(refusing.inner, LOOSE) {
+        Ok(file) => pack_file(refusing, &file),
+        Err(_) => Outcome::Wrong,
+    }
 }
 
 #[test]
-fn packing(rt: HostRuntime) -> Result<(), Fail> {
-    let file = read_file(rt.alloc(), &LOOSE)?;
-    Ok(refuse_each(
-        rt.alloc(),
-        4,
-        &|refusing: &Refusing<Global>| match pack(refusing, &file) {
-            Ok(packed) => Outcome::of(is_packed(rt.alloc(), &packed)),
-            Err(_) => Outcome::OutOfMemory,
-        },
-    )?)
+fn packing(rt: HostRuntime) -> Result<(), Complaint> {
+    refuse_each(rt.alloc(), 4, &pack_loose)
+}
+
+fn copy_body(refusing: &Refusing<Global>, solution: &Solution) -> Outcome {
+    match solution.body(refusing) {
+        Ok(body) => Outcome::of(body.as_slice() == BODY.as_slice()),
+        Err(_) => Outcome::OutOfMemory,
+    }
+}
+
+fn copy_second(refusing: &Refusing<Global>, records: &[Record]) -> Outcome {
+    match records {
+        [_, Record::Solution(solution)] => copy_body(refusing, solution),
+        _ => Outcome::Wrong,
+    }
+}
+
+fn copy_loose(refusing: &Refusing<Global>) -> Outcome {
+    match read_file(refusing.inner, LOOSE) {
+        Ok(file) => copy_second(refusing, file.records.as_slice()),
+        Err(_) => Outcome::Wrong,
+    }
 }
 
 #[test]
-fn the_body_of_a_solution(rt: HostRuntime) -> Result<(), Fail> {
-    let file = read_file(rt.alloc(), &LOOSE)?;
-    let [_, Record::Solution(solution)] = file.records.as_slice() else {
-        return Err(Fail::new("no solution"));
-    };
-    Ok(refuse_each(
-        rt.alloc(),
-        1,
-        &|refusing: &Refusing<Global>| match solution.body(refusing) {
-            Ok(body) => Outcome::of(body.as_slice() == &LOOSE[33..]),
-            Err(_) => Outcome::OutOfMemory,
-        },
-    )?)
+fn the_body_of_a_solution(rt: HostRuntime) -> Result<(), Complaint> {
+    refuse_each(rt.alloc(), 1, &copy_loose)
 }

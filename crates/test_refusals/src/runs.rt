@@ -1,30 +1,27 @@
 // A get and a server over a wire, with each allocation of theirs refused in turn. The wire itself has ample memory.
-use archive_table::{Kept, MemoryKeeper};
+use crate::answers::{is_out, was_kept};
+use archive_table::{Kept, MemoryKeeper, Table};
 use archive_turns::{Entry, MemoryWire, RunFault, Server, run_get, serve_turns};
-use refusing::{Outcome, Refusing, refuse_each};
-use std::alloc::{AllocError, Global};
-use std::test::Fail;
+use refusing::{Complaint, Outcome, Refusing, refuse_each};
+use std::alloc::{AllocError, Allocator, Global};
 use test_samples::{ACK_0, ACK_1, ALICE, DATA_HUNDRED, HUNDRED, OUT_OF_MEMORY, WRQ, at};
 use tftp_packet::Endpoint;
 use tws_file::Ruleset;
 
 fn is_sent(entry: &Entry, from: u16, to: Endpoint, bytes: &[u8]) -> bool {
     match entry {
-        Entry::Sent { out, ok } => {
-            out.from_port == from && out.to == to && out.dgram.bytes() == bytes && *ok
-        }
+        Entry::Sent { out, ok } => *ok && is_out(out, from, to, bytes),
         _ => false,
     }
 }
 
-// ---- a get
-
-// A wire at which the only block has arrived.
-fn answered_wire(global: Global) -> Result<MemoryWire, AllocError> {
-    let mut wire = MemoryWire::new(global, Vec::from_slice(global, &[5000])?);
-    wire.arrive(global, 5000, at(4000), DATA_HUNDRED)?;
-    Ok(wire)
+// A wire that opens this port.
+fn wire_at(global: Global, port: u16) -> Result<MemoryWire, AllocError> {
+    let ports = Vec::from_slice(global, &[port])?;
+    Ok(MemoryWire::new(global, ports))
 }
+
+// ---- a get
 
 // Whether this was sent last to the server's transfer.
 fn has_answered(wire: &MemoryWire, bytes: &[u8]) -> bool {
@@ -34,48 +31,50 @@ fn has_answered(wire: &MemoryWire, bytes: &[u8]) -> bool {
     }
 }
 
-fn fetch(global: Global, refusing: &Refusing<Global>) -> Outcome {
-    let Ok(mut wire) = answered_wire(global) else {
-        return Outcome::Wrong;
-    };
-    let mut out = Vec::new(global);
-    match run_get(refusing, &mut wire, at(6969), Ruleset::Lynx, 1, &mut out) {
+// What a get comes to that has written these bytes.
+fn judge_get(done: Result<u64, RunFault>, wire: &MemoryWire, out: &[u8]) -> Outcome {
+    match done {
         Ok(len) => {
-            let is_whole = len == 28 && out.as_slice() == HUNDRED.as_slice();
-            Outcome::of(is_whole && has_answered(&wire, ACK_1))
+            Outcome::of(len == 28 && out == HUNDRED.as_slice() && has_answered(wire, ACK_1))
         }
-        Err(fault) => {
-            let is_refused = fault == RunFault::Memory && out.is_empty();
-            Outcome::refused(is_refused && has_answered(&wire, OUT_OF_MEMORY))
-        }
+        Err(fault) => Outcome::refused(
+            fault == RunFault::Memory && out.is_empty() && has_answered(wire, OUT_OF_MEMORY),
+        ),
+    }
+}
+
+// Makes a get at a wire at which the only block arrives.
+fn fetch_over(refusing: &Refusing<Global>, wire: &mut MemoryWire) -> Outcome {
+    if wire
+        .arrive(refusing.inner, 5000, at(4000), DATA_HUNDRED)
+        .is_err()
+    {
+        return Outcome::Wrong;
+    }
+    let mut out = Vec::new(refusing.inner);
+    let done = run_get(refusing, wire, at(6969), Ruleset::Lynx, 1, &mut out);
+    judge_get(done, wire, &out)
+}
+
+fn fetch(refusing: &Refusing<Global>) -> Outcome {
+    match wire_at(refusing.inner, 5000) {
+        Ok(mut wire) => fetch_over(refusing, &mut wire),
+        Err(_) => Outcome::Wrong,
     }
 }
 
 // The server receives an ERROR, and nothing is written.
 #[test]
-fn fetching(rt: HostRuntime) -> Result<(), Fail> {
-    let global = rt.alloc();
-    Ok(refuse_each(
-        global,
-        1,
-        &|refusing: &Refusing<Global>| fetch(global, refusing),
-    )?)
+fn fetching(rt: HostRuntime) -> Result<(), Complaint> {
+    refuse_each(rt.alloc(), 1, &fetch)
 }
 
 // ---- a server
 
-// A wire with a whole put.
-fn put_wire(global: Global) -> Result<MemoryWire, AllocError> {
-    let mut wire = MemoryWire::new(global, Vec::from_slice(global, &[4000])?);
-    wire.arrive(global, 6969, ALICE, WRQ)?;
-    wire.arrive(global, 4000, ALICE, DATA_HUNDRED)?;
-    Ok(wire)
-}
-
 // Whether the client was refused from the request port, or from its transfer's after ACK 0, and the port that was opened
 // for it is closed.
-fn has_refused(wire: &MemoryWire) -> bool {
-    match wire.log() {
+fn has_refused(log: &[Entry]) -> bool {
+    match log {
         [_, _, sent, Entry::Closed(4000, true), Entry::Quiet(6969)] => {
             is_sent(sent, 6969, ALICE, OUT_OF_MEMORY)
         }
@@ -87,8 +86,8 @@ fn has_refused(wire: &MemoryWire) -> bool {
 }
 
 // Whether the last block was acknowledged, and its port is open.
-fn has_acked(wire: &MemoryWire) -> bool {
-    match wire.log() {
+fn has_acked(log: &[Entry]) -> bool {
+    match log {
         [_, _, first, _, last] => {
             is_sent(first, 4000, ALICE, ACK_0) && is_sent(last, 4000, ALICE, ACK_1)
         }
@@ -96,41 +95,54 @@ fn has_acked(wire: &MemoryWire) -> bool {
     }
 }
 
-fn is_file(one: &Kept) -> bool {
-    one.ruleset == Ruleset::Lynx && one.ok && one.text.as_slice() == HUNDRED.as_slice()
+// How many transfers are live, and how many solutions the Lynx collection has.
+fn counts_of<A: Allocator + Copy>(table: &Table<A>) -> (usize, usize) {
+    (table.live(), table.collection(Ruleset::Lynx).len())
 }
 
-// Makes the two turns of a put.
-fn serve(wire: &mut MemoryWire, keeper: &mut MemoryKeeper, refusing: &Refusing<Global>) -> Outcome {
-    let mut server = Server::new(refusing, 6969);
-    let taken = serve_turns(wire, keeper, &mut server, 2);
-    let (live, solutions) = (
-        server.table().live(),
-        server.table().collection(Ruleset::Lynx).len(),
-    );
-    match keeper.kept() {
+// What the turns of a put come to that have taken so many files, by what was kept and the log of the wire.
+fn judge_put(taken: u64, counts: (usize, usize), kept: &[Kept], log: &[Entry]) -> Outcome {
+    match kept {
         [one] => Outcome::of(
-            (taken, live, solutions) == (1, 1, 1) && is_file(one) && has_acked(wire),
+            taken == 1
+                && counts == (1, 1)
+                && was_kept(one, Ruleset::Lynx, HUNDRED)
+                && has_acked(log),
         ),
-        [] => Outcome::refused((taken, live, solutions) == (0, 0, 0) && has_refused(wire)),
+        [] => Outcome::refused(taken == 0 && counts == (0, 0) && has_refused(log)),
         _ => Outcome::Wrong,
     }
 }
 
-fn serve_put(global: Global, refusing: &Refusing<Global>) -> Outcome {
-    let Ok(mut wire) = put_wire(global) else {
+// Makes the two turns of a put.
+fn serve(refusing: &Refusing<Global>, wire: &mut MemoryWire, keeper: &mut MemoryKeeper) -> Outcome {
+    let mut server = Server::new(refusing, 6969);
+    let taken = serve_turns(wire, keeper, &mut server, 2);
+    judge_put(taken, counts_of(server.table()), keeper.kept(), wire.log())
+}
+
+// Whether a whole put arrives.
+fn has_put(global: Global, wire: &mut MemoryWire) -> bool {
+    wire.arrive(global, 6969, ALICE, WRQ).is_ok()
+        && wire.arrive(global, 4000, ALICE, DATA_HUNDRED).is_ok()
+}
+
+fn serve_over(refusing: &Refusing<Global>, wire: &mut MemoryWire) -> Outcome {
+    if !has_put(refusing.inner, wire) {
         return Outcome::Wrong;
-    };
-    serve(&mut wire, &mut MemoryKeeper::new(global), refusing)
+    }
+    serve(refusing, wire, &mut MemoryKeeper::new(refusing.inner))
+}
+
+fn serve_put(refusing: &Refusing<Global>) -> Outcome {
+    match wire_at(refusing.inner, 4000) {
+        Ok(mut wire) => serve_over(refusing, &mut wire),
+        Err(_) => Outcome::Wrong,
+    }
 }
 
 // A request that is refused leaves its port closed, and so does a last block that is refused.
 #[test]
-fn serving(rt: HostRuntime) -> Result<(), Fail> {
-    let global = rt.alloc();
-    Ok(refuse_each(
-        global,
-        6,
-        &|refusing: &Refusing<Global>| serve_put(global, refusing),
-    )?)
+fn serving(rt: HostRuntime) -> Result<(), Complaint> {
+    refuse_each(rt.alloc(), 6, &serve_put)
 }

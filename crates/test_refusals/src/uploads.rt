@@ -1,66 +1,68 @@
 // An upload of two blocks to the server's table: repeated blocks and time-outs do not allocate.
 use crate::blocks::Blocks;
-use crate::table::{REQUEST, goes, handle, open};
+use crate::table_steps::{REQUEST, open, repeats, takes_block};
 use archive_table::Table;
-use refusing::Refusing;
+use refusing::{Outcome, Refusing};
 use std::alloc::{Allocator, Global};
-use std::test::Fail;
-use test_samples::{ACK_0, ACK_1, ACK_2, ALICE, WRQ};
+use test_samples::{ACK_0, ACK_1, ACK_2, ALICE};
 
-// Whether a block is acknowledged so.
-fn is_acked<A: Allocator + Copy>(table: &mut Table<A>, block: &[u8], ack: &[u8]) -> bool {
-    goes(&handle(table, 4000, ALICE, block).out, 4000, ALICE, ack)
+// Whether ACK 0 is sent again at a time-out after the open, without a request for memory.
+fn waits<A: Allocator + Copy>(refusing: &Refusing<Global>, table: &mut Table<A>) -> bool {
+    let before = refusing.requests();
+    repeats(table, 4000, ALICE, ACK_0) && refusing.requests() == before
 }
 
-// Whether this is sent again at a time-out.
-fn is_sent_again<A: Allocator + Copy>(table: &mut Table<A>, ack: &[u8]) -> bool {
-    goes(&table.on_timeout(4000).out, 4000, ALICE, ack)
+// The same for the first block when it comes again, and for a time-out after it.
+fn repeats_ack<A: Allocator + Copy>(
+    refusing: &Refusing<Global>,
+    table: &mut Table<A>,
+    file: &Blocks,
+) -> bool {
+    let before = refusing.requests();
+    takes_block(table, &file.first, ACK_1, false)
+        && repeats(table, 4000, ALICE, ACK_1)
+        && refusing.requests() == before
 }
 
-// Whether a taken file's last block is acknowledged again, and the second time-out then ends the transfer.
-fn dallies<A: Allocator + Copy>(table: &mut Table<A>, block: &[u8]) -> bool {
-    is_acked(table, block, ACK_2)
-        && table.on_timeout(4000).out.is_none()
-        && table.on_timeout(4000).closed
+// Whether nothing is sent at a time-out, and the next one ends the transfer.
+fn ends<A: Allocator + Copy>(table: &mut Table<A>) -> bool {
+    let first = table.on_timeout(4000);
+    let second = table.on_timeout(4000);
+    first.out.is_none() && second.closed
 }
 
-// How many requests for memory were made after the open, after the time-out that follows, after the first block, after
-// it is repeated and a time-out, after the second block, and at the end; `None` if an answer is wrong.
-fn requests(refusing: &Refusing<Global>) -> Option<(u64, u64, u64, u64, u64, u64)> {
+// Whether a taken file's last block is acknowledged again and the transfer then ends, without a request for memory.
+fn dallies<A: Allocator + Copy>(
+    refusing: &Refusing<Global>,
+    table: &mut Table<A>,
+    file: &Blocks,
+) -> bool {
+    let before = refusing.requests();
+    takes_block(table, &file.second, ACK_2, false) && ends(table) && refusing.requests() == before
+}
+
+// Whether an upload with such repetitions takes the file.
+fn uploads<A: Allocator + Copy>(
+    refusing: &Refusing<Global>,
+    table: &mut Table<A>,
+    file: &Blocks,
+) -> bool {
+    open(table) == Outcome::Right
+        && waits(refusing, table)
+        && takes_block(table, &file.first, ACK_1, false)
+        && repeats_ack(refusing, table, file)
+        && takes_block(table, &file.second, ACK_2, true)
+        && dallies(refusing, table, file)
+}
+
+// The same for a new table.
+fn is_uploaded(refusing: &Refusing<Global>) -> bool {
     let mut table = Table::new(refusing, REQUEST);
-    let file = Blocks::new();
-    let is_opened = open(&mut table, 4000, ALICE, WRQ).is_ok();
-    let opened = refusing.requests();
-    let is_first = is_sent_again(&mut table, ACK_0);
-    let waited = refusing.requests();
-    let is_received = is_acked(&mut table, &file.first, ACK_1);
-    let received = refusing.requests();
-    let is_repeated = is_acked(&mut table, &file.first, ACK_1) && is_sent_again(&mut table, ACK_1);
-    let repeated = refusing.requests();
-    let is_taken = handle(&mut table, 4000, ALICE, &file.second)
-        .taken
-        .is_some();
-    let taken = refusing.requests();
-    let is_over = dallies(&mut table, &file.second);
-    if !(is_opened && is_first && is_received && is_repeated && is_taken && is_over) {
-        return None;
-    }
-    Some((
-        opened,
-        waited,
-        received,
-        repeated,
-        taken,
-        refusing.requests(),
-    ))
+    uploads(refusing, &mut table, &Blocks::new())
 }
 
 #[test]
-fn repeated_blocks_and_timeouts(rt: HostRuntime) -> Result<(), Fail> {
+fn repeated_blocks_and_timeouts(rt: HostRuntime) {
     let refusing: Refusing<Global> = Refusing::new(rt.alloc(), 0);
-    let Some((opened, waited, received, repeated, taken, over)) = requests(&refusing) else {
-        return Err(Fail::new("another answer"));
-    };
-    assert_eq!(rt; (waited, repeated, over), (opened, received, taken));
-    Ok(())
+    assert!(rt; is_uploaded(&refusing));
 }
