@@ -10,7 +10,8 @@ use tws_file::Ruleset;
 // ---- a get
 
 fn has_failed<A: Allocator + Copy>(client: &Get<A>) -> bool {
-    client.over() && client.state() == State::Failed(Cause::Memory)
+    let is_over = client.over();
+    is_over && client.state() == State::Failed(Cause::Memory)
 }
 
 // Whether nothing is sent for a block and at a time-out.
@@ -61,10 +62,13 @@ fn fetch<A: Allocator + Copy>(global: Global, mut client: Get<A>) -> Outcome {
 // Its start makes no request for memory.
 fn fetch_one(refusing: &Refusing<Global>) -> Outcome {
     let (client, _first) = Get::start(refusing, 5000, SERVER, Ruleset::Lynx);
-    if refusing.requests() != 0 {
-        return Outcome::Wrong;
+    let requests = refusing.requests();
+    let outcome = fetch(refusing.inner, client);
+    if requests == 0 {
+        outcome
+    } else {
+        Outcome::Wrong
     }
-    fetch(refusing.inner, client)
 }
 
 // The first block is refused, so the client is never bound.

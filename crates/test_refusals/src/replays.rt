@@ -109,20 +109,23 @@ fn has_texts<A: Allocator>(left: &Left<A>, lynx: &[u8]) -> bool {
 
 // Whether nothing was taken, sent or fetched, and the server has nothing.
 fn has_nothing<A: Allocator>(left: &Left<A>) -> bool {
-    left.taken.is_empty() && left.sent.is_empty() && has_texts(left, EMPTY_LYNX)
+    let has_texts = has_texts(left, EMPTY_LYNX);
+    has_texts && left.taken.is_empty() && left.sent.is_empty()
 }
 
 // Whether exactly the file was taken.
 fn was_taken<A: Allocator>(left: &Left<A>) -> bool {
     match left.taken.as_slice() {
-        [one] => one.peer == ALICE && one.file.as_slice() == HUNDRED.as_slice(),
+        [one] => one.file.as_slice() == HUNDRED.as_slice() && one.peer == ALICE,
         _ => false,
     }
 }
 
 // Whether the file was taken and counts as sent by these clients, and the server has it and nothing else.
 fn has_file<A: Allocator>(left: &Left<A>, sent: &[Endpoint]) -> bool {
-    was_taken(left) && left.sent.as_slice() == sent && has_texts(left, HUNDRED)
+    let was_taken = was_taken(left);
+    let has_texts = has_texts(left, HUNDRED);
+    was_taken && has_texts && left.sent.as_slice() == sent
 }
 
 // ---- a request that is answered
@@ -132,7 +135,9 @@ const REQUEST: [(usize, u16); 2] = [(0, 4000), (1, 0)];
 // What is left if the request is refused.
 fn judge_refused<A: Allocator>(left: &Left<A>) -> Outcome {
     let sent: [Sent<'_>; 2] = [(ALICE, SERVER, WRQ), (SERVER, ALICE, OUT_OF_MEMORY)];
-    Outcome::refused(has_nothing(left) && were_sent(left.datagrams.as_slice(), &sent))
+    let is_sent = were_sent(left.datagrams.as_slice(), &sent);
+    let has_nothing = has_nothing(left);
+    Outcome::refused(is_sent && has_nothing)
 }
 
 // What is left if it is served.
@@ -143,7 +148,9 @@ fn judge_served<A: Allocator>(left: &Left<A>) -> Outcome {
         (ALICE, at(4000), DATA_HUNDRED),
     ];
     let is_sent = were_sent(left.datagrams.as_slice(), &sent);
-    Outcome::of(has_nothing(left) && is_sent && were_opened(left.opened.as_slice(), &[4000]))
+    let is_opened = were_opened(left.opened.as_slice(), &[4000]);
+    let has_nothing = has_nothing(left);
+    Outcome::of(is_sent && is_opened && has_nothing)
 }
 
 fn judge_request<A: Allocator>(left: &Left<A>, unopened: &Cell<bool>) -> Outcome {

@@ -50,9 +50,9 @@ fn is_open<A: Allocator + Copy>(
     kind: Kind<'_>,
     step: &Step<A>,
 ) -> bool {
-    step.opened
-        && goes(&step.out, port(count), BOB, kind.first)
-        && are_live(table, count.wrapping_add(1))
+    let is_sent = goes(&step.out, port(count), BOB, kind.first);
+    let are_live = are_live(table, count.wrapping_add(1));
+    step.opened && is_sent && are_live
 }
 
 // Whether each of `count` transfers sends this again at a time-out.

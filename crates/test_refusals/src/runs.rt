@@ -10,7 +10,7 @@ use tws_file::Ruleset;
 
 fn is_sent(entry: &Entry, from: u16, to: Endpoint, bytes: &[u8]) -> bool {
     match entry {
-        Entry::Sent { out, ok } => *ok && is_out(out, from, to, bytes),
+        Entry::Sent { out, ok } => is_out(out, from, to, bytes) && *ok,
         _ => false,
     }
 }

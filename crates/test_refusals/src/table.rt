@@ -13,7 +13,8 @@ use tws_file::Ruleset;
 
 // Whether this is the file, and came from the client.
 fn is_file<A: Allocator>(global: Global, taken: &Taken<A>) -> bool {
-    has_bytes(global, &taken.file, HUNDRED) && taken.peer == ALICE
+    let is_whole = has_bytes(global, &taken.file, HUNDRED);
+    is_whole && taken.peer == ALICE
 }
 
 // Whether a step takes exactly the file, and acknowledges its block.
@@ -54,12 +55,17 @@ fn has_texts<A: Allocator + Copy>(global: Global, table: &Table<A>, lynx: &[u8])
         && has_text(global, table.collection(Ruleset::Ms), EMPTY_MS)
 }
 
-fn take_one(refusing: &Refusing<Global>) -> Outcome {
-    let mut table = Table::new(refusing, REQUEST);
-    match take(refusing.inner, &mut table) {
-        Outcome::Right => Outcome::of(has_texts(refusing.inner, &table, HUNDRED)),
+// The same for a table that has nothing, and then has the file.
+fn take_first<A: Allocator + Copy>(global: Global, table: &mut Table<A>) -> Outcome {
+    match take(global, table) {
+        Outcome::Right => Outcome::of(has_texts(global, table, HUNDRED)),
         outcome => outcome,
     }
+}
+
+fn take_one(refusing: &Refusing<Global>) -> Outcome {
+    let mut table = Table::new(refusing, REQUEST);
+    take_first(refusing.inner, &mut table)
 }
 
 // The block that completes a file.
@@ -70,15 +76,16 @@ fn the_last_block(rt: HostRuntime) -> Result<(), Complaint> {
 
 // Whether a request to read is answered with the file in one block, from a new transfer at port 4001.
 fn is_served<A: Allocator + Copy>(table: &Table<A>, step: &Step<A>) -> bool {
-    step.opened && goes(&step.out, 4001, BOB, DATA_HUNDRED) && table.live() == 2
+    let is_sent = goes(&step.out, 4001, BOB, DATA_HUNDRED);
+    let live = table.live();
+    step.opened && is_sent && live == 2
 }
 
 // Whether a request to read is refused as out of memory, with no transfer opened.
 fn is_turned_down<A: Allocator + Copy>(table: &Table<A>, step: &Step<A>) -> bool {
-    !step.opened
-        && goes(&step.out, REQUEST, BOB, OUT_OF_MEMORY)
-        && table.live() == 1
-        && !table.is_live(4001)
+    let is_sent = goes(&step.out, REQUEST, BOB, OUT_OF_MEMORY);
+    let (live, is_live) = (table.live(), table.is_live(4001));
+    is_sent && !step.opened && !is_live && live == 1
 }
 
 // Whether a request for the collection is served now.
@@ -128,12 +135,21 @@ fn read_file<A: Allocator + Copy>(
     }
 }
 
-fn read_one(refusing: &Refusing<Global>, refused: &Cell<u64>) -> Outcome {
-    let mut table = Table::new(refusing, REQUEST);
-    match take(refusing.inner, &mut table) {
-        Outcome::Right => read_file(refusing.inner, &mut table, refused),
+// The same after the file was taken.
+fn take_and_read<A: Allocator + Copy>(
+    global: Global,
+    table: &mut Table<A>,
+    refused: &Cell<u64>,
+) -> Outcome {
+    match take(global, table) {
+        Outcome::Right => read_file(global, table, refused),
         outcome => outcome,
     }
+}
+
+fn read_one(refusing: &Refusing<Global>, refused: &Cell<u64>) -> Outcome {
+    let mut table = Table::new(refusing, REQUEST);
+    take_and_read(refusing.inner, &mut table, refused)
 }
 
 // The collection is not empty, so that what is sent to a reader has to be allocated.
@@ -166,7 +182,10 @@ fn have_file<A: Allocator + Copy>(
     table: &Table<A>,
     keeper: &mut MemoryKeeper<A>,
 ) -> bool {
-    has_texts(global, table, HUNDRED) && keeps_file(keeper) && starts_with(global, keeper, HUNDRED)
+    let has_texts = has_texts(global, table, HUNDRED);
+    let is_kept = keeps_file(keeper);
+    let is_found = starts_with(global, keeper, HUNDRED);
+    has_texts && is_kept && is_found
 }
 
 // Whether they have nothing.
@@ -219,13 +238,23 @@ fn keep_file<A: Allocator + Copy>(
     judge_kept(global, table, keeper, &step, not_kept)
 }
 
+// Opens the transfer, and passes the block to it.
+fn open_and_keep<A: Allocator + Copy>(
+    global: Global,
+    table: &mut Table<A>,
+    keeper: &mut MemoryKeeper<A>,
+    not_kept: &Cell<u64>,
+) -> Outcome {
+    match open(table) {
+        Outcome::Right => keep_file(global, table, keeper, not_kept),
+        outcome => outcome,
+    }
+}
+
 fn keep_one(refusing: &Refusing<Global>, not_kept: &Cell<u64>) -> Outcome {
     let mut table = Table::new(refusing, REQUEST);
     let mut keeper = MemoryKeeper::new(refusing);
-    match open(&mut table) {
-        Outcome::Right => keep_file(refusing.inner, &mut table, &mut keeper, not_kept),
-        outcome => outcome,
-    }
+    open_and_keep(refusing.inner, &mut table, &mut keeper, not_kept)
 }
 
 // The block that completes a file, with a keeper that has the same allocator: the file is both taken and kept, or
@@ -243,14 +272,11 @@ fn the_last_block_kept(rt: HostRuntime) {
 
 // Whether a start with what the keeper has fails as out of memory. Counts a failure in the keeper.
 fn is_refused(fault: LoadFault, in_keeper: &Cell<u64>) -> bool {
-    match fault {
-        LoadFault::Memory => true,
-        LoadFault::Keep(KeepFault::Memory) => {
-            in_keeper.set(in_keeper.get().saturating_add(1));
-            true
-        }
-        _ => false,
+    if fault == LoadFault::Keep(KeepFault::Memory) {
+        in_keeper.set(in_keeper.get().saturating_add(1));
+        return true;
     }
+    fault == LoadFault::Memory
 }
 
 // A keeper that has the file.

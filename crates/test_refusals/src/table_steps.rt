@@ -83,11 +83,16 @@ pub(crate) fn repeats<A: Allocator + Copy>(
     goes(&step.out, port, to, bytes)
 }
 
+// Whether no transfer is live, and the Lynx collection is empty.
+fn is_idle<A: Allocator + Copy>(table: &Table<A>) -> bool {
+    let live = table.live();
+    let is_empty = table.collection(Ruleset::Lynx).is_empty();
+    live == 0 && is_empty
+}
+
 // Whether a refused block has closed its transfer and changed no collection.
 pub(crate) fn is_let_go<A: Allocator + Copy>(table: &Table<A>, step: &Step<A>) -> bool {
-    step.closed
-        && step.taken.is_none()
-        && goes(&step.out, 4000, ALICE, OUT_OF_MEMORY)
-        && table.live() == 0
-        && table.collection(Ruleset::Lynx).is_empty()
+    let is_idle = is_idle(table);
+    let is_sent = goes(&step.out, 4000, ALICE, OUT_OF_MEMORY);
+    is_idle && is_sent && step.closed && step.taken.is_none()
 }

@@ -9,7 +9,8 @@ use test_samples::{ACK_0, ACK_1, ACK_2, ALICE};
 // Whether ACK 0 is sent again at a time-out after the open, without a request for memory.
 fn waits<A: Allocator + Copy>(refusing: &Refusing<Global>, table: &mut Table<A>) -> bool {
     let before = refusing.requests();
-    repeats(table, 4000, ALICE, ACK_0) && refusing.requests() == before
+    let is_repeated = repeats(table, 4000, ALICE, ACK_0);
+    is_repeated && refusing.requests() == before
 }
 
 // The same for the first block when it comes again, and for a time-out after it.

@@ -3,6 +3,7 @@ use archive_turns::{MemoryWire, RECEIVE_SIZE, Wire, WireFault};
 use refusing::{Complaint, Outcome, Refusing, refuse_each};
 use std::alloc::{Allocator, Global};
 use test_samples::ALICE;
+use tftp_packet::Endpoint;
 
 fn is_telling<A: Allocator + Copy>(wire: &MemoryWire<A>, calls: usize) -> bool {
     wire.telling() && wire.failures() == 0 && wire.log().len() == calls
@@ -37,11 +38,15 @@ fn opening(rt: HostRuntime) -> Result<(), Complaint> {
     refuse_each(rt.alloc(), 2, &open_one)
 }
 
+fn is_news(from: Endpoint, bytes: &[u8]) -> bool {
+    bytes == b"news".as_slice() && from == ALICE
+}
+
 // Whether `receive` returns the news from the peer; `None` if it returns nothing.
 fn gives<A: Allocator + Copy>(wire: &mut MemoryWire<A>) -> Result<Option<bool>, WireFault> {
     let mut buffer = [0; RECEIVE_SIZE];
     match wire.receive(4000, &mut buffer)? {
-        Some((count, from)) => Ok(Some(from == ALICE && &buffer[..count] == b"news".as_slice())),
+        Some((count, from)) => Ok(Some(is_news(from, &buffer[..count]))),
         None => Ok(None),
     }
 }
