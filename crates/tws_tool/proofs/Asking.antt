@@ -1,5 +1,5 @@
 -- Which job these arguments ask for.
-use Rattle.std.proofs.Common.{true, false, refl, ◌≡◌, ◌≤◌, ℕ, List, [], ◌∷◌, None, arith, codes}
+use Rattle.std.proofs.Common.{true, false, refl, ◌≡◌, ◌≤◌, ℕ, [], ◌∷◌, None, arith, codes}
 use Rattle.clap.specs.Words.{Text, fault_of}
 use Rattle.clap.specs.declared.error.kind.ErrorKind.TheVariants.{DisplayVersion}
 use Rattle.clap.proofs.OnLiterals.{clap_on_literals}

@@ -10,7 +10,7 @@ use Rattle.tws_tool.specs.declared.commands.serve.Passes.{Passes}
 use Rattle.tws_tool.specs.declared.commands.serve_arguments.ServeArguments.{ServeArguments}
 use Rattle.command_line.specs.declared.tool_fault.ToolFault.{ToolFault}
 use Rattle.command_line.specs.declared.tool_fault.ToolFault.TheVariants.{Read, Write, Unreadable, Memory, Socket, Transfer}
-use Rattle.tws_tool.specs.Commands.Serve.{ArePassesFor, HasHost, IsNoHost, MakesPasses, MakesPassesWhile, ServeRan, ServedFrom, begun_when, count_of, given_address, pass_of, ServeStops, Served, ServerServed, Serves}
+use Rattle.tws_tool.specs.Commands.Serve.{ArePassesFor, HasHost, IsNoHost, MakesPassesWhile, ServeRan, ServedFrom, begun_when, count_of, given_address, pass_of, ServeStops, Served, ServerServed, Serves}
 use Rattle.command_line.specs.Faults.{answer_status, status_of}
 use Rattle.tws_tool.specs.Lines.{LineFails, serving_line, taken_line}
 

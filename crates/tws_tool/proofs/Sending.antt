@@ -15,7 +15,6 @@ use Rattle.archive_turns.specs.Wire.{Entry}
 use Rattle.archive_turns.specs.Run.{Run, RunMakes, PutAfter, begin_opened, begin_sized, put_result}
 use Rattle.archive_turns.specs.Rounds.{PutsInRounds}
 use Rattle.command_line.specs.declared.source.Source.{Source}
-use Rattle.command_line.specs.declared.source.Source.TheVariants.{Standard, Named}
 use Rattle.command_line.specs.declared.tool_fault.ToolFault.{ToolFault}
 use Rattle.command_line.specs.declared.tool_fault.ToolFault.TheVariants as tool
 use Rattle.command_line.specs.Faults.{answer_status}

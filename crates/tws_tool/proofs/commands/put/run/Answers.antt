@@ -1,4 +1,4 @@
-use Rattle.std.proofs.Common.{rules, refl, ◌≡◌, ◌∙◌, ℕ, List, Option, Some, None, Err, ap, sym, subst, string_bytes}
+use Rattle.std.proofs.Common.{rules, refl, ◌≡◌, ◌∙◌, ℕ, List, Option, Some, Err, ap, sym, subst, string_bytes}
 use Rattle.command_line.specs.declared.source.Source.TheVariants.{Standard, Named}
 use Rattle.command_line.specs.declared.tool_fault.ToolFault.TheVariants as tool
 use Rattle.command_line.proofs.Statuses.{at_zero, no_usage}
