@@ -1,76 +1,21 @@
 //! Merging solutions into the best bodies so far: takes all that are better, and notes each change, so that all can be
 //! undone.
 
-ghost use Rattle.std.specs.Prelude.{◌≡◌, ◌≢◌, ◌⊎◌, ◌∷◌, [], ◌+◌, ◌++◌, List, length, map, Contains, Option, IfOk, IfSome, IfNone, OnOk, OnErr, MatchBool, MatchOption, false, true};
-ghost use Rattle.std.specs.List.{AllByRecursion};
-ghost use Rattle.std.specs.List.Sorted.{IsPermutation, IsStrictlySortedBy};
-ghost use Rattle.std.specs.Map.{lookup, keys_of};
-ghost use Rattle.std.specs.BTreeMap.{is_at, insert_entry};
+ghost use Rattle.std.specs.Prelude.{◌≡◌, [], ◌+◌, ◌++◌, List, length, map, Contains, Option, IfOk, OnOk, OnErr};
+ghost use Rattle.std.specs.List.Sorted.{IsPermutation};
 ghost use Rattle.tws_file.specs.Record.{records_of};
-ghost use Rattle.tws_file.specs.Text.{IsRecord};
-ghost use Rattle.std.specs.Ordering.{is_lt};
-ghost use Rattle.tws_best.specs.Rank.{rank_of, rank_cmp};
-ghost use Rattle.tws_best.specs.Best.{AreCollected, IsBestOf, keyed_body, key_cmp, solved_in};
+ghost use Rattle.tws_best.specs.Best.{IsBestOf, keyed_body, solved_in};
 ghost use Rattle.tws_best.specs.Bodies.{BodyPair, keyed_bodies};
 ghost use Rattle.tws_best.specs.Steps.{Takes, Undoes, LeadsBack, CanGoBack, back_to};
 
-use crate::bodies::{Bodies, BodyMap};
+use crate::bodies::Bodies;
 use crate::body::Body;
 use std::alloc::{AllocError, Allocator};
-use std::collections::btree_map::Entry;
 use std::mem;
 use tws_file::{Key, Record, Solution};
 
 // Each key that was changed, with what it had before.
 pub(crate) type Changes<A> = Vec<(Key, Option<Body<A>>), A>;
-
-// The body of a solution.
-fn body_of<A: Allocator + Copy, B: Allocator>(
-    alloc: A,
-    solution: &Solution<B>,
-) -> Result<Body<A>, AllocError>
-    ensures { IfOk result (λ body. body ≡ (keyed_body solution.now).body) }
-{
-    let _key = solution.key;
-    let bytes = solution.body(alloc)?;
-    Body::of(bytes)
-}
-
-// Sets the body of a key in a map if it has none, or a worse one than the solution's. One search finds its place. Returns
-// what the key had, or `None` if nothing changed.
-pub(crate) fn offer<A: Allocator + Copy, B: Allocator>(
-    alloc: A,
-    map: &mut BodyMap<A>,
-    key: Key,
-    solution: &Solution<B>,
-) -> Result<Option<Option<Body<A>>>, AllocError>
-    ensures kept { OnErr result (map.new.entries ≡ map.old.entries) }
-    ensures stays { IfOk result (λ r. IfNone r (map.new.entries ≡ map.old.entries)) }
-    ensures held { IfOk result (λ r. IfNone r (MatchOption (lookup (is_at (key_cmp key)) map.old.entries) ⊥ (λ b. is_lt (rank_cmp (rank_of (keyed_body solution.now).body) (rank_of b)) ≡ false))) }
-    ensures enters { IfOk result (λ r. IfSome r (λ _. map.new.entries ≡ insert_entry key_cmp map.old.entries key (keyed_body solution.now).body)) }
-    ensures better { IfOk result (λ r. IfSome r (λ old. IfSome old (λ b. is_lt (rank_cmp (rank_of (keyed_body solution.now).body) (rank_of b)) ≡ true))) }
-    ensures had { IfOk result (λ r. IfSome r (λ old. old ≡ lookup (is_at (key_cmp key)) map.old.entries)) }
-{
-    let Ok(entry) = map.entry(key) else {
-        return Err(AllocError);
-    };
-    match entry {
-        Entry::Occupied(mut place) => {
-            if !place.get().is_worse_than(solution) {
-                return Ok(None);
-            }
-            match body_of(alloc, solution) {
-                Ok(body) => Ok(Some(Some(place.insert(body)))),
-                Err(fault) => Err(fault),
-            }
-        }
-        // By this call the map is as it was if there is no memory for the body.
-        vacant => match vacant.or_try_insert_with(|| body_of(alloc, solution)) {
-            Ok(_new) => Ok(Some(None)),
-            Err(fault) => Err(fault),
-        },
-    }
-}
 
 // Takes a solution if it is better than the best so far at its key.
 fn take<A: Allocator + Copy, B: Allocator>(
