@@ -50,6 +50,8 @@ pub struct UdpWire<R: Net + Clock + RandomSource + AllocGlobal + Copy> {
     began: Option<u64>,
     time: u64,
     failures: u64,
+    // What the system said of the port that `open` opened last without success.
+    error: Option<io::Error>,
     ghost laps: { lap < LAPS },
 }
 
@@ -85,7 +87,15 @@ impl<R: Net + Clock + RandomSource + AllocGlobal + Copy> UdpWire<R> {
             began: None,
             time: 0,
             failures: 0,
+            error: None,
         }
+    }
+
+    /// What the system said of the call of `open` that failed last, `None` if none has.
+    pub fn last_error(&self) -> Option<io::Error>
+        ensures { result ≡ self.now.error }
+    {
+        self.error
     }
 
     /// Returns a wire that has this port, at every address of this host. At port 0 the system chooses one, which no
@@ -99,28 +109,26 @@ impl<R: Net + Clock + RandomSource + AllocGlobal + Copy> UdpWire<R> {
         ensures host { IfOk result (λ wire. wire.host ≡ 0) }
         ensures fault { IfErr result (λ e. e ≡ WireFault.Open) }
     {
-        Self::listen_at(rt, Endpoint { host: 0, port })
+        match Self::listen_at(rt, Endpoint { host: 0, port }) {
+            Ok(wire) => Ok(wire),
+            Err(_) => Err(WireFault::Open),
+        }
     }
 
     /// The same at one address of this host, 0 for every address: later ports are opened there too.
     ///
     /// # Errors
     ///
-    /// `Open` if the port cannot be opened, also if this host does not have the address.
-    pub fn listen_at(rt: R, at: Endpoint) -> Result<Self, WireFault>
+    /// What the system said if the port cannot be opened, also if this host does not have the address.
+    pub fn listen_at(rt: R, at: Endpoint) -> io::Result<Self>
         ensures failures { IfOk result (λ wire. wire.failures ≡ 0) }
         ensures host { IfOk result (λ wire. wire.host ≡ at.host) }
-        ensures fault { IfErr result (λ e. e ≡ WireFault.Open) }
     {
         let mut wire = Self::new(rt);
         wire.host = at.host;
-        match wire.open_port(at.port) {
-            Ok(()) => {
-                wire.listens = true;
-                Ok(wire)
-            }
-            Err(_) => Err(WireFault::Open),
-        }
+        wire.open_port(at.port)?;
+        wire.listens = true;
+        Ok(wire)
     }
 
     // Counts a failure.
@@ -167,21 +175,23 @@ impl<R: Net + Clock + RandomSource + AllocGlobal + Copy> UdpWire<R> {
     }
 
     // Opens the next port that no other socket has. Any error other than `AddrInUse` ends the search.
-    fn open_next(&mut self) -> Option<u16>
+    fn open_next(&mut self) -> io::Result<u16>
         ensures failures { self.new.failures ≡ self.old.failures }
     {
         for _ in 0..LEN {
-            let port = self.next_port()?;
+            let Some(port) = self.next_port() else {
+                return Err(io::Error::from(ErrorKind::OutOfMemory));
+            };
             match self.open_port(port) {
-                Ok(()) => return Some(port),
+                Ok(()) => return Ok(port),
                 Err(e) => {
                     if e.kind() != ErrorKind::AddrInUse {
-                        return None;
+                        return Err(e);
                     }
                 }
             }
         }
-        None
+        Err(io::Error::from(ErrorKind::AddrInUse))
     }
 
     // Gives a port back that is about to be closed, if it was not used.
@@ -316,8 +326,9 @@ impl<R: Net + Clock + RandomSource + AllocGlobal + Copy> Wire for UdpWire<R> {
 
     fn open(&mut self) -> Result<u16, WireFault> {
         match self.open_next() {
-            Some(port) => Ok(port),
-            None => {
+            Ok(port) => Ok(port),
+            Err(error) => {
+                self.error = Some(error);
                 self.count_failure();
                 Err(WireFault::Open)
             }

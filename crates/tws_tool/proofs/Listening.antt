@@ -10,7 +10,7 @@ use Rattle.tws_tool.specs.declared.commands.serve.Passes.{Passes}
 use Rattle.tws_tool.specs.declared.commands.serve_arguments.ServeArguments.{ServeArguments}
 use Rattle.command_line.specs.declared.tool_fault.ToolFault.{ToolFault}
 use Rattle.command_line.specs.declared.tool_fault.ToolFault.TheVariants.{Read, Write, Unreadable, Memory, Socket, Transfer}
-use Rattle.tws_tool.specs.Commands.Serve.{ArePassesFor, HasHost, IsNoHost, MakesPassesWhile, ServeRan, ServedFrom, begun_when, count_of, given_address, pass_of, ServeStops, Served, ServerServed, Serves}
+use Rattle.tws_tool.specs.Commands.Serve.{ArePassesFor, HasHost, IsNoHost, MakesPassesWhile, ServeRan, ServedFrom, begun_when, count_of, given_address, pass_of, ServeFails, Served, ServerServed, Serves}
 use Rattle.command_line.specs.Faults.{answer_status, status_of}
 use Rattle.tws_tool.specs.Lines.{LineFails, serving_line, taken_line}
 
@@ -29,48 +29,48 @@ module _ (old new : Option (List ℕ)) where
     pub serves_so : Serves port Made old new → Serves port Done old new
     serves_so s = record { taken = s.taken; made = made s.taken s.made; between = s.between; first = s.first; last = s.last }
 
-    -- a server that stopped, because of its port or a line
-    pub stops_so : (e : ToolFault) → ServeStops port Unmade Made old new e → ServeStops port Unkept Done old new e
-    stops_so e stops =
-        ⊎_elim (λ (s : (e ≡ Socket) × (new ≡ old) × Unmade). inl (s.0, s.1, unkept s.2))
-        (λ fails. inr (⊎_elim (λ first. inl (unkept first.0, first.1))
+    -- a server that stopped because of a line
+    pub fails_so : (e : ToolFault) → ServeFails port Unmade Made old new e → ServeFails port Unkept Done old new e
+    fails_so e fails =
+        ⊎_elim (λ first. inl (unkept first.0, first.1))
         (λ last. inr (record {
           taken = last.taken;
           made = made last.taken last.made;
           between = last.between;
-          first =
-              last.first;
+          first = last.first;
           fails = last.fails;
-        })) fails))
-        stops
+        })) fails
 
   -- then the exit status is 2
-  stops_status : (port : ℕ) (Unmade : Type 0) (Made : (taken : ℕ) → Type 0) (e : ToolFault) → ServeStops port Unmade Made old new e → status_of e ≡ 2
-  stops_status port Unmade Made e stops =
-      ⊎_elim (λ (s : (e ≡ Socket) × (new ≡ old) × Unmade). ap status_of s.0)
-      (λ fails. ⊎_elim (λ first. line_status (serving_line port) old new e first.1)
-      (λ last. line_status (taken_line last.taken) last.between new e last.fails) fails) stops
+  fails_status : (port : ℕ) (Unmade : Type 0) (Made : (taken : ℕ) → Type 0) (e : ToolFault) → ServeFails port Unmade Made old new e → status_of e ≡ 2
+  fails_status port Unmade Made e fails =
+      ⊎_elim (λ first. line_status (serving_line port) old new e first.1)
+      (λ last. line_status (taken_line last.taken) last.between new e last.fails) fails
 
   module _ (port turns per_host : ℕ) (start : Table) (kept now : Option (List Keeping)) where
     usable_served : (r : Result (Unit {0}) ToolFault) →
         OnOk r (Serves port (ServerServed turns per_host start true kept now) old new) →
-        IfErr r (ServeStops port (now ≡ kept) (ServerServed turns per_host start true kept now) old new)
+        IfErr r (ServeFails port (now ≡ kept) (ServerServed turns per_host start true kept now) old new)
         → Served port turns per_host start (answer_status r) true kept now old new
     usable_served (Ok done) serves stops = record { done = λ e. (refl, serves); failed = λ e. absurd (omega (arith, e)); few = inl refl }
     usable_served (Err e) serves stops =
-        let two = stops_status port (now ≡ kept) (ServerServed turns per_host start true kept now) e stops in
+        let two = fails_status port (now ≡ kept) (ServerServed turns per_host start true kept now) e stops in
         record { done = λ z. absurd (omega (arith, z, two)); failed = λ z. inr (inl (e, stops)); few = inr two }
 
     unknown_served : (r : Result (Unit {0}) ToolFault) →
         OnOk r (Serves port (ServerServed turns per_host start false kept now) old new) →
-        IfErr r (ServeStops port (now ≡ kept) (ServerServed turns per_host start false kept now) old new)
+        IfErr r (ServeFails port (now ≡ kept) (ServerServed turns per_host start false kept now) old new)
         → Served port turns per_host start 2 false kept now old new
     unknown_served (Ok done) serves stops = record { done = λ z. absurd (omega (arith, z)); failed = λ z. inr (inr (refl, serves)); few = inr refl }
     unknown_served (Err e) serves stops = record { done = λ z. absurd (omega (arith, z)); failed = λ z. inr (inl (e, stops)); few = inr refl }
 
+    -- no port was opened, and nothing was done
+    pub unopened : (usable : Bool) (status : ℕ) → status ≡ 2 → new ≡ old → now ≡ kept → Served port turns per_host start status usable kept now old new
+    unopened usable status two unwritten unkept = record { done = λ z. absurd (omega (arith, z, two)); failed = λ z. inl (unwritten, unkept); few = inr two }
+
     -- by whether the keeper is usable at the end
     pub served : (usable : Bool) (status : ℕ) (r : Result (Unit {0}) ToolFault) → (usable ≡ true → status ≡ answer_status r) → (usable ≡ false → status ≡ 2)
-        → OnOk r (Serves port (ServerServed turns per_host start usable kept now) old new) → IfErr r (ServeStops port (now ≡ kept) (ServerServed turns per_host start usable kept now) old new)
+        → OnOk r (Serves port (ServerServed turns per_host start usable kept now) old new) → IfErr r (ServeFails port (now ≡ kept) (ServerServed turns per_host start usable kept now) old new)
         → Served port turns per_host start status usable kept now old new
     served true status r is two serves stops = subst (λ (n : ℕ). Served port turns per_host start n true kept now old new) (sym (is refl)) (usable_served r serves stops)
     served false status r is two serves stops = subst (λ (n : ℕ). Served port turns per_host start n false kept now old new) (sym (two refl)) (unknown_served r serves stops)

@@ -6,6 +6,7 @@
 mod address;
 mod arguments;
 mod commands;
+mod host_wire;
 mod job;
 mod laws;
 mod limits;

@@ -1,8 +1,10 @@
 ghost use Rattle.std.specs.Prelude.{◌≡◌};
 
+use crate::host_wire::HostWire;
 use crate::transfer_wire::TransferWire;
 use archive_turns::{RECEIVE_SIZE, Ready, ReadyWire, Wire, WireFault};
 use arrayvec::ArrayVec;
+use std::io;
 use tftp_packet::{Endpoint, Out, Packet, decode};
 
 // How many bytes of a refusal are kept.
@@ -10,12 +12,12 @@ const REFUSAL: usize = 128;
 
 /// A wire that notes the text of the last ERROR that is received over it. In all else it is the wire below.
 #[derive(Drop)]
-pub(crate) struct Overhearing<N: ReadyWire> {
+pub(crate) struct Overhearing<N: HostWire> {
     wire: N,
     refusal: ArrayVec<u8, REFUSAL>,
 }
 
-impl<N: ReadyWire> Overhearing<N> {
+impl<N: HostWire> Overhearing<N> {
     pub(crate) fn new(wire: N) -> Self
         ensures { result.wire ≡ wire }
     {
@@ -36,7 +38,7 @@ fn note(refusal: &mut ArrayVec<u8, REFUSAL>, bytes: &[u8]) {
     }
 }
 
-impl<N: ReadyWire> Wire for Overhearing<N> {
+impl<N: HostWire> Wire for Overhearing<N> {
     ghost log = { λ w. N.log w.wire };
 
     ghost failed = { λ w. N.failed w.wire };
@@ -70,15 +72,19 @@ impl<N: ReadyWire> Wire for Overhearing<N> {
     }
 }
 
-impl<N: ReadyWire> ReadyWire for Overhearing<N> {
+impl<N: HostWire> ReadyWire for Overhearing<N> {
     fn wait(&mut self, after: u16, until: Option<u64>) -> Ready {
         self.wire.wait(after, until)
     }
 }
 
-impl<N: ReadyWire> TransferWire for Overhearing<N> {
+impl<N: HostWire> TransferWire for Overhearing<N> {
     fn refusal(&self) -> &[u8] {
         self.refusal.as_slice()
+    }
+
+    fn last_error(&self) -> Option<io::Error> {
+        self.wire.last_error()
     }
 
     fn expect(&mut self, _length: u64) {}

@@ -3,42 +3,68 @@
 ghost use Rattle.std.specs.Prelude.{◌≡◌, ◌≤◌};
 ghost use Rattle.command_line.specs.Faults.{status_of, answer_status};
 
+use crate::transfer_wire::TransferWire;
 use archive_client::Cause;
 use archive_log::Printable;
-use command_line::{DONE, ToolFault, USAGE, report};
+use command_line::{DONE, ToolFault, USAGE, report, report_cause};
 use std::io::Write;
 
-/// Reports a malformed address, and returns the status.
-pub(crate) fn bad_address<E: Write>(errors: &mut E) -> u8
+/// Reports an address that cannot be used, with the reason in a second line, and returns the status.
+pub(crate) fn bad_address<E: Write>(address: &str, reason: &str, errors: &mut E) -> u8
     ensures { result ≡ 1 }
 {
+    // A port after a colon is the first that many try.
+    let hint = if address.contains(':') {
+        "; --port gives the port"
+    } else {
+        ""
+    };
     let _ = writeln!(errors, "tws: bad address");
+    let _ = writeln!(errors, "tws: {address}: {reason}{hint}");
     USAGE
 }
 
-/// Reports why a transfer failed, with what the server said in a second line, and returns the status. `names` are those of
-/// `report`.
-pub(crate) fn report_transfer<E: Write>(
+/// Reports that an address is not one, nor the name of a host that can be looked up, and returns the status.
+pub(crate) fn no_host<E: Write>(address: &str, errors: &mut E) -> u8
+    ensures { result ≡ 1 }
+{
+    bad_address(address, "neither an IPv4 address nor a host that can be found", errors)
+}
+
+// Prints what the server said, if that is known.
+fn report_refusal<E: Write>(refusal: &[u8], errors: &mut E) {
+    if !refusal.is_empty() {
+        let _ = writeln!(errors, "tws: the server says: {}", Printable::of(refusal));
+    }
+}
+
+/// Reports why a transfer over this wire failed, with what the server or the system said in a second line, and returns the
+/// status. `names` are those of `report`.
+pub(crate) fn report_transfer<N: TransferWire, E: Write>(
     fault: ToolFault,
-    refusal: &[u8],
+    wire: &N,
     names: &[String],
     errors: &mut E,
 ) -> u8
     ensures { result ≡ status_of fault }
 {
     let status = report(fault, names, errors);
-    if let ToolFault::Transfer(Cause::Refused(_)) = fault {
-        if !refusal.is_empty() {
-            let _ = writeln!(errors, "tws: the server says: {}", Printable::of(refusal));
+    match fault {
+        ToolFault::Transfer(Cause::Refused(_)) => report_refusal(wire.refusal(), errors),
+        ToolFault::Socket => {
+            if let Some(cause) = wire.last_error() {
+                report_cause(status, "no port", &cause, errors);
+            }
         }
+        _ => {}
     }
     status
 }
 
 /// The same for a transfer that failed or succeeded.
-pub(crate) fn finish_transfer<E: Write>(
+pub(crate) fn finish_transfer<N: TransferWire, E: Write>(
     done: Result<(), ToolFault>,
-    refusal: &[u8],
+    wire: &N,
     names: &[String],
     errors: &mut E,
 ) -> u8
@@ -48,6 +74,6 @@ pub(crate) fn finish_transfer<E: Write>(
 {
     match done {
         Ok(()) => DONE,
-        Err(fault) => report_transfer(fault, refusal, names, errors),
+        Err(fault) => report_transfer(fault, wire, names, errors),
     }
 }

@@ -2,12 +2,16 @@ ghost use Rattle.std.specs.Prelude.{◌≡◌};
 
 use archive_progress::ProgressWire;
 use archive_turns::{MemoryWire, ReadyWire};
+use std::io;
 use std::io::Write;
 
-/// A wire that can say why a server refused a transfer, and may show how far one has come.
+/// A wire that can say why a server refused a transfer or a port was not opened, and may show how far a transfer has come.
 pub trait TransferWire: ReadyWire {
     /// The text of the ERROR that was received last, as far as it was kept; empty if there was none.
     fn refusal(&self) -> &[u8];
+
+    /// What the system said of the port that was not opened, where that is known.
+    fn last_error(&self) -> Option<io::Error>;
 
     /// The file that is to be sent has so many bytes.
     fn expect(&mut self, length: u64)
@@ -18,10 +22,14 @@ pub trait TransferWire: ReadyWire {
         ensures { Self.log self.new ≡ Self.log self.old };
 }
 
-/// A wire in memory keeps no such text, and shows nothing.
+/// A wire in memory keeps no such text, has no port of the system, and shows nothing.
 impl TransferWire for MemoryWire {
     fn refusal(&self) -> &[u8] {
         &[]
+    }
+
+    fn last_error(&self) -> Option<io::Error> {
+        None
     }
 
     fn expect(&mut self, _length: u64) {}
@@ -32,6 +40,10 @@ impl TransferWire for MemoryWire {
 impl<N: TransferWire, W: Write> TransferWire for ProgressWire<N, W> {
     fn refusal(&self) -> &[u8] {
         self.wire().refusal()
+    }
+
+    fn last_error(&self) -> Option<io::Error> {
+        self.wire().last_error()
     }
 
     fn expect(&mut self, length: u64) {

@@ -139,15 +139,11 @@ pub record ServerServed (turns per_host : ℕ) (start : Table) (usable : Bool) (
 
 -- ---- by the exit status
 
--- no port was opened, and nothing was written or kept; or a line was not written
-abbrev pub ServeStops : (port : ℕ) (Unmade : Type 0) (Made : (taken : ℕ) → Type 0) (old new : Option (List ℕ)) → ToolFault → Type 0
-ServeStops port Unmade Made old new e = ((e ≡ Socket) × (new ≡ old) × Unmade) ⊎ ServeFails port Unmade Made old new e
-
 -- What `serve` on this port did that began with this table, with this many turns and transfers of one host: what its keeper
 -- had and has, and whether it is usable. Once it is not, the server ends with status 2.
 pub record Served (port turns per_host : ℕ) (start : Table) (status : ℕ) (usable : Bool) (kept now : Option (List Keeping)) (old new : Option (List ℕ)) : Type 0 where
   pub done : status ≡ 0 → (usable ≡ true) × Serves port (ServerServed turns per_host start usable kept now) old new
-  pub failed : status ≡ 2 → ((new ≡ old) × (now ≡ kept)) ⊎ ((e : ToolFault) × ServeStops port (now ≡ kept) (ServerServed turns per_host start usable kept now) old new e) ⊎ ((usable ≡ false) × Serves port (ServerServed turns per_host start usable kept now) old new)
+  pub failed : status ≡ 2 → ((new ≡ old) × (now ≡ kept)) ⊎ ((e : ToolFault) × ServeFails port (now ≡ kept) (ServerServed turns per_host start usable kept now) old new e) ⊎ ((usable ≡ false) × Serves port (ServerServed turns per_host start usable kept now) old new)
   pub few : (status ≡ 0) ⊎ (status ≡ 2)
 
 -- ---- where it serves

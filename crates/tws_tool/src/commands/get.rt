@@ -14,7 +14,7 @@ use crate::address::locate;
 use crate::arguments::{address_argument, file_argument, port_argument, target_given};
 use crate::limits::ROUNDS;
 use crate::line::write_line;
-use crate::reporting::{bad_address, report_transfer};
+use crate::reporting::{no_host, report_transfer};
 use crate::resolver::Resolver;
 use crate::run_fault::of_run;
 use crate::target::Target;
@@ -115,12 +115,17 @@ impl GetFault {
 }
 
 // Reports why a collection was not fetched into the file of this name, and returns the status.
-fn report_get<E: Write>(fault: GetFault, name: &str, refusal: &[u8], errors: &mut E) -> u8
+fn report_get<N: TransferWire, E: Write>(
+    fault: GetFault,
+    name: &str,
+    wire: &N,
+    errors: &mut E,
+) -> u8
     ensures { result ≡ status_of fault.fault }
 {
     match fault.cause {
         Some(cause) => report_file(fault.fault, name, &cause, errors),
-        None => report_transfer(fault.fault, refusal, &[], errors),
+        None => report_transfer(fault.fault, wire, &[], errors),
     }
 }
 
@@ -207,7 +212,7 @@ pub(crate) fn run<S: FileSystem + Resolver, N: TransferWire, W: Write, E: Write>
 {
     let target = &arguments.target;
     let Some(host) = locate(system, target.address.as_str()) else {
-        return bad_address(errors);
+        return no_host(target.address.as_str(), errors);
     };
     let port = target.port;
     let done = get_file(
@@ -221,6 +226,6 @@ pub(crate) fn run<S: FileSystem + Resolver, N: TransferWire, W: Write, E: Write>
     );
     match done {
         Ok(()) => DONE,
-        Err(fault) => report_get(fault, arguments.file.as_str(), wire.refusal(), errors),
+        Err(fault) => report_get(fault, arguments.file.as_str(), wire, errors),
     }
 }

@@ -20,7 +20,7 @@ use crate::address::locate;
 use crate::arguments::{address_argument, file_argument, port_argument, target_given};
 use crate::limits::ROUNDS;
 use crate::line::write_line;
-use crate::reporting::{bad_address, finish_transfer};
+use crate::reporting::{no_host, finish_transfer};
 use crate::resolver::Resolver;
 use crate::run_fault::of_run;
 use crate::target::Target;
@@ -177,19 +177,19 @@ pub(crate) fn run<S: FileSystem + Resolver, N: TransferWire, R: Read, W: Write, 
 {
     let target = &arguments.target;
     let Some(host) = locate(system, target.address.as_str()) else {
-        return bad_address(errors);
+        return no_host(target.address.as_str(), errors);
     };
     let port = target.port;
     let server = Endpoint { host, port };
     match &arguments.source {
         Source::Standard => {
             let done = put_file(alloc, input, wire, server, out);
-            finish_transfer(done, wire.refusal(), &[], errors)
+            finish_transfer(done, wire, &[], errors)
         }
         Source::Named(name) => match system.open(name.as_str()) {
             Ok(mut file) => {
                 let done = put_file(alloc, &mut file, wire, server, out);
-                finish_transfer(done, wire.refusal(), slice::from_ref(name), errors)
+                finish_transfer(done, wire, slice::from_ref(name), errors)
             }
             Err(cause) => report_file(ToolFault::Read, name.as_str(), &cause, errors),
         },

@@ -6,7 +6,7 @@ ghost use Rattle.archive_limit.specs.Limited.{own_log};
 ghost use Rattle.archive_table.specs.declared.limits.TheConstants.{LIVE};
 ghost use Rattle.archive_turns.specs.Turn.{MakesPass, count_if, fresh_server};
 ghost use Rattle.command_line.specs.Faults.{answer_status};
-ghost use Rattle.tws_tool.specs.Commands.Serve.{ArePassesFor, HasHost, HasUsable, IsNoHost, MakesPassesWhile, ServeFails, ServeRan, ServeStops, Served, ServedFrom, Serves, count_of, pass_of};
+ghost use Rattle.tws_tool.specs.Commands.Serve.{ArePassesFor, HasHost, HasUsable, IsNoHost, MakesPassesWhile, ServeFails, ServeRan, Served, ServedFrom, Serves, count_of, pass_of};
 
 use crate::address::Address;
 use crate::commands::serve_arguments::ServeArguments;
@@ -21,7 +21,8 @@ use archive_host::UdpWire;
 use archive_log::{HostHistory, ServerLog};
 use archive_table::{Keeper, NoKeeper, NoObserver};
 use archive_turns::{ReadyWire, Server, ServerObserver};
-use command_line::{FAILED, ToolFault, finish, report_cause};
+use arrayvec::ArrayString;
+use command_line::{FAILED, ToolFault, finish, report, report_cause};
 use log::sink::Console;
 use std::alloc::Global;
 use std::fs::File;
@@ -32,6 +33,9 @@ use std::random::RandomSource;
 use std::rt::Files;
 use std::time::Clock;
 use tftp_packet::Endpoint;
+
+// The longest name of a port, `port 65535`.
+const PORT_NAME: usize = 10;
 
 /// What a server is to make: turns, or rounds that wait for ready ports.
 #[derive(Clone, Copy, Debug, PartialEq, Eq)]
@@ -142,16 +146,11 @@ fn not_known<E: Write>(name: &str, errors: &mut E) -> u8
     FAILED
 }
 
-// Opens the server's request port at this address, and serves there.
-fn listen_and_serve<
-    P: Net + Clock + RandomSource + AllocGlobal + Copy,
-    K: ServedKeeper,
-    O: ServedObserver,
-    W: Write,
->(
-    rt: P,
+// The same with an observer that is told of the start and the end.
+fn serve_observed<N: ReadyWire, K: ServedKeeper, O: ServedObserver, W: Write>(
     alloc: Global,
     folder: Option<&str>,
+    wire: &mut N,
     keeper: &mut K,
     observer: &mut O,
     server: &mut Server,
@@ -160,18 +159,25 @@ fn listen_and_serve<
     out: &mut W,
 ) -> Result<(), ToolFault>
     requires { server.old.table.request ≡ at.port }
-    ensures served { OnOk result (Serves at.port (λ taken. MakesPassesWhile (HasUsable K.usable K.log) passes (K.usable keeper.new) server.old server.new taken None None (K.log keeper.old) (K.log keeper.new)) (W.contents out.old) (W.contents out.new)) }
-    ensures stops { IfErr result (ServeStops at.port (K.log keeper.new ≡ K.log keeper.old) (λ taken. MakesPassesWhile (HasUsable K.usable K.log) passes (K.usable keeper.new) server.old server.new taken None None (K.log keeper.old) (K.log keeper.new)) (W.contents out.old) (W.contents out.new)) }
+    ensures served { OnOk result (Serves at.port (λ taken. MakesPassesWhile (HasUsable K.usable K.log) passes (K.usable keeper.new) server.old server.new taken (N.log wire.old) (N.log wire.new) (K.log keeper.old) (K.log keeper.new)) (W.contents out.old) (W.contents out.new)) }
+    ensures fails { IfErr result (ServeFails at.port (K.log keeper.new ≡ K.log keeper.old) (λ taken. MakesPassesWhile (HasUsable K.usable K.log) passes (K.usable keeper.new) server.old server.new taken (N.log wire.old) (N.log wire.new) (K.log keeper.old) (K.log keeper.new)) (W.contents out.old) (W.contents out.new)) }
 {
-    let Ok(mut wire) = UdpWire::listen_at(rt, at) else {
-        return Err(ToolFault::Socket);
-    };
     observer.started(at, folder, server.table());
     let done = serve_archive(
-        alloc, &mut wire, keeper, observer, server, at.port, passes, out,
+        alloc, wire, keeper, observer, server, at.port, passes, out,
     );
     observer.stopped();
     done
+}
+
+// Reports that the request port cannot be opened, with the system's cause on a second line, and returns the status.
+fn no_port<E: Write>(port: u16, cause: &io::Error, errors: &mut E) -> u8
+    ensures { result ≡ 2 }
+{
+    let status = report(ToolFault::Socket, &[], errors);
+    let mut name = ArrayString::<PORT_NAME>::new();
+    let _ = write!(name, "port {port}");
+    report_cause(status, name.as_str(), cause, errors)
 }
 
 // Reports why a server failed, if it did, and whether its keeper was usable to the end; returns the status.
@@ -198,6 +204,14 @@ fn folder_of(arguments: &ServeArguments) -> Option<&str> {
     match &arguments.dir {
         Some(dir) => Some(dir.as_str()),
         None => None,
+    }
+}
+
+// The text of the address that was given; empty if none was.
+fn address_of(arguments: &ServeArguments) -> &str {
+    match &arguments.address {
+        Some(address) => address.as_str(),
+        None => "",
     }
 }
 
@@ -237,16 +251,21 @@ fn serve_with<
     ensures silent { result ≡ 0 → errors.new ≡ errors.old }
 {
     let port = arguments.port;
+    let at = Endpoint { host, port };
+    let mut wire = match UdpWire::listen_at(rt, at) {
+        Ok(wire) => wire,
+        Err(cause) => return no_port(port, &cause, errors),
+    };
     let passes = passes_for(arguments.turns);
     server.limit_per_host(arguments.per_host as usize);
-    let done = listen_and_serve(
-        rt,
+    let done = serve_observed(
         alloc,
         folder_of(arguments),
+        &mut wire,
         keeper,
         observer,
         &mut server,
-        Endpoint { host, port },
+        at,
         passes,
         out,
     );
@@ -387,6 +406,6 @@ pub(crate) fn run<
 {
     match host_given(&arguments.address) {
         Some(host) => serve_at(rt, alloc, arguments, host, out, errors),
-        None => bad_address(errors),
+        None => bad_address(address_of(arguments), "not an IPv4 address", errors),
     }
 }
