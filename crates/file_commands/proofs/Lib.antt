@@ -4,4 +4,3 @@ pub mod Collecting
 pub mod Paging
 pub mod Comparing
 pub mod Sources
-pub mod Adding

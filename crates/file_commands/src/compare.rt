@@ -6,7 +6,7 @@ ghost use Rattle.clap.specs.Matches.{found_of};
 ghost use Rattle.clap.specs.Words.{app_of, rows_of, rule_of};
 ghost use Rattle.clap.specs.declared.builder.command.Command.TheViews.{out-Command};
 ghost use Rattle.command_line.specs.Arguments.{Answers};
-ghost use Rattle.file_commands.specs.Compare.{AsksToCompare, CompareFails, CompareRan, Compares, ComparesFiles, FilesFail, compare_app, compare_status, mine_rule, theirs_rule};
+ghost use Rattle.file_commands.specs.Compare.{AsksToCompare, CompareFails, CompareRan, Compares, ComparesFiles, FilesFail, better_rule, compare_app, compare_status, mine_rule, theirs_rule};
 ghost use Rattle.command_line.specs.Faults.{status_of};
 
 use crate::input::read_input;
@@ -52,6 +52,16 @@ fn theirs_argument<'a>(alloc: Global) -> Arg<'a>
         .help("The solution file to compare it with")
 }
 
+fn better_argument<'a>(alloc: Global) -> Arg<'a>
+    ensures rule { rule_of result ≡ better_rule }
+    ensures local { result.global ≡ false }
+{
+    Arg::new(alloc, "better")
+        .long("better")
+        .action(ArgAction::SetTrue)
+        .help("Write your solutions that are better or new, as a solution file")
+}
+
 // What the help of the command begins and ends with.
 const ABOUT: &str = "Compare the best solutions of two solution files";
 
@@ -63,14 +73,10 @@ pub(crate) fn command<'a>(alloc: Global) -> Result<Command<'a>, AllocError>
     ensures app { IfOk result (λ command. app_of command ≡ compare_app) }
     ensures local { IfOk result (λ command. (out-Command command).has_globals ≡ false) }
 {
-    let better = Arg::new(alloc, "better")
-        .long("better")
-        .action(ArgAction::SetTrue)
-        .help("Write your solutions that are better or new, as a solution file");
     new_command(alloc, "compare", ABOUT, HELP)
         .arg(mine_argument(alloc))?
         .arg(theirs_argument(alloc))?
-        .arg(better)
+        .arg(better_argument(alloc))
 }
 
 /// What the arguments ask for; `None` if a file has no name.

@@ -4,5 +4,4 @@ pub mod Fetching
 pub mod Listening
 pub mod Asking
 pub mod Addresses
-pub mod Building
 pub mod Reading

@@ -4,7 +4,7 @@ use Rattle.clap.specs.Words.{app_of, with_subcommand}
 use Rattle.file_commands.specs.Best.{best_app}
 use Rattle.file_commands.specs.Compare.{compare_app}
 use Rattle.file_commands.specs.Page.{page_app}
-use Rattle.file_commands.proofs.Adding.{adds_command}
+use Rattle.command_line.proofs.Building.{adds_command}
 use Rattle.file_commands.proofs.file_job.with_several_file_commands.Goals as goal
 
 pub returns : goal.returns

@@ -3,7 +3,7 @@ use Rattle.clap.specs.Words.{new_app, with_rule}
 use Rattle.command_line.specs.Arguments.{ruleset_rule}
 use Rattle.tws_tool.specs.Arguments.{address_rule, file_rule, number_rule, port_option}
 use Rattle.tws_tool.specs.Commands.Get.{get_name}
-use Rattle.tws_tool.proofs.Building.{adds_rule, stays_local}
+use Rattle.command_line.proofs.Building.{adds_rule, stays_local}
 use Rattle.tws_tool.proofs.commands.get.command.Goals as goal
 
 pub returns-clause-app : goal.returns-clause-app

@@ -2,7 +2,7 @@ use Rattle.std.proofs.lemmas.Result.{IfOk-weaker}
 use Rattle.clap.specs.Words.{new_app, with_rule}
 use Rattle.tws_tool.specs.Arguments.{address_rule, file_rule, number_rule, port_option}
 use Rattle.tws_tool.specs.Commands.Put.{put_name}
-use Rattle.tws_tool.proofs.Building.{adds_rule, stays_local}
+use Rattle.command_line.proofs.Building.{adds_rule, stays_local}
 use Rattle.tws_tool.proofs.commands.put.command.Goals as goal
 
 pub returns-clause-app : goal.returns-clause-app

@@ -2,7 +2,7 @@ use Rattle.std.proofs.lemmas.Result.{IfOk-weaker}
 use Rattle.clap.specs.Words.{new_app, with_rule}
 use Rattle.tws_tool.specs.Arguments.{number_rule, port_option}
 use Rattle.tws_tool.specs.Commands.Serve.{limit_option, per_host_option, serve_name, turns_option}
-use Rattle.tws_tool.proofs.Building.{adds_rule, stays_local}
+use Rattle.command_line.proofs.Building.{adds_rule, stays_local}
 use Rattle.tws_tool.proofs.commands.serve_arguments.numbers_command.Goals as goal
 
 pub returns-clause-app : goal.returns-clause-app

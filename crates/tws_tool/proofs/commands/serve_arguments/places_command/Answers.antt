@@ -1,7 +1,7 @@
 use Rattle.std.proofs.lemmas.Result.{IfOk-weaker}
 use Rattle.clap.specs.Words.{with_rule}
 use Rattle.tws_tool.specs.Commands.Serve.{bound_rule, dir_rule, numbers_app}
-use Rattle.tws_tool.proofs.Building.{adds_rule, stays_local}
+use Rattle.command_line.proofs.Building.{adds_rule, stays_local}
 use Rattle.tws_tool.proofs.commands.serve_arguments.places_command.Goals as goal
 
 pub returns-clause-app : goal.returns-clause-app

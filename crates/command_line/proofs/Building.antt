@@ -1,6 +1,6 @@
--- A command with one more argument.
+-- A command with one more argument, and a program with one more command.
 use Rattle.std.proofs.Common.{◌≡◌, false, ap, ◌∙◌}
-use Rattle.clap.specs.Words.{AddsArg, App, Rule, app_of, rule_of, with_rule}
+use Rattle.clap.specs.Words.{AddsArg, AddsSubcommand, App, Rule, app_of, rule_of, with_rule, with_subcommand}
 use Rattle.clap.specs.declared.builder.arg.Arg.{Arg}
 use Rattle.clap.specs.declared.builder.command.Command.{Command}
 use Rattle.clap.specs.declared.builder.command.Command.TheViews.{out-Command}
@@ -14,3 +14,9 @@ module _ (old : Command) (arg : Arg) (new : Command) where
   -- none of its arguments is global, if that one is not and none was
   pub stays_local : (out-Command old).has_globals ≡ false → arg.global ≡ false → AddsArg old arg new → (out-Command new).has_globals ≡ false
   stays_local old-local local adds = rw (old-local, local) at adds.globals
+
+-- the program's command line is that of before, with the one of the command
+pub adds_command : (old sub new : Command) (program command : App) → app_of old ≡ program → app_of sub ≡ command → (out-Command sub).has_globals ≡ false
+    → AddsSubcommand old sub new → app_of new ≡ with_subcommand program command.top
+adds_command old sub new program command old-is sub-is local adds =
+    adds.shape local ∙ ap (λ (a : App). with_subcommand a (app_of sub).top) old-is ∙ ap (λ (a : App). with_subcommand program a.top) sub-is
