@@ -35,20 +35,20 @@ fn run_answer<
     wire: &mut N,
     rt: &P,
     alloc: Global,
-    job: Result<Job, JobFault>,
+    job: &Result<Job, JobFault>,
     input: &mut R,
     out: &mut W,
     errors: &mut E,
 ) -> u8
-    ensures ran { JobRuns (record { bytes_of = S.bytes_of system.old; drafted_of = S.drafted_of system.old; host_of = S.host_of system.old }) (S.bytes_of system.new) (input.new ≡ input.old) job result (N.log wire.old) (N.log wire.new) (R.remaining input.old) (R.remaining input.new) (W.contents out.old) (W.contents out.new) }
+    ensures ran { JobRuns (record { bytes_of = S.bytes_of system.old; drafted_of = S.drafted_of system.old; host_of = S.host_of system.old }) (S.bytes_of system.new) (input.new ≡ input.old) job.now result (N.log wire.old) (N.log wire.new) (R.remaining input.old) (R.remaining input.new) (W.contents out.old) (W.contents out.new) }
     ensures usage { result ≡ 1 → (input.new ≡ input.old) × (out.new ≡ out.old) }
     ensures status { result ≤ 4 }
     ensures unreadable { result ≡ 3 → out.new ≡ out.old }
     ensures silent { result ≡ 0 → errors.new ≡ errors.old }
 {
     match job {
-        Ok(job) => run_job(system, wire, *rt, alloc, &job, input, out, errors),
-        Err(fault) => report_job_fault(alloc, &fault, out, errors),
+        Ok(job) => run_job(system, wire, *rt, alloc, job, input, out, errors),
+        Err(fault) => report_job_fault(alloc, fault, out, errors),
     }
 }
 
@@ -89,7 +89,7 @@ pub fn run_words_with<
         wire,
         rt,
         alloc,
-        job_of(alloc, words),
+        &job_of(alloc, words),
         input,
         out,
         errors,

@@ -28,7 +28,11 @@ pub(crate) fn bad_address<E: Write>(address: &str, reason: &str, errors: &mut E)
 pub(crate) fn no_host<E: Write>(address: &str, errors: &mut E) -> u8
     ensures { result ≡ 1 }
 {
-    bad_address(address, "neither an IPv4 address nor a host that can be found", errors)
+    bad_address(
+        address,
+        "neither an IPv4 address nor a host that can be found",
+        errors,
+    )
 }
 
 // Prints what the server said, if that is known.

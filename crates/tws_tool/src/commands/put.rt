@@ -20,7 +20,7 @@ use crate::address::locate;
 use crate::arguments::{address_argument, file_argument, port_argument, target_given};
 use crate::limits::ROUNDS;
 use crate::line::write_line;
-use crate::reporting::{no_host, finish_transfer};
+use crate::reporting::{finish_transfer, no_host};
 use crate::resolver::Resolver;
 use crate::run_fault::of_run;
 use crate::target::Target;

@@ -1,6 +1,6 @@
 //! The command `serve`.
 
-ghost use Rattle.std.specs.Prelude.{◌≡◌, ◌⊎◌, ◌++◌, ◌<◌, ◌≤◌, ◌+◌, Bool, true, false, min, None, OnOk, IfOk, IfErr, IfSome, IfNone, option_map, string_bytes};
+ghost use Rattle.std.specs.Prelude.{◌≡◌, ◌⊎◌, ◌++◌, ◌<◌, ◌≤◌, ◌+◌, Bool, true, false, min, None, Some, OnOk, IfOk, IfErr, IfSome, IfNone, option_map, string_bytes};
 ghost use Rattle.tftp_ends.specs.declared.limits.TheConstants.{MAX_FILE};
 ghost use Rattle.archive_limit.specs.Limited.{own_log};
 ghost use Rattle.archive_table.specs.declared.limits.TheConstants.{LIVE};
@@ -17,7 +17,7 @@ use crate::reporting_keeper::ReportingKeeper;
 use crate::served_folder::{keeper_of, report_unloaded};
 use crate::served_keeper::ServedKeeper;
 use crate::served_observer::ServedObserver;
-use archive_host::UdpWire;
+use archive_host::{DirKeeper, UdpWire};
 use archive_log::{HostHistory, ServerLog};
 use archive_table::{Keeper, NoKeeper, NoObserver};
 use archive_turns::{ReadyWire, Server, ServerObserver};
@@ -25,6 +25,7 @@ use arrayvec::ArrayString;
 use command_line::{FAILED, ToolFault, finish, report, report_cause};
 use log::sink::Console;
 use std::alloc::Global;
+use std::fmt::Write as _;
 use std::fs::File;
 use std::io;
 use std::io::Write;
@@ -163,9 +164,7 @@ fn serve_observed<N: ReadyWire, K: ServedKeeper, O: ServedObserver, W: Write>(
     ensures fails { IfErr result (ServeFails at.port (K.log keeper.new ≡ K.log keeper.old) (λ taken. MakesPassesWhile (HasUsable K.usable K.log) passes (K.usable keeper.new) server.old server.new taken (N.log wire.old) (N.log wire.new) (K.log keeper.old) (K.log keeper.new)) (W.contents out.old) (W.contents out.new)) }
 {
     observer.started(at, folder, server.table());
-    let done = serve_archive(
-        alloc, wire, keeper, observer, server, at.port, passes, out,
-    );
+    let done = serve_archive(alloc, wire, keeper, observer, server, at.port, passes, out);
     observer.stopped();
     done
 }
@@ -200,7 +199,10 @@ fn end_serving<E: Write>(
 }
 
 // The folder that the collections are kept in, if there is one.
-fn folder_of(arguments: &ServeArguments) -> Option<&str> {
+fn folder_of(arguments: &ServeArguments) -> Option<&str>
+    ensures some { IfSome result (λ dir. option_map string_bytes arguments.now.dir ≡ Some dir.now) }
+    ensures none { IfNone result (arguments.now.dir ≡ None) }
+{
     match &arguments.dir {
         Some(dir) => Some(dir.as_str()),
         None => None,
@@ -224,8 +226,50 @@ fn no_history<E: Write>(cause: &io::Error, name: &str, errors: &mut E) -> u8
     report_cause(FAILED, name, cause, errors)
 }
 
-// Makes the turns or rounds of a server at this address of this host, with this keeper, whose name its faults are reported
-// with, and returns the status.
+// Makes the turns or rounds of a server at this wire, whose ports are at this address of this host, with this keeper, whose
+// name its faults are reported with, and returns the status.
+fn serve_over<
+    P: Net + Clock + RandomSource + AllocGlobal + Copy,
+    K: ServedKeeper,
+    O: ServedObserver,
+    W: Write,
+    E: Write,
+>(
+    alloc: Global,
+    arguments: &ServeArguments,
+    host: u32,
+    wire: &mut UdpWire<P>,
+    server: &mut Server,
+    keeper: &mut K,
+    observer: &mut O,
+    name: &str,
+    out: &mut W,
+    errors: &mut E,
+) -> u8
+    requires fresh { server.old ≡ fresh_server LIVE server.old.table }
+    requires port { server.old.table.request ≡ arguments.now.port }
+    ensures served { Served arguments.now.port arguments.now.turns arguments.now.per_host server.old.table result (K.usable keeper.new) (K.log keeper.old) (K.log keeper.new) (W.contents out.old) (W.contents out.new) }
+    ensures status { (result ≡ 0) ⊎ (result ≡ 2) }
+    ensures silent { result ≡ 0 → errors.new ≡ errors.old }
+{
+    let port = arguments.port;
+    let passes = passes_for(arguments.turns);
+    server.limit_per_host(arguments.per_host as usize);
+    let done = serve_observed(
+        alloc,
+        folder_of(arguments),
+        wire,
+        keeper,
+        observer,
+        server,
+        Endpoint { host, port },
+        passes,
+        out,
+    );
+    end_serving(done, keeper.is_usable(), name, errors)
+}
+
+// The same at a new wire.
 fn serve_with<
     P: Net + Clock + RandomSource + AllocGlobal + Copy,
     K: ServedKeeper,
@@ -237,39 +281,26 @@ fn serve_with<
     alloc: Global,
     arguments: &ServeArguments,
     host: u32,
-    mut server: Server,
+    server: &mut Server,
     keeper: &mut K,
     observer: &mut O,
     name: &str,
     out: &mut W,
     errors: &mut E,
 ) -> u8
-    requires fresh { server ≡ fresh_server LIVE server.table }
-    requires port { server.table.request ≡ arguments.now.port }
-    ensures served { Served arguments.now.port arguments.now.turns arguments.now.per_host server.table result (K.usable keeper.new) (K.log keeper.old) (K.log keeper.new) (W.contents out.old) (W.contents out.new) }
+    requires fresh { server.old ≡ fresh_server LIVE server.old.table }
+    requires port { server.old.table.request ≡ arguments.now.port }
+    ensures served { Served arguments.now.port arguments.now.turns arguments.now.per_host server.old.table result (K.usable keeper.new) (K.log keeper.old) (K.log keeper.new) (W.contents out.old) (W.contents out.new) }
     ensures status { (result ≡ 0) ⊎ (result ≡ 2) }
     ensures silent { result ≡ 0 → errors.new ≡ errors.old }
 {
     let port = arguments.port;
-    let at = Endpoint { host, port };
-    let mut wire = match UdpWire::listen_at(rt, at) {
-        Ok(wire) => wire,
-        Err(cause) => return no_port(port, &cause, errors),
-    };
-    let passes = passes_for(arguments.turns);
-    server.limit_per_host(arguments.per_host as usize);
-    let done = serve_observed(
-        alloc,
-        folder_of(arguments),
-        &mut wire,
-        keeper,
-        observer,
-        &mut server,
-        at,
-        passes,
-        out,
-    );
-    end_serving(done, keeper.is_usable(), name, errors)
+    match UdpWire::listen_at(rt, Endpoint { host, port }) {
+        Ok(mut wire) => serve_over(
+            alloc, arguments, host, &mut wire, server, keeper, observer, name, out, errors,
+        ),
+        Err(cause) => no_port(port, &cause, errors),
+    }
 }
 
 // Standard error, if there is to be a log.
@@ -277,7 +308,27 @@ fn console<P: Eprint + Copy>(rt: P, is_logged: bool) -> Option<Console<P>> {
     if is_logged { Some(Console(rt)) } else { None }
 }
 
-// The same with the log and the history that were asked for.
+// The history that was asked for, if one was. `None` if its folder cannot be opened, which is reported.
+fn history_of<P: Files<File = File> + AllocGlobal + Copy, E: Write>(
+    rt: P,
+    arguments: &ServeArguments,
+    errors: &mut E,
+) -> Option<Option<HostHistory<P>>>
+    ensures silent { IfSome result (λ _. errors.new ≡ errors.old) }
+{
+    let Some(dir) = &arguments.history else {
+        return Some(None);
+    };
+    match HostHistory::open(rt, dir.as_str()) {
+        Ok(history) => Some(Some(history)),
+        Err(cause) => {
+            no_history(&cause, dir.as_str(), errors);
+            None
+        }
+    }
+}
+
+// The same as `serve_with`, with the log and the history that were asked for.
 fn serve_logged<
     P: Files<File = File> + Net + Clock + RandomSource + Eprint + AllocGlobal + Copy,
     K: ServedKeeper,
@@ -288,17 +339,17 @@ fn serve_logged<
     alloc: Global,
     arguments: &ServeArguments,
     host: u32,
-    server: Server,
+    server: &mut Server,
     keeper: &mut ReportingKeeper<K, P, Option<Console<P>>>,
     name: &str,
     out: &mut W,
     errors: &mut E,
 ) -> u8
-    requires fresh { server ≡ fresh_server LIVE server.table }
-    requires port { server.table.request ≡ arguments.now.port }
+    requires fresh { server.old ≡ fresh_server LIVE server.old.table }
+    requires port { server.old.table.request ≡ arguments.now.port }
     // What is longer is refused by such a keeper.
     requires limit { keeper.old.keeper.limit ≡ min arguments.now.limit MAX_FILE }
-    ensures served { Served arguments.now.port arguments.now.turns arguments.now.per_host server.table result (K.usable keeper.new.keeper.keeper) (own_log (K.log keeper.old.keeper.keeper) keeper.old.keeper.entries) (own_log (K.log keeper.new.keeper.keeper) keeper.new.keeper.entries) (W.contents out.old) (W.contents out.new) }
+    ensures served { Served arguments.now.port arguments.now.turns arguments.now.per_host server.old.table result (K.usable keeper.new.keeper.keeper) (own_log (K.log keeper.old.keeper.keeper) keeper.old.keeper.entries) (own_log (K.log keeper.new.keeper.keeper) keeper.new.keeper.entries) (W.contents out.old) (W.contents out.new) }
     ensures status { (result ≡ 0) ⊎ (result ≡ 2) }
     ensures silent { result ≡ 0 → errors.new ≡ errors.old }
 {
@@ -316,17 +367,81 @@ fn serve_logged<
             errors,
         );
     }
-    let history = match &arguments.history {
-        Some(dir) => match HostHistory::open(rt, dir.as_str()) {
-            Ok(history) => Some(history),
-            Err(cause) => return no_history(&cause, dir.as_str(), errors),
-        },
-        None => None,
-    };
-    let mut log = ServerLog::new(alloc, rt, console(rt, arguments.log), history);
-    serve_with(
-        rt, alloc, arguments, host, server, keeper, &mut log, name, out, errors,
+    match history_of(rt, arguments, errors) {
+        Some(history) => {
+            let mut log = ServerLog::new(alloc, rt, console(rt, arguments.log), history);
+            serve_with(
+                rt, alloc, arguments, host, server, keeper, &mut log, name, out, errors,
+            )
+        }
+        None => FAILED,
+    }
+}
+
+// Serves at this address of this host without a folder, and returns the status.
+fn serve_in_memory<
+    P: Files<File = File> + Net + Clock + RandomSource + Eprint + AllocGlobal + Copy,
+    W: Write,
+    E: Write,
+>(rt: P, alloc: Global, arguments: &ServeArguments, host: u32, out: &mut W, errors: &mut E) -> u8
+    requires { arguments.now.dir ≡ None }
+    ensures served { ServedFrom arguments.now result (W.contents out.old) (W.contents out.new) }
+    ensures status { (result ≡ 0) ⊎ (result ≡ 2) }
+    ensures silent { result ≡ 0 → errors.new ≡ errors.old }
+{
+    let log = console(rt, arguments.log);
+    serve_logged(
+        rt,
+        alloc,
+        arguments,
+        host,
+        &mut Server::new(alloc, arguments.port),
+        &mut ReportingKeeper::new(NoKeeper, arguments.limit, rt, log),
+        "memory",
+        out,
+        errors,
     )
+}
+
+// Serves there with what this keeper of a folder has, and returns the status.
+fn serve_kept<
+    P: Files<File = File> + Net + Clock + RandomSource + Eprint + AllocGlobal + Copy,
+    W: Write,
+    E: Write,
+>(
+    rt: P,
+    alloc: Global,
+    arguments: &ServeArguments,
+    host: u32,
+    keeper: DirKeeper<P>,
+    name: &str,
+    out: &mut W,
+    errors: &mut E,
+) -> u8
+    requires { option_map string_bytes arguments.now.dir ≡ Some name.now }
+    ensures served { ServedFrom arguments.now result (W.contents out.old) (W.contents out.new) }
+    ensures status { (result ≡ 0) ⊎ (result ≡ 2) }
+    ensures silent { result ≡ 0 → errors.new ≡ errors.old }
+{
+    let mut keeper = keeper;
+    match Server::load(alloc, arguments.port, &mut keeper) {
+        Ok(mut server) => {
+            let log = console(rt, arguments.log);
+            let mut keeper = ReportingKeeper::new(keeper, arguments.limit, rt, log);
+            serve_logged(
+                rt,
+                alloc,
+                arguments,
+                host,
+                &mut server,
+                &mut keeper,
+                name,
+                out,
+                errors,
+            )
+        }
+        Err(_) => report_unloaded(alloc, &mut keeper, name, errors),
+    }
 }
 
 // Serves at this address of this host, with the collections kept in the folder that was given, if one was, and returns
@@ -340,42 +455,13 @@ fn serve_at<
     ensures status { (result ≡ 0) ⊎ (result ≡ 2) }
     ensures silent { result ≡ 0 → errors.new ≡ errors.old }
 {
-    let limit = arguments.limit;
-    let log = console(rt, arguments.log);
-    let Some(dir) = &arguments.dir else {
-        let server = Server::new(alloc, arguments.port);
-        let mut keeper = ReportingKeeper::new(NoKeeper, limit, rt, log);
-        return serve_logged(
-            rt,
-            alloc,
-            arguments,
-            host,
-            server,
-            &mut keeper,
-            "memory",
-            out,
-            errors,
-        );
+    let Some(dir) = folder_of(arguments) else {
+        return serve_in_memory(rt, alloc, arguments, host, out, errors);
     };
-    let name = dir.as_str();
-    let Some(mut keeper) = keeper_of(rt, name, errors) else {
-        return FAILED;
-    };
-    let Ok(server) = Server::load(alloc, arguments.port, &mut keeper) else {
-        return report_unloaded(alloc, &mut keeper, name, errors);
-    };
-    let mut keeper = ReportingKeeper::new(keeper, limit, rt, log);
-    serve_logged(
-        rt,
-        alloc,
-        arguments,
-        host,
-        server,
-        &mut keeper,
-        name,
-        out,
-        errors,
-    )
+    match keeper_of(rt, dir, errors) {
+        Some(keeper) => serve_kept(rt, alloc, arguments, host, keeper, dir, out, errors),
+        None => FAILED,
+    }
 }
 
 // The host of the address that was given; 0, which is every address of this host, if none was. `None` if what was given

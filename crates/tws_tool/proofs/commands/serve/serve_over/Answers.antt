@@ -2,7 +2,7 @@ use Rattle.std.proofs.Common.{◌≡◌, ◌∙◌}
 use Rattle.tws_tool.specs.Commands.Serve.{HasUsable}
 use Rattle.tws_tool.proofs.Listening.{served, server_served, serves_so, fails_so}
 use Rattle.command_line.proofs.Statuses.{map_err, map_ok}
-use Rattle.tws_tool.proofs.commands.serve.serve_with.Goals as goal
+use Rattle.tws_tool.proofs.commands.serve.serve_over.Goals as goal
 
 pub returns-clause-served : goal.returns-clause-served
 returns-clause-served g c =
@@ -14,7 +14,7 @@ returns-clause-served g c =
     let port = c.args.arguments.now.port in
     let turns = c.args.arguments.now.turns in
     let per_host = c.args.arguments.now.per_host in
-    let begun = c.args.server in
+    let begun = c.args.server.now in
     let made = server_served (HasUsable g.K.ServedKeeper.usable g.K.Keeper.log) turns per_host usable kept now c.passes_for-passes.result begun c.limit_per_host.new.self c.serve_observed-done.new.server c.passes_for-passes.ensures c.requires.fresh c.limit_per_host.ensures in
     let done = c.serve_observed-done.result in
     let serves = map_ok done (serves_so old new port _ (now ≡ kept) _ _ (λ still. still) made) c.serve_observed-done.ensures.served in
