@@ -109,20 +109,24 @@ fn put_twice(
 
 // Whether each of the two ends has sent its three datagrams, the client the request first.
 fn were_sent_twice(archive: &MemoryWire, client: &MemoryWire) -> bool {
-    (send_count(archive), send_count(client)) == (3, 3)
-        && sent_times(archive, 4000, ALICE, ACK_0) == 1
-        && sent_times(archive, 4001, ALICE, ACK_0) == 1
-        && sent_last(archive, 4000, ALICE, ACK_1)
-        && sent_times(client, 5000, at(4000), DATA_HUNDRED) == 1
-        && sent_last(client, 5000, at(4001), UNKNOWN_TRANSFER)
+    let counts = (send_count(archive), send_count(client));
+    let times = (
+        sent_times(archive, 4000, ALICE, ACK_0),
+        sent_times(archive, 4001, ALICE, ACK_0),
+        sent_times(client, 5000, at(4000), DATA_HUNDRED),
+    );
+    let last = (
+        sent_last(archive, 4000, ALICE, ACK_1),
+        sent_last(client, 5000, at(4001), UNKNOWN_TRANSFER),
+    );
+    (counts, times, last) == ((3, 3), (1, 1, 1), (true, true))
 }
 
 // Whether the server has taken the file, and only the first of its transfers is live.
 fn has_taken(alloc: Global, server: &Server) -> bool {
     let table = server.table();
-    table.live() == 1
-        && table.next_port(0) == Some(4000)
-        && has_texts(alloc, table, HUNDRED, EMPTY_MS)
+    let has_texts = has_texts(alloc, table, HUNDRED, EMPTY_MS);
+    (table.live(), table.next_port(0), has_texts) == (1, Some(4000), true)
 }
 
 // Whether a put that has sent its request goes so, with this client.
@@ -133,12 +137,10 @@ fn is_put_once(
     run: &mut PutRun,
 ) -> Result<bool, Fail> {
     let taken = put_twice(alloc, archive, client, run)?;
-    Ok(
-        taken == [0, 0, 0, 1]
-            && run.client().state() == State::Sent
-            && has_taken(alloc, &archive.server)
-            && were_sent_twice(&archive.wire, client),
-    )
+    let has_taken = has_taken(alloc, &archive.server);
+    let were_sent = were_sent_twice(&archive.wire, client);
+    let state = run.client().state();
+    Ok((taken, state, has_taken, were_sent) == ([0, 0, 0, 1], State::Sent, true, true))
 }
 
 fn puts_once(alloc: Global, archive: &mut Archive) -> Result<bool, Fail> {

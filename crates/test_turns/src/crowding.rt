@@ -37,57 +37,77 @@ fn has_opened(wire: &MemoryWire) -> bool {
     wire.log().iter().any(|entry| is_opened(entry, Some(4000)))
 }
 
-// Lets junk arrive at a new server, and then a request. Returns whether a port was opened for the junk, and how many
+// Lets junk arrive at a server, and then a request. Returns whether a port was opened for the junk, and how many
 // transfers are live at the end.
-fn after_junk(alloc: Global, wire: &mut MemoryWire) -> Result<(bool, usize), Fail> {
-    let mut server = Server::new(alloc, 6969);
+fn after_junk(
+    alloc: Global,
+    wire: &mut MemoryWire,
+    server: &mut Server,
+) -> Result<(bool, usize), Fail> {
     for junk in [b"".as_slice(), ACK_0, DATA_HUNDRED, UNKNOWN_TRANSFER] {
         wire.arrive(alloc, 6969, ALICE, junk)?;
-        serve_rounds(wire, &mut NoKeeper, &mut NoObserver, &mut server, 1);
+        serve_rounds(wire, &mut NoKeeper, &mut NoObserver, server, 1);
     }
     let opened = has_opened(wire);
-    Ok((opened, asked(alloc, wire, &mut server, 2, 1)?))
+    Ok((opened, asked(alloc, wire, server, 2, 1)?))
+}
+
+fn new_after_junk(alloc: Global, wire: &mut MemoryWire) -> Result<(bool, usize), Fail> {
+    after_junk(alloc, wire, &mut Server::new(alloc, 6969))
 }
 
 #[test]
 fn only_requests_cost_a_port(rt: HostRuntime) -> Result<(), Fail> {
     let mut wire = wire_of(rt.alloc(), &[4000])?;
-    assert_eq!(rt; after_junk(rt.alloc(), &mut wire)?, (false, 1));
+    assert_eq!(rt; new_after_junk(rt.alloc(), &mut wire)?, (false, 1));
     Ok(())
 }
 
 // How many transfers are live after five requests of one host, of which three may be live, two of another, and five of
 // this host. Clients at addresses of the loopback range are not counted.
-fn limited(alloc: Global, wire: &mut MemoryWire) -> Result<[usize; 3], Fail> {
-    let mut server = Server::new(alloc, 6969);
+fn limited(alloc: Global, wire: &mut MemoryWire, server: &mut Server) -> Result<[usize; 3], Fail> {
     server.limit_per_host(3);
-    let first = asked(alloc, wire, &mut server, 2, 5)?;
-    let second = asked(alloc, wire, &mut server, 3, 2)?;
-    Ok([
-        first,
-        second,
-        asked(alloc, wire, &mut server, 0x7F00_0001, 5)?,
-    ])
+    let first = asked(alloc, wire, server, 2, 5)?;
+    let second = asked(alloc, wire, server, 3, 2)?;
+    Ok([first, second, asked(alloc, wire, server, 0x7F00_0001, 5)?])
+}
+
+fn new_limited(alloc: Global, wire: &mut MemoryWire) -> Result<[usize; 3], Fail> {
+    limited(alloc, wire, &mut Server::new(alloc, 6969))
 }
 
 #[test]
 fn one_host_has_so_many_transfers(rt: HostRuntime) -> Result<(), Fail> {
     let mut wire = wide_wire(rt.alloc())?;
-    assert_eq!(rt; limited(rt.alloc(), &mut wire)?, [3, 5, 10]);
+    assert_eq!(rt; new_limited(rt.alloc(), &mut wire)?, [3, 5, 10]);
     Ok(())
 }
 
-// Lets a stranger's datagrams arrive at a transfer of a new server, each second. Returns how many transfers are live then.
-fn after_strangers(alloc: Global, wire: &mut MemoryWire) -> Result<usize, Fail> {
-    let mut server = Server::new(alloc, 6969);
-    serve_rounds(wire, &mut NoKeeper, &mut NoObserver, &mut server, 1);
+// Lets a stranger's datagram arrive at a transfer at this time, before a round.
+fn stray(alloc: Global, wire: &mut MemoryWire, server: &mut Server, time: u64) -> Result<(), Fail> {
+    wire.set_time(time);
+    wire.set_settled(Some(time));
+    wire.arrive(alloc, 4000, BOB, ACK_0)?;
+    serve_rounds(wire, &mut NoKeeper, &mut NoObserver, server, 1);
+    Ok(())
+}
+
+// The same each second, after a first round. Returns how many transfers are live then.
+fn stray_each_second(
+    alloc: Global,
+    wire: &mut MemoryWire,
+    server: &mut Server,
+) -> Result<usize, Fail> {
+    serve_rounds(wire, &mut NoKeeper, &mut NoObserver, server, 1);
     for time in [1000, 2000, 3000, 4000, 5000] {
-        wire.set_time(time);
-        wire.set_settled(Some(time));
-        wire.arrive(alloc, 4000, BOB, ACK_0)?;
-        serve_rounds(wire, &mut NoKeeper, &mut NoObserver, &mut server, 1);
+        stray(alloc, wire, server, time)?;
     }
     Ok(server.table().live())
+}
+
+// The same with a new server.
+fn after_strangers(alloc: Global, wire: &mut MemoryWire) -> Result<usize, Fail> {
+    stray_each_second(alloc, wire, &mut Server::new(alloc, 6969))
 }
 
 // A stranger's datagram at a transfer's port is answered, and does not keep the transfer alive.

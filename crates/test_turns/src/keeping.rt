@@ -147,12 +147,17 @@ fn keeper_of(alloc: Global, failing: u64) -> Result<MemoryKeeper, Fail> {
     Ok(keeper)
 }
 
-// Why a server does not start; if it does, whether it has both texts.
-fn starts(alloc: Global, failing: u64) -> Result<Result<bool, LoadFault>, Fail> {
-    match Server::load(alloc, 6969, &mut keeper_of(alloc, failing)?) {
-        Ok(server) => Ok(Ok(has_texts(alloc, server.table(), HUNDRED, EMPTY_MS))),
-        Err(fault) => Ok(Err(fault)),
+// Why a server does not start with what this keeper has; if it does, whether it has both texts.
+fn starts_with(alloc: Global, keeper: &mut MemoryKeeper) -> Result<bool, LoadFault> {
+    match Server::load(alloc, 6969, keeper) {
+        Ok(server) => Ok(has_texts(alloc, server.table(), HUNDRED, EMPTY_MS)),
+        Err(fault) => Err(fault),
     }
+}
+
+fn starts(alloc: Global, failing: u64) -> Result<Result<bool, LoadFault>, Fail> {
+    let mut keeper = keeper_of(alloc, failing)?;
+    Ok(starts_with(alloc, &mut keeper))
 }
 
 #[test]

@@ -175,7 +175,7 @@ fn put(
     observer: &mut Collecting<'_>,
     server: &mut Server,
 ) -> Result<(), Fail> {
-    let arrivals: [(u16, Endpoint, &[u8]); 6] = [
+    const ARRIVALS: &[(u16, Endpoint, &[u8])] = &[
         (6969, ALICE, ACK_0),
         (6969, BOB, b"\0\x01lynx.dac\0octet\0"),
         (6969, ALICE, WRQ),
@@ -183,7 +183,7 @@ fn put(
         (4000, ALICE, DATA_HUNDRED),
         (4000, BOB, ACK_0),
     ];
-    round_for_each(alloc, wire, observer, server, &arrivals)?;
+    round_for_each(alloc, wire, observer, server, ARRIVALS)?;
     server.round(wire, &mut NoKeeper, observer);
     server.round(wire, &mut NoKeeper, observer);
     round_for_each(alloc, wire, observer, server, &[(6969, BOB, WRQ)])
@@ -311,21 +311,31 @@ fn round_for_requests(
     Ok(())
 }
 
-// The last request that a new server drops of which one host may have one transfer, how many it drops, and how many
+// The last request that a server drops of which one host may have one transfer, how many it drops, and how many
 // transfers are live then.
+fn dropped_by(
+    alloc: Global,
+    wire: &mut MemoryWire,
+    server: &mut Server,
+    observer: &mut Dropped,
+    requests: &[(Endpoint, &[u8])],
+) -> Result<(Option<Endpoint>, u8, usize), Fail> {
+    server.limit_per_host(1);
+    round_for_requests(alloc, wire, observer, server, requests)?;
+    Ok((observer.last, observer.count, server.table().live()))
+}
+
 fn dropped_at(
     alloc: Global,
     wire: &mut MemoryWire,
     requests: &[(Endpoint, &[u8])],
 ) -> Result<(Option<Endpoint>, u8, usize), Fail> {
-    let mut server = Server::new(alloc, 6969);
-    server.limit_per_host(1);
     let mut observer = Dropped {
         last: None,
         count: 0,
     };
-    round_for_requests(alloc, wire, &mut observer, &mut server, requests)?;
-    Ok((observer.last, observer.count, server.table().live()))
+    let mut server = Server::new(alloc, 6969);
+    dropped_by(alloc, wire, &mut server, &mut observer, requests)
 }
 
 // Of a host that may have one transfer the second request is dropped. What is no request is not reported, nor is the
@@ -333,8 +343,13 @@ fn dropped_at(
 #[test]
 fn an_observer_is_notified_of_a_request_that_is_dropped(rt: HostRuntime) -> Result<(), Fail> {
     let mut wire = wire_of(rt.alloc(), &[4001, 4000])?;
-    let requests: [(Endpoint, &[u8]); 4] = [(ALICE, WRQ), (ALICE, ACK_0), (ALICE, WRQ), (BOB, WRQ)];
-    let dropped = dropped_at(rt.alloc(), &mut wire, &requests)?;
+    const REQUESTS: &[(Endpoint, &[u8])] = &[
+        (ALICE, WRQ),
+        (ALICE, ACK_0),
+        (ALICE, WRQ),
+        (BOB, WRQ),
+    ];
+    let dropped = dropped_at(rt.alloc(), &mut wire, REQUESTS)?;
     assert_eq!(rt; dropped, (Some(ALICE), 1, 2));
     Ok(())
 }

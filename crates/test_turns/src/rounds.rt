@@ -31,29 +31,39 @@ fn put_in_rounds(
     Ok([first, acks(wire, server, ACK_1)])
 }
 
-// Whether a new server takes the file of a put, whose transfer then waits for the last block twice, and is closed.
-fn takes_and_waits(alloc: Global, wire: &mut MemoryWire) -> Result<bool, Fail> {
-    let mut server = Server::new(alloc, 6969);
-    let rounds = put_in_rounds(alloc, wire, &mut server)?;
+// Whether a server takes the file of a put, whose transfer then waits for the last block twice, and is closed.
+fn takes_and_waits(
+    alloc: Global,
+    wire: &mut MemoryWire,
+    server: &mut Server,
+) -> Result<bool, Fail> {
+    let rounds = put_in_rounds(alloc, wire, server)?;
     let solutions = server.table().collection(Ruleset::Lynx).len();
-    let live = (lives(wire, &mut server), lives(wire, &mut server));
+    let live = (lives(wire, server), lives(wire, server));
     Ok((rounds, solutions, live) == ([(0, true), (1, true)], 1, (1, 0)))
+}
+
+fn new_takes_and_waits(alloc: Global, wire: &mut MemoryWire) -> Result<bool, Fail> {
+    takes_and_waits(alloc, wire, &mut Server::new(alloc, 6969))
 }
 
 #[test]
 fn a_put_to_the_ready_server(rt: HostRuntime) -> Result<(), Fail> {
     let mut wire = request_wire(rt.alloc(), 4000)?;
-    let is_put = takes_and_waits(rt.alloc(), &mut wire)?;
+    let is_put = new_takes_and_waits(rt.alloc(), &mut wire)?;
     assert_eq!(rt; (is_put, send_count(&wire)), (true, 2));
     Ok(())
 }
 
-// Makes a round of a new server, to which a request has arrived, and then one at each of these times, before which a
-// malformed datagram arrives at the request port. All that had arrived up to the second time was handed out. Returns
-// whether each time the expected number of datagrams was sent.
-fn are_sent_in_time(alloc: Global, wire: &mut MemoryWire) -> Result<bool, Fail> {
-    let mut server = Server::new(alloc, 6969);
-    serve_rounds(wire, &mut NoKeeper, &mut NoObserver, &mut server, 1);
+// Makes a round of a server, to which a request has arrived, and then one at each of these times, before which a malformed
+// datagram arrives at the request port. All that had arrived up to the second time was handed out. Returns whether each
+// time the expected number of datagrams was sent.
+fn are_sent_in_time(
+    alloc: Global,
+    wire: &mut MemoryWire,
+    server: &mut Server,
+) -> Result<bool, Fail> {
+    serve_rounds(wire, &mut NoKeeper, &mut NoObserver, server, 1);
     for (time, settled, sent) in [
         (999, 999, 1),
         (1500, 999, 1),
@@ -65,7 +75,7 @@ fn are_sent_in_time(alloc: Global, wire: &mut MemoryWire) -> Result<bool, Fail> 
         wire.set_time(time);
         wire.set_settled(Some(settled));
         wire.arrive(alloc, 6969, ALICE, b"no packet")?;
-        serve_rounds(wire, &mut NoKeeper, &mut NoObserver, &mut server, 1);
+        serve_rounds(wire, &mut NoKeeper, &mut NoObserver, server, 1);
         if send_count(wire) != sent {
             return Ok(false);
         }
@@ -73,12 +83,16 @@ fn are_sent_in_time(alloc: Global, wire: &mut MemoryWire) -> Result<bool, Fail> 
     Ok(true)
 }
 
+fn new_are_sent_in_time(alloc: Global, wire: &mut MemoryWire) -> Result<bool, Fail> {
+    are_sent_in_time(alloc, wire, &mut Server::new(alloc, 6969))
+}
+
 // A transfer times out one second after it last sent, once all that had arrived by then was handed out, however much
 // arrives at the request port meanwhile.
 #[test]
 fn a_busy_request_port(rt: HostRuntime) -> Result<(), Fail> {
     let mut wire = request_wire(rt.alloc(), 4000)?;
-    assert!(rt; are_sent_in_time(rt.alloc(), &mut wire)?);
+    assert!(rt; new_are_sent_in_time(rt.alloc(), &mut wire)?);
     Ok(())
 }
 

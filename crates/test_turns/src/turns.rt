@@ -10,8 +10,11 @@ use tws_file::Ruleset;
 // Makes turns of a new server. Returns how many files were taken, how many transfers are live, and how many solutions
 // the Lynx collection has.
 fn serve(alloc: Global, wire: &mut MemoryWire, turns: u64) -> (u64, usize, usize) {
-    let mut server = Server::new(alloc, 6969);
-    let taken = serve_turns(wire, &mut NoKeeper, &mut server, turns);
+    serve_with(wire, &mut Server::new(alloc, 6969), turns)
+}
+
+fn serve_with(wire: &mut MemoryWire, server: &mut Server, turns: u64) -> (u64, usize, usize) {
+    let taken = serve_turns(wire, &mut NoKeeper, server, turns);
     let table = server.table();
     (taken, table.live(), table.collection(Ruleset::Lynx).len())
 }
@@ -134,12 +137,11 @@ fn each_call_failing(rt: HostRuntime) -> Result<(), Fail> {
     Ok(())
 }
 
-// Makes turns of a new server, to which a request has arrived and then nothing. Each row has the number of turns, how
-// many datagrams were sent by then, and how many transfers are live.
-fn are_quiet(alloc: Global, wire: &mut MemoryWire, rows: &[(u64, usize, usize)]) -> bool {
-    let mut server = Server::new(alloc, 6969);
+// Makes turns of a server, to which a request has arrived and then nothing. Each row has the number of turns, how many
+// datagrams were sent by then, and how many transfers are live.
+fn are_quiet(wire: &mut MemoryWire, server: &mut Server, rows: &[(u64, usize, usize)]) -> bool {
     for (turns, sent, live) in rows {
-        serve_turns(wire, &mut NoKeeper, &mut server, *turns);
+        serve_turns(wire, &mut NoKeeper, server, *turns);
         if send_count(wire) != *sent || server.table().live() != *live {
             return false;
         }
@@ -147,10 +149,14 @@ fn are_quiet(alloc: Global, wire: &mut MemoryWire, rows: &[(u64, usize, usize)])
     true
 }
 
+fn new_are_quiet(alloc: Global, wire: &mut MemoryWire, rows: &[(u64, usize, usize)]) -> bool {
+    are_quiet(wire, &mut Server::new(alloc, 6969), rows)
+}
+
 // The last ACK of a transfer is sent again after 200 quiet turns, four times; then the transfer is closed.
 #[test]
 fn a_transfer_that_stays_quiet(rt: HostRuntime) -> Result<(), Fail> {
-    let rows = [
+    const ROWS: &[(u64, usize, usize)] = &[
         (200, 1, 1),
         (1, 2, 1),
         (199, 2, 1),
@@ -159,6 +165,6 @@ fn a_transfer_that_stays_quiet(rt: HostRuntime) -> Result<(), Fail> {
         (1, 5, 0),
     ];
     let mut wire = request_wire(rt.alloc(), 4000)?;
-    assert!(rt; are_quiet(rt.alloc(), &mut wire, &rows));
+    assert!(rt; new_are_quiet(rt.alloc(), &mut wire, ROWS));
     Ok(())
 }
