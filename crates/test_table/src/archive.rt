@@ -154,12 +154,26 @@ pub(crate) enum Input<'a> {
     Wait(u16),
 }
 
+pub(crate) type Row = (Input<'static>, Then<'static>);
+
 fn step<K: Keeper>(archive: &mut Archive, keeper: &mut K, input: Input<'_>) -> Result<Step, Fail> {
     match input {
         Input::Ask(spare, host, bytes) => archive.ask(spare, client(host), bytes),
         Input::Recv(port, host, bytes) => Ok(archive.handle(keeper, port, client(host), bytes)),
         Input::Wait(port) => Ok(archive.wait(port)),
     }
+}
+
+// Whether an input's step is the expected one.
+pub(crate) fn is_expected<K: Keeper>(
+    alloc: Global,
+    archive: &mut Archive,
+    keeper: &mut K,
+    input: Input<'_>,
+    then: Then<'_>,
+) -> Result<bool, Fail> {
+    let step = step(archive, keeper, input)?;
+    Ok(is_wanted(alloc, &step, then))
 }
 
 // The index of the first of these inputs whose step is not the expected one, if there is one.
@@ -170,8 +184,7 @@ pub(crate) fn first_other<K: Keeper>(
     rows: &[(Input<'_>, Then<'_>)],
 ) -> Result<Option<usize>, Fail> {
     for (i, (input, then)) in rows.iter().enumerate() {
-        let step = step(archive, keeper, *input)?;
-        if !is_wanted(alloc, &step, *then) {
+        if !is_expected(alloc, archive, keeper, *input, *then)? {
             return Ok(Some(i));
         }
     }

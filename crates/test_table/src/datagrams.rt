@@ -1,13 +1,13 @@
 // Datagrams at a transfer's port.
 use crate::archive::{
-    Archive, Input, Left, NOTHING, Then, client, first_other, is_live, is_wanted, other_of,
-    other_of_new,
+    Archive, Input, Left, NOTHING, Row, Then, client, first_other, has_texts, is_expected, is_live,
+    is_wanted, other_of, other_of_new,
 };
 use archive_table::{NoKeeper, Step};
 use std::alloc::Global;
 use std::test::Fail;
 use test_samples::{
-    ACK_0, ACK_1, DATA_EMPTY_LYNX, DATA_EMPTY_MS, DATA_HUNDRED, DATA_NINETY, EMPTY_LYNX,
+    ACK_0, ACK_1, DATA_EMPTY_LYNX, DATA_EMPTY_MS, DATA_HUNDRED, DATA_NINETY, EMPTY_LYNX, EMPTY_MS,
     FILE_TOO_LONG, HUNDRED, NINETY, RRQ_LYNX, RRQ_MS, UNKNOWN_TRANSFER, WRQ, record, steps,
     whole_block,
 };
@@ -60,7 +60,7 @@ fn a_request_that_came_twice(rt: HostRuntime) -> Result<(), Fail> {
 // A datagram from another source changes nothing: the transfer goes on as if it had not arrived.
 #[test]
 fn another_source(rt: HostRuntime) -> Result<(), Fail> {
-    let rows = [
+    const ROWS: &[Row] = &[
         (
             Input::Ask(4000, 2, RRQ_LYNX),
             Then::Opens(4000, 2, DATA_EMPTY_LYNX),
@@ -74,13 +74,13 @@ fn another_source(rt: HostRuntime) -> Result<(), Fail> {
         (Input::Wait(4000), Then::Sends(4000, 2, DATA_EMPTY_LYNX)),
         (Input::Recv(4000, 2, ACK_1), Then::Ends),
     ];
-    assert_eq!(rt; other_of_new(rt.alloc(), &rows, NOTHING)?, None);
+    assert_eq!(rt; other_of_new(rt.alloc(), ROWS, NOTHING)?, None);
     Ok(())
 }
 
 #[test]
 fn malformed_datagrams_of_the_peer(rt: HostRuntime) -> Result<(), Fail> {
-    let rows = [
+    const ROWS: &[Row] = &[
         (Input::Ask(4000, 2, WRQ), Then::Opens(4000, 2, ACK_0)),
         (Input::Recv(4000, 2, &[0; 517]), Then::Nothing),
         (Input::Recv(4000, 2, b"\0\x05\0\0\x61"), Then::Nothing),
@@ -91,11 +91,9 @@ fn malformed_datagrams_of_the_peer(rt: HostRuntime) -> Result<(), Fail> {
         (Input::Recv(4000, 2, DATA_HUNDRED), Then::Nothing),
         (Input::Wait(4000), Then::Nothing),
     ];
-    assert_eq!(rt; other_of_new(rt.alloc(), &rows, NOTHING)?, None);
+    assert_eq!(rt; other_of_new(rt.alloc(), ROWS, NOTHING)?, None);
     Ok(())
 }
-
-type Row = (Input<'static>, Then<'static>);
 
 // The first file is taken, and its transfer ends.
 const TAKES_FIRST: [Row; 4] = [
@@ -117,33 +115,57 @@ const TAKES_BETTER: [Row; 2] = [
     ),
 ];
 
-// A download begins at each port from 4101 to 4163, and after the better file was taken each sends its first block again.
-fn downloads(alloc: Global) -> Result<Vec<Row>, Fail> {
-    let mut rows = Vec::from_slice(alloc, &TAKES_FIRST)?;
+// Whether a download begins at each port from 4101 to 4163.
+fn begins_downloads(alloc: Global, archive: &mut Archive) -> Result<bool, Fail> {
     for port in 4101..4164 {
-        rows.push((
-            Input::Ask(port, 2, RRQ_LYNX),
-            Then::Opens(port, 2, DATA_HUNDRED),
-        ))?;
+        let input = Input::Ask(port, 2, RRQ_LYNX);
+        let then = Then::Opens(port, 2, DATA_HUNDRED);
+        if !is_expected(alloc, archive, &mut NoKeeper, input, then)? {
+            return Ok(false);
+        }
     }
-    rows.extend_from_slice(&TAKES_BETTER)?;
+    Ok(true)
+}
+
+// Whether each of them sends its first block again.
+fn repeats_blocks(alloc: Global, archive: &mut Archive) -> Result<bool, Fail> {
     for port in 4101..4164 {
-        rows.push((Input::Wait(port), Then::Sends(port, 2, DATA_HUNDRED)))?;
+        let then = Then::Sends(port, 2, DATA_HUNDRED);
+        if !is_expected(alloc, archive, &mut NoKeeper, Input::Wait(port), then)? {
+            return Ok(false);
+        }
     }
-    Ok(rows)
+    Ok(true)
+}
+
+// The first step of the uploads that is not the expected one, and whether the downloads begin and go on beside them.
+fn serve_beside_an_upload(
+    alloc: Global,
+    archive: &mut Archive,
+) -> Result<(Option<usize>, bool, Option<usize>, bool), Fail> {
+    let first = first_other(alloc, archive, &mut NoKeeper, &TAKES_FIRST)?;
+    let are_begun = begins_downloads(alloc, archive)?;
+    let better = first_other(alloc, archive, &mut NoKeeper, &TAKES_BETTER)?;
+    let are_repeated = repeats_blocks(alloc, archive)?;
+    Ok((first, are_begun, better, are_repeated))
+}
+
+// Whether all of that is so, and what is left.
+fn is_right_beside_an_upload(alloc: Global, archive: &mut Archive) -> Result<bool, Fail> {
+    let served = serve_beside_an_upload(alloc, archive)?;
+    let is_left = is_live(archive, 64, Some(4101));
+    let has_texts = has_texts(alloc, archive, NINETY, EMPTY_MS);
+    Ok((served, is_left, has_texts) == ((None, true, None, true), true, true))
+}
+
+fn new_is_right_beside_an_upload(alloc: Global) -> Result<bool, Fail> {
+    is_right_beside_an_upload(alloc, &mut Archive::new(alloc))
 }
 
 // What a download sends is the collection as it was when it began.
 #[test]
 fn downloads_beside_an_upload(rt: HostRuntime) -> Result<(), Fail> {
-    let rows = downloads(rt.alloc())?;
-    let left = Left {
-        lynx: NINETY,
-        live: 64,
-        least: Some(4101),
-        ..NOTHING
-    };
-    assert_eq!(rt; other_of_new(rt.alloc(), &rows, left)?, None);
+    assert!(rt; new_is_right_beside_an_upload(rt.alloc())?);
     Ok(())
 }
 
@@ -263,8 +285,8 @@ fn takes_two_files(alloc: Global, archive: &mut Archive, size: u32) -> Result<bo
 }
 
 // Whether a collection that is too long is not sent, and the other one is.
-fn sends_the_other(alloc: Global) -> Result<bool, Fail> {
-    let rows = [
+fn sends_the_other(alloc: Global, archive: &mut Archive) -> Result<bool, Fail> {
+    const ROWS: &[Row] = &[
         (
             Input::Ask(4003, 9, RRQ_LYNX),
             Then::Sends(6969, 9, TOO_LONG),
@@ -274,17 +296,22 @@ fn sends_the_other(alloc: Global) -> Result<bool, Fail> {
             Then::Opens(4003, 9, DATA_EMPTY_MS),
         ),
     ];
-    let mut archive = Archive::new(alloc);
-    let is_taken = takes_two_files(alloc, &mut archive, 17_000_028)?;
+    let is_taken = takes_two_files(alloc, archive, 17_000_028)?;
     let size = archive.table().collection(Ruleset::Lynx).text_len();
-    let other = first_other(alloc, &mut archive, &mut NoKeeper, &rows)?;
-    Ok(is_taken && size == 34_000_048 && other.is_none() && is_live(&archive, 3, Some(4000)))
+    let other = first_other(alloc, archive, &mut NoKeeper, ROWS)?;
+    let is_left = is_live(archive, 3, Some(4000));
+    Ok((is_taken, size, other, is_left) == (true, 34_000_048, None, true))
+}
+
+// The same for a new archive.
+fn new_sends_the_other(alloc: Global) -> Result<bool, Fail> {
+    sends_the_other(alloc, &mut Archive::new(alloc))
 }
 
 // Two files whose collection would be too long to be sent: 34,000,048 bytes.
 #[test]
 fn a_collection_too_long(rt: HostRuntime) -> Result<(), Fail> {
-    assert!(rt; sends_the_other(rt.alloc())?);
+    assert!(rt; new_sends_the_other(rt.alloc())?);
     Ok(())
 }
 
@@ -341,17 +368,28 @@ fn text_of_two(alloc: Global, moves: u32) -> Result<Vec<u8>, Fail> {
     Ok(text)
 }
 
-// Whether a new archive takes two files of `size` bytes, and serves this text.
-fn takes_and_serves(alloc: Global, size: u32, text: &[u8]) -> Result<bool, Fail> {
-    let mut archive = Archive::new(alloc);
-    let is_taken = takes_two_files(alloc, &mut archive, size)?;
-    Ok(is_taken && serves_text(&mut archive, text)?)
+// Whether an archive takes two files of `size` bytes, and serves this text.
+fn takes_and_serves(
+    alloc: Global,
+    archive: &mut Archive,
+    size: u32,
+    text: &[u8],
+) -> Result<bool, Fail> {
+    let is_taken = takes_two_files(alloc, archive, size)?;
+    let is_served = serves_text(archive, text)?;
+    Ok(is_taken && is_served)
+}
+
+// The same for a new archive.
+fn new_takes_and_serves(alloc: Global, size: u32, text: &[u8]) -> Result<bool, Fail> {
+    takes_and_serves(alloc, &mut Archive::new(alloc), size, text)
 }
 
 // Whether the collection of two files with this many moves each is served, and has `size` bytes.
 fn serves(alloc: Global, moves: u32, size: usize) -> Result<bool, Fail> {
     let text = text_of_two(alloc, moves)?;
-    Ok(text.len() == size && takes_and_serves(alloc, moves.wrapping_add(28), &text)?)
+    let is_served = new_takes_and_serves(alloc, moves.wrapping_add(28), &text)?;
+    Ok(text.len() == size && is_served)
 }
 
 // Two files whose collection is long, and is sent: 4,200,048 bytes, in 8,204 blocks.

@@ -1,5 +1,7 @@
 // Collections that are kept, or not, and loaded again by a server that starts.
-use crate::archive::{Archive, Input, Left, NOTHING, Then, client, has_texts, is_live, other_of};
+use crate::archive::{
+    Archive, Input, Left, NOTHING, Row, Then, client, has_texts, is_live, other_of,
+};
 use archive_table::{KeepFault, LoadFault, MemoryKeeper};
 use std::alloc::Global;
 use std::test::Fail;
@@ -44,7 +46,7 @@ fn other_kept(
 // from another client is given to the keeper again.
 #[test]
 fn a_keep_that_fails(rt: HostRuntime) -> Result<(), Fail> {
-    let rows = [
+    const ROWS: &[Row] = &[
         (Input::Ask(4000, 2, WRQ), Then::Opens(4000, 2, ACK_0)),
         (
             Input::Recv(4000, 2, DATA_HUNDRED),
@@ -62,21 +64,21 @@ fn a_keep_that_fails(rt: HostRuntime) -> Result<(), Fail> {
             Then::Takes(4001, 3, ACK_1, HUNDRED),
         ),
     ];
-    let left = Left {
+    const LEFT: Left<'static> = Left {
         lynx: HUNDRED,
         live: 1,
         least: Some(4001),
         ..NOTHING
     };
     let given = [(HUNDRED, false), (HUNDRED, true)];
-    assert_eq!(rt; other_kept(rt.alloc(), 1, &rows, left, &given)?, None);
+    assert_eq!(rt; other_kept(rt.alloc(), 1, ROWS, LEFT, &given)?, None);
     Ok(())
 }
 
 // The collection stays as it was before a better file that is not kept, also for a server that starts again.
 #[test]
 fn a_better_file_that_is_not_kept(rt: HostRuntime) -> Result<(), Fail> {
-    let rows = [
+    const ROWS: &[Row] = &[
         (Input::Ask(4000, 2, WRQ), Then::Opens(4000, 2, ACK_0)),
         (
             Input::Recv(4000, 2, DATA_HUNDRED),
@@ -92,21 +94,21 @@ fn a_better_file_that_is_not_kept(rt: HostRuntime) -> Result<(), Fail> {
             Then::Opens(4001, 4, DATA_HUNDRED),
         ),
     ];
-    let left = Left {
+    const LEFT: Left<'static> = Left {
         lynx: HUNDRED,
         live: 2,
         least: Some(4000),
         ..NOTHING
     };
     let given = [(HUNDRED, true), (NINETY, false)];
-    assert_eq!(rt; other_kept(rt.alloc(), 2, &rows, left, &given)?, None);
+    assert_eq!(rt; other_kept(rt.alloc(), 2, ROWS, LEFT, &given)?, None);
     Ok(())
 }
 
 // The second file changes nothing, and nothing is kept for it; nor for bytes that are not a file.
 #[test]
 fn nothing_to_keep(rt: HostRuntime) -> Result<(), Fail> {
-    let rows = [
+    const ROWS: &[Row] = &[
         (Input::Ask(4000, 2, WRQ), Then::Opens(4000, 2, ACK_0)),
         (
             Input::Recv(4000, 2, DATA_HUNDRED),
@@ -123,14 +125,14 @@ fn nothing_to_keep(rt: HostRuntime) -> Result<(), Fail> {
             Then::Takes(4002, 4, ACK_1, UNREADABLE),
         ),
     ];
-    let left = Left {
+    const LEFT: Left<'static> = Left {
         lynx: HUNDRED,
         live: 3,
         least: Some(4000),
         ..NOTHING
     };
     let given = [(HUNDRED, true)];
-    assert_eq!(rt; other_kept(rt.alloc(), 0, &rows, left, &given)?, None);
+    assert_eq!(rt; other_kept(rt.alloc(), 0, ROWS, LEFT, &given)?, None);
     Ok(())
 }
 
@@ -238,6 +240,11 @@ fn takes(archive: &mut Archive, keeper: &mut MemoryKeeper) -> Result<bool, Fail>
     Ok(step.taken.is_some())
 }
 
+// The same for a new one.
+fn new_takes(alloc: Global, keeper: &mut MemoryKeeper) -> Result<bool, Fail> {
+    takes(&mut Archive::new(alloc), keeper)
+}
+
 // Whether a server loads what was taken, and no more.
 fn finds(alloc: Global, keeper: &mut MemoryKeeper, is_taken: bool) -> bool {
     let lynx = if is_taken {
@@ -250,20 +257,28 @@ fn finds(alloc: Global, keeper: &mut MemoryKeeper, is_taken: bool) -> bool {
 
 // Whether a server loads what was taken when it starts again after this call of its keeper has failed. The first call
 // keeps the file, the second and third load.
-fn finds_what_was_taken(alloc: Global, failing: u64) -> Result<bool, Fail> {
-    let mut keeper = MemoryKeeper::new(alloc);
+fn finds_what_was_taken(
+    alloc: Global,
+    keeper: &mut MemoryKeeper,
+    failing: u64,
+) -> Result<bool, Fail> {
     keeper.fail_at(failing);
-    let is_taken = takes(&mut Archive::new(alloc), &mut keeper)?;
-    let is_refused = fault(alloc, &mut keeper).is_some();
-    let is_found = finds(alloc, &mut keeper, is_taken);
-    Ok(is_found && is_taken == (failing != 1) && is_refused == (failing > 1))
+    let is_taken = new_takes(alloc, keeper)?;
+    let is_refused = fault(alloc, keeper).is_some();
+    let is_found = finds(alloc, keeper, is_taken);
+    Ok((is_found, is_taken, is_refused) == (true, failing != 1, failing > 1))
+}
+
+// The same with a new keeper.
+fn starts_again(alloc: Global, failing: u64) -> Result<bool, Fail> {
+    finds_what_was_taken(alloc, &mut MemoryKeeper::new(alloc), failing)
 }
 
 // Each call of the keeper fails in turn.
 #[test]
 fn starting_again(rt: HostRuntime) -> Result<(), Fail> {
     for failing in 0..4 {
-        assert!(rt; finds_what_was_taken(rt.alloc(), failing)?, "{failing}");
+        assert!(rt; starts_again(rt.alloc(), failing)?, "{failing}");
     }
     Ok(())
 }
@@ -288,12 +303,17 @@ fn counts(
     Ok(true)
 }
 
+// Whether a new table counts so, whose second keep fails.
+fn new_counts(alloc: Global, rows: &[(u16, &[u8], u64)]) -> Result<bool, Fail> {
+    let mut keeper = MemoryKeeper::new(alloc);
+    keeper.fail_at(2);
+    counts(&mut Archive::new(alloc), &mut keeper, rows)
+}
+
 // A file that changes nothing is not counted, nor one that is not kept.
 #[test]
 fn what_became_better(rt: HostRuntime) -> Result<(), Fail> {
-    let mut keeper = MemoryKeeper::new(rt.alloc());
-    keeper.fail_at(2);
-    let rows: [(u16, &[u8], u64); 6] = [
+    const ROWS: &[(u16, &[u8], u64)] = &[
         (4000, DATA_HUNDRED, 1),
         (4001, DATA_HUNDRED, 1),
         (4002, DATA_NINETY, 1),
@@ -301,6 +321,6 @@ fn what_became_better(rt: HostRuntime) -> Result<(), Fail> {
         (4004, DATA_TWO_LEVELS, 4),
         (4005, DATA_UNREADABLE, 4),
     ];
-    assert!(rt; counts(&mut Archive::new(rt.alloc()), &mut keeper, &rows)?);
+    assert!(rt; new_counts(rt.alloc(), ROWS)?);
     Ok(())
 }

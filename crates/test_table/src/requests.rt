@@ -1,6 +1,6 @@
 // Datagrams at the request port.
 use crate::archive::{
-    Archive, Input, Left, NOTHING, Then, client, is_wanted, other_of, other_of_new,
+    Archive, Input, Left, NOTHING, Row, Then, client, is_wanted, other_of, other_of_new,
 };
 use archive_table::NoKeeper;
 use std::alloc::Global;
@@ -16,37 +16,37 @@ const NO_SUCH_FILE: &[u8; 17] = b"\0\x05\0\x01no such file\0";
 
 #[test]
 fn a_request_to_read(rt: HostRuntime) -> Result<(), Fail> {
-    let rows = [
+    const ROWS: &[Row] = &[
         (
             Input::Ask(4000, 2, RRQ_WITH_OPTION),
             Then::Opens(4000, 2, DATA_EMPTY_MS),
         ),
         (Input::Recv(4000, 2, ACK_1), Then::Ends),
     ];
-    assert_eq!(rt; other_of_new(rt.alloc(), &rows, NOTHING)?, None);
+    assert_eq!(rt; other_of_new(rt.alloc(), ROWS, NOTHING)?, None);
     Ok(())
 }
 
 // A refused request leaves neither a transfer nor its port in use: the mode is checked before the name.
 #[test]
 fn requests_refused(rt: HostRuntime) -> Result<(), Fail> {
-    let octet_only = Then::Sends(6969, 2, OCTET_ONLY);
-    let no_such_file = Then::Sends(6969, 2, NO_SUCH_FILE);
-    let rows = [
-        (Input::Ask(4000, 2, b"\0\x01ms.tws\0netascii\0"), octet_only),
-        (Input::Ask(4000, 2, b"\0\x01MS.TWS\0netascii\0"), octet_only),
-        (Input::Ask(4000, 2, b"\0\x02upload.tws\0mail\0"), octet_only),
-        (Input::Ask(4000, 2, b"\0\x01MS.TWS\0octet\0"), no_such_file),
-        (Input::Ask(4000, 2, b"\0\x01\0octet\0"), no_such_file),
+    const OTHER_MODE: Then<'static> = Then::Sends(6969, 2, OCTET_ONLY);
+    const OTHER_NAME: Then<'static> = Then::Sends(6969, 2, NO_SUCH_FILE);
+    const ROWS: &[Row] = &[
+        (Input::Ask(4000, 2, b"\0\x01ms.tws\0netascii\0"), OTHER_MODE),
+        (Input::Ask(4000, 2, b"\0\x01MS.TWS\0netascii\0"), OTHER_MODE),
+        (Input::Ask(4000, 2, b"\0\x02upload.tws\0mail\0"), OTHER_MODE),
+        (Input::Ask(4000, 2, b"\0\x01MS.TWS\0octet\0"), OTHER_NAME),
+        (Input::Ask(4000, 2, b"\0\x01\0octet\0"), OTHER_NAME),
     ];
-    assert_eq!(rt; other_of_new(rt.alloc(), &rows, NOTHING)?, None);
+    assert_eq!(rt; other_of_new(rt.alloc(), ROWS, NOTHING)?, None);
     Ok(())
 }
 
 // No other datagram at the request port has an effect.
 #[test]
 fn no_requests(rt: HostRuntime) -> Result<(), Fail> {
-    let rows = [
+    const ROWS: &[Row] = &[
         (Input::Ask(4000, 2, b""), Then::Nothing),
         (Input::Ask(4000, 2, b"\0\x03\0\x01"), Then::Nothing),
         (Input::Ask(4000, 2, ACK_0), Then::Nothing),
@@ -58,7 +58,7 @@ fn no_requests(rt: HostRuntime) -> Result<(), Fail> {
         ),
         (Input::Ask(4000, 2, &[0; 517]), Then::Nothing),
     ];
-    assert_eq!(rt; other_of_new(rt.alloc(), &rows, NOTHING)?, None);
+    assert_eq!(rt; other_of_new(rt.alloc(), ROWS, NOTHING)?, None);
     Ok(())
 }
 
@@ -140,14 +140,14 @@ fn a_busy_server(rt: HostRuntime) -> Result<(), Fail> {
         ),
         (Input::Ask(4066, 3, RRQ_WITH_OPTION), busy),
     ];
-    let left = Left {
+    const LEFT: Left<'static> = Left {
         live: 64,
         least: Some(4002),
         ..NOTHING
     };
     let archive = full(rt.alloc())?;
     assert_eq!(rt;
-        other_of(rt.alloc(), archive, &mut NoKeeper, &rows, left)?,
+        other_of(rt.alloc(), archive, &mut NoKeeper, &rows, LEFT)?,
         None
     );
     Ok(())

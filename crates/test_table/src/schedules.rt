@@ -251,18 +251,29 @@ fn turn(
     Ok(())
 }
 
-fn run(alloc: Global, draws: &mut Draws, counts: &mut Counts, number: u16) -> Result<(), Fail> {
+fn run_both(
+    alloc: Global,
+    draws: &mut Draws,
+    both: &mut Both,
+    counts: &mut Counts,
+    number: u16,
+) -> Result<(), Fail> {
     let crowded = number % 50 == 0;
+    let inputs = if crowded { 200 } else { 80 };
+    for _ in 0..inputs {
+        turn(alloc, draws, both, counts, number, crowded)?;
+    }
+    Ok(())
+}
+
+// The same for two new servers.
+fn run(alloc: Global, draws: &mut Draws, counts: &mut Counts, number: u16) -> Result<(), Fail> {
     let mut both = Both {
         archive: Archive::new(alloc),
         keeper: MemoryKeeper::new(alloc),
         plain: Plain::new(alloc),
     };
-    let inputs = if crowded { 200 } else { 80 };
-    for _ in 0..inputs {
-        turn(alloc, draws, &mut both, counts, number, crowded)?;
-    }
-    Ok(())
+    run_both(alloc, draws, &mut both, counts, number)
 }
 
 // What happened in a thousand runs, in which both servers agreed.
