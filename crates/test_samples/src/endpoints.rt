@@ -12,6 +12,22 @@ pub const PEER: Endpoint = Endpoint {
     port: 4000,
 };
 
+/// Those of its second, third and fourth.
+pub const SECOND_PEER: Endpoint = Endpoint {
+    host: 1,
+    port: 4001,
+};
+
+pub const THIRD_PEER: Endpoint = Endpoint {
+    host: 1,
+    port: 4002,
+};
+
+pub const FOURTH_PEER: Endpoint = Endpoint {
+    host: 1,
+    port: 4003,
+};
+
 /// A port of the server's host.
 pub fn at(port: u16) -> Endpoint {
     Endpoint { host: 1, port }

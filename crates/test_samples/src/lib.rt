@@ -14,5 +14,7 @@ pub use datagrams::{
     WRQ, whole_block,
 };
 pub use draws::Draws;
-pub use endpoints::{ALICE, BOB, CAROL, DAVE, PEER, SERVER, at, client};
+pub use endpoints::{
+    ALICE, BOB, CAROL, DAVE, FOURTH_PEER, PEER, SECOND_PEER, SERVER, THIRD_PEER, at, client,
+};
 pub use files::{CUT_MOVE, EMPTY_LYNX, EMPTY_MS, HUNDRED, NINETY, UNREADABLE, join, record, steps};

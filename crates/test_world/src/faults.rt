@@ -19,8 +19,8 @@ fn a_delivery_of_what_was_not_sent(rt: HostRuntime) -> Result<(), Fail> {
         fault(rt.alloc(), &[Act::Ask(0, 4000)])?,
         Some(WorldFault::BadEvent(0))
     );
-    let acts = [Act::Put(ALICE, HUNDRED), Act::Ask(0, 4000), Act::Deliver(2)];
-    assert_eq!(rt; fault(rt.alloc(), &acts)?, Some(WorldFault::BadEvent(2)));
+    const ACTS: &[Act<'static>] = &[Act::Put(ALICE, HUNDRED), Act::Ask(0, 4000), Act::Deliver(2)];
+    assert_eq!(rt; fault(rt.alloc(), ACTS)?, Some(WorldFault::BadEvent(2)));
     Ok(())
 }
 
@@ -75,19 +75,19 @@ fn a_put_of_a_file_that_is_too_long(rt: HostRuntime) -> Result<(), Fail> {
 
 #[test]
 fn two_operations_of_one_client(rt: HostRuntime) -> Result<(), Fail> {
-    let acts = [
+    const ACTS: &[Act<'static>] = &[
         Act::Get(ALICE, Ruleset::Lynx),
         Act::Ask(0, 4000),
         Act::Get(ALICE, Ruleset::Ms),
     ];
-    assert_eq!(rt; fault(rt.alloc(), &acts)?, Some(WorldFault::PortReused(2)));
+    assert_eq!(rt; fault(rt.alloc(), ACTS)?, Some(WorldFault::PortReused(2)));
     Ok(())
 }
 
 // The transfer has ended by time-outs, so its port is free; but not for the same client.
 #[test]
 fn two_transfers_of_one_client_at_one_port(rt: HostRuntime) -> Result<(), Fail> {
-    let acts = [
+    const ACTS: &[Act<'static>] = &[
         Act::Put(ALICE, HUNDRED),
         Act::Ask(0, 4000),
         Act::PortWaits(4000),
@@ -97,14 +97,14 @@ fn two_transfers_of_one_client_at_one_port(rt: HostRuntime) -> Result<(), Fail> 
         Act::PortWaits(4000),
         Act::Ask(0, 4000),
     ];
-    assert_eq!(rt; fault(rt.alloc(), &acts)?, Some(WorldFault::PortReused(7)));
+    assert_eq!(rt; fault(rt.alloc(), ACTS)?, Some(WorldFault::PortReused(7)));
     Ok(())
 }
 
 // What the keeper was given before the fault stays.
 #[test]
 fn a_fault_after_a_file_was_taken(rt: HostRuntime) -> Result<(), Fail> {
-    let acts = [
+    const ACTS: &[Act<'static>] = &[
         Act::Put(ALICE, HUNDRED),
         Act::Ask(0, 4000),
         Act::Deliver(1),
@@ -112,7 +112,7 @@ fn a_fault_after_a_file_was_taken(rt: HostRuntime) -> Result<(), Fail> {
         Act::Deliver(4),
     ];
     assert_eq!(rt;
-        failing(rt.alloc(), NO_CALL, &acts)?,
+        failing(rt.alloc(), NO_CALL, ACTS)?,
         (Some(WorldFault::BadEvent(4)), true)
     );
     Ok(())
@@ -121,21 +121,21 @@ fn a_fault_after_a_file_was_taken(rt: HostRuntime) -> Result<(), Fail> {
 // A time-out of a port without a transfer, and a datagram for an endpoint without a client.
 #[test]
 fn events_that_change_nothing(rt: HostRuntime) -> Result<(), Fail> {
-    let nobody = Endpoint {
+    const NOBODY: Endpoint = Endpoint {
         host: 9,
         port: 5000,
     };
-    let acts = [
+    const ACTS: &[Act<'static>] = &[
         Act::PortWaits(4000),
         Act::Put(ALICE, HUNDRED),
-        Act::Stray(BOB, nobody, RRQ_MS),
+        Act::Stray(BOB, NOBODY, RRQ_MS),
         Act::Deliver(1),
         Act::PortWaits(6969),
     ];
-    let wanted = Wanted {
-        datagrams: &[(ALICE, SERVER, WRQ), (BOB, nobody, RRQ_MS)],
+    const WANTED: Wanted<'static> = Wanted {
+        datagrams: &[(ALICE, SERVER, WRQ), (BOB, NOBODY, RRQ_MS)],
         ..NOTHING
     };
-    assert_eq!(rt; other_after(rt.alloc(), &acts, NO_CALL, &wanted)?, None);
+    assert_eq!(rt; other_after(rt.alloc(), ACTS, NO_CALL, &WANTED)?, None);
     Ok(())
 }

@@ -6,7 +6,8 @@ use std::alloc::Global;
 use std::test::Fail;
 use test_samples::{
     ACK_0, ACK_1, ALICE, BOB, BUSY, CAROL, DATA_EMPTY_LYNX, DATA_EMPTY_MS, DATA_HUNDRED,
-    DATA_NINETY, DAVE, EMPTY_LYNX, EMPTY_MS, HUNDRED, NINETY, RRQ_LYNX, RRQ_MS, WRQ, at, client,
+    DATA_NINETY, DAVE, EMPTY_LYNX, EMPTY_MS, FOURTH_PEER, HUNDRED, NINETY, PEER, RRQ_LYNX, RRQ_MS,
+    SECOND_PEER, THIRD_PEER, WRQ, at, client,
 };
 use tws_file::Ruleset;
 
@@ -34,7 +35,7 @@ const ACROSS: [Act<'static>; 15] = [
 // The first get still has the collection as it was when it was opened, and the second one has the new one.
 #[test]
 fn a_get_across_a_put(rt: HostRuntime) -> Result<(), Fail> {
-    let wanted = Wanted {
+    const WANTED: Wanted<'static> = Wanted {
         taken: &[(ALICE, HUNDRED), (CAROL, NINETY)],
         // The last ACK of the second put is never delivered.
         sent: &[ALICE],
@@ -48,19 +49,19 @@ fn a_get_across_a_put(rt: HostRuntime) -> Result<(), Fail> {
         lynx: NINETY,
         datagrams: &[
             (ALICE, SERVER, WRQ),
-            (at(4000), ALICE, ACK_0),
-            (ALICE, at(4000), DATA_HUNDRED),
-            (at(4000), ALICE, ACK_1),
+            (PEER, ALICE, ACK_0),
+            (ALICE, PEER, DATA_HUNDRED),
+            (PEER, ALICE, ACK_1),
             (BOB, SERVER, RRQ_LYNX),
-            (at(4001), BOB, DATA_HUNDRED),
+            (SECOND_PEER, BOB, DATA_HUNDRED),
             (CAROL, SERVER, WRQ),
-            (at(4002), CAROL, ACK_0),
-            (CAROL, at(4002), DATA_NINETY),
-            (at(4002), CAROL, ACK_1),
-            (BOB, at(4001), ACK_1),
+            (THIRD_PEER, CAROL, ACK_0),
+            (CAROL, THIRD_PEER, DATA_NINETY),
+            (THIRD_PEER, CAROL, ACK_1),
+            (BOB, SECOND_PEER, ACK_1),
             (DAVE, SERVER, RRQ_LYNX),
-            (at(4003), DAVE, DATA_NINETY),
-            (DAVE, at(4003), ACK_1),
+            (FOURTH_PEER, DAVE, DATA_NINETY),
+            (DAVE, FOURTH_PEER, ACK_1),
         ],
         given: &[
             (Ruleset::Lynx, HUNDRED, true),
@@ -68,29 +69,29 @@ fn a_get_across_a_put(rt: HostRuntime) -> Result<(), Fail> {
         ],
         ..NOTHING
     };
-    assert_eq!(rt; other_after(rt.alloc(), &ACROSS, NO_CALL, &wanted)?, None);
+    assert_eq!(rt; other_after(rt.alloc(), &ACROSS, NO_CALL, &WANTED)?, None);
     Ok(())
 }
 
 #[test]
 fn a_get_of_an_empty_collection(rt: HostRuntime) -> Result<(), Fail> {
-    let acts = [
+    const ACTS: &[Act<'static>] = &[
         Act::Get(ALICE, Ruleset::Ms),
         Act::Ask(0, 4000),
         Act::Deliver(1),
         Act::Deliver(2),
     ];
-    let wanted = Wanted {
+    const WANTED: Wanted<'static> = Wanted {
         got: &[(ALICE, EMPTY_MS)],
         opened: &[(ALICE, 4000, Asked::Read(Ruleset::Ms), 0)],
         datagrams: &[
             (ALICE, SERVER, RRQ_MS),
-            (at(4000), ALICE, DATA_EMPTY_MS),
-            (ALICE, at(4000), ACK_1),
+            (PEER, ALICE, DATA_EMPTY_MS),
+            (ALICE, PEER, ACK_1),
         ],
         ..NOTHING
     };
-    assert_eq!(rt; other_after(rt.alloc(), &acts, NO_CALL, &wanted)?, None);
+    assert_eq!(rt; other_after(rt.alloc(), ACTS, NO_CALL, &WANTED)?, None);
     Ok(())
 }
 

@@ -4,7 +4,7 @@ use archive_world::{Asked, SERVER};
 use std::test::Fail;
 use test_samples::{
     ACK_0, ACK_1, ACK_2, ALICE, BOB, CAROL, DATA_HUNDRED, DATA_UNREADABLE, EMPTY_LYNX, EMPTY_MS,
-    HUNDRED, UNKNOWN_TRANSFER, UNREADABLE, WRQ, at, whole_block,
+    HUNDRED, PEER, SECOND_PEER, THIRD_PEER, UNKNOWN_TRANSFER, UNREADABLE, WRQ, at, whole_block,
 };
 use tws_file::Ruleset;
 
@@ -46,7 +46,7 @@ fn a_put_of_one_whole_block(rt: HostRuntime) -> Result<(), Fail> {
 // taken once.
 #[test]
 fn a_request_that_comes_twice(rt: HostRuntime) -> Result<(), Fail> {
-    let acts = [
+    const ACTS: &[Act<'static>] = &[
         Act::Put(ALICE, HUNDRED),
         Act::Ask(0, 4000),
         Act::Ask(0, 4001),
@@ -56,29 +56,29 @@ fn a_request_that_comes_twice(rt: HostRuntime) -> Result<(), Fail> {
         Act::Deliver(3),
         Act::Deliver(5),
     ];
-    let wanted = Wanted {
+    const WANTED: Wanted<'static> = Wanted {
         opened: &[
             (ALICE, 4000, Asked::Write, 0),
             (ALICE, 4001, Asked::Write, 0),
         ],
         datagrams: &[
             (ALICE, SERVER, WRQ),
-            (at(4000), ALICE, ACK_0),
-            (at(4001), ALICE, ACK_0),
-            (ALICE, at(4000), DATA_HUNDRED),
-            (ALICE, at(4001), UNKNOWN_TRANSFER),
-            (at(4000), ALICE, ACK_1),
+            (PEER, ALICE, ACK_0),
+            (SECOND_PEER, ALICE, ACK_0),
+            (ALICE, PEER, DATA_HUNDRED),
+            (ALICE, SECOND_PEER, UNKNOWN_TRANSFER),
+            (PEER, ALICE, ACK_1),
         ],
         ..ONE_PUT
     };
-    assert_eq!(rt; other_after(rt.alloc(), &acts, NO_CALL, &wanted)?, None);
+    assert_eq!(rt; other_after(rt.alloc(), ACTS, NO_CALL, &WANTED)?, None);
     Ok(())
 }
 
 // The client sends its block again three times, and each copy is acknowledged. The file is taken once.
 #[test]
 fn a_last_ack_that_comes_late(rt: HostRuntime) -> Result<(), Fail> {
-    let acts = [
+    const ACTS: &[Act<'static>] = &[
         Act::Put(ALICE, HUNDRED),
         Act::Ask(0, 4000),
         Act::Deliver(1),
@@ -91,22 +91,22 @@ fn a_last_ack_that_comes_late(rt: HostRuntime) -> Result<(), Fail> {
         Act::Deliver(8),
         Act::Deliver(9),
     ];
-    let wanted = Wanted {
+    const WANTED: Wanted<'static> = Wanted {
         datagrams: &[
             (ALICE, SERVER, WRQ),
-            (at(4000), ALICE, ACK_0),
-            (ALICE, at(4000), DATA_HUNDRED),
-            (at(4000), ALICE, ACK_1),
-            (ALICE, at(4000), DATA_HUNDRED),
-            (at(4000), ALICE, ACK_1),
-            (ALICE, at(4000), DATA_HUNDRED),
-            (at(4000), ALICE, ACK_1),
-            (ALICE, at(4000), DATA_HUNDRED),
-            (at(4000), ALICE, ACK_1),
+            (PEER, ALICE, ACK_0),
+            (ALICE, PEER, DATA_HUNDRED),
+            (PEER, ALICE, ACK_1),
+            (ALICE, PEER, DATA_HUNDRED),
+            (PEER, ALICE, ACK_1),
+            (ALICE, PEER, DATA_HUNDRED),
+            (PEER, ALICE, ACK_1),
+            (ALICE, PEER, DATA_HUNDRED),
+            (PEER, ALICE, ACK_1),
         ],
         ..ONE_PUT
     };
-    assert_eq!(rt; other_after(rt.alloc(), &acts, NO_CALL, &wanted)?, None);
+    assert_eq!(rt; other_after(rt.alloc(), ACTS, NO_CALL, &WANTED)?, None);
     Ok(())
 }
 
@@ -153,7 +153,7 @@ const THREE_PUTS: [Act<'static>; 15] = [
 // It is taken three times, and kept once.
 #[test]
 fn one_file_of_three_clients(rt: HostRuntime) -> Result<(), Fail> {
-    let wanted = Wanted {
+    const WANTED: Wanted<'static> = Wanted {
         taken: &[(ALICE, HUNDRED), (BOB, HUNDRED), (CAROL, HUNDRED)],
         sent: &[ALICE, BOB, CAROL],
         opened: &[
@@ -164,23 +164,23 @@ fn one_file_of_three_clients(rt: HostRuntime) -> Result<(), Fail> {
         lynx: HUNDRED,
         datagrams: &[
             (ALICE, SERVER, WRQ),
-            (at(4000), ALICE, ACK_0),
-            (ALICE, at(4000), DATA_HUNDRED),
-            (at(4000), ALICE, ACK_1),
+            (PEER, ALICE, ACK_0),
+            (ALICE, PEER, DATA_HUNDRED),
+            (PEER, ALICE, ACK_1),
             (BOB, SERVER, WRQ),
-            (at(4001), BOB, ACK_0),
-            (BOB, at(4001), DATA_HUNDRED),
-            (at(4001), BOB, ACK_1),
+            (SECOND_PEER, BOB, ACK_0),
+            (BOB, SECOND_PEER, DATA_HUNDRED),
+            (SECOND_PEER, BOB, ACK_1),
             (CAROL, SERVER, WRQ),
-            (at(4002), CAROL, ACK_0),
-            (CAROL, at(4002), DATA_HUNDRED),
-            (at(4002), CAROL, ACK_1),
+            (THIRD_PEER, CAROL, ACK_0),
+            (CAROL, THIRD_PEER, DATA_HUNDRED),
+            (THIRD_PEER, CAROL, ACK_1),
         ],
         given: &[(Ruleset::Lynx, HUNDRED, true)],
         ..NOTHING
     };
     assert_eq!(rt;
-        other_after(rt.alloc(), &THREE_PUTS, NO_CALL, &wanted)?,
+        other_after(rt.alloc(), &THREE_PUTS, NO_CALL, &WANTED)?,
         None
     );
     Ok(())
@@ -189,25 +189,25 @@ fn one_file_of_three_clients(rt: HostRuntime) -> Result<(), Fail> {
 // The bytes are taken like any file, and change no collection.
 #[test]
 fn a_file_that_is_no_solution_file(rt: HostRuntime) -> Result<(), Fail> {
-    let acts = [
+    const ACTS: &[Act<'static>] = &[
         Act::Put(ALICE, UNREADABLE),
         Act::Ask(0, 4000),
         Act::Deliver(1),
         Act::Deliver(2),
         Act::Deliver(3),
     ];
-    let wanted = Wanted {
+    const WANTED: Wanted<'static> = Wanted {
         taken: &[(ALICE, UNREADABLE)],
         sent: &[ALICE],
         opened: &[(ALICE, 4000, Asked::Write, 0)],
         datagrams: &[
             (ALICE, SERVER, WRQ),
-            (at(4000), ALICE, ACK_0),
-            (ALICE, at(4000), DATA_UNREADABLE),
-            (at(4000), ALICE, ACK_1),
+            (PEER, ALICE, ACK_0),
+            (ALICE, PEER, DATA_UNREADABLE),
+            (PEER, ALICE, ACK_1),
         ],
         ..NOTHING
     };
-    assert_eq!(rt; other_after(rt.alloc(), &acts, NO_CALL, &wanted)?, None);
+    assert_eq!(rt; other_after(rt.alloc(), ACTS, NO_CALL, &WANTED)?, None);
     Ok(())
 }

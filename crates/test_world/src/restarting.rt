@@ -5,15 +5,15 @@ use archive_world::{Asked, SERVER, WorldFault};
 use std::alloc::Global;
 use std::test::Fail;
 use test_samples::{
-    ACK_0, ACK_1, ALICE, BOB, DATA_HUNDRED, EMPTY_MS, HUNDRED, NOT_KEPT, RRQ_LYNX, UNREADABLE, WRQ,
-    at,
+    ACK_0, ACK_1, ALICE, BOB, DATA_HUNDRED, EMPTY_MS, HUNDRED, NOT_KEPT, PEER, RRQ_LYNX,
+    SECOND_PEER, UNREADABLE, WRQ, at,
 };
 use tws_file::Ruleset;
 
 // What was taken before the restart is fetched after it. A time-out of the port that had a transfer changes nothing.
 #[test]
 fn a_restart_between_a_put_and_a_get(rt: HostRuntime) -> Result<(), Fail> {
-    let acts = [
+    const ACTS: &[Act<'static>] = &[
         Act::Put(ALICE, HUNDRED),
         Act::Ask(0, 4000),
         Act::Deliver(1),
@@ -25,7 +25,7 @@ fn a_restart_between_a_put_and_a_get(rt: HostRuntime) -> Result<(), Fail> {
         Act::Ask(4, 4001),
         Act::Deliver(5),
     ];
-    let wanted = Wanted {
+    const WANTED: Wanted<'static> = Wanted {
         got: &[(BOB, HUNDRED)],
         opened: &[
             (ALICE, 4000, Asked::Write, 0),
@@ -33,23 +33,23 @@ fn a_restart_between_a_put_and_a_get(rt: HostRuntime) -> Result<(), Fail> {
         ],
         datagrams: &[
             (ALICE, SERVER, WRQ),
-            (at(4000), ALICE, ACK_0),
-            (ALICE, at(4000), DATA_HUNDRED),
-            (at(4000), ALICE, ACK_1),
+            (PEER, ALICE, ACK_0),
+            (ALICE, PEER, DATA_HUNDRED),
+            (PEER, ALICE, ACK_1),
             (BOB, SERVER, RRQ_LYNX),
-            (at(4001), BOB, DATA_HUNDRED),
-            (BOB, at(4001), ACK_1),
+            (SECOND_PEER, BOB, DATA_HUNDRED),
+            (BOB, SECOND_PEER, ACK_1),
         ],
         ..ONE_PUT
     };
-    assert_eq!(rt; other_after(rt.alloc(), &acts, NO_CALL, &wanted)?, None);
+    assert_eq!(rt; other_after(rt.alloc(), ACTS, NO_CALL, &WANTED)?, None);
     Ok(())
 }
 
 // The transfer at the port is gone after the restart; the same client may not have another one there.
 #[test]
 fn a_port_from_before_the_restart(rt: HostRuntime) -> Result<(), Fail> {
-    let acts = [
+    const ACTS: &[Act<'static>] = &[
         Act::Put(ALICE, HUNDRED),
         Act::Ask(0, 4000),
         Act::Deliver(1),
@@ -58,14 +58,14 @@ fn a_port_from_before_the_restart(rt: HostRuntime) -> Result<(), Fail> {
         Act::Restart,
         Act::Ask(0, 4000),
     ];
-    assert_eq!(rt; fault(rt.alloc(), &acts)?, Some(WorldFault::PortReused(6)));
+    assert_eq!(rt; fault(rt.alloc(), ACTS)?, Some(WorldFault::PortReused(6)));
     Ok(())
 }
 
 // The first keep fails: nothing is taken, and the client is sent an ERROR. The next client's file is taken.
 #[test]
 fn a_keep_that_fails(rt: HostRuntime) -> Result<(), Fail> {
-    let acts = [
+    const ACTS: &[Act<'static>] = &[
         Act::Put(ALICE, HUNDRED),
         Act::Ask(0, 4000),
         Act::Deliver(1),
@@ -79,20 +79,20 @@ fn a_keep_that_fails(rt: HostRuntime) -> Result<(), Fail> {
         Act::Deliver(6),
         Act::Deliver(7),
     ];
-    let wanted = Wanted {
+    const WANTED: Wanted<'static> = Wanted {
         taken: &[(BOB, HUNDRED)],
         sent: &[BOB],
         opened: &[(ALICE, 4000, Asked::Write, 0), (BOB, 4001, Asked::Write, 0)],
         lynx: HUNDRED,
         datagrams: &[
             (ALICE, SERVER, WRQ),
-            (at(4000), ALICE, ACK_0),
-            (ALICE, at(4000), DATA_HUNDRED),
-            (at(4000), ALICE, NOT_KEPT),
+            (PEER, ALICE, ACK_0),
+            (ALICE, PEER, DATA_HUNDRED),
+            (PEER, ALICE, NOT_KEPT),
             (BOB, SERVER, WRQ),
-            (at(4001), BOB, ACK_0),
-            (BOB, at(4001), DATA_HUNDRED),
-            (at(4001), BOB, ACK_1),
+            (SECOND_PEER, BOB, ACK_0),
+            (BOB, SECOND_PEER, DATA_HUNDRED),
+            (SECOND_PEER, BOB, ACK_1),
         ],
         given: &[
             (Ruleset::Lynx, HUNDRED, false),
@@ -100,7 +100,7 @@ fn a_keep_that_fails(rt: HostRuntime) -> Result<(), Fail> {
         ],
         ..NOTHING
     };
-    assert_eq!(rt; other_after(rt.alloc(), &acts, 1, &wanted)?, None);
+    assert_eq!(rt; other_after(rt.alloc(), ACTS, 1, &WANTED)?, None);
     Ok(())
 }
 
@@ -116,19 +116,19 @@ const PUT_AND_RESTART: [Act<'static>; 5] = [
 // The keep fails: nothing was taken, and the server loads nothing when it starts again.
 #[test]
 fn a_restart_after_a_keep_that_fails(rt: HostRuntime) -> Result<(), Fail> {
-    let wanted = Wanted {
+    const WANTED: Wanted<'static> = Wanted {
         opened: &[(ALICE, 4000, Asked::Write, 0)],
         datagrams: &[
             (ALICE, SERVER, WRQ),
-            (at(4000), ALICE, ACK_0),
-            (ALICE, at(4000), DATA_HUNDRED),
-            (at(4000), ALICE, NOT_KEPT),
+            (PEER, ALICE, ACK_0),
+            (ALICE, PEER, DATA_HUNDRED),
+            (PEER, ALICE, NOT_KEPT),
         ],
         given: &[(Ruleset::Lynx, HUNDRED, false)],
         ..NOTHING
     };
     assert_eq!(rt;
-        other_after(rt.alloc(), &PUT_AND_RESTART, 1, &wanted)?,
+        other_after(rt.alloc(), &PUT_AND_RESTART, 1, &WANTED)?,
         None
     );
     Ok(())
@@ -137,18 +137,18 @@ fn a_restart_after_a_keep_that_fails(rt: HostRuntime) -> Result<(), Fail> {
 // No call fails: the file was taken, and the server has it again. The client has not received the last ACK.
 #[test]
 fn a_restart_after_a_put(rt: HostRuntime) -> Result<(), Fail> {
-    let wanted = Wanted {
+    const WANTED: Wanted<'static> = Wanted {
         sent: &[],
         datagrams: &[
             (ALICE, SERVER, WRQ),
-            (at(4000), ALICE, ACK_0),
-            (ALICE, at(4000), DATA_HUNDRED),
-            (at(4000), ALICE, ACK_1),
+            (PEER, ALICE, ACK_0),
+            (ALICE, PEER, DATA_HUNDRED),
+            (PEER, ALICE, ACK_1),
         ],
         ..ONE_PUT
     };
     assert_eq!(rt;
-        other_after(rt.alloc(), &PUT_AND_RESTART, NO_CALL, &wanted)?,
+        other_after(rt.alloc(), &PUT_AND_RESTART, NO_CALL, &WANTED)?,
         None
     );
     Ok(())

@@ -8,7 +8,8 @@ use archive_world::{Asked, Datagram, Event, Outcome, SERVER, replay};
 use std::alloc::Global;
 use std::test::Fail;
 use test_samples::{
-    ALICE, BOB, CAROL, DAVE, Draws, EMPTY_LYNX, EMPTY_MS, NOT_KEPT, PEER, RRQ_LYNX, WRQ, at,
+    ALICE, BOB, CAROL, DAVE, Draws, EMPTY_LYNX, EMPTY_MS, FOURTH_PEER, NOT_KEPT, PEER, RRQ_LYNX,
+    SECOND_PEER, THIRD_PEER, WRQ,
 };
 use tftp_packet::Endpoint;
 use tws_file::Ruleset;
@@ -151,17 +152,15 @@ const GET: [Act<'static>; 8] = [
 ];
 
 // What is sent in it.
-fn get_lines() -> [(Endpoint, Endpoint, Line); 7] {
-    [
-        (BOB, SERVER, Line::Read),
-        (at(4001), BOB, Line::Slow(1)),
-        (BOB, at(4001), Line::Ack(1)),
-        (at(4001), BOB, Line::Slow(2)),
-        (BOB, at(4001), Line::Ack(2)),
-        (at(4001), BOB, Line::Slow(3)),
-        (BOB, at(4001), Line::Ack(3)),
-    ]
-}
+const GET_LINES: [(Endpoint, Endpoint, Line); 7] = [
+    (BOB, SERVER, Line::Read),
+    (SECOND_PEER, BOB, Line::Slow(1)),
+    (BOB, SECOND_PEER, Line::Ack(1)),
+    (SECOND_PEER, BOB, Line::Slow(2)),
+    (BOB, SECOND_PEER, Line::Ack(2)),
+    (SECOND_PEER, BOB, Line::Slow(3)),
+    (BOB, SECOND_PEER, Line::Ack(3)),
+];
 
 // Whether the file was taken, counts as sent, and was fetched.
 fn has_gone_round(outcome: &Outcome, file: &[u8]) -> bool {
@@ -176,7 +175,7 @@ fn has_gone_round(outcome: &Outcome, file: &[u8]) -> bool {
 fn is_right_after_get(outcome: &Outcome, file: &[u8]) -> (bool, bool, bool) {
     let opened = [(ALICE, 4000, Asked::Write, 0), (BOB, 4001, READ, 1)];
     (
-        were_sent_after_put(outcome.datagrams.as_slice(), &get_lines()),
+        were_sent_after_put(outcome.datagrams.as_slice(), &GET_LINES),
         has_gone_round(outcome, file),
         are_opened(outcome.opened.as_slice(), &opened),
     )
@@ -222,30 +221,28 @@ fn crossing(fast: &[u8]) -> [Act<'_>; 23] {
 }
 
 // What is sent in the crossing.
-fn crossed_lines() -> [(Endpoint, Endpoint, Line); 20] {
-    [
-        (BOB, SERVER, Line::Read),
-        (CAROL, SERVER, Line::Write),
-        (at(4001), BOB, Line::Slow(1)),
-        (at(4002), CAROL, Line::Ack(0)),
-        (BOB, at(4001), Line::Ack(1)),
-        (CAROL, at(4002), Line::Fast(1)),
-        (DAVE, SERVER, Line::Read),
-        (at(4002), CAROL, Line::Ack(1)),
-        (at(4003), DAVE, Line::Slow(1)),
-        (at(4001), BOB, Line::Slow(2)),
-        (CAROL, at(4002), Line::Fast(2)),
-        (BOB, at(4001), Line::Ack(2)),
-        (at(4002), CAROL, Line::Ack(2)),
-        (DAVE, at(4003), Line::Ack(1)),
-        (at(4003), DAVE, Line::Slow(2)),
-        (at(4001), BOB, Line::Slow(3)),
-        (BOB, at(4001), Line::Ack(3)),
-        (DAVE, at(4003), Line::Ack(2)),
-        (at(4003), DAVE, Line::Slow(3)),
-        (DAVE, at(4003), Line::Ack(3)),
-    ]
-}
+const CROSSED_LINES: [(Endpoint, Endpoint, Line); 20] = [
+    (BOB, SERVER, Line::Read),
+    (CAROL, SERVER, Line::Write),
+    (SECOND_PEER, BOB, Line::Slow(1)),
+    (THIRD_PEER, CAROL, Line::Ack(0)),
+    (BOB, SECOND_PEER, Line::Ack(1)),
+    (CAROL, THIRD_PEER, Line::Fast(1)),
+    (DAVE, SERVER, Line::Read),
+    (THIRD_PEER, CAROL, Line::Ack(1)),
+    (FOURTH_PEER, DAVE, Line::Slow(1)),
+    (SECOND_PEER, BOB, Line::Slow(2)),
+    (CAROL, THIRD_PEER, Line::Fast(2)),
+    (BOB, SECOND_PEER, Line::Ack(2)),
+    (THIRD_PEER, CAROL, Line::Ack(2)),
+    (DAVE, FOURTH_PEER, Line::Ack(1)),
+    (FOURTH_PEER, DAVE, Line::Slow(2)),
+    (SECOND_PEER, BOB, Line::Slow(3)),
+    (BOB, SECOND_PEER, Line::Ack(3)),
+    (DAVE, FOURTH_PEER, Line::Ack(2)),
+    (FOURTH_PEER, DAVE, Line::Slow(3)),
+    (DAVE, FOURTH_PEER, Line::Ack(3)),
+];
 
 // The files of the crossing: which are taken, count as sent, and are fetched. The gets still have the slow one.
 fn has_crossed(outcome: &Outcome, slow: &[u8], fast: &[u8]) -> bool {
@@ -265,7 +262,7 @@ fn is_right_after_crossing(outcome: &Outcome, slow: &[u8], fast: &[u8]) -> (bool
         (DAVE, 4003, READ, 1),
     ];
     (
-        were_sent_after_put(outcome.datagrams.as_slice(), &crossed_lines()),
+        were_sent_after_put(outcome.datagrams.as_slice(), &CROSSED_LINES),
         has_crossed(outcome, slow, fast),
         are_opened(outcome.opened.as_slice(), &opened),
     )
