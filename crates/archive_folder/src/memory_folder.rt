@@ -1,6 +1,6 @@
 //! A folder in memory.
 
-ghost use Rattle.std.specs.Prelude.{◌≡◌, ◌≢◌, ◌⊎◌, ◌≤◌, ◌++◌, ◌∷◌, [], ℕ, List, Option, true, None, Some, length, IfOk, OnOk, OnErr};
+ghost use Rattle.std.specs.Prelude.{◌≡◌, ◌≢◌, ◌⊎◌, ◌≤◌, ◌++◌, ◌∷◌, [], ℕ, List, Option, true, false, None, Some, length, IfOk, OnOk, OnErr};
 ghost use Rattle.std.proofs.Common.{inl};
 ghost use Rattle.archive_table.specs.Keeper.{texts_of};
 ghost use Rattle.archive_folder.specs.declared.file_name.FileName.{FileName};
@@ -60,6 +60,8 @@ impl MemoryFolder {
     ///
     /// Out of memory.
     pub fn after_crash(self, are_names_lost: bool) -> Result<Self, AllocError>
+        ensures lost { are_names_lost ≡ true → IfOk result (λ after. (name : FileName) → text_of (at_name after.files name) ≡ texts_of (at_name self.disk name)) }
+        ensures kept { are_names_lost ≡ false → IfOk result (λ after. (name : FileName) → text_of (at_name after.files name) ≡ synced_of (at_name self.files name)) }
         ensures left { IfOk result (λ after. (name : FileName) → memory_leaves self name (text_of (at_name after.files name))) }
         ensures synced { IfOk result (λ after. (name : FileName) → synced_of (at_name after.files name) ≡ text_of (at_name after.files name)) }
         ensures disk { IfOk result (λ after. (name : FileName) → texts_of (at_name after.disk name) ≡ text_of (at_name after.files name)) }

@@ -204,10 +204,9 @@ fn put_with(
         host,
     };
     let outcome = run_with(rt, &mut system, wire, &words);
-    Ok((
-        outcome.status,
-        fails_with(&outcome, 1, "tws: bad address\n"),
-    ))
+    let lines =
+        "tws: bad address\ntws: archive.test: neither an IPv4 address nor a host that can be found\n";
+    Ok((outcome.status, fails_with(&outcome, 1, lines)))
 }
 
 // The same, and how many requests went to the host of the server.
