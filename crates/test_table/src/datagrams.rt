@@ -158,14 +158,15 @@ fn is_right_beside_an_upload(alloc: Global, archive: &mut Archive) -> Result<boo
     Ok((served, is_left, has_texts) == ((None, true, None, true), true, true))
 }
 
-fn new_is_right_beside_an_upload(alloc: Global) -> Result<bool, Fail> {
+// The same with a new archive.
+fn is_right_beside_an_upload_at_new(alloc: Global) -> Result<bool, Fail> {
     is_right_beside_an_upload(alloc, &mut Archive::new(alloc))
 }
 
 // What a download sends is the collection as it was when it began.
 #[test]
 fn downloads_beside_an_upload(rt: HostRuntime) -> Result<(), Fail> {
-    assert!(rt; new_is_right_beside_an_upload(rt.alloc())?);
+    assert!(rt; is_right_beside_an_upload_at_new(rt.alloc())?);
     Ok(())
 }
 
@@ -304,14 +305,14 @@ fn sends_the_other(alloc: Global, archive: &mut Archive) -> Result<bool, Fail> {
 }
 
 // The same for a new archive.
-fn new_sends_the_other(alloc: Global) -> Result<bool, Fail> {
+fn sends_the_other_at_new(alloc: Global) -> Result<bool, Fail> {
     sends_the_other(alloc, &mut Archive::new(alloc))
 }
 
 // Two files whose collection would be too long to be sent: 34,000,048 bytes.
 #[test]
 fn a_collection_too_long(rt: HostRuntime) -> Result<(), Fail> {
-    assert!(rt; new_sends_the_other(rt.alloc())?);
+    assert!(rt; sends_the_other_at_new(rt.alloc())?);
     Ok(())
 }
 
@@ -381,14 +382,14 @@ fn takes_and_serves(
 }
 
 // The same for a new archive.
-fn new_takes_and_serves(alloc: Global, size: u32, text: &[u8]) -> Result<bool, Fail> {
+fn takes_and_serves_at_new(alloc: Global, size: u32, text: &[u8]) -> Result<bool, Fail> {
     takes_and_serves(alloc, &mut Archive::new(alloc), size, text)
 }
 
 // Whether the collection of two files with this many moves each is served, and has `size` bytes.
 fn serves(alloc: Global, moves: u32, size: usize) -> Result<bool, Fail> {
     let text = text_of_two(alloc, moves)?;
-    let is_served = new_takes_and_serves(alloc, moves.wrapping_add(28), &text)?;
+    let is_served = takes_and_serves_at_new(alloc, moves.wrapping_add(28), &text)?;
     Ok(text.len() == size && is_served)
 }
 

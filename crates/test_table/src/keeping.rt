@@ -241,7 +241,7 @@ fn takes(archive: &mut Archive, keeper: &mut MemoryKeeper) -> Result<bool, Fail>
 }
 
 // The same for a new one.
-fn new_takes(alloc: Global, keeper: &mut MemoryKeeper) -> Result<bool, Fail> {
+fn takes_at_new(alloc: Global, keeper: &mut MemoryKeeper) -> Result<bool, Fail> {
     takes(&mut Archive::new(alloc), keeper)
 }
 
@@ -263,7 +263,7 @@ fn finds_what_was_taken(
     failing: u64,
 ) -> Result<bool, Fail> {
     keeper.fail_at(failing);
-    let is_taken = new_takes(alloc, keeper)?;
+    let is_taken = takes_at_new(alloc, keeper)?;
     let is_refused = fault(alloc, keeper).is_some();
     let is_found = finds(alloc, keeper, is_taken);
     Ok((is_found, is_taken, is_refused) == (true, failing != 1, failing > 1))
@@ -304,7 +304,7 @@ fn counts(
 }
 
 // Whether a new table counts so, whose second keep fails.
-fn new_counts(alloc: Global, rows: &[(u16, &[u8], u64)]) -> Result<bool, Fail> {
+fn counts_at_new(alloc: Global, rows: &[(u16, &[u8], u64)]) -> Result<bool, Fail> {
     let mut keeper = MemoryKeeper::new(alloc);
     keeper.fail_at(2);
     counts(&mut Archive::new(alloc), &mut keeper, rows)
@@ -321,6 +321,6 @@ fn what_became_better(rt: HostRuntime) -> Result<(), Fail> {
         (4004, DATA_TWO_LEVELS, 4),
         (4005, DATA_UNREADABLE, 4),
     ];
-    assert!(rt; new_counts(rt.alloc(), ROWS)?);
+    assert!(rt; counts_at_new(rt.alloc(), ROWS)?);
     Ok(())
 }

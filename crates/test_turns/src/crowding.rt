@@ -52,14 +52,15 @@ fn after_junk(
     Ok((opened, asked(alloc, wire, server, 2, 1)?))
 }
 
-fn new_after_junk(alloc: Global, wire: &mut MemoryWire) -> Result<(bool, usize), Fail> {
+// The same with a new server.
+fn after_junk_at_new(alloc: Global, wire: &mut MemoryWire) -> Result<(bool, usize), Fail> {
     after_junk(alloc, wire, &mut Server::new(alloc, 6969))
 }
 
 #[test]
 fn only_requests_cost_a_port(rt: HostRuntime) -> Result<(), Fail> {
     let mut wire = wire_of(rt.alloc(), &[4000])?;
-    assert_eq!(rt; new_after_junk(rt.alloc(), &mut wire)?, (false, 1));
+    assert_eq!(rt; after_junk_at_new(rt.alloc(), &mut wire)?, (false, 1));
     Ok(())
 }
 
@@ -72,14 +73,15 @@ fn limited(alloc: Global, wire: &mut MemoryWire, server: &mut Server) -> Result<
     Ok([first, second, asked(alloc, wire, server, 0x7F00_0001, 5)?])
 }
 
-fn new_limited(alloc: Global, wire: &mut MemoryWire) -> Result<[usize; 3], Fail> {
+// The same with a new server.
+fn limited_at_new(alloc: Global, wire: &mut MemoryWire) -> Result<[usize; 3], Fail> {
     limited(alloc, wire, &mut Server::new(alloc, 6969))
 }
 
 #[test]
 fn one_host_has_so_many_transfers(rt: HostRuntime) -> Result<(), Fail> {
     let mut wire = wide_wire(rt.alloc())?;
-    assert_eq!(rt; new_limited(rt.alloc(), &mut wire)?, [3, 5, 10]);
+    assert_eq!(rt; limited_at_new(rt.alloc(), &mut wire)?, [3, 5, 10]);
     Ok(())
 }
 

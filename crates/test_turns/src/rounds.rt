@@ -43,14 +43,15 @@ fn takes_and_waits(
     Ok((rounds, solutions, live) == ([(0, true), (1, true)], 1, (1, 0)))
 }
 
-fn new_takes_and_waits(alloc: Global, wire: &mut MemoryWire) -> Result<bool, Fail> {
+// The same with a new server.
+fn takes_and_waits_at_new(alloc: Global, wire: &mut MemoryWire) -> Result<bool, Fail> {
     takes_and_waits(alloc, wire, &mut Server::new(alloc, 6969))
 }
 
 #[test]
 fn a_put_to_the_ready_server(rt: HostRuntime) -> Result<(), Fail> {
     let mut wire = request_wire(rt.alloc(), 4000)?;
-    let is_put = new_takes_and_waits(rt.alloc(), &mut wire)?;
+    let is_put = takes_and_waits_at_new(rt.alloc(), &mut wire)?;
     assert_eq!(rt; (is_put, send_count(&wire)), (true, 2));
     Ok(())
 }
@@ -83,7 +84,8 @@ fn are_sent_in_time(
     Ok(true)
 }
 
-fn new_are_sent_in_time(alloc: Global, wire: &mut MemoryWire) -> Result<bool, Fail> {
+// The same with a new server.
+fn are_sent_in_time_at_new(alloc: Global, wire: &mut MemoryWire) -> Result<bool, Fail> {
     are_sent_in_time(alloc, wire, &mut Server::new(alloc, 6969))
 }
 
@@ -92,7 +94,7 @@ fn new_are_sent_in_time(alloc: Global, wire: &mut MemoryWire) -> Result<bool, Fa
 #[test]
 fn a_busy_request_port(rt: HostRuntime) -> Result<(), Fail> {
     let mut wire = request_wire(rt.alloc(), 4000)?;
-    assert!(rt; new_are_sent_in_time(rt.alloc(), &mut wire)?);
+    assert!(rt; are_sent_in_time_at_new(rt.alloc(), &mut wire)?);
     Ok(())
 }
 

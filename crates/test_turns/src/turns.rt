@@ -149,7 +149,8 @@ fn are_quiet(wire: &mut MemoryWire, server: &mut Server, rows: &[(u64, usize, us
     true
 }
 
-fn new_are_quiet(alloc: Global, wire: &mut MemoryWire, rows: &[(u64, usize, usize)]) -> bool {
+// The same with a new server.
+fn are_quiet_at_new(alloc: Global, wire: &mut MemoryWire, rows: &[(u64, usize, usize)]) -> bool {
     are_quiet(wire, &mut Server::new(alloc, 6969), rows)
 }
 
@@ -165,6 +166,6 @@ fn a_transfer_that_stays_quiet(rt: HostRuntime) -> Result<(), Fail> {
         (1, 5, 0),
     ];
     let mut wire = request_wire(rt.alloc(), 4000)?;
-    assert!(rt; new_are_quiet(rt.alloc(), &mut wire, ROWS));
+    assert!(rt; are_quiet_at_new(rt.alloc(), &mut wire, ROWS));
     Ok(())
 }

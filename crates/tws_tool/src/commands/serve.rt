@@ -147,7 +147,7 @@ fn not_known<E: Write>(name: &str, errors: &mut E) -> u8
     FAILED
 }
 
-// The same with an observer that is told of the start and the end.
+// The same, of whose start and end an observer is notified.
 fn serve_observed<N: ReadyWire, K: ServedKeeper, O: ServedObserver, W: Write>(
     alloc: Global,
     folder: Option<&str>,
