@@ -5,14 +5,13 @@ ghost use Rattle.tftp_packet.specs.Refusal.{refusal_packet};
 ghost use Rattle.archive_client.specs.Client.{get, failed, in_phase, out_to, cause_of, client_start, request_out, client_datagram, client_timeout, verdict_after, state_of, is_over, phase_peer, data_received, file_or_client, phase_file, IsClient};
 ghost use Rattle.tftp_ends.specs.Ends.{refusal_of};
 
-use crate::cause::Cause;
 use crate::input::Input;
 use crate::link::Link;
 use crate::phase::Phase;
 use crate::state::State;
 use std::alloc::{Allocator, Global};
 use std::marker::Model;
-use tftp_ends::{MAX_FILE, MISSES, Received, Receiver, RecvFault, RecvState};
+use tftp_ends::{Cause, MAX_FILE, MISSES, Received, Receiver, RecvFault, RecvState};
 use tftp_packet::{BLOCK_SIZE, Endpoint, Out, Refusal, encode_read};
 use tws_file::Ruleset;
 
@@ -41,6 +40,16 @@ impl<A: Allocator + Copy> Model for Get<A> {
     ghost invariant = { λ g. IsClient (get_of g) };
 }
 
+// The cause with which a client fails when its receiver refuses a block.
+fn cause(fault: RecvFault) -> Cause
+    ensures { result ≡ cause_of fault }
+{
+    match fault {
+        RecvFault::Memory => Cause::Memory,
+        RecvFault::TooLong => Cause::TooLong,
+    }
+}
+
 impl<A: Allocator + Copy> Get<A> {
     /// Returns a client at `port` of this host that asks the server for the collection of `ruleset`, and its request
     /// for the caller to send: RRQ of RFC 1350 section 5. `server` is the server's host and request port. Received
@@ -67,7 +76,7 @@ impl<A: Allocator + Copy> Get<A> {
         ensures client { self.new ≡ in_phase (failed (cause_of fault)) self.old }
         ensures sent { result ≡ Some (out_to port (refusal_packet (refusal_of fault)) self.old) }
     {
-        self.phase = Phase::Failed(Cause::of(fault));
+        self.phase = Phase::Failed(cause(fault));
         Some(self.link.out(port, fault.refusal().dgram()))
     }
 

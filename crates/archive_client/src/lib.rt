@@ -8,7 +8,6 @@
 //! (`input`), and how far it is (`phase`).
 #![tactic(auto)]
 
-mod cause;
 mod get;
 mod input;
 mod laws;
@@ -18,9 +17,9 @@ mod put;
 mod state;
 mod too_long;
 
-pub use cause::Cause;
 pub use get::Get;
 pub use laws::{client_bounds, last_ack, one_port, other_host, over_client};
 pub use put::Put;
 pub use state::State;
+pub use tftp_ends::Cause;
 pub use too_long::TooLong;

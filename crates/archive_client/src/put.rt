@@ -4,7 +4,6 @@ ghost use Rattle.std.specs.Prelude.{◌≡◌, ◌≢◌, ◌<◌, ◌≤◌, le
 ghost use Rattle.tftp_ends.specs.Ends.{granted};
 ghost use Rattle.archive_client.specs.Client.{put, client_start, request_out, client_datagram, client_timeout, state_of, is_over, phase_peer, ack_received, IsClient};
 
-use crate::cause::Cause;
 use crate::input::Input;
 use crate::link::Link;
 use crate::phase::Phase;
@@ -13,7 +12,7 @@ use crate::too_long::TooLong;
 use std::alloc::{Allocator, Global};
 use std::marker::Model;
 use std::mem;
-use tftp_ends::{MAX_FILE, MISSES, SendState, Sender};
+use tftp_ends::{Cause, MAX_FILE, MISSES, SendState, Sender};
 use tftp_packet::{Endpoint, Out, Owned, Refusal, encode_write};
 use tws_file::upload_file_name;
 

@@ -1,4 +1,4 @@
-use crate::cause::Cause;
+use tftp_ends::Cause;
 
 /// How far a client has got.
 #[derive(Clone, Copy, Debug, PartialEq, Eq)]

@@ -4,7 +4,7 @@ use Rattle.std.specs.Int.{w32, to_be_bytes}
 use Rattle.std.specs.Net.Text.{ipv4_text}
 use Rattle.tftp_packet.specs.declared.endpoint.Endpoint.{Endpoint}
 use Rattle.tws_file.specs.declared.«ruleset».Ruleset.{Ruleset}
-use Rattle.tws_file.specs.Listing.{ruleset_name}
+use Rattle.tws_file.specs.Words.{ruleset_name}
 use Rattle.archive_log.specs.declared.history.TheConstants.{NAMES}
 use Rattle.archive_log.specs.Times.{compact}
 

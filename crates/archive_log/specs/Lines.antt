@@ -12,7 +12,7 @@ use Rattle.tftp_packet.specs.Refusal.{refusal_text}
 use Rattle.tws_file.specs.declared.«ruleset».Ruleset.{Ruleset}
 use Rattle.tws_file.specs.declared.file_fault.FileFault.{FileFault}
 use Rattle.tws_file.specs.declared.file_fault.FileFault.TheVariants as fault
-use Rattle.tws_file.specs.Listing.{ruleset_name}
+use Rattle.tws_file.specs.Words.{ruleset_name}
 use Rattle.archive_log.specs.declared.cause.Cause.{Cause}
 use Rattle.archive_log.specs.declared.cause.Cause.TheVariants.{Refused, PeerError, TimedOut}
 use Rattle.archive_log.specs.declared.history_fault.HistoryFault.{HistoryFault}

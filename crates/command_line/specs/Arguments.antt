@@ -7,7 +7,7 @@ use Rattle.clap.specs.Walk.{all_of}
 use Rattle.clap.specs.Words.{Row, Rule, Text, first_of, new_rule, one_of}
 use Rattle.clap.specs.declared.builder.value_parser.ValueParser.TheVariants as parser
 use Rattle.tws_file.specs.declared.«ruleset».Ruleset.{Ruleset}
-use Rattle.tws_file.specs.Listing.{ruleset_name}
+use Rattle.tws_file.specs.Words.{ruleset_name}
 use Rattle.command_line.specs.declared.source.Source.{Source}
 use Rattle.command_line.specs.declared.source.Source.TheVariants.{Standard, Named}
 

@@ -1,7 +1,9 @@
 -- What the arguments of a program of several commands ask for.
-use Rattle.std.specs.Prelude.{◌≡◌, ◌⊎◌, true, List, [], Some, Result, Ok, Err, codes}
+use Rattle.std.specs.Prelude.{◌≡◌, ◌⊎◌, true, false, List, [], Some, Result, Ok, Err, IfOk, codes}
 use Rattle.clap.specs.Kinds.{IsAmong}
-use Rattle.clap.specs.Words.{App, Row, Text, fault_of, kind_of, new_app, subcommand_of, subcommand_rows_of}
+use Rattle.clap.specs.Words.{App, Row, Text, app_of, fault_of, kind_of, new_app, subcommand_of, subcommand_rows_of, with_subcommand}
+use Rattle.clap.specs.declared.builder.command.Command.{Command}
+use Rattle.clap.specs.declared.builder.command.Command.TheViews.{out-Command}
 use Rattle.clap.specs.declared.parser.matches.ArgMatches.{ArgMatches}
 use Rattle.clap.specs.declared.error.kind.ErrorKind.TheVariants.{InvalidSubcommand}
 use Rattle.command_line.specs.declared.job_fault.JobFault.{JobFault}
@@ -10,6 +12,11 @@ use Rattle.command_line.specs.declared.job_fault.JobFault.TheVariants as fault
 -- the program without its commands
 abbrev pub top_app : App
 top_app = let plain : App = new_app (codes "tws") in record plain { top = record plain.top { has_version = true; arg_required_else_help = true; subcommand_required = true } }
+
+-- the command line of a program, with a command that was built beside it and has no argument that holds for others
+abbrev pub AddsCommand : {E : Type 0} → (program command : Result Command E) → App → Type 0
+AddsCommand program command built =
+    (old app : App) → IfOk program (λ p. app_of p ≡ old) → IfOk command (λ c. app_of c ≡ app) → IfOk command (λ c. (out-Command c).has_globals ≡ false) → built ≡ with_subcommand old app.top
 
 -- what was found in the arguments, which have no fault
 abbrev pub FindsCommand : App → List Text → ArgMatches → Type 0

@@ -4,8 +4,8 @@ ghost use Rattle.std.specs.Prelude.{◌≡◌, ◌≢◌, ℕ, false, Some, None
 ghost use Rattle.clap.specs.Matches.{found_of};
 ghost use Rattle.clap.specs.declared.builder.command.Command.TheViews.{out-Command};
 ghost use Rattle.clap.specs.Words.{app_of, new_app, rows_of, rule_of, first_of};
-ghost use Rattle.tws_file.specs.Listing.{ruleset_name};
-ghost use Rattle.command_line.specs.Arguments.{AreRulesetNames, AreSources, Answers, HasRuleset, HasSource, HasSources, IsNumberUpTo, IsSource, ruleset_rule};
+ghost use Rattle.tws_file.specs.Words.{ruleset_name};
+ghost use Rattle.command_line.specs.Arguments.{AreRulesetNames, AreSources, Answers, HasRuleset, HasSource, HasSources, IsNumberUpTo, IsSource, ruleset_rule, source_rule};
 
 use crate::source::Source;
 use clap::builder::ValueParser;
@@ -42,6 +42,16 @@ pub fn ruleset_argument<'a>(alloc: Global, names: &'a [&'a str]) -> Arg<'a>
         .value_parser(ValueParser::Names(names))
         .required(true)
         .help("The rules that the solutions were played by")
+}
+
+/// `[FILE]`: the one input of a command.
+pub fn source_argument<'a>(alloc: Global) -> Arg<'a>
+    ensures rule { rule_of result ≡ source_rule }
+    ensures local { result.global ≡ false }
+{
+    Arg::new(alloc, "file").value_name("FILE").help(
+        "The solution file; standard input if none is given, or if it is -",
+    )
 }
 
 // ---- what was given

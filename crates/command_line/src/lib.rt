@@ -11,6 +11,7 @@ mod beside;
 mod file_system;
 mod help;
 mod in_words;
+mod input;
 mod job_fault;
 mod laws;
 mod limits;
@@ -24,17 +25,18 @@ mod system_draft;
 mod tool_fault;
 
 pub use arguments::{
-    new_command, number_up_to, ruleset_argument, ruleset_given, ruleset_names, source_given,
-    sources_given, string_given, text_given,
+    new_command, number_up_to, ruleset_argument, ruleset_given, ruleset_names, source_argument,
+    source_given, sources_given, string_given, text_given,
 };
 pub use file_system::FileSystem;
 pub use help::report_job_fault;
 pub use in_words::InWords;
+pub use input::read_input;
 pub use job_fault::JobFault;
 pub use laws::limit_values;
 pub use limits::{INPUT_READS, VERSION};
 pub use noted::{Noted, report_streams};
-pub use program::{found_in, new_program, unknown_command};
+pub use program::{add_command, found_in, new_program, unknown_command};
 pub use reporting::{finish, report, report_arguments, report_cause, report_file};
 pub use source::Source;
 pub use status::{DONE, FAILED, NOT_TRANSFERRED, UNREADABLE, USAGE};

@@ -2,13 +2,13 @@
 
 ghost use Rattle.std.specs.Prelude.{◌≡◌, true, map, IfOk, IfErr, string_bytes};
 ghost use Rattle.clap.specs.Words.{app_of, is_simple_and_free};
-ghost use Rattle.command_line.specs.CommandLine.{FindsCommand, HasFault, IsUnknown, top_app};
+ghost use Rattle.command_line.specs.CommandLine.{AddsCommand, FindsCommand, HasFault, IsUnknown, top_app};
 
 use crate::job_fault::JobFault;
 use crate::limits::VERSION;
 use clap::error::ErrorKind;
 use clap::{ArgMatches, Command};
-use std::alloc::Global;
+use std::alloc::{AllocError, Global};
 
 /// The program without its commands.
 pub fn new_program<'a>(alloc: Global) -> Command<'a>
@@ -19,6 +19,16 @@ pub fn new_program<'a>(alloc: Global) -> Command<'a>
         .version(VERSION)
         .arg_required_else_help(true)
         .subcommand_required(true)
+}
+
+/// Adds a command to the command line of a program. Where one of them was not built, neither is this.
+pub fn add_command<'a>(
+    program: Result<Command<'a>, AllocError>,
+    command: Result<Command<'a>, AllocError>,
+) -> Result<Command<'a>, AllocError>
+    ensures { IfOk result (λ built. AddsCommand program.entry command.entry (app_of built)) }
+{
+    program?.subcommand(command?)
 }
 
 /// What the arguments, the first of which is the program's name, find in this command line.

@@ -1,5 +1,3 @@
-pub mod Taking
-pub mod Statuses
 pub mod Collecting
 pub mod Paging
 pub mod Comparing

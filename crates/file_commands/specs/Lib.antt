@@ -1,7 +1,4 @@
-pub mod Written
 pub mod Opening
-pub mod Show
-pub mod Pack
 pub mod Without
 pub mod Best
 pub mod Compare

@@ -6,7 +6,7 @@ use Rattle.tws_compare.specs.Password.{IsShown}
 use Rattle.tws_compare.specs.Without.{text_without}
 use Rattle.file_commands.specs.declared.without.WithoutArguments.{WithoutArguments}
 use Rattle.command_line.specs.Arguments.{HasSource, IsNumberUpTo, source_rule}
-use Rattle.file_commands.specs.Written.{RanFrom}
+use Rattle.show_commands.specs.Written.{RanFrom}
 
 abbrev pub without_name : Text
 without_name = codes "without"

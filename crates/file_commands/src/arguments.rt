@@ -1,21 +1,11 @@
-//! The arguments that several commands on files share.
+//! The argument that several commands share.
 
 ghost use Rattle.std.specs.Prelude.{◌≡◌, false};
 ghost use Rattle.clap.specs.Words.{rule_of};
-ghost use Rattle.command_line.specs.Arguments.{files_rule, source_rule};
+ghost use Rattle.command_line.specs.Arguments.{files_rule};
 
 use clap::Arg;
 use std::alloc::Global;
-
-/// `[FILE]`: the one input of a command.
-pub(crate) fn source_argument<'a>(alloc: Global) -> Arg<'a>
-    ensures rule { rule_of result ≡ source_rule }
-    ensures local { result.global ≡ false }
-{
-    Arg::new(alloc, "file").value_name("FILE").help(
-        "The solution file; standard input if none is given, or if it is -",
-    )
-}
 
 /// `FILE..`: the inputs of a command.
 pub(crate) fn files_argument<'a>(alloc: Global) -> Arg<'a>

@@ -9,12 +9,9 @@ ghost use Rattle.command_line.specs.Arguments.{Answers};
 ghost use Rattle.file_commands.specs.Compare.{AsksToCompare, CompareFails, CompareRan, Compares, ComparesFiles, FilesFail, better_rule, compare_app, compare_status, mine_rule, theirs_rule};
 ghost use Rattle.command_line.specs.Faults.{status_of};
 
-use crate::input::read_input;
 use byte_output::put;
 use clap::{Arg, ArgAction, ArgMatches, Command};
-use command_line::{
-    DONE, FileSystem, ToolFault, USAGE, new_command, report, report_file, string_given,
-};
+use command_line::{DONE, FileSystem, ToolFault, USAGE, new_command, read_input, report, report_file, string_given};
 use std::alloc::{AllocError, Global};
 use std::io::{Read, Write};
 use std::slice;

@@ -1,30 +1,27 @@
-//! The list of the commands on files: their command line, what the arguments of one ask for, and how that is done.
+//! The list of the commands on files, which begins with those of `show_commands`: their command line, what the arguments of one ask for, and how that is done.
 
 ghost use Rattle.std.specs.Prelude.{◌≡◌, ◌≤◌, IfOk};
 ghost use Rattle.clap.specs.Matches.{found_of};
 ghost use Rattle.clap.specs.Words.{app_of, rows_of};
 ghost use Rattle.command_line.specs.Arguments.{Answers};
-ghost use Rattle.file_commands.specs.FileJobs.{AsksForFiles, FileJobRan, files_app, with_file_apps, with_one_file_apps, with_several_file_apps};
+ghost use Rattle.file_commands.specs.FileJobs.{AsksForFiles, FileJobRan, files_app};
 
 use crate::best::BestArguments;
 use crate::compare::CompareArguments;
-use crate::pack::PackArguments;
 use crate::page::PageArguments;
-use crate::show::ShowArguments;
 use crate::without::WithoutArguments;
-use crate::{best, compare, pack, page, show, without};
+use crate::{best, compare, page, without};
 use clap::{ArgMatches, Command};
-use command_line::{FileSystem, new_program};
+use command_line::{FileSystem, add_command};
+use show_commands::{ShowJob, run_show_job, show_job_of, show_program};
 use std::alloc::{AllocError, Global};
 use std::io::{Read, Write};
 
 /// What a command on files is asked to do.
 #[derive(Drop)]
 pub enum FileJob {
-    /// To list a solution file.
-    Show(ShowArguments),
-    /// To write a solution file with its moves in the fewest bytes.
-    Pack(PackArguments),
+    /// To list a solution file, or to pack it.
+    Show(ShowJob),
     /// To write a solution file without the solutions of a level.
     Without(WithoutArguments),
     /// To write the collection of the best solutions of several files.
@@ -35,55 +32,15 @@ pub enum FileJob {
     Page(PageArguments),
 }
 
-// Adds the commands on one file to the command line of a program.
-fn with_one_file_commands<'a>(
-    alloc: Global,
-    program: Command<'a>,
-) -> Result<Command<'a>, AllocError>
-    ensures { IfOk result (λ command. app_of command ≡ with_one_file_apps (app_of program.entry)) }
-{
-    let show = show::command(alloc)?;
-    let command = program.subcommand(show)?;
-    let pack = pack::command(alloc)?;
-    let command = command.subcommand(pack)?;
-    let without = without::command(alloc)?;
-    command.subcommand(without)
-}
-
-// Adds the commands on several files, with these names of the rulesets, to the command line of a program.
-fn with_several_file_commands<'a>(
-    alloc: Global,
-    program: Command<'a>,
-    names: &'a [&'a str],
-) -> Result<Command<'a>, AllocError>
-    ensures { IfOk result (λ command. app_of command ≡ with_several_file_apps names.entry (app_of program.entry)) }
-{
-    let best = best::command(alloc, names)?;
-    let command = program.subcommand(best)?;
-    let compare = compare::command(alloc)?;
-    let command = command.subcommand(compare)?;
-    let page = page::command(alloc)?;
-    command.subcommand(page)
-}
-
-// Adds the commands on files to the command line of a program, with these names of the rulesets.
-fn with_file_commands<'a>(
-    alloc: Global,
-    program: Command<'a>,
-    names: &'a [&'a str],
-) -> Result<Command<'a>, AllocError>
-    ensures { IfOk result (λ command. app_of command ≡ with_file_apps names.entry (app_of program.entry)) }
-{
-    let program = with_one_file_commands(alloc, program)?;
-    with_several_file_commands(alloc, program, names)
-}
-
 /// The command line of the program with only the commands on files, with these names of the rulesets: `show`, `pack`,
 /// `without`, `best`, `compare` and `page`, in this order.
 pub fn file_program<'a>(alloc: Global, names: &'a [&'a str]) -> Result<Command<'a>, AllocError>
     ensures { IfOk result (λ command. app_of command ≡ files_app names.entry) }
 {
-    with_file_commands(alloc, new_program(alloc), names)
+    let program = add_command(show_program(alloc), without::command(alloc));
+    let program = add_command(program, best::command(alloc, names));
+    let program = add_command(program, compare::command(alloc));
+    add_command(program, page::command(alloc))
 }
 
 /// What the arguments of the command of this name ask for; `None` if they ask for nothing, or no command on files has this
@@ -95,9 +52,10 @@ pub fn file_job_of(
 ) -> Result<Option<FileJob>, AllocError>
     ensures { IfOk result (Answers (AsksForFiles (name.now, rows_of (found_of words.now)))) }
 {
+    if let Some(job) = show_job_of(alloc, name, words)? {
+        return Ok(Some(FileJob::Show(job)));
+    }
     match name {
-        "show" => Ok(Some(FileJob::Show(show::asked(alloc, words)?))),
-        "pack" => Ok(Some(FileJob::Pack(pack::asked(alloc, words)?))),
         "without" => Ok(without::asked(alloc, words)?.map(FileJob::Without)),
         "best" => Ok(best::asked(alloc, words)?.map(FileJob::Best)),
         "compare" => Ok(compare::asked(alloc, words)?.map(FileJob::Compare)),
@@ -128,8 +86,7 @@ pub fn run_file_job<S: FileSystem, R: Read, W: Write, E: Write>(
     ensures silent { result ≡ 0 → errors.new ≡ errors.old }
 {
     match job {
-        FileJob::Show(arguments) => show::run(system, alloc, arguments, input, out, errors),
-        FileJob::Pack(arguments) => pack::run(system, alloc, arguments, input, out, errors),
+        FileJob::Show(job) => run_show_job(system, alloc, job, input, out, errors),
         FileJob::Without(arguments) => without::run(system, alloc, arguments, input, out, errors),
         FileJob::Best(arguments) => best::run(system, alloc, arguments, input, out, errors),
         FileJob::Compare(arguments) => compare::run(system, alloc, arguments, out, errors),

@@ -12,12 +12,11 @@ ghost use Rattle.command_line.specs.Faults.{IsBeforeOutput};
 ghost use Rattle.command_line.specs.Inputs.{knowns_of};
 
 use crate::arguments::files_argument;
-use crate::input::read_input;
 use crate::opening::{NotOpened, open_all};
 use crate::reporting::{finish_among, report_unopened};
 use crate::standard::{has_standard, read_bytes};
 use clap::{ArgMatches, Command};
-use command_line::{FileSystem, Source, ToolFault, new_command, report, sources_given};
+use command_line::{FileSystem, Source, ToolFault, new_command, read_input, report, sources_given};
 use std::alloc::{AllocError, Global};
 use std::io::{Read, Write};
 use tws_file::TwsFile;

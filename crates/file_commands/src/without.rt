@@ -9,16 +9,11 @@ ghost use Rattle.tws_compare.specs.Without.{text_without};
 ghost use Rattle.command_line.specs.Arguments.{Answers};
 ghost use Rattle.file_commands.specs.Without.{AsksForWithout, IsLevel, WithoutRan, level_rule, password_rule, without_app};
 ghost use Rattle.command_line.specs.Faults.{IsReadOut};
-ghost use Rattle.file_commands.specs.Written.{RanFrom, Writes, WriteFails};
+ghost use Rattle.show_commands.specs.Written.{RanFrom, Writes, WriteFails};
 
-use crate::arguments::source_argument;
-use crate::input::read_input;
 use clap::builder::ValueParser;
 use clap::{Arg, ArgMatches, Command};
-use command_line::{
-    FileSystem, Source, ToolFault, USAGE, finish, new_command, number_up_to, report_file,
-    source_given, string_given, text_given,
-};
+use command_line::{FileSystem, Source, ToolFault, USAGE, finish, new_command, number_up_to, read_input, report_file, source_argument, source_given, string_given, text_given};
 use std::alloc::{AllocError, Global};
 use std::io::{Read, Write};
 use std::slice;

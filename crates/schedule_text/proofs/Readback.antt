@@ -4,7 +4,7 @@ use Rattle.std.specs.Option.{option_map}
 use Rattle.tftp_packet.specs.declared.endpoint.Endpoint.{Endpoint}
 use Rattle.tws_file.specs.declared.«ruleset».Ruleset.{Ruleset}
 use Rattle.tws_file.specs.declared.«ruleset».Ruleset.TheVariants.{Lynx, Ms}
-use Rattle.tws_file.specs.Listing.{ruleset_name}
+use Rattle.tws_file.specs.Words.{ruleset_name}
 use Rattle.archive_client.specs.Client.{put, get}
 use Rattle.archive_model.specs.World.{Event, begin, deliver, client_times_out, server_times_out, stray, restart}
 use Rattle.schedule_text.specs.Words.{number_in, endpoint_at, endpoint_in, ruleset_in}

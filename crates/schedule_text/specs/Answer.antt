@@ -3,7 +3,7 @@ use Rattle.std.specs.Prelude.{◌≡◌, ◌⊎◌, ℕ, List, [], ◌∷◌, �
 use Rattle.std.specs.List.{flat_map}
 use Rattle.hex.specs.Hex.{encode_lower}
 use Rattle.tftp_packet.specs.declared.endpoint.Endpoint.{Endpoint}
-use Rattle.tws_file.specs.Listing.{ruleset_name}
+use Rattle.tws_file.specs.Words.{ruleset_name}
 use Rattle.archive_table.specs.Table.{Taken}
 use Rattle.archive_table.specs.Keeper.{Keeping}
 use Rattle.archive_model.specs.World.{Event, Datagram, Asked, to_write, to_read, Opening, Got}

@@ -6,7 +6,7 @@ use Rattle.hex.specs.Hex.{decode_of}
 use Rattle.tftp_packet.specs.declared.endpoint.Endpoint.{Endpoint}
 use Rattle.tws_file.specs.declared.«ruleset».Ruleset.{Ruleset}
 use Rattle.tws_file.specs.declared.«ruleset».Ruleset.TheVariants.{Lynx, Ms}
-use Rattle.tws_file.specs.Listing.{ruleset_name}
+use Rattle.tws_file.specs.Words.{ruleset_name}
 use Rattle.schedule_text.specs.declared.keyword.Verb.{Verb}
 use Rattle.schedule_text.specs.declared.keyword.Verb.TheVariants.{Begin, Deliver, ClientTimeout, ServerTimeout, Stray, Restart}
 use Rattle.schedule_text.specs.declared.keyword.Kind.{Kind}

@@ -2,7 +2,7 @@
 
 ghost use Rattle.std.specs.Prelude.{◌≡◌};
 ghost use Rattle.schedule_text.specs.Words.{verb_word, verb_in, word_count, kind_word, kind_in, ruleset_in};
-ghost use Rattle.tws_file.specs.Listing.{ruleset_name};
+ghost use Rattle.tws_file.specs.Words.{ruleset_name};
 
 use tws_file::Ruleset;
 

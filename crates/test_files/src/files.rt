@@ -3,7 +3,8 @@ use std::alloc::Global;
 use std::fmt::Display;
 use std::test::Fail;
 use test_samples::{CUT_MOVE, EMPTY_LYNX, EMPTY_MS, HUNDRED, UNREADABLE, join, record};
-use tws_file::{FileFault, OutFault, Record, Solution, TwsFile, pack, read_file, show, write_file};
+use tws_file::{FileFault, OutFault, Record, Solution, TwsFile, pack, read_file, write_file};
+use tws_tables::show;
 use tws_moves::{MovesFault, SpellFault};
 
 // Whether reading returns this fault.

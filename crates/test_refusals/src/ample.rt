@@ -6,8 +6,8 @@ use std::alloc::{AllocError, Global};
 use test_samples::EMPTY_LYNX;
 use tws_best::Collection;
 use tws_compare::{Row, better, compare, comparison_text};
-use tws_file::{FileFault, Record, Solution, TwsFile, pack, read_file, show, write_file};
-use tws_tables::{write_csv, write_page};
+use tws_file::{FileFault, Record, Solution, TwsFile, pack, read_file, write_file};
+use tws_tables::{show, write_csv, write_page};
 
 // How many levels the files have, and the moves of each: a step in each tick.
 const LEVELS: u16 = 5000;

@@ -5,7 +5,8 @@ ghost use Rattle.tws_file.specs.Reader.{HasRoomFor, HasAtMost};
 use refusing::{Complaint, Outcome, Refusing, refuse_each};
 use std::alloc::{Allocator, Global};
 use test_samples::CUT_MOVE;
-use tws_file::{FileFault, OutFault, Reader, TwsFile, read_file, show};
+use tws_file::{FileFault, OutFault, Reader, TwsFile, read_file};
+use tws_tables::show;
 
 // Two further header bytes, then a set record, a bare one, a pad, and a solution with two bytes of moves.
 const EVERY_RULESET: [u8; 66] = [

@@ -8,7 +8,7 @@ use Rattle.std.specs.Char.{is_ascii_alphabetic}
 use Rattle.byte_output.specs.Bytes.{IsBytes}
 use Rattle.hex.specs.Hex.{encode_with, encode_lower, decode_sized, lower_digits}
 use Rattle.hex.proofs.HexLemmas.{length-encode_with, decode_sized-encode_lower}
-use Rattle.tws_file.specs.Listing.{hex, password_text}
+use Rattle.tws_file.specs.Words.{hex, password_text}
 use Rattle.tws_compare.specs.Password.{IsShown}
 
 -- a digit

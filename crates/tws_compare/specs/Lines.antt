@@ -1,7 +1,7 @@
 -- The text of a comparison: a line for each row, and one for the counts.
 use Rattle.std.specs.Prelude.{ℕ, ◌==◌, List, ◌++◌, codes, decimal, if◌then◌else◌}
 use Rattle.std.specs.List.{flat_map}
-use Rattle.tws_file.specs.Listing.{key_text, line}
+use Rattle.tws_file.specs.Words.{key_text, line}
 use Rattle.tws_compare.specs.declared.row.Row.{Row}
 use Rattle.tws_compare.specs.declared.counts.Counts.{Counts}
 use Rattle.tws_compare.specs.declared.standing.Standing.{Standing}

@@ -6,9 +6,8 @@ pub mod Faults
 pub mod Headers
 pub mod Bodies
 pub mod Comparing
-pub mod Listings
+pub mod Words
 pub mod Gathering
-pub mod Pieces
 pub mod ReadSoFar
 pub mod Lasting
 pub mod Continuing

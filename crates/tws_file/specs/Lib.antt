@@ -1,6 +1,7 @@
 pub mod Fields
 pub mod Text
 pub mod Names
+pub mod Words
 pub mod Fault
 pub mod Solution
 pub mod Record
@@ -8,5 +9,4 @@ pub mod TwsFile
 pub mod Steps
 pub mod PartReader
 pub mod Reader
-pub mod Listing
 pub mod Packing

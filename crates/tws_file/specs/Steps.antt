@@ -1,4 +1,4 @@
--- Definitions for the private steps of reading and of listing. Callers need none of them.
+-- Definitions for the private steps of reading. Callers need none of them.
 use Rattle.std.specs.Prelude.{◌≡◌, ◌≢◌, ◌⊎◌, Bool, true, false, Option, None, Some, is_some, ℕ, ◌+◌, ◌<◌, ◌≤◌, ◌^◌, List, [], ◌∷◌, ◌++◌, length, drop}
 use Rattle.std.specs.List.{flat_map, AllByRecursion}
 use Rattle.byteorder.specs.Endian.{little_bytes}
@@ -6,7 +6,6 @@ use Rattle.tws_file.specs.declared.file_fault.FileFault.{FileFault}
 use Rattle.tws_file.specs.declared.file_fault.FileFault.TheVariants.{ShortHeader, BadSignature, BadRuleset, ShortRecord, BadSize, MoveCut, Memory}
 use Rattle.tws_file.specs.declared.«ruleset».Ruleset.{Ruleset}
 use Rattle.byte_output.specs.Bytes.{IsBytes}
-use Rattle.byte_output.specs.Output.{Sends}
 use Rattle.tws_moves.specs.Spelling.{IsCutAt}
 use Rattle.tws_file.specs.Text.{Solution, Record, pad, set, bare, solution, File, IsLevel, IsSet, IsRecord, HasSolutionFields, IsFile, body_of, header_text, record_text, text_of}
 use Rattle.tws_file.specs.Fault.{BeginsNoRecord, IsRecordCut, HasBadSize, HasCutMoves, HasFileFault, IsLasting}
@@ -98,10 +97,6 @@ tail_of (solution s) = s.moves
 -- a solution's body after its key
 abbrev pub solved_after_key : Solution → List ℕ
 solved_after_key s = s.flags ∷ s.start ∷ (little_bytes 4 s.seed ++ (little_bytes 4 s.ticks ++ s.moves))
-
--- a prefix of the text was written, perhaps all of it
-abbrev pub SendsSome : (old new : Option (List ℕ)) → (text : List ℕ) → Type 0
-SendsSome old new text = (rest : List ℕ) × Sends old new text rest
 
 -- ---- pieces
 

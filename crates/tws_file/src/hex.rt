@@ -1,5 +1,5 @@
 ghost use Rattle.std.specs.Prelude.{Some};
-ghost use Rattle.tws_file.specs.Listing.{hex};
+ghost use Rattle.tws_file.specs.Words.{hex};
 
 use std::fmt;
 

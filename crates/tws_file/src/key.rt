@@ -53,7 +53,7 @@ fn letters(bytes: &[u8]) -> Option<&str>
 /// The number and the password: four letters as they are, or else an `x` and the bytes as hexadecimal digits.
 impl fmt::Display for Key {
     ghost use Rattle.std.specs.Prelude.{Some};
-    ghost use Rattle.tws_file.specs.Listing.{key_text};
+    ghost use Rattle.tws_file.specs.Words.{key_text};
 
     ghost output = { λ k. Some (key_text k) };
 

@@ -1,13 +1,12 @@
-//! Tile World solution files (TWS): what a file is, which fault bytes have, and the listing of a file. README.md has a
-//! caller, and what is proved.
+//! Tile World solution files (TWS): what a file is, and which fault bytes have. README.md has a caller, and what
+//! is proved.
 //!
 //! Read `specs/Text.antt` first: it defines which values have a text, and which text. `specs/Fault.antt` defines the
 //! fault of bytes that are not a file's text; `specs/Reader.antt` defines what a reader of pieces has taken. The
 //! definitions in `specs/Steps.antt` are only for private functions.
 //!
 //! `tws_file` and `solution` check which values have a text. `reader` reads bytes, by `header` and `reading`; `writing`
-//! writes them; `listing` writes the lines of `lines`; `packing` makes the packed file. `ruleset` and `upload_name` have
-//! the names of files at a server.
+//! writes them; `packing` makes the packed file. `ruleset` and `upload_name` have the names of files at a server.
 #![tactic(auto)]
 
 mod bytes;
@@ -17,8 +16,6 @@ mod header;
 mod hex;
 mod key;
 mod laws;
-mod lines;
-mod listing;
 mod packing;
 mod part_reader;
 mod reader;
@@ -39,7 +36,6 @@ pub use key::Key;
 pub use laws::{
     one_fault, one_file, one_file_name, packed_files, text_or_fault, text_without_fault,
 };
-pub use listing::show;
 pub use packing::pack;
 pub use part_reader::PartReader;
 pub use reader::{Reader, read_file};

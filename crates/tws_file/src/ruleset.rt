@@ -77,7 +77,7 @@ impl Ruleset {
 /// The name of the ruleset, in lower case.
 impl fmt::Display for Ruleset {
     ghost use Rattle.std.specs.Prelude.{Some};
-    ghost use Rattle.tws_file.specs.Listing.{ruleset_name};
+    ghost use Rattle.tws_file.specs.Words.{ruleset_name};
 
     ghost output = { λ «ruleset». Some (ruleset_name «ruleset») };
 

@@ -8,7 +8,7 @@ use Rattle.std.proofs.lemmas.Bool.Decides.{nat_tests}
 use Rattle.std.proofs.lemmas.List.Folds.{list_any-append}
 use Rattle.std.proofs.lemmas.Str.{encode_ascii}
 use Rattle.byte_output.specs.Bytes.{IsBytes}
-use Rattle.tws_file.specs.Listing.{hex}
+use Rattle.tws_file.specs.Words.{hex}
 use Rattle.tws_tables.specs.Escaping.{BeginsReference, IsReference, Shows, by_itself, by_reference, no_text, escaped, escaped_char, is_mark, is_printable, references, shown_password}
 
 -- `&`

@@ -5,7 +5,7 @@ use Rattle.std.specs.List.{flat_map, join_with_byte}
 use Rattle.std.proofs.lemmas.List.{map-append, take_more}
 use Rattle.std.proofs.lemmas.List.Concat.{flat_map-append}
 use Rattle.tws_file.specs.declared.record.Record as stored
-use Rattle.tws_file.specs.Listing.{line}
+use Rattle.tws_file.specs.Words.{line}
 use Rattle.tws_file.specs.Record.{record_of, records_of}
 use Rattle.tws_file.specs.Text.{Solution}
 use Rattle.tws_tables.specs.declared.row_format.RowFormat.{RowFormat}

@@ -1,3 +1,5 @@
+pub mod Listed
+pub mod Pieces
 pub mod Parts
 pub mod Gathered
 pub mod Wholes

@@ -4,7 +4,7 @@ use Rattle.std.specs.Prelude.{codes, decimal}
 use Rattle.std.specs.List.{flat_map, join_with_byte}
 use Rattle.tws_moves.specs.Spelling.{moves_in}
 use Rattle.tws_file.specs.declared.«ruleset».Ruleset.{Ruleset}
-use Rattle.tws_file.specs.Listing.{hex, line, password_text, ruleset_name}
+use Rattle.tws_file.specs.Words.{hex, line, password_text, ruleset_name}
 use Rattle.tws_file.specs.Text.{Solution}
 use Rattle.tws_tables.specs.Csv.{csv_fields, csv_line}
 use Rattle.tws_tables.specs.Escaping.{shown_password}

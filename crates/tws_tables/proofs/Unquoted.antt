@@ -18,7 +18,7 @@ use Rattle.tws_moves.specs.Bytes.{number_of}
 use Rattle.tws_moves.proofs.Ticks.{count_from}
 use Rattle.tws_file.specs.declared.«ruleset».Ruleset.{Ruleset}
 use Rattle.tws_file.specs.declared.«ruleset».Ruleset.TheVariants.{Lynx, Ms}
-use Rattle.tws_file.specs.Listing.{hex, password_text, ruleset_name}
+use Rattle.tws_file.specs.Words.{hex, password_text, ruleset_name}
 use Rattle.tws_file.specs.Text.{File, IsFile, IsRecord, IsSolution, Record, Solution, pad, set, bare, solution}
 use Rattle.tws_tables.specs.Csv.{csv_fields, csv_line, csv_names, csv_of, csv_rows}
 use Rattle.tws_tables.specs.Solved.{seconds_text, solutions_in}

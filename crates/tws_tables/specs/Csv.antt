@@ -3,7 +3,7 @@ use Rattle.std.specs.Prelude.{ℕ, List, [], ◌∷◌, length, map, codes, deci
 use Rattle.std.specs.List.{flat_map, join_with_byte}
 use Rattle.tws_moves.specs.Spelling.{moves_in}
 use Rattle.tws_file.specs.declared.«ruleset».Ruleset.{Ruleset}
-use Rattle.tws_file.specs.Listing.{hex, line, password_text, ruleset_name}
+use Rattle.tws_file.specs.Words.{hex, line, password_text, ruleset_name}
 use Rattle.tws_file.specs.Text.{File, Solution}
 use Rattle.tws_tables.specs.Solved.{solutions_in, seconds_text}
 

@@ -2,7 +2,7 @@
 use Rattle.std.specs.Prelude.{◌≡◌, ◌≢◌, ◌⊎◌, ◌==◌, ◌||◌, ℕ, Bool, List, [], ◌∷◌, ◌++◌, codes, Contains, encode_utf8, if◌then◌else◌}
 use Rattle.std.specs.List.{flat_map, list_all}
 use Rattle.std.specs.Int.{is_in_range}
-use Rattle.tws_file.specs.Listing.{hex}
+use Rattle.tws_file.specs.Words.{hex}
 
 -- a character as text in HTML: one that may have a meaning there is a reference
 abbrev pub escaped_char : ℕ → List ℕ

@@ -1,3 +1,4 @@
+pub mod Listing
 pub mod Solved
 pub mod Csv
 pub mod Escaping

@@ -4,7 +4,7 @@ use Rattle.std.specs.List.{flat_map, starts_with}
 use Rattle.tws_moves.specs.Spelling.{moves_in}
 use Rattle.tws_file.specs.declared.«ruleset».Ruleset.{Ruleset}
 use Rattle.tws_file.specs.declared.«ruleset».Ruleset.TheVariants.{Lynx, Ms}
-use Rattle.tws_file.specs.Listing.{line}
+use Rattle.tws_file.specs.Words.{line}
 use Rattle.tws_file.specs.Text.{File, Record, Solution}
 use Rattle.tws_tables.specs.declared.markup.TheConstants.{PAGE_HEAD, TABLE_HEAD, TABLE_END, PAGE_END}
 use Rattle.tws_tables.specs.Escaping.{shown_password}

@@ -1,9 +1,10 @@
 -- Definitions for private steps. Callers need none of them.
-use Rattle.std.specs.Prelude.{ℕ, List, [], ◌∷◌, ◌++◌, codes, decimal}
+use Rattle.std.specs.Prelude.{ℕ, List, [], ◌∷◌, ◌++◌, Option, codes, decimal}
 use Rattle.std.specs.List.{flat_map}
+use Rattle.byte_output.specs.Output.{Sends}
 use Rattle.tws_file.specs.declared.key.Key.{Key}
 use Rattle.tws_file.specs.declared.«ruleset».Ruleset.{Ruleset}
-use Rattle.tws_file.specs.Listing.{hex, password_text, ruleset_name}
+use Rattle.tws_file.specs.Words.{hex, password_text, ruleset_name}
 use Rattle.tws_file.specs.Text.{Record, Solution}
 use Rattle.tws_tables.specs.declared.row_format.RowFormat.{RowFormat}
 use Rattle.tws_tables.specs.declared.row_format.RowFormat.TheVariants.{Csv, Html}
@@ -11,6 +12,10 @@ use Rattle.tws_tables.specs.Csv.{csv_fields, csv_line}
 use Rattle.tws_tables.specs.Escaping.{shown_password}
 use Rattle.tws_tables.specs.Page.{page_cell, page_row}
 use Rattle.tws_tables.specs.Solved.{solutions_in, seconds_text}
+
+-- a prefix of the text was written, perhaps all of it
+abbrev pub SendsSome : (old new : Option (List ℕ)) → (text : List ℕ) → Type 0
+SendsSome old new text = (rest : List ℕ) × Sends old new text rest
 
 -- ---- a line of comma-separated values, as it is written
 

@@ -1,5 +1,5 @@
 ghost use Rattle.std.specs.Prelude.{Some};
-ghost use Rattle.tws_file.specs.Listing.{hex_byte};
+ghost use Rattle.tws_file.specs.Words.{hex_byte};
 
 use std::fmt;
 

@@ -3,7 +3,7 @@
 ghost use Rattle.std.specs.Prelude.{◌≡◌, true, false, Some, MatchOption};
 ghost use Rattle.std.specs.List.{list_all};
 ghost use Rattle.std.specs.Char.{is_ascii_alphabetic};
-ghost use Rattle.tws_file.specs.Listing.{password_text};
+ghost use Rattle.tws_file.specs.Words.{password_text};
 ghost use Rattle.tws_tables.specs.Escaping.{is_printable, shown_password};
 
 use crate::escaped_char::EscapedChar;

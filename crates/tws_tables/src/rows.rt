@@ -6,22 +6,11 @@ ghost use Rattle.tws_file.specs.Record.{record_of, records_of};
 ghost use Rattle.tws_tables.specs.Steps.{row_of, rows_of};
 
 use crate::row_format::{RowFormat, push_row};
-use byte_output::{LARGE, OutFault, put};
+use crate::sending::send_if_large;
+use byte_output::OutFault;
 use std::alloc::Allocator;
 use std::io::Write;
 use tws_file::{Record, Solution};
-
-// Writes the gathered text out once there is much of it.
-fn send_if_large<A: Allocator, W: Write>(text: &mut String<A>, out: &mut W) -> Result<(), OutFault>
-    ensures ok { OnOk result (Sends (W.contents out.old) (W.contents out.new) (string_bytes text.old) (string_bytes text.new)) }
-    ensures err { OnErr result (AppendsPrefix (W.contents out.old) (W.contents out.new) (string_bytes text.old)) }
-{
-    if text.len() >= LARGE {
-        put(out, text.as_bytes())?;
-        text.clear();
-    }
-    Ok(())
-}
 
 // Gathers the row of a solution.
 fn send_row<A: Allocator, B: Allocator, W: Write>(

@@ -15,7 +15,7 @@ mod serve_arguments;
 use crate::resolver::Resolver;
 use crate::transfer_wire::TransferWire;
 use clap::{ArgMatches, Command};
-use command_line::FileSystem;
+use command_line::{FileSystem, add_command};
 use file_commands::{FileJob, file_job_of, file_program, run_file_job};
 pub use get::{GetArguments, GetFault, get_file};
 pub use put::{PutArguments, put_file};
@@ -46,12 +46,9 @@ pub enum Job {
 pub(crate) fn command<'a>(alloc: Global, names: &'a [&'a str]) -> Result<Command<'a>, AllocError>
     ensures { IfOk result (λ command. app_of command ≡ tws_app names.entry) }
 {
-    let serve = serve_arguments::command(alloc)?;
-    let command = file_program(alloc, names)?.subcommand(serve)?;
-    let put = put::command(alloc)?;
-    let command = command.subcommand(put)?;
-    let get = get::command(alloc, names)?;
-    command.subcommand(get)
+    let program = add_command(file_program(alloc, names), serve_arguments::command(alloc));
+    let program = add_command(program, put::command(alloc));
+    add_command(program, get::command(alloc, names))
 }
 
 /// What the arguments of the command of this name ask for; `None` if they ask for nothing, or there is no such command.

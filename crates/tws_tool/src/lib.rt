@@ -38,8 +38,8 @@ pub use commands::{
     serve_archive,
 };
 pub use file_commands::{
-    BestArguments, CompareArguments, FileJob, PackArguments, PageArguments, ShowArguments,
-    WithoutArguments, run_best, run_compare, run_csv, run_pack, run_page, run_show, run_without,
+    BestArguments, CompareArguments, FileJob, PageArguments, WithoutArguments, run_best, run_compare,
+    run_page, run_without,
 };
 pub use job::job_of;
 pub use laws::{limit_values, words_of_commands};
@@ -47,5 +47,6 @@ pub use limits::{PER_HOST, PORT, ROUNDS, TURNS};
 pub use program::{run_words, run_words_with};
 pub use resolver::Resolver;
 pub use served_keeper::ServedKeeper;
+pub use show_commands::{PackArguments, ShowArguments, ShowJob, run_csv, run_pack, run_show};
 pub use target::Target;
 pub use transfer_wire::TransferWire;

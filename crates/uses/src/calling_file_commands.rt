@@ -1,17 +1,18 @@
-ghost use Rattle.std.specs.Prelude.{[], true, IfOk, Some};
-ghost use Rattle.tws_file.specs.Listing.{listing_of};
-ghost use Rattle.file_commands.specs.Written.{Writes};
+ghost use Rattle.std.specs.Prelude.{[], IfOk, Some};
+ghost use Rattle.tws_compare.specs.Without.{text_without};
+ghost use Rattle.show_commands.specs.Written.{Writes};
 
 use command_line::ToolFault;
-use file_commands::run_show;
+use file_commands::run_without;
 use std::alloc::Global;
+use tws_file::Key;
 
-/// The listing of a solution file, with a line for each move.
-pub fn listing(alloc: Global, bytes: &[u8]) -> Result<Vec<u8>, ToolFault>
-    ensures { IfOk result (λ text. Writes (listing_of true) (Some bytes.now) (Some []) (Some text.items)) }
+/// A solution file without the solutions of a level.
+pub fn mended(alloc: Global, level: Key, bytes: &[u8]) -> Result<Vec<u8>, ToolFault>
+    ensures { IfOk result (λ text. Writes (text_without level) (Some bytes.now) (Some []) (Some text.items)) }
 {
     let mut input = bytes;
     let mut out = Vec::new(alloc);
-    run_show(alloc, &mut input, &mut out, true)?;
+    run_without(alloc, level, &mut input, &mut out)?;
     Ok(out)
 }

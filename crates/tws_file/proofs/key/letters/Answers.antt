@@ -1,5 +1,5 @@
 use Rattle.std.proofs.Common.{sym, ◌∙◌}
-use Rattle.tws_file.proofs.Listings.{letters_as_text}
+use Rattle.tws_file.proofs.Words.{letters_as_text}
 use Rattle.tws_file.proofs.key.letters.Goals as goal
 
 pub returns-then-is_letters : goal.returns-then-is_letters

@@ -1,6 +1,6 @@
 use Rattle.std.proofs.Common.{rules, arith}
 use Rattle.std.proofs.Output.{has_written_append, has_written_of_eq}
-use Rattle.tws_file.proofs.Listings.{hex-more}
+use Rattle.tws_file.proofs.Words.{hex-more}
 use Rattle.tws_file.proofs.hex.HexDisplay.fmt.Goals as goal
 
 pub loop-byte-preserved : goal.loop-byte-preserved

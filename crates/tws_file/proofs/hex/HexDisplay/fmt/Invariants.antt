@@ -1,6 +1,6 @@
 use Rattle.std.proofs.Common.{take}
 use Rattle.std.specs.Fmt.{HasWritten, IsPlainFormatter}
-use Rattle.tws_file.specs.Listing.{hex}
+use Rattle.tws_file.specs.Words.{hex}
 use Rattle.tws_file.proofs.hex.HexDisplay.fmt.Given as goal
 
 abbrev pub invariant-loop-byte : goal.invariant-loop-byte

@@ -1,0 +1,4 @@
+pub mod Written
+pub mod Show
+pub mod Pack
+pub mod ShowJobs

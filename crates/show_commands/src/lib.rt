@@ -1,0 +1,17 @@
+//! The commands `show` and `pack`, over any reader and writer, the list of them, and the program that has only these. Read
+//! `specs/ShowJobs.antt` first, then `specs/Written.antt`, and for a command the file of its name. The crate's README shows
+//! how it is called.
+//!
+//! Each command is a module with `command`, its command line, `asked`, what its arguments ask for, `run`, which does that,
+//! and a function over any reader and writer, such as `run_show`. The list is in `show_job.rt`.
+#![tactic(auto)]
+
+mod pack;
+mod program;
+mod show;
+mod show_job;
+
+pub use pack::{PackArguments, run_pack};
+pub use program::run_show_words;
+pub use show::{ShowArguments, run_csv, run_show};
+pub use show_job::{ShowJob, run_show_job, show_job_of, show_program};

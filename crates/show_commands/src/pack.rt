@@ -1,0 +1,100 @@
+//! The command `pack`.
+
+ghost use Rattle.std.specs.Prelude.{◌≡◌, ◌≢◌, false, OnOk, IfOk, IfErr};
+ghost use Rattle.std.specs.Io.KnownBytes.{IsAtEnd};
+ghost use Rattle.clap.specs.Matches.{found_of};
+ghost use Rattle.clap.specs.Words.{app_of, rows_of};
+ghost use Rattle.clap.specs.declared.builder.command.Command.TheViews.{out-Command};
+ghost use Rattle.tws_file.specs.Packing.{packed_text};
+ghost use Rattle.show_commands.specs.Pack.{AsksToPack, PackRan, pack_app};
+ghost use Rattle.command_line.specs.Faults.{IsReadOut};
+ghost use Rattle.show_commands.specs.Written.{Writes, WriteFails};
+
+use clap::{ArgMatches, Command};
+use command_line::{
+    FileSystem, Source, ToolFault, finish, new_command, read_input, report_file, source_argument,
+    source_given,
+};
+use std::alloc::{AllocError, Global};
+use std::io::{Read, Write};
+use std::slice;
+use tws_file::{pack, write_file};
+
+/// What `pack` is asked for.
+#[derive(Drop)]
+pub struct PackArguments {
+    /// The solution file.
+    pub source: Source,
+}
+
+// What the help of the command begins and ends with.
+const ABOUT: &str = "Write a solution file with its moves in the fewest bytes";
+
+const HELP: &str =
+    "Nothing but the bytes of the moves changes. The file goes to standard output.\n\nExample: tws pack mine.tws > packed.tws";
+
+/// The command, as `clap` reads it.
+pub(crate) fn command<'a>(alloc: Global) -> Result<Command<'a>, AllocError>
+    ensures app { IfOk result (λ command. app_of command ≡ pack_app) }
+    ensures local { IfOk result (λ command. (out-Command command).has_globals ≡ false) }
+{
+    new_command(alloc, "pack", ABOUT, HELP).arg(source_argument(alloc))
+}
+
+/// What the arguments ask for.
+pub(crate) fn asked(alloc: Global, words: &ArgMatches) -> Result<PackArguments, AllocError>
+    ensures { IfOk result (AsksToPack (rows_of (found_of words.now))) }
+{
+    let source = source_given(alloc, words)?;
+    Ok(PackArguments { source })
+}
+
+/// Reads a solution file to its end, and writes it with each solution's moves in the fewest bytes.
+///
+/// # Errors
+///
+/// `Read` if the reader fails or does not end within `INPUT_READS` reads, and `Unreadable` with index 0 and the fault
+/// of the bytes: then nothing was written. `Write` if the writer fails: then a proper prefix of the packed file was
+/// written. `Memory` if an allocation was refused: then nothing was written.
+pub fn run_pack<R: Read, W: Write>(
+    alloc: Global,
+    input: &mut R,
+    out: &mut W,
+) -> Result<(), ToolFault>
+    ensures end { OnOk result (IsAtEnd (R.remaining input.new)) }
+    ensures unreadable { IfErr result (IsReadOut (R.remaining input.new)) }
+    ensures packed { OnOk result (Writes packed_text (R.remaining input.old) (W.contents out.old) (W.contents out.new)) }
+    ensures fails { IfErr result (WriteFails packed_text (R.remaining input.old) (W.contents out.old) (W.contents out.new)) }
+    // Holds also for a writer without ghost contents.
+    ensures unwritten { IfErr result (λ e. e ≢ ToolFault.Write → out.new ≡ out.old) }
+{
+    let file = read_input(alloc, 0, input)?;
+    let packed = pack(alloc, &file)?;
+    write_file(&packed, out)?;
+    Ok(())
+}
+
+/// Runs `pack`, and returns the status.
+pub(crate) fn run<S: FileSystem, R: Read, W: Write, E: Write>(
+    system: &S,
+    alloc: Global,
+    arguments: &PackArguments,
+    input: &mut R,
+    out: &mut W,
+    errors: &mut E,
+) -> u8
+    ensures ran { PackRan (S.bytes_of system.now) (input.new ≡ input.old) arguments.now result (R.remaining input.old) (R.remaining input.new) (W.contents out.old) (W.contents out.new) }
+    ensures unreadable { result ≡ 3 → out.new ≡ out.old }
+    ensures silent { result ≡ 0 → errors.new ≡ errors.old }
+{
+    match &arguments.source {
+        Source::Standard => finish(run_pack(alloc, input, out), &[], errors),
+        Source::Named(name) => match system.open(name.as_str()) {
+            Ok(mut file) => {
+                let done = run_pack(alloc, &mut file, out);
+                finish(done, slice::from_ref(name), errors)
+            }
+            Err(cause) => report_file(ToolFault::Read, name.as_str(), &cause, errors),
+        },
+    }
+}

@@ -1,0 +1,173 @@
+//! The command `show`.
+
+ghost use Rattle.std.specs.Prelude.{◌≡◌, false, OnOk, IfOk, IfErr};
+ghost use Rattle.std.specs.Io.KnownBytes.{IsAtEnd};
+ghost use Rattle.clap.specs.Matches.{found_of};
+ghost use Rattle.clap.specs.Words.{app_of, rows_of, rule_of};
+ghost use Rattle.clap.specs.declared.builder.command.Command.TheViews.{out-Command};
+ghost use Rattle.tws_tables.specs.Listing.{listing_of};
+ghost use Rattle.tws_tables.specs.Csv.{csv_of};
+ghost use Rattle.show_commands.specs.Show.{AsksToShow, ShowRan, csv_rule, moves_rule, show_app, shown_text};
+ghost use Rattle.command_line.specs.Faults.{IsBeforeOutput, IsReadOut};
+ghost use Rattle.show_commands.specs.Written.{Writes, WriteFails};
+
+use clap::{Arg, ArgAction, ArgMatches, Command};
+use command_line::{
+    FileSystem, Source, ToolFault, finish, new_command, read_input, report_file, source_argument,
+    source_given,
+};
+use std::alloc::{AllocError, Global};
+use std::io::{Read, Write};
+use std::slice;
+use tws_tables::{show, write_csv};
+
+/// What `show` is asked for.
+#[derive(Drop)]
+pub struct ShowArguments {
+    /// The solution file.
+    pub source: Source,
+    /// With a line for each move.
+    pub moves: bool,
+    /// As comma-separated values, in which there are no lines for moves.
+    pub csv: bool,
+}
+
+fn moves_argument<'a>(alloc: Global) -> Arg<'a>
+    ensures rule { rule_of result ≡ moves_rule }
+    ensures local { result.global ≡ false }
+{
+    Arg::new(alloc, "moves")
+        .long("moves")
+        .action(ArgAction::SetTrue)
+        .help("With a line for each move")
+}
+
+fn csv_argument<'a>(alloc: Global) -> Arg<'a>
+    ensures rule { rule_of result ≡ csv_rule }
+    ensures local { result.global ≡ false }
+{
+    Arg::new(alloc, "csv")
+        .long("csv")
+        .action(ArgAction::SetTrue)
+        .help("The solutions as comma-separated values, with the number of moves of each")
+}
+
+// What the help of the command begins and ends with.
+const ABOUT: &str = "List a solution file";
+
+const HELP: &str =
+    "Writes a line for the header, one for each record, and one for their number.\n\nExample: tws show --moves mine.tws";
+
+/// The command, as `clap` reads it.
+pub(crate) fn command<'a>(alloc: Global) -> Result<Command<'a>, AllocError>
+    ensures app { IfOk result (λ command. app_of command ≡ show_app) }
+    ensures local { IfOk result (λ command. (out-Command command).has_globals ≡ false) }
+{
+    new_command(alloc, "show", ABOUT, HELP)
+        .arg(source_argument(alloc))?
+        .arg(moves_argument(alloc))?
+        .arg(csv_argument(alloc))
+}
+
+/// What the arguments ask for.
+pub(crate) fn asked(alloc: Global, words: &ArgMatches) -> Result<ShowArguments, AllocError>
+    ensures { IfOk result (AsksToShow (rows_of (found_of words.now))) }
+{
+    let source = source_given(alloc, words)?;
+    let moves = words.get_flag("moves");
+    let csv = words.get_flag("csv");
+    Ok(ShowArguments { source, moves, csv })
+}
+
+/// Reads a solution file to its end, and writes its listing, with a line for each move if `moves` is set.
+///
+/// # Errors
+///
+/// `Read` if the reader fails or does not end within `INPUT_READS` reads, and `Unreadable` with index 0 and the fault
+/// of the bytes: then nothing was written. `Write` if the writer fails: then a proper prefix of the listing was
+/// written. `Memory` if an allocation was refused: then nothing or a prefix of the listing was written.
+pub fn run_show<R: Read, W: Write>(
+    alloc: Global,
+    input: &mut R,
+    out: &mut W,
+    moves: bool,
+) -> Result<(), ToolFault>
+    ensures end { OnOk result (IsAtEnd (R.remaining input.new)) }
+    ensures unreadable { IfErr result (IsReadOut (R.remaining input.new)) }
+    ensures listed { OnOk result (Writes (listing_of moves) (R.remaining input.old) (W.contents out.old) (W.contents out.new)) }
+    ensures fails { IfErr result (WriteFails (listing_of moves) (R.remaining input.old) (W.contents out.old) (W.contents out.new)) }
+    // Holds also for a writer without ghost contents.
+    ensures unwritten { IfErr result (λ e. IsBeforeOutput e → out.new ≡ out.old) }
+{
+    let file = read_input(alloc, 0, input)?;
+    show(alloc, &file, moves, out)?;
+    Ok(())
+}
+
+/// Reads a solution file to its end, and writes its solutions as comma-separated values.
+///
+/// # Errors
+///
+/// Those of `run_show`, with the comma-separated values for the listing.
+pub fn run_csv<R: Read, W: Write>(
+    alloc: Global,
+    input: &mut R,
+    out: &mut W,
+) -> Result<(), ToolFault>
+    ensures end { OnOk result (IsAtEnd (R.remaining input.new)) }
+    ensures unreadable { IfErr result (IsReadOut (R.remaining input.new)) }
+    ensures written { OnOk result (Writes csv_of (R.remaining input.old) (W.contents out.old) (W.contents out.new)) }
+    ensures fails { IfErr result (WriteFails csv_of (R.remaining input.old) (W.contents out.old) (W.contents out.new)) }
+    // Holds also for a writer without ghost contents.
+    ensures unwritten { IfErr result (λ e. IsBeforeOutput e → out.new ≡ out.old) }
+{
+    let file = read_input(alloc, 0, input)?;
+    write_csv(alloc, &file, out)?;
+    Ok(())
+}
+
+// Reads a solution file to its end, and writes it as it is asked for.
+#[tactic(auto, unfolding(crate::specs::Show::shown_text))]
+fn show_input<R: Read, W: Write>(
+    alloc: Global,
+    arguments: &ShowArguments,
+    input: &mut R,
+    out: &mut W,
+) -> Result<(), ToolFault>
+    ensures end { OnOk result (IsAtEnd (R.remaining input.new)) }
+    ensures unreadable { IfErr result (IsReadOut (R.remaining input.new)) }
+    ensures shown { OnOk result (Writes (shown_text arguments.now) (R.remaining input.old) (W.contents out.old) (W.contents out.new)) }
+    ensures fails { IfErr result (WriteFails (shown_text arguments.now) (R.remaining input.old) (W.contents out.old) (W.contents out.new)) }
+    ensures unwritten { IfErr result (λ e. IsBeforeOutput e → out.new ≡ out.old) }
+{
+    if arguments.csv {
+        run_csv(alloc, input, out)
+    } else {
+        run_show(alloc, input, out, arguments.moves)
+    }
+}
+
+/// Runs `show`, and returns the status.
+pub(crate) fn run<S: FileSystem, R: Read, W: Write, E: Write>(
+    system: &S,
+    alloc: Global,
+    arguments: &ShowArguments,
+    input: &mut R,
+    out: &mut W,
+    errors: &mut E,
+) -> u8
+    ensures ran { ShowRan (S.bytes_of system.now) (input.new ≡ input.old) arguments.now result (R.remaining input.old) (R.remaining input.new) (W.contents out.old) (W.contents out.new) }
+    ensures unreadable { result ≡ 3 → out.new ≡ out.old }
+    ensures silent { result ≡ 0 → errors.new ≡ errors.old }
+{
+    match &arguments.source {
+        Source::Standard => finish(show_input(alloc, arguments, input, out), &[], errors),
+        Source::Named(name) => match system.open(name.as_str()) {
+            Ok(mut file) => {
+                let done = show_input(alloc, arguments, &mut file, out);
+                finish(done, slice::from_ref(name), errors)
+            }
+            Err(cause) => report_file(ToolFault::Read, name.as_str(), &cause, errors),
+        },
+    }
+}

@@ -1,0 +1,19 @@
+use thiserror::Error;
+
+/// Why a transfer failed.
+#[derive(Clone, Copy, Debug, PartialEq, Eq, Error)]
+pub enum Cause {
+    /// The server sent an ERROR with this code, RFC 1350 section 5.
+    #[error("refused {0}")]
+    Refused(u16),
+    /// `MISSES` time-outs in a row without progress.
+    #[error("timed out")]
+    TimedOut,
+    /// The file has more blocks than can be numbered: that of a get goes on after block `MAX_BLOCKS`, that of a put has
+    /// more than `MAX_FILE` bytes.
+    #[error("too long")]
+    TooLong,
+    /// Out of memory for a block. Only a get fails with this.
+    #[error("out of memory")]
+    Memory,
+}

@@ -1,0 +1,32 @@
+-- Rulesets, bytes, passwords and levels in words, and a line of text.
+use Rattle.std.specs.Prelude.{ℕ, ◌/◌, ◌%◌, false, List, [], ◌∷◌, ◌++◌, codes, decimal, if◌then◌else◌}
+use Rattle.std.specs.List.{flat_map, list_all}
+use Rattle.std.specs.Char.{is_ascii_alphabetic}
+use Rattle.std.specs.Fmt.{digit_glyph}
+use Rattle.tws_file.specs.declared.key.Key.{Key}
+use Rattle.tws_file.specs.declared.«ruleset».Ruleset.{Ruleset}
+use Rattle.tws_file.specs.declared.«ruleset».Ruleset.TheVariants.{Lynx, Ms}
+
+abbrev pub ruleset_name : Ruleset → List ℕ
+ruleset_name Lynx = codes "lynx"
+ruleset_name Ms = codes "ms"
+
+-- two lower-case hexadecimal digits
+abbrev pub hex_byte : ℕ → List ℕ
+hex_byte b = digit_glyph false (b / 16) ∷ digit_glyph false (b % 16) ∷ []
+
+-- the bytes in order, each as two digits
+abbrev pub hex : List ℕ → List ℕ
+hex bytes = flat_map hex_byte bytes
+
+-- four letters as they are, and other bytes as an x and their hexadecimal digits
+abbrev pub password_text : List ℕ → List ℕ
+password_text password = if list_all is_ascii_alphabetic password then password else codes "x" ++ hex password
+
+-- a level's number and password
+abbrev pub key_text : Key → List ℕ
+key_text key = decimal key.number ++ codes " " ++ password_text key.password
+
+-- a text, and a line feed after it
+abbrev pub line : List ℕ → List ℕ
+line text = text ++ 10 ∷ []

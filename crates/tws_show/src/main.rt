@@ -1,0 +1,31 @@
+//! The program `tws` with only `show` and `pack`, which is proved and built sooner: the launcher runs it for these commands
+//! until the whole program is there.
+#![tactic(auto)]
+
+use command_line::{Noted, System, report_arguments, report_streams};
+use show_commands::run_show_words;
+use std::process::ExitCode;
+use std::{env, io};
+
+fn run(rt: &HostRuntime) -> io::Result<u8> {
+    let words: Vec<String> = env::args(rt)?.collect(rt.alloc())?;
+    let (mut input, mut out) = (Noted::new(rt.stdin()), Noted::new(rt.stdout()));
+    let mut errors = rt.stderr();
+    let status = run_show_words(
+        &System(*rt),
+        rt.alloc(),
+        &words,
+        &mut input,
+        &mut out,
+        &mut errors,
+    );
+    Ok(report_streams(status, &input, &out, &mut errors))
+}
+
+fn main(rt: HostRuntime) -> ExitCode {
+    let status = match run(&rt) {
+        Ok(status) => status,
+        Err(error) => report_arguments(&error, &mut rt.stderr()),
+    };
+    ExitCode::from(status)
+}
