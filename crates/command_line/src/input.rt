@@ -16,11 +16,7 @@ use tws_file::{FileFault, Reader, TwsFile};
 ///
 /// `Read` if the reader fails or does not end within `INPUT_READS` reads; `Unreadable` with the index and the fault of the
 /// bytes, once they were read to their end; `Memory` if an allocation was refused.
-pub fn read_input<R: Read>(
-    alloc: Global,
-    index: usize,
-    input: &mut R,
-) -> Result<TwsFile, ToolFault>
+pub fn read_input<R: Read>(alloc: Global, index: usize, input: &mut R) -> Result<TwsFile, ToolFault>
     ensures file { IfOk result (IsRead (R.remaining input.old) (R.remaining input.new)) }
     ensures unreadable { IfErr result (IsReadOut (R.remaining input.new)) }
     ensures fault { IfErr result (ReadFails index (R.remaining input.old)) }

@@ -3,8 +3,8 @@ ghost use Rattle.command_line.specs.Faults.{written_fault, input_fault, status_o
 ghost use Rattle.command_line.specs.declared.tool_fault.ToolFault.TheVariants.{Memory};
 
 use crate::status::{FAILED, NOT_TRANSFERRED, UNREADABLE};
-use tftp_ends::Cause;
 use std::alloc::{AllocError, AllocFailed};
+use tftp_ends::Cause;
 use thiserror::Error;
 use tws_file::{FileFault, OutFault};
 

@@ -15,7 +15,10 @@ use crate::opening::{NotOpened, open_all};
 use crate::reporting::{finish_among, report_unopened};
 use crate::standard::{has_standard, read_bytes};
 use clap::{ArgMatches, Command};
-use command_line::{FileSystem, Source, ToolFault, new_command, read_input, report, ruleset_argument, ruleset_given, sources_given};
+use command_line::{
+    FileSystem, Source, ToolFault, new_command, read_input, report, ruleset_argument,
+    ruleset_given, sources_given,
+};
 use std::alloc::{AllocError, Global};
 use std::io::{Read, Write};
 use std::mem;

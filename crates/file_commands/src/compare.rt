@@ -11,7 +11,9 @@ ghost use Rattle.command_line.specs.Faults.{status_of};
 
 use byte_output::put;
 use clap::{Arg, ArgAction, ArgMatches, Command};
-use command_line::{DONE, FileSystem, ToolFault, USAGE, new_command, read_input, report, report_file, string_given};
+use command_line::{
+    DONE, FileSystem, ToolFault, USAGE, new_command, read_input, report, report_file, string_given,
+};
 use std::alloc::{AllocError, Global};
 use std::io::{Read, Write};
 use std::slice;

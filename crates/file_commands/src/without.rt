@@ -13,7 +13,10 @@ ghost use Rattle.show_commands.specs.Written.{RanFrom, Writes, WriteFails};
 
 use clap::builder::ValueParser;
 use clap::{Arg, ArgMatches, Command};
-use command_line::{FileSystem, Source, ToolFault, USAGE, finish, new_command, number_up_to, read_input, report_file, source_argument, source_given, string_given, text_given};
+use command_line::{
+    FileSystem, Source, ToolFault, USAGE, finish, new_command, number_up_to, read_input,
+    report_file, source_argument, source_given, string_given, text_given,
+};
 use std::alloc::{AllocError, Global};
 use std::io::{Read, Write};
 use std::slice;

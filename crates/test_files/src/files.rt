@@ -4,8 +4,8 @@ use std::fmt::Display;
 use std::test::Fail;
 use test_samples::{CUT_MOVE, EMPTY_LYNX, EMPTY_MS, HUNDRED, UNREADABLE, join, record};
 use tws_file::{FileFault, OutFault, Record, Solution, TwsFile, pack, read_file, write_file};
-use tws_tables::show;
 use tws_moves::{MovesFault, SpellFault};
+use tws_tables::show;
 
 // Whether reading returns this fault.
 fn has_fault(alloc: Global, bytes: &[u8], fault: FileFault) -> bool {

@@ -1,24 +1,8 @@
-//! Tests only: lists of events for `replay`, by hand and drawn, and the outcome of each. RFC 1350 sections 2, 4 and 5.
-//!
-//! The expected outcome of a list by hand is written out, its datagrams as bytes. The outcome of a drawn list is tested
-//! against every promise by a plain function.
+//! Tests only: lists of events for `replay`, with what its keeper is given, and with keepers that fail. Lists without a keeper
+//! of their own are tested by the program `replay_schedule` (`system_tests/schedules`).
 #![tactic(auto)]
 
 #[cfg(test)]
-mod drawn;
-#[cfg(test)]
-mod faults;
-#[cfg(test)]
-mod gets;
-#[cfg(test)]
-mod promises;
-#[cfg(test)]
-mod puts;
-#[cfg(test)]
-mod restarting;
+mod keeping;
 #[cfg(test)]
 mod scene;
-#[cfg(test)]
-mod schedules;
-#[cfg(test)]
-mod strangers;

@@ -38,8 +38,8 @@ pub use commands::{
     serve_archive,
 };
 pub use file_commands::{
-    BestArguments, CompareArguments, FileJob, PageArguments, WithoutArguments, run_best, run_compare,
-    run_page, run_without,
+    BestArguments, CompareArguments, FileJob, PageArguments, WithoutArguments, run_best,
+    run_compare, run_page, run_without,
 };
 pub use job::job_of;
 pub use laws::{limit_values, words_of_commands};

@@ -1,64 +1,62 @@
-// A server that restarts, and a keeper that fails.
-use crate::scene::{Act, NO_CALL, NOTHING, ONE_PUT, Wanted, failing, fault, fault_by, other_after};
+// What the keeper of a replay is given, and keepers that fail.
+use crate::scene::{Act, NO_CALL, NOTHING, Wanted, failing, fault_by, other_after};
 use archive_table::MemoryKeeper;
-use archive_world::{Asked, SERVER, WorldFault};
+use archive_world::{SERVER, WorldFault};
 use std::alloc::Global;
 use std::test::Fail;
 use test_samples::{
-    ACK_0, ACK_1, ALICE, BOB, DATA_HUNDRED, EMPTY_MS, HUNDRED, NOT_KEPT, PEER, RRQ_LYNX,
-    SECOND_PEER, UNREADABLE, WRQ, at,
+    ACK_0, ACK_1, ALICE, BOB, CAROL, DATA_HUNDRED, EMPTY_MS, HUNDRED, NOT_KEPT, PEER, SECOND_PEER,
+    THIRD_PEER, UNREADABLE, WRQ,
 };
-use tws_file::Ruleset;
 
-// What was taken before the restart is fetched after it. A time-out of the port that had a transfer changes nothing.
+// The same file from three clients, one after another.
+const THREE_PUTS: [Act<'static>; 15] = [
+    Act::Put(ALICE, HUNDRED),
+    Act::Ask(0, 4000),
+    Act::Deliver(1),
+    Act::Deliver(2),
+    Act::Deliver(3),
+    Act::Put(BOB, HUNDRED),
+    Act::Ask(4, 4001),
+    Act::Deliver(5),
+    Act::Deliver(6),
+    Act::Deliver(7),
+    Act::Put(CAROL, HUNDRED),
+    Act::Ask(8, 4002),
+    Act::Deliver(9),
+    Act::Deliver(10),
+    Act::Deliver(11),
+];
+
+// It is taken three times, and kept once.
 #[test]
-fn a_restart_between_a_put_and_a_get(rt: HostRuntime) -> Result<(), Fail> {
-    const ACTS: &[Act<'static>] = &[
-        Act::Put(ALICE, HUNDRED),
-        Act::Ask(0, 4000),
-        Act::Deliver(1),
-        Act::Deliver(2),
-        Act::Deliver(3),
-        Act::Restart,
-        Act::PortWaits(4000),
-        Act::Get(BOB, Ruleset::Lynx),
-        Act::Ask(4, 4001),
-        Act::Deliver(5),
-    ];
+fn one_file_of_three_clients(rt: HostRuntime) -> Result<(), Fail> {
     const WANTED: Wanted<'static> = Wanted {
-        got: &[(BOB, HUNDRED)],
-        opened: &[
-            (ALICE, 4000, Asked::Write, 0),
-            (BOB, 4001, Asked::Read(Ruleset::Lynx), 1),
-        ],
+        taken: &[(ALICE, HUNDRED), (BOB, HUNDRED), (CAROL, HUNDRED)],
+        sent: &[ALICE, BOB, CAROL],
+        opened: &[(ALICE, 4000, 0), (BOB, 4001, 1), (CAROL, 4002, 2)],
+        lynx: HUNDRED,
         datagrams: &[
             (ALICE, SERVER, WRQ),
             (PEER, ALICE, ACK_0),
             (ALICE, PEER, DATA_HUNDRED),
             (PEER, ALICE, ACK_1),
-            (BOB, SERVER, RRQ_LYNX),
-            (SECOND_PEER, BOB, DATA_HUNDRED),
-            (BOB, SECOND_PEER, ACK_1),
+            (BOB, SERVER, WRQ),
+            (SECOND_PEER, BOB, ACK_0),
+            (BOB, SECOND_PEER, DATA_HUNDRED),
+            (SECOND_PEER, BOB, ACK_1),
+            (CAROL, SERVER, WRQ),
+            (THIRD_PEER, CAROL, ACK_0),
+            (CAROL, THIRD_PEER, DATA_HUNDRED),
+            (THIRD_PEER, CAROL, ACK_1),
         ],
-        ..ONE_PUT
+        given: &[(HUNDRED, true)],
+        ..NOTHING
     };
-    assert_eq!(rt; other_after(rt.alloc(), ACTS, NO_CALL, &WANTED)?, None);
-    Ok(())
-}
-
-// The transfer at the port is gone after the restart; the same client may not have another one there.
-#[test]
-fn a_port_from_before_the_restart(rt: HostRuntime) -> Result<(), Fail> {
-    const ACTS: &[Act<'static>] = &[
-        Act::Put(ALICE, HUNDRED),
-        Act::Ask(0, 4000),
-        Act::Deliver(1),
-        Act::Deliver(2),
-        Act::Deliver(3),
-        Act::Restart,
-        Act::Ask(0, 4000),
-    ];
-    assert_eq!(rt; fault(rt.alloc(), ACTS)?, Some(WorldFault::PortReused(6)));
+    assert_eq!(rt;
+        other_after(rt.alloc(), &THREE_PUTS, NO_CALL, &WANTED)?,
+        None
+    );
     Ok(())
 }
 
@@ -82,7 +80,7 @@ fn a_keep_that_fails(rt: HostRuntime) -> Result<(), Fail> {
     const WANTED: Wanted<'static> = Wanted {
         taken: &[(BOB, HUNDRED)],
         sent: &[BOB],
-        opened: &[(ALICE, 4000, Asked::Write, 0), (BOB, 4001, Asked::Write, 0)],
+        opened: &[(ALICE, 4000, 0), (BOB, 4001, 0)],
         lynx: HUNDRED,
         datagrams: &[
             (ALICE, SERVER, WRQ),
@@ -94,10 +92,7 @@ fn a_keep_that_fails(rt: HostRuntime) -> Result<(), Fail> {
             (BOB, SECOND_PEER, DATA_HUNDRED),
             (SECOND_PEER, BOB, ACK_1),
         ],
-        given: &[
-            (Ruleset::Lynx, HUNDRED, false),
-            (Ruleset::Lynx, HUNDRED, true),
-        ],
+        given: &[(HUNDRED, false), (HUNDRED, true)],
         ..NOTHING
     };
     assert_eq!(rt; other_after(rt.alloc(), ACTS, 1, &WANTED)?, None);
@@ -117,38 +112,18 @@ const PUT_AND_RESTART: [Act<'static>; 5] = [
 #[test]
 fn a_restart_after_a_keep_that_fails(rt: HostRuntime) -> Result<(), Fail> {
     const WANTED: Wanted<'static> = Wanted {
-        opened: &[(ALICE, 4000, Asked::Write, 0)],
+        opened: &[(ALICE, 4000, 0)],
         datagrams: &[
             (ALICE, SERVER, WRQ),
             (PEER, ALICE, ACK_0),
             (ALICE, PEER, DATA_HUNDRED),
             (PEER, ALICE, NOT_KEPT),
         ],
-        given: &[(Ruleset::Lynx, HUNDRED, false)],
+        given: &[(HUNDRED, false)],
         ..NOTHING
     };
     assert_eq!(rt;
         other_after(rt.alloc(), &PUT_AND_RESTART, 1, &WANTED)?,
-        None
-    );
-    Ok(())
-}
-
-// No call fails: the file was taken, and the server has it again. The client has not received the last ACK.
-#[test]
-fn a_restart_after_a_put(rt: HostRuntime) -> Result<(), Fail> {
-    const WANTED: Wanted<'static> = Wanted {
-        sent: &[],
-        datagrams: &[
-            (ALICE, SERVER, WRQ),
-            (PEER, ALICE, ACK_0),
-            (ALICE, PEER, DATA_HUNDRED),
-            (PEER, ALICE, ACK_1),
-        ],
-        ..ONE_PUT
-    };
-    assert_eq!(rt;
-        other_after(rt.alloc(), &PUT_AND_RESTART, NO_CALL, &WANTED)?,
         None
     );
     Ok(())
@@ -193,5 +168,22 @@ fn a_restart_with_bytes_that_are_no_collection(rt: HostRuntime) -> Result<(), Fa
             Some(WorldFault::NotLoaded(1))
         );
     }
+    Ok(())
+}
+
+// What the keeper was given before the fault stays.
+#[test]
+fn a_fault_after_a_file_was_taken(rt: HostRuntime) -> Result<(), Fail> {
+    const ACTS: &[Act<'static>] = &[
+        Act::Put(ALICE, HUNDRED),
+        Act::Ask(0, 4000),
+        Act::Deliver(1),
+        Act::Deliver(2),
+        Act::Deliver(4),
+    ];
+    assert_eq!(rt;
+        failing(rt.alloc(), NO_CALL, ACTS)?,
+        (Some(WorldFault::BadEvent(4)), true)
+    );
     Ok(())
 }
