@@ -1,4 +1,4 @@
-use tftp_ends::Cause;
+use tftp_cause::Cause;
 
 /// How far a client has got.
 #[derive(Clone, Copy, Debug, PartialEq, Eq)]

@@ -14,7 +14,7 @@ use Rattle.tftp_ends.specs.Input.{Input, nothing, stray, refusal, acked, block, 
 use Rattle.tws_file.specs.declared.«ruleset».Ruleset.{Ruleset}
 use Rattle.tws_file.specs.declared.«ruleset».Ruleset.TheVariants.{Lynx, Ms}
 use Rattle.tws_file.specs.Names.{file_name_of, upload_name, ruleset_named}
-use Rattle.tftp_ends.specs.declared.cause.Cause.TheVariants as cause
+use Rattle.tftp_cause.specs.declared.cause.Cause.TheVariants as cause
 use Rattle.archive_client.specs.declared.state.State.TheVariants as state
 use Rattle.archive_client.specs.Client.{Operation, put, get, Phase, asking, sending, receiving, failed, Client, operation_request, request_out, phase_state, phase_peer, is_over, client_input_decoded, client_input_at, client_input, ack_received, data_received, refusal_received, client_by_input, client_unless_over, client_datagram, asks_again, phase_waits, client_timeout, client_input_at_port}
 use Rattle.archive_model.specs.World.{Datagram, World, server_endpoint, after_client, client_at}

@@ -8,7 +8,7 @@ use Rattle.tftp_packet.specs.Packet.{Packet, encode}
 use Rattle.tftp_packet.specs.Refusal.{refusal_packet}
 use Rattle.tftp_packet.specs.Decode.{decode_bytes}
 use Rattle.tftp_packet.proofs.Sent.{sent_refusal}
-use Rattle.tftp_ends.specs.declared.cause.Cause.{Cause}
+use Rattle.tftp_cause.specs.declared.cause.Cause.{Cause}
 use Rattle.archive_client.specs.declared.state.State.{State}
 use Rattle.archive_client.specs.declared.state.State.TheVariants as state
 use Rattle.archive_client.specs.Client.{Phase, failed, Client, in_phase, out_to, client_stays, moves, fails, phase_state, phase_file}

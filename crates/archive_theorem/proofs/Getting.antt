@@ -13,7 +13,7 @@ use Rattle.tftp_ends.specs.Ends.{Verdict, Receiver, DataAnswer, receiver_start, 
 use Rattle.tftp_ends.proofs.Steps.{ReadsBack, IsReceiver-start, receiver_data-keeps, receiver_timeout-keeps, acks-reads_back}
 use Rattle.tftp_ends.proofs.Holding.{receiver_data-holds, receiver_timeout-holds, ended-whole}
 use Rattle.tws_file.specs.declared.«ruleset».Ruleset.{Ruleset}
-use Rattle.tftp_ends.specs.declared.cause.Cause.TheVariants as cause
+use Rattle.tftp_cause.specs.declared.cause.Cause.TheVariants as cause
 use Rattle.archive_client.specs.declared.state.State.TheVariants as state
 use Rattle.archive_client.specs.Client.{get, Phase, asking, receiving, failed, Client, in_phase, out_to, sends_to, moves, get_took, get_answered, get_refused, get_waited, get_waits, get_stays, cause_of, recv_state, phase_state}
 use Rattle.archive_model.specs.World.{Datagram, World, to_read, server_endpoint, newly_got, after_client, client_at}

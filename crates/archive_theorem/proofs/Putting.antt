@@ -8,7 +8,7 @@ use Rattle.tftp_ends.specs.declared.send_state.SendState.{SendState}
 use Rattle.tftp_ends.specs.declared.send_state.SendState.TheVariants as send
 use Rattle.tftp_ends.specs.Ends.{Sender, SendAnswer, data_packet, sender_start, sender_ack, sender_timeout}
 use Rattle.tftp_ends.proofs.Steps.{ReadsBack, KeepsSender, IsSender-start, start-reads_back, sender_ack-keeps, sender_ack-finishes, sender_timeout-keeps, sender_timeout-finishes, sends-reads_back}
-use Rattle.tftp_ends.specs.declared.cause.Cause.TheVariants as cause
+use Rattle.tftp_cause.specs.declared.cause.Cause.TheVariants as cause
 use Rattle.archive_client.specs.declared.state.State.TheVariants as state
 use Rattle.archive_client.specs.Client.{put, Phase, asking, sending, Client, in_phase, out_to, sends_to, put_answered, put_sent, put_waited, put_waits, send_state, phase_state}
 use Rattle.archive_model.specs.World.{Datagram, World, server_endpoint, newly_sent, after_client, client_at}

@@ -6,7 +6,7 @@ use Rattle.tftp_packet.specs.declared.endpoint.Endpoint.{Endpoint}
 use Rattle.tftp_packet.specs.declared.out.Out.{Out}
 use Rattle.tftp_ends.specs.declared.limits.TheConstants.{MAX_FILE}
 use Rattle.tftp_ends.specs.Ends.{Verdict, granted}
-use Rattle.tftp_ends.specs.declared.cause.Cause.TheVariants as cause
+use Rattle.tftp_cause.specs.declared.cause.Cause.TheVariants as cause
 use Rattle.archive_client.specs.Client.{Client, Operation, put, client_start, request_out, is_too_long}
 use Rattle.archive_turns.specs.declared.limits.TheConstants.{QUIET_TURNS}
 use Rattle.archive_turns.specs.declared.run_fault.RunFault.{RunFault}

@@ -4,7 +4,7 @@ ghost use Rattle.command_line.specs.declared.tool_fault.ToolFault.TheVariants.{M
 
 use crate::status::{FAILED, NOT_TRANSFERRED, UNREADABLE};
 use std::alloc::{AllocError, AllocFailed};
-use tftp_ends::Cause;
+use tftp_cause::Cause;
 use thiserror::Error;
 use tws_file::{FileFault, OutFault};
 

@@ -7,7 +7,6 @@
 //! of the file, for crates above.
 #![tactic(auto)]
 
-mod cause;
 mod chunks;
 mod laws;
 mod limits;
@@ -18,7 +17,6 @@ mod recv_state;
 mod send_state;
 mod sender;
 
-pub use cause::Cause;
 pub use chunks::CHUNK_SIZE;
 pub use laws::{joined_chunks, limit_values, one_pair};
 pub use limits::{DALLY, MAX_BLOCKS, MAX_FILE, MISSES};

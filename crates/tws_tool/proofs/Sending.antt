@@ -5,8 +5,8 @@ use Rattle.tws_file.specs.Text.{IsReadable}
 use Rattle.tftp_packet.specs.declared.endpoint.Endpoint.{Endpoint}
 use Rattle.archive_client.specs.declared.state.State.{State}
 use Rattle.archive_client.specs.declared.state.State.TheVariants as state
-use Rattle.tftp_ends.specs.declared.cause.Cause.{Cause}
-use Rattle.tftp_ends.specs.declared.cause.Cause.TheVariants as cause
+use Rattle.tftp_cause.specs.declared.cause.Cause.{Cause}
+use Rattle.tftp_cause.specs.declared.cause.Cause.TheVariants as cause
 use Rattle.archive_client.specs.Client.{Operation, put, state_of, is_too_long}
 use Rattle.archive_turns.specs.declared.run_fault.RunFault.{RunFault}
 use Rattle.archive_turns.specs.declared.run_fault.RunFault.TheVariants as run

@@ -7,7 +7,7 @@ use Rattle.tws_file.specs.Text.{IsReadable}
 use Rattle.tws_file.specs.Fault.{HasFileFault}
 use Rattle.tftp_packet.specs.declared.endpoint.Endpoint.{Endpoint}
 use Rattle.tftp_ends.specs.declared.limits.TheConstants.{MAX_FILE}
-use Rattle.tftp_ends.specs.declared.cause.Cause.TheVariants as cause
+use Rattle.tftp_cause.specs.declared.cause.Cause.TheVariants as cause
 use Rattle.archive_turns.specs.declared.run_fault.RunFault.{RunFault}
 use Rattle.archive_turns.specs.declared.run_fault.RunFault.TheVariants as run
 use Rattle.archive_turns.specs.Wire.{Entry}
