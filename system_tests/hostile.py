@@ -225,6 +225,55 @@ def puts_stop_reading():
     check("a file without end", status == 4 and text == b"tws: transfer failed: too long\n" and took < 10)
 
 
+def as_many_blocks_as_there_are_numbers():
+    """A file of 65,534 whole blocks and 511 bytes is taken, and its last ACK is sent again when the block is; no number follows
+    it. One of 65,535 whole blocks is refused."""
+    with Server() as server:
+        for last, wanted in ((b"\7" * 511, b"\0\4\xff\xff"), (b"\7" * 512, b"\0\5\0\3file too long\0")):
+            own, began = end(), time.monotonic()
+            to = ("127.0.0.1", server.begin(own, WRQ)[1])
+
+            def answer(number, block):
+                own.sendto(b"\0\3" + number + block, to)
+                return own.recv(2000)
+
+            numbers = [number.to_bytes(2, "big") for number in range(1, 65535)]
+            check("65,534 whole blocks", all(answer(number, b"\7" * 512) == b"\0\4" + number for number in numbers))
+            check(f"a last block of {len(last)} bytes", answer(b"\xff\xff", last) == wanted)
+            print(f"65,534 whole blocks and {len(last)} bytes: {time.monotonic() - began:.1f} s")
+            if len(last) < 512:
+                check("the last block again", answer(b"\xff\xff", last) == wanted)
+                own.settimeout(0.3)
+                for number in b"\0\0", b"\0\1":
+                    own.sendto(b"\0\3" + number + b"end", to)
+                try:
+                    check("a block after the last number", own.recv(2000) is None)
+                except TimeoutError:
+                    check("a block after the last number", True)
+
+
+def a_dallying_transfer_gives_way():
+    """With a place for each of 64 transfers, one that has its file gives way to a request, and no other does."""
+    with Server() as server:
+        ends = [end() for _ in range(65)]
+        _, port = server.begin(ends[0], WRQ)
+        ends[0].sendto(b"\0\3\0\1" + HEADER, ("127.0.0.1", port))
+        check("the file of the first", ends[0].recv(2000) == b"\0\4\0\1")
+        answers = [server.begin(own, WRQ)[0] for own in ends[1:]]
+        check("64 more requests", answers == [b"\0\4\0\0"] * 64)
+        check("one too many", server.begin(ends[0], WRQ)[0] == b"\0\5\0\0server busy\0")
+        print("64 transfers and one that dallies: a request finds its place")
+
+
+def ports_are_drawn():
+    """Who knows a port cannot tell the next one: of twenty ports one order in 20! rises."""
+    with Server() as server:
+        ports = [server.begin(end(), WRQ)[1] for _ in range(20)]
+        print(f"the ports of twenty transfers: {min(ports)} to {max(ports)}")
+        check("ports for private use", all(port >= 49152 for port in ports) and len(set(ports)) == 20)
+        check("ports in no order", ports != sorted(ports))
+
+
 def drafts_that_are_no_files():
     """A draft that is a FIFO, or a link to another file, is removed at the start and replaced by a keep, and nothing is written
     through it."""
@@ -347,6 +396,9 @@ def main():
         gets_write_before_they_dally,
         puts_stop_reading,
         drafts_that_are_no_files,
+        as_many_blocks_as_there_are_numbers,
+        a_dallying_transfer_gives_way,
+        ports_are_drawn,
         no_collection_outgrows_what_can_be_served,
         a_full_disk_loses_nothing,
     ]

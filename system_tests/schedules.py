@@ -62,6 +62,15 @@ WORDS = {
     "RRQ_MS": b"\0\1ms.tws\0octet\0",
     "UNKNOWN_TRANSFER": b"\0\5\0\5unknown transfer\0",
     "BUSY": b"\0\5\0\0server busy\0",
+    "OTHER_MODE": b"\0\5\0\0octet only\0",
+    "OTHER_NAME": b"\0\5\0\1no such file\0",
+    # A request in mode `OCTET`, with an option after it.
+    "WITH_OPTION": b"\0\1ms.tws\0OCTET\0blksize\x001428\0",
+    "PEER_ERROR": b"\0\5\0\0\0",
+    "MALFORMED_ERROR": b"\0\5\0\0a",
+    "LONG_ACK": b"\0\4\0\0\0",
+    "CUT_ACK": b"\0\4\0",
+    "TOO_MUCH": bytes(517),
     **FILES,
     **{f"ACK_{n}": bytes([0, 4, 0, n]) for n in range(4)},
     # DATA with a block of a file, such as `SLOW_2`.
@@ -491,6 +500,156 @@ datagram BOB SECOND ACK_1
 ]
 
 
+class Strangers:
+    """A list of what strangers send to a server and of its time-outs, with all that it must leave. A transfer that has ended is
+    one whose port answers nobody and sends nothing at a time-out."""
+
+    def __init__(self):
+        self.events, self.taken, self.opened, self.sent = [], [], [], []
+        self.lynx = "EMPTY_LYNX"
+
+    def arrives(self, host, port, content, spare=0):
+        """A datagram arrives at a port of the server, by the bytes of a word or by themselves."""
+        content = content if isinstance(content, str) else content.hex() or "-"
+        self.events += [f"stray {host} 5000 1 {port} {content}", f"deliver {len(self.sent)} {spare}"]
+        self.sent.append(f"{host} 5000 1 {port} {content}")
+
+    def answer(self, host, port, content):
+        self.sent.append(f"1 {port} {host} 5000 {content}")
+
+    def asks(self, host, content, spare, answer=None):
+        """A request without effect, or one that is refused by this answer."""
+        self.arrives(host, 6969, content, spare)
+        if answer:
+            self.answer(host, 6969, answer)
+
+    def opens(self, host, content, port, answer, asked="write"):
+        self.arrives(host, 6969, content, port)
+        self.opened.append(f"{host} 5000 {port} {asked} {len(self.taken)}")
+        self.answer(host, port, answer)
+
+    def gives(self, host, content, port, answer=None, takes=None):
+        """A datagram at a transfer, which is answered so, and by which this file is taken."""
+        self.arrives(host, port, content)
+        if takes:
+            self.taken.append(f"{host} 5000 {takes}")
+        if answer:
+            self.answer(host, port, answer)
+
+    def waits(self, port, host=None, answer=None):
+        """The time-out of a port, at which this is sent."""
+        self.events.append(f"server-timeout {port}")
+        if answer:
+            self.answer(host, port, answer)
+
+    def ended(self, host, port):
+        self.gives(host, "UNREADABLE_1", port)
+        self.gives(199, "ACK_0", port)
+        self.waits(port)
+
+    def row(self, name):
+        left = [f"taken {it}" for it in self.taken] + [f"opened {it}" for it in self.opened] + [f"lynx {self.lynx}", "ms EMPTY_MS"]
+        left += [f"datagram {it}" for it in self.sent]
+        return name, "\n".join(self.events) + "\n", "\n".join(left) + "\n"
+
+
+def requests():
+    """Datagrams at the request port."""
+    rows = Strangers()
+    rows.opens(102, "WITH_OPTION", 4000, "EMPTY_MS_1", "ms")
+    rows.gives(102, "ACK_1", 4000)
+    rows.ended(102, 4000)
+    yield rows.row("a request to read, with an option")
+    # The mode is checked before the name. The spare port stays free.
+    rows = Strangers()
+    rows.asks(102, b"\0\1ms.tws\0netascii\0", 4000, "OTHER_MODE")
+    rows.asks(102, b"\0\1MS.TWS\0netascii\0", 4000, "OTHER_MODE")
+    rows.asks(102, b"\0\2upload.tws\0mail\0", 4000, "OTHER_MODE")
+    rows.asks(102, b"\0\1MS.TWS\0octet\0", 4000, "OTHER_NAME")
+    rows.asks(102, b"\0\1\0octet\0", 4000, "OTHER_NAME")
+    rows.opens(102, "WRQ", 4000, "ACK_0")
+    yield rows.row("requests that are refused")
+    rows = Strangers()
+    for content in (b"", b"\0\3\0\1", "ACK_0", "PEER_ERROR", b"\0\6\0\0", b"\0\2upload.tws\0octet", "TOO_MUCH"):
+        rows.asks(102, content, 4000)
+    rows.opens(102, "WRQ", 4000, "ACK_0")
+    yield rows.row("datagrams that are no requests")
+    # What follows the byte that ends the mode has no effect.
+    for count in range(29):
+        rows = Strangers()
+        if count < 15:
+            rows.asks(102, WORDS["WITH_OPTION"][:count], 4000)
+        else:
+            rows.opens(102, WORDS["WITH_OPTION"][:count], 4000, "EMPTY_MS_1", "ms")
+        yield rows.row(f"the first {count} bytes of a request")
+    # With 64 transfers a request in another mode or for another file is still refused for that; any other, as busy.
+    rows = Strangers()
+    for port in range(4001, 4065):
+        rows.opens(102, "WRQ", port, "ACK_0")
+    rows.asks(103, "WRQ", 4065, "BUSY")
+    rows.asks(103, "WITH_OPTION", 4065, "BUSY")
+    rows.asks(103, b"\0\1MS.TWS\0octet\0", 4065, "OTHER_NAME")
+    rows.asks(103, b"\0\2upload.tws\0mail\0", 4065, "OTHER_MODE")
+    rows.gives(102, "PEER_ERROR", 4001)
+    rows.opens(103, "WITH_OPTION", 4065, "EMPTY_MS_1", "ms")
+    rows.asks(103, "WITH_OPTION", 4066, "BUSY")
+    yield rows.row("a busy server")
+
+
+def transfers():
+    """Datagrams at a transfer's port."""
+    # Of two transfers for one request the client ends the one that it is not bound to. Through the other its file is taken
+    # once, although its last block arrives twice; that one is live until its second time-out.
+    rows = Strangers()
+    rows.opens(102, "WRQ", 4000, "ACK_0")
+    rows.opens(102, "WRQ", 4001, "ACK_0")
+    rows.gives(102, "UNKNOWN_TRANSFER", 4001)
+    rows.gives(102, "HUNDRED_1", 4000, "ACK_1", "HUNDRED")
+    rows.gives(102, "HUNDRED_1", 4000, "ACK_1")
+    rows.waits(4000)
+    rows.gives(102, "HUNDRED_1", 4000, "ACK_1")
+    rows.waits(4000)
+    rows.waits(4000)
+    rows.ended(102, 4000)
+    rows.ended(102, 4001)
+    rows.lynx = "HUNDRED"
+    yield rows.row("a put by hand, whose request and block arrive twice")
+    # A datagram from another source changes nothing: the transfer goes on as if it had not arrived.
+    rows = Strangers()
+    rows.opens(102, "RRQ_LYNX", 4000, "EMPTY_LYNX_1", "lynx")
+    rows.gives(103, "ACK_1", 4000)
+    rows.answer(103, 4000, "UNKNOWN_TRANSFER")
+    rows.gives(103, "PEER_ERROR", 4000)
+    rows.gives(103, "CUT_ACK", 4000)
+    rows.waits(4000, 102, "EMPTY_LYNX_1")
+    rows.gives(102, "ACK_1", 4000)
+    rows.ended(102, 4000)
+    yield rows.row("datagrams of another source")
+    rows = Strangers()
+    rows.opens(102, "WRQ", 4000, "ACK_0")
+    for content in ("TOO_MUCH", "MALFORMED_ERROR", "LONG_ACK", "WRQ"):
+        rows.gives(102, content, 4000)
+    rows.waits(4000, 102, "ACK_0")
+    rows.gives(102, "PEER_ERROR", 4000)
+    rows.gives(102, "HUNDRED_1", 4000)
+    rows.ended(102, 4000)
+    yield rows.row("malformed datagrams of the peer")
+    # What a download sends is the collection as it was when it began.
+    rows = Strangers()
+    rows.opens(102, "WRQ", 4000, "ACK_0")
+    rows.gives(102, "HUNDRED_1", 4000, "ACK_1", "HUNDRED")
+    rows.waits(4000)
+    rows.waits(4000)
+    for port in range(4101, 4164):
+        rows.opens(102, "RRQ_LYNX", port, "HUNDRED_1", "lynx")
+    rows.opens(103, "WRQ", 4200, "ACK_0")
+    rows.gives(103, "NINETY_1", 4200, "ACK_1", "NINETY")
+    for port in range(4101, 4164):
+        rows.waits(port, 102, "HUNDRED_1")
+    rows.lynx = "NINETY"
+    yield rows.row("downloads beside an upload")
+
+
 def crowd():
     """65 gets, of which the server has room for 64. The client that is refused sends nothing more, also at a time-out."""
     clients = [f"{2 + i} 5000" for i in range(65)]
@@ -748,6 +907,8 @@ def tried(seed):
 
 def by_hand():
     yield from BY_HAND
+    yield from requests()
+    yield from transfers()
     yield "a get too many", *crowd()
     yield from too_long()
 

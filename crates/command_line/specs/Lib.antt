@@ -3,4 +3,3 @@ pub mod CommandLine
 pub mod Help
 pub mod Inputs
 pub mod Faults
-pub mod Files

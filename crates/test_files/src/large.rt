@@ -1,11 +1,6 @@
 // Large inputs, which would show a limit that no contract names.
-use crate::collections::{load, merge};
-use crate::files::is_packed_to;
 use std::alloc::Global;
 use std::test::Fail;
-use test_samples::{EMPTY_LYNX, record};
-use tws_best::Collection;
-use tws_file::Ruleset;
 use tws_moves::{
     Act, Move, SpellFault, check_moves, is_timed, pack_moves, read_moves, write_moves,
 };
@@ -65,53 +60,5 @@ fn the_last_of_many_moves_comes_too_late(rt: HostRuntime) -> Result<(), Fail> {
     for count in [1, 256, 65_536] {
         assert!(rt; is_last_too_late(rt.alloc(), count)?);
     }
-    Ok(())
-}
-
-// A file with a record of the set that has `count` zero bytes after the key.
-fn file_with_set(alloc: Global, count: u32) -> Result<Vec<u8>, Fail> {
-    let mut bytes = Vec::from_slice(alloc, EMPTY_LYNX)?;
-    bytes.extend_from_slice(&count.wrapping_add(6).to_le_bytes())?;
-    for _ in 0..count.wrapping_add(6) {
-        bytes.push(0)?;
-    }
-    Ok(bytes)
-}
-
-#[test]
-fn a_long_record_of_the_set_is_packed_as_it_is(rt: HostRuntime) -> Result<(), Fail> {
-    let bytes = file_with_set(rt.alloc(), 70_000)?;
-    assert!(rt; is_packed_to(rt.alloc(), &bytes, &bytes)?);
-    Ok(())
-}
-
-// Solutions without moves of `count` levels, from level 1 on and then with the next password.
-fn many_solutions(alloc: Global, count: u32) -> Result<Vec<u8>, Fail> {
-    let mut bytes = Vec::from_slice(alloc, EMPTY_LYNX)?;
-    for number in 1..=count {
-        let [low, high, next, _] = number.to_le_bytes();
-        let password = [b'A'.wrapping_add(next), b'B', b'C', b'D'];
-        let level = u16::from_le_bytes([low, high]);
-        bytes.extend_from_slice(&record(alloc, level, &password, 0, 0, &[])?)?;
-    }
-    Ok(bytes)
-}
-
-// Whether a file changes a new collection, and how many solutions that then has.
-fn merged_count(alloc: Global, bytes: &[u8]) -> Result<(bool, usize), Fail> {
-    let mut collection = Collection::new(alloc, Ruleset::Lynx);
-    let is_changed = merge(alloc, &mut collection, bytes)?;
-    Ok((is_changed, collection.len()))
-}
-
-#[test]
-fn more_solutions_than_numbers_of_levels(rt: HostRuntime) -> Result<(), Fail> {
-    let bytes = many_solutions(rt.alloc(), 70_000)?;
-    let (is_changed, count) = merged_count(rt.alloc(), &bytes)?;
-    let length = load(rt.alloc(), &bytes)?.text_len();
-    assert_eq!(rt;
-        (is_changed, count, length),
-        (true, 70_000, bytes.len() as u128)
-    );
     Ok(())
 }

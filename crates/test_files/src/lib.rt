@@ -16,5 +16,3 @@ mod moves_written;
 mod pieces;
 #[cfg(test)]
 mod snapshots;
-#[cfg(test)]
-mod tables;

@@ -1,11 +1,9 @@
 // Snapshots of collections, and the blocks in which they are sent. The expected texts are written out by hand.
-use crate::collections::{has_text, load, merge};
-use std::alloc::Global;
+use crate::collections::{has_text, load};
 use std::test::Fail;
-use test_samples::{EMPTY_LYNX, record};
+use test_samples::EMPTY_LYNX;
 use tftp_packet::Blocks;
 use tws_best::{Collection, Snapshot};
-use tws_file::Ruleset;
 
 // The snapshot of a collection whose text is not too long.
 fn snapshot_of(collection: &Collection) -> Option<Snapshot> {
@@ -13,25 +11,6 @@ fn snapshot_of(collection: &Collection) -> Option<Snapshot> {
         return None;
     }
     collection.snapshot().ok()
-}
-
-// All blocks, joined in order.
-fn joined_blocks(alloc: Global, snapshot: &Snapshot) -> Option<Vec<u8>> {
-    let mut text = Vec::new(alloc);
-    let mut out = [0; 512];
-    let count = u16::try_from(snapshot.file_len() / 512 + 1).ok()?;
-    for before in 0..count {
-        let size = snapshot.block(before + 1, &mut out);
-        text.extend_from_slice(&out[..size]).ok()?;
-    }
-    Some(text)
-}
-
-fn has_blocks(alloc: Global, snapshot: &Snapshot, wanted: &[u8]) -> bool {
-    match joined_blocks(alloc, snapshot) {
-        Some(text) => text.as_slice() == wanted,
-        None => false,
-    }
 }
 
 // Level 1 with 482 moves, without them, and level 2 without moves.
@@ -100,40 +79,5 @@ fn blocks_of_two_records(rt: HostRuntime) -> Result<(), Fail> {
         None => false,
     };
     assert!(rt; is_right);
-    Ok(())
-}
-
-// Levels 1 to 2000, with two moves each.
-fn two_thousand(alloc: Global) -> Result<Vec<u8>, Fail> {
-    let mut text = Vec::from_slice(alloc, EMPTY_LYNX)?;
-    for number in 1..2001u16 {
-        text.extend_from_slice(&record(alloc, number, b"BDHP", 0, 500, &[1, 1])?)?;
-    }
-    Ok(text)
-}
-
-// Whether a copy of the collection, and a snapshot of the copy, have this text.
-fn copy_has_text(alloc: Global, collection: &Collection, wanted: &[u8]) -> Result<bool, Fail> {
-    let copy = collection.copy()?;
-    let is_text = has_text(alloc, &copy, wanted);
-    Ok(match snapshot_of(&copy) {
-        Some(snapshot) => is_text && has_blocks(alloc, &snapshot, wanted),
-        None => false,
-    })
-}
-
-// Whether a file changes a new collection, and does not change it again; the collection then has this text.
-fn is_kept(alloc: Global, text: &[u8]) -> Result<bool, Fail> {
-    let mut collection = Collection::new(alloc, Ruleset::Lynx);
-    let first = merge(alloc, &mut collection, text)?;
-    let second = merge(alloc, &mut collection, text)?;
-    let is_changed_once = first && !second && collection.len() == 2000;
-    Ok(is_changed_once && copy_has_text(alloc, &collection, text)?)
-}
-
-#[test]
-fn two_thousand_records(rt: HostRuntime) -> Result<(), Fail> {
-    let wanted = two_thousand(rt.alloc())?;
-    assert!(rt; is_kept(rt.alloc(), &wanted)?);
     Ok(())
 }

@@ -2,10 +2,6 @@
 #![tactic(auto)]
 
 #[cfg(test)]
-mod folders;
-#[cfg(test)]
-mod obstacles;
-#[cfg(test)]
 mod pairs;
 #[cfg(test)]
 mod ports;

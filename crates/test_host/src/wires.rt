@@ -1,16 +1,10 @@
 // The wire over sockets of the system.
-ghost use Rattle.std.specs.Prelude.{None};
-
 use crate::ports::past_port;
 use archive_host::UdpWire;
-use archive_table::{NoKeeper, NoObserver};
-use archive_turns::{RECEIVE_SIZE, ReadyWire, Server, Wire, WireFault, run_get, run_put};
+use archive_turns::{RECEIVE_SIZE, ReadyWire, Wire, WireFault};
 use std::net::{Ipv4Addr, SocketAddr, UdpSocket};
 use std::test::Fail;
-use std::time::Instant;
-use test_samples::HUNDRED;
 use tftp_packet::{Endpoint, Out, encode_ack};
-use tws_file::Ruleset;
 
 // The loopback address of this host, 127.0.0.1.
 const LOOPBACK: u32 = 0x7F00_0001;
@@ -39,104 +33,6 @@ pub(crate) fn ack(from_port: u16, to: u16, block: u16) -> Out {
         to: loopback(to),
         dgram: encode_ack(block),
     }
-}
-
-// A client's wire with a server at its other end: before each receive the server makes a turn.
-#[derive(Drop)]
-struct Ends {
-    client: UdpWire<HostRuntime>,
-    wire: UdpWire<HostRuntime>,
-    server: Server,
-    taken: bool,
-}
-
-impl Wire for Ends {
-    ghost log = { λ _. None };
-
-    ghost failed = { λ w. w.client.failures };
-
-    fn open(&mut self) -> Result<u16, WireFault> {
-        self.client.open()
-    }
-
-    fn close(&mut self, port: u16) -> Result<(), WireFault> {
-        self.client.close(port)
-    }
-
-    fn receive(
-        &mut self,
-        port: u16,
-        buffer: &mut [u8; RECEIVE_SIZE],
-    ) -> Result<Option<(usize, Endpoint)>, WireFault> {
-        if self
-            .server
-            .turn(&mut self.wire, &mut NoKeeper, &mut NoObserver)
-        {
-            self.taken = true;
-        }
-        self.client.receive(port, buffer)
-    }
-
-    fn send(&mut self, out: &Out) -> Result<(), WireFault> {
-        self.client.send(out)
-    }
-
-    fn failures(&self) -> u64 {
-        self.client.failures()
-    }
-}
-
-// A client's wire with a server at a free port, and the server's address.
-fn connected(rt: HostRuntime) -> Result<(Ends, Endpoint), Fail> {
-    let (wire, port) = listening(rt)?;
-    let ends = Ends {
-        client: UdpWire::new(rt),
-        wire,
-        server: Server::new(rt.alloc(), port),
-        taken: false,
-    };
-    Ok((ends, loopback(port)))
-}
-
-// Whether the server takes a put of the file.
-fn puts_the_file(rt: HostRuntime, ends: &mut Ends, server: Endpoint) -> bool {
-    match Vec::from_slice(rt.alloc(), HUNDRED) {
-        Ok(file) => run_put(ends, server, file, 100) == Ok(28) && ends.taken,
-        Err(_fault) => false,
-    }
-}
-
-// Whether a get fetches the file.
-fn gets_the_file(rt: HostRuntime, ends: &mut Ends, server: Endpoint) -> bool {
-    let mut got = Vec::new(rt.alloc());
-    let answer = run_get(rt.alloc(), ends, server, Ruleset::Lynx, 100, &mut got);
-    answer == Ok(28) && got.as_slice() == HUNDRED.as_slice()
-}
-
-// Whether a put and a get succeed, and how many calls of either wire failed.
-fn put_and_get(rt: HostRuntime) -> Result<(bool, bool, u64, u64), Fail> {
-    let (mut ends, server) = connected(rt)?;
-    let put = puts_the_file(rt, &mut ends, server);
-    let got = gets_the_file(rt, &mut ends, server);
-    Ok((put, got, ends.failures(), ends.wire.failures()))
-}
-
-#[test]
-fn loopback_put_get(rt: HostRuntime) -> Result<(), Fail> {
-    assert_eq!(rt; put_and_get(rt)?, (true, true, 0, 0));
-    Ok(())
-}
-
-// Why a wire does not listen at a port that another one has.
-fn taken_port(rt: HostRuntime) -> Result<Option<WireFault>, Fail> {
-    let (_other, taken) = listening(rt)?;
-    Ok(UdpWire::listen(rt, taken).err())
-}
-
-#[test]
-fn a_taken_port_is_not_opened(rt: HostRuntime) -> Result<(), Fail> {
-    assert_eq!(rt; taken_port(rt)?, Some(WireFault::Open));
-    Ok(())
 }
 
 // What a close of a port that is not open, a send from it and a receive there return, and how many calls failed.
@@ -221,51 +117,6 @@ fn are_refused(rt: HostRuntime) -> Result<bool, Fail> {
 #[test]
 fn addresses_that_the_system_refuses(rt: HostRuntime) -> Result<(), Fail> {
     assert!(rt; are_refused(rt)?);
-    Ok(())
-}
-
-// Whether nothing arrives at a port in twenty reads.
-fn is_quiet(wire: &mut UdpWire<HostRuntime>, port: u16) -> bool {
-    let mut buffer = [0; RECEIVE_SIZE];
-    for _ in 0..20 {
-        if wire.receive(port, &mut buffer) != Ok(None) {
-            return false;
-        }
-    }
-    true
-}
-
-// How many milliseconds that takes, if nothing arrives.
-fn time_of_quiet(
-    rt: HostRuntime,
-    wire: &mut UdpWire<HostRuntime>,
-    port: u16,
-) -> Result<u128, Fail> {
-    let start = Instant::now(&rt)?;
-    if !is_quiet(wire, port) {
-        return Err(Fail::new("a datagram came"));
-    }
-    Ok(start.elapsed(&rt)?.as_millis())
-}
-
-// The least time of eight.
-fn least_time(rt: HostRuntime, wire: &mut UdpWire<HostRuntime>, port: u16) -> Result<u128, Fail> {
-    let mut least = u128::MAX;
-    for _ in 0..8 {
-        least = least.min(time_of_quiet(rt, wire, port)?);
-    }
-    Ok(least)
-}
-
-fn least_time_of_new(rt: HostRuntime) -> Result<u128, Fail> {
-    let (mut wire, port) = listening(rt)?;
-    least_time(rt, &mut wire, port)
-}
-
-#[test]
-fn a_quiet_port_is_waited_at(rt: HostRuntime) -> Result<(), Fail> {
-    let least = least_time_of_new(rt)?;
-    assert_eq!(rt; (least >= 80, least < 230), (true, true));
     Ok(())
 }
 

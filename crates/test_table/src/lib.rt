@@ -7,8 +7,6 @@
 #[cfg(test)]
 mod archive;
 #[cfg(test)]
-mod datagrams;
-#[cfg(test)]
 mod drawing;
 #[cfg(test)]
 mod keeping;
@@ -16,7 +14,5 @@ mod keeping;
 mod plain;
 #[cfg(test)]
 mod plain_file;
-#[cfg(test)]
-mod requests;
 #[cfg(test)]
 mod schedules;

@@ -1,53 +1,10 @@
-// The commands as the program runs them: what is printed, and the status.
-use crate::outcome::*;
+// The commands on files over readers and writers that fail.
 use crate::streams::*;
 use std::io;
 use std::test::Fail;
-use test_samples::{CUT_MOVE, EMPTY_LYNX, HUNDRED};
+use test_samples::{EMPTY_LYNX, HUNDRED};
 use tws_file::{FileFault, Ruleset};
-use tws_tool::{INPUT_READS, ToolFault, run_best, run_show, run_words};
-
-// The solution with four moves in two bytes.
-const MOVED: [u8; 30] = [
-    0x35, 0x33, 0x9B, 0x99, 0x01, 0x00, 0x00, 0x00, 0x12, 0x00, 0x00, 0x00, 0x01, 0x00, 0x42, 0x44,
-    0x48, 0x50, 0x00, 0x00, 0x00, 0x00, 0x00, 0x00, 0x64, 0x00, 0x00, 0x00, 0x00, 0x61,
-];
-
-// The solution with four moves in four bytes.
-const LOOSE: &[u8; 32] =
-    b"\x35\x33\x9B\x99\x01\0\0\0\x14\0\0\0\x01\0BDHP\0\0\0\0\0\0\x64\0\0\0aaaa";
-
-#[test]
-fn show_lists_moves(rt: HostRuntime) -> Result<(), Fail> {
-    let listing =
-        b"ruleset lynx word 0000 extra 0\nlevel 1 BDHP ticks 100 flags 00 start 00 seed 0 bytes 2\n at 3 step 0\n at 7 step 0\n at 11 step 0\n at 15 step 0\nrecords 1\n";
-    assert!(rt; prints(&rt, &["tws", "show", "--moves"], &MOVED, listing)?);
-    Ok(())
-}
-
-// Without `--moves`, `show` counts their bytes. `pack` writes the fewest bytes, and leaves what is packed.
-#[test]
-fn what_is_printed(rt: HostRuntime) -> Result<(), Fail> {
-    let listing =
-        b"ruleset lynx word 0000 extra 0\nlevel 1 BDHP ticks 100 flags 00 start 00 seed 0 bytes 2\nrecords 1\n";
-    let rows: [(&str, &[u8], &[u8]); 5] = [
-        ("show", &MOVED, listing),
-        ("pack", LOOSE, &MOVED),
-        ("pack", HUNDRED, HUNDRED),
-        ("pack", &MOVED, &MOVED),
-        ("pack", &UNSOLVED, &UNSOLVED),
-    ];
-    for (command, input, wanted) in rows {
-        let are_printed = prints(&rt, &["tws", command], input, wanted)?;
-        assert!(rt; are_printed, "{command} of {} bytes", input.len());
-    }
-    Ok(())
-}
-
-// Whether a command fails because of its input, with these lines.
-fn refuses(rt: &HostRuntime, command: &str, input: &[u8], lines: &str) -> Result<bool, Fail> {
-    Ok(fails_with(&run(rt, &["tws", command], input)?, 3, lines))
-}
+use tws_tool::{INPUT_READS, ToolFault, run_best, run_show};
 
 // The result of `best` for these inputs, and how many bytes it writes.
 fn best_of<R: io::Read>(rt: &HostRuntime, files: &mut [R]) -> (Result<(), ToolFault>, usize) {
@@ -61,42 +18,6 @@ fn show_of<R: io::Read>(rt: &HostRuntime, input: &mut R) -> (Result<(), ToolFaul
     let mut out = Vec::new(rt.alloc());
     let done = run_show(rt.alloc(), input, &mut out, false);
     (done, out.len())
-}
-
-#[test]
-fn what_is_no_file(rt: HostRuntime) -> Result<(), Fail> {
-    let file = HUNDRED.as_slice();
-    let rows: [(&str, &[u8], &str); 5] = [
-        (
-            "show",
-            &[],
-            "tws: standard input: unreadable: ShortHeader(0)\ntws: standard input: the file ends inside its header, after 0 bytes\n",
-        ),
-        (
-            "show",
-            &file[..27],
-            "tws: standard input: unreadable: ShortRecord(8)\ntws: standard input: the file ends inside the record at byte 8\n",
-        ),
-        (
-            "show",
-            &UNSIGNED,
-            "tws: standard input: unreadable: BadSignature\ntws: standard input: the file does not begin with the bytes 35 33 9B 99\n",
-        ),
-        (
-            "show",
-            CUT_MOVE,
-            "tws: standard input: unreadable: MoveCut(29)\ntws: standard input: the moves end inside the move at byte 29\n",
-        ),
-        (
-            "pack",
-            &UNSIGNED,
-            "tws: standard input: unreadable: BadSignature\ntws: standard input: the file does not begin with the bytes 35 33 9B 99\n",
-        ),
-    ];
-    for (command, input, lines) in rows {
-        assert!(rt; refuses(&rt, command, input, lines)?, "{command}: {lines}");
-    }
-    Ok(())
 }
 
 // A level that is not solved, and a pad.
@@ -227,34 +148,5 @@ fn fails_late(rt: &HostRuntime) -> Result<bool, Fail> {
 #[test]
 fn show_to_a_writer_that_fails_late(rt: HostRuntime) -> Result<(), Fail> {
     assert!(rt; fails_late(&rt)?);
-    Ok(())
-}
-
-// The status of a run that writes its help into this room, and whether it reports that it could not.
-fn help_into(rt: &HostRuntime, room: &mut [u8]) -> Result<(u8, bool), Fail> {
-    let words = owned(rt, &["tws", "--help"])?;
-    let mut out = room;
-    let mut input = HUNDRED.as_slice();
-    let mut errors = Vec::new(rt.alloc());
-    let status = run_words(
-        rt,
-        rt.alloc(),
-        &words,
-        None::<Vec<u8>>,
-        &mut input,
-        &mut out,
-        &mut errors,
-    );
-    Ok((
-        status,
-        errors.as_slice() == b"tws: write fault\n".as_slice(),
-    ))
-}
-
-#[test]
-fn help_to_a_full_writer(rt: HostRuntime) -> Result<(), Fail> {
-    let mut room = [0u8; 10];
-    let done = help_into(&rt, &mut room)?;
-    assert_eq!(rt; (done, room), ((2, true), *b"Lists, pac"));
     Ok(())
 }

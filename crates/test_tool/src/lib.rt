@@ -1,15 +1,10 @@
-//! Tests only: the commands over arguments, readers, writers, files and wires in memory.
+//! Tests only: the commands over readers, writers and wires in memory, which fail. What they print and do with files and
+//! sockets of the system is tested by the built program (`system_tests`).
 #![tactic(auto)]
 
 #[cfg(test)]
-mod archive;
-#[cfg(test)]
 mod files;
 #[cfg(test)]
-mod jobs;
-#[cfg(test)]
-mod names;
-#[cfg(test)]
-mod outcome;
+mod puts;
 #[cfg(test)]
 mod streams;

@@ -4,10 +4,6 @@
 #[cfg(test)]
 mod crossing;
 #[cfg(test)]
-mod crowding;
-#[cfg(test)]
-mod joined;
-#[cfg(test)]
 mod keeping;
 #[cfg(test)]
 mod observing;

@@ -1,5 +1,4 @@
-// What an observer is notified of: each step, its sender, and what it made, after the calls of the wire for it; and each request
-// that is dropped.
+// What an observer is notified of: each step, its sender, and what it made, after the calls of the wire for it.
 use crate::wires::*;
 use archive_table::{NoKeeper, Observer, Step, Table};
 use archive_turns::{
@@ -266,90 +265,5 @@ fn all_seen(alloc: Global) -> Result<Vec<Seen>, Fail> {
 fn an_observer_is_notified_of_each_step(rt: HostRuntime) -> Result<(), Fail> {
     let seen = all_seen(rt.alloc())?;
     assert_eq!(rt; seen.as_slice(), steps_of_put().as_slice());
-    Ok(())
-}
-
-// The last request that was dropped, and how many were.
-#[derive(Drop)]
-struct Dropped {
-    last: Option<Endpoint>,
-    count: u8,
-}
-
-impl Observer for Dropped {
-    fn on_step<A: Allocator + Copy>(
-        &mut self,
-        _port: u16,
-        _from: Option<Endpoint>,
-        _step: &Step<A>,
-        _table: &Table<A>,
-    ) {}
-}
-
-impl ServerObserver for Dropped {
-    fn on_dropped(&mut self, from: Endpoint) {
-        self.last = Some(from);
-        self.count = self.count.saturating_add(1);
-    }
-}
-
-// Makes a round for each of these datagrams at the request port, which arrive one by one.
-fn round_for_requests(
-    alloc: Global,
-    wire: &mut MemoryWire,
-    observer: &mut Dropped,
-    server: &mut Server,
-    requests: &[(Endpoint, &[u8])],
-) -> Result<(), Fail> {
-    for (from, bytes) in requests {
-        if bytes.len() > RECEIVE_SIZE {
-            return Err(Fail::new("too long"));
-        }
-        wire.arrive(alloc, 6969, *from, bytes)?;
-        server.round(wire, &mut NoKeeper, observer);
-    }
-    Ok(())
-}
-
-// The last request that a server drops of which one host may have one transfer, how many it drops, and how many
-// transfers are live then.
-fn dropped_by(
-    alloc: Global,
-    wire: &mut MemoryWire,
-    server: &mut Server,
-    observer: &mut Dropped,
-    requests: &[(Endpoint, &[u8])],
-) -> Result<(Option<Endpoint>, u8, usize), Fail> {
-    server.limit_per_host(1);
-    round_for_requests(alloc, wire, observer, server, requests)?;
-    Ok((observer.last, observer.count, server.table().live()))
-}
-
-fn dropped_at(
-    alloc: Global,
-    wire: &mut MemoryWire,
-    requests: &[(Endpoint, &[u8])],
-) -> Result<(Option<Endpoint>, u8, usize), Fail> {
-    let mut observer = Dropped {
-        last: None,
-        count: 0,
-    };
-    let mut server = Server::new(alloc, 6969);
-    dropped_by(alloc, wire, &mut server, &mut observer, requests)
-}
-
-// Of a host that may have one transfer the second request is dropped. What is no request is not reported, nor is the
-// request of another host.
-#[test]
-fn an_observer_is_notified_of_a_request_that_is_dropped(rt: HostRuntime) -> Result<(), Fail> {
-    let mut wire = wire_of(rt.alloc(), &[4001, 4000])?;
-    const REQUESTS: &[(Endpoint, &[u8])] = &[
-        (ALICE, WRQ),
-        (ALICE, ACK_0),
-        (ALICE, WRQ),
-        (BOB, WRQ),
-    ];
-    let dropped = dropped_at(rt.alloc(), &mut wire, REQUESTS)?;
-    assert_eq!(rt; dropped, (Some(ALICE), 1, 2));
     Ok(())
 }

@@ -12,7 +12,7 @@ use Rattle.command_line.specs.declared.tool_fault.ToolFault.TheVariants.{Read, W
 use Rattle.tws_tool.specs.Address.{Locates}
 use Rattle.tws_tool.specs.Commands.Get.{FetchFails, FetchFault, Fetches, GetEnded, GetFails, GetRan, Gets, get_drafted}
 use Rattle.command_line.specs.Faults.{answer_status, status_of}
-use Rattle.command_line.specs.Files.{Keeps, Publishes}
+use Rattle.system_files.specs.Files.{Keeps, Publishes}
 use Rattle.tws_tool.specs.Known.{Known}
 use Rattle.tws_tool.specs.Lines.{LineFails, Unsaid, got_line}
 use Rattle.command_line.proofs.Statuses.{map_err, map_ok, no_usage}

@@ -16,6 +16,7 @@ pub mod calling_command_line;
 pub mod calling_file_commands;
 pub mod calling_refusing;
 pub mod calling_show_commands;
+pub mod calling_system_files;
 pub mod calling_tftp_cause;
 pub mod calling_tftp_ends;
 pub mod calling_tftp_packet;

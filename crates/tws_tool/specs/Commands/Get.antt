@@ -17,7 +17,7 @@ use Rattle.tws_tool.specs.Address.{Locates}
 use Rattle.command_line.specs.Arguments.{HasRuleset, RulesetNames, ruleset_rule}
 use Rattle.tws_tool.specs.Arguments.{HasTarget, address_rule, file_rule, number_rule, port_option}
 use Rattle.command_line.specs.Faults.{answer_status}
-use Rattle.command_line.specs.Files.{Keeps, Publishes}
+use Rattle.system_files.specs.Files.{Keeps, Publishes}
 use Rattle.tws_tool.specs.Known.{Known}
 use Rattle.tws_tool.specs.Lines.{LineFails, Transfers, got_line}
 

@@ -1,11 +1,9 @@
-//! The standard streams, with what the system says of them.
+//! Streams with what the system says of them.
 
-ghost use Rattle.std.specs.Prelude.{◌≡◌, ◌≢◌, None, Some, OnOk, IfErr};
+ghost use Rattle.std.specs.Prelude.{◌≡◌, None, Some, OnOk, IfErr};
 ghost use Rattle.std.specs.Io.{ReadsAtMost, WritesAtMost};
 ghost use Rattle.std.specs.Io.KnownBytes.{Keeps, ReadConsumes, WriteAppends};
 
-use crate::reporting::report_cause;
-use crate::status::FAILED;
 use std::io;
 use std::io::{Read, Write};
 
@@ -81,26 +79,5 @@ impl<W: Write> Write for Noted<W> {
 
     fn flush(&mut self) -> io::Result<()> {
         self.stream.flush()
-    }
-}
-
-/// Prints why standard output or input failed, if the program ended with this status for that, in a line after its report.
-/// Returns the status.
-pub fn report_streams<R, W, E: Write>(
-    status: u8,
-    input: &Noted<R>,
-    out: &Noted<W>,
-    errors: &mut E,
-) -> u8
-    ensures status { result ≡ status }
-    ensures silent { status ≢ 2 → errors.new ≡ errors.old }
-{
-    if status != FAILED {
-        return status;
-    }
-    match (out.error(), input.error()) {
-        (Some(cause), _) => report_cause(status, "standard output", &cause, errors),
-        (None, Some(cause)) => report_cause(status, "standard input", &cause, errors),
-        (None, None) => status,
     }
 }

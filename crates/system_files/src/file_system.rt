@@ -1,7 +1,7 @@
 //! Files by their names.
 
 ghost use Rattle.std.specs.Prelude.{◌≡◌, ℕ, List, Option, OnOk, OnErr, IfOk};
-ghost use Rattle.command_line.specs.Files.{Keeps, Publishes};
+ghost use Rattle.system_files.specs.Files.{Keeps, Publishes};
 
 use std::io;
 use std::io::{Read, Write};

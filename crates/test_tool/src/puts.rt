@@ -1,0 +1,92 @@
+// Puts of inputs that fail, or do not end.
+use crate::streams::*;
+use archive_turns::MemoryWire;
+use std::io;
+use std::test::Fail;
+use test_samples::{ALICE, HUNDRED, SERVER};
+use tftp_cause::Cause;
+use tws_file::FileFault;
+use tws_tool::{ToolFault, put_file};
+
+// The result of a put of this input, how many calls of its wire it makes, and how many bytes it prints.
+fn put_of<R: io::Read>(
+    rt: &HostRuntime,
+    input: &mut R,
+) -> Result<(Result<(), ToolFault>, usize, usize), Fail> {
+    let mut wire = MemoryWire::new(rt.alloc(), vec![in rt.alloc(); ALICE.port]?);
+    let mut out = Vec::new(rt.alloc());
+    let done = put_file(rt.alloc(), input, &mut wire, SERVER, &mut out);
+    Ok((done, wire.log().len(), out.len()))
+}
+
+// The most bytes of a file that can be sent.
+const MOST: u32 = 33_553_919;
+
+// What a put of so many zeros comes to, and how many of them it has not read.
+fn put_of_zeros(
+    rt: &HostRuntime,
+    count: u32,
+) -> Result<((Result<(), ToolFault>, usize, usize), u32), Fail> {
+    let mut input = Drops { left: count };
+    let put = put_of(rt, &mut input)?;
+    Ok((put, input.left))
+}
+
+// An input that does not end is left at the first byte that is too many; the longest is read to its end.
+#[test]
+fn a_put_of_zeros(rt: HostRuntime) -> Result<(), Fail> {
+    let too_long = ToolFault::Transfer(Cause::TooLong);
+    let unreadable = ToolFault::Unreadable {
+        index: 0,
+        fault: FileFault::BadSignature,
+    };
+    for (count, fault, left) in [
+        (u32::MAX, too_long, u32::MAX - MOST - 1),
+        (MOST, unreadable, 0),
+    ] {
+        assert_eq!(rt; put_of_zeros(&rt, count)?, ((Err(fault), 0, 0), left));
+    }
+    Ok(())
+}
+
+// What a put comes to whose input returns these bytes, and then fails.
+fn put_that_breaks(
+    rt: &HostRuntime,
+    bytes: Option<&[u8]>,
+    kind: io::ErrorKind,
+) -> Result<(Result<(), ToolFault>, usize, usize), Fail> {
+    put_of(rt, &mut Breaks { bytes, kind })
+}
+
+// Nothing is sent for a file that is read in part. A reader that runs out of memory is reported as `Read`, not as
+// `Memory`.
+#[test]
+fn a_put_of_an_input_that_breaks(rt: HostRuntime) -> Result<(), Fail> {
+    let file = HUNDRED.as_slice();
+    for (bytes, kind) in [
+        (None, io::ErrorKind::Other),
+        (Some(&file[..10]), io::ErrorKind::Other),
+        (Some(file), io::ErrorKind::OutOfMemory),
+    ] {
+        assert_eq!(rt;
+            put_that_breaks(&rt, bytes, kind)?,
+            (Err(ToolFault::Read), 0, 0)
+        );
+    }
+    Ok(())
+}
+
+// What a put comes to whose input fails at its first read, and would then return a whole file.
+fn put_that_stumbles(rt: &HostRuntime) -> Result<(Result<(), ToolFault>, usize, usize), Fail> {
+    let mut input = Stumbles {
+        bytes: HUNDRED,
+        has_failed: false,
+    };
+    put_of(rt, &mut input)
+}
+
+#[test]
+fn a_put_of_an_input_that_stumbles(rt: HostRuntime) -> Result<(), Fail> {
+    assert_eq!(rt; put_that_stumbles(&rt)?, (Err(ToolFault::Read), 0, 0));
+    Ok(())
+}
