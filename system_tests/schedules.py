@@ -669,6 +669,24 @@ def too_long():
     yield "the same where an operation is", "begin put ALICE HUNDRED\n" + put, "bad event 1\n"
 
 
+def too_long_to_send():
+    """Two puts of files whose collection is too long to be sent, and strangers' requests for it and for the other one: what the
+    requests are answered, and how many bytes the collection has."""
+    size = 17_000_028
+    events, sent = [], 0
+    for number in (1, 2):
+        file = EMPTY["lynx"] + record(number, 100, b"\1" * (size - 28))
+        # The request, its ACK, and each block and its ACK, of which the last is not delivered.
+        count = 2 + 2 * (size // 512 + 1)
+        events += [f"begin put {1 + number} 5000 {file.hex()}"]
+        events += [f"deliver {sent + i} {4000 + number}" for i in range(count - 1)]
+        sent += count
+    for i, name in enumerate(("RRQ_LYNX", "RRQ_MS")):
+        events += [f"stray STRANGER SERVER {name}", f"deliver {sent + 2 * i} 4003"]
+    left = outcome_of(printed(spelled("".join(event + "\n" for event in events))))
+    return [content for _, _, content in left.datagrams[sent + 1 :: 2]], len(left.texts["lynx"]), len(left.taken)
+
+
 # ---- what a list leaves
 
 
@@ -925,6 +943,8 @@ def main():
     for name, events, wanted in by_hand():
         got = printed(spelled(events))
         check(name, got == spelled(wanted))
+    refusal = b"\0\5\0\0collection too long\0"
+    check("a collection that is too long to be sent", too_long_to_send() == ([refusal, WORDS["EMPTY_MS_1"]], 34_000_048, 2))
     first = spelled(SLOW_PUT + SLOW_GET).splitlines()
     check("the first list keeps every promise", broken_promise(first, replayed(first)) is None)
     total = {}

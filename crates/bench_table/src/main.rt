@@ -54,7 +54,7 @@ const FIRST_UPLOAD: u16 = 10;
 /// A client of the table: its port, which is that of its transfer, the number of its upload, and the bytes that it
 /// sends next unless it is done. They are written in place, as in the C program; otherwise copies of whole datagrams
 /// would count as time of the table.
-#[derive(Drop)]
+#[derive(Clone, Copy)]
 struct Client {
     port: u16,
     upload: u16,
@@ -125,20 +125,30 @@ fn endpoint(port: u16) -> Endpoint {
     Endpoint { host: 2, port }
 }
 
+// Appends a solution of this level.
+fn add_level(bytes: &mut Vec<u8>, shape: Shape, number: u8, level: u16) -> Result<(), AllocError> {
+    bytes.extend_from_slice(&shape.moves.wrapping_add(16).to_le_bytes())?;
+    bytes.extend_from_slice(&level.to_le_bytes())?;
+    bytes.push(number)?;
+    bytes.extend_from_slice(b"BCD\0\0\0\0\0\0\x64\0\0\0")?;
+    for _ in 0..shape.moves {
+        bytes.push(0x61)?;
+    }
+    Ok(())
+}
+
+// Appends a solution of each level.
+fn add_levels(bytes: &mut Vec<u8>, shape: Shape, number: u8) -> Result<(), AllocError> {
+    for level in 0..shape.solutions {
+        add_level(bytes, shape, number, level)?;
+    }
+    Ok(())
+}
+
 // A file of Lynx solutions, each for another level. Files with different numbers have no level in common.
 fn file(alloc: Global, shape: Shape, number: u8) -> Result<Vec<u8>, AllocError> {
-    let mut bytes = Vec::new(alloc);
-    bytes.extend_from_slice(b"\x35\x33\x9B\x99\x01\0\0\0")?;
-    let size = shape.moves.wrapping_add(16).to_le_bytes();
-    for level in 0..shape.solutions {
-        bytes.extend_from_slice(&size)?;
-        bytes.extend_from_slice(&level.to_le_bytes())?;
-        bytes.push(number)?;
-        bytes.extend_from_slice(b"BCD\0\0\0\0\0\0\x64\0\0\0")?;
-        for _ in 0..shape.moves {
-            bytes.push(0x61)?;
-        }
-    }
+    let mut bytes = Vec::from_slice(alloc, b"\x35\x33\x9B\x99\x01\0\0\0")?;
+    add_levels(&mut bytes, shape, number)?;
     Ok(bytes)
 }
 
@@ -239,92 +249,133 @@ fn end(table: &mut Table, clients: &[Client]) {
     }
 }
 
-// Makes `live` transfers at a time, of which every second is a download and the others are uploads, with numbers from
-// `upload` on. Returns how many datagrams their clients sent.
-fn round(
-    alloc: Global,
+// Which transfers are made at a time: how many, the number of the first upload, and whether the first one is a download, as
+// then every second one is.
+#[derive(Clone, Copy)]
+struct Live {
+    count: u16,
+    upload: u16,
+    reads: bool,
+}
+
+// Opens these transfers.
+fn open_all(
     table: &mut Table,
     shape: Shape,
     file: &[u8],
-    live: u16,
-    upload: u16,
-    reads: bool,
-) -> Result<u64, AllocError> {
-    let mut clients = Vec::new(alloc);
-    for i in 0..live {
+    live: Live,
+    clients: &mut Vec<Client>,
+) -> Result<(), AllocError> {
+    for i in 0..live.count {
         let port = FIRST.wrapping_add(i);
-        let upload = upload.wrapping_add(i / 2);
-        let client = open(table, shape, file, port, upload, (i % 2 == 0) == reads);
-        clients.push(client)?;
+        let upload = live.upload.wrapping_add(i / 2);
+        clients.push(open(table, shape, file, port, upload, (i % 2 == 0) == live.reads))?;
     }
+    Ok(())
+}
+
+// Makes turns of the clients until all are done. Returns how many datagrams they sent.
+fn finish_all(table: &mut Table, shape: Shape, file: &[u8], clients: &mut [Client]) -> u64 {
     let mut sent: u64 = 0;
     for _ in 0..u64::from(u32::MAX) {
-        let now = turns(table, shape, file, clients.as_mut_slice());
+        let now = turns(table, shape, file, clients);
         if now == 0 {
             break;
         }
         sent = sent.wrapping_add(now);
     }
-    end(table, clients.as_slice());
-    Ok(sent)
+    end(table, clients);
+    sent
 }
 
-// Uploads the files that make up the collection.
+// Makes these transfers. Returns how many datagrams their clients sent.
+fn round(
+    alloc: Global,
+    table: &mut Table,
+    shape: Shape,
+    file: &[u8],
+    live: Live,
+) -> Result<u64, AllocError> {
+    let mut clients = Vec::new(alloc);
+    open_all(table, shape, file, live, &mut clients)?;
+    Ok(finish_all(table, shape, file, &mut clients))
+}
+
+// Uploads one of the files that make up the collection.
+fn fill_by(alloc: Global, table: &mut Table, shape: Shape, number: u8) -> Result<u64, AllocError> {
+    let one = Live {
+        count: 1,
+        upload: 0,
+        reads: false,
+    };
+    round(alloc, table, shape, &file(alloc, shape, number)?, one)
+}
+
+// Uploads all of them.
 fn fill(alloc: Global, table: &mut Table, shape: Shape) -> Result<(), AllocError> {
     for number in 1..=FILES {
-        let bytes = file(alloc, shape, number)?;
-        round(alloc, table, shape, bytes.as_slice(), 1, 0, false)?;
+        fill_by(alloc, table, shape, number)?;
     }
     Ok(())
 }
 
-// Makes `rounds` rounds of `live` transfers. Returns how many datagrams their clients sent.
+// Makes `rounds` rounds of `count` transfers with this file. Returns how many datagrams their clients sent.
+fn serve_file(
+    alloc: Global,
+    table: &mut Table,
+    shape: Shape,
+    file: &[u8],
+    rounds: u16,
+    count: u16,
+) -> Result<u64, AllocError> {
+    let mut sent: u64 = 0;
+    for i in 0..rounds {
+        let live = Live {
+            count,
+            upload: FIRST_UPLOAD.wrapping_add(i.wrapping_mul(count) / 2),
+            reads: i % 2 == 0,
+        };
+        sent = sent.wrapping_add(round(alloc, table, shape, file, live)?);
+    }
+    Ok(sent)
+}
+
+// The same with the first of the files.
 fn serve(
     alloc: Global,
     table: &mut Table,
     shape: Shape,
     rounds: u16,
-    live: u16,
+    count: u16,
 ) -> Result<u64, AllocError> {
-    let bytes = file(alloc, shape, 1)?;
-    let mut sent: u64 = 0;
-    for i in 0..rounds {
-        let upload = FIRST_UPLOAD.wrapping_add(i.wrapping_mul(live) / 2);
-        let now = round(
-            alloc,
-            table,
-            shape,
-            bytes.as_slice(),
-            live,
-            upload,
-            i % 2 == 0,
-        )?;
-        sent = sent.wrapping_add(now);
-    }
-    Ok(sent)
+    serve_file(alloc, table, shape, &file(alloc, shape, 1)?, rounds, count)
 }
 
-// The sum of all bytes of a collection's text.
-fn sum_of(alloc: Global, collection: &Collection) -> io::Result<u64> {
-    let mut text = Vec::new(alloc);
-    if collection.write_text(&mut text).is_err() {
-        return Err(io::Error::from(AllocError));
-    }
+// The sum of these bytes.
+fn sum_of(bytes: &[u8]) -> u64 {
     let mut sum: u64 = 0;
-    for byte in text.as_slice() {
+    for byte in bytes {
         sum = sum.wrapping_add(u64::from(*byte));
     }
-    Ok(sum)
+    sum
 }
 
-fn main(rt: HostRuntime) -> io::Result<()> {
-    let mut words = [0; 3];
-    rt.stdin().read(&mut words)?;
+// The sum of all bytes of a collection's text; `None` if there is no memory for that.
+fn sum_of_text(alloc: Global, collection: &Collection) -> Option<u64> {
+    let mut text = Vec::new(alloc);
+    match collection.write_text(&mut text) {
+        Ok(()) => Some(sum_of(&text)),
+        Err(_) => None,
+    }
+}
+
+// Fills a table, and serves as these words of the input say. Returns how many datagrams the clients sent.
+fn run(alloc: Global, table: &mut Table, words: [u8; 3]) -> Result<u64, AllocError> {
     let times = match words[2] {
         b'+' => 5,
         _ => 1,
     };
-    let (rounds, live) = match words[0] {
+    let (rounds, count) = match words[0] {
         b'1' => (128 * times, 1),
         _ => (2 * times, 64),
     };
@@ -332,11 +383,21 @@ fn main(rt: HostRuntime) -> io::Result<()> {
         b'l' => LONG,
         _ => USUAL,
     };
+    fill(alloc, table, shape)?;
+    serve(alloc, table, shape, rounds, count)
+}
+
+fn main(rt: HostRuntime) -> io::Result<()> {
+    let mut words = [0; 3];
+    rt.stdin().read(&mut words)?;
     let mut table = Table::new(rt.alloc(), REQUEST);
-    fill(rt.alloc(), &mut table, shape)?;
-    let sent = serve(rt.alloc(), &mut table, shape, rounds, live)?;
+    let sent = run(rt.alloc(), &mut table, words);
     let collection = table.collection(Ruleset::Lynx);
     let size = collection.text_len();
-    let sum = sum_of(rt.alloc(), collection)?;
-    println!(rt; "{sent} datagrams, {size} bytes with the sum {sum}")
+    match (sent, sum_of_text(rt.alloc(), collection)) {
+        (Ok(sent), Some(sum)) => {
+            println!(rt; "{sent} datagrams, {size} bytes with the sum {sum}")
+        }
+        _ => Err(io::Error::from(AllocError)),
+    }
 }
