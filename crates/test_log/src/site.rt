@@ -1,7 +1,6 @@
 // A table whose steps are logged, with a clock of its own.
 use archive_log::{HistoryFolder, ServerLog};
 use archive_table::{Keeper, Observer, Table};
-use archive_turns::ServerObserver;
 use log::Log;
 use std::alloc::Global;
 use std::cell::Cell;
@@ -36,15 +35,13 @@ impl Clock for Morning {
     }
 }
 
-// A datagram from a client, by its number, or a time-out, or a request from one that is dropped.
+// A datagram from a client, by its number.
 #[derive(Clone, Copy)]
 pub(crate) enum Input<'a> {
     // At the request port, with this spare port.
     Ask(u16, u16, &'a [u8]),
     // At the port of a transfer.
     Recv(u16, u16, &'a [u8]),
-    Wait(u16),
-    Drop(u16),
 }
 
 // Makes the step of an input, and logs it.
@@ -67,11 +64,6 @@ pub(crate) fn log_step<C: Clock, L: Log, H: HistoryFolder, K: Keeper>(
             let step = table.on_datagram(keeper, port, client(from), bytes);
             log.on_step(port, Some(client(from)), &step, table);
         }
-        Input::Wait(port) => {
-            let step = table.on_timeout(port);
-            log.on_step(port, None, &step, table);
-        }
-        Input::Drop(from) => log.on_dropped(client(from)),
     }
     Ok(())
 }
