@@ -12,17 +12,9 @@ mod clients;
 #[cfg(test)]
 mod collections;
 #[cfg(test)]
-mod comparisons;
-#[cfg(test)]
 mod downloads;
 #[cfg(test)]
 mod files;
-#[cfg(test)]
-mod long_uploads;
-#[cfg(test)]
-mod moves;
-#[cfg(test)]
-mod packing;
 #[cfg(test)]
 mod received_files;
 #[cfg(test)]
@@ -30,16 +22,8 @@ mod replays;
 #[cfg(test)]
 mod requests;
 #[cfg(test)]
-mod runs;
-#[cfg(test)]
 mod table;
 #[cfg(test)]
 mod table_steps;
 #[cfg(test)]
-mod tables;
-#[cfg(test)]
-mod texts;
-#[cfg(test)]
 mod uploads;
-#[cfg(test)]
-mod wires;
