@@ -149,10 +149,14 @@ fn puts_once(alloc: Global, archive: &mut Archive) -> Result<bool, Fail> {
     is_put_once(alloc, archive, &mut client, &mut run)
 }
 
+fn puts_once_at_new(alloc: Global) -> Result<bool, Fail> {
+    let mut archive = Archive::new(alloc, &[4000, 4001])?;
+    puts_once(alloc, &mut archive)
+}
+
 #[test]
 fn a_repeated_request(rt: HostRuntime) -> Result<(), Fail> {
-    let mut archive = Archive::new(rt.alloc(), &[4000, 4001])?;
-    assert!(rt; puts_once(rt.alloc(), &mut archive)?);
+    assert!(rt; puts_once_at_new(rt.alloc())?);
     Ok(())
 }
 
@@ -283,16 +287,25 @@ fn gets_around_a_put(alloc: Global, archive: &mut Archive) -> Result<[bool; 4], 
     Ok([first, put, got, last])
 }
 
+// The same, and how many datagrams the server has sent, and how many transfers are live.
+fn counts_around_a_put(
+    alloc: Global,
+    archive: &mut Archive,
+) -> Result<([bool; 4], usize, usize), Fail> {
+    let got = gets_around_a_put(alloc, archive)?;
+    let sent = send_count(&archive.wire);
+    Ok((got, sent, archive.server.table().live()))
+}
+
+fn counts_at_new(alloc: Global) -> Result<([bool; 4], usize, usize), Fail> {
+    let mut archive = Archive::new(alloc, &[4000, 4001, 4002, 4003])?;
+    counts_around_a_put(alloc, &mut archive)
+}
+
 // The next get has the new collection. The server has sent two ACKs for each put and a block for each get, and of the
 // four transfers only those of the puts still wait for a repeated last block.
 #[test]
 fn gets_across_a_put(rt: HostRuntime) -> Result<(), Fail> {
-    let mut archive = Archive::new(rt.alloc(), &[4000, 4001, 4002, 4003])?;
-    let got = gets_around_a_put(rt.alloc(), &mut archive)?;
-    let sent = send_count(&archive.wire);
-    assert_eq!(rt;
-        (got, sent, archive.server.table().live()),
-        ([true; 4], 6, 2)
-    );
+    assert_eq!(rt; counts_at_new(rt.alloc())?, ([true; 4], 6, 2));
     Ok(())
 }
