@@ -1,5 +1,5 @@
 -- What is counted of a transfer, and when its line is drawn.
-use Rattle.std.specs.Prelude.{ℕ, ◌-◌, nat_le, max, Bool, true, false, not, ◌&&◌, Option, None, Some, is_some, unwrap_or, Result, Ok, Err, if◌then◌else◌}
+use Rattle.std.specs.Prelude.{ℕ, ◌-◌, nat_le, Bool, true, false, not, ◌&&◌, Option, None, Some, unwrap_or, Result, Ok, Err, if◌then◌else◌}
 use Rattle.tftp_packet.specs.Packet.{Packet, read, write, data_block, ack, error}
 use Rattle.tftp_packet.specs.declared.packet_fault.PacketFault.{PacketFault}
 use Rattle.archive_progress.specs.declared.limits.TheConstants.{DELAY, PAUSE}

@@ -1,5 +1,5 @@
 -- A visit with the time-outs after it, a turn and a round of it, and many of them one after another.
-use Rattle.std.specs.Prelude.{◌≡◌, ℕ, ◌+◌, ◌==◌, ◌≤◌, Bool, true, false, List, [], ◌∷◌, ◌++◌, length, Option, None, Some}
+use Rattle.std.specs.Prelude.{◌≡◌, ℕ, ◌+◌, ◌≤◌, Bool, true, false, List, [], ◌∷◌, ◌++◌, length, Option}
 use Rattle.std.proofs.Common.{refl, sym, ap, subst, ◌∙◌}
 use Rattle.archive_table.specs.declared.limits.TheConstants.{LIVE}
 use Rattle.archive_table.specs.Table.{Table, IsTable, Merges, port_above}
@@ -14,7 +14,7 @@ use Rattle.archive_turns.specs.declared.timer.Timer.{Timer}
 use Rattle.archive_turns.specs.Wire.{Entry, Grows, waited}
 use Rattle.archive_turns.specs.Timers.{ports_of, live_ports, lower, timed, timers_if, timers_after, counts, noticed, is_quiet, late_ports, restart, earliest, HasRoom}
 use Rattle.archive_turns.specs.Parts.{IsVisit, Walks, Passes}
-use Rattle.archive_turns.specs.Turn.{Receipt, Answers, Visited, nothing, KeepsAsked, next_visit, next_asks, next_admits, walk_after, IsPass, Server, next_of, turn_next, ready_next, noted, noted_or, IsTurn, IsRound, Pass, MakesPass, MakesTurn, MakesRound, count_if, none, more, MakesMany}
+use Rattle.archive_turns.specs.Turn.{Receipt, Answers, Visited, nothing, KeepsAsked, next_visit, next_asks, next_admits, walk_after, IsPass, Server, next_of, ready_next, noted, noted_or, IsTurn, IsRound, Pass, MakesPass, MakesTurn, MakesRound, count_if, none, more, MakesMany}
 use Rattle.archive_turns.proofs.Log.{grows_none, grows_join}
 use Rattle.archive_turns.proofs.Ports.{ports_lower}
 use Rattle.archive_turns.proofs.Noticing.{ports_noticed}

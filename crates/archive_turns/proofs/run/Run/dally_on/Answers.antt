@@ -1,4 +1,4 @@
-use Rattle.std.proofs.Common.{true, false}
+use Rattle.std.proofs.Common.{false}
 use Rattle.archive_turns.proofs.Rounding.{dallies_none, dallies_more, dally_ended}
 use Rattle.archive_turns.proofs.run.Run.dally_on.Goals as goal
 
