@@ -3,8 +3,8 @@ use Rattle.std.proofs.Common.{◌≡◌, ℕ, zero, suc, ◌+◌, ◌*◌, ◌<�
 use Rattle.std.specs.Prelude.{slice_get}
 use native.Mathlib.Omega.{arith}
 use Rattle.std.proofs.lemmas.List.{length-append, length-take, take_all}
-use Rattle.tws_file.specs.PartReader.{PartReading, HasRoom}
-use Rattle.tws_file.proofs.InParts.{has_room}
+use Rattle.tws_reader.specs.PartReader.{PartReading, HasRoom}
+use Rattle.tws_reader.proofs.InParts.{has_room}
 use Rattle.tftp_ends.specs.declared.chunks.TheConstants.{CHUNK_SIZE}
 use Rattle.tftp_ends.specs.Chunks.{chunk_count, chunk_of}
 use Rattle.tftp_ends.proofs.Chunking.{chunks-more}

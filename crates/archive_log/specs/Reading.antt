@@ -1,7 +1,7 @@
 -- A received file that is read chunk by chunk.
 use Rattle.std.specs.Prelude.{ℕ, List}
 use Rattle.tws_file.specs.Text.{Record}
-use Rattle.tws_file.specs.PartReader.{PartReading, HasRead, HandsOut}
+use Rattle.tws_reader.specs.PartReader.{PartReading, HasRead, HandsOut}
 
 -- a chunk was read, whichever records it completed
 pub record ReadsChunk (was : PartReading) (chunk : List ℕ) (is : PartReading) : Type 0 where

@@ -3,7 +3,7 @@
 ghost use Rattle.std.specs.Prelude.{◌≡◌, ◌≢◌, length, OnOk, IfSome, IfNone};
 ghost use Rattle.tws_file.specs.Text.{IsReadable};
 ghost use Rattle.tws_file.specs.Fault.{HasFileFault};
-ghost use Rattle.tws_file.specs.PartReader.{HasRoom};
+ghost use Rattle.tws_reader.specs.PartReader.{HasRoom};
 ghost use Rattle.archive_log.specs.Sent.{ruleset_of as fifth_byte};
 ghost use Rattle.archive_log.specs.Reading.{ReadsChunk};
 
@@ -12,7 +12,8 @@ use archive_table::Taken;
 use std::alloc::{AllocError, Allocator};
 use tftp_ends::Received;
 use tftp_packet::Endpoint;
-use tws_file::{FileFault, PartReader, Ruleset};
+use tws_file::{FileFault, Ruleset};
+use tws_reader::PartReader;
 
 /// A file that a server took.
 #[derive(Clone, Copy, Debug, PartialEq, Eq)]

@@ -8,10 +8,10 @@ use Rattle.tws_file.specs.declared.«ruleset».Ruleset.TheVariants.{Lynx, Ms}
 use Rattle.tws_file.specs.declared.file_fault.FileFault.{FileFault}
 use Rattle.tws_file.specs.Text.{File, Record, IsText, IsReadable}
 use Rattle.tws_file.specs.Fault.{HasFileFault}
-use Rattle.tws_file.specs.PartReader.{PartReading, HasRead, HasRoom, IsTextWith}
+use Rattle.tws_reader.specs.PartReader.{PartReading, HasRead, HasRoom, IsTextWith}
 use Rattle.tws_file.proofs.FileText.{one_file}
-use Rattle.tws_file.proofs.Faults.{text_without_fault}
-use Rattle.tws_file.proofs.InParts.{has_room}
+use Rattle.tws_reader.proofs.Faults.{text_without_fault}
+use Rattle.tws_reader.proofs.InParts.{has_room}
 use Rattle.tws_file.proofs.Rules.{text_long}
 use Rattle.tws_best.specs.Best.{KeyedBody, Collected, IsBestOf, IsCollected, solved_in, solved_by, collection_text}
 use Rattle.tws_best.proofs.Bests.{own_best}

@@ -1,7 +1,7 @@
 -- What a received file does to the collection of its ruleset, and what the steps of that are.
 use Rattle.std.specs.Prelude.{◌≡◌, ◌≢◌, ◌⊎◌, ℕ, Bool, true, false, List, [], ◌++◌, Contains, Option}
 use Rattle.tws_file.specs.Text.{File, Record, IsText}
-use Rattle.tws_file.specs.PartReader.{PartReading, HasRead, HandsOut}
+use Rattle.tws_reader.specs.PartReader.{PartReading, HasRead, HandsOut}
 use Rattle.tws_best.specs.Best.{KeyedBody, Collected, IsBestOf, solved_in}
 use Rattle.tws_best.specs.Merge.{Merging}
 use Rattle.tftp_packet.specs.declared.refusal.Refusal.{Refusal}

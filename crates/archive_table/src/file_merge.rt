@@ -2,14 +2,15 @@
 
 ghost use Rattle.std.specs.Prelude.{◌≡◌, ◌≤◌, Some, IfOk, OnOk, MatchBool};
 ghost use Rattle.tws_file.specs.Text.{File, IsText, IsReadable};
-ghost use Rattle.tws_file.specs.PartReader.{HasRoom};
+ghost use Rattle.tws_reader.specs.PartReader.{HasRoom};
 ghost use Rattle.tws_best.specs.Best.{IsCollected};
 ghost use Rattle.archive_table.specs.FileMerge.{TakesChunk, MergesText};
 
 use std::alloc::{AllocError, Allocator};
 use tftp_ends::Received;
 use tws_best::Merge;
-use tws_file::{FileFault, PartReader, Ruleset};
+use tws_file::{FileFault, Ruleset};
+use tws_reader::PartReader;
 
 // The ruleset of a received file. Of bytes that are not a solution file it may be any, or none.
 pub(crate) fn ruleset_of<A: Allocator>(file: &Received<A>) -> Option<Ruleset>

@@ -8,7 +8,8 @@ use crate::keeper::Keeper;
 use crate::load_fault::LoadFault;
 use std::alloc::Allocator;
 use tws_best::Collection;
-use tws_file::{FileFault, Ruleset, read_file};
+use tws_file::{FileFault, Ruleset};
+use tws_reader::read_file;
 
 // Reads the text of a collection of this ruleset.
 fn read_collection<A: Allocator + Copy>(

@@ -3,7 +3,7 @@ use Rattle.std.proofs.Common.{◌≡◌, ◌⊎◌, ℕ, Bool, true, false, List
 use Rattle.tws_file.specs.declared.«ruleset».Ruleset.{Ruleset}
 use Rattle.tws_file.specs.declared.«ruleset».Ruleset.TheVariants.{Lynx, Ms}
 use Rattle.tws_file.specs.Text.{File, IsText}
-use Rattle.tws_file.proofs.Faults.{text_without_fault}
+use Rattle.tws_reader.proofs.Faults.{text_without_fault}
 use Rattle.tws_file.proofs.FileText.{one_file}
 use Rattle.tws_best.specs.Best.{Collected, IsCollected, collection_text}
 use Rattle.tws_best.proofs.Texts.{file_from, is_text, file_rules, read_back}

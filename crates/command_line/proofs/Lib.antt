@@ -1,5 +1,3 @@
-pub mod Statuses
-pub mod Taking
 mod Given
 mod Sources
 pub mod Building

@@ -5,7 +5,7 @@ ghost use Rattle.clap.specs.Words.{app_of, is_simple_and_free};
 ghost use Rattle.command_line.specs.CommandLine.{AddsCommand, FindsCommand, HasFault, IsUnknown, top_app};
 
 use crate::job_fault::JobFault;
-use crate::limits::VERSION;
+use crate::version::VERSION;
 use clap::error::ErrorKind;
 use clap::{ArgMatches, Command};
 use std::alloc::{AllocError, Global};

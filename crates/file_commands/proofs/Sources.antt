@@ -1,13 +1,13 @@
 -- Inputs by their sources, and what several of them have if standard input is among them.
-use Rattle.std.proofs.Common.{◌≡◌, ℕ, true, false, List, [], ◌∷◌, Option, Some, None, IfSome, refl, ap, sym, subst, true≢false, inl, inr, ⊎_elim, ◌⊎◌, string_bytes, arith}
+use Rattle.std.proofs.Common.{◌≡◌, ℕ, false, List, [], ◌∷◌, Option, Some, None, IfSome, refl, ap, sym, subst, true≢false, inl, inr, ⊎_elim, string_bytes, arith}
 use Rattle.tws_file.specs.declared.«ruleset».Ruleset.{Ruleset}
 use Rattle.tws_file.specs.Text.{File}
 use Rattle.tws_best.specs.Best.{Collected}
 use Rattle.command_line.specs.declared.source.Source.{Source}
 use Rattle.command_line.specs.declared.source.Source.TheVariants.{Standard, Named}
-use Rattle.command_line.specs.declared.tool_fault.ToolFault.{ToolFault}
-use Rattle.command_line.specs.Faults.{IsReadFault, status_of}
-use Rattle.command_line.specs.Inputs.{has_standard, knowns_of}
+use Rattle.command_faults.specs.declared.tool_fault.ToolFault.{ToolFault}
+use Rattle.command_faults.specs.Faults.{IsReadFault, status_of}
+use Rattle.command_faults.specs.Inputs.{has_standard, knowns_of}
 use Rattle.file_commands.specs.Best.{AreReported, BestPrefix, BestWrites, Collects, FilesRan}
 use Rattle.file_commands.specs.Page.{AreFiles, PagePrefix, PageWrites}
 

@@ -10,10 +10,10 @@ use Rattle.tws_file.specs.Fault.{HasFileFault}
 use Rattle.byte_output.specs.Output.{AppendsPrefix}
 use Rattle.tws_best.specs.Best.{Collected, IsCollectionOf, collection_text}
 use Rattle.file_commands.specs.declared.best.BestArguments.{BestArguments}
-use Rattle.command_line.specs.declared.tool_fault.ToolFault.{ToolFault}
-use Rattle.command_line.specs.declared.tool_fault.ToolFault.TheVariants.{Read, Write, Unreadable, Memory, Socket, Transfer}
+use Rattle.command_faults.specs.declared.tool_fault.ToolFault.{ToolFault}
+use Rattle.command_faults.specs.declared.tool_fault.ToolFault.TheVariants.{Read, Write, Unreadable, Memory, Socket, Transfer}
 use Rattle.command_line.specs.Arguments.{HasRuleset, HasSources, RulesetNames, files_rule, ruleset_rule}
-use Rattle.command_line.specs.Inputs.{ReadsAmong, knowns_of}
+use Rattle.command_faults.specs.Inputs.{ReadsAmong, knowns_of}
 
 abbrev pub best_name : Text
 best_name = codes "best"

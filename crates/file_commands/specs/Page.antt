@@ -6,9 +6,9 @@ use Rattle.tws_file.specs.Text.{File, IsText}
 use Rattle.byte_output.specs.Output.{AppendsPrefix}
 use Rattle.tws_tables.specs.Page.{page_of}
 use Rattle.file_commands.specs.declared.page.PageArguments.{PageArguments}
-use Rattle.command_line.specs.declared.tool_fault.ToolFault.{ToolFault}
+use Rattle.command_faults.specs.declared.tool_fault.ToolFault.{ToolFault}
 use Rattle.command_line.specs.Arguments.{HasSources, files_rule}
-use Rattle.command_line.specs.Inputs.{ReadsAmong, knowns_of}
+use Rattle.command_faults.specs.Inputs.{ReadsAmong, knowns_of}
 use Rattle.file_commands.specs.Best.{FilesFail, FilesRan}
 
 abbrev pub page_name : Text

@@ -8,20 +8,20 @@ ghost use Rattle.clap.specs.Words.{app_of, rows_of};
 ghost use Rattle.clap.specs.declared.builder.command.Command.TheViews.{out-Command};
 ghost use Rattle.command_line.specs.Arguments.{Answers};
 ghost use Rattle.file_commands.specs.Best.{AsksForBest, Collects, CollectFails, AreReadOut, BestWrites, BestPrefix, BestFails, BestRan, FilesRan, best_app};
-ghost use Rattle.command_line.specs.Inputs.{knowns_of};
+ghost use Rattle.command_faults.specs.Inputs.{knowns_of};
 
 use crate::arguments::files_argument;
 use crate::opening::{NotOpened, open_all};
 use crate::reporting::{finish_among, report_unopened};
 use crate::standard::{has_standard, read_bytes};
 use clap::{ArgMatches, Command};
-use command_line::{
-    FileSystem, Source, ToolFault, new_command, read_input, report, ruleset_argument,
-    ruleset_given, sources_given,
-};
+use command_faults::{ToolFault, report};
+use command_line::{Source, new_command, ruleset_argument, ruleset_given, sources_given};
+use show_commands::read_input;
 use std::alloc::{AllocError, Global};
 use std::io::{Read, Write};
 use std::mem;
+use system_files::FileSystem;
 use tws_best::Collection;
 use tws_file::Ruleset;
 

@@ -7,16 +7,17 @@ ghost use Rattle.clap.specs.Words.{app_of, rows_of, rule_of};
 ghost use Rattle.clap.specs.declared.builder.command.Command.TheViews.{out-Command};
 ghost use Rattle.command_line.specs.Arguments.{Answers};
 ghost use Rattle.file_commands.specs.Compare.{AsksToCompare, CompareFails, CompareRan, Compares, ComparesFiles, FilesFail, better_rule, compare_app, compare_status, mine_rule, theirs_rule};
-ghost use Rattle.command_line.specs.Faults.{status_of};
+ghost use Rattle.command_faults.specs.Faults.{status_of};
 
 use byte_output::put;
 use clap::{Arg, ArgAction, ArgMatches, Command};
-use command_line::{
-    DONE, FileSystem, ToolFault, USAGE, new_command, read_input, report, report_file, string_given,
-};
+use command_faults::{DONE, ToolFault, USAGE, report, report_file};
+use command_line::{new_command, string_given};
+use show_commands::read_input;
 use std::alloc::{AllocError, Global};
 use std::io::{Read, Write};
 use std::slice;
+use system_files::FileSystem;
 use tws_compare::{CompareFault, better, compare, comparison_text};
 use tws_file::TwsFile;
 

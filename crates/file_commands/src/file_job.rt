@@ -12,10 +12,11 @@ use crate::page::PageArguments;
 use crate::without::WithoutArguments;
 use crate::{best, compare, page, without};
 use clap::{ArgMatches, Command};
-use command_line::{FileSystem, add_command};
+use command_line::add_command;
 use show_commands::{ShowJob, run_show_job, show_job_of, show_program};
 use std::alloc::{AllocError, Global};
 use std::io::{Read, Write};
+use system_files::FileSystem;
 
 /// What a command on files is asked to do.
 #[derive(Drop)]

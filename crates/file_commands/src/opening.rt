@@ -2,14 +2,15 @@
 
 ghost use Rattle.std.specs.Prelude.{◌≡◌, Some, length, map, IfOk, IfErr};
 ghost use Rattle.either.specs.Either.{either};
-ghost use Rattle.command_line.specs.Inputs.{known_of, knowns_of};
+ghost use Rattle.command_faults.specs.Inputs.{known_of, knowns_of};
 ghost use Rattle.file_commands.specs.Opening.{IsWithin};
 ghost use Rattle.file_commands.specs.declared.opening.NotOpened.TheVariants as NotOpened;
 
-use command_line::{FileSystem, Source};
+use command_line::Source;
 use either::Either;
 use std::alloc::{AllocFailed, Global};
 use std::io;
+use system_files::FileSystem;
 
 /// Why one of several files was not opened.
 #[derive(Drop)]

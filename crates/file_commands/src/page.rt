@@ -8,17 +8,20 @@ ghost use Rattle.clap.specs.Words.{app_of, rows_of};
 ghost use Rattle.clap.specs.declared.builder.command.Command.TheViews.{out-Command};
 ghost use Rattle.file_commands.specs.Best.{AreReadOut, CollectFails, FilesRan};
 ghost use Rattle.file_commands.specs.Page.{AreFiles, AsksForPage, PageFails, PagePrefix, PageRan, PageWrites, page_app};
-ghost use Rattle.command_line.specs.Faults.{IsBeforeOutput};
-ghost use Rattle.command_line.specs.Inputs.{knowns_of};
+ghost use Rattle.command_faults.specs.Faults.{IsBeforeOutput};
+ghost use Rattle.command_faults.specs.Inputs.{knowns_of};
 
 use crate::arguments::files_argument;
 use crate::opening::{NotOpened, open_all};
 use crate::reporting::{finish_among, report_unopened};
 use crate::standard::{has_standard, read_bytes};
 use clap::{ArgMatches, Command};
-use command_line::{FileSystem, Source, ToolFault, new_command, read_input, report, sources_given};
+use command_faults::{ToolFault, report};
+use command_line::{Source, new_command, sources_given};
+use show_commands::read_input;
 use std::alloc::{AllocError, Global};
 use std::io::{Read, Write};
+use system_files::FileSystem;
 use tws_file::TwsFile;
 use tws_tables::write_page;
 

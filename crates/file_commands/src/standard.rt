@@ -2,10 +2,12 @@
 
 ghost use Rattle.std.specs.Prelude.{◌≡◌, IfOk, IfErr, IfSome, OnOk};
 ghost use Rattle.std.specs.Io.KnownBytes.{IsAtEnd};
-ghost use Rattle.command_line.specs.Faults.{IsReadFault};
-ghost use Rattle.command_line.specs.Inputs.{has_standard};
+ghost use Rattle.command_faults.specs.Faults.{IsReadFault};
+ghost use Rattle.command_faults.specs.Inputs.{has_standard};
 
-use command_line::{INPUT_READS, Source, ToolFault};
+use command_faults::ToolFault;
+use command_line::Source;
+use show_commands::INPUT_READS;
 use std::alloc::Global;
 use std::io::Read;
 

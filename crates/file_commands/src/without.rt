@@ -8,18 +8,20 @@ ghost use Rattle.clap.specs.declared.builder.command.Command.TheViews.{out-Comma
 ghost use Rattle.tws_compare.specs.Without.{text_without};
 ghost use Rattle.command_line.specs.Arguments.{Answers};
 ghost use Rattle.file_commands.specs.Without.{AsksForWithout, IsLevel, WithoutRan, level_rule, password_rule, without_app};
-ghost use Rattle.command_line.specs.Faults.{IsReadOut};
+ghost use Rattle.command_faults.specs.Faults.{IsReadOut};
 ghost use Rattle.show_commands.specs.Written.{RanFrom, Writes, WriteFails};
 
 use clap::builder::ValueParser;
 use clap::{Arg, ArgMatches, Command};
+use command_faults::{ToolFault, USAGE, finish, report_file};
 use command_line::{
-    FileSystem, Source, ToolFault, USAGE, finish, new_command, number_up_to, read_input,
-    report_file, source_argument, source_given, string_given, text_given,
+    Source, new_command, number_up_to, source_argument, source_given, string_given, text_given,
 };
+use show_commands::read_input;
 use std::alloc::{AllocError, Global};
 use std::io::{Read, Write};
 use std::slice;
+use system_files::FileSystem;
 use tws_compare::{password_shown, without};
 use tws_file::{Key, write_file};
 

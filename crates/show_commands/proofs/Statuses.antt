@@ -2,9 +2,9 @@
 use Rattle.std.proofs.Common.{ℕ, List, Option, Result, Ok, Err, OnOk, IfErr, arith, inl, inr}
 use Rattle.std.specs.Io.KnownBytes.{IsAtEnd}
 use Rattle.tws_file.specs.Text.{File}
-use Rattle.command_line.specs.declared.tool_fault.ToolFault.{ToolFault}
-use Rattle.command_line.specs.declared.tool_fault.ToolFault.TheVariants.{Read, Write, Unreadable, Memory, Socket, Transfer}
-use Rattle.command_line.specs.Faults.{IsReadOut, answer_status}
+use Rattle.command_faults.specs.declared.tool_fault.ToolFault.{ToolFault}
+use Rattle.command_faults.specs.declared.tool_fault.ToolFault.TheVariants.{Read, Write, Unreadable, Memory, Socket, Transfer}
+use Rattle.command_faults.specs.Faults.{IsReadOut, answer_status}
 use Rattle.show_commands.specs.Written.{FileRan, Ran, Writes, WriteFails}
 
 -- what a command of one input did, by the exit status

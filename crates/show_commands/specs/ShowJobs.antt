@@ -4,7 +4,7 @@ use Rattle.std.specs.Prelude.{◌≡◌, ℕ, List, Option, Result, Ok, Err}
 use Rattle.clap.specs.Words.{App, Row, Text, with_subcommand}
 use Rattle.clap.specs.declared.parser.matches.ArgMatches.{ArgMatches}
 use Rattle.command_line.specs.CommandLine.{AnswersIn, FindsCommand, top_app}
-use Rattle.command_line.specs.Help.{NoJobRan}
+use Rattle.command_faults.specs.Help.{NoJobRan}
 use Rattle.command_line.specs.declared.job_fault.JobFault.{JobFault}
 use Rattle.show_commands.specs.declared.show_job.ShowJob.{ShowJob}
 use Rattle.show_commands.specs.declared.show_job.ShowJob.TheVariants as job

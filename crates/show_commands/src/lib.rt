@@ -3,14 +3,21 @@
 //! how it is called.
 //!
 //! Each command is a module with `command`, its command line, `asked`, what its arguments ask for, `run`, which does that,
-//! and a function over any reader and writer, such as `run_show`. The list is in `show_job.rt`.
+//! and a function over any reader and writer, such as `run_show`. The list is in `show_job.rt`; `input.rt` reads a whole
+//! input, for every command on files.
 #![tactic(auto)]
 
+mod input;
+mod laws;
+mod limits;
 mod pack;
 mod program;
 mod show;
 mod show_job;
 
+pub use input::read_input;
+pub use laws::limit_values;
+pub use limits::INPUT_READS;
 pub use pack::{PackArguments, run_pack};
 pub use program::run_show_words;
 pub use show::{ShowArguments, run_csv, run_show};

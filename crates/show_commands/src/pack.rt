@@ -7,17 +7,17 @@ ghost use Rattle.clap.specs.Words.{app_of, rows_of};
 ghost use Rattle.clap.specs.declared.builder.command.Command.TheViews.{out-Command};
 ghost use Rattle.tws_file.specs.Packing.{packed_text};
 ghost use Rattle.show_commands.specs.Pack.{AsksToPack, PackRan, pack_app};
-ghost use Rattle.command_line.specs.Faults.{IsReadOut};
+ghost use Rattle.command_faults.specs.Faults.{IsReadOut};
 ghost use Rattle.show_commands.specs.Written.{Writes, WriteFails};
 
+use crate::input::read_input;
 use clap::{ArgMatches, Command};
-use command_line::{
-    FileSystem, Source, ToolFault, finish, new_command, read_input, report_file, source_argument,
-    source_given,
-};
+use command_faults::{ToolFault, finish, report_file};
+use command_line::{Source, new_command, source_argument, source_given};
 use std::alloc::{AllocError, Global};
 use std::io::{Read, Write};
 use std::slice;
+use system_files::FileSystem;
 use tws_file::{pack, write_file};
 
 /// What `pack` is asked for.

@@ -8,17 +8,17 @@ ghost use Rattle.clap.specs.declared.builder.command.Command.TheViews.{out-Comma
 ghost use Rattle.tws_tables.specs.Listing.{listing_of};
 ghost use Rattle.tws_tables.specs.Csv.{csv_of};
 ghost use Rattle.show_commands.specs.Show.{AsksToShow, ShowRan, csv_rule, moves_rule, show_app, shown_text};
-ghost use Rattle.command_line.specs.Faults.{IsBeforeOutput, IsReadOut};
+ghost use Rattle.command_faults.specs.Faults.{IsBeforeOutput, IsReadOut};
 ghost use Rattle.show_commands.specs.Written.{Writes, WriteFails};
 
+use crate::input::read_input;
 use clap::{Arg, ArgAction, ArgMatches, Command};
-use command_line::{
-    FileSystem, Source, ToolFault, finish, new_command, read_input, report_file, source_argument,
-    source_given,
-};
+use command_faults::{ToolFault, finish, report_file};
+use command_line::{Source, new_command, source_argument, source_given};
 use std::alloc::{AllocError, Global};
 use std::io::{Read, Write};
 use std::slice;
+use system_files::FileSystem;
 use tws_tables::{show, write_csv};
 
 /// What `show` is asked for.

@@ -10,9 +10,10 @@ use crate::pack::PackArguments;
 use crate::show::ShowArguments;
 use crate::{pack, show};
 use clap::{ArgMatches, Command};
-use command_line::{FileSystem, add_command, new_program};
+use command_line::{add_command, new_program};
 use std::alloc::{AllocError, Global};
 use std::io::{Read, Write};
+use system_files::FileSystem;
 
 /// What a command of one solution file is asked to do.
 #[derive(Drop)]

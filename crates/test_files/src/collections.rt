@@ -3,7 +3,8 @@ use std::alloc::Global;
 use std::test::Fail;
 use test_samples::{EMPTY_MS, HUNDRED, NINETY};
 use tws_best::Collection;
-use tws_file::{Ruleset, read_file};
+use tws_file::Ruleset;
+use tws_reader::read_file;
 
 pub(crate) fn load(alloc: Global, text: &[u8]) -> Result<Collection, Fail> {
     Ok(Collection::load(alloc, &read_file(alloc, text)?)?)

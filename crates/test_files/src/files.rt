@@ -3,8 +3,9 @@ use std::alloc::Global;
 use std::fmt::Display;
 use std::test::Fail;
 use test_samples::HUNDRED;
-use tws_file::{OutFault, Record, Solution, TwsFile, read_file, write_file};
+use tws_file::{OutFault, Record, Solution, TwsFile, write_file};
 use tws_moves::{MovesFault, SpellFault};
+use tws_reader::read_file;
 
 // Whether a fault is displayed as this text.
 fn is_shown_as<T: Display + Copy>(alloc: Global, fault: T, text: &str) -> Result<bool, Fail> {

@@ -5,7 +5,8 @@ use crate::files::is_written_as;
 use std::alloc::Global;
 use std::test::Fail;
 use test_samples::{CUT_MOVE, EMPTY_MS, HUNDRED};
-use tws_file::{FileFault, Reader};
+use tws_file::FileFault;
+use tws_reader::Reader;
 
 // Pushes a byte at a time. Returns the number of the first push that failed, and the reader.
 fn push_bytes(alloc: Global, bytes: &[u8]) -> (Option<usize>, Reader) {

@@ -4,7 +4,8 @@ use archive_table::{KeepFault, Keeper};
 use std::test::Fail;
 use test_samples::{EMPTY_MS, HUNDRED, NINETY};
 use tws_best::Collection;
-use tws_file::{Ruleset, read_file};
+use tws_file::Ruleset;
+use tws_reader::read_file;
 
 // The Lynx collection of a file.
 pub(crate) fn collection(rt: HostRuntime, text: &[u8]) -> Result<Collection, Fail> {

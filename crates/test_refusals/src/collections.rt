@@ -5,7 +5,8 @@ use std::alloc::{Allocator, Global};
 use test_samples::{EMPTY_LYNX, HUNDRED};
 use tftp_packet::Blocks;
 use tws_best::Collection;
-use tws_file::{Ruleset, TwsFile, read_file};
+use tws_file::{Ruleset, TwsFile};
+use tws_reader::read_file;
 
 // A Lynx file of level 1 AAAA in 50 ticks, level 2 BBBB in 60 and level 4 DDDD in 70. A collection of it alone has the
 // same text.

@@ -1,11 +1,12 @@
 // Reading and listing a solution file.
 ghost use Rattle.std.specs.Prelude.{ℕ, ◌+◌, length};
-ghost use Rattle.tws_file.specs.Reader.{HasRoomFor, HasAtMost};
+ghost use Rattle.tws_reader.specs.Reader.{HasRoomFor, HasAtMost};
 
 use refusing::{Complaint, Outcome, Refusing, refuse_each};
 use std::alloc::{Allocator, Global};
 use test_samples::CUT_MOVE;
-use tws_file::{FileFault, OutFault, Reader, TwsFile, read_file};
+use tws_file::{FileFault, OutFault, TwsFile};
+use tws_reader::{Reader, read_file};
 use tws_tables::show;
 
 // Two further header bytes, then a set record, a bare one, a pad, and a solution with two bytes of moves.

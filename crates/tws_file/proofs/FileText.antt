@@ -4,8 +4,7 @@ use Rattle.std.specs.List.{flat_map}
 use Rattle.tws_file.specs.declared.«ruleset».Ruleset.{Ruleset}
 use Rattle.tws_file.specs.declared.«ruleset».Ruleset.TheVariants.{Lynx, Ms}
 use Rattle.tws_file.specs.Fields.{ruleset_code}
-use Rattle.tws_file.specs.Text.{File, Record, header_text, text_of, record_text, IsFile, IsRecord, IsText}
-use Rattle.tws_file.specs.Fault.{BeginsNoRecord}
+use Rattle.tws_file.specs.Text.{File, Record, header_text, text_of, record_text, IsFile, IsRecord, IsText, BeginsNoRecord}
 use Rattle.byte_output.proofs.Lists.{append_parts}
 use Rattle.tws_moves.proofs.Codes.{one_cut}
 use Rattle.tws_file.proofs.RecordText.{record_texts}

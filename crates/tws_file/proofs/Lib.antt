@@ -1,17 +1,8 @@
 pub mod Numbers
 pub mod RecordText
-pub mod Beginnings
 pub mod FileText
-pub mod Faults
-pub mod Headers
-pub mod Bodies
 pub mod Comparing
 pub mod Words
 pub mod Gathering
-pub mod ReadSoFar
-pub mod Lasting
-pub mod Continuing
-pub mod InParts
 pub mod Packs
-pub mod Readable
 pub mod Rules

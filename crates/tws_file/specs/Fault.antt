@@ -5,7 +5,7 @@ use Rattle.tws_moves.specs.Spelling.{IsCutAt}
 use Rattle.tws_file.specs.declared.file_fault.FileFault.{FileFault}
 use Rattle.tws_file.specs.declared.file_fault.FileFault.TheVariants.{ShortHeader, BadSignature, BadRuleset, ShortRecord, BadSize, MoveCut, Memory}
 use Rattle.tws_file.specs.Fields.{signature}
-use Rattle.tws_file.specs.Text.{File, Record, Solution, solution, IsFile, IsRecord, HasSolutionFields, text_of, record_text}
+use Rattle.tws_file.specs.Text.{File, Solution, solution, IsFile, HasSolutionFields, text_of, record_text, BeginsNoRecord}
 
 -- ---- the header
 
@@ -25,10 +25,6 @@ pub record IsHeaderCut (bytes : List ℕ) : Type 0 where
   pub cut : length bytes < 8 + slice_index bytes 7
 
 -- ---- the records
-
--- no prefix of the bytes is the text of a record
-abbrev pub BeginsNoRecord : List ℕ → Type 0
-BeginsNoRecord bytes = (r : Record) (more : List ℕ) → IsRecord r → bytes ≢ record_text r ++ more
 
 -- The bytes are a header, the texts of records up to this offset, and a rest that is not empty and begins no record.
 pub record StopsAt (bytes : List ℕ) (offset : ℕ) (rest : List ℕ) : Type 0 where

@@ -7,6 +7,4 @@ pub mod Solution
 pub mod Record
 pub mod TwsFile
 pub mod Steps
-pub mod PartReader
-pub mod Reader
 pub mod Packing

@@ -101,3 +101,7 @@ pub record IsText (bytes : List ℕ) (file : File) : Type 0 where
 
 abbrev pub IsReadable : List ℕ → Type 0
 IsReadable bytes = (file : File) × IsText bytes file
+
+-- no prefix of the bytes is the text of a record
+abbrev pub BeginsNoRecord : List ℕ → Type 0
+BeginsNoRecord bytes = (r : Record) (more : List ℕ) → IsRecord r → bytes ≢ record_text r ++ more

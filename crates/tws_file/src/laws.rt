@@ -1,35 +1,16 @@
-//! What holds of every file's text and of every fault, whatever code reads them. These functions do nothing: each
-//! contract is a theorem.
+//! What holds of every file's text, whatever code reads it. These functions do nothing: each contract is a theorem.
 
-ghost use Rattle.std.specs.Prelude.{◌≡◌, ◌⊎◌, ◌≤◌, ℕ, List, length};
-ghost use Rattle.byte_output.specs.Bytes.{IsBytes};
+ghost use Rattle.std.specs.Prelude.{◌≡◌, ◌≤◌, ℕ, List, length};
 ghost use Rattle.tws_moves.specs.Spelling.{moves_in};
 ghost use Rattle.tws_moves.specs.Shortest.{IsShortest};
-ghost use Rattle.tws_file.specs.declared.file_fault.FileFault as fault;
-ghost use Rattle.tws_file.specs.Text.{File, Solution, IsSolution, IsFile, IsText, IsReadable, text_of};
+ghost use Rattle.tws_file.specs.Text.{File, Solution, IsSolution, IsFile, IsText, text_of};
 ghost use Rattle.tws_file.specs.declared.«ruleset».Ruleset.{Ruleset as Rules};
 ghost use Rattle.tws_file.specs.Names.{file_name_of};
 ghost use Rattle.tws_file.specs.Packing.{packed_solution, packed_file};
-ghost use Rattle.tws_file.specs.Fault.{HasFileFault};
 
 /// Bytes are the text of at most one file.
 pub fn one_file()
     ensures { (bytes : List ℕ) (f g : File) → IsText bytes f → IsText bytes g → f ≡ g }
-{}
-
-/// Bytes have at most one fault.
-pub fn one_fault()
-    ensures { (bytes : List ℕ) (d e : fault.FileFault) → HasFileFault bytes d → HasFileFault bytes e → d ≡ e }
-{}
-
-/// Bytes are a file's text or have a fault.
-pub fn text_or_fault()
-    ensures { (bytes : List ℕ) → IsBytes bytes → IsReadable bytes ⊎ ((e : fault.FileFault) × HasFileFault bytes e) }
-{}
-
-/// The text of a file has no fault.
-pub fn text_without_fault()
-    ensures { (bytes : List ℕ) (f : File) (e : fault.FileFault) → IsText bytes f → HasFileFault bytes e → ⊥ }
 {}
 
 /// No two rulesets have the same file name.

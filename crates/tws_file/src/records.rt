@@ -31,7 +31,7 @@ impl<A: Allocator> Records<A> {
     }
 
     /// Appends records. The first ones are not copied. On error nothing changes.
-    pub(crate) fn append(&mut self, more: Vec<Record<A>, A>) -> Result<(), AllocError>
+    pub fn append(&mut self, more: Vec<Record<A>, A>) -> Result<(), AllocError>
         ensures ok { OnOk result (self.new ≡ self.old ++ records_of more.items) }
         ensures err { OnErr result (self.new ≡ self.old) }
     {
@@ -44,7 +44,7 @@ impl<A: Allocator> Records<A> {
     }
 
     /// Keeps the first `count` records.
-    pub(crate) fn truncate(&mut self, count: usize)
+    pub fn truncate(&mut self, count: usize)
         ensures { self.new ≡ take count self.old }
     {
         self.records.truncate(count);

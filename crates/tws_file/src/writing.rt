@@ -7,9 +7,9 @@ ghost use Rattle.tws_file.specs.Record.{record_of, records_of};
 ghost use Rattle.tws_file.specs.Text.{IsRecord, header_text, record_text, text_of};
 ghost use Rattle.byte_output.specs.Output.{Sends, AppendsPrefix};
 
-use crate::header::SIGNATURE;
 use crate::record::Record;
 use crate::ruleset::Ruleset;
+use crate::signature::SIGNATURE;
 use crate::tws_file::TwsFile;
 use byte_output::{Buffer, LARGE, OutFault, put};
 use std::alloc::Allocator;

@@ -2,10 +2,11 @@
 //! until the whole program is there.
 #![tactic(auto)]
 
-use command_line::{Noted, System, report_arguments, report_streams};
+use command_faults::{report_arguments, report_streams};
 use show_commands::run_show_words;
 use std::process::ExitCode;
 use std::{env, io};
+use system_files::{Noted, System};
 
 fn run(rt: &HostRuntime) -> io::Result<u8> {
     let words: Vec<String> = env::args(rt)?.collect(rt.alloc())?;

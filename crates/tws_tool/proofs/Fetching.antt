@@ -7,15 +7,15 @@ use Rattle.archive_turns.specs.Run.{Run}
 use Rattle.archive_turns.specs.Rounds.{MakesDally}
 use Rattle.tws_tool.specs.declared.limits.TheConstants.{ROUNDS}
 use Rattle.tws_tool.specs.declared.commands.get.GetArguments.{GetArguments}
-use Rattle.command_line.specs.declared.tool_fault.ToolFault.{ToolFault}
-use Rattle.command_line.specs.declared.tool_fault.ToolFault.TheVariants.{Read, Write, Unreadable, Memory, Socket, Transfer}
+use Rattle.command_faults.specs.declared.tool_fault.ToolFault.{ToolFault}
+use Rattle.command_faults.specs.declared.tool_fault.ToolFault.TheVariants.{Read, Write, Unreadable, Memory, Socket, Transfer}
 use Rattle.tws_tool.specs.Address.{Locates}
 use Rattle.tws_tool.specs.Commands.Get.{FetchFails, FetchFault, Fetches, GetEnded, GetFails, GetRan, Gets, get_drafted}
-use Rattle.command_line.specs.Faults.{answer_status, status_of}
+use Rattle.command_faults.specs.Faults.{answer_status, status_of}
 use Rattle.system_files.specs.Files.{Keeps, Publishes}
 use Rattle.tws_tool.specs.Known.{Known}
 use Rattle.tws_tool.specs.Lines.{LineFails, Unsaid, got_line}
-use Rattle.command_line.proofs.Statuses.{map_err, map_ok, no_usage}
+use Rattle.command_faults.proofs.Statuses.{map_err, map_ok, no_usage}
 use Rattle.tws_tool.proofs.Statuses.{no_host, none_blamed, transfers}
 
 -- what is kept twice is kept

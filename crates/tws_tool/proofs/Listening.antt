@@ -8,10 +8,10 @@ use Rattle.archive_turns.specs.Wire.{Entry}
 use Rattle.archive_turns.proofs.Turns.{many_none, many_more}
 use Rattle.tws_tool.specs.declared.commands.serve.Passes.{Passes}
 use Rattle.tws_tool.specs.declared.commands.serve_arguments.ServeArguments.{ServeArguments}
-use Rattle.command_line.specs.declared.tool_fault.ToolFault.{ToolFault}
-use Rattle.command_line.specs.declared.tool_fault.ToolFault.TheVariants.{Read, Write, Unreadable, Memory, Socket, Transfer}
+use Rattle.command_faults.specs.declared.tool_fault.ToolFault.{ToolFault}
+use Rattle.command_faults.specs.declared.tool_fault.ToolFault.TheVariants.{Read, Write, Unreadable, Memory, Socket, Transfer}
 use Rattle.tws_tool.specs.Commands.Serve.{ArePassesFor, HasHost, IsNoHost, MakesPassesWhile, ServeRan, ServedFrom, begun_when, count_of, given_address, pass_of, ServeFails, Served, ServerServed, Serves}
-use Rattle.command_line.specs.Faults.{answer_status, status_of}
+use Rattle.command_faults.specs.Faults.{answer_status, status_of}
 use Rattle.tws_tool.specs.Lines.{LineFails, serving_line, taken_line}
 
 module _ (old new : Option (List ℕ)) where

@@ -2,7 +2,7 @@
 use Rattle.std.proofs.Common.{◌≡◌, ◌∙◌, ◌++◌, ◌<◌, ℕ, List, length, take, Option, Some, None, arith, ap, sym, subst, append-nil, length-append}
 use Rattle.std.specs.Prelude.{IfSome}
 use Rattle.std.specs.Io.KnownBytes.{Consumes, IsAtEnd, Keeps}
-use Rattle.command_line.proofs.Taking.{Consumes-then}
+use Rattle.show_commands.proofs.Taking.{Consumes-then}
 use Rattle.tftp_ends.specs.declared.limits.TheConstants.{MAX_FILE}
 use Rattle.tws_tool.specs.Commands.Put.{IsLong}
 

@@ -15,15 +15,15 @@ use Rattle.archive_turns.specs.Wire.{Entry}
 use Rattle.archive_turns.specs.Run.{Run, RunMakes, PutAfter, begin_opened, begin_sized, put_result}
 use Rattle.archive_turns.specs.Rounds.{PutsInRounds}
 use Rattle.command_line.specs.declared.source.Source.{Source}
-use Rattle.command_line.specs.declared.tool_fault.ToolFault.{ToolFault}
-use Rattle.command_line.specs.declared.tool_fault.ToolFault.TheVariants as tool
-use Rattle.command_line.specs.Faults.{answer_status}
+use Rattle.command_faults.specs.declared.tool_fault.ToolFault.{ToolFault}
+use Rattle.command_faults.specs.declared.tool_fault.ToolFault.TheVariants as tool
+use Rattle.command_faults.specs.Faults.{answer_status}
 use Rattle.tws_tool.specs.Faults.{run_fault}
 use Rattle.tws_tool.specs.declared.commands.put.PutArguments.{PutArguments}
 use Rattle.tws_tool.specs.Address.{Locates}
 use Rattle.tws_tool.specs.Commands.Put.{IsBlamed, PutEnds, PutFails, PutRan, PutRuns, Puts, SaysSent}
-use Rattle.command_line.specs.Inputs.{IsUnreadable, ReadsSource, known_of}
-use Rattle.command_line.proofs.Statuses.{at_zero, map_err, map_ok, no_usage}
+use Rattle.command_faults.specs.Inputs.{IsUnreadable, ReadsSource, known_of}
+use Rattle.command_faults.proofs.Statuses.{at_zero, map_err, map_ok, no_usage}
 use Rattle.tws_tool.proofs.Statuses.{transfers}
 use Rattle.tws_tool.specs.Lines.{Unsaid, sent_line}
 

@@ -1,8 +1,8 @@
 -- What a transfer printed, by its result.
 use Rattle.std.proofs.Common.{◌≡◌, ◌≢◌, ◌≤◌, ℕ, List, Option, Some, None, Result, Ok, Err, OnOk, IfErr, refl, arith, inl}
-use Rattle.command_line.specs.declared.tool_fault.ToolFault.{ToolFault}
-use Rattle.command_line.specs.declared.tool_fault.ToolFault.TheVariants.{Read, Write, Unreadable, Memory, Socket, Transfer}
-use Rattle.command_line.specs.Faults.{answer_status, status_of}
+use Rattle.command_faults.specs.declared.tool_fault.ToolFault.{ToolFault}
+use Rattle.command_faults.specs.declared.tool_fault.ToolFault.TheVariants.{Read, Write, Unreadable, Memory, Socket, Transfer}
+use Rattle.command_faults.specs.Faults.{answer_status, status_of}
 use Rattle.tws_tool.specs.Lines.{IsCutText, Says, Transfers, Unsaid}
 
 -- a command none of whose faults blames an input has not status 3

@@ -15,7 +15,7 @@ use Rattle.tws_tool.specs.Commands.Serve.{AsksToServe, ServeRan, serve_app, serv
 use Rattle.tws_tool.specs.Commands.Put.{AsksToPut, PutRan, put_app, put_name}
 use Rattle.tws_tool.specs.Commands.Get.{AsksToGet, GetRan, get_app, get_name}
 use Rattle.tws_tool.specs.Known.{Known}
-use Rattle.command_line.specs.Help.{NoJobRan}
+use Rattle.command_faults.specs.Help.{NoJobRan}
 
 abbrev pub tws_app : RulesetNames → App
 tws_app names = with_subcommand (with_subcommand (with_subcommand (files_app names) serve_app.top) put_app.top) (get_app names).top

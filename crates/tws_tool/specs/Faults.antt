@@ -1,8 +1,8 @@
 -- Why a command of the archive fails.
 use Rattle.archive_turns.specs.declared.run_fault.RunFault.{RunFault}
 use Rattle.archive_turns.specs.declared.run_fault.RunFault.TheVariants as run
-use Rattle.command_line.specs.declared.tool_fault.ToolFault.{ToolFault}
-use Rattle.command_line.specs.declared.tool_fault.ToolFault.TheVariants.{Write, Memory, Socket, Transfer}
+use Rattle.command_faults.specs.declared.tool_fault.ToolFault.{ToolFault}
+use Rattle.command_faults.specs.declared.tool_fault.ToolFault.TheVariants.{Write, Memory, Socket, Transfer}
 
 -- the command's fault for a fault of a transfer
 abbrev pub run_fault : RunFault → ToolFault

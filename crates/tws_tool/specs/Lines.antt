@@ -2,8 +2,8 @@
 use Rattle.std.specs.Prelude.{◌≡◌, ◌≢◌, ◌⊎◌, ◌↔◌, ℕ, ◌≤◌, List, [], ◌∷◌, ◌++◌, codes, decimal, Option, None}
 use Rattle.std.specs.Io.KnownBytes.{Appends}
 use Rattle.byte_output.specs.Output.{AppendsPrefix}
-use Rattle.command_line.specs.declared.tool_fault.ToolFault.{ToolFault}
-use Rattle.command_line.specs.declared.tool_fault.ToolFault.TheVariants.{Read, Write, Unreadable, Memory, Socket, Transfer}
+use Rattle.command_faults.specs.declared.tool_fault.ToolFault.{ToolFault}
+use Rattle.command_faults.specs.declared.tool_fault.ToolFault.TheVariants.{Read, Write, Unreadable, Memory, Socket, Transfer}
 
 -- a number between two texts, as a line
 abbrev pub number_line : (before : List ℕ) (n : ℕ) (after : List ℕ) → List ℕ

@@ -15,7 +15,7 @@ mod serve_arguments;
 use crate::resolver::Resolver;
 use crate::transfer_wire::TransferWire;
 use clap::{ArgMatches, Command};
-use command_line::{FileSystem, add_command};
+use command_line::add_command;
 use file_commands::{FileJob, file_job_of, file_program, run_file_job};
 pub use get::{GetArguments, GetFault, get_file};
 pub use put::{PutArguments, put_file};
@@ -28,6 +28,7 @@ use std::net::Net;
 use std::random::RandomSource;
 use std::rt::Files;
 use std::time::Clock;
+use system_files::FileSystem;
 
 /// What the program is asked to do.
 #[derive(Drop)]

@@ -29,10 +29,8 @@ pub use archive_turns::{
     Entry, GetRun, MemoryWire, PutRun, ReadyWire, RunFault, Server, Wire, WireFault, get_in_rounds,
     put_in_rounds, run_get, run_put, serve_rounds, serve_turns,
 };
-pub use command_line::{
-    FileSystem, INPUT_READS, JobFault, Noted, Source, System, ToolFault, VERSION, report_arguments,
-    report_streams,
-};
+pub use command_faults::{ToolFault, report_arguments, report_streams};
+pub use command_line::{JobFault, Source, VERSION};
 pub use commands::{
     GetArguments, GetFault, Job, Passes, PutArguments, ServeArguments, get_file, put_file,
     serve_archive,
@@ -47,6 +45,9 @@ pub use limits::{PER_HOST, PORT, ROUNDS, TURNS};
 pub use program::{run_words, run_words_with};
 pub use resolver::Resolver;
 pub use served_keeper::ServedKeeper;
-pub use show_commands::{PackArguments, ShowArguments, ShowJob, run_csv, run_pack, run_show};
+pub use show_commands::{
+    INPUT_READS, PackArguments, ShowArguments, ShowJob, run_csv, run_pack, run_show,
+};
+pub use system_files::{FileSystem, Noted, System};
 pub use target::Target;
 pub use transfer_wire::TransferWire;

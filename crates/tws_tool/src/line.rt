@@ -5,7 +5,7 @@ ghost use Rattle.tws_tool.specs.Lines.{number_line, LineFails};
 ghost use Rattle.std.specs.Io.KnownBytes.{Appends};
 
 use byte_output::put;
-use command_line::ToolFault;
+use command_faults::ToolFault;
 use std::alloc::{AllocError, Global};
 use std::io::Write;
 

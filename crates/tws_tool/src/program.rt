@@ -13,7 +13,8 @@ use crate::resolver::Resolver;
 use crate::transfer_wire::TransferWire;
 use archive_host::UdpWire;
 use archive_progress::ProgressWire;
-use command_line::{FileSystem, JobFault, System, report_job_fault};
+use command_faults::report_job_fault;
+use command_line::JobFault;
 use std::alloc::Global;
 use std::fs::File;
 use std::io::{Read, Write};
@@ -21,6 +22,7 @@ use std::net::Net;
 use std::random::RandomSource;
 use std::rt::Files;
 use std::time::Clock;
+use system_files::{FileSystem, System};
 
 // Does a job, or reports why there is none, and returns the status.
 fn run_answer<

@@ -1,12 +1,12 @@
 //! Reports of why a command of the archive failed, and its exit status.
 
 ghost use Rattle.std.specs.Prelude.{◌≡◌, ◌≤◌};
-ghost use Rattle.command_line.specs.Faults.{status_of, answer_status};
+ghost use Rattle.command_faults.specs.Faults.{status_of, answer_status};
 
 use crate::transfer_wire::TransferWire;
 use archive_client::Cause;
 use archive_log::Printable;
-use command_line::{DONE, ToolFault, USAGE, report, report_cause};
+use command_faults::{DONE, ToolFault, USAGE, report, report_cause};
 use std::io::Write;
 
 /// Reports an address that cannot be used, with the reason in a second line, and returns the status.

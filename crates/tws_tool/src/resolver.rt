@@ -1,10 +1,10 @@
 ghost use Rattle.std.specs.Prelude.{◌≡◌, ℕ, List, Option, IfSome, None};
 
-use command_line::System;
 use std::fs::File;
 use std::net::{Net, SocketAddr, ToSocketAddrs};
 use std::rt::Files;
 use std::time::Clock;
+use system_files::System;
 
 /// Finds hosts by their names.
 pub trait Resolver {

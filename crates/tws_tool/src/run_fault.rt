@@ -2,7 +2,7 @@ ghost use Rattle.std.specs.Prelude.{◌≡◌};
 ghost use Rattle.tws_tool.specs.Faults.{run_fault};
 
 use archive_turns::RunFault;
-use command_line::ToolFault;
+use command_faults::ToolFault;
 
 /// The command's fault for a fault of a transfer.
 pub(crate) fn of_run(fault: RunFault) -> ToolFault

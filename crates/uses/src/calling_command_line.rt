@@ -1,16 +1,12 @@
-ghost use Rattle.std.specs.Prelude.{◌≡◌};
-ghost use Rattle.command_line.specs.Faults.{answer_status};
+ghost use Rattle.std.specs.Prelude.{IfSome};
+ghost use Rattle.command_line.specs.Arguments.{IsNumberUpTo};
 
-use command_line::{Source, ToolFault, finish};
-use std::io::Write;
-use std::slice;
+use command_line::number_up_to;
 
-/// Ends a command of one input, which was read from this source: reports why it failed, if it did, and returns the status.
-pub fn end<E: Write>(done: Result<(), ToolFault>, source: &Source, errors: &mut E) -> u8
-    ensures { result ≡ answer_status done }
+/// The port that a text is the number of.
+pub fn port_of(text: &str) -> Option<u16>
+    ensures { IfSome result (IsNumberUpTo 65535 text.now) }
 {
-    match source {
-        Source::Standard => finish(done, &[], errors),
-        Source::Named(name) => finish(done, slice::from_ref(name), errors),
-    }
+    let number = number_up_to(text, 65535)?;
+    Some(number as u16)
 }

@@ -2,7 +2,7 @@ ghost use Rattle.std.specs.Prelude.{[], IfOk, Some};
 ghost use Rattle.tws_compare.specs.Without.{text_without};
 ghost use Rattle.show_commands.specs.Written.{Writes};
 
-use command_line::ToolFault;
+use command_faults::ToolFault;
 use file_commands::run_without;
 use std::alloc::Global;
 use tws_file::Key;

@@ -1,13 +1,15 @@
-ghost use Rattle.std.specs.Prelude.{OnOk};
-ghost use Rattle.tws_file.specs.Text.{IsReadable};
+ghost use Rattle.std.specs.Prelude.{◌≡◌, IfOk};
+ghost use Rattle.tws_file.specs.Packing.{packed_text};
 
 use std::alloc::Global;
-use tws_file::{FileFault, read_file};
+use tws_file::{OutFault, TwsFile, pack, write_file};
 
-/// How many records a solution file has.
-pub fn record_count(alloc: Global, bytes: &[u8]) -> Result<usize, FileFault>
-    ensures { OnOk result (IsReadable bytes.now) }
+/// The text of a solution file with its moves in the fewest bytes.
+pub fn packed(alloc: Global, file: &TwsFile) -> Result<Vec<u8>, OutFault>
+    ensures { IfOk result (λ text. text.items ≡ packed_text file.now) }
 {
-    let file = read_file(alloc, bytes)?;
-    Ok(file.records.len())
+    let packed = pack(alloc, file)?;
+    let mut text = Vec::new(alloc);
+    write_file(&packed, &mut text)?;
+    Ok(text)
 }

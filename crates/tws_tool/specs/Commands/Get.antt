@@ -11,12 +11,12 @@ use Rattle.archive_turns.specs.Run.{Run}
 use Rattle.archive_turns.specs.Rounds.{GetsInRounds, MakesDally}
 use Rattle.tws_tool.specs.declared.commands.get.GetArguments.{GetArguments}
 use Rattle.tws_tool.specs.declared.limits.TheConstants.{ROUNDS}
-use Rattle.command_line.specs.declared.tool_fault.ToolFault.{ToolFault}
-use Rattle.command_line.specs.declared.tool_fault.ToolFault.TheVariants.{Read, Write, Unreadable, Memory, Socket, Transfer}
+use Rattle.command_faults.specs.declared.tool_fault.ToolFault.{ToolFault}
+use Rattle.command_faults.specs.declared.tool_fault.ToolFault.TheVariants.{Read, Write, Unreadable, Memory, Socket, Transfer}
 use Rattle.tws_tool.specs.Address.{Locates}
 use Rattle.command_line.specs.Arguments.{HasRuleset, RulesetNames, ruleset_rule}
 use Rattle.tws_tool.specs.Arguments.{HasTarget, address_rule, file_rule, number_rule, port_option}
-use Rattle.command_line.specs.Faults.{answer_status}
+use Rattle.command_faults.specs.Faults.{answer_status}
 use Rattle.system_files.specs.Files.{Keeps, Publishes}
 use Rattle.tws_tool.specs.Known.{Known}
 use Rattle.tws_tool.specs.Lines.{LineFails, Transfers, got_line}

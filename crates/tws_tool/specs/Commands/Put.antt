@@ -14,13 +14,13 @@ use Rattle.archive_turns.specs.Wire.{Entry}
 use Rattle.archive_turns.specs.Rounds.{PutsInRounds}
 use Rattle.tws_tool.specs.declared.commands.put.PutArguments.{PutArguments}
 use Rattle.tws_tool.specs.declared.limits.TheConstants.{ROUNDS}
-use Rattle.command_line.specs.declared.tool_fault.ToolFault.{ToolFault}
-use Rattle.command_line.specs.declared.tool_fault.ToolFault.TheVariants.{Read, Write, Unreadable, Memory, Socket, Transfer}
+use Rattle.command_faults.specs.declared.tool_fault.ToolFault.{ToolFault}
+use Rattle.command_faults.specs.declared.tool_fault.ToolFault.TheVariants.{Read, Write, Unreadable, Memory, Socket, Transfer}
 use Rattle.tws_tool.specs.Address.{Locates}
 use Rattle.tws_tool.specs.Arguments.{HasTarget, address_rule, file_rule, number_rule, port_option}
-use Rattle.command_line.specs.Faults.{answer_status}
+use Rattle.command_faults.specs.Faults.{answer_status}
 use Rattle.command_line.specs.Arguments.{HasSource}
-use Rattle.command_line.specs.Inputs.{IsUnreadable, ReadsSource, known_of}
+use Rattle.command_faults.specs.Inputs.{IsUnreadable, ReadsSource, known_of}
 use Rattle.tws_tool.specs.Lines.{Transfers, sent_line}
 
 abbrev pub put_name : Text

@@ -13,7 +13,7 @@ use Rattle.tws_tool.specs.declared.commands.serve.Passes.{Passes}
 use Rattle.tws_tool.specs.declared.commands.serve.Passes.TheVariants.{Turns, Rounds}
 use Rattle.tws_tool.specs.declared.commands.serve_arguments.ServeArguments.{ServeArguments}
 use Rattle.tws_tool.specs.declared.limits.TheConstants.{PER_HOST, TURNS}
-use Rattle.command_line.specs.declared.tool_fault.ToolFault.{ToolFault}
+use Rattle.command_faults.specs.declared.tool_fault.ToolFault.{ToolFault}
 use Rattle.tws_tool.specs.Address.{IsAddress, IsNoAddress}
 use Rattle.command_line.specs.Arguments.{HasFlag}
 use Rattle.tws_tool.specs.Arguments.{HasNumber, NumberOption, number_rule, port_option}

@@ -6,7 +6,7 @@ ghost use Rattle.clap.specs.Words.{app_of, rows_of};
 ghost use Rattle.clap.specs.declared.builder.command.Command.TheViews.{out-Command};
 ghost use Rattle.command_line.specs.Arguments.{Answers};
 ghost use Rattle.tws_tool.specs.Commands.Get.{AsksToGet, FetchFails, Fetches, GetFails, GetRan, Gets, get_app};
-ghost use Rattle.command_line.specs.Faults.{status_of};
+ghost use Rattle.command_faults.specs.Faults.{status_of};
 ghost use Rattle.tws_tool.specs.Faults.{run_fault};
 ghost use Rattle.tws_tool.specs.Lines.{Unless};
 
@@ -21,13 +21,12 @@ use crate::target::Target;
 use crate::transfer_wire::TransferWire;
 use archive_turns::{GetRun, RunFault, get_in_rounds};
 use clap::{ArgMatches, Command};
-use command_line::{
-    DONE, FileSystem, ToolFault, new_command, report_file, ruleset_argument, ruleset_given,
-    string_given,
-};
+use command_faults::{DONE, ToolFault, report_file};
+use command_line::{new_command, ruleset_argument, ruleset_given, string_given};
 use std::alloc::{AllocError, Global};
 use std::io;
 use std::io::Write;
+use system_files::FileSystem;
 use tftp_packet::Endpoint;
 use tws_file::Ruleset;
 

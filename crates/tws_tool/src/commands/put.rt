@@ -12,7 +12,7 @@ ghost use Rattle.tftp_ends.specs.declared.limits.TheConstants.{MAX_FILE};
 ghost use Rattle.tws_tool.specs.declared.limits.TheConstants.{ROUNDS};
 ghost use Rattle.command_line.specs.Arguments.{Answers};
 ghost use Rattle.tws_tool.specs.Commands.Put.{AsksToPut, InputFails, IsWholeInput, PutFails, PutRan, PutRuns, Puts, ReadsAtMost, WholeFails, put_app};
-ghost use Rattle.command_line.specs.Faults.{IsReadOut};
+ghost use Rattle.command_faults.specs.Faults.{IsReadOut};
 ghost use Rattle.tws_tool.specs.Faults.{run_fault};
 ghost use Rattle.tws_tool.specs.Lines.{Unless};
 
@@ -28,15 +28,16 @@ use crate::transfer_wire::TransferWire;
 use archive_client::Cause;
 use archive_turns::{RunFault, put_in_rounds};
 use clap::{ArgMatches, Command};
-use command_line::{
-    FileSystem, INPUT_READS, Source, ToolFault, new_command, report_file, source_given,
-};
+use command_faults::{ToolFault, report_file};
+use command_line::{Source, new_command, source_given};
+use show_commands::INPUT_READS;
 use std::alloc::{AllocError, Global};
 use std::io::{Read, Write};
 use std::slice;
+use system_files::FileSystem;
 use tftp_ends::MAX_FILE;
 use tftp_packet::Endpoint;
-use tws_file::read_file;
+use tws_reader::read_file;
 
 /// What `put` is asked for.
 #[derive(Drop)]

@@ -5,7 +5,7 @@ ghost use Rattle.tftp_ends.specs.declared.limits.TheConstants.{MAX_FILE};
 ghost use Rattle.archive_limit.specs.Limited.{own_log};
 ghost use Rattle.archive_table.specs.declared.limits.TheConstants.{LIVE};
 ghost use Rattle.archive_turns.specs.Turn.{MakesPass, count_if, fresh_server};
-ghost use Rattle.command_line.specs.Faults.{answer_status};
+ghost use Rattle.command_faults.specs.Faults.{answer_status};
 ghost use Rattle.tws_tool.specs.Commands.Serve.{ArePassesFor, HasHost, HasUsable, IsNoHost, MakesPassesWhile, ServeFails, ServeRan, Served, ServedFrom, Serves, count_of, pass_of};
 
 use crate::address::Address;
@@ -22,7 +22,7 @@ use archive_log::{HostHistory, ServerLog};
 use archive_table::{Keeper, NoKeeper, NoObserver};
 use archive_turns::{ReadyWire, Server, ServerObserver};
 use arrayvec::ArrayString;
-use command_line::{FAILED, ToolFault, finish, report, report_cause};
+use command_faults::{FAILED, ToolFault, finish, report, report_cause};
 use log::sink::Console;
 use std::alloc::Global;
 use std::fmt::Write as _;

@@ -1,7 +1,7 @@
 use Rattle.std.proofs.Common.{◌≡◌, ◌∙◌, ℕ, true, false, List, [], Option, Some, IfSome, refl, ap, sym, subst, true≢false}
 use Rattle.file_commands.specs.Best.{FilesRan}
 use Rattle.file_commands.specs.Page.{PagePrefix, PageWrites}
-use Rattle.command_line.specs.Inputs.{has_standard}
+use Rattle.command_faults.specs.Inputs.{has_standard}
 use Rattle.file_commands.proofs.Sources.{page_read, knowns_without}
 use Rattle.file_commands.proofs.page.run.Goals as goal
 

@@ -2,7 +2,7 @@ use Rattle.std.proofs.Common.{◌≡◌, ◌∙◌, ℕ, List, Option, Some, map
 use Rattle.either.specs.Either.{either}
 use Rattle.file_commands.specs.Best.{FilesRan}
 use Rattle.file_commands.specs.Page.{PageFails, PagePrefix, PageWrites}
-use Rattle.command_line.specs.Inputs.{knowns_of}
+use Rattle.command_faults.specs.Inputs.{knowns_of}
 use Rattle.file_commands.proofs.Collecting.{files_ran}
 use Rattle.file_commands.proofs.page.run_over.Goals as goal
 

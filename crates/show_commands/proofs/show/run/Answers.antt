@@ -1,7 +1,7 @@
 use Rattle.std.proofs.Common.{rules, refl, ◌≡◌, ◌∙◌, ℕ, List, Option, ap, sym, subst, string_bytes}
 use Rattle.command_line.specs.declared.source.Source.{Source}
 use Rattle.show_commands.specs.Show.{shown_text}
-use Rattle.command_line.specs.Faults.{answer_status}
+use Rattle.command_faults.specs.Faults.{answer_status}
 use Rattle.show_commands.specs.Written.{FileRan, RanFrom}
 use Rattle.show_commands.proofs.Statuses.{file_ran, ran}
 use Rattle.show_commands.proofs.show.run.Goals as goal

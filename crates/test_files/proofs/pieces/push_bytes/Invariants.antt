@@ -1,4 +1,4 @@
-use Rattle.tws_file.specs.Reader.{HasAtMost}
+use Rattle.tws_reader.specs.Reader.{HasAtMost}
 use Rattle.test_files.proofs.pieces.push_bytes.Given as goal
 
 abbrev pub invariant-loop-i : goal.invariant-loop-i

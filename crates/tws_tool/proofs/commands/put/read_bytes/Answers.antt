@@ -1,5 +1,5 @@
 use Rattle.std.proofs.Common.{◌++◌, take, refl, arith, length-append, length-take}
-use Rattle.command_line.proofs.Taking.{Consumes-then}
+use Rattle.show_commands.proofs.Taking.{Consumes-then}
 use Rattle.tws_tool.proofs.Reading.{Consumes-kept, Consumes-more, all_read, keeps_none, long_read}
 use Rattle.tws_tool.proofs.commands.put.read_bytes.Goals as goal
 

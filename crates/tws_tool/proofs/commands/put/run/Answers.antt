@@ -1,7 +1,7 @@
 use Rattle.std.proofs.Common.{rules, refl, ◌≡◌, ◌∙◌, ℕ, List, Option, Some, Err, ap, sym, subst, string_bytes}
 use Rattle.command_line.specs.declared.source.Source.TheVariants.{Standard, Named}
-use Rattle.command_line.specs.declared.tool_fault.ToolFault.TheVariants as tool
-use Rattle.command_line.proofs.Statuses.{at_zero, no_usage}
+use Rattle.command_faults.specs.declared.tool_fault.ToolFault.TheVariants as tool
+use Rattle.command_faults.proofs.Statuses.{at_zero, no_usage}
 use Rattle.tws_tool.specs.Address.{Locates}
 use Rattle.tws_tool.specs.Commands.Put.{PutRan}
 use Rattle.tws_tool.proofs.Sending.{put_ran}

@@ -1,7 +1,7 @@
 use Rattle.std.proofs.Common.{◌≡◌, ◌∙◌}
 use Rattle.tws_tool.specs.Commands.Serve.{HasUsable}
 use Rattle.tws_tool.proofs.Listening.{served, server_served, serves_so, fails_so}
-use Rattle.command_line.proofs.Statuses.{map_err, map_ok}
+use Rattle.command_faults.proofs.Statuses.{map_err, map_ok}
 use Rattle.tws_tool.proofs.commands.serve.serve_over.Goals as goal
 
 pub returns-clause-served : goal.returns-clause-served

@@ -1,5 +1,0 @@
-use Rattle.tws_file.proofs.Readable.{readable_or_fault}
-use Rattle.tws_file.proofs.laws.text_or_fault.Goals as goal
-
-pub returns : goal.returns
-returns c = readable_or_fault

@@ -1,5 +1,0 @@
-use Rattle.tws_file.proofs.Faults.{text_without_fault}
-use Rattle.tws_file.proofs.laws.text_without_fault.Goals as goal
-
-pub returns : goal.returns
-returns c = text_without_fault

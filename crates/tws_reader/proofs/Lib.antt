@@ -1,0 +1,9 @@
+pub mod Beginnings
+pub mod Faults
+pub mod Headers
+pub mod Bodies
+pub mod ReadSoFar
+pub mod Lasting
+pub mod Continuing
+pub mod InParts
+pub mod Readable
