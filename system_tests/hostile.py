@@ -262,8 +262,7 @@ def a_dallying_transfer_gives_way():
         ends[0].sendto(b"\0\3\0\1" + HEADER, ("127.0.0.1", port))
         check("the file of the first", ends[0].recv(2000) == b"\0\4\0\1")
         answers = [server.begin(own, WRQ)[0] for own in ends[1:64]]
-        # All places are taken now. The first gives way in the server's next rounds, which a request at once can precede.
-        time.sleep(0.1)
+        # All places are taken now.
         answers.append(server.begin(ends[64], WRQ)[0])
         check("64 more requests", answers == [b"\0\4\0\0"] * 64)
         check("one too many", server.begin(ends[0], WRQ)[0] == b"\0\5\0\0server busy\0")

@@ -1,5 +1,5 @@
 -- When each live port times out: a list of timers, one for each live port, in the order of the ports.
-use Rattle.std.specs.Prelude.{◌≡◌, ℕ, ◌+◌, ◌-◌, ◌^◌, ◌==◌, ◌<◌, ◌&&◌, ◌||◌, not, nat_lt, nat_le, min, Bool, true, false, List, [], ◌∷◌, map, fold, filter, length, Option, None, Some, if◌then◌else◌}
+use Rattle.std.specs.Prelude.{◌≡◌, ℕ, ◌+◌, ◌-◌, ◌^◌, ◌==◌, ◌<◌, ◌&&◌, ◌||◌, not, nat_lt, nat_le, min, Bool, true, false, List, [], ◌∷◌, ◌++◌, map, fold, filter, length, Option, None, Some, if◌then◌else◌}
 use Rattle.archive_table.specs.declared.limits.TheConstants.{LIVE}
 use Rattle.archive_table.specs.Table.{Table, IsTable, has_slot, is_dallying}
 use Rattle.archive_turns.specs.declared.change.Change.{Change}
@@ -128,9 +128,14 @@ abbrev pub is_due : Option ℕ → Timer → Bool
 is_due (Some now) t = nat_le t.due now
 is_due None t = false
 
--- the ports that time out after a visit: those that are due, and those that give way
+-- the ports that give way
+abbrev pub giving_ports : Mode → List Timer → Table → List ℕ
+giving_ports mode timers s = ports_of (filter (λ t. gives_way mode t.port s) timers)
+
+-- The ports that time out after a visit: those that are due, and those that give way. These do so a second time, which
+-- ends each dally, so that its place is there before another request is judged.
 abbrev pub late_ports : Mode → (quiet : Bool) → List Timer → Table → List ℕ
-late_ports mode quiet timers s = ports_of (filter (λ t. is_due (due_by mode quiet) t || gives_way mode t.port s) timers)
+late_ports mode quiet timers s = ports_of (filter (λ t. is_due (due_by mode quiet) t || gives_way mode t.port s) timers) ++ giving_ports mode timers s
 
 -- ---- how long the wire waits
 

@@ -12,3 +12,6 @@ pub const DALLY_PAUSE: u64 = 250;
 
 /// How many milliseconds it waits for that at most.
 pub const DALLY_LIMIT: u64 = 2000;
+
+/// How many time-outs there are after one visit at most: those of transfers that give way come twice.
+pub(crate) const LATE: usize = 128;

@@ -1,9 +1,10 @@
-ghost use Rattle.std.specs.Prelude.{◌≡◌, ℕ, ◌<◌, ◌≤◌, [], length, map, take, drop, IfSome, IfNone};
+ghost use Rattle.std.specs.Prelude.{◌≡◌, ℕ, ◌<◌, ◌≤◌, [], ◌++◌, length, map, take, drop, IfSome, IfNone};
 ghost use Rattle.std.specs.List.{insert, remove};
-ghost use Rattle.archive_turns.specs.Timers.{with_timer, without_timer, with_due, renewed, lower, lowered, late_ports, is_due as due_at, gives_way as way_given, is_quiet, timed, timed_out, timers_after, restart, earlier, earliest, HasRoom};
+ghost use Rattle.archive_turns.specs.Timers.{with_timer, without_timer, with_due, renewed, lower, lowered, giving_ports, late_ports, is_due as due_at, gives_way as way_given, is_quiet, timed, timed_out, timers_after, restart, earlier, earliest, HasRoom};
 ghost use Rattle.archive_turns.specs.Turn.{is_from as from_host, count_from};
 
 use crate::change::Change;
+use crate::limits::LATE;
 use crate::mode::Mode;
 use crate::timer::Timer;
 use archive_table::{LIVE, Table};
@@ -211,13 +212,14 @@ impl Timers {
         lower_in(self.row.as_mut_slice());
     }
 
-    /// The ports that time out after a visit, in order: those that are due, and those that give way.
+    /// The ports that time out after a visit, in order: those that are due or give way, and once more those that give
+    /// way.
     pub(crate) fn late<A: Allocator + Copy>(
         &self,
         mode: Mode,
         change: Change,
         table: &Table<A>,
-    ) -> ArrayVec<u16, LIVE>
+    ) -> ArrayVec<u16, LATE>
         ensures { result.items ≡ late_ports mode (is_quiet change) self.now table.now }
     {
         let by = mode.due_by(change);
@@ -227,7 +229,25 @@ impl Timers {
                 ports.push(timer.port);
             }
         }
+        self.push_giving(mode, table, &mut ports);
         ports
+    }
+
+    // Appends the ports that give way, in order.
+    fn push_giving<A: Allocator + Copy>(
+        &self,
+        mode: Mode,
+        table: &Table<A>,
+        ports: &mut ArrayVec<u16, LATE>,
+    )
+        requires room { length ports.old.items ≤ LIVE }
+        ensures { ports.new.items ≡ ports.old.items ++ giving_ports mode self.now table.now }
+    {
+        for timer in self.row.as_slice() {
+            if gives_way(mode, timer.port, table) {
+                ports.push(timer.port);
+            }
+        }
     }
 
     /// How many transfers are with this host.

@@ -4,7 +4,8 @@ use archive_table::{NoKeeper, NoObserver};
 use archive_turns::{MemoryWire, RECEIVE_SIZE, Ready, ReadyWire, Server, Wire, serve_rounds};
 use std::alloc::Global;
 use std::test::Fail;
-use test_samples::{ACK_0, ACK_1, ALICE, DATA_HUNDRED};
+use test_samples::{ACK_0, ACK_1, ALICE, BUSY, DATA_HUNDRED, WRQ};
+use tftp_packet::Endpoint;
 use tws_file::Ruleset;
 
 // Makes one round of the server. Returns how many files it takes, and whether it has sent this to the client last.
@@ -143,5 +144,63 @@ fn ports_that_are_ready(rt: HostRuntime) -> Result<(), Fail> {
         (are_ready, wire.wait(5, Some(70)), wire.wait(5, Some(60))),
         (true, quiet, quiet)
     );
+    Ok(())
+}
+
+// The 66 ports from 4000 on.
+fn many_ports() -> [u16; 66] {
+    let mut ports = [0; 66];
+    let mut next = 4000_u16;
+    for port in ports.iter_mut() {
+        *port = next;
+        next = next.wrapping_add(1);
+    }
+    ports
+}
+
+// Makes the round of a request to write a file, which comes from a host of its own.
+fn ask(
+    alloc: Global,
+    wire: &mut MemoryWire,
+    server: &mut Server,
+    host: u16,
+) -> Result<Endpoint, Fail> {
+    let from = Endpoint {
+        host: u32::from(host),
+        port: 5000,
+    };
+    wire.arrive(alloc, 6969, from, WRQ)?;
+    serve_rounds(wire, &mut NoKeeper, &mut NoObserver, server, 1);
+    Ok(from)
+}
+
+// Makes the rounds of a put that is taken, and of 63 requests, with which all places are taken.
+fn take_all_places(
+    alloc: Global,
+    wire: &mut MemoryWire,
+    server: &mut Server,
+) -> Result<(), Fail> {
+    ask(alloc, wire, server, 9)?;
+    wire.arrive(alloc, 4000, ALICE, DATA_HUNDRED)?;
+    serve_rounds(wire, &mut NoKeeper, &mut NoObserver, server, 1);
+    for host in 10_u16..73 {
+        ask(alloc, wire, server, host)?;
+    }
+    Ok(())
+}
+
+// The place of a transfer that only dallies is there for the very next request, and no other place is.
+#[test]
+fn a_dallying_transfer_gives_way(rt: HostRuntime) -> Result<(), Fail> {
+    let alloc = rt.alloc();
+    let mut wire = wire_of(alloc, &many_ports())?;
+    let mut server = Server::new(alloc, 6969);
+    take_all_places(alloc, &mut wire, &mut server)?;
+    let live = server.table().live();
+    let next = ask(alloc, &mut wire, &mut server, 73)?;
+    let is_let_in = sent_last(&wire, 4064, next, ACK_0);
+    let last = ask(alloc, &mut wire, &mut server, 74)?;
+    let is_refused = sent_last(&wire, 6969, last, BUSY);
+    assert_eq!(rt; (live, is_let_in, is_refused), (63, true, true));
     Ok(())
 }
