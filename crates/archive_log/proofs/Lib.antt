@@ -2,4 +2,3 @@ mod Shown
 mod Printing
 mod Recording
 mod Chunks
-mod Changes

@@ -20,11 +20,12 @@ use Rattle.tws_file.specs.declared.file_fault.FileFault.{FileFault}
 use Rattle.tws_file.specs.declared.file_fault.FileFault.TheVariants as fault
 use Rattle.archive_log.specs.declared.cause.Cause.{Cause}
 use Rattle.archive_log.specs.declared.cause.Cause.TheVariants.{Refused, PeerError, TimedOut}
-use Rattle.archive_log.specs.declared.history_fault.HistoryFault.{HistoryFault}
-use Rattle.archive_log.specs.declared.history_fault.HistoryFault.TheVariants as history
+use Rattle.archive_history.specs.declared.history_fault.HistoryFault.{HistoryFault}
+use Rattle.archive_history.specs.declared.history_fault.HistoryFault.TheVariants as history
 use Rattle.archive_log.specs.declared.event.Event.{Event}
 use Rattle.archive_log.specs.declared.event.Event.TheVariants as event
-use Rattle.archive_log.specs.Lines.{IsPrintable, shown, shown_byte, peer_text, ruleset_text, fault_text, cause_text, history_fault_text, message_of, level_of, folder_pairs, pairs_of, timed_pairs, line_of}
+use Rattle.archive_history.specs.HistoryFault.{history_fault_text}
+use Rattle.archive_log.specs.Lines.{IsPrintable, shown, shown_byte, peer_text, ruleset_text, fault_text, cause_text, message_of, level_of, folder_pairs, pairs_of, timed_pairs, line_of}
 
 -- ---- texts
 

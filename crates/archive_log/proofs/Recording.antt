@@ -1,24 +1,14 @@
--- What a record that fails leaves.
+-- What a record makes of the history.
 use Rattle.std.proofs.Common.{◌≡◌, ◌≢◌, inl, inr, ℕ, List, Option, Some, Result, Ok, Err, OnOk, IfErr, refl, ap, sym, subst, ◌∙◌}
 use Rattle.tftp_packet.specs.declared.endpoint.Endpoint.{Endpoint}
 use Rattle.tws_file.specs.declared.«ruleset».Ruleset.{Ruleset}
 use Rattle.archive_table.specs.Table.{Taken}
 use Rattle.archive_log.specs.declared.upload.Upload.{Upload}
-use Rattle.archive_log.specs.declared.history_fault.HistoryFault.{HistoryFault}
-use Rattle.archive_log.specs.declared.history_fault.HistoryFault.TheVariants.{NoFreeName, LookUp, Create, Write, Sync, Rename, SyncFolder, Memory}
-use Rattle.archive_log.specs.History.{AddsNothing, Records, RecordsForGood, SameBut, draft_of, stem_text}
-use Rattle.archive_log.specs.Times.{ShowsMoment}
+use Rattle.archive_history.specs.declared.history_fault.HistoryFault.{HistoryFault}
+use Rattle.archive_history.specs.declared.history_fault.HistoryFault.TheVariants.{NoFreeName, LookUp, Create, Write, Sync, Rename, SyncFolder, Memory}
+use Rattle.archive_history.specs.History.{AddsNothing, Records, RecordsForGood, stem_text}
+use Rattle.archive_history.specs.Times.{ShowsMoment}
 use Rattle.archive_log.specs.ServerLog.{IsUploadOf, KeepsTaken, RecordsTaken}
-
--- only the draft of a name was touched
-pub adds_nothing : (draft name : List ℕ) (old mid new : List ℕ → Option (List ℕ)) → draft ≡ draft_of name →
-    ((other : List ℕ) → mid other ≡ old other) → SameBut draft mid new → AddsNothing old new
-adds_nothing draft name old mid new is same h = (name, λ other ne. h other (λ e. ne (e ∙ is)) ∙ same other)
-
--- whichever the error is
-pub on_any_error : {T E : Type 0} (r : Result T E) (e : E) (P : Type 0) → P → IfErr r (λ d. d ≢ e → P)
-on_any_error (Ok x) e P p = tt
-on_any_error (Err d) e P p = λ _. p
 
 -- the file was added under a name of what was said of it
 taken_by : (t : Taken) (u : Upload) (time : List ℕ) (rules : Ruleset) (stem text : List ℕ) (old new : List ℕ → Option (List ℕ)) → ShowsMoment time → IsUploadOf (Some t) (Some u) →

@@ -15,8 +15,7 @@ use Rattle.tws_file.specs.declared.file_fault.FileFault.TheVariants as fault
 use Rattle.tws_file.specs.Words.{ruleset_name}
 use Rattle.archive_log.specs.declared.cause.Cause.{Cause}
 use Rattle.archive_log.specs.declared.cause.Cause.TheVariants.{Refused, PeerError, TimedOut}
-use Rattle.archive_log.specs.declared.history_fault.HistoryFault.{HistoryFault}
-use Rattle.archive_log.specs.declared.history_fault.HistoryFault.TheVariants as history
+use Rattle.archive_history.specs.HistoryFault.{history_fault_text}
 use Rattle.archive_log.specs.declared.event.Event.{Event}
 use Rattle.archive_log.specs.declared.event.Event.TheVariants as event
 
@@ -53,16 +52,6 @@ abbrev pub cause_text : Cause → List ℕ
 cause_text (Refused why) = shown (refusal_text why)
 cause_text PeerError = codes "error from the peer"
 cause_text TimedOut = codes "timed out"
-
-abbrev pub history_fault_text : HistoryFault → List ℕ
-history_fault_text history.NoFreeName = codes "no free name"
-history_fault_text history.LookUp = codes "not looked up"
-history_fault_text history.Create = codes "not created"
-history_fault_text history.Write = codes "not written"
-history_fault_text history.Sync = codes "not synced"
-history_fault_text history.Rename = codes "not renamed"
-history_fault_text history.SyncFolder = codes "folder not synced"
-history_fault_text history.Memory = codes "out of memory"
 
 -- ---- lines
 

@@ -5,9 +5,9 @@ use Rattle.tws_file.specs.declared.«ruleset».Ruleset.{Ruleset}
 use Rattle.archive_log.specs.declared.logged_transfer.LoggedTransfer.{LoggedTransfer}
 use Rattle.archive_log.specs.declared.upload.Upload.{Upload}
 use Rattle.archive_log.specs.Events.{transfers_after}
-use Rattle.archive_log.specs.History.{AddsNothing, Records, stem_text}
+use Rattle.archive_history.specs.History.{AddsNothing, Records, stem_text}
 use Rattle.archive_log.specs.Sent.{ruleset_of}
-use Rattle.archive_log.specs.Times.{ShowsMoment}
+use Rattle.archive_history.specs.Times.{ShowsMoment}
 
 -- what a contract sees of a log: what it knows of the live transfers, and the folder of its history
 pub record Logged (H : Type 0) : Type 0 where

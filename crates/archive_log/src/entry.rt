@@ -6,7 +6,7 @@ ghost use Rattle.archive_log.specs.Lines.{line_of, timed_pairs};
 
 use crate::event::Event;
 use crate::pairs::visit_pair;
-use crate::stamp::Stamp;
+use archive_history::Stamp;
 use log::kv::{Source, VisitSource};
 use log::{Log, Metadata, Record, kv};
 

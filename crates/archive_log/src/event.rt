@@ -2,8 +2,8 @@ ghost use Rattle.std.specs.Prelude.{◌≡◌};
 ghost use Rattle.archive_log.specs.Lines.{message_of, level_of, taken_level, failed_level};
 
 use crate::cause::Cause;
-use crate::history_fault::HistoryFault;
 use crate::upload::Upload;
+use archive_history::HistoryFault;
 use log::Level;
 use tftp_packet::{Endpoint, Refusal};
 use tws_file::{FileFault, Ruleset};

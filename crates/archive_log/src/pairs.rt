@@ -6,10 +6,10 @@ ghost use Rattle.archive_log.specs.Lines.{pairs_of, folder_pairs, peer_text, rul
 
 use crate::cause::Cause;
 use crate::event::Event;
-use crate::history_fault::HistoryFault;
 use crate::peer::peer_address;
 use crate::printable::Printable;
 use crate::upload::Upload;
+use archive_history::HistoryFault;
 use log::kv;
 use log::kv::{Source, ToValue, VisitSource, display};
 use tftp_packet::{Endpoint, Refusal};

@@ -1,18 +1,14 @@
 //! The observer that writes the log and the history.
 
 ghost use Rattle.std.specs.Prelude.{◌≡◌, [], true, Some, option_copied};
-ghost use Rattle.archive_log.specs.Times.{ShowsMoment};
+ghost use Rattle.archive_history.specs.Times.{ShowsMoment};
 ghost use Rattle.archive_log.specs.ServerLog.{FollowsStep, IsUploadOf, KeepsTaken, files_of};
 
 use crate::entry::Entry;
 use crate::event::Event;
-use crate::history::record as record_in;
-use crate::history_fault::HistoryFault;
-use crate::history_folder::HistoryFolder;
 use crate::logged_transfers::LoggedTransfers;
-use crate::names::stem_of;
-use crate::stamp::Stamp;
 use crate::upload::Upload;
+use archive_history::{HistoryFault, HistoryFolder, Stamp, record as record_in, stem_of};
 use archive_table::{Observer, Step, Table, Taken};
 use archive_turns::ServerObserver;
 use log::Log;

@@ -7,6 +7,5 @@ pub mod Serving
 pub mod Blocks
 pub mod Merged
 pub mod FileMerges
-pub mod Lasts
 pub mod SamePort
 pub mod Decoded

@@ -1,8 +1,6 @@
 -- The plain values of a table and of what its calls return, without their layout in memory, and the terms of private
 -- functions.
-use Rattle.archive_table.specs.declared.kept.Kept.TheInside as keepings
 use Rattle.archive_table.specs.declared.taken.Taken.TheInside as taking
-use Rattle.archive_table.specs.Keeper.{Keeping}
 use Rattle.archive_table.specs.declared.step.Step.TheInside as stepping
 use Rattle.archive_table.specs.declared.end.End as held
 use Rattle.archive_table.specs.declared.end.End.TheVariants as ends
@@ -10,9 +8,6 @@ use Rattle.archive_table.specs.declared.transfer.Transfer.TheInside as transferr
 use Rattle.archive_table.specs.declared.table.Table.TheInside as tables
 use Rattle.archive_table.specs.Table.{End, sending, receiving, Transfer, Table, Taken, Step}
 use Rattle.tftp_ends.specs.Ends.{Sender, Receiver}
-
-abbrev pub keeping_of : {A : Type 0} → keepings.Inside A → Keeping
-keeping_of k = record { «ruleset» = k.ruleset; text = k.text.items; ok = k.ok }
 
 abbrev pub taken_of : {A : Type 0} → taking.Inside A → Taken
 taken_of t = record { peer = t.peer; file = t.file }

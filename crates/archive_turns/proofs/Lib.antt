@@ -1,5 +1,4 @@
 pub mod Log
-pub mod Inbox
 pub mod Acting
 pub mod Visits
 pub mod Requests

@@ -1,5 +1,4 @@
 pub mod Wire
-pub mod Noted
 pub mod Timers
 pub mod Turn
 pub mod Parts

@@ -132,8 +132,8 @@ is_due None t = false
 abbrev pub giving_ports : Mode → List Timer → Table → List ℕ
 giving_ports mode timers s = ports_of (filter (λ t. gives_way mode t.port s) timers)
 
--- The ports that time out after a visit: those that are due, and those that give way. These do so a second time, which
--- ends each dally, so that its place is there before another request is judged.
+-- The ports that time out after a visit: those that are due, and those that give way. These do so twice, which ends each
+-- dally (`DALLY` of `tftp_ends`), so that its place is there before another request is judged.
 abbrev pub late_ports : Mode → (quiet : Bool) → List Timer → Table → List ℕ
 late_ports mode quiet timers s = ports_of (filter (λ t. is_due (due_by mode quiet) t || gives_way mode t.port s) timers) ++ giving_ports mode timers s
 

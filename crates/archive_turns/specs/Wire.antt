@@ -1,6 +1,6 @@
 -- The log of a wire: one entry for each call, with its arguments and its result. A contract over any wire says by which
 -- entries the log grew.
-use Rattle.std.specs.Prelude.{◌≡◌, ℕ, Bool, true, false, List, ◌++◌, take, Option, None, Some, Result, Ok, Err}
+use Rattle.std.specs.Prelude.{◌≡◌, ℕ, min, Bool, true, false, List, ◌++◌, take, Option, None, Some, Result, Ok, Err}
 use Rattle.tftp_packet.specs.declared.endpoint.Endpoint.{Endpoint}
 use Rattle.tftp_packet.specs.declared.out.Out.{Out}
 use Rattle.archive_turns.specs.declared.wire_fault.WireFault.{WireFault}
@@ -47,3 +47,10 @@ IsGrown (Some old) new added = new ≡ old ++ added
 -- its log never has one again.
 pub record Grows (old new : Option (List Entry)) (added : List Entry) : Type 0 where
   pub reported : (log : List Entry) → new ≡ Some log → IsGrown old log added
+
+-- ---- ready ports
+
+-- the lesser of a port and the least so far
+abbrev pub lesser : Option ℕ → ℕ → Option ℕ
+lesser None port = Some port
+lesser (Some least) port = Some (min least port)

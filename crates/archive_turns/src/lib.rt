@@ -5,12 +5,9 @@
 //! is called.
 #![tactic(auto)]
 
-mod arrival;
 mod change;
-mod entry;
 mod laws;
 mod limits;
-mod memory_wire;
 mod mode;
 mod next;
 mod pace;
@@ -28,10 +25,8 @@ mod visit;
 mod wire;
 mod wire_fault;
 
-pub use entry::Entry;
 pub use laws::limit_values;
 pub use limits::{DALLY_LIMIT, DALLY_PAUSE, QUIET_TURNS, TIMEOUT};
-pub use memory_wire::MemoryWire;
 pub use mode::Mode;
 pub use next::Next;
 pub use pace::Pace;

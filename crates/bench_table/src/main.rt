@@ -8,7 +8,8 @@
 ghost use Rattle.std.specs.Prelude.{◌≤◌, length};
 ghost use Rattle.tftp_packet.specs.declared.sizes.TheConstants.{BLOCK_SIZE};
 
-use archive_table::{NoKeeper, Table};
+use archive_memory::NoKeeper;
+use archive_table::Table;
 use std::alloc::{AllocError, Global};
 use std::io::{self, Read};
 use tftp_packet::{

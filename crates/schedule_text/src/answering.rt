@@ -6,7 +6,7 @@ ghost use Rattle.schedule_text.specs.Answer.{Answers, IsAnswer};
 use crate::outcome_lines::{fault_line, outcome_lines};
 use crate::reading::read_schedule;
 use crate::schedule_fault::ScheduleFault;
-use archive_table::MemoryKeeper;
+use archive_memory::MemoryKeeper;
 use archive_world::{Event, replay};
 use std::alloc::{AllocError, Global};
 

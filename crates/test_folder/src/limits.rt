@@ -1,7 +1,8 @@
 // A keeper with a limit in bytes. The text of HUNDRED has 28.
 use crate::samples::*;
 use archive_limit::Limited;
-use archive_table::{KeepFault, Keeper, MemoryKeeper};
+use archive_memory::MemoryKeeper;
+use archive_table::{KeepFault, Keeper};
 use std::test::Fail;
 use test_samples::HUNDRED;
 

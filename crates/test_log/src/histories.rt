@@ -2,8 +2,10 @@
 ghost use Rattle.std.specs.Prelude.{None, false};
 
 use crate::site::{Input, Morning, log_steps};
-use archive_log::{CallFailed, HistoryFolder, MemoryHistory, ServerLog};
-use archive_table::{NoKeeper, Table};
+use archive_history::{CallFailed, HistoryFolder, MemoryHistory};
+use archive_log::ServerLog;
+use archive_memory::NoKeeper;
+use archive_table::Table;
 use log::Log;
 use log::sink::{Discard, Memory};
 use std::alloc::Global;

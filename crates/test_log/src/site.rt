@@ -1,5 +1,6 @@
 // A table whose steps are logged, with a clock of its own.
-use archive_log::{HistoryFolder, ServerLog};
+use archive_history::HistoryFolder;
+use archive_log::ServerLog;
 use archive_table::{Keeper, Observer, Table};
 use log::Log;
 use std::alloc::Global;

@@ -1,5 +1,5 @@
 // What several of these tests compare: datagrams, collections, received files and what a keeper has.
-use archive_table::{Kept, MemoryKeeper};
+use archive_memory::{Kept, MemoryKeeper};
 use std::alloc::{Allocator, Global};
 use test_samples::HUNDRED;
 use tftp_ends::Received;

@@ -1,6 +1,6 @@
 // A replay of a put, with each allocation refused in turn.
 use crate::answers::keeps_file;
-use archive_table::MemoryKeeper;
+use archive_memory::MemoryKeeper;
 use archive_world::{
     Datagram, Event, Op, OpKind, Opening, Outcome as Left, SERVER, WorldFault, replay,
 };

@@ -1,7 +1,8 @@
 // The server's table: the block that completes a file, a keeper, and a start, with each allocation refused in turn.
 use crate::answers::{goes, has_bytes, has_text, keeps_file, was_kept};
 use crate::table_steps::{REQUEST, ask, handle, is_let_go, open, takes_block};
-use archive_table::{KeepFault, Keeper, Kept, LoadFault, MemoryKeeper, Step, Table, Taken};
+use archive_memory::{Kept, MemoryKeeper};
+use archive_table::{KeepFault, Keeper, LoadFault, Step, Table, Taken};
 use refusing::{Complaint, Outcome, Refusing, refuse_each};
 use std::alloc::{AllocError, Allocator, Global};
 use std::cell::Cell;

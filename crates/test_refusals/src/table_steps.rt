@@ -1,6 +1,7 @@
 // Steps of the server's table, and whether they are right.
 use crate::answers::goes;
-use archive_table::{NoKeeper, Step, Table};
+use archive_memory::NoKeeper;
+use archive_table::{Step, Table};
 use refusing::Outcome;
 use std::alloc::Allocator;
 use test_samples::{ALICE, OUT_OF_MEMORY, WRQ};

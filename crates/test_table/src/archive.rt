@@ -1,5 +1,6 @@
 // A table with request port 6969, and what its calls must return.
-use archive_table::{Keeper, LoadFault, MemoryKeeper, Step, Table};
+use archive_memory::MemoryKeeper;
+use archive_table::{Keeper, LoadFault, Step, Table};
 use std::alloc::Global;
 use std::test::Fail;
 use test_samples::{EMPTY_LYNX, EMPTY_MS};

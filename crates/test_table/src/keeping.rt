@@ -2,7 +2,8 @@
 use crate::archive::{
     Archive, Input, Left, NOTHING, Row, Then, client, has_texts, is_live, other_of,
 };
-use archive_table::{KeepFault, LoadFault, MemoryKeeper};
+use archive_memory::MemoryKeeper;
+use archive_table::{KeepFault, LoadFault};
 use std::alloc::Global;
 use std::test::Fail;
 use test_samples::{

@@ -5,7 +5,8 @@
 use crate::archive::{Archive, REQUEST, Wanted, is_step};
 use crate::drawing::{Input, draw};
 use crate::plain::{Plain, Said};
-use archive_table::{MemoryKeeper, Step};
+use archive_memory::MemoryKeeper;
+use archive_table::Step;
 use std::alloc::Global;
 use std::test::Fail;
 use test_samples::Draws;

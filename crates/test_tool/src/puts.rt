@@ -1,6 +1,6 @@
 // Puts of inputs that fail, or do not end.
 use crate::streams::*;
-use archive_turns::MemoryWire;
+use archive_memory::MemoryWire;
 use std::io;
 use std::test::Fail;
 use test_samples::{ALICE, HUNDRED, SERVER};

@@ -2,8 +2,8 @@
 // another when the test says so, also more than once.
 use crate::wires::*;
 use archive_client::State;
-use archive_table::NoKeeper;
-use archive_turns::{Entry, GetRun, MemoryWire, PutRun, Server, serve_turns};
+use archive_memory::{Entry, MemoryWire, NoKeeper};
+use archive_turns::{GetRun, PutRun, Server, serve_turns};
 use std::alloc::Global;
 use std::test::Fail;
 use test_samples::{

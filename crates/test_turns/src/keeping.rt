@@ -1,7 +1,8 @@
 // Servers with a keeper, over wires in memory: a put that is not kept, one that is, and a start with what was kept.
 use crate::wires::*;
-use archive_table::{KeepFault, LoadFault, MemoryKeeper, NoObserver, Table};
-use archive_turns::{MemoryWire, Server, serve_rounds, serve_turns};
+use archive_memory::{MemoryKeeper, MemoryWire};
+use archive_table::{KeepFault, LoadFault, NoObserver, Table};
+use archive_turns::{Server, serve_rounds, serve_turns};
 use std::alloc::Global;
 use std::test::Fail;
 use test_samples::{

@@ -1,9 +1,8 @@
 // What an observer is notified of: each step, its sender, and what it made, after the calls of the wire for it.
 use crate::wires::*;
-use archive_table::{NoKeeper, Observer, Step, Table};
-use archive_turns::{
-    MemoryWire, RECEIVE_SIZE, Ready, ReadyWire, Server, ServerObserver, Wire, WireFault,
-};
+use archive_memory::{MemoryWire, NoKeeper};
+use archive_table::{Observer, Step, Table};
+use archive_turns::{RECEIVE_SIZE, Ready, ReadyWire, Server, ServerObserver, Wire, WireFault};
 use std::alloc::{Allocator, Global};
 use std::cell::Cell;
 use std::test::Fail;
@@ -24,7 +23,7 @@ impl CountedWire<'_> {
 }
 
 impl Wire for CountedWire<'_> {
-    ghost use Rattle.archive_turns.specs.Noted.{log_of};
+    ghost use Rattle.archive_memory.specs.Noted.{log_of};
 
     ghost log = { λ w. log_of w.wire };
 

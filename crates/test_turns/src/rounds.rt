@@ -1,7 +1,8 @@
 // Rounds of a server over wires in memory whose clock the test sets.
 use crate::wires::*;
-use archive_table::{NoKeeper, NoObserver};
-use archive_turns::{MemoryWire, RECEIVE_SIZE, Ready, ReadyWire, Server, Wire, serve_rounds};
+use archive_memory::{MemoryWire, NoKeeper};
+use archive_table::NoObserver;
+use archive_turns::{RECEIVE_SIZE, Ready, ReadyWire, Server, Wire, serve_rounds};
 use std::alloc::Global;
 use std::test::Fail;
 use test_samples::{ACK_0, ACK_1, ALICE, BUSY, DATA_HUNDRED, WRQ};
@@ -175,11 +176,7 @@ fn ask(
 }
 
 // Makes the rounds of a put that is taken, and of 63 requests, with which all places are taken.
-fn take_all_places(
-    alloc: Global,
-    wire: &mut MemoryWire,
-    server: &mut Server,
-) -> Result<(), Fail> {
+fn take_all_places(alloc: Global, wire: &mut MemoryWire, server: &mut Server) -> Result<(), Fail> {
     ask(alloc, wire, server, 9)?;
     wire.arrive(alloc, 4000, ALICE, DATA_HUNDRED)?;
     serve_rounds(wire, &mut NoKeeper, &mut NoObserver, server, 1);

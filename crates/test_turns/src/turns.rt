@@ -1,7 +1,7 @@
 // The server that counts turns, over wires in memory.
 use crate::wires::*;
-use archive_table::NoKeeper;
-use archive_turns::{MemoryWire, Server, Wire, serve_turns};
+use archive_memory::{MemoryWire, NoKeeper};
+use archive_turns::{Server, Wire, serve_turns};
 use std::alloc::Global;
 use std::test::Fail;
 use test_samples::{ACK_0, ACK_1, ALICE, DATA_HUNDRED, WRQ};

@@ -1,7 +1,8 @@
 // Clients that wait by the clock, over wires in memory.
 use crate::wires::*;
 use archive_client::Cause;
-use archive_turns::{GetRun, MemoryWire, ReadyWire, RunFault, get_in_rounds, put_in_rounds};
+use archive_memory::MemoryWire;
+use archive_turns::{GetRun, ReadyWire, RunFault, get_in_rounds, put_in_rounds};
 use std::alloc::Global;
 use std::test::Fail;
 use test_samples::{DATA_HUNDRED, HUNDRED, SERVER, at};

@@ -1,6 +1,6 @@
 // What the keeper of a replay is given, and keepers that fail.
 use crate::scene::{Act, NO_CALL, NOTHING, Wanted, failing, fault_by, other_after};
-use archive_table::MemoryKeeper;
+use archive_memory::MemoryKeeper;
 use archive_world::{SERVER, WorldFault};
 use std::alloc::Global;
 use std::test::Fail;

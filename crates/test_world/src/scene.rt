@@ -1,5 +1,5 @@
 // Lists of events in abbreviated form, with what they leave and what their keeper is given.
-use archive_table::MemoryKeeper;
+use archive_memory::MemoryKeeper;
 use archive_world::{
     Asked, Datagram, Event, Op, OpKind, Opening, Outcome, TakenFile, WorldFault, replay,
 };

@@ -25,9 +25,10 @@ mod transfer_wire;
 
 pub use address::Address;
 pub use archive_host::{DirKeeper, HostFolder, OpenFault, UdpWire};
+pub use archive_memory::{Entry, MemoryWire};
 pub use archive_turns::{
-    Entry, GetRun, MemoryWire, PutRun, ReadyWire, RunFault, Server, Wire, WireFault, get_in_rounds,
-    put_in_rounds, run_get, run_put, serve_rounds, serve_turns,
+    GetRun, PutRun, ReadyWire, RunFault, Server, Wire, WireFault, get_in_rounds, put_in_rounds,
+    run_get, run_put, serve_rounds, serve_turns,
 };
 pub use command_faults::{ToolFault, report_arguments, report_streams};
 pub use command_line::{JobFault, Source, VERSION};

@@ -7,8 +7,9 @@ ghost use Rattle.archive_table.specs.Keeper.{FailsAt, KeeperGrows, kept_by};
 ghost use Rattle.archive_limit.specs.Limited.{own_log, saturating_sum};
 
 use crate::served_keeper::ServedKeeper;
+use archive_history::Stamp;
 use archive_limit::Limited;
-use archive_log::{Entry, Event, Stamp};
+use archive_log::{Entry, Event};
 use archive_table::{KeepFault, Keeper};
 use arrayvec::ArrayString;
 use log::Log;

@@ -1,4 +1,5 @@
-use archive_log::{HistoryFolder, ServerLog};
+use archive_history::HistoryFolder;
+use archive_log::ServerLog;
 use archive_table::{NoObserver, Table};
 use archive_turns::ServerObserver;
 use log::Log;

@@ -1,7 +1,8 @@
 ghost use Rattle.std.specs.Prelude.{◌≡◌};
 
+use archive_memory::MemoryWire;
 use archive_progress::ProgressWire;
-use archive_turns::{MemoryWire, ReadyWire};
+use archive_turns::ReadyWire;
 use std::io;
 use std::io::Write;
 

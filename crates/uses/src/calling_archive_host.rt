@@ -1,5 +1,5 @@
 use archive_host::UdpWire;
-use archive_table::NoKeeper;
+use archive_memory::NoKeeper;
 use archive_turns::{Server, WireFault, serve_turns};
 use std::alloc::Global;
 use std::net::Net;

@@ -1,4 +1,5 @@
-use archive_log::{HistoryFolder, ServerLog};
+use archive_history::HistoryFolder;
+use archive_log::ServerLog;
 use archive_table::{Keeper, Observer, Table};
 use log::Log;
 use std::time::Clock;

@@ -1,4 +1,4 @@
-use archive_table::MemoryKeeper;
+use archive_memory::MemoryKeeper;
 use archive_world::{Event, WorldFault, replay};
 use std::alloc::Global;
 use tftp_packet::Endpoint;

@@ -4,9 +4,11 @@
 
 pub mod calling_archive_client;
 pub mod calling_archive_folder;
+pub mod calling_archive_history;
 pub mod calling_archive_host;
 pub mod calling_archive_limit;
 pub mod calling_archive_log;
+pub mod calling_archive_memory;
 pub mod calling_archive_progress;
 pub mod calling_archive_table;
 pub mod calling_archive_turns;

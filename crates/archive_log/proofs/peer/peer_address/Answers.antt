@@ -8,4 +8,4 @@ use Rattle.archive_log.proofs.peer.peer_address.Goals as goal
 pub returns : goal.returns
 returns c =
     let text : List ℕ → ℕ → List ℕ = λ o port. ipv4_text o ++ codes ":" ++ decimal port in
-    ap (λ (o : List ℕ). text o c.new.result.port) (ap ipv4_octets c.new.ensures.ip ∙ c.host_address.ensures) ∙ ap (text (to_be_bytes w32 c.args.peer.host)) c.new.ensures.port
+    ap (λ (o : List ℕ). text o c.new.result.port) (ap ipv4_octets c.new.ensures.ip ∙ (c.from.ensures ∙ c.to_be_bytes.ensures)) ∙ ap (text (to_be_bytes w32 c.args.peer.host)) c.new.ensures.port

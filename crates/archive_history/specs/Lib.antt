@@ -1,0 +1,4 @@
+pub mod Times
+pub mod HistoryFault
+pub mod History
+pub mod MemoryHistory

@@ -1,0 +1,60 @@
+//! The names of the files of a history.
+
+ghost use Rattle.std.specs.Prelude.{◌≡◌, IfOk, string_bytes};
+ghost use Rattle.std.specs.Int.{w32, to_be_bytes};
+ghost use Rattle.std.specs.Net.Addr.{ipv4_octets};
+ghost use Rattle.archive_history.specs.History.{stem_text, numbered, draft_of};
+
+use crate::stamp::Stamp;
+use std::alloc::{AllocError, Allocator};
+use std::net::Ipv4Addr;
+use tftp_packet::Endpoint;
+use tws_file::Ruleset;
+
+// The address of a peer, which shows as `127.0.0.1`.
+fn host_address(peer: Endpoint) -> Ipv4Addr
+    ensures { ipv4_octets result ≡ to_be_bytes w32 peer.host }
+{
+    Ipv4Addr::from(peer.host.to_be_bytes())
+}
+
+/// Returns what the names of a file begin with that was taken from a peer: `20261127T091500.123Z-127.0.0.1-5000-lynx`.
+///
+/// # Errors
+///
+/// Out of memory.
+pub fn stem_of<A: Allocator + Copy>(
+    alloc: A,
+    time: &Stamp,
+    peer: Endpoint,
+    ruleset: Ruleset,
+) -> Result<String<A>, AllocError>
+    ensures { IfOk result (λ stem. string_bytes stem ≡ stem_text time.now peer «ruleset») }
+{
+    let moment = time.compact(alloc)?;
+    let host = host_address(peer);
+    let port = peer.port;
+    format!(in alloc; "{moment}-{host}-{port}-{ruleset}")
+}
+
+/// The name with this number, of which 0 is not written.
+pub(crate) fn numbered<A: Allocator + Copy>(
+    alloc: A,
+    stem: &str,
+    number: u32,
+) -> Result<String<A>, AllocError>
+    ensures { IfOk result (λ name. string_bytes name ≡ numbered stem.now number) }
+{
+    if number == 0 {
+        format!(in alloc; "{stem}.tws")
+    } else {
+        format!(in alloc; "{stem}-{number}.tws")
+    }
+}
+
+/// The name under which a file is written.
+pub(crate) fn draft_of<A: Allocator + Copy>(alloc: A, name: &str) -> Result<String<A>, AllocError>
+    ensures { IfOk result (λ draft. string_bytes draft ≡ draft_of name.now) }
+{
+    format!(in alloc; "{name}.new")
+}
