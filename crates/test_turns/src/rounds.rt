@@ -177,8 +177,8 @@ fn ask(
 
 // Makes the rounds of a put that is taken, and of 63 requests, with which all places are taken.
 fn take_all_places(alloc: Global, wire: &mut MemoryWire, server: &mut Server) -> Result<(), Fail> {
-    ask(alloc, wire, server, 9)?;
-    wire.arrive(alloc, 4000, ALICE, DATA_HUNDRED)?;
+    let first = ask(alloc, wire, server, 9)?;
+    wire.arrive(alloc, 4000, first, DATA_HUNDRED)?;
     serve_rounds(wire, &mut NoKeeper, &mut NoObserver, server, 1);
     for host in 10_u16..73 {
         ask(alloc, wire, server, host)?;
