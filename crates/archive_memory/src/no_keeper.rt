@@ -16,7 +16,7 @@ impl Keeper for NoKeeper {
 
     fn keep<A: Allocator>(
         &mut self,
-        _kind: Ruleset,
+        _ruleset: Ruleset,
         _collection: &Collection<A>,
     ) -> Result<(), KeepFault>
         ensures kept { result ≡ Ok tt }
@@ -27,7 +27,7 @@ impl Keeper for NoKeeper {
     fn load<A: Allocator>(
         &mut self,
         _alloc: A,
-        _kind: Ruleset,
+        _ruleset: Ruleset,
     ) -> Result<Option<Vec<u8, A>>, KeepFault>
         ensures none { result ≡ Ok None }
     {
