@@ -9,7 +9,7 @@ use archive_table::KeepFault;
 use std::alloc::Allocator;
 
 // How many more calls are passed on, and how many have failed.
-#[derive(Clone, Copy, Debug)]
+#[derive(Clone, Copy)]
 struct Charge {
     left: u64,
     faults: u64,

@@ -1,5 +1,5 @@
 /// What is known about the unread datagrams at a port. The system reports an arrival only once.
-#[derive(Clone, Copy, Debug, PartialEq, Eq)]
+#[derive(Clone, Copy)]
 pub(crate) enum Unread {
     /// There is none that the system has reported.
     Nothing,

@@ -5,7 +5,7 @@ use std::fmt;
 use tftp_packet::BLOCK_SIZE;
 
 /// How far a transfer has come.
-#[derive(Clone, Copy, Debug, PartialEq, Eq)]
+#[derive(Clone, Copy)]
 pub(crate) struct Progress {
     /// How many blocks the receiving end has acknowledged. The last of a transfer is never among them, since it ends the
     /// transfer; all others have 512 bytes.

@@ -7,7 +7,7 @@ use crate::progress::Progress;
 use tftp_packet::{Packet, decode};
 
 /// What is counted of a transfer, and what is known of its line. Times are those of one clock, in milliseconds.
-#[derive(Clone, Copy, Debug, PartialEq, Eq)]
+#[derive(Clone, Copy)]
 pub(crate) struct Tally {
     /// How many bytes the file has, if that is known.
     pub length: Option<u64>,

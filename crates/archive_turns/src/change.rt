@@ -2,7 +2,7 @@ ghost use Rattle.std.specs.Prelude.{◌≡◌};
 ghost use Rattle.archive_turns.specs.Timers.{is_quiet as quiet_change};
 
 /// What a visit to a port, or a time-out, changed for the live ports.
-#[derive(Clone, Copy, Debug, PartialEq, Eq)]
+#[derive(Clone, Copy)]
 pub(crate) enum Change {
     /// Nothing was received.
     Quiet,

@@ -17,7 +17,7 @@ use std::alloc::Allocator;
 use tftp_packet::{Endpoint, Out, Packet, decode};
 
 /// The result of a visit: whether a file was taken, and what changed for the live ports.
-#[derive(Clone, Copy, Debug)]
+#[derive(Clone, Copy)]
 pub(crate) struct Visit {
     pub(crate) taken: bool,
     pub(crate) change: Change,

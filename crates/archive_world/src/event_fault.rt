@@ -1,5 +1,5 @@
 /// Why an event fails.
-#[derive(Clone, Copy, Debug, PartialEq, Eq)]
+#[derive(Clone, Copy)]
 pub(crate) enum EventFault {
     /// It may not happen.
     Bad,

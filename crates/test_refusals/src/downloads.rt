@@ -1,7 +1,8 @@
 // A download from the server's table does not allocate after its first block, nor to open if another one has its text.
 use crate::answers::goes;
 use crate::blocks::Blocks;
-use crate::table_steps::{REQUEST, answers, ask, handle, open, repeats, takes_block};
+use crate::table_steps::{answers, ask, handle, open, repeats, takes_block};
+use crate::tables::{Deed, is_right};
 use archive_table::Table;
 use refusing::{Outcome, Refusing};
 use std::alloc::{Allocator, Global};
@@ -51,7 +52,7 @@ fn goes_on<A: Allocator + Copy>(table: &mut Table<A>, file: &Blocks) -> bool {
 }
 
 // Whether a file is taken and downloaded, with no request for memory after the download has begun.
-fn downloads<A: Allocator + Copy>(
+pub(crate) fn downloads<A: Allocator + Copy>(
     refusing: &Refusing<Global>,
     table: &mut Table<A>,
     file: &Blocks,
@@ -61,16 +62,10 @@ fn downloads<A: Allocator + Copy>(
     is_begun && goes_on(table, file) && refusing.requests() == begun
 }
 
-// The same for a new table.
-fn is_downloaded(refusing: &Refusing<Global>) -> bool {
-    let mut table = Table::new(refusing, REQUEST);
-    downloads(refusing, &mut table, &Blocks::new())
-}
-
 #[test]
 fn a_download_after_its_first_block(rt: HostRuntime) {
     let refusing: Refusing<Global> = Refusing::new(rt.alloc(), 0);
-    assert!(rt; is_downloaded(&refusing));
+    assert!(rt; is_right(&refusing, Deed::Download));
 }
 
 // Whether a download is opened at this port.
@@ -98,21 +93,18 @@ fn opens_others<A: Allocator + Copy>(table: &mut Table<A>) -> bool {
 }
 
 // Whether that is so after a first download has begun, and makes no request for memory.
-fn shares<A: Allocator + Copy>(refusing: &Refusing<Global>, table: &mut Table<A>) -> bool {
+pub(crate) fn shares<A: Allocator + Copy>(
+    refusing: &Refusing<Global>,
+    table: &mut Table<A>,
+) -> bool {
     let is_first = takes(table, &Blocks::new()) && opens_at(table, 4001);
     let first = refusing.requests();
     is_first && opens_others(table) && refusing.requests() == first
-}
-
-// The same for a new table.
-fn is_shared(refusing: &Refusing<Global>) -> bool {
-    let mut table = Table::new(refusing, REQUEST);
-    shares(refusing, &mut table)
 }
 
 // The second download has the snapshot of the first, and so has one after both have ended.
 #[test]
 fn downloads_of_one_text(rt: HostRuntime) {
     let refusing: Refusing<Global> = Refusing::new(rt.alloc(), 0);
-    assert!(rt; is_shared(&refusing));
+    assert!(rt; is_right(&refusing, Deed::Share));
 }

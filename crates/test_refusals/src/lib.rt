@@ -26,4 +26,6 @@ mod table;
 #[cfg(test)]
 mod table_steps;
 #[cfg(test)]
+mod tables;
+#[cfg(test)]
 mod uploads;

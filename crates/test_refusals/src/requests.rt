@@ -1,6 +1,7 @@
 // Requests to the server's table while other transfers are live, with each allocation refused in turn.
 use crate::answers::goes;
 use crate::table_steps::{REQUEST, ask, repeats};
+use crate::tables::{Deed, outcome_of};
 use archive_table::{Step, Table};
 use refusing::{Outcome, Refusing, refuse_each};
 use std::alloc::{Allocator, Global};
@@ -16,7 +17,7 @@ fn port(i: u16) -> u16 {
 
 // A kind of request, and what is sent first to one that is served.
 #[derive(Clone, Copy)]
-struct Kind<'a> {
+pub(crate) struct Kind<'a> {
     request: &'a [u8],
     first: &'a [u8],
 }
@@ -108,7 +109,7 @@ fn open_next<A: Allocator + Copy>(
 }
 
 // Makes the requests up to one that is refused.
-fn open_each<A: Allocator + Copy>(
+pub(crate) fn open_each<A: Allocator + Copy>(
     table: &mut Table<A>,
     kind: Kind<'_>,
     refused: &Cell<u16>,
@@ -124,11 +125,7 @@ fn open_each<A: Allocator + Copy>(
 
 // The same for a new table.
 fn open_all(refusing: &Refusing<Global>, kind: Kind<'_>, refused: &Cell<u16>) -> Outcome {
-    let mut table = Table::new(refusing, REQUEST);
-    if refusing.requests() != 0 {
-        return Outcome::Wrong;
-    }
-    open_each(&mut table, kind, refused)
+    outcome_of(refusing, Deed::Open(kind, refused))
 }
 
 // The last request that was refused was made while others were live.

@@ -1,6 +1,7 @@
 // The server's table: the block that completes a file, a keeper, and a start, with each allocation refused in turn.
 use crate::answers::{goes, has_bytes, has_text, keeps_file, was_kept};
 use crate::table_steps::{REQUEST, ask, handle, is_let_go, open, takes_block};
+use crate::tables::{Deed, outcome_of};
 use archive_memory::{Kept, MemoryKeeper};
 use archive_table::{KeepFault, Keeper, LoadFault, Step, Table, Taken};
 use refusing::{Complaint, Outcome, Refusing, refuse_each};
@@ -57,7 +58,7 @@ fn has_texts<A: Allocator + Copy>(global: Global, table: &Table<A>, lynx: &[u8])
 }
 
 // The same for a table that has nothing, and then has the file.
-fn take_first<A: Allocator + Copy>(global: Global, table: &mut Table<A>) -> Outcome {
+pub(crate) fn take_first<A: Allocator + Copy>(global: Global, table: &mut Table<A>) -> Outcome {
     match take(global, table) {
         Outcome::Right => Outcome::of(has_texts(global, table, HUNDRED)),
         outcome => outcome,
@@ -65,8 +66,7 @@ fn take_first<A: Allocator + Copy>(global: Global, table: &mut Table<A>) -> Outc
 }
 
 fn take_one(refusing: &Refusing<Global>) -> Outcome {
-    let mut table = Table::new(refusing, REQUEST);
-    take_first(refusing.inner, &mut table)
+    outcome_of(refusing, Deed::Take)
 }
 
 // The block that completes a file.
@@ -137,7 +137,7 @@ fn read_file<A: Allocator + Copy>(
 }
 
 // The same after the file was taken.
-fn take_and_read<A: Allocator + Copy>(
+pub(crate) fn take_and_read<A: Allocator + Copy>(
     global: Global,
     table: &mut Table<A>,
     refused: &Cell<u64>,
@@ -149,8 +149,7 @@ fn take_and_read<A: Allocator + Copy>(
 }
 
 fn read_one(refusing: &Refusing<Global>, refused: &Cell<u64>) -> Outcome {
-    let mut table = Table::new(refusing, REQUEST);
-    take_and_read(refusing.inner, &mut table, refused)
+    outcome_of(refusing, Deed::Read(refused))
 }
 
 // The collection is not empty, so that what is sent to a reader has to be allocated.
@@ -178,10 +177,10 @@ fn starts_with<A: Allocator + Copy>(
 }
 
 // Whether a table and its keeper have the file, and so does a server that starts with what the keeper holds.
-fn have_file<A: Allocator + Copy>(
+fn have_file<A: Allocator + Copy, B: Allocator + Copy>(
     global: Global,
     table: &Table<A>,
-    keeper: &mut MemoryKeeper<A>,
+    keeper: &mut MemoryKeeper<B>,
 ) -> bool {
     let has_texts = has_texts(global, table, HUNDRED);
     let is_kept = keeps_file(keeper);
@@ -190,10 +189,10 @@ fn have_file<A: Allocator + Copy>(
 }
 
 // Whether they have nothing.
-fn have_nothing<A: Allocator + Copy>(
+fn have_nothing<A: Allocator + Copy, B: Allocator + Copy>(
     global: Global,
     table: &Table<A>,
-    keeper: &mut MemoryKeeper<A>,
+    keeper: &mut MemoryKeeper<B>,
 ) -> bool {
     has_texts(global, table, EMPTY_LYNX)
         && keeper.kept().is_empty()
@@ -215,10 +214,10 @@ fn is_given_up<A: Allocator + Copy>(
 }
 
 // What the block that completes a file comes to whose step this is. The file is to be kept.
-fn judge_kept<A: Allocator + Copy>(
+fn judge_kept<A: Allocator + Copy, B: Allocator + Copy>(
     global: Global,
     table: &Table<A>,
-    keeper: &mut MemoryKeeper<A>,
+    keeper: &mut MemoryKeeper<B>,
     step: &Step<A>,
     not_kept: &Cell<u64>,
 ) -> Outcome {
@@ -229,10 +228,10 @@ fn judge_kept<A: Allocator + Copy>(
 }
 
 // Passes that block to its open transfer.
-fn keep_file<A: Allocator + Copy>(
+fn keep_file<A: Allocator + Copy, B: Allocator + Copy>(
     global: Global,
     table: &mut Table<A>,
-    keeper: &mut MemoryKeeper<A>,
+    keeper: &mut MemoryKeeper<B>,
     not_kept: &Cell<u64>,
 ) -> Outcome {
     let step = table.on_datagram(keeper, 4000, ALICE, DATA_HUNDRED);
@@ -240,10 +239,10 @@ fn keep_file<A: Allocator + Copy>(
 }
 
 // Opens the transfer, and passes the block to it.
-fn open_and_keep<A: Allocator + Copy>(
+fn open_and_keep<A: Allocator + Copy, B: Allocator + Copy>(
     global: Global,
     table: &mut Table<A>,
-    keeper: &mut MemoryKeeper<A>,
+    keeper: &mut MemoryKeeper<B>,
     not_kept: &Cell<u64>,
 ) -> Outcome {
     match open(table) {
@@ -252,10 +251,18 @@ fn open_and_keep<A: Allocator + Copy>(
     }
 }
 
-fn keep_one(refusing: &Refusing<Global>, not_kept: &Cell<u64>) -> Outcome {
-    let mut table = Table::new(refusing, REQUEST);
+// The same with a new keeper.
+pub(crate) fn keep_with<A: Allocator + Copy>(
+    refusing: &Refusing<Global>,
+    table: &mut Table<A>,
+    not_kept: &Cell<u64>,
+) -> Outcome {
     let mut keeper = MemoryKeeper::new(refusing);
-    open_and_keep(refusing.inner, &mut table, &mut keeper, not_kept)
+    open_and_keep(refusing.inner, table, &mut keeper, not_kept)
+}
+
+fn keep_one(refusing: &Refusing<Global>, not_kept: &Cell<u64>) -> Outcome {
+    outcome_of(refusing, Deed::Keep(not_kept))
 }
 
 // The block that completes a file, with a keeper that has the same allocator: the file is both taken and kept, or

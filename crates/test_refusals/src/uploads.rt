@@ -1,6 +1,7 @@
 // An upload of two blocks to the server's table: repeated blocks and time-outs do not allocate.
 use crate::blocks::Blocks;
-use crate::table_steps::{REQUEST, open, repeats, takes_block};
+use crate::table_steps::{open, repeats, takes_block};
+use crate::tables::{Deed, is_right};
 use archive_table::Table;
 use refusing::{Outcome, Refusing};
 use std::alloc::{Allocator, Global};
@@ -43,7 +44,7 @@ fn dallies<A: Allocator + Copy>(
 }
 
 // Whether an upload with such repetitions takes the file.
-fn uploads<A: Allocator + Copy>(
+pub(crate) fn uploads<A: Allocator + Copy>(
     refusing: &Refusing<Global>,
     table: &mut Table<A>,
     file: &Blocks,
@@ -56,14 +57,8 @@ fn uploads<A: Allocator + Copy>(
         && dallies(refusing, table, file)
 }
 
-// The same for a new table.
-fn is_uploaded(refusing: &Refusing<Global>) -> bool {
-    let mut table = Table::new(refusing, REQUEST);
-    uploads(refusing, &mut table, &Blocks::new())
-}
-
 #[test]
 fn repeated_blocks_and_timeouts(rt: HostRuntime) {
     let refusing: Refusing<Global> = Refusing::new(rt.alloc(), 0);
-    assert!(rt; is_uploaded(&refusing));
+    assert!(rt; is_right(&refusing, Deed::Upload));
 }

@@ -1,5 +1,5 @@
 // Lists of events in abbreviated form, with what they leave and what their keeper is given.
-use archive_memory::MemoryKeeper;
+use archive_memory::{Kept, MemoryKeeper};
 use archive_world::{
     Asked, Datagram, Event, Op, OpKind, Opening, Outcome, TakenFile, WorldFault, replay,
 };
@@ -95,40 +95,62 @@ pub(crate) const NOTHING: Wanted<'static> = Wanted {
     given: &[],
 };
 
+fn is_taken(one: &TakenFile, peer: Endpoint, file: &[u8]) -> bool {
+    let is_peer = one.peer == peer;
+    let is_file = one.file.as_slice() == file;
+    is_peer && is_file
+}
+
 fn are_taken(taken: &[TakenFile], wanted: &[(Endpoint, &[u8])]) -> bool {
     for (one, (peer, file)) in taken.iter().zip(wanted) {
-        if one.peer != *peer || one.file.as_slice() != *file {
+        if !is_taken(one, *peer, file) {
             return false;
         }
     }
     taken.len() == wanted.len()
 }
 
+fn is_opened(one: &Opening, peer: Endpoint, port: u16, taken: usize) -> bool {
+    let (is_peer, is_write) = (one.peer == peer, one.asked == Asked::Write);
+    is_peer && is_write && one.port == port && one.taken == taken
+}
+
 fn are_opened(opened: &[Opening], wanted: &[(Endpoint, u16, usize)]) -> bool {
     for (one, (peer, port, taken)) in opened.iter().zip(wanted) {
-        let is_peer = one.peer == *peer && one.port == *port;
-        if !is_peer || one.asked != Asked::Write || one.taken != *taken {
+        if !is_opened(one, *peer, *port, *taken) {
             return false;
         }
     }
     opened.len() == wanted.len()
 }
 
+fn is_datagram(one: &Datagram, from: Endpoint, to: Endpoint, bytes: &[u8]) -> bool {
+    let (is_from, is_to) = (one.from == from, one.to == to);
+    let has_bytes = one.bytes.as_slice() == bytes;
+    is_from && is_to && has_bytes
+}
+
 fn are_datagrams(datagrams: &[Datagram], wanted: &[(Endpoint, Endpoint, &[u8])]) -> bool {
     for (one, (from, to, bytes)) in datagrams.iter().zip(wanted) {
-        let is_sent = one.from == *from && one.to == *to;
-        if !is_sent || one.bytes.as_slice() != *bytes {
+        if !is_datagram(one, *from, *to, bytes) {
             return false;
         }
     }
     datagrams.len() == wanted.len()
 }
 
+// Whether this text was given for Lynx, and was kept or not.
+fn is_lynx(one: &Kept, text: &[u8], ok: bool) -> bool {
+    let is_lynx = one.ruleset == Ruleset::Lynx;
+    let has_text = one.text.as_slice() == text;
+    is_lynx && has_text && one.ok == ok
+}
+
 // Whether a keeper was given exactly these texts for Lynx, and kept each or not.
 fn was_given(keeper: &MemoryKeeper, wanted: &[(&[u8], bool)]) -> bool {
     let kept = keeper.kept();
     for (one, (text, ok)) in kept.iter().zip(wanted) {
-        if one.ruleset != Ruleset::Lynx || one.text.as_slice() != *text || one.ok != *ok {
+        if !is_lynx(one, text, *ok) {
             return false;
         }
     }
