@@ -7,6 +7,7 @@ pub mod Ports
 pub mod Noticing
 pub mod Transfers
 pub mod Following
+pub mod Dallying
 pub mod Turns
 pub mod Running
 pub mod Rounding

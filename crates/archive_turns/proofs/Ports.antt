@@ -77,7 +77,8 @@ length_with t (u ∷ us) = elim (cases_Bool (nat_lt u.port t.port)) [
 
 -- ---- the finite map of transfers
 
-at_is : (p q : ℕ) → at_port p q ≡ (q == p)
+-- a port passes the test of one if it is that port
+pub at_is : (p q : ℕ) → at_port p q ≡ (q == p)
 at_is p q = elim (cases_lt p q) [
   | inl less ↦ ap is_eq (sym (nat_cmp_is p q Less less)) ∙ sym (ne_eqb q p (λ e. omega arith))
   | inr more ↦ elim (cases_lt q p) [

@@ -137,6 +137,11 @@ giving_ports mode timers s = ports_of (filter (λ t. gives_way mode t.port s) ti
 abbrev pub late_ports : Mode → (quiet : Bool) → List Timer → Table → List ℕ
 late_ports mode quiet timers s = ports_of (filter (λ t. is_due (due_by mode quiet) t || gives_way mode t.port s) timers) ++ giving_ports mode timers s
 
+-- after the time-outs of a round no transfer only waits for a repeated last block while all places are taken
+abbrev pub HasGivenWay : Mode → Table → Type 0
+HasGivenWay Turn s = Unit {0}
+HasGivenWay (Round now settled per_host) s = has_slot s ≡ false → (port : ℕ) → is_dallying port s ≡ false
+
 -- ---- how long the wire waits
 
 abbrev pub earlier : Option ℕ → Timer → Option ℕ

@@ -1,3 +1,5 @@
+use archive_table::LIVE;
+
 /// After how many quiet turns a transfer or a client times out, since it was opened or last sent. Turns that are not
 /// quiet leave the count unchanged.
 pub const QUIET_TURNS: u64 = 200;
@@ -14,4 +16,4 @@ pub const DALLY_PAUSE: u64 = 250;
 pub const DALLY_LIMIT: u64 = 2000;
 
 /// How many time-outs there are after one visit at most: those of transfers that give way come twice.
-pub(crate) const LATE: usize = 128;
+pub(crate) const LATE: usize = 2 * LIVE;

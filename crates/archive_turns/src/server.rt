@@ -1,9 +1,9 @@
 //! The server over a wire: turns that count, and rounds that wait for ready ports.
 
-ghost use Rattle.std.specs.Prelude.{◌≡◌, Err, IfOk, IfErr, ◌==◌, []};
-ghost use Rattle.archive_table.specs.Table.{empty_table, IsTable, port_above};
+ghost use Rattle.std.specs.Prelude.{◌≡◌, ℕ, Err, IfOk, IfErr, ◌==◌, [], false};
+ghost use Rattle.archive_table.specs.Table.{empty_table, has_slot, is_dallying, IsTable, port_above};
 ghost use Rattle.archive_table.specs.Keeper.{HasLoaded, TableFails, FailsAt};
-ghost use Rattle.archive_turns.specs.Timers.{Tracks};
+ghost use Rattle.archive_turns.specs.Timers.{HasGivenWay, Tracks};
 ghost use Rattle.archive_turns.specs.Parts.{IsVisit, Passes};
 ghost use Rattle.archive_turns.specs.Turn.{MakesTurn, MakesRound, fresh_server, next_visit, next_asks, next_admits, next_of, ready_next, noted, noted_or};
 
@@ -94,6 +94,7 @@ fn pass<A: Allocator + Copy, W: Wire, K: Keeper, O: ServerObserver>(
     requires { Tracks table.old timers.old }
     ensures passes { Passes mode next table.old table.new timers.old timers.new result (W.log wire.old) (W.log wire.new) (K.log keeper.old) (K.log keeper.new) }
     ensures tracks { Tracks table.new timers.new }
+    ensures given_way { HasGivenWay mode table.new }
 {
     let visit = visit(table, wire, keeper, observer, timers, mode, next);
     timers.apply(mode, visit.change);
@@ -215,7 +216,9 @@ impl<A: Allocator + Copy> Server<A> {
         keeper: &mut K,
         observer: &mut O,
     ) -> bool
-        ensures { MakesRound self.old self.new result (W.log wire.old) (W.log wire.new) (K.log keeper.old) (K.log keeper.new) }
+        ensures made { MakesRound self.old self.new result (W.log wire.old) (W.log wire.new) (K.log keeper.old) (K.log keeper.new) }
+        // So each transfer that only waits for a repeated last block has given its place up before the next request is judged.
+        ensures given_way { has_slot self.new.table ≡ false → (port : ℕ) → is_dallying port self.new.table ≡ false }
     {
         let ready = wire.wait(self.last, self.timers.earliest());
         self.last = noted_ready(self.last, ready.port);

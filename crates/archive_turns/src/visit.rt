@@ -3,7 +3,7 @@
 ghost use Rattle.std.specs.Prelude.{◌≡◌, ◌≢◌, ◌||◌, nat_lt, not, is_some, true, None, Some};
 ghost use Rattle.tftp_packet.specs.Decode.{decode_bytes};
 ghost use Rattle.archive_table.specs.Table.{IsTable, transfer_at};
-ghost use Rattle.archive_turns.specs.Timers.{ports_of, live_ports, is_quiet, late_ports, restart, Tracks};
+ghost use Rattle.archive_turns.specs.Timers.{ports_of, live_ports, is_quiet, late_ports, restart, HasGivenWay, Tracks};
 ghost use Rattle.archive_turns.specs.Parts.{IsVisit, IsTimeout, Acts, SendsOut, Walks};
 ghost use Rattle.archive_turns.specs.Turn.{transfer_visit, transfer_asks, timeout_visit, request_visit, request_spared, request_change, transfer_change, datagram, admits, asks_for, count_from, is_loopback, is_peer as peer_is, is_usable as usable_at};
 
@@ -295,6 +295,7 @@ pub(crate) fn time_out_late<A: Allocator + Copy, W: Wire, O: Observer>(
     requires tracks { ports_of timers.old ≡ live_ports table.old }
     ensures walks { Walks (late_ports mode (is_quiet change) timers.old table.old) (restart mode) table.old table.new timers.old timers.new (W.log wire.old) (W.log wire.new) }
     ensures keeps { Tracks table.new timers.new }
+    ensures given_way { HasGivenWay mode table.new }
 {
     let ports = timers.late(mode, change, table);
     for port in ports.as_slice() {

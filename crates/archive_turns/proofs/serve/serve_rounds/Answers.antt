@@ -7,4 +7,4 @@ loop-round-init g c = (many_none _ _ _ _, omega arith)
 
 pub loop-round-preserved : goal.loop-round-preserved
 loop-round-preserved g c =
-    (many_more _ _ _ _ _ _ _ _ c.loop-round.invariant.0 c.round.ensures c.counted-taken.ensures.count, omega arith)
+    (many_more _ _ _ _ _ _ _ _ c.loop-round.invariant.0 c.round.ensures.made c.counted-taken.ensures.count, omega arith)

@@ -1,4 +1,4 @@
-use Rattle.std.proofs.Common.{◌≡◌, ◌≤◌, ◌+◌, ◌++◌, length, filter, take}
+use Rattle.std.proofs.Common.{◌≡◌, ◌≤◌, ◌+◌, ◌++◌, length, take}
 use Rattle.archive_table.specs.declared.limits.TheConstants.{LIVE}
 use Rattle.archive_turns.specs.Timers.{giving_ports}
 use Rattle.archive_turns.proofs.timers.Timers.push_giving.Given as goal
