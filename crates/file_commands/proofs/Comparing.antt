@@ -3,7 +3,8 @@ use Rattle.std.proofs.Common.{◌≡◌, ℕ, zero, suc, Bool, true, false, List
 use Rattle.tws_file.specs.declared.file_fault.FileFault.{FileFault}
 use Rattle.command_faults.specs.declared.tool_fault.ToolFault.{ToolFault}
 use Rattle.command_faults.specs.declared.tool_fault.ToolFault.TheVariants.{Read, Write, Unreadable, Memory, Socket, Transfer}
-use Rattle.file_commands.specs.Compare.{Compares, ComparesInputs, CompareFails, compare_status}
+use Rattle.tws_file.specs.Text.{File}
+use Rattle.file_commands.specs.Compare.{AreTexts, Compares, ComparesFiles, ComparesInputs, CompareFails, FilesFail, compare_status}
 
 -- the inputs, and the output before and after
 module _ (better : Bool) (mine theirs old new : Option (List ℕ)) where
@@ -34,6 +35,21 @@ module _ (better : Bool) (mine theirs old new : Option (List ℕ)) where
     unreadable = λ e. absurd (omega (arith, e));
     few = omega arith;
   }
+
+  -- two files that were read
+  module _ (m t : File) (texts : AreTexts mine theirs m t) where
+    pub files_compared : (r : Result Bool ToolFault) → IfOk r (ComparesFiles better m t old new) → IfOk r (Compares better mine theirs old new)
+    files_compared (Ok same) compared = (m, t, texts, compared)
+    files_compared (Err fault) compared = tt
+
+    pub files_fail : (r : Result Bool ToolFault) → IfErr r (FilesFail better m t old new) → IfErr r (CompareFails better mine theirs old new)
+    files_fail (Ok same) fails = tt
+    files_fail (Err Read) fails = absurd fails
+    files_fail (Err Write) fails = (m, t, texts, fails)
+    files_fail (Err (Unreadable index fault)) fails = absurd fails
+    files_fail (Err Memory) fails = fails
+    files_fail (Err Socket) fails = absurd fails
+    files_fail (Err (Transfer why)) fails = absurd fails
 
   pub compares_inputs : (r : Result Bool ToolFault) → IfOk r (Compares better mine theirs old new) → IfErr r (CompareFails better mine theirs old new) →
       ComparesInputs better mine theirs (compare_status r) old new

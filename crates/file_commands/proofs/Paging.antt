@@ -1,11 +1,16 @@
--- The files that are read from several inputs.
-use Rattle.std.proofs.Common.{◌≡◌, ℕ, List, [], ◌∷◌, ◌++◌, length, take, map, Option, IfSome, ap, subst, ◌∙◌}
+-- The files that are read from several inputs, and the page of them.
+use Rattle.std.proofs.Common.{◌≡◌, ℕ, List, [], ◌∷◌, ◌++◌, length, take, map, Option, IfSome, ap, subst, ◌∙◌, inr}
 use Rattle.std.specs.List.{AllByRecursion}
 use Rattle.std.proofs.Math.Seq.{take-length}
 use Rattle.byte_output.proofs.Lists.{at_some}
 use Rattle.tws_file.specs.Text.{File, IsText, IsReadable}
 use Rattle.file_commands.specs.Best.{AreReported}
-use Rattle.file_commands.specs.Page.{AreFiles}
+use Rattle.byte_output.specs.Output.{AppendsPrefix}
+use Rattle.byte_output.specs.declared.out_fault.OutFault.{OutFault}
+use Rattle.byte_output.specs.declared.out_fault.OutFault.TheVariants as out
+use Rattle.command_faults.specs.Faults.{written_fault}
+use Rattle.tws_tables.specs.Page.{page_of}
+use Rattle.file_commands.specs.Page.{AreFiles, PageFails}
 
 more_files : (knowns : List (Option (List ℕ))) (files : List File) (known : Option (List ℕ)) (file : File) → AreFiles knowns files
     → IfSome known (λ (bytes : List ℕ). IsText bytes file) → AreFiles (knowns ++ known ∷ []) (files ++ file ∷ [])
@@ -34,3 +39,9 @@ pub all_files : (R : Type 0) (reported : R → Option (List ℕ)) (inputs : List
     i ≡ length inputs → AreFiles (map reported (take i inputs)) files → AreFiles (map reported inputs) files
 all_files R reported inputs i files end so_far =
     subst (λ (xs : List R). AreFiles (map reported xs) files) (ap (λ (n : ℕ). take n inputs) end ∙ take-length inputs) so_far
+
+-- the page of the files that were read was not written whole
+pub page_fails : (fault : OutFault) (knowns : List (Option (List ℕ))) (files : List File) (old new : Option (List ℕ)) → AreFiles knowns files →
+    AppendsPrefix old new (page_of files) → PageFails knowns old new (written_fault fault)
+page_fails out.Io knowns files old new are part = (files, are, part)
+page_fails out.Memory knowns files old new are part = inr (files, are, part)
