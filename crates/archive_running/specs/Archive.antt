@@ -139,7 +139,7 @@ pub data Moves : (old new : Archive) → List Member → Type 0 where
   client_rounds : (a : Archive) (host : ℕ) (pace : Pace) (old new : Run) (calls : List Entry) (t : IsRunRound pace old new calls) → host ≢ server_endpoint.host → lookup (is_same (own_endpoint host old)) a.clients ≡ Some old.client → Brings host calls a → Moves a (after_client_turn host old new calls a) (round_members pace t.answers host old)
 
 -- From a server with these collections the archive reaches this state by one move after another, and these are their
--- members. At first a keeper that tells its list has these collections.
+-- members. At first a keeper with a ghost log has these collections.
 pub data Reaches : (texts : List (List ℕ)) → Maps → Archive → List Member → Type 0 where
   reported : {texts : List (List ℕ)} {maps : Maps} (log : List Keeping) → HasKept log maps → Reaches texts maps (idle texts maps (Some log)) []
   unreported : {texts : List (List ℕ)} {maps : Maps} → Reaches texts maps (idle texts maps None) []

@@ -73,7 +73,7 @@ impl Archive {
     }
 
     // Carries datagram number `n` to a client that puts, which makes a turn.
-    fn tell(
+    fn deliver(
         &self,
         alloc: Global,
         n: usize,
@@ -99,11 +99,11 @@ fn put_twice(
 ) -> Result<[u64; 4], Fail> {
     let first = archive.take(alloc, client, 2, 0)?;
     let again = archive.take(alloc, client, 2, 0)?;
-    archive.tell(alloc, 0, client, run)?;
-    archive.tell(alloc, 1, client, run)?;
+    archive.deliver(alloc, 0, client, run)?;
+    archive.deliver(alloc, 1, client, run)?;
     let refused = archive.take(alloc, client, 2, 2)?;
     let block = archive.take(alloc, client, 2, 1)?;
-    archive.tell(alloc, 2, client, run)?;
+    archive.deliver(alloc, 2, client, run)?;
     Ok([first, again, refused, block])
 }
 
@@ -173,9 +173,9 @@ fn finish_put(
     answers: usize,
 ) -> Result<bool, Fail> {
     let _opened = archive.take(alloc, client, host, 0)?;
-    archive.tell(alloc, answers, client, run)?;
+    archive.deliver(alloc, answers, client, run)?;
     let taken = archive.take(alloc, client, host, 1)?;
-    archive.tell(alloc, answers.wrapping_add(1), client, run)?;
+    archive.deliver(alloc, answers.wrapping_add(1), client, run)?;
     Ok(taken == 1)
 }
 

@@ -8,7 +8,7 @@ pub of-self-inside-requires : goal.of-self-inside-requires
 of-self-inside-requires g c κs within =
     let log : EndsWithin κs.1.1.0 κs.1.0 = record { each = within.0.0 } in
     let lent : EndsWithin κs.1.1.1.0 κs.1.0 = record { each = within.0.1.0 } in
-    let told : EndsWithin κs.1.1.1.1.0 κs.1.0 = record { each = within.0.1.1.0 } in
+    let logged : EndsWithin κs.1.1.1.1.0 κs.1.0 = record { each = within.0.1.1.0 } in
     let alloc : EndsWithin g.row.A.lives κs.1.0 = record { each = within.1.0 } in
     all_within (search (both_within, static_within) depth 80 fits 5000)
 
