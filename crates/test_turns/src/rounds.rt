@@ -186,18 +186,30 @@ fn take_all_places(alloc: Global, wire: &mut MemoryWire, server: &mut Server) ->
     Ok(())
 }
 
+// How many transfers are live once all places were taken, whether the next request is let in, and whether the one after
+// it is refused.
+fn give_way(
+    alloc: Global,
+    wire: &mut MemoryWire,
+    server: &mut Server,
+) -> Result<(usize, bool, bool), Fail> {
+    take_all_places(alloc, wire, server)?;
+    let live = server.table().live();
+    let next = ask(alloc, wire, server, 73)?;
+    let is_let_in = sent_last(wire, 4064, next, ACK_0);
+    let last = ask(alloc, wire, server, 74)?;
+    Ok((live, is_let_in, sent_last(wire, 6969, last, BUSY)))
+}
+
+// The same of a new server.
+fn give_way_at_new(alloc: Global) -> Result<(usize, bool, bool), Fail> {
+    let mut wire = wire_of(alloc, &many_ports())?;
+    give_way(alloc, &mut wire, &mut Server::new(alloc, 6969))
+}
+
 // The place of a transfer that only dallies is there for the very next request, and no other place is.
 #[test]
 fn a_dallying_transfer_gives_way(rt: HostRuntime) -> Result<(), Fail> {
-    let alloc = rt.alloc();
-    let mut wire = wire_of(alloc, &many_ports())?;
-    let mut server = Server::new(alloc, 6969);
-    take_all_places(alloc, &mut wire, &mut server)?;
-    let live = server.table().live();
-    let next = ask(alloc, &mut wire, &mut server, 73)?;
-    let is_let_in = sent_last(&wire, 4064, next, ACK_0);
-    let last = ask(alloc, &mut wire, &mut server, 74)?;
-    let is_refused = sent_last(&wire, 6969, last, BUSY);
-    assert_eq!(rt; (live, is_let_in, is_refused), (63, true, true));
+    assert_eq!(rt; give_way_at_new(rt.alloc())?, (63, true, true));
     Ok(())
 }
