@@ -127,12 +127,20 @@ fn push_first<A: Allocator + Copy>(reader: &mut Reader<A>, piece: &[u8]) -> Resu
     push_again(reader, piece)
 }
 
-// Reads the cut file in two pieces, of which the first has 20 bytes. A push that was out of memory is made again.
+// Passes the cut file to a new reader in two pieces, of which the first has 20 bytes. A push that was out of memory is made
+// again.
+fn push_cut<A: Allocator + Copy>(reader: &mut Reader<A>) -> Result<(), FileFault>
+    requires { HasAtMost reader.old 0 }
+{
+    let (first, rest) = CUT_MOVE.split_at(20);
+    push_first(reader, first)?;
+    push_again(reader, rest)
+}
+
+// Reads the cut file so.
 fn read_cut_in_two(refusing: &Refusing<Global>) -> Result<(), FileFault> {
     let mut reader = Reader::new(refusing);
-    let (first, rest) = CUT_MOVE.split_at(20);
-    push_first(&mut reader, first)?;
-    push_again(&mut reader, rest)?;
+    push_cut(&mut reader)?;
     let _file = reader.finish()?;
     Ok(())
 }

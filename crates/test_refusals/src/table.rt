@@ -293,10 +293,19 @@ fn keeper_of_file(global: Global) -> Result<MemoryKeeper, AllocError> {
     MemoryKeeper::with(global, Some(text), None)
 }
 
+// What a start comes to that has made this table of what its keeper has.
+fn judge_start<A: Allocator + Copy>(
+    global: Global,
+    table: &Table<A>,
+    keeper: &MemoryKeeper,
+) -> Outcome {
+    Outcome::of(has_texts(global, table, HUNDRED) && keeps_file(keeper))
+}
+
 // A start with what a keeper has, which is the file.
 fn start(refusing: &Refusing<Global>, keeper: &mut MemoryKeeper, in_keeper: &Cell<u64>) -> Outcome {
     match Table::load(refusing, REQUEST, keeper) {
-        Ok(table) => Outcome::of(has_texts(refusing.inner, &table, HUNDRED) && keeps_file(keeper)),
+        Ok(table) => judge_start(refusing.inner, &table, keeper),
         Err(fault) => Outcome::refused(
             is_refused(fault, in_keeper)
                 && keeps_file(keeper)
