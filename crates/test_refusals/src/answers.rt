@@ -27,7 +27,8 @@ pub(crate) fn has_text<A: Allocator + Copy>(
     text: &[u8],
 ) -> bool {
     let mut out = Vec::new(global);
-    collection.write_text(&mut out).is_ok() && out.as_slice() == text
+    let is_written = collection.write_text(&mut out).is_ok();
+    is_written && out.as_slice() == text
 }
 
 // Whether a received file has these bytes.

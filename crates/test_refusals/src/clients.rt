@@ -43,18 +43,20 @@ fn give<A: Allocator + Copy>(client: &mut Get<A>) -> Outcome {
     judge(client, &out)
 }
 
-// Whether the client fetched the file.
-fn has_got<A: Allocator + Copy>(global: Global, client: Get<A>) -> bool {
+// Whether what the client fetched is the file; `None` if it fetched nothing.
+fn has_got<A: Allocator + Copy>(global: Global, client: Get<A>) -> Option<bool> {
     match client.into_file() {
-        Ok(file) => has_bytes(global, &file, HUNDRED),
-        Err(_) => false,
+        Ok(file) => Some(has_bytes(global, &file, HUNDRED)),
+        Err(_) => None,
     }
 }
 
 fn fetch<A: Allocator + Copy>(global: Global, mut client: Get<A>) -> Outcome {
-    match give(&mut client) {
-        Outcome::Right => Outcome::of(has_got(global, client)),
-        Outcome::OutOfMemory => Outcome::refused(client.into_file().is_err()),
+    let outcome = give(&mut client);
+    let got = has_got(global, client);
+    match outcome {
+        Outcome::Right => Outcome::of(got == Some(true)),
+        Outcome::OutOfMemory => Outcome::refused(got.is_none()),
         Outcome::Wrong => Outcome::Wrong,
     }
 }
@@ -99,11 +101,12 @@ fn ends<A: Allocator + Copy>(client: &mut Put<A>) -> bool {
 
 // Whether the request, the data and the end of a put are right, and request and data are sent again at a time-out.
 fn sends_file<A: Allocator + Copy>(client: &mut Put<A>, first: &Out) -> bool {
-    is_out(first, 5000, SERVER, WRQ)
-        && repeats(client, SERVER, WRQ)
-        && sends_block(client)
-        && repeats(client, PEER, DATA_HUNDRED)
-        && ends(client)
+    let is_request = is_out(first, 5000, SERVER, WRQ);
+    let is_repeated = repeats(client, SERVER, WRQ);
+    let is_sent = sends_block(client);
+    let is_sent_again = repeats(client, PEER, DATA_HUNDRED);
+    let has_ended = ends(client);
+    is_request && is_repeated && is_sent && is_sent_again && has_ended
 }
 
 // Whether a put of a file is right.
@@ -123,9 +126,13 @@ fn sends(refusing: &Refusing<Global>) -> bool {
     puts(file) && refusing.requests() == before
 }
 
+// The same with an allocator that refuses nothing.
+fn sends_with_memory(global: Global) -> bool {
+    sends(&Refusing::new(global, 0))
+}
+
 // A put does not allocate.
 #[test]
 fn sending(rt: HostRuntime) {
-    let refusing: Refusing<Global> = Refusing::new(rt.alloc(), 0);
-    assert!(rt; sends(&refusing));
+    assert!(rt; sends_with_memory(rt.alloc()));
 }

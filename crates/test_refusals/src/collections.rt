@@ -60,32 +60,6 @@ fn merge_two<A: Allocator + Copy>(global: Global, collection: &mut Collection<A>
     }
 }
 
-fn merge_into_one(refusing: &Refusing<Global>) -> Outcome {
-    match load_text(refusing, HUNDRED) {
-        Ok(mut collection) => merge_two(refusing.inner, &mut collection),
-        Err(outcome) => outcome,
-    }
-}
-
-#[test]
-fn merging_into_one_solution(rt: HostRuntime) -> Result<(), Complaint> {
-    refuse_each(rt.alloc(), 5, &merge_into_one)
-}
-
-// ---- loading
-
-fn load_three(refusing: &Refusing<Global>) -> Outcome {
-    match load_text(refusing, THREE) {
-        Ok(collection) => Outcome::of(has_text(refusing.inner, &collection, THREE)),
-        Err(outcome) => outcome,
-    }
-}
-
-#[test]
-fn loading(rt: HostRuntime) -> Result<(), Complaint> {
-    refuse_each(rt.alloc(), 3, &load_three)
-}
-
 // ---- copies and snapshots
 
 // Whether the copy of a collection is empty.
@@ -102,12 +76,17 @@ fn is_copied_empty(refusing: &Refusing<Global>) -> bool {
     has_empty_copy(refusing.inner, &collection)
 }
 
+// The same, and how many requests for memory are made.
+fn copy_empty(global: Global) -> (bool, u64) {
+    let refusing = Refusing::new(global, 1);
+    let is_copied = is_copied_empty(&refusing);
+    (is_copied, refusing.requests())
+}
+
 // Neither the empty collection nor its copy makes a request.
 #[test]
 fn empty_collections(rt: HostRuntime) {
-    let refusing: Refusing<Global> = Refusing::new(rt.alloc(), 1);
-    let is_copied = is_copied_empty(&refusing);
-    assert_eq!(rt; (is_copied, refusing.requests()), (true, 0));
+    assert_eq!(rt; copy_empty(rt.alloc()), (true, 0));
 }
 
 // What a call comes to that must leave the collection of the three solutions unchanged.
@@ -130,21 +109,6 @@ fn copy<A: Allocator + Copy>(global: Global, collection: &Collection<A>) -> Outc
     }
 }
 
-fn copy_three(refusing: &Refusing<Global>) -> Outcome {
-    match load_text(refusing, THREE) {
-        Ok(collection) => {
-            let outcome = copy(refusing.inner, &collection);
-            unless_changed(refusing.inner, &collection, outcome)
-        }
-        Err(outcome) => outcome,
-    }
-}
-
-#[test]
-fn copying(rt: HostRuntime) -> Result<(), Complaint> {
-    refuse_each(rt.alloc(), 5, &copy_three)
-}
-
 // Whether a file has this text, in a single block.
 fn is_block(blocks: &impl Blocks, text: &[u8]) -> bool {
     let mut out = [0; 512];
@@ -162,14 +126,66 @@ fn snapshot<A: Allocator + Copy>(collection: &Collection<A>) -> Outcome {
     }
 }
 
-fn snapshot_three(refusing: &Refusing<Global>) -> Outcome {
-    match load_text(refusing, THREE) {
-        Ok(collection) => {
-            let outcome = snapshot(&collection);
-            unless_changed(refusing.inner, &collection, outcome)
-        }
+// ---- what is done with a collection of a file
+
+#[derive(Clone, Copy)]
+enum Deed {
+    Merge,
+    Load,
+    Copy,
+    Snapshot,
+}
+
+fn perform<A: Allocator + Copy>(
+    global: Global,
+    collection: &mut Collection<A>,
+    deed: Deed,
+) -> Outcome {
+    match deed {
+        Deed::Merge => merge_two(global, collection),
+        Deed::Load => Outcome::of(has_text(global, collection, THREE)),
+        Deed::Copy => unless_changed(global, collection, copy(global, collection)),
+        Deed::Snapshot => unless_changed(global, collection, snapshot(collection)),
+    }
+}
+
+// Does it with a collection of the file with this text.
+fn load_and_perform(refusing: &Refusing<Global>, text: &[u8], deed: Deed) -> Outcome {
+    match load_text(refusing, text) {
+        Ok(mut collection) => perform(refusing.inner, &mut collection, deed),
         Err(outcome) => outcome,
     }
+}
+
+fn merge_into_one(refusing: &Refusing<Global>) -> Outcome {
+    load_and_perform(refusing, HUNDRED, Deed::Merge)
+}
+
+fn load_three(refusing: &Refusing<Global>) -> Outcome {
+    load_and_perform(refusing, THREE, Deed::Load)
+}
+
+fn copy_three(refusing: &Refusing<Global>) -> Outcome {
+    load_and_perform(refusing, THREE, Deed::Copy)
+}
+
+fn snapshot_three(refusing: &Refusing<Global>) -> Outcome {
+    load_and_perform(refusing, THREE, Deed::Snapshot)
+}
+
+#[test]
+fn merging_into_one_solution(rt: HostRuntime) -> Result<(), Complaint> {
+    refuse_each(rt.alloc(), 5, &merge_into_one)
+}
+
+#[test]
+fn loading(rt: HostRuntime) -> Result<(), Complaint> {
+    refuse_each(rt.alloc(), 3, &load_three)
+}
+
+#[test]
+fn copying(rt: HostRuntime) -> Result<(), Complaint> {
+    refuse_each(rt.alloc(), 5, &copy_three)
 }
 
 #[test]

@@ -23,7 +23,8 @@ const LISTING: &str =
 
 fn is_listed<A: Allocator>(global: Global, file: &TwsFile<A>) -> bool {
     let mut out = Vec::new(global);
-    show(global, file, true, &mut out).is_ok() && out.as_slice() == LISTING.as_bytes()
+    let is_shown = show(global, file, true, &mut out).is_ok();
+    is_shown && out.as_slice() == LISTING.as_bytes()
 }
 
 fn read(refusing: &Refusing<Global>) -> Outcome {
@@ -70,14 +71,19 @@ fn fault_of<A: Allocator + Copy>(alloc: A, bytes: &[u8]) -> Option<FileFault> {
     }
 }
 
+// The same of that file, and how many requests for memory are made, of which the second is refused.
+fn read_cut_record(global: Global) -> (Option<FileFault>, u64) {
+    let refusing = Refusing::new(global, 2);
+    let fault = fault_of(&refusing, CUT);
+    (fault, refusing.requests())
+}
+
 // Nothing is allocated for a size field before the bytes that it announces have arrived: the one request is for the
 // bytes that arrived and are not read yet.
 #[test]
 fn a_cut_record_of_the_greatest_size(rt: HostRuntime) {
-    let refusing = Refusing::new(rt.alloc(), 2);
-    let fault = fault_of(&refusing, CUT);
     assert_eq!(rt;
-        (fault, refusing.requests()),
+        read_cut_record(rt.alloc()),
         (Some(FileFault::ShortRecord(8)), 1)
     );
 }
@@ -137,16 +143,20 @@ fn push_cut<A: Allocator + Copy>(reader: &mut Reader<A>) -> Result<(), FileFault
     push_again(reader, rest)
 }
 
-// Reads the cut file so.
-fn read_cut_in_two(refusing: &Refusing<Global>) -> Result<(), FileFault> {
-    let mut reader = Reader::new(refusing);
-    push_cut(&mut reader)?;
-    let _file = reader.finish()?;
-    Ok(())
+// Why a reader has read no file; `None` if it has.
+fn fault_at_end<A: Allocator + Copy>(reader: Reader<A>) -> Option<FileFault> {
+    match reader.finish() {
+        Ok(_file) => None,
+        Err(fault) => Some(fault),
+    }
 }
 
+// Reads the cut file so. The fault is that of a push, or else that at the end.
 fn read_cut(refusing: &Refusing<Global>) -> Outcome {
-    Outcome::of(read_cut_in_two(refusing) == Err(FileFault::MoveCut(29)))
+    let mut reader = Reader::new(refusing);
+    let pushed = push_cut(&mut reader);
+    let at_end = fault_at_end(reader);
+    Outcome::of(pushed.err().or(at_end) == Some(FileFault::MoveCut(29)))
 }
 
 // The first request is made in the first push. If it is refused, that push succeeds when it is made again.

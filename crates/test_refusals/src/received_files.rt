@@ -28,7 +28,12 @@ fn size(n: u16) -> usize
 
 // Whether these are the bytes of the blocks from `first` on.
 fn are_blocks(bytes: &[u8], first: usize) -> bool {
-    bytes.iter().enumerate().all(|(i, b)| usize::from(*b) == (i / BLOCK_SIZE).wrapping_add(first))
+    for (i, byte) in bytes.iter().enumerate() {
+        if usize::from(*byte) != (i / BLOCK_SIZE).wrapping_add(first) {
+            return false;
+        }
+    }
+    true
 }
 
 fn ack(n: u16) -> [u8; 4] {
@@ -113,9 +118,15 @@ fn has_whole<A: Allocator + Copy>(receiver: &mut Receiver<A>) -> bool {
     }
 }
 
+// Whether the file is taken so, and is whole.
+fn receives<A: Allocator + Copy>(receiver: &mut Receiver<A>, refused: &Cell<u16>) -> bool {
+    let takes_all = takes_all(receiver, refused);
+    let has_whole = has_whole(receiver);
+    takes_all && has_whole
+}
+
 fn receive(refusing: &Refusing<Global>, refused: &Cell<u16>) -> Outcome {
-    let mut receiver = Receiver::new(refusing);
-    Outcome::of(takes_all(&mut receiver, refused) && has_whole(&mut receiver))
+    Outcome::of(receives(&mut Receiver::new(refusing), refused))
 }
 
 // The last request for memory is made as block 33 begins a chunk.
@@ -206,20 +217,31 @@ fn ends_with_nothing<A: Allocator + Copy>(global: Global, receiver: &mut Receive
 
 // Whether the calls on a receiver are right, and how many requests for memory were made before the first block, after
 // those that fill a chunk, and at the end.
-fn receive_a_chunk(refusing: &Refusing<Global>) -> ([bool; 3], u64, u64, u64) {
-    let mut receiver = Receiver::new(refusing);
-    let waits = waits_for_the_first_block(&mut receiver);
+fn receive_a_chunk<A: Allocator + Copy>(
+    refusing: &Refusing<Global>,
+    receiver: &mut Receiver<A>,
+) -> ([bool; 3], u64, u64, u64) {
+    let waits = waits_for_the_first_block(receiver);
     let before = refusing.requests();
-    let takes = takes_a_chunk(&mut receiver);
+    let takes = takes_a_chunk(receiver);
     let after = refusing.requests();
-    let ends = ends_with_nothing(refusing.inner, &mut receiver);
+    let ends = ends_with_nothing(refusing.inner, receiver);
     ([waits, takes, ends], before, after, refusing.requests())
+}
+
+// The same with a new receiver.
+fn receive_at_new(refusing: &Refusing<Global>) -> ([bool; 3], u64, u64, u64) {
+    receive_a_chunk(refusing, &mut Receiver::new(refusing))
+}
+
+// The same with an allocator that refuses nothing.
+fn receive_with_memory(global: Global) -> ([bool; 3], u64, u64, u64) {
+    receive_at_new(&Refusing::new(global, 0))
 }
 
 // No other call allocates, nor does an empty block after a full chunk.
 #[test]
 fn calls_without_memory(rt: HostRuntime) {
-    let refusing: Refusing<Global> = Refusing::new(rt.alloc(), 0);
-    let (are_right, before, after, ended) = receive_a_chunk(&refusing);
+    let (are_right, before, after, ended) = receive_with_memory(rt.alloc());
     assert_eq!(rt; (are_right, before, ended), ([true; 3], 0, after));
 }

@@ -4,12 +4,12 @@ use archive_memory::MemoryKeeper;
 use archive_world::{
     Datagram, Event, Op, OpKind, Opening, Outcome as Left, SERVER, WorldFault, replay,
 };
-use refusing::{Outcome, Refusing, refuse_each};
+use refusing::{Complaint, Outcome, Refusing, refuse_each};
 use std::alloc::{AllocError, Allocator, Global};
 use std::cell::Cell;
 use test_samples::{
     ACK_0, ACK_1, ALICE, DATA_HUNDRED, EMPTY_LYNX, EMPTY_MS, HUNDRED, NOT_KEPT, OUT_OF_MEMORY,
-    UNKNOWN_TRANSFER, WRQ, at,
+    PEER, SECOND_PEER, UNKNOWN_TRANSFER, WRQ,
 };
 use tftp_packet::Endpoint;
 use tws_file::Bytes;
@@ -69,6 +69,14 @@ fn put_events<A: Allocator + Copy>(
 }
 
 // ---- what is left
+
+// What was refused in any run, besides the allocations of the replay itself.
+#[derive(Drop)]
+struct Seen {
+    request: Cell<bool>,
+    keep: Cell<bool>,
+    load: Cell<bool>,
+}
 
 // A datagram: where it comes from, where it goes to, and its bytes.
 type Sent<'a> = (Endpoint, Endpoint, &'a [u8]);
@@ -144,8 +152,8 @@ fn judge_refused<A: Allocator>(left: &Left<A>) -> Outcome {
 fn judge_served<A: Allocator>(left: &Left<A>) -> Outcome {
     let sent: [Sent<'_>; 3] = [
         (ALICE, SERVER, WRQ),
-        (at(4000), ALICE, ACK_0),
-        (ALICE, at(4000), DATA_HUNDRED),
+        (PEER, ALICE, ACK_0),
+        (ALICE, PEER, DATA_HUNDRED),
     ];
     let is_sent = were_sent(left.datagrams.as_slice(), &sent);
     let is_opened = were_opened(left.opened.as_slice(), &[4000]);
@@ -153,44 +161,12 @@ fn judge_served<A: Allocator>(left: &Left<A>) -> Outcome {
     Outcome::of(is_sent && is_opened && has_nothing)
 }
 
-fn judge_request<A: Allocator>(left: &Left<A>, unopened: &Cell<bool>) -> Outcome {
+fn judge_request<A: Allocator>(left: &Left<A>, seen: &Seen) -> Outcome {
     if left.opened.is_empty() {
-        unopened.set(true);
+        seen.request.set(true);
         return judge_refused(left);
     }
     judge_served(left)
-}
-
-fn replay_request<A: Allocator + Copy>(
-    global: Global,
-    alloc: A,
-    events: &[Event<A>],
-    unopened: &Cell<bool>,
-) -> Outcome {
-    match replay(alloc, &mut MemoryKeeper::new(global), events) {
-        Ok(left) => judge_request(&left, unopened),
-        Err(fault) => Outcome::refused(fault == WorldFault::Memory),
-    }
-}
-
-fn request(refusing: &Refusing<Global>, unopened: &Cell<bool>) -> Outcome {
-    match put_events(refusing, &REQUEST) {
-        Some(events) => replay_request(refusing.inner, refusing, &events, unopened),
-        None => Outcome::OutOfMemory,
-    }
-}
-
-// A request and its answer: the replay is out of memory, or the request is refused, or everything is as it is with
-// ample memory.
-#[test]
-fn a_request_in_a_replay(rt: HostRuntime) {
-    let unopened = Cell::new(false);
-    let done = refuse_each(
-        rt.alloc(),
-        4,
-        &|refusing: &Refusing<Global>| request(refusing, &unopened),
-    );
-    assert_eq!(rt; (done, unopened.get()), (Ok(()), true));
 }
 
 // ---- a request that arrives twice
@@ -201,11 +177,11 @@ const TWICE: [(usize, u16); 7] = [(0, 4000), (0, 4001), (1, 0), (2, 0), (4, 0), 
 fn were_sent_twice<A: Allocator>(datagrams: &[Datagram<A>], last: &[u8]) -> bool {
     let sent: [Sent<'_>; 6] = [
         (ALICE, SERVER, WRQ),
-        (at(4000), ALICE, ACK_0),
-        (at(4001), ALICE, ACK_0),
-        (ALICE, at(4000), DATA_HUNDRED),
-        (ALICE, at(4001), UNKNOWN_TRANSFER),
-        (at(4000), ALICE, last),
+        (PEER, ALICE, ACK_0),
+        (SECOND_PEER, ALICE, ACK_0),
+        (ALICE, PEER, DATA_HUNDRED),
+        (ALICE, SECOND_PEER, UNKNOWN_TRANSFER),
+        (PEER, ALICE, last),
     ];
     were_sent(datagrams, &sent)
 }
@@ -222,41 +198,14 @@ fn judge_twice<A: Allocator>(left: &Left<A>) -> Outcome {
     Outcome::of(has_file(left, &[ALICE]) && were_sent_twice(datagrams, ACK_1))
 }
 
-fn replay_twice<A: Allocator + Copy>(
-    global: Global,
-    alloc: A,
-    events: &[Event<A>],
-    unopened: &Cell<bool>,
-) -> Outcome {
-    match replay(alloc, &mut MemoryKeeper::new(global), events) {
-        Ok(left) => judge_twice(&left),
-        // One of the requests is refused, so there are too few datagrams.
-        Err(WorldFault::BadEvent(5)) => {
-            unopened.set(true);
-            Outcome::OutOfMemory
-        }
-        Err(fault) => Outcome::refused(fault == WorldFault::Memory),
+// What such a replay comes to that failed.
+fn judge_fault_twice(fault: WorldFault, seen: &Seen) -> Outcome {
+    // One of the requests is refused, so there are too few datagrams.
+    if fault == WorldFault::BadEvent(5) {
+        seen.request.set(true);
+        return Outcome::OutOfMemory;
     }
-}
-
-fn request_twice(refusing: &Refusing<Global>, unopened: &Cell<bool>) -> Outcome {
-    match put_events(refusing, &TWICE) {
-        Some(events) => replay_twice(refusing.inner, refusing, &events, unopened),
-        None => Outcome::OutOfMemory,
-    }
-}
-
-// A request that is refused is answered, and no block is sent to a second transfer: a later event is then about a
-// datagram that was not sent.
-#[test]
-fn a_request_that_comes_twice_in_a_replay(rt: HostRuntime) {
-    let unopened = Cell::new(false);
-    let done = refuse_each(
-        rt.alloc(),
-        8,
-        &|refusing: &Refusing<Global>| request_twice(refusing, &unopened),
-    );
-    assert_eq!(rt; (done, unopened.get()), (Ok(()), true));
+    Outcome::refused(fault == WorldFault::Memory)
 }
 
 // ---- a put, and then a restart
@@ -267,25 +216,17 @@ const WHOLE: [(usize, u16); 3] = [(0, 4000), (1, 0), (2, 0)];
 fn were_sent_once<A: Allocator>(datagrams: &[Datagram<A>], last: &[u8]) -> bool {
     let sent: [Sent<'_>; 4] = [
         (ALICE, SERVER, WRQ),
-        (at(4000), ALICE, ACK_0),
-        (ALICE, at(4000), DATA_HUNDRED),
-        (at(4000), ALICE, last),
+        (PEER, ALICE, ACK_0),
+        (ALICE, PEER, DATA_HUNDRED),
+        (PEER, ALICE, last),
     ];
     were_sent(datagrams, &sent)
 }
 
-// What was refused in any run, besides the allocations of the replay itself.
-#[derive(Drop)]
-struct Seen {
-    request: Cell<bool>,
-    keep: Cell<bool>,
-    load: Cell<bool>,
-}
-
 // What a put leaves whose last block was refused, or whose collection was not kept: nothing, also with the keeper.
-fn judge_unkept<A: Allocator + Copy>(
+fn judge_unkept<A: Allocator, B: Allocator + Copy>(
     left: &Left<A>,
-    keeper: &MemoryKeeper<A>,
+    keeper: &MemoryKeeper<B>,
     seen: &Seen,
 ) -> Outcome {
     let datagrams = left.datagrams.as_slice();
@@ -298,9 +239,9 @@ fn judge_unkept<A: Allocator + Copy>(
 }
 
 // What a put and a restart leave, also with the keeper. The last ACK is never delivered.
-fn judge_left<A: Allocator + Copy>(
+fn judge_restarted<A: Allocator, B: Allocator + Copy>(
     left: &Left<A>,
-    keeper: &MemoryKeeper<A>,
+    keeper: &MemoryKeeper<B>,
     seen: &Seen,
 ) -> Outcome {
     if !were_opened(left.opened.as_slice(), &[4000]) {
@@ -313,8 +254,8 @@ fn judge_left<A: Allocator + Copy>(
     Outcome::of(is_sent && has_file(left, &[]) && keeps_file(keeper))
 }
 
-// What a replay of these events comes to that failed.
-fn judge_fault<A: Allocator + Copy>(
+// What such a replay comes to that failed.
+fn judge_fault_restarted<A: Allocator + Copy>(
     fault: WorldFault,
     keeper: &MemoryKeeper<A>,
     seen: &Seen,
@@ -335,15 +276,54 @@ fn judge_fault<A: Allocator + Copy>(
     }
 }
 
-fn replay_with<A: Allocator + Copy>(
+// ---- the runs
+
+// What is replayed.
+#[derive(Clone, Copy)]
+enum Run {
+    Request,
+    Twice,
+    Restart,
+}
+
+// What a run leaves, also with the keeper.
+fn judge_left<A: Allocator, B: Allocator + Copy>(
+    run: Run,
+    left: &Left<A>,
+    keeper: &MemoryKeeper<B>,
+    seen: &Seen,
+) -> Outcome {
+    match run {
+        Run::Request => judge_request(left, seen),
+        Run::Twice => judge_twice(left),
+        Run::Restart => judge_restarted(left, keeper, seen),
+    }
+}
+
+// What a run comes to that failed.
+fn judge_fault<A: Allocator + Copy>(
+    run: Run,
+    fault: WorldFault,
+    keeper: &MemoryKeeper<A>,
+    seen: &Seen,
+) -> Outcome {
+    match run {
+        Run::Request => Outcome::refused(fault == WorldFault::Memory),
+        Run::Twice => judge_fault_twice(fault, seen),
+        Run::Restart => judge_fault_restarted(fault, keeper, seen),
+    }
+}
+
+fn replay_with<A: Allocator + Copy, B: Allocator + Copy>(
     alloc: A,
-    keeper: &mut MemoryKeeper<A>,
+    keeper: &mut MemoryKeeper<B>,
     events: &[Event<A>],
+    run: Run,
     seen: &Seen,
 ) -> Outcome {
     match replay(alloc, keeper, events) {
-        Ok(left) => judge_left(&left, keeper, seen),
-        Err(fault) => judge_fault(fault, keeper, seen),
+        Ok(left) => judge_left(run, &left, keeper, seen),
+        Err(fault) => judge_fault(run, fault, keeper, seen),
     }
 }
 
@@ -352,32 +332,76 @@ fn restart<A: Allocator + Copy>(alloc: A, events: &mut Vec<Event<A>, A>, seen: &
     if !add(events, Event::Restart) {
         return Outcome::OutOfMemory;
     }
-    replay_with(alloc, &mut MemoryKeeper::new(alloc), events, seen)
+    replay_with(
+        alloc,
+        &mut MemoryKeeper::new(alloc),
+        events,
+        Run::Restart,
+        seen,
+    )
 }
 
-fn put_and_restart(refusing: &Refusing<Global>, seen: &Seen) -> Outcome {
-    match put_events(refusing, &WHOLE) {
-        Some(mut events) => restart(refusing, &mut events, seen),
+// Replays these events, to which a run with a restart adds that.
+fn replay_run<A: Allocator + Copy>(
+    global: Global,
+    alloc: A,
+    events: &mut Vec<Event<A>, A>,
+    run: Run,
+    seen: &Seen,
+) -> Outcome {
+    match run {
+        Run::Restart => restart(alloc, events, seen),
+        run => replay_with(alloc, &mut MemoryKeeper::new(global), events, run, seen),
+    }
+}
+
+fn put_and_replay(refusing: &Refusing<Global>, run: Run, seen: &Seen) -> Outcome {
+    let deliveries = match run {
+        Run::Request => REQUEST.as_slice(),
+        Run::Twice => TWICE.as_slice(),
+        Run::Restart => WHOLE.as_slice(),
+    };
+    match put_events(refusing, deliveries) {
+        Some(mut events) => replay_run(refusing.inner, refusing, &mut events, run, seen),
         None => Outcome::OutOfMemory,
     }
 }
 
-// After the restart the server has the file if it was taken, and nothing if it was not.
-#[test]
-fn a_put_and_a_restart_in_a_replay(rt: HostRuntime) {
+// Makes a run with each request for memory refused in turn. Returns also whether a request, a keep and a load were
+// refused in any of them.
+fn refuse_each_of(global: Global, least: u64, run: Run) -> (Result<(), Complaint>, [bool; 3]) {
     let seen = Seen {
         request: Cell::new(false),
         keep: Cell::new(false),
         load: Cell::new(false),
     };
     let done = refuse_each(
-        rt.alloc(),
-        8,
-        &|refusing: &Refusing<Global>| put_and_restart(refusing, &seen),
+        global,
+        least,
+        &|refusing: &Refusing<Global>| put_and_replay(refusing, run, &seen),
     );
-    assert_eq!(rt; done, Ok(()));
-    assert_eq!(rt;
-        (seen.request.get(), seen.keep.get(), seen.load.get()),
-        (true, true, true)
-    );
+    (done, [seen.request.get(), seen.keep.get(), seen.load.get()])
+}
+
+// A request and its answer: the replay is out of memory, or the request is refused, or everything is as it is with
+// ample memory.
+#[test]
+fn a_request_in_a_replay(rt: HostRuntime) {
+    let (done, [request, _, _]) = refuse_each_of(rt.alloc(), 4, Run::Request);
+    assert_eq!(rt; (done, request), (Ok(()), true));
+}
+
+// A request that is refused is answered, and no block is sent to a second transfer: a later event is then about a
+// datagram that was not sent.
+#[test]
+fn a_request_that_comes_twice_in_a_replay(rt: HostRuntime) {
+    let (done, [request, _, _]) = refuse_each_of(rt.alloc(), 8, Run::Twice);
+    assert_eq!(rt; (done, request), (Ok(()), true));
+}
+
+// After the restart the server has the file if it was taken, and nothing if it was not.
+#[test]
+fn a_put_and_a_restart_in_a_replay(rt: HostRuntime) {
+    let (done, refused) = refuse_each_of(rt.alloc(), 8, Run::Restart);
+    assert_eq!(rt; (done, refused), (Ok(()), [true; 3]));
 }

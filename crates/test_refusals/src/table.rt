@@ -1,8 +1,8 @@
 // The server's table: the block that completes a file, a keeper, and a start, with each allocation refused in turn.
 use crate::answers::{goes, has_bytes, has_text, keeps_file, was_kept};
-use crate::table_steps::{REQUEST, ask, handle, is_let_go, open, takes_block};
-use crate::tables::{Deed, outcome_of};
-use archive_memory::{Kept, MemoryKeeper};
+use crate::table_steps::{Asked, REQUEST, ask, is_let_go, open, takes_block};
+use crate::tables::{Deed, refuse_each_of};
+use archive_memory::{Kept, MemoryKeeper, NoKeeper};
 use archive_table::{KeepFault, Keeper, LoadFault, Step, Table, Taken};
 use refusing::{Complaint, Outcome, Refusing, refuse_each};
 use std::alloc::{AllocError, Allocator, Global};
@@ -39,7 +39,7 @@ fn judge_taken<A: Allocator + Copy>(global: Global, table: &Table<A>, step: &Ste
 
 // Passes that block to its open transfer.
 fn give_file<A: Allocator + Copy>(global: Global, table: &mut Table<A>) -> Outcome {
-    let step = handle(table, 4000, ALICE, DATA_HUNDRED);
+    let step = table.on_datagram(&mut NoKeeper, 4000, ALICE, DATA_HUNDRED);
     judge_taken(global, table, &step)
 }
 
@@ -65,74 +65,46 @@ pub(crate) fn take_first<A: Allocator + Copy>(global: Global, table: &mut Table<
     }
 }
 
-fn take_one(refusing: &Refusing<Global>) -> Outcome {
-    outcome_of(refusing, Deed::Take)
-}
-
 // The block that completes a file.
 #[test]
 fn the_last_block(rt: HostRuntime) -> Result<(), Complaint> {
-    refuse_each(rt.alloc(), 2, &take_one)
+    refuse_each_of(rt.alloc(), 2, Deed::Take).0
 }
 
-// Whether a request to read is answered with the file in one block, from a new transfer at port 4001.
-fn is_served<A: Allocator + Copy>(table: &Table<A>, step: &Step<A>) -> bool {
-    let is_sent = goes(&step.out, 4001, BOB, DATA_HUNDRED);
-    let live = table.live();
-    step.opened && is_sent && live == 2
-}
-
-// Whether a request to read is refused as out of memory, with no transfer opened.
-fn is_turned_down<A: Allocator + Copy>(table: &Table<A>, step: &Step<A>) -> bool {
-    let is_sent = goes(&step.out, REQUEST, BOB, OUT_OF_MEMORY);
-    let (live, is_live) = (table.live(), table.is_live(4001));
-    is_sent && !step.opened && !is_live && live == 1
-}
-
-// Whether a request for the collection is served now.
+// Whether a request for the collection, which is the file, is served now, from a new transfer at port 4001.
 fn serves<A: Allocator + Copy>(table: &mut Table<A>) -> bool {
-    match ask(table, 4001, BOB, RRQ_LYNX) {
-        Some(step) => is_served(table, &step),
-        None => false,
+    match ask(table, 4001, BOB, RRQ_LYNX, DATA_HUNDRED) {
+        Asked::Opened(is_sent) => is_sent && table.live() == 2,
+        _ => false,
     }
 }
 
-// Whether a request that was refused has changed nothing: the other transfer acknowledges its block again, and the
-// request is served when it is made again.
-fn is_served_later<A: Allocator + Copy>(
-    global: Global,
-    table: &mut Table<A>,
-    refused: &Step<A>,
-) -> bool {
-    is_turned_down(table, refused)
-        && has_texts(global, table, HUNDRED)
-        && takes_block(table, DATA_HUNDRED, ACK_1, false)
-        && serves(table)
+// Whether a request that was refused has changed nothing: no transfer is opened, the other one acknowledges its block
+// again, and the request is served when it is made again.
+fn is_served_later<A: Allocator + Copy>(global: Global, table: &mut Table<A>) -> bool {
+    let (live, is_live) = (table.live(), table.is_live(4001));
+    let has_texts = has_texts(global, table, HUNDRED);
+    let is_acked = takes_block(table, DATA_HUNDRED, ACK_1, false);
+    let is_served = serves(table);
+    live == 1 && !is_live && has_texts && is_acked && is_served
 }
 
-// What a request for the collection, which is the file, comes to whose step this is. Counts one that was refused.
-fn judge_read<A: Allocator + Copy>(
-    global: Global,
-    table: &mut Table<A>,
-    step: &Step<A>,
-    refused: &Cell<u64>,
-) -> Outcome {
-    if step.opened {
-        return Outcome::of(is_served(table, step) && has_texts(global, table, HUNDRED));
-    }
-    refused.set(refused.get().saturating_add(1));
-    Outcome::refused(is_served_later(global, table, step))
-}
-
-// Requests the collection.
+// Requests the collection, which is the file. Counts a request that is refused.
 fn read_file<A: Allocator + Copy>(
     global: Global,
     table: &mut Table<A>,
     refused: &Cell<u64>,
 ) -> Outcome {
-    match ask(table, 4001, BOB, RRQ_LYNX) {
-        Some(step) => judge_read(global, table, &step, refused),
-        None => Outcome::Wrong,
+    match ask(table, 4001, BOB, RRQ_LYNX, DATA_HUNDRED) {
+        Asked::Opened(is_sent) => {
+            let has_texts = has_texts(global, table, HUNDRED);
+            Outcome::of(is_sent && has_texts && table.live() == 2)
+        }
+        Asked::Refused => {
+            refused.set(refused.get().saturating_add(1));
+            Outcome::refused(is_served_later(global, table))
+        }
+        Asked::Other => Outcome::Wrong,
     }
 }
 
@@ -148,20 +120,17 @@ pub(crate) fn take_and_read<A: Allocator + Copy>(
     }
 }
 
-fn read_one(refusing: &Refusing<Global>, refused: &Cell<u64>) -> Outcome {
-    outcome_of(refusing, Deed::Read(refused))
-}
-
 // The collection is not empty, so that what is sent to a reader has to be allocated.
 #[test]
 fn reading_what_was_taken(rt: HostRuntime) {
-    let refused = Cell::new(0);
-    let done = refuse_each(
-        rt.alloc(),
-        3,
-        &|refusing: &Refusing<Global>| read_one(refusing, &refused),
-    );
-    assert_eq!(rt; (done, refused.get() >= 1), (Ok(()), true));
+    let (done, refused) = refuse_each_of(rt.alloc(), 3, Deed::Read);
+    assert_eq!(rt; (done, refused >= 1), (Ok(()), true));
+}
+
+// Whether a table without transfers has this text.
+fn has_alone<A: Allocator + Copy>(global: Global, table: &Table<A>, lynx: &[u8]) -> bool {
+    let has_texts = has_texts(global, table, lynx);
+    has_texts && table.live() == 0
 }
 
 // Whether a server that starts with what the keeper holds has this text.
@@ -171,7 +140,7 @@ fn starts_with<A: Allocator + Copy>(
     lynx: &[u8],
 ) -> bool {
     match Table::load(global, REQUEST, keeper) {
-        Ok(table) => table.live() == 0 && has_texts(global, &table, lynx),
+        Ok(table) => has_alone(global, &table, lynx),
         Err(_fault) => false,
     }
 }
@@ -194,9 +163,10 @@ fn have_nothing<A: Allocator + Copy, B: Allocator + Copy>(
     table: &Table<A>,
     keeper: &mut MemoryKeeper<B>,
 ) -> bool {
-    has_texts(global, table, EMPTY_LYNX)
-        && keeper.kept().is_empty()
-        && starts_with(global, keeper, EMPTY_LYNX)
+    let has_texts = has_texts(global, table, EMPTY_LYNX);
+    let is_empty = keeper.kept().is_empty();
+    let is_found = starts_with(global, keeper, EMPTY_LYNX);
+    has_texts && is_empty && is_found
 }
 
 // Whether the last block has closed its transfer, and nothing was taken. Counts an ERROR `not kept`.
@@ -261,21 +231,12 @@ pub(crate) fn keep_with<A: Allocator + Copy>(
     open_and_keep(refusing.inner, table, &mut keeper, not_kept)
 }
 
-fn keep_one(refusing: &Refusing<Global>, not_kept: &Cell<u64>) -> Outcome {
-    outcome_of(refusing, Deed::Keep(not_kept))
-}
-
 // The block that completes a file, with a keeper that has the same allocator: the file is both taken and kept, or
 // neither. What a restarted server finds is what was taken.
 #[test]
 fn the_last_block_kept(rt: HostRuntime) {
-    let not_kept = Cell::new(0);
-    let done = refuse_each(
-        rt.alloc(),
-        4,
-        &|refusing: &Refusing<Global>| keep_one(refusing, &not_kept),
-    );
-    assert_eq!(rt; (done, not_kept.get() >= 2), (Ok(()), true));
+    let (done, not_kept) = refuse_each_of(rt.alloc(), 4, Deed::Keep);
+    assert_eq!(rt; (done, not_kept >= 2), (Ok(()), true));
 }
 
 // Whether a start with what the keeper has fails as out of memory. Counts a failure in the keeper.
@@ -302,15 +263,24 @@ fn judge_start<A: Allocator + Copy>(
     Outcome::of(has_texts(global, table, HUNDRED) && keeps_file(keeper))
 }
 
+// What a start comes to that failed so.
+fn judge_refused_start(
+    global: Global,
+    fault: LoadFault,
+    keeper: &mut MemoryKeeper,
+    in_keeper: &Cell<u64>,
+) -> Outcome {
+    let is_refused = is_refused(fault, in_keeper);
+    let keeps_file = keeps_file(keeper);
+    let is_found = starts_with(global, keeper, HUNDRED);
+    Outcome::refused(is_refused && keeps_file && is_found)
+}
+
 // A start with what a keeper has, which is the file.
 fn start(refusing: &Refusing<Global>, keeper: &mut MemoryKeeper, in_keeper: &Cell<u64>) -> Outcome {
     match Table::load(refusing, REQUEST, keeper) {
         Ok(table) => judge_start(refusing.inner, &table, keeper),
-        Err(fault) => Outcome::refused(
-            is_refused(fault, in_keeper)
-                && keeps_file(keeper)
-                && starts_with(refusing.inner, keeper, HUNDRED),
-        ),
+        Err(fault) => judge_refused_start(refusing.inner, fault, keeper, in_keeper),
     }
 }
 

@@ -1,26 +1,83 @@
-// Steps of the server's table, and whether they are right.
+// Steps of the server's table, and what they do.
 use crate::answers::goes;
 use archive_memory::NoKeeper;
 use archive_table::{Step, Table};
 use refusing::Outcome;
 use std::alloc::Allocator;
-use test_samples::{ALICE, OUT_OF_MEMORY, WRQ};
+use test_samples::{ACK_0, ALICE, OUT_OF_MEMORY, WRQ};
 use tftp_packet::Endpoint;
 use tws_file::Ruleset;
 
 pub(crate) const REQUEST: u16 = 6969;
 
-// Passes a request to a table, if the spare port is free; `None` if it is not.
+// What a request does.
+#[derive(Clone, Copy)]
+pub(crate) enum Asked {
+    // It opens a transfer, which sends the expected answer or another one.
+    Opened(bool),
+    // It is refused as out of memory.
+    Refused,
+    Other,
+}
+
+fn asked_by<A: Allocator + Copy>(
+    step: &Step<A>,
+    spare: u16,
+    from: Endpoint,
+    answer: &[u8],
+) -> Asked {
+    if step.opened {
+        return Asked::Opened(goes(&step.out, spare, from, answer));
+    }
+    if goes(&step.out, REQUEST, from, OUT_OF_MEMORY) {
+        Asked::Refused
+    } else {
+        Asked::Other
+    }
+}
+
+// Passes a request to a table, if the spare port is free.
 pub(crate) fn ask<A: Allocator + Copy>(
     table: &mut Table<A>,
     spare: u16,
     from: Endpoint,
     bytes: &[u8],
-) -> Option<Step<A>> {
+    answer: &[u8],
+) -> Asked {
     if spare == table.request() || table.is_live(spare) {
-        return None;
+        return Asked::Other;
     }
-    Some(table.on_request(spare, from, bytes))
+    let step = table.on_request(spare, from, bytes);
+    asked_by(&step, spare, from, answer)
+}
+
+// Opens a transfer of the client at port 4000, to write. One that is refused opens none.
+pub(crate) fn open<A: Allocator + Copy>(table: &mut Table<A>) -> Outcome {
+    let live = table.live();
+    match ask(table, 4000, ALICE, WRQ, ACK_0) {
+        Asked::Opened(is_acked) => Outcome::of(is_acked),
+        Asked::Refused => Outcome::refused(table.live() == live),
+        Asked::Other => Outcome::Wrong,
+    }
+}
+
+// What a step of a transfer does.
+#[derive(Clone, Copy)]
+pub(crate) struct Done {
+    // Whether it sends the expected bytes, and whether nothing.
+    sends: bool,
+    pub(crate) is_silent: bool,
+    takes: bool,
+    pub(crate) closes: bool,
+}
+
+fn done_by<A: Allocator + Copy>(step: &Step<A>, port: u16, to: Endpoint, bytes: &[u8]) -> Done {
+    Done {
+        sends: goes(&step.out, port, to, bytes),
+        is_silent: step.out.is_none(),
+        takes: step.taken.is_some(),
+        closes: step.closed,
+    }
 }
 
 // Passes a datagram to a table whose keeper keeps nothing.
@@ -29,36 +86,32 @@ pub(crate) fn handle<A: Allocator + Copy>(
     port: u16,
     from: Endpoint,
     bytes: &[u8],
-) -> Step<A> {
-    table.on_datagram(&mut NoKeeper, port, from, bytes)
+    answer: &[u8],
+) -> Done {
+    let step = table.on_datagram(&mut NoKeeper, port, from, bytes);
+    done_by(&step, port, from, answer)
 }
 
-// What an open comes to whose step this is. One that is refused leaves this many transfers live.
-fn judge_open<A: Allocator + Copy>(table: &Table<A>, live: usize, step: &Step<A>) -> Outcome {
-    if step.opened {
-        return Outcome::Right;
-    }
-    Outcome::refused(goes(&step.out, REQUEST, ALICE, OUT_OF_MEMORY) && table.live() == live)
+// Lets a transfer time out.
+pub(crate) fn wait<A: Allocator + Copy>(
+    table: &mut Table<A>,
+    port: u16,
+    to: Endpoint,
+    bytes: &[u8],
+) -> Done {
+    let step = table.on_timeout(port);
+    done_by(&step, port, to, bytes)
 }
 
-// Opens a transfer of the client at port 4000, to write.
-pub(crate) fn open<A: Allocator + Copy>(table: &mut Table<A>) -> Outcome {
-    let live = table.live();
-    match ask(table, 4000, ALICE, WRQ) {
-        Some(step) => judge_open(table, live, &step),
-        None => Outcome::Wrong,
-    }
-}
-
-// Whether a block to that transfer is acknowledged so, and completes a file or does not.
+// Whether a block to the transfer at port 4000 is acknowledged so, and completes a file or does not.
 pub(crate) fn takes_block<A: Allocator + Copy>(
     table: &mut Table<A>,
     data: &[u8],
     ack: &[u8],
     is_last: bool,
 ) -> bool {
-    let step = handle(table, 4000, ALICE, data);
-    step.taken.is_some() == is_last && goes(&step.out, 4000, ALICE, ack)
+    let done = handle(table, 4000, ALICE, data, ack);
+    done.takes == is_last && done.sends
 }
 
 // Whether a datagram to a transfer is answered so.
@@ -69,8 +122,7 @@ pub(crate) fn answers<A: Allocator + Copy>(
     bytes: &[u8],
     answer: &[u8],
 ) -> bool {
-    let step = handle(table, port, from, bytes);
-    goes(&step.out, port, from, answer)
+    handle(table, port, from, bytes, answer).sends
 }
 
 // Whether a transfer sends this at a time-out.
@@ -80,8 +132,7 @@ pub(crate) fn repeats<A: Allocator + Copy>(
     to: Endpoint,
     bytes: &[u8],
 ) -> bool {
-    let step = table.on_timeout(port);
-    goes(&step.out, port, to, bytes)
+    wait(table, port, to, bytes).sends
 }
 
 // Whether no transfer is live, and the Lynx collection is empty.

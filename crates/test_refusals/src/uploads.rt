@@ -1,6 +1,6 @@
 // An upload of two blocks to the server's table: repeated blocks and time-outs do not allocate.
 use crate::blocks::Blocks;
-use crate::table_steps::{open, repeats, takes_block};
+use crate::table_steps::{open, repeats, takes_block, wait};
 use crate::tables::{Deed, is_right};
 use archive_table::Table;
 use refusing::{Outcome, Refusing};
@@ -21,16 +21,16 @@ fn repeats_ack<A: Allocator + Copy>(
     file: &Blocks,
 ) -> bool {
     let before = refusing.requests();
-    takes_block(table, &file.first, ACK_1, false)
-        && repeats(table, 4000, ALICE, ACK_1)
-        && refusing.requests() == before
+    let is_acked = takes_block(table, &file.first, ACK_1, false);
+    let is_repeated = repeats(table, 4000, ALICE, ACK_1);
+    is_acked && is_repeated && refusing.requests() == before
 }
 
 // Whether nothing is sent at a time-out, and the next one ends the transfer.
 fn ends<A: Allocator + Copy>(table: &mut Table<A>) -> bool {
-    let first = table.on_timeout(4000);
-    let second = table.on_timeout(4000);
-    first.out.is_none() && second.closed
+    let first = wait(table, 4000, ALICE, b"");
+    let second = wait(table, 4000, ALICE, b"");
+    first.is_silent && second.closes
 }
 
 // Whether a taken file's last block is acknowledged again and the transfer then ends, without a request for memory.
@@ -40,7 +40,9 @@ fn dallies<A: Allocator + Copy>(
     file: &Blocks,
 ) -> bool {
     let before = refusing.requests();
-    takes_block(table, &file.second, ACK_2, false) && ends(table) && refusing.requests() == before
+    let is_acked = takes_block(table, &file.second, ACK_2, false);
+    let has_ended = ends(table);
+    is_acked && has_ended && refusing.requests() == before
 }
 
 // Whether an upload with such repetitions takes the file.
@@ -49,16 +51,16 @@ pub(crate) fn uploads<A: Allocator + Copy>(
     table: &mut Table<A>,
     file: &Blocks,
 ) -> bool {
-    open(table) == Outcome::Right
-        && waits(refusing, table)
-        && takes_block(table, &file.first, ACK_1, false)
-        && repeats_ack(refusing, table, file)
-        && takes_block(table, &file.second, ACK_2, true)
-        && dallies(refusing, table, file)
+    let is_open = open(table) == Outcome::Right;
+    let waits = waits(refusing, table);
+    let is_first = takes_block(table, &file.first, ACK_1, false);
+    let repeats_ack = repeats_ack(refusing, table, file);
+    let is_second = takes_block(table, &file.second, ACK_2, true);
+    let dallies = dallies(refusing, table, file);
+    is_open && waits && is_first && repeats_ack && is_second && dallies
 }
 
 #[test]
 fn repeated_blocks_and_timeouts(rt: HostRuntime) {
-    let refusing: Refusing<Global> = Refusing::new(rt.alloc(), 0);
-    assert!(rt; is_right(&refusing, Deed::Upload));
+    assert!(rt; is_right(rt.alloc(), Deed::Upload));
 }
