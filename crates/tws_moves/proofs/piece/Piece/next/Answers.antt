@@ -1,3 +1,4 @@
+use Rattle.std.proofs.lemmas.Grind.{common_steps}
 use Rattle.std.proofs.Common.{arith, sym, ◌∙◌}
 use Rattle.tws_moves.specs.Move.{waits_from}
 use Rattle.tws_moves.proofs.Waits.{waits_length}
@@ -15,3 +16,6 @@ returns-then-not-is_plain-clause-next c =
 pub returns-then-not-is_plain-clause-none : goal.returns-then-not-is_plain-clause-none
 returns-then-not-is_plain-clause-none c =
     other_none (waits_from 0 c.args.moves.now) c.args.index c.of-wait.result (omega (arith, waits_length 0 c.args.moves.now)) c.of-wait.ensures c.alone.result c.alone.ensures.none
+
+pub returns-clause-next : goal.returns-clause-next
+returns-clause-next c = grind (arith, common_steps)
