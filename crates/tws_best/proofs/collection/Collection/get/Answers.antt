@@ -1,4 +1,4 @@
-use Rattle.std.proofs.Common.{List, sym, ap, subst}
+use Rattle.std.proofs.Common.{List, sym, ap, subst, rules}
 use Rattle.std.specs.List.{Contains}
 use Rattle.tws_best.specs.Best.{KeyedBody, HasBody}
 use Rattle.tws_best.proofs.Found.{found, not_found}
@@ -14,3 +14,6 @@ pub returns-in-None-clause-absent : goal.returns-in-None-clause-absent
 returns-in-None-clause-absent g c = λ h.
     not_found c.args.key c.self.inside.best (sym c.in-None.ensures.value) h.entry
     (subst (λ (es : List KeyedBody). Contains es h.entry) (ap (λ v. v.entries) (sym c.self.view_is)) h.present) h.key_is
+
+pub returns-in-Some-clause-absent : goal.returns-in-Some-clause-absent
+returns-in-Some-clause-absent g c = search rules

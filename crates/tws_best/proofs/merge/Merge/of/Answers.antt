@@ -1,4 +1,4 @@
-use Rattle.std.proofs.Common.{sym, ap, ◌∙◌, subst, refl}
+use Rattle.std.proofs.Common.{sym, ap, ◌∙◌, subst, refl, rules}
 use Rattle.tws_best.specs.Best.{AreCollected}
 use Rattle.tws_best.specs.Bodies.{keyed_bodies, pairs_of}
 use Rattle.tws_best.specs.Steps.{undone, LeadsBack}
@@ -15,3 +15,6 @@ pub returns-clause-first : goal.returns-clause-first
 returns-clause-first g c =
     let es = c.args.collection.entries in
     same_collected _ c.args.collection refl (ap (λ ds. keyed_bodies (undone ds (pairs_of es))) c.no_changes-done.ensures.none ∙ keyed_back es)
+
+pub returns-clause-now : goal.returns-clause-now
+returns-clause-now g c = search rules

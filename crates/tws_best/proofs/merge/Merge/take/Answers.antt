@@ -1,4 +1,4 @@
-use Rattle.std.proofs.Common.{List, sym, ap, ◌∙◌, subst}
+use Rattle.std.proofs.Common.{List, sym, ap, ◌∙◌, subst, rules}
 use Rattle.tws_best.specs.Merge.{merging_of}
 use Rattle.tws_best.specs.Bodies.{BodyPair, keyed_bodies, pairs_of}
 use Rattle.tws_best.specs.Steps.{Undoes, undone, LeadsBack}
@@ -32,3 +32,6 @@ returns-clause-err g c =
     on_err c.add.result
     (λ none. same_pairs c.add.new.self (merging_of m).first c.add.ensures.rules (subst (λ ds. Undoes first ds now) none lead.undo ∙ sym (pairs_back first)) ∙ ap (λ v. v.first) c.self.view_is)
     c.add.ensures.none
+
+pub returns-clause-best : goal.returns-clause-best
+returns-clause-best g c = search rules
