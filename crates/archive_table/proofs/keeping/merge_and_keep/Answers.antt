@@ -37,3 +37,6 @@ returns-then-is_err-clause-unkept g c =
             (sym c.is_err.ensures.value ∙ c.if-is_err.true) c.ruleset.ensures c.collection-collection.ensures c.keep.ensures.log,
       ),
     )
+
+pub returns-clause-kept : goal.returns-clause-kept
+returns-clause-kept g c = search rules

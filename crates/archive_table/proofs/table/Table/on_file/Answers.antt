@@ -1,4 +1,4 @@
-use Rattle.std.proofs.Common.{sym, ap, subst}
+use Rattle.std.proofs.Common.{sym, ap, subst, rules}
 use Rattle.std.specs.Prelude.{◌≡◌, Some}
 use Rattle.tftp_packet.specs.declared.refusal.Refusal.TheVariants.{NotKept}
 use Rattle.archive_table.specs.Table.{Table, Step, Grant, grant_of, dgram_grant, refusal_dgram}
@@ -21,3 +21,15 @@ pub returns-in-Err-clause-untouched : goal.returns-in-Err-clause-untouched
 returns-in-Err-clause-untouched g c = λ other same.
     let grant : grant_of c.fail.new.step.out ≡ dgram_grant (refusal_dgram c.in-Err.why) = ap (λ (t : Step). grant_of t.out) c.fail.ensures.step in
     c.in-Err.ensures.untouched (λ is. let not : c.in-Err.why ≡ NotKept = cc in other_refusal c.in-Err.why (grant_of c.fail.new.step.out) grant other not) c.in-Err.ensures.lynx c.in-Err.ensures.ms
+
+pub returns-in-Err-clause-server : goal.returns-in-Err-clause-server
+returns-in-Err-clause-server g c = search rules
+
+pub returns-in-Err-clause-step : goal.returns-in-Err-clause-step
+returns-in-Err-clause-step g c = search rules
+
+pub returns-in-Ok-clause-keeps : goal.returns-in-Ok-clause-keeps
+returns-in-Ok-clause-keeps g c = search rules
+
+pub returns-in-Ok-clause-untouched : goal.returns-in-Ok-clause-untouched
+returns-in-Ok-clause-untouched g c = search rules
