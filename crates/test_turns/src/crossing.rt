@@ -53,9 +53,10 @@ struct Archive {
 
 impl Archive {
     fn new(alloc: Global, opens: &[u16]) -> Result<Self, Fail> {
+        let wire = wire_of(alloc, opens)?;
         Ok(Archive {
             server: Server::new(alloc, 6969),
-            wire: wire_of(alloc, opens)?,
+            wire,
         })
     }
 

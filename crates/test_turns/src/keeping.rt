@@ -3,7 +3,7 @@ use crate::wires::*;
 use archive_memory::{MemoryKeeper, MemoryWire};
 use archive_table::{KeepFault, LoadFault, NoObserver, Table};
 use archive_turns::{Server, serve_rounds, serve_turns};
-use std::alloc::Global;
+use std::alloc::{AllocError, Global};
 use std::test::Fail;
 use test_samples::{
     ACK_0, ACK_1, ALICE, BOB, DATA_HUNDRED, EMPTY_LYNX, EMPTY_MS, HUNDRED, NOT_KEPT, WRQ,
@@ -139,13 +139,11 @@ fn a_keep_that_fails(rt: HostRuntime) -> Result<(), Fail> {
 
 // ---- a start with what was kept
 
-// A keeper that has HUNDRED for Lynx, and for MS the text of an empty collection. This call of it fails.
-fn keeper_of(alloc: Global, failing: u64) -> Result<MemoryKeeper, Fail> {
+// A keeper that has HUNDRED for Lynx, and for MS the text of an empty collection.
+fn keeper_of(alloc: Global) -> Result<MemoryKeeper, AllocError> {
     let lynx = Vec::from_slice(alloc, HUNDRED)?;
     let ms = Vec::from_slice(alloc, EMPTY_MS)?;
-    let mut keeper = MemoryKeeper::with(alloc, Some(lynx), Some(ms))?;
-    keeper.fail_at(failing);
-    Ok(keeper)
+    MemoryKeeper::with(alloc, Some(lynx), Some(ms))
 }
 
 // Why a server does not start with what this keeper has; if it does, whether it has both texts.
@@ -156,8 +154,10 @@ fn starts_with(alloc: Global, keeper: &mut MemoryKeeper) -> Result<bool, LoadFau
     }
 }
 
+// The same with what was kept. This call of the keeper fails.
 fn starts(alloc: Global, failing: u64) -> Result<Result<bool, LoadFault>, Fail> {
-    let mut keeper = keeper_of(alloc, failing)?;
+    let mut keeper = keeper_of(alloc)?;
+    keeper.fail_at(failing);
     Ok(starts_with(alloc, &mut keeper))
 }
 

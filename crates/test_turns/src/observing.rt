@@ -63,7 +63,7 @@ impl ReadyWire for CountedWire<'_> {
 }
 
 // What an observer is notified of at a step.
-#[derive(Clone, Copy, Debug, PartialEq, Eq)]
+#[derive(Clone, Copy, PartialEq)]
 struct Seen {
     port: u16,
     from: Option<Endpoint>,
@@ -260,9 +260,14 @@ fn all_seen(alloc: Global) -> Result<Vec<Seen>, Fail> {
     seen_at(alloc, &mut wire, &calls)
 }
 
+// Whether these are the steps of that put.
+fn are_seen(alloc: Global) -> Result<bool, Fail> {
+    let seen = all_seen(alloc)?;
+    Ok(seen.as_slice() == steps_of_put().as_slice())
+}
+
 #[test]
 fn an_observer_is_notified_of_each_step(rt: HostRuntime) -> Result<(), Fail> {
-    let seen = all_seen(rt.alloc())?;
-    assert_eq!(rt; seen.as_slice(), steps_of_put().as_slice());
+    assert!(rt; are_seen(rt.alloc())?);
     Ok(())
 }

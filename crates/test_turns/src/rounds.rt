@@ -33,7 +33,8 @@ fn put_in_rounds(
     Ok([first, acks(wire, server, ACK_1)])
 }
 
-// Whether a server takes the file of a put, whose transfer then waits for the last block twice, and is closed.
+// Whether a server takes the file of a put, whose transfer then waits for the last block twice, and is closed; and sends
+// two datagrams.
 fn takes_and_waits(
     alloc: Global,
     wire: &mut MemoryWire,
@@ -42,20 +43,8 @@ fn takes_and_waits(
     let rounds = put_in_rounds(alloc, wire, server)?;
     let solutions = server.table().collection(Ruleset::Lynx).len();
     let live = (lives(wire, server), lives(wire, server));
-    Ok((rounds, solutions, live) == ([(0, true), (1, true)], 1, (1, 0)))
-}
-
-// The same with a new server.
-fn takes_and_waits_at_new(alloc: Global, wire: &mut MemoryWire) -> Result<bool, Fail> {
-    takes_and_waits(alloc, wire, &mut Server::new(alloc, 6969))
-}
-
-#[test]
-fn a_put_to_the_ready_server(rt: HostRuntime) -> Result<(), Fail> {
-    let mut wire = request_wire(rt.alloc(), 4000)?;
-    let is_put = takes_and_waits_at_new(rt.alloc(), &mut wire)?;
-    assert_eq!(rt; (is_put, send_count(&wire)), (true, 2));
-    Ok(())
+    let left = (solutions, live, send_count(wire));
+    Ok((rounds, left) == ([(0, true), (1, true)], (1, (1, 0), 2)))
 }
 
 // Makes a round of a server, to which a request has arrived, and then one at each of these times, before which a malformed
@@ -84,20 +73,6 @@ fn are_sent_in_time(
         }
     }
     Ok(true)
-}
-
-// The same with a new server.
-fn are_sent_in_time_at_new(alloc: Global, wire: &mut MemoryWire) -> Result<bool, Fail> {
-    are_sent_in_time(alloc, wire, &mut Server::new(alloc, 6969))
-}
-
-// A transfer times out one second after it last sent, once all that had arrived by then was handed out, however much
-// arrives at the request port meanwhile.
-#[test]
-fn a_busy_request_port(rt: HostRuntime) -> Result<(), Fail> {
-    let mut wire = request_wire(rt.alloc(), 4000)?;
-    assert!(rt; are_sent_in_time_at_new(rt.alloc(), &mut wire)?);
-    Ok(())
 }
 
 // A wire at which an ACK arrives at each of these ports.
@@ -186,30 +161,72 @@ fn take_all_places(alloc: Global, wire: &mut MemoryWire, server: &mut Server) ->
     Ok(())
 }
 
-// How many transfers are live once all places were taken, whether the next request is let in, and whether the one after
-// it is refused.
-fn give_way(
-    alloc: Global,
-    wire: &mut MemoryWire,
-    server: &mut Server,
-) -> Result<(usize, bool, bool), Fail> {
+// Whether 63 transfers are live once all places were taken, the next request is let in, and the one after it is refused.
+fn gives_way(alloc: Global, wire: &mut MemoryWire, server: &mut Server) -> Result<bool, Fail> {
     take_all_places(alloc, wire, server)?;
     let live = server.table().live();
     let next = ask(alloc, wire, server, 73)?;
     let is_let_in = sent_last(wire, 4064, next, ACK_0);
     let last = ask(alloc, wire, server, 74)?;
-    Ok((live, is_let_in, sent_last(wire, 6969, last, BUSY)))
+    let is_refused = sent_last(wire, 6969, last, BUSY);
+    Ok(is_let_in && is_refused && live == 63)
 }
 
-// The same of a new server.
-fn give_way_at_new(alloc: Global) -> Result<(usize, bool, bool), Fail> {
+// ---- new servers
+
+#[derive(Clone, Copy)]
+enum Deed {
+    TakeAndWait,
+    SendInTime,
+    GiveWay,
+}
+
+fn perform(
+    alloc: Global,
+    wire: &mut MemoryWire,
+    server: &mut Server,
+    deed: Deed,
+) -> Result<bool, Fail> {
+    match deed {
+        Deed::TakeAndWait => takes_and_waits(alloc, wire, server),
+        Deed::SendInTime => are_sent_in_time(alloc, wire, server),
+        Deed::GiveWay => gives_way(alloc, wire, server),
+    }
+}
+
+// Whether a new server does it.
+fn is_done(alloc: Global, wire: &mut MemoryWire, deed: Deed) -> Result<bool, Fail> {
+    perform(alloc, wire, &mut Server::new(alloc, 6969), deed)
+}
+
+// The same at a new wire at which a request has arrived.
+fn is_done_at_request(alloc: Global, deed: Deed) -> Result<bool, Fail> {
+    let mut wire = request_wire(alloc, 4000)?;
+    is_done(alloc, &mut wire, deed)
+}
+
+#[test]
+fn a_put_to_the_ready_server(rt: HostRuntime) -> Result<(), Fail> {
+    assert!(rt; is_done_at_request(rt.alloc(), Deed::TakeAndWait)?);
+    Ok(())
+}
+
+// A transfer times out one second after it last sent, once all that had arrived by then was handed out, however much
+// arrives at the request port meanwhile.
+#[test]
+fn a_busy_request_port(rt: HostRuntime) -> Result<(), Fail> {
+    assert!(rt; is_done_at_request(rt.alloc(), Deed::SendInTime)?);
+    Ok(())
+}
+
+fn gives_way_at_new(alloc: Global) -> Result<bool, Fail> {
     let mut wire = wire_of(alloc, &many_ports())?;
-    give_way(alloc, &mut wire, &mut Server::new(alloc, 6969))
+    is_done(alloc, &mut wire, Deed::GiveWay)
 }
 
 // The place of a transfer that only dallies is there for the very next request, and no other place is.
 #[test]
 fn a_dallying_transfer_gives_way(rt: HostRuntime) -> Result<(), Fail> {
-    assert_eq!(rt; give_way_at_new(rt.alloc())?, (63, true, true));
+    assert!(rt; gives_way_at_new(rt.alloc())?);
     Ok(())
 }

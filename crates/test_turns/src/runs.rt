@@ -1,23 +1,41 @@
 // Runs of clients over wires in memory.
+ghost use Rattle.std.specs.Prelude.{◌≤◌};
+
 use crate::wires::*;
 use archive_client::Cause;
-use archive_turns::{RunFault, Wire, run_get, run_put};
+use archive_memory::MemoryWire;
+use archive_turns::{RunFault, Wire, put_in_rounds, run_get, run_put};
 use std::alloc::Global;
 use std::test::Fail;
 use test_samples::{HUNDRED, SERVER};
 use tws_file::Ruleset;
 
-// What a put of one whole block returns, and how many datagrams are sent.
-fn put_a_block(alloc: Global) -> Result<(Result<u64, RunFault>, usize), Fail> {
+// What a put of one whole block returns, in three turns or rounds.
+fn put_a_block(
+    alloc: Global,
+    wire: &mut MemoryWire,
+    in_rounds: bool,
+) -> Result<Result<u64, RunFault>, Fail> {
     let file = vec![in alloc; 7; 512]?;
+    if in_rounds {
+        Ok(put_in_rounds(wire, SERVER, file, 3))
+    } else {
+        Ok(run_put(wire, SERVER, file, 3))
+    }
+}
+
+// The same at a new wire, and how many datagrams are sent.
+fn put_at_new(alloc: Global, in_rounds: bool) -> Result<(Result<u64, RunFault>, usize), Fail> {
     let mut wire = acking_wire(alloc)?;
-    let put = run_put(&mut wire, SERVER, file, 3);
+    let put = put_a_block(alloc, &mut wire, in_rounds)?;
     Ok((put, send_count(&wire)))
 }
 
 #[test]
 fn a_put_of_one_whole_block(rt: HostRuntime) -> Result<(), Fail> {
-    assert_eq!(rt; put_a_block(rt.alloc())?, (Ok(512), 3));
+    let in_turns = put_at_new(rt.alloc(), false)?;
+    let in_rounds = put_at_new(rt.alloc(), true)?;
+    assert_eq!(rt; (in_turns, in_rounds), ((Ok(512), 3), (Ok(512), 3)));
     Ok(())
 }
 
@@ -42,14 +60,21 @@ fn got_into(alloc: Global, room: &mut [u8]) -> Result<Result<u64, RunFault>, Fai
     Ok(run_get(alloc, &mut wire, SERVER, Ruleset::Lynx, 1, &mut out))
 }
 
+// Whether a get fails that writes into room for the first `j` bytes of the file, and those are written.
+fn fails_after(alloc: Global, j: usize) -> Result<bool, Fail>
+    requires { j ≤ 28 }
+{
+    let mut room = [0u8; 28];
+    let got = got_into(alloc, &mut room[..j])?;
+    let is_prefix = &room[..j] == &HUNDRED[..j];
+    Ok(is_prefix && got == Err(RunFault::Write))
+}
+
 // Whatever is written before the writer fails is a prefix of the file.
 #[test]
 fn a_get_to_a_writer_that_fails(rt: HostRuntime) -> Result<(), Fail> {
-    let file = HUNDRED.as_slice();
     for j in 0..28usize {
-        let mut room = [0u8; 28];
-        let got = got_into(rt.alloc(), &mut room[..j])?;
-        assert_eq!(rt; (got, &room[..j]), (Err(RunFault::Write), &file[..j]));
+        assert!(rt; fails_after(rt.alloc(), j)?, "{j}");
     }
     Ok(())
 }
@@ -68,38 +93,40 @@ fn put_in_vain(
     Ok((answer, send_count(&wire), wire.failures()))
 }
 
-// The first call is the open, the second the send of the request, which is sent again in turn 200.
-#[test]
-fn a_put_whose_call_fails(rt: HostRuntime) -> Result<(), Fail> {
-    let late = Err(RunFault::Transfer(Cause::TimedOut));
-    for (n, turns, answer, sent) in [
-        (1, 9, Err(RunFault::Socket), 0),
-        (2, 199, late, 1),
-        (2, 200, late, 2),
-    ] {
-        assert_eq!(rt; put_in_vain(rt.alloc(), n, turns)?, (answer, sent, 1));
-    }
-    Ok(())
-}
-
+// The first call is the open, the second the send of the request, which is sent again in turn 200. If no call fails, the
+// request is sent five times.
 #[test]
 fn a_put_that_is_never_answered(rt: HostRuntime) -> Result<(), Fail> {
-    let late = Err(RunFault::Transfer(Cause::TimedOut));
-    for (turns, sent) in [(0, 1), (799, 4), (999, 5), (1000, 5)] {
-        assert_eq!(rt; put_in_vain(rt.alloc(), 0, turns)?, (late, sent, 0));
+    const LATE: Result<u64, RunFault> = Err(RunFault::Transfer(Cause::TimedOut));
+    for (n, turns, left) in [
+        (1, 9, (Err(RunFault::Socket), 0, 1)),
+        (2, 199, (LATE, 1, 1)),
+        (2, 200, (LATE, 2, 1)),
+        (0, 0, (LATE, 1, 0)),
+        (0, 799, (LATE, 4, 0)),
+        (0, 999, (LATE, 5, 0)),
+        (0, 1000, (LATE, 5, 0)),
+    ] {
+        assert_eq!(rt; put_in_vain(rt.alloc(), n, turns)?, left);
     }
     Ok(())
 }
 
-#[test]
-fn faults_by_name(rt: HostRuntime) -> Result<(), Fail> {
-    for (fault, name) in [
-        (RunFault::Socket, "Socket"),
-        (RunFault::Transfer(Cause::TimedOut), "timed out"),
-        (RunFault::Memory, "Memory"),
-        (RunFault::Write, "Write"),
-    ] {
-        assert_eq!(rt; format!(in rt.alloc(); "{fault}")?.as_str(), name);
+fn has_name(alloc: Global, fault: RunFault, name: &str) -> bool {
+    match format!(in alloc; "{fault}") {
+        Ok(text) => text.as_str() == name,
+        Err(_) => false,
     }
-    Ok(())
+}
+
+#[test]
+fn faults_by_name(rt: HostRuntime) {
+    let alloc = rt.alloc();
+    let are_named = [
+        has_name(alloc, RunFault::Socket, "Socket"),
+        has_name(alloc, RunFault::Transfer(Cause::TimedOut), "timed out"),
+        has_name(alloc, RunFault::Memory, "Memory"),
+        has_name(alloc, RunFault::Write, "Write"),
+    ];
+    assert_eq!(rt; are_named, [true; 4]);
 }

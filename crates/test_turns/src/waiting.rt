@@ -8,20 +8,6 @@ use std::test::Fail;
 use test_samples::{DATA_HUNDRED, HUNDRED, SERVER, at};
 use tws_file::Ruleset;
 
-// What a put of one whole block returns, and how many datagrams are sent.
-fn put_a_block(alloc: Global) -> Result<(Result<u64, RunFault>, usize), Fail> {
-    let file = vec![in alloc; 7; 512]?;
-    let mut wire = acking_wire(alloc)?;
-    let put = put_in_rounds(&mut wire, SERVER, file, 3);
-    Ok((put, send_count(&wire)))
-}
-
-#[test]
-fn a_put_in_rounds(rt: HostRuntime) -> Result<(), Fail> {
-    assert_eq!(rt; put_a_block(rt.alloc())?, (Ok(512), 3));
-    Ok(())
-}
-
 // What a put returns that is never answered, how many datagrams were sent, and the time at the end.
 fn put_in_vain(alloc: Global, rounds: u64) -> Result<(Result<u64, RunFault>, usize, u64), Fail> {
     let file = Vec::from_slice(alloc, HUNDRED)?;
