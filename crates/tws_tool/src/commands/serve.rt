@@ -1,8 +1,9 @@
 //! The command `serve`.
 
-ghost use Rattle.std.specs.Prelude.{◌≡◌, ◌⊎◌, ◌++◌, ◌<◌, ◌≤◌, ◌+◌, Bool, true, false, min, None, Some, OnOk, IfOk, IfErr, IfSome, IfNone, option_map, string_bytes};
+ghost use Rattle.std.specs.Prelude.{◌≡◌, ◌⊎◌, ◌++◌, ◌<◌, ◌≤◌, ◌+◌, Bool, true, false, List, min, None, Some, OnOk, IfOk, IfErr, IfSome, IfNone, option_map, string_bytes};
 ghost use Rattle.tftp_ends.specs.declared.limits.TheConstants.{MAX_FILE};
 ghost use Rattle.archive_limit.specs.Limited.{own_log};
+ghost use Rattle.archive_table.specs.Keeper.{Keeping};
 ghost use Rattle.archive_table.specs.declared.limits.TheConstants.{LIVE};
 ghost use Rattle.archive_turns.specs.Turn.{MakesPass, count_if, fresh_server};
 ghost use Rattle.command_faults.specs.Faults.{answer_status};
@@ -380,6 +381,44 @@ fn serve_logged<
     }
 }
 
+// The same with this server over this keeper, of which both end here. A collection that is longer than the limit is refused,
+// and each keep that fails is reported to the log.
+fn serve_limited<
+    P: Files<File = File> + Net + Clock + RandomSource + Eprint + AllocGlobal + Copy,
+    K: ServedKeeper + Drop,
+    W: Write,
+    E: Write,
+>(
+    rt: P,
+    alloc: Global,
+    arguments: &ServeArguments,
+    host: u32,
+    mut server: Server,
+    keeper: K,
+    name: &str,
+    out: &mut W,
+    errors: &mut E,
+) -> u8
+    requires fresh { server ≡ fresh_server LIVE server.table }
+    requires port { server.table.request ≡ arguments.now.port }
+    ensures served { (last : K) × (entries more : List Keeping) × Served arguments.now.port arguments.now.turns arguments.now.per_host server.table result (K.usable last) (own_log (K.log keeper) entries) (own_log (K.log last) more) (W.contents out.old) (W.contents out.new) }
+    ensures status { (result ≡ 0) ⊎ (result ≡ 2) }
+    ensures silent { result ≡ 0 → errors.new ≡ errors.old }
+{
+    let log = console(rt, arguments.log);
+    serve_logged(
+        rt,
+        alloc,
+        arguments,
+        host,
+        &mut server,
+        &mut ReportingKeeper::new(keeper, arguments.limit, rt, log),
+        name,
+        out,
+        errors,
+    )
+}
+
 // Serves at this address of this host without a folder, and returns the status.
 fn serve_in_memory<
     P: Files<File = File> + Net + Clock + RandomSource + Eprint + AllocGlobal + Copy,
@@ -391,14 +430,13 @@ fn serve_in_memory<
     ensures status { (result ≡ 0) ⊎ (result ≡ 2) }
     ensures silent { result ≡ 0 → errors.new ≡ errors.old }
 {
-    let log = console(rt, arguments.log);
-    serve_logged(
+    serve_limited(
         rt,
         alloc,
         arguments,
         host,
-        &mut Server::new(alloc, arguments.port),
-        &mut ReportingKeeper::new(NoKeeper, arguments.limit, rt, log),
+        Server::new(alloc, arguments.port),
+        NoKeeper,
         "memory",
         out,
         errors,
@@ -415,7 +453,7 @@ fn serve_kept<
     alloc: Global,
     arguments: &ServeArguments,
     host: u32,
-    keeper: DirKeeper<P>,
+    mut keeper: DirKeeper<P>,
     name: &str,
     out: &mut W,
     errors: &mut E,
@@ -425,23 +463,10 @@ fn serve_kept<
     ensures status { (result ≡ 0) ⊎ (result ≡ 2) }
     ensures silent { result ≡ 0 → errors.new ≡ errors.old }
 {
-    let mut keeper = keeper;
     match Server::load(alloc, arguments.port, &mut keeper) {
-        Ok(mut server) => {
-            let log = console(rt, arguments.log);
-            let mut keeper = ReportingKeeper::new(keeper, arguments.limit, rt, log);
-            serve_logged(
-                rt,
-                alloc,
-                arguments,
-                host,
-                &mut server,
-                &mut keeper,
-                name,
-                out,
-                errors,
-            )
-        }
+        Ok(server) => serve_limited(
+            rt, alloc, arguments, host, server, keeper, name, out, errors,
+        ),
         Err(_) => report_unloaded(alloc, &mut keeper, name, errors),
     }
 }
