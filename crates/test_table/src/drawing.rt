@@ -1,8 +1,8 @@
 // The inputs of a server in a drawn run.
 use crate::archive::REQUEST;
 use crate::plain::{End, Plain};
-use std::alloc::Global;
-use std::test::Fail;
+use crate::plain_file::piece;
+use std::alloc::{AllocError, Global};
 use test_samples::{ACK_0, Draws, EMPTY_LYNX, EMPTY_MS, RRQ_LYNX, join, record, steps};
 use tftp_packet::Endpoint;
 
@@ -35,28 +35,23 @@ fn peer(draws: &mut Draws) -> Endpoint {
 }
 
 // The record of the file with this number, with `count` moves.
-fn solution(alloc: Global, i: u16, count: usize) -> Result<Vec<u8>, Fail> {
+fn solution(alloc: Global, i: u16, count: usize) -> Result<Vec<u8>, AllocError> {
     let level = (i % 11) as u8;
     let password = [0, 0, level / 8, 0];
     let ticks = u32::from(1 + i / 6 % 4);
     let moves = steps(alloc, count)?;
-    Ok(record(
+    record(
         alloc,
         u16::from(level % 4),
         &password,
         u32::from(i % 5),
         ticks,
         &moves,
-    )?)
+    )
 }
 
-// A file of one record, for one of a few levels of either ruleset, with different ticks and moves. In one of nine files
-// with moves the last move is cut short, one of seven has a byte after its record, and the record of two of eleven is
-// not a solution.
-fn file(alloc: Global, i: u16) -> Result<Vec<u8>, Fail> {
-    let count = MOVES.get(usize::from(i / 3 % 5)).copied().unwrap_or(0);
-    let header = if i % 2 == 0 { EMPTY_LYNX } else { EMPTY_MS };
-    let mut bytes = join(alloc, header, &[&solution(alloc, i, count)?])?;
+// Cuts the last move of one of nine files with moves short, and adds a byte to one of seven files.
+fn spoil(bytes: &mut Vec<u8>, i: u16, count: usize) -> Result<(), AllocError> {
     if count > 0 && i % 9 == 8 {
         bytes.pop();
         bytes.push(3)?;
@@ -64,17 +59,28 @@ fn file(alloc: Global, i: u16) -> Result<Vec<u8>, Fail> {
     if i % 7 == 6 {
         bytes.push(0)?;
     }
+    Ok(())
+}
+
+// A file of one record, for one of a few levels of either ruleset, with different ticks and moves. In one of nine files
+// with moves the last move is cut short, one of seven has a byte after its record, and the record of two of eleven is
+// not a solution.
+fn file(alloc: Global, i: u16) -> Result<Vec<u8>, AllocError> {
+    let count = MOVES.get(usize::from(i / 3 % 5)).copied().unwrap_or(0);
+    let header = if i % 2 == 0 { EMPTY_LYNX } else { EMPTY_MS };
+    let mut bytes = join(alloc, header, &[&solution(alloc, i, count)?])?;
+    spoil(&mut bytes, i, count)?;
     Ok(bytes)
 }
 
-fn packet(alloc: Global, opcode: u8, n: u16, body: &[u8]) -> Result<Vec<u8>, Fail> {
+fn packet(alloc: Global, opcode: u8, n: u16, body: &[u8]) -> Result<Vec<u8>, AllocError> {
     let number = n.to_be_bytes();
     let mut bytes = Vec::from_slice(alloc, &[0, opcode, number[0], number[1]])?;
     bytes.extend_from_slice(body)?;
     Ok(bytes)
 }
 
-fn request(alloc: Global, draws: &mut Draws) -> Result<Vec<u8>, Fail> {
+fn request(alloc: Global, draws: &mut Draws) -> Result<Vec<u8>, AllocError> {
     let bytes = match draws.below(16) {
         0 => b"\0\x01lynx.tws\0mail\0".as_slice(),
         1 => b"\0\x02upload.tws\0netascii\0".as_slice(),
@@ -88,22 +94,18 @@ fn request(alloc: Global, draws: &mut Draws) -> Result<Vec<u8>, Fail> {
         7 | 8 => RRQ_LYNX.as_slice(),
         _ => b"\0\x02\0OCTET\0".as_slice(),
     };
-    Ok(Vec::from_slice(alloc, bytes)?)
+    Vec::from_slice(alloc, bytes)
 }
 
 // DATA with block `n` of a file. Sometimes the block is cut short.
-fn block(alloc: Global, draws: &mut Draws, file: &[u8], n: u16) -> Result<Vec<u8>, Fail> {
-    let mut body = Vec::new(alloc);
+fn block(alloc: Global, draws: &mut Draws, file: &[u8], n: u16) -> Result<Vec<u8>, AllocError> {
     let start = usize::from(n.saturating_sub(1)).wrapping_mul(512);
     let len = if draws.once_in(12) {
         usize::from(draws.below(512))
     } else {
         512
     };
-    for b in file.iter().skip(start).take(len) {
-        body.push(*b)?;
-    }
-    packet(alloc, 3, n, &body)
+    packet(alloc, 3, n, piece(file, start, len))
 }
 
 // A datagram for a live transfer: mostly one that continues it.
@@ -113,7 +115,7 @@ fn fitting(
     plain: &Plain,
     i: usize,
     run: u16,
-) -> Result<Vec<u8>, Fail> {
+) -> Result<Vec<u8>, AllocError> {
     let Some(transfer) = plain.live.get(i) else {
         return packet(alloc, 4, 1, b"");
     };
@@ -138,7 +140,7 @@ fn datagram(
     plain: &Plain,
     i: usize,
     run: u16,
-) -> Result<Vec<u8>, Fail> {
+) -> Result<Vec<u8>, AllocError> {
     match draws.below(24) {
         0 => packet(alloc, 5, draws.below(9), b"\0"),
         1 => packet(alloc, 5, 0, b"cut"),
@@ -183,7 +185,7 @@ pub(crate) fn draw(
     plain: &Plain,
     run: u16,
     crowded: bool,
-) -> Result<Input, Fail> {
+) -> Result<Input, AllocError> {
     let asks = if crowded { 18 } else { 4 };
     if draws.below(20) < asks {
         let bytes = request(alloc, draws)?;

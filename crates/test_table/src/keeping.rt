@@ -23,9 +23,29 @@ fn was_given(keeper: &MemoryKeeper, wanted: &[(&[u8; 28], bool)]) -> bool {
     kept.len() == wanted.len()
 }
 
-// The index of the first of these inputs to a new archive whose step is not the expected one, if only this call of its
-// keeper fails; the number of inputs if they leave something else, the keeper was given something else, or a server that
-// starts again has other texts.
+// The index of the first of these inputs to a new archive whose step is not the expected one; the number of inputs if they
+// leave something else, the keeper was given something else, or a server that starts again has other texts.
+fn other_kept_by(
+    alloc: Global,
+    keeper: &mut MemoryKeeper,
+    rows: &[(Input<'_>, Then<'_>)],
+    left: Left<'_>,
+    given: &[(&[u8; 28], bool)],
+) -> Result<Option<usize>, Fail> {
+    let other = other_of(alloc, Archive::new(alloc), keeper, rows, left)?;
+    if other.is_some() {
+        return Ok(other);
+    }
+    let was_given = was_given(keeper, given);
+    let is_loaded = loads(alloc, keeper, left.lynx, left.ms);
+    Ok(if was_given && is_loaded {
+        None
+    } else {
+        Some(rows.len())
+    })
+}
+
+// The same with a new keeper, of which only this call fails.
 fn other_kept(
     alloc: Global,
     failing: u64,
@@ -35,12 +55,7 @@ fn other_kept(
 ) -> Result<Option<usize>, Fail> {
     let mut keeper = MemoryKeeper::new(alloc);
     keeper.fail_at(failing);
-    let other = other_of(alloc, Archive::new(alloc), &mut keeper, rows, left)?;
-    if other.is_some() {
-        return Ok(other);
-    }
-    let is_kept = was_given(&keeper, given) && loads(alloc, &mut keeper, left.lynx, left.ms);
-    Ok(if is_kept { None } else { Some(rows.len()) })
+    other_kept_by(alloc, &mut keeper, rows, left, given)
 }
 
 // A file that is not kept is refused, and merged into no collection: a reader is sent the empty one, and the same file
@@ -174,40 +189,29 @@ fn fault_of(
     Ok(fault(alloc, &mut keeper))
 }
 
+// A keeper's texts for Lynx and MS, which call of it fails, and why nothing is loaded then.
+type Refused = (Option<&'static [u8]>, Option<&'static [u8]>, u64, LoadFault);
+
 // After a Lynx text that cannot be loaded the second call is never made, so it cannot fail.
 #[test]
-fn loading_lynx_refused(rt: HostRuntime) -> Result<(), Fail> {
-    let device = LoadFault::Keep(KeepFault::Device);
-    let short = LoadFault::Unreadable(FileFault::ShortHeader(7));
-    let rows: [(Option<&[u8]>, u64, LoadFault); 6] = [
-        (None, 1, device),
-        (Some(UNREADABLE), 0, short),
-        (Some(UNREADABLE), 1, device),
-        (Some(UNREADABLE), 2, short),
-        (Some(EMPTY_MS), 0, LoadFault::WrongRuleset),
-        (Some(EMPTY_MS), 2, LoadFault::WrongRuleset),
+fn loading_refused(rt: HostRuntime) -> Result<(), Fail> {
+    const DEVICE: LoadFault = LoadFault::Keep(KeepFault::Device);
+    const SHORT: LoadFault = LoadFault::Unreadable(FileFault::ShortHeader(7));
+    const TEXT: Option<&'static [u8]> = Some(UNREADABLE);
+    const ROWS: [Refused; 10] = [
+        (None, TEXT, 1, DEVICE),
+        (TEXT, TEXT, 0, SHORT),
+        (TEXT, TEXT, 1, DEVICE),
+        (TEXT, TEXT, 2, SHORT),
+        (Some(EMPTY_MS), TEXT, 0, LoadFault::WrongRuleset),
+        (Some(EMPTY_MS), TEXT, 2, LoadFault::WrongRuleset),
+        (None, None, 2, DEVICE),
+        (None, TEXT, 0, SHORT),
+        (None, TEXT, 2, DEVICE),
+        (None, Some(EMPTY_LYNX), 0, LoadFault::WrongRuleset),
     ];
-    for (lynx, failing, wanted) in rows {
-        assert_eq!(rt;
-            fault_of(rt.alloc(), lynx, Some(UNREADABLE), failing)?,
-            Some(wanted)
-        );
-    }
-    Ok(())
-}
-
-#[test]
-fn loading_ms_refused(rt: HostRuntime) -> Result<(), Fail> {
-    let device = LoadFault::Keep(KeepFault::Device);
-    let short = LoadFault::Unreadable(FileFault::ShortHeader(7));
-    let rows: [(Option<&[u8]>, u64, LoadFault); 4] = [
-        (None, 2, device),
-        (Some(UNREADABLE), 0, short),
-        (Some(UNREADABLE), 2, device),
-        (Some(EMPTY_LYNX), 0, LoadFault::WrongRuleset),
-    ];
-    for (ms, failing, wanted) in rows {
-        assert_eq!(rt; fault_of(rt.alloc(), None, ms, failing)?, Some(wanted));
+    for (lynx, ms, failing, wanted) in ROWS {
+        assert_eq!(rt; fault_of(rt.alloc(), lynx, ms, failing)?, Some(wanted));
     }
     Ok(())
 }
@@ -215,7 +219,11 @@ fn loading_ms_refused(rt: HostRuntime) -> Result<(), Fail> {
 // Whether a server loaded from this keeper has these texts, and no transfer.
 fn loads(alloc: Global, keeper: &mut MemoryKeeper, lynx: &[u8], ms: &[u8]) -> bool {
     match Archive::load(alloc, keeper) {
-        Ok(archive) => has_texts(alloc, &archive, lynx, ms) && is_live(&archive, 0, None),
+        Ok(archive) => {
+            let has_texts = has_texts(alloc, &archive, lynx, ms);
+            let is_idle = is_live(&archive, 0, None);
+            has_texts && is_idle
+        }
         Err(_fault) => false,
     }
 }
@@ -223,14 +231,23 @@ fn loads(alloc: Global, keeper: &mut MemoryKeeper, lynx: &[u8], ms: &[u8]) -> bo
 // Whether both texts are loaded from a keeper that has them.
 fn loads_both(alloc: Global, lynx: &[u8], ms: &[u8]) -> Result<bool, Fail> {
     let mut keeper = keeper_with(alloc, Some(lynx), Some(ms))?;
-    Ok(keeper.kept().len() == 2 && loads(alloc, &mut keeper, lynx, ms))
+    let count = keeper.kept().len();
+    let are_loaded = loads(alloc, &mut keeper, lynx, ms);
+    Ok(are_loaded && count == 2)
+}
+
+// Whether empty texts are loaded from a keeper that has none.
+fn loads_none(alloc: Global) -> bool {
+    loads(alloc, &mut MemoryKeeper::new(alloc), EMPTY_LYNX, EMPTY_MS)
 }
 
 #[test]
 fn loading(rt: HostRuntime) -> Result<(), Fail> {
-    assert!(rt; loads_both(rt.alloc(), HUNDRED, EMPTY_MS)?);
-    let mut keeper = MemoryKeeper::new(rt.alloc());
-    assert!(rt; loads(rt.alloc(), &mut keeper, EMPTY_LYNX, EMPTY_MS));
+    let are_loaded = (
+        loads_both(rt.alloc(), HUNDRED, EMPTY_MS)?,
+        loads_none(rt.alloc()),
+    );
+    assert_eq!(rt; are_loaded, (true, true));
     Ok(())
 }
 

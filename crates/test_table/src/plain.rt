@@ -1,8 +1,7 @@
 // A server as plain lists, slow and simple, written from the tables of docs/FORMATS.md.
-use crate::plain_file::{Solution, block_of, copy, improves, join, read, text};
-use std::alloc::Global;
+use crate::plain_file::{Solution, block_of, copy, improve, join, read, text};
+use std::alloc::{AllocError, Global};
 use std::mem;
-use std::test::Fail;
 use tftp_packet::Endpoint;
 use tws_file::Ruleset;
 
@@ -148,15 +147,15 @@ fn parse(bytes: &[u8]) -> Packet<'_> {
     }
 }
 
-fn ack(alloc: Global, n: usize) -> Result<Vec<u8>, Fail> {
+fn ack(alloc: Global, n: usize) -> Result<Vec<u8>, AllocError> {
     let number = ((n % 65536) as u16).to_be_bytes();
-    Ok(Vec::from_slice(alloc, &[0, 4, number[0], number[1]])?)
+    Vec::from_slice(alloc, &[0, 4, number[0], number[1]])
 }
 
-fn data(alloc: Global, file: &[u8], n: usize) -> Result<Vec<u8>, Fail> {
+fn data(alloc: Global, file: &[u8], n: usize) -> Result<Vec<u8>, AllocError> {
     let number = ((n % 65536) as u16).to_be_bytes();
     let mut bytes = Vec::from_slice(alloc, &[0, 3, number[0], number[1]])?;
-    bytes.extend_from_slice(&block_of(alloc, file, n)?)?;
+    bytes.extend_from_slice(block_of(file, n))?;
     Ok(bytes)
 }
 
@@ -170,7 +169,7 @@ impl Plain {
         }
     }
 
-    pub(crate) fn text(&self, ruleset: Ruleset) -> Result<Vec<u8>, Fail> {
+    pub(crate) fn text(&self, ruleset: Ruleset) -> Result<Vec<u8>, AllocError> {
         text(self.alloc, ruleset, self.collection(ruleset))
     }
 
@@ -194,32 +193,58 @@ impl Plain {
         least
     }
 
-    fn refuse(&self, to: Endpoint, error: &[u8]) -> Result<Said, Fail> {
+    fn refuse(&self, to: Endpoint, error: &[u8]) -> Result<Said, AllocError> {
         Ok(says(REQUEST, to, Vec::from_slice(self.alloc, error)?))
     }
 
-    fn open(&mut self, port: u16, peer: Endpoint, end: End, first: Vec<u8>) -> Result<Said, Fail> {
+    // What the transfer at this place of the list sends at a time-out.
+    fn repeat(&self, i: usize) -> Result<Said, AllocError> {
+        let Some(transfer) = self.live.get(i) else {
+            return Ok(silent());
+        };
+        let bytes = match &transfer.end {
+            End::Sending { text, block, .. } => data(self.alloc, text, *block)?,
+            End::Receiving { count, .. } => ack(self.alloc, *count)?,
+            End::Waiting { .. } => return Ok(silent()),
+        };
+        Ok(says(transfer.port, transfer.peer, bytes))
+    }
+
+    // Opens a transfer, which sends its first packet.
+    fn open(&mut self, port: u16, peer: Endpoint, end: End) -> Result<Said, AllocError> {
+        let i = self.live.len();
         self.live.push(Transfer { port, peer, end })?;
-        let mut said = says(port, peer, first);
+        let mut said = self.repeat(i)?;
         said.opened = true;
         Ok(said)
     }
 
-    // Ends the transfer at this place of the list.
+    // Ends the transfer at this place of the list, if there is one.
+    fn end(&mut self, i: usize) -> bool {
+        if i >= self.live.len() {
+            return false;
+        }
+        let _ended = self.live.remove(i);
+        true
+    }
+
+    // The same as a step.
     fn close(&mut self, i: usize) -> Said {
         let mut said = silent();
-        if i < self.live.len() {
-            let _ended = self.live.remove(i);
-            said.closed = true;
-        }
+        said.closed = self.end(i);
         said
     }
 
     // The same with an ERROR to its peer.
-    fn fail(&mut self, i: usize, port: u16, peer: Endpoint, error: &[u8]) -> Result<Said, Fail> {
-        let bytes = Vec::from_slice(self.alloc, error)?;
-        let mut said = self.close(i);
-        said.out = Some((port, peer, bytes));
+    fn fail(
+        &mut self,
+        i: usize,
+        port: u16,
+        peer: Endpoint,
+        error: &[u8],
+    ) -> Result<Said, AllocError> {
+        let mut said = says(port, peer, Vec::from_slice(self.alloc, error)?);
+        said.closed = self.end(i);
         Ok(said)
     }
 
@@ -228,7 +253,7 @@ impl Plain {
         spare: u16,
         from: Endpoint,
         bytes: &[u8],
-    ) -> Result<Said, Fail> {
+    ) -> Result<Said, AllocError> {
         match parse(bytes) {
             Packet::Read { name, mode } => {
                 if !mode.eq_ignore_ascii_case(b"octet") {
@@ -246,20 +271,19 @@ impl Plain {
         }
     }
 
-    fn on_write(&mut self, spare: u16, from: Endpoint) -> Result<Said, Fail> {
+    fn on_write(&mut self, spare: u16, from: Endpoint) -> Result<Said, AllocError> {
         if self.live.len() == 64 {
             return self.refuse(from, b"\0\x05\0\0server busy\0");
         }
-        let first = ack(self.alloc, 0)?;
         let end = End::Receiving {
             file: Vec::new(self.alloc),
             count: 0,
             misses: 0,
         };
-        self.open(spare, from, end, first)
+        self.open(spare, from, end)
     }
 
-    fn on_read(&mut self, spare: u16, from: Endpoint, name: &[u8]) -> Result<Said, Fail> {
+    fn on_read(&mut self, spare: u16, from: Endpoint, name: &[u8]) -> Result<Said, AllocError> {
         if name == b"lynx.tws".as_slice() {
             return self.on_named(spare, from, Ruleset::Lynx);
         }
@@ -269,7 +293,12 @@ impl Plain {
         self.refuse(from, b"\0\x05\0\x01no such file\0")
     }
 
-    fn on_named(&mut self, spare: u16, from: Endpoint, ruleset: Ruleset) -> Result<Said, Fail> {
+    fn on_named(
+        &mut self,
+        spare: u16,
+        from: Endpoint,
+        ruleset: Ruleset,
+    ) -> Result<Said, AllocError> {
         if self.live.len() == 64 {
             return self.refuse(from, b"\0\x05\0\0server busy\0");
         }
@@ -281,14 +310,13 @@ impl Plain {
     }
 
     // Opens a transfer that sends this text.
-    fn send(&mut self, spare: u16, from: Endpoint, text: Vec<u8>) -> Result<Said, Fail> {
-        let first = data(self.alloc, &text, 1)?;
+    fn send(&mut self, spare: u16, from: Endpoint, text: Vec<u8>) -> Result<Said, AllocError> {
         let end = End::Sending {
             text,
             block: 1,
             misses: 0,
         };
-        self.open(spare, from, end, first)
+        self.open(spare, from, end)
     }
 
     // `keeps` is whether a collection that has to be kept is kept.
@@ -298,7 +326,7 @@ impl Plain {
         from: Endpoint,
         bytes: &[u8],
         keeps: bool,
-    ) -> Result<Said, Fail> {
+    ) -> Result<Said, AllocError> {
         let Some(i) = self.place(port) else {
             return Ok(silent());
         };
@@ -320,7 +348,7 @@ impl Plain {
         }
     }
 
-    fn on_ack(&mut self, i: usize, n: usize) -> Result<Said, Fail> {
+    fn on_ack(&mut self, i: usize, n: usize) -> Result<Said, AllocError> {
         let Some(transfer) = self.live.get_mut(i) else {
             return Ok(silent());
         };
@@ -340,11 +368,16 @@ impl Plain {
         }
         *block = n.wrapping_add(1);
         *misses = 0;
-        let bytes = data(self.alloc, text, *block)?;
-        Ok(says(transfer.port, transfer.peer, bytes))
+        self.repeat(i)
     }
 
-    fn on_data(&mut self, i: usize, n: usize, body: &[u8], keeps: bool) -> Result<Said, Fail> {
+    fn on_data(
+        &mut self,
+        i: usize,
+        n: usize,
+        body: &[u8],
+        keeps: bool,
+    ) -> Result<Said, AllocError> {
         let Some(transfer) = self.live.get_mut(i) else {
             return Ok(silent());
         };
@@ -388,25 +421,27 @@ impl Plain {
         }
     }
 
-    // Merges the solutions of a file. Returns what the keeper is given, if they change the collection, which is
-    // replaced only if `keeps`.
-    fn merge(
+    // The solutions of a collection and these, of which the better ones stay.
+    fn joined(
+        &self,
+        ruleset: Ruleset,
+        solutions: Vec<Solution>,
+    ) -> Result<Vec<Solution>, AllocError> {
+        let mut joined = copy(self.alloc, self.collection(ruleset))?;
+        join(&mut joined, solutions)?;
+        Ok(joined)
+    }
+
+    // Gives the keeper these solutions, and takes them for a collection if it `keeps` them.
+    fn keep(
         &mut self,
         ruleset: Ruleset,
         solutions: Vec<Solution>,
         keeps: bool,
-    ) -> Result<Option<Keeping>, Fail> {
-        if !solutions
-            .iter()
-            .any(|one| improves(self.collection(ruleset), one))
-        {
-            return Ok(None);
-        }
-        let mut joined = copy(self.alloc, self.collection(ruleset))?;
-        join(&mut joined, solutions)?;
-        let text = text(self.alloc, ruleset, &joined)?;
+    ) -> Result<Option<Keeping>, AllocError> {
+        let text = text(self.alloc, ruleset, &solutions)?;
         if keeps {
-            self.replace(ruleset, joined);
+            self.replace(ruleset, solutions);
         }
         Ok(Some(Keeping {
             ruleset,
@@ -415,8 +450,23 @@ impl Plain {
         }))
     }
 
+    // Merges the solutions of a file. Returns what the keeper is given, if they change the collection, which is
+    // replaced only if `keeps`.
+    fn merge(
+        &mut self,
+        ruleset: Ruleset,
+        solutions: Vec<Solution>,
+        keeps: bool,
+    ) -> Result<Option<Keeping>, AllocError> {
+        if !improve(self.collection(ruleset), &solutions) {
+            return Ok(None);
+        }
+        let joined = self.joined(ruleset, solutions)?;
+        self.keep(ruleset, joined, keeps)
+    }
+
     // Merges a file, if it is one. Returns what the keeper is given.
-    fn merge_file(&mut self, file: &[u8], keeps: bool) -> Result<Option<Keeping>, Fail> {
+    fn merge_file(&mut self, file: &[u8], keeps: bool) -> Result<Option<Keeping>, AllocError> {
         match read(self.alloc, file)? {
             Some((ruleset, solutions)) => self.merge(ruleset, solutions, keeps),
             None => Ok(None),
@@ -424,7 +474,13 @@ impl Plain {
     }
 
     // Handles the whole file of the transfer at this place of the list.
-    fn on_file(&mut self, i: usize, n: usize, file: Vec<u8>, keeps: bool) -> Result<Said, Fail> {
+    fn on_file(
+        &mut self,
+        i: usize,
+        n: usize,
+        file: Vec<u8>,
+        keeps: bool,
+    ) -> Result<Said, AllocError> {
         let kept = self.merge_file(&file, keeps)?;
         let mut said = self.end_file(i, n, file, kept.is_some() && !keeps)?;
         said.kept = kept;
@@ -432,7 +488,13 @@ impl Plain {
     }
 
     // Takes that file, or ends its transfer if it was not kept.
-    fn end_file(&mut self, i: usize, n: usize, file: Vec<u8>, unkept: bool) -> Result<Said, Fail> {
+    fn end_file(
+        &mut self,
+        i: usize,
+        n: usize,
+        file: Vec<u8>,
+        unkept: bool,
+    ) -> Result<Said, AllocError> {
         if !unkept {
             return self.take(i, n, file);
         }
@@ -444,7 +506,7 @@ impl Plain {
     }
 
     // Takes the file of the transfer at this place of the list.
-    fn take(&mut self, i: usize, n: usize, file: Vec<u8>) -> Result<Said, Fail> {
+    fn take(&mut self, i: usize, n: usize, file: Vec<u8>) -> Result<Said, AllocError> {
         let Some(transfer) = self.live.get_mut(i) else {
             return Ok(silent());
         };
@@ -457,14 +519,13 @@ impl Plain {
         Ok(said)
     }
 
-    pub(crate) fn on_timeout(&mut self, port: u16) -> Result<Said, Fail> {
+    pub(crate) fn on_timeout(&mut self, port: u16) -> Result<Said, AllocError> {
         let Some(i) = self.place(port) else {
             return Ok(silent());
         };
         let Some(transfer) = self.live.get_mut(i) else {
             return Ok(silent());
         };
-        let peer = transfer.peer;
         let (misses, most) = match &mut transfer.end {
             End::Sending { misses, .. } | End::Receiving { misses, .. } => (misses, 4),
             End::Waiting { misses, .. } => (misses, 1),
@@ -473,12 +534,6 @@ impl Plain {
             return Ok(self.close(i));
         }
         *misses = misses.wrapping_add(1);
-        match &transfer.end {
-            End::Sending { text, block, .. } => {
-                Ok(says(port, peer, data(self.alloc, text, *block)?))
-            }
-            End::Receiving { count, .. } => Ok(says(port, peer, ack(self.alloc, *count)?)),
-            End::Waiting { .. } => Ok(silent()),
-        }
+        self.repeat(i)
     }
 }

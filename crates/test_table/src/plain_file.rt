@@ -1,6 +1,5 @@
 // Files and collections as plain lists, written from the tables of docs/FORMATS.md.
-use std::alloc::Global;
-use std::test::Fail;
+use std::alloc::{AllocError, Global};
 use tws_file::Ruleset;
 
 // A solution's key, level number first and then its password's bytes, and its body.
@@ -24,14 +23,17 @@ fn little(bytes: &[u8], i: usize) -> u32 {
     ])
 }
 
-// Block `n` of a file, counted from 1.
-pub(crate) fn block_of(alloc: Global, file: &[u8], n: usize) -> Result<Vec<u8>, Fail> {
-    let mut block = Vec::new(alloc);
-    let start = n.saturating_sub(1).wrapping_mul(512);
-    for b in file.iter().skip(start).take(512) {
-        block.push(*b)?;
+// The bytes of a file from this place on, at most `count` of them.
+pub(crate) fn piece(file: &[u8], from: usize, count: usize) -> &[u8] {
+    match file.get(from..) {
+        Some(rest) => &rest[..rest.len().min(count)],
+        None => &[],
     }
-    Ok(block)
+}
+
+// Block `n` of a file, counted from 1.
+pub(crate) fn block_of(file: &[u8], n: usize) -> &[u8] {
+    piece(file, n.saturating_sub(1).wrapping_mul(512), 512)
 }
 
 // The length in bytes of a move that begins with this byte.
@@ -77,11 +79,13 @@ fn record_size(file: &[u8], at: usize) -> Option<usize> {
     Some(size)
 }
 
-fn take_solution(alloc: Global, file: &[u8], at: usize, size: usize) -> Result<Solution, Fail> {
-    let mut body = Vec::new(alloc);
-    for b in file.iter().skip(at.wrapping_add(4)).take(size) {
-        body.push(*b)?;
-    }
+fn take_solution(
+    alloc: Global,
+    file: &[u8],
+    at: usize,
+    size: usize,
+) -> Result<Solution, AllocError> {
+    let body = Vec::from_slice(alloc, piece(file, at.wrapping_add(4), size))?;
     let key = u64::from_be_bytes([
         0,
         0,
@@ -95,31 +99,50 @@ fn take_solution(alloc: Global, file: &[u8], at: usize, size: usize) -> Result<S
     Ok(Solution { key, body })
 }
 
-// The ruleset of a file and its solutions; `None` if the bytes are not a file.
-pub(crate) fn read(alloc: Global, file: &[u8]) -> Result<Option<(Ruleset, Vec<Solution>)>, Fail> {
-    let ruleset = match byte(file, 4) {
-        1 => Ruleset::Lynx,
-        2 => Ruleset::Ms,
-        _ => return Ok(None),
-    };
-    let mut at = 8 + usize::from(byte(file, 7));
-    if file.len() < at || little(file, 0) != 0x999B_3335 {
-        return Ok(None);
-    }
-    let mut solutions = Vec::new(alloc);
+// Adds the solutions of the records from this place on. Returns whether all that follows is records.
+fn add_solutions(
+    alloc: Global,
+    file: &[u8],
+    from: usize,
+    solutions: &mut Vec<Solution>,
+) -> Result<bool, AllocError> {
+    let mut at = from;
     for _ in 0..file.len() {
         if at >= file.len() {
-            break;
+            return Ok(true);
         }
         let Some(size) = record_size(file, at) else {
-            return Ok(None);
+            return Ok(false);
         };
         if is_solution(file, at, size) {
             solutions.push(take_solution(alloc, file, at, size)?)?;
         }
         at = at.wrapping_add(4).wrapping_add(size);
     }
-    Ok(Some((ruleset, solutions)))
+    Ok(true)
+}
+
+// The ruleset of a file and its solutions; `None` if the bytes are not a file.
+pub(crate) fn read(
+    alloc: Global,
+    file: &[u8],
+) -> Result<Option<(Ruleset, Vec<Solution>)>, AllocError> {
+    let ruleset = match byte(file, 4) {
+        1 => Ruleset::Lynx,
+        2 => Ruleset::Ms,
+        _ => return Ok(None),
+    };
+    let at = 8 + usize::from(byte(file, 7));
+    if file.len() < at || little(file, 0) != 0x999B_3335 {
+        return Ok(None);
+    }
+    let mut solutions = Vec::new(alloc);
+    let is_file = add_solutions(alloc, file, at, &mut solutions)?;
+    Ok(if is_file {
+        Some((ruleset, solutions))
+    } else {
+        None
+    })
 }
 
 // Fewer ticks are better, then fewer bytes, then lesser bytes.
@@ -149,17 +172,29 @@ pub(crate) fn improves(collection: &[Solution], solution: &Solution) -> bool {
     true
 }
 
-fn add(collection: &mut Vec<Solution>, solution: Solution) -> Result<(), Fail> {
-    if !improves(collection, &solution) {
-        return Ok(());
-    }
-    let mut place = collection.len();
-    for (i, old) in collection.iter().enumerate() {
-        if old.key >= solution.key {
-            place = i;
-            break;
+// Whether one of these solutions does.
+pub(crate) fn improve(collection: &[Solution], solutions: &[Solution]) -> bool {
+    for solution in solutions {
+        if improves(collection, solution) {
+            return true;
         }
     }
+    false
+}
+
+// The place of the first solution whose key is not less than this one.
+fn place_of(collection: &[Solution], key: u64) -> usize {
+    for (i, old) in collection.iter().enumerate() {
+        if old.key >= key {
+            return i;
+        }
+    }
+    collection.len()
+}
+
+// Puts a solution in the place of the one with its key, or before the first with a greater key.
+fn put(collection: &mut Vec<Solution>, solution: Solution) -> Result<(), AllocError> {
+    let place = place_of(collection, solution.key);
     match collection.get_mut(place) {
         Some(old) if old.key == solution.key => *old = solution,
         _ => {
@@ -171,38 +206,57 @@ fn add(collection: &mut Vec<Solution>, solution: Solution) -> Result<(), Fail> {
     Ok(())
 }
 
-pub(crate) fn join(collection: &mut Vec<Solution>, solutions: Vec<Solution>) -> Result<(), Fail> {
+pub(crate) fn join(
+    collection: &mut Vec<Solution>,
+    solutions: Vec<Solution>,
+) -> Result<(), AllocError> {
     for solution in solutions {
-        add(collection, solution)?;
+        if improves(collection, &solution) {
+            put(collection, solution)?;
+        }
     }
     Ok(())
 }
 
-pub(crate) fn copy(alloc: Global, collection: &[Solution]) -> Result<Vec<Solution>, Fail> {
-    let mut copy = Vec::new(alloc);
+fn add_copies(
+    alloc: Global,
+    collection: &[Solution],
+    copies: &mut Vec<Solution>,
+) -> Result<(), AllocError> {
     for solution in collection {
-        copy.push(Solution {
+        copies.push(Solution {
             key: solution.key,
             body: Vec::from_slice(alloc, &solution.body)?,
         })?;
     }
-    Ok(copy)
+    Ok(())
+}
+
+pub(crate) fn copy(alloc: Global, collection: &[Solution]) -> Result<Vec<Solution>, AllocError> {
+    let mut copies = Vec::new(alloc);
+    add_copies(alloc, collection, &mut copies)?;
+    Ok(copies)
+}
+
+fn add_records(text: &mut Vec<u8>, collection: &[Solution]) -> Result<(), AllocError> {
+    for solution in collection {
+        let size = (solution.body.len() % 65536) as u32;
+        text.extend_from_slice(&size.to_le_bytes())?;
+        text.extend_from_slice(&solution.body)?;
+    }
+    Ok(())
 }
 
 pub(crate) fn text(
     alloc: Global,
     ruleset: Ruleset,
     collection: &[Solution],
-) -> Result<Vec<u8>, Fail> {
+) -> Result<Vec<u8>, AllocError> {
     let rules = match ruleset {
         Ruleset::Lynx => 1,
         Ruleset::Ms => 2,
     };
     let mut text = Vec::from_slice(alloc, &[0x35, 0x33, 0x9B, 0x99, rules, 0, 0, 0])?;
-    for solution in collection {
-        let size = (solution.body.len() % 65536) as u32;
-        text.extend_from_slice(&size.to_le_bytes())?;
-        text.extend_from_slice(&solution.body)?;
-    }
+    add_records(&mut text, collection)?;
     Ok(text)
 }

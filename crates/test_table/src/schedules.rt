@@ -7,13 +7,13 @@ use crate::drawing::{Input, draw};
 use crate::plain::{Plain, Said};
 use archive_memory::MemoryKeeper;
 use archive_table::Step;
-use std::alloc::Global;
+use std::alloc::{AllocError, Global};
 use std::test::Fail;
 use test_samples::Draws;
 use tws_file::Ruleset;
 
 // How often each thing happened in all runs.
-#[derive(Drop)]
+#[derive(Clone, Copy)]
 struct Counts {
     opened: u32,
     taken: u32,
@@ -139,7 +139,7 @@ impl Counts {
 }
 
 // What the plain server does at an input.
-fn plain_step(plain: &mut Plain, input: &Input, keeps: bool) -> Result<Said, Fail> {
+fn plain_step(plain: &mut Plain, input: &Input, keeps: bool) -> Result<Said, AllocError> {
     match input {
         Input::Ask { spare, from, bytes } => plain.on_request(*spare, *from, bytes),
         Input::Recv { port, from, bytes } => plain.on_datagram(*port, *from, bytes, keeps),
@@ -209,14 +209,32 @@ fn difference_after(
     difference(alloc, both)
 }
 
+// Counts what the plain server has done at an input, at which the servers must agree.
+fn judge(
+    alloc: Global,
+    both: &mut Both,
+    counts: &mut Counts,
+    input: &Input,
+    said: &Said,
+) -> Result<(), Fail> {
+    counts.count(said);
+    match difference_at(alloc, both, input, said)? {
+        Some(what) => Err(Fail::new(what)),
+        None => Ok(()),
+    }
+}
+
 // Gives an input to both servers, which must agree on the step, what is kept, the ports and the collections.
-fn agree(alloc: Global, both: &mut Both, input: &Input, keeps: bool) -> Result<Said, Fail> {
+fn agree(
+    alloc: Global,
+    both: &mut Both,
+    counts: &mut Counts,
+    input: &Input,
+    keeps: bool,
+) -> Result<(), Fail> {
     both.keeper.fail_at(if keeps { 0 } else { 1 });
     let said = plain_step(&mut both.plain, input, keeps)?;
-    match difference_at(alloc, both, input, &said)? {
-        Some(what) => Err(Fail::new(what)),
-        None => Ok(said),
-    }
+    judge(alloc, both, counts, input, &said)
 }
 
 // Starts the server again with what its keeper has. It must agree with the plain server without transfers.
@@ -248,8 +266,7 @@ fn turn(
     }
     let input = draw(alloc, draws, &both.plain, number, crowded)?;
     let keeps = !draws.once_in(4);
-    counts.count(&agree(alloc, both, &input, keeps)?);
-    Ok(())
+    agree(alloc, both, counts, &input, keeps)
 }
 
 fn run_both(
@@ -278,8 +295,7 @@ fn run(alloc: Global, draws: &mut Draws, counts: &mut Counts, number: u16) -> Re
 }
 
 // What happened in a thousand runs, in which both servers agreed.
-fn count_runs(alloc: Global) -> Result<Counts, Fail> {
-    let mut draws = Draws::new(14);
+fn count_runs(alloc: Global, draws: &mut Draws) -> Result<Counts, Fail> {
     let mut counts = Counts {
         opened: 0,
         taken: 0,
@@ -291,14 +307,17 @@ fn count_runs(alloc: Global) -> Result<Counts, Fail> {
         restarts: 0,
     };
     for number in 0..1000 {
-        run(alloc, &mut draws, &mut counts, number)?;
+        run(alloc, draws, &mut counts, number)?;
     }
     Ok(counts)
 }
 
+fn count_new_runs(alloc: Global) -> Result<Counts, Fail> {
+    count_runs(alloc, &mut Draws::new(14))
+}
+
 #[test]
 fn schedules_of_the_server(rt: HostRuntime) -> Result<(), Fail> {
-    let counts = count_runs(rt.alloc())?;
-    assert_eq!(rt; counts.too_few(), None);
+    assert_eq!(rt; count_new_runs(rt.alloc())?.too_few(), None);
     Ok(())
 }
