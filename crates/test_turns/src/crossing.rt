@@ -150,17 +150,6 @@ fn puts_once(alloc: Global, archive: &mut Archive) -> Result<bool, Fail> {
     is_put_once(alloc, archive, &mut client, &mut run)
 }
 
-fn puts_once_at_new(alloc: Global) -> Result<bool, Fail> {
-    let mut archive = Archive::new(alloc, &[4000, 4001])?;
-    puts_once(alloc, &mut archive)
-}
-
-#[test]
-fn a_repeated_request(rt: HostRuntime) -> Result<(), Fail> {
-    assert!(rt; puts_once_at_new(rt.alloc())?);
-    Ok(())
-}
-
 // ---- gets that cross a put
 
 // Makes the turns of a put that has sent its request. The server has sent `answers` datagrams before. Returns whether
@@ -288,25 +277,45 @@ fn gets_around_a_put(alloc: Global, archive: &mut Archive) -> Result<[bool; 4], 
     Ok([first, put, got, last])
 }
 
-// The same, and how many datagrams the server has sent, and how many transfers are live.
-fn counts_around_a_put(
-    alloc: Global,
-    archive: &mut Archive,
-) -> Result<([bool; 4], usize, usize), Fail> {
+// Whether each is right. The server has sent two ACKs for each put and a block for each get, and of the four transfers only
+// those of the puts still wait for a repeated last block.
+fn gets_across(alloc: Global, archive: &mut Archive) -> Result<bool, Fail> {
     let got = gets_around_a_put(alloc, archive)?;
     let sent = send_count(&archive.wire);
-    Ok((got, sent, archive.server.table().live()))
+    Ok((got, sent, archive.server.table().live()) == ([true; 4], 6, 2))
 }
 
-fn counts_at_new(alloc: Global) -> Result<([bool; 4], usize, usize), Fail> {
-    let mut archive = Archive::new(alloc, &[4000, 4001, 4002, 4003])?;
-    counts_around_a_put(alloc, &mut archive)
+// ---- new servers
+
+#[derive(Clone, Copy)]
+enum Deed {
+    PutOnce,
+    GetAcross,
 }
 
-// The next get has the new collection. The server has sent two ACKs for each put and a block for each get, and of the
-// four transfers only those of the puts still wait for a repeated last block.
+fn perform(alloc: Global, archive: &mut Archive, deed: Deed) -> Result<bool, Fail> {
+    match deed {
+        Deed::PutOnce => puts_once(alloc, archive),
+        Deed::GetAcross => gets_across(alloc, archive),
+    }
+}
+
+// Whether this comes out right at a new server, whose wire opens these ports.
+fn is_right(alloc: Global, opens: &[u16], deed: Deed) -> Result<bool, Fail> {
+    let mut archive = Archive::new(alloc, opens)?;
+    perform(alloc, &mut archive, deed)
+}
+
+#[test]
+fn a_repeated_request(rt: HostRuntime) -> Result<(), Fail> {
+    assert!(rt; is_right(rt.alloc(), &[4000, 4001], Deed::PutOnce)?);
+    Ok(())
+}
+
+// The next get has the new collection.
 #[test]
 fn gets_across_a_put(rt: HostRuntime) -> Result<(), Fail> {
-    assert_eq!(rt; counts_at_new(rt.alloc())?, ([true; 4], 6, 2));
+    let opens = [4000, 4001, 4002, 4003];
+    assert!(rt; is_right(rt.alloc(), &opens, Deed::GetAcross)?);
     Ok(())
 }

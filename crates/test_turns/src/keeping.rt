@@ -67,12 +67,15 @@ fn has_refused(wire: &MemoryWire) -> bool {
     let [came, opened, first, next, last, closed] = wire.log() else {
         return false;
     };
-    is_came(came, 6969, ALICE, WRQ)
-        && is_opened(opened, Some(4000))
-        && is_sent(first, 4000, ALICE, ACK_0, true)
-        && is_came(next, 4000, ALICE, DATA_HUNDRED)
-        && is_sent(last, 4000, ALICE, NOT_KEPT, true)
-        && is_closed(closed, 4000)
+    let request = (
+        is_came(came, 6969, ALICE, WRQ),
+        is_opened(opened, Some(4000)),
+    );
+    let is_acked = is_sent(first, 4000, ALICE, ACK_0, true);
+    let has_block = is_came(next, 4000, ALICE, DATA_HUNDRED);
+    let is_refused = is_sent(last, 4000, ALICE, NOT_KEPT, true);
+    let is_closed = is_closed(closed, 4000);
+    request == (true, true) && is_acked && has_block && is_refused && is_closed
 }
 
 // A put whose keep fails, and then one of the same file by another client. Returns what is left of each, and, in turns,
@@ -123,17 +126,19 @@ fn put_at_new(alloc: Global, in_rounds: bool) -> Result<((bool, Left, Left), boo
     put_and_keep(alloc, &mut wire, in_rounds)
 }
 
-// The first put is refused, is merged into no collection, and is closed. The file is taken when it is put again. So it is
-// in turns, and in rounds.
+// Whether the first put is refused, is merged into no collection, and is closed, and the file is taken when it is put
+// again.
+fn is_kept_later(alloc: Global, in_rounds: bool) -> Result<bool, Fail> {
+    let left = put_at_new(alloc, in_rounds)?;
+    Ok(left == ((true, (0, 0, true, true), (1, 1, true, true)), true))
+}
+
+// So it is in turns, and in rounds.
 #[test]
 fn a_keep_that_fails(rt: HostRuntime) -> Result<(), Fail> {
-    for in_rounds in [false, true] {
-        assert_eq!(rt;
-            put_at_new(rt.alloc(), in_rounds)?,
-            ((true, (0, 0, true, true), (1, 1, true, true)), true),
-            "{in_rounds}"
-        );
-    }
+    let in_turns = is_kept_later(rt.alloc(), false)?;
+    let in_rounds = is_kept_later(rt.alloc(), true)?;
+    assert_eq!(rt; (in_turns, in_rounds), (true, true));
     Ok(())
 }
 
@@ -154,18 +159,22 @@ fn starts_with(alloc: Global, keeper: &mut MemoryKeeper) -> Result<bool, LoadFau
     }
 }
 
-// The same with what was kept. This call of the keeper fails.
-fn starts(alloc: Global, failing: u64) -> Result<Result<bool, LoadFault>, Fail> {
+// Whether that is so with what was kept, if this call of the keeper fails.
+fn starts_so(
+    alloc: Global,
+    failing: u64,
+    wanted: Result<bool, LoadFault>,
+) -> Result<bool, AllocError> {
     let mut keeper = keeper_of(alloc)?;
     keeper.fail_at(failing);
-    Ok(starts_with(alloc, &mut keeper))
+    Ok(starts_with(alloc, &mut keeper) == wanted)
 }
 
 #[test]
 fn a_start_with_what_was_kept(rt: HostRuntime) -> Result<(), Fail> {
-    let device = Err(LoadFault::Keep(KeepFault::Device));
-    for (failing, wanted) in [(0, Ok(true)), (1, device), (2, device), (3, Ok(true))] {
-        assert_eq!(rt; starts(rt.alloc(), failing)?, wanted);
+    const DEVICE: Result<bool, LoadFault> = Err(LoadFault::Keep(KeepFault::Device));
+    for (failing, wanted) in [(0, Ok(true)), (1, DEVICE), (2, DEVICE), (3, Ok(true))] {
+        assert!(rt; starts_so(rt.alloc(), failing, wanted)?, "at {failing}");
     }
     Ok(())
 }

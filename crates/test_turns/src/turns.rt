@@ -7,16 +7,31 @@ use std::test::Fail;
 use test_samples::{ACK_0, ACK_1, ALICE, DATA_HUNDRED, WRQ};
 use tws_file::Ruleset;
 
-// Makes turns of a new server. Returns how many files were taken, how many transfers are live, and how many solutions
-// the Lynx collection has.
-fn serve(alloc: Global, wire: &mut MemoryWire, turns: u64) -> (u64, usize, usize) {
-    serve_with(wire, &mut Server::new(alloc, 6969), turns)
+// A number of turns, how many files are taken in them, and how many transfers are live and solutions the Lynx collection has
+// after them.
+type Row = (u64, u64, usize, usize);
+
+fn is_served(wire: &mut MemoryWire, server: &mut Server, row: Row) -> bool {
+    let (turns, taken, live, solutions) = row;
+    let now_taken = serve_turns(wire, &mut NoKeeper, server, turns);
+    let table = server.table();
+    let left = (table.live(), table.collection(Ruleset::Lynx).len());
+    (now_taken, left) == (taken, (live, solutions))
 }
 
-fn serve_with(wire: &mut MemoryWire, server: &mut Server, turns: u64) -> (u64, usize, usize) {
-    let taken = serve_turns(wire, &mut NoKeeper, server, turns);
-    let table = server.table();
-    (taken, table.live(), table.collection(Ruleset::Lynx).len())
+// Makes turns of a server. Each row has also how many datagrams were sent by then.
+fn are_served(wire: &mut MemoryWire, server: &mut Server, rows: &[(Row, usize)]) -> bool {
+    for (row, sent) in rows {
+        if !is_served(wire, server, *row) || send_count(wire) != *sent {
+            return false;
+        }
+    }
+    true
+}
+
+// The same with a new server.
+fn are_served_at_new(alloc: Global, wire: &mut MemoryWire, rows: &[(Row, usize)]) -> bool {
+    are_served(wire, &mut Server::new(alloc, 6969), rows)
 }
 
 // Whether the calls of a wire were those of a put in two turns.
@@ -31,38 +46,12 @@ fn has_put(wire: &MemoryWire) -> bool {
         && is_sent(last, 4000, ALICE, ACK_1, true)
 }
 
-// What is left of a put in two turns, how many calls failed, and whether they were the expected ones.
-fn put_in_two_turns(alloc: Global) -> Result<((u64, usize, usize), u64, bool), Fail> {
-    let mut wire = put_wire(alloc, 4000)?;
-    let served = serve(alloc, &mut wire, 2);
-    Ok((served, wire.failures(), wire.telling() && has_put(&wire)))
-}
-
-#[test]
-fn a_put_in_two_turns(rt: HostRuntime) -> Result<(), Fail> {
-    assert_eq!(rt; put_in_two_turns(rt.alloc())?, ((1, 1, 1), 0, true));
-    Ok(())
-}
-
 // Whether a request arrived, this port was opened for it, and nothing more arrived.
 fn has_opened_alone(wire: &MemoryWire, port: Option<u16>) -> bool {
     let [came, opened, quiet] = wire.log() else {
         return false;
     };
     is_came(came, 6969, ALICE, WRQ) && is_opened(opened, port) && is_quiet(quiet, 6969)
-}
-
-// What is left of a put in two turns whose spare port is 0, and whether nothing more arrived.
-fn put_to_port_0(alloc: Global) -> Result<((u64, usize, usize), bool), Fail> {
-    let mut wire = put_wire(alloc, 0)?;
-    let served = serve(alloc, &mut wire, 2);
-    Ok((served, has_opened_alone(&wire, Some(0))))
-}
-
-#[test]
-fn a_spare_port_of_0(rt: HostRuntime) -> Result<(), Fail> {
-    assert_eq!(rt; put_to_port_0(rt.alloc())?, ((0, 0, 0), true));
-    Ok(())
 }
 
 // Whether the receive failed, and the request was answered in the second turn.
@@ -102,6 +91,7 @@ fn has_acked(wire: &MemoryWire, first_ok: bool, last_ok: bool) -> bool {
 // nothing is sent, a send, the receive of the block, the last send.
 fn has_failed_at(wire: &MemoryWire, n: u64) -> bool {
     match n {
+        0 => wire.telling() && has_put(wire),
         1 => has_come_later(wire),
         2 => has_opened_alone(wire, None),
         3 => has_acked(wire, false, true),
@@ -110,62 +100,59 @@ fn has_failed_at(wire: &MemoryWire, n: u64) -> bool {
     }
 }
 
-// Makes two turns of a server whose `n`-th call of the wire fails. Returns what is left, how many calls failed, and
-// whether the calls were the expected ones.
-fn turns_with_failure(alloc: Global, n: u64) -> Result<((u64, usize, usize), u64, bool), Fail> {
-    let mut wire = put_wire(alloc, 4000)?;
-    wire.fail_at(n);
-    let served = serve(alloc, &mut wire, 2);
-    Ok((served, wire.failures(), has_failed_at(&wire, n)))
+// The same of one whose spare port is this. Nothing more arrives if that is 0.
+fn has_calls(wire: &MemoryWire, port: u16, n: u64) -> bool {
+    if port == 0 {
+        has_opened_alone(wire, Some(0))
+    } else {
+        has_failed_at(wire, n)
+    }
 }
 
+// Whether the two turns of such a put are as this row, with these calls, of which only that one fails.
+fn is_put(alloc: Global, port: u16, n: u64, row: (Row, usize)) -> Result<bool, Fail> {
+    let mut wire = put_wire(alloc, port)?;
+    wire.fail_at(n);
+    let is_served = are_served_at_new(alloc, &mut wire, &[row]);
+    let has_calls = has_calls(&wire, port, n);
+    Ok(is_served && has_calls && wire.failures() == u64::from(n > 0))
+}
+
+// A put, one whose spare port is 0, and one for each call that fails.
 #[test]
-fn each_call_failing(rt: HostRuntime) -> Result<(), Fail> {
-    for (n, served) in [
-        (1, (0, 1, 0)),
-        (2, (0, 0, 0)),
-        (3, (1, 1, 1)),
-        (4, (0, 1, 0)),
-        (5, (1, 1, 1)),
-    ] {
-        assert_eq!(rt;
-            turns_with_failure(rt.alloc(), n)?,
-            (served, 1, true),
-            "at {n}"
-        );
+fn puts_in_two_turns(rt: HostRuntime) -> Result<(), Fail> {
+    const ROWS: [(u16, u64, (Row, usize)); 7] = [
+        (4000, 0, ((2, 1, 1, 1), 2)),
+        (0, 0, ((2, 0, 0, 0), 0)),
+        (4000, 1, ((2, 0, 1, 0), 1)),
+        (4000, 2, ((2, 0, 0, 0), 0)),
+        (4000, 3, ((2, 1, 1, 1), 2)),
+        (4000, 4, ((2, 0, 1, 0), 1)),
+        (4000, 5, ((2, 1, 1, 1), 2)),
+    ];
+    for (port, n, row) in ROWS {
+        assert!(rt; is_put(rt.alloc(), port, n, row)?, "{port}, at {n}");
     }
     Ok(())
 }
 
-// Makes turns of a server, to which a request has arrived and then nothing. Each row has the number of turns, how many
-// datagrams were sent by then, and how many transfers are live.
-fn are_quiet(wire: &mut MemoryWire, server: &mut Server, rows: &[(u64, usize, usize)]) -> bool {
-    for (turns, sent, live) in rows {
-        serve_turns(wire, &mut NoKeeper, server, *turns);
-        if send_count(wire) != *sent || server.table().live() != *live {
-            return false;
-        }
-    }
-    true
-}
-
-// The same with a new server.
-fn are_quiet_at_new(alloc: Global, wire: &mut MemoryWire, rows: &[(u64, usize, usize)]) -> bool {
-    are_quiet(wire, &mut Server::new(alloc, 6969), rows)
-}
-
 // The last ACK of a transfer is sent again after 200 quiet turns, four times; then the transfer is closed.
+const QUIET: &[(Row, usize)] = &[
+    ((200, 0, 1, 0), 1),
+    ((1, 0, 1, 0), 2),
+    ((199, 0, 1, 0), 2),
+    ((1, 0, 1, 0), 3),
+    ((599, 0, 1, 0), 5),
+    ((1, 0, 0, 0), 5),
+];
+
+fn is_quiet_so(alloc: Global) -> Result<bool, Fail> {
+    let mut wire = request_wire(alloc, 4000)?;
+    Ok(are_served_at_new(alloc, &mut wire, QUIET))
+}
+
 #[test]
 fn a_transfer_that_stays_quiet(rt: HostRuntime) -> Result<(), Fail> {
-    const ROWS: &[(u64, usize, usize)] = &[
-        (200, 1, 1),
-        (1, 2, 1),
-        (199, 2, 1),
-        (1, 3, 1),
-        (599, 5, 1),
-        (1, 5, 0),
-    ];
-    let mut wire = request_wire(rt.alloc(), 4000)?;
-    assert!(rt; are_quiet_at_new(rt.alloc(), &mut wire, ROWS));
+    assert!(rt; is_quiet_so(rt.alloc())?);
     Ok(())
 }

@@ -26,33 +26,39 @@ fn a_put_in_rounds_that_is_never_answered(rt: HostRuntime) -> Result<(), Fail> {
     Ok(())
 }
 
-// Lets a get dally, at which its only block arrives once more. Returns how much was sent by then, and the time.
-fn dallied(alloc: Global, wire: &mut MemoryWire, run: &mut GetRun) -> Result<(usize, u64), Fail> {
+// Lets a get of `len` bytes dally, at which its only block arrives once more. Returns the length, how much was sent by then,
+// and the time.
+fn dallied(
+    alloc: Global,
+    wire: &mut MemoryWire,
+    run: &mut GetRun,
+    len: u64,
+) -> Result<(u64, usize, u64), Fail> {
     wire.arrive(alloc, 5000, at(4000), DATA_HUNDRED)?;
     run.dally(wire, 9);
-    Ok((send_count(wire), wire.wait(0, None).time))
+    Ok((len, send_count(wire), wire.wait(0, None).time))
 }
 
-// Gets the file and dallies. Returns also how many bytes it has.
+// Gets the file and dallies.
 fn got_and_dallied(
     alloc: Global,
     wire: &mut MemoryWire,
     out: &mut Vec<u8>,
-) -> Result<(u64, (usize, u64)), Fail> {
+) -> Result<(u64, usize, u64), Fail> {
     match get_in_rounds(alloc, wire, SERVER, Ruleset::Lynx, 1, out) {
-        Ok((len, mut run)) => Ok((len, dallied(alloc, wire, &mut run)?)),
+        Ok((len, mut run)) => dallied(alloc, wire, &mut run, len),
         Err(_) => Err(Fail::new("not got")),
     }
 }
 
 // The same at a wire with that block, and whether it has the file.
-fn got_at(alloc: Global, wire: &mut MemoryWire) -> Result<((u64, (usize, u64)), bool), Fail> {
+fn got_at(alloc: Global, wire: &mut MemoryWire) -> Result<((u64, usize, u64), bool), Fail> {
     let mut out = Vec::new(alloc);
     let got = got_and_dallied(alloc, wire, &mut out)?;
     Ok((got, out.as_slice() == HUNDRED.as_slice()))
 }
 
-fn got(alloc: Global) -> Result<((u64, (usize, u64)), bool), Fail> {
+fn got(alloc: Global) -> Result<((u64, usize, u64), bool), Fail> {
     let mut wire = answered_wire(alloc)?;
     got_at(alloc, &mut wire)
 }
@@ -60,6 +66,6 @@ fn got(alloc: Global) -> Result<((u64, (usize, u64)), bool), Fail> {
 // A get writes its file in the round in which it has it. It ends 250 milliseconds after the repeated block.
 #[test]
 fn a_get_in_rounds(rt: HostRuntime) -> Result<(), Fail> {
-    assert_eq!(rt; got(rt.alloc())?, ((28, (3, 250)), true));
+    assert_eq!(rt; got(rt.alloc())?, ((28, 3, 250), true));
     Ok(())
 }

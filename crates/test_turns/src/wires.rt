@@ -1,5 +1,5 @@
 // Wires in memory for the tests, the datagrams of a put and a get by hand, RFC 1350, and tests of a log's entries.
-use archive_memory::{Entry, MemoryKeeper, MemoryWire};
+use archive_memory::{Entry, Kept, MemoryKeeper, MemoryWire};
 use archive_table::Table;
 use archive_turns::PutRun;
 use std::alloc::Global;
@@ -146,15 +146,16 @@ pub(crate) fn has_texts(alloc: Global, table: &Table, lynx: &[u8], ms: &[u8]) ->
     has_text(alloc, table, Ruleset::Lynx, lynx) && has_text(alloc, table, Ruleset::Ms, ms)
 }
 
-// Whether a keeper was given the text of HUNDRED for Lynx once for each of `wanted`, and kept it each time or not, as that
-// says.
+// Whether this is the text of HUNDRED for Lynx, and was kept or not, as `ok` says.
+fn is_given(one: &Kept, ok: bool) -> bool {
+    one.ruleset == Ruleset::Lynx && one.text.as_slice() == HUNDRED.as_slice() && one.ok == ok
+}
+
+// Whether a keeper was given that once for each of `wanted`, and kept it each time or not.
 pub(crate) fn was_given(keeper: &MemoryKeeper, wanted: &[bool]) -> bool {
     let kept = keeper.kept();
     for (one, ok) in kept.iter().zip(wanted) {
-        if one.ruleset != Ruleset::Lynx
-            || one.text.as_slice() != HUNDRED.as_slice()
-            || one.ok != *ok
-        {
+        if !is_given(one, *ok) {
             return false;
         }
     }
