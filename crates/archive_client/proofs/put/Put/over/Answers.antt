@@ -1,0 +1,5 @@
+use Rattle.std.proofs.Common.{rules}
+use Rattle.archive_client.proofs.put.Put.over.Goals as goal
+
+pub returns-in-Bound : goal.returns-in-Bound
+returns-in-Bound g c = search rules
