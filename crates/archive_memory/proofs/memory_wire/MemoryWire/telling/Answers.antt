@@ -1,0 +1,5 @@
+use Rattle.std.proofs.Common.{rules}
+use Rattle.archive_memory.proofs.memory_wire.MemoryWire.telling.Goals as goal
+
+pub returns : goal.returns
+returns g c = search rules
