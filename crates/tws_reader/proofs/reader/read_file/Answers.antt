@@ -1,4 +1,4 @@
-use Rattle.std.proofs.Common.{[], refl, subst, sym}
+use Rattle.std.proofs.Common.{[], refl, subst, sym, rules}
 use Rattle.std.proofs.lemmas.Result.{err_from_is_err_and}
 use Rattle.tws_reader.specs.Reader.{HasTaken}
 use Rattle.tws_reader.proofs.ReadSoFar.{only_memory, push_fails, reads_as}
@@ -13,3 +13,12 @@ pub returns-clause-accepts : goal.returns-clause-accepts
 returns-clause-accepts g c = λ file text.
     let taken = c.in_ok-push.ensures.taken [] (subst (λ r. HasTaken r []) (sym c.new-reader.ensures) refl) in
     reads_as c.args.bytes.now file c.finish.result (c.finish.ensures.joined c.args.bytes.now taken) text
+
+pub returns-in_err-push-clause-fault : goal.returns-in_err-push-clause-fault
+returns-in_err-push-clause-fault g c = search rules
+
+pub returns-clause-read : goal.returns-clause-read
+returns-clause-read g c = search rules
+
+pub returns-clause-fault : goal.returns-clause-fault
+returns-clause-fault g c = search rules
