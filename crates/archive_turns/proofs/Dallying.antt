@@ -47,8 +47,8 @@ left_of None = 0
 left_of (Some t) = end_left t.end
 
 -- the same at a port
-abbrev left_at : (port : ℕ) → Table → ℕ
-left_at port s = left_of (transfer_at port s)
+abbrev left_of_port : (port : ℕ) → Table → ℕ
+left_of_port port s = left_of (transfer_at port s)
 
 -- ---- ports that are removed or written
 
@@ -80,13 +80,13 @@ another p q other = at_is p q ∙ ne_eqb q p other
 
 -- ---- a time-out at a port
 
-goes_left : (p : ℕ) (peer : Endpoint) (end : End) (out : Option (List ℕ)) (s : Table) (t : Transfer) → transfer_at p s ≡ Some t → left_at p (goes_on p peer end out s).server ≡ end_left end
+goes_left : (p : ℕ) (peer : Endpoint) (end : End) (out : Option (List ℕ)) (s : Table) (t : Transfer) → transfer_at p s ≡ Some t → left_of_port p (goes_on p peer end out s).server ≡ end_left end
 goes_left p peer end out s t found = ap left_of (written p p s.live t (record { peer = peer; end = end }) found ∙ if_true _ _ (itself p))
 
-closes_left : (p : ℕ) (peer : Endpoint) (out : Option (List ℕ)) (s : Table) → AreRising (keys_of s.live) → left_at p (closes p peer out s).server ≡ 0
+closes_left : (p : ℕ) (peer : Endpoint) (out : Option (List ℕ)) (s : Table) → AreRising (keys_of s.live) → left_of_port p (closes p peer out s).server ≡ 0
 closes_left p peer out s rising = ap left_of (removed p p s.live rising ∙ if_true _ _ (itself p))
 
-sender_left : (state : SendState) (p : ℕ) (peer : Endpoint) (a : SendAnswer) (s : Table) (t : Transfer) → transfer_at p s ≡ Some t → AreRising (keys_of s.live) → left_at p (sending_goes_on state p peer a s).server ≡ 0
+sender_left : (state : SendState) (p : ℕ) (peer : Endpoint) (a : SendAnswer) (s : Table) (t : Transfer) → transfer_at p s ≡ Some t → AreRising (keys_of s.live) → left_of_port p (sending_goes_on state p peer a s).server ≡ 0
 sender_left send.Running p peer a s t found rising = goes_left p peer (sending a.sender) (dgram_of a.out) s t found
 sender_left send.Finished p peer a s t found rising = closes_left p peer (dgram_of a.out) s rising
 sender_left send.TimedOut p peer a s t found rising = closes_left p peer (dgram_of a.out) s rising
@@ -94,7 +94,7 @@ sender_left send.TimedOut p peer a s t found rising = closes_left p peer (dgram_
 at_most : (m n k : ℕ) → m ≡ n → n ≤ k → m ≤ k
 at_most m n k is small = omega (arith, is, small)
 
-receiver_left : (state : RecvState) (p : ℕ) (peer : Endpoint) (a : RecvAnswer) (s : Table) (t : Transfer) (n : ℕ) → transfer_at p s ≡ Some t → AreRising (keys_of s.live) → end_left (receiving a.receiver) ≤ n → left_at p (receiving_goes_on state p peer a s).server ≤ n
+receiver_left : (state : RecvState) (p : ℕ) (peer : Endpoint) (a : RecvAnswer) (s : Table) (t : Transfer) (n : ℕ) → transfer_at p s ≡ Some t → AreRising (keys_of s.live) → end_left (receiving a.receiver) ≤ n → left_of_port p (receiving_goes_on state p peer a s).server ≤ n
 receiver_left recv.Running p peer a s t n found rising small = at_most _ _ n (goes_left p peer (receiving a.receiver) (dgram_of a.out) s t found) small
 receiver_left recv.Complete p peer a s t n found rising small = at_most _ _ n (goes_left p peer (receiving a.receiver) (dgram_of a.out) s t found) small
 receiver_left recv.TimedOut p peer a s t n found rising small = at_most _ _ n (closes_left p peer (dgram_of a.out) s rising) (omega arith)
@@ -114,11 +114,11 @@ state_falls recv.Complete r is = dallied_left (r.misses + 1 == DALLY) r
 state_falls recv.TimedOut r is = at_most _ 0 _ (ap (λ (x : RecvState). state_left x r.misses) is) (omega arith)
 state_falls recv.Over r is = at_most _ 0 _ (ap (λ (x : RecvState). state_left x r.misses) is) (omega arith)
 
-waits_left : (end : End) (p : ℕ) (peer : Endpoint) (s : Table) (t : Transfer) → transfer_at p s ≡ Some t → AreRising (keys_of s.live) → left_at p (waits_at end p peer s).server ≤ end_left end - 1
+waits_left : (end : End) (p : ℕ) (peer : Endpoint) (s : Table) (t : Transfer) → transfer_at p s ≡ Some t → AreRising (keys_of s.live) → left_of_port p (waits_at end p peer s).server ≤ end_left end - 1
 waits_left (sending e) p peer s t found rising = at_most _ 0 _ (sender_left (sender_timeout e).sender.state p peer (sender_timeout e) s t found rising) (omega arith)
 waits_left (receiving r) p peer s t found rising = receiver_left (receiver_timeout r).receiver.state p peer (receiver_timeout r) s t (state_left r.state r.misses - 1) found rising (state_falls r.state r refl)
 
-timeout_falls : (t : Option Transfer) (p : ℕ) (s : Table) → transfer_at p s ≡ t → AreRising (keys_of s.live) → left_at p (timeout_at t p s).server ≤ left_of t - 1
+timeout_falls : (t : Option Transfer) (p : ℕ) (s : Table) → transfer_at p s ≡ t → AreRising (keys_of s.live) → left_of_port p (timeout_at t p s).server ≤ left_of t - 1
 timeout_falls (Some t) p s is rising = waits_left t.end p t.peer s t is rising
 timeout_falls None p s is rising = at_most _ 0 _ (ap left_of is) (omega arith)
 
@@ -175,15 +175,15 @@ timeout_few p s =
 
 -- what they have left of each dally and of the transfers
 pub record Falls (ports : List ℕ) (old new : Table) : Type 0 where
-  pub left : (q : ℕ) → left_at q new ≤ left_at q old - count_by (λ p. p == q) ports
+  pub left : (q : ℕ) → left_of_port q new ≤ left_of_port q old - count_by (λ p. p == q) ports
   pub few : length new.live ≤ length old.live
 
 -- no port has timed out yet
 pub falls_none : (s : Table) → Falls [] s s
 falls_none s = record { left = λ q. omega arith; few = omega arith }
 
-one_less : (now was first count more : ℕ) → was ≤ first - count → now ≤ was - 1 → more ≡ count + 1 → now ≤ first - more
-one_less now was first count more before falls is = omega (arith, before, falls, is)
+falls_by_one : (now was first count more : ℕ) → was ≤ first - count → now ≤ was - 1 → more ≡ count + 1 → now ≤ first - more
+falls_by_one now was first count more before falls is = omega (arith, before, falls, is)
 
 as_many : (now was first count more : ℕ) → was ≤ first - count → now ≡ was → more ≡ count → now ≤ first - more
 as_many now was first count more before same is = omega (arith, before, same, is)
@@ -198,9 +198,9 @@ falls_at items i d s old new small falls is rising =
     record {
       left = λ q. elim (cases_Bool (p == q)) [
         | inl y ↦
-            let falls_here : left_at q after ≤ left_at q old - 1 =
-            subst (λ (n : ℕ). left_at n after ≤ left_at n old - 1) (eqb-true p q y) (timeout_falls (transfer_at p old) p old refl rising) in
-            one_less _ _ _ _ _ (falls.left q) falls_here (count_by_more_yes (λ n. n == q) items i d small y)
+            let falls_here : left_of_port q after ≤ left_of_port q old - 1 =
+            subst (λ (n : ℕ). left_of_port n after ≤ left_of_port n old - 1) (eqb-true p q y) (timeout_falls (transfer_at p old) p old refl rising) in
+            falls_by_one _ _ _ _ _ (falls.left q) falls_here (count_by_more_yes (λ n. n == q) items i d small y)
         | inr n ↦
             let other : q ≢ p = λ e. true≢false (sym (eq-eqb p q (sym e)) ∙ n) in
             as_many _ _ _ _ _ (falls.left q) (ap left_of (timeout_other (transfer_at p old) p q old refl rising other)) (count_by_more_no (λ n. n == q) items i d small n)
@@ -214,8 +214,8 @@ falls_at items i d s old new small falls is rising =
 count_cons : (q n : ℕ) (ns : List ℕ) → count_by (λ p. p == q) (n ∷ ns) ≡ cond (n == q) 1 0 + count_by (λ p. p == q) ns
 count_cons q n ns = sum_by-cons (λ p. cond (p == q) 1 0) n ns
 
-counted : (b : Bool) (q n : ℕ) (ns : List ℕ) → (n == q) ≡ b → count_by (λ p. p == q) (n ∷ ns) ≡ cond b 1 0 + count_by (λ p. p == q) ns
-counted b q n ns is = count_cons q n ns ∙ ap (λ c. cond c 1 0 + count_by (λ p. p == q) ns) is
+count_after : (b : Bool) (q n : ℕ) (ns : List ℕ) → (n == q) ≡ b → count_by (λ p. p == q) (n ∷ ns) ≡ cond b 1 0 + count_by (λ p. p == q) ns
+count_after b q n ns is = count_cons q n ns ∙ ap (λ c. cond c 1 0 + count_by (λ p. p == q) ns) is
 
 -- the timers of a port that pass a test
 count_filter : (test : Timer → Bool) (q : ℕ) (ts : List Timer) → ((t : Timer) → t.port ≡ q → test t ≡ true) → count_by (λ p. p == q) (ports_of ts) ≤ count_by (λ p. p == q) (ports_of (filter test ts))
@@ -230,7 +230,7 @@ count_filter test q (t ∷ ts) passes = elim (cases_Bool (test t)) [
   | inr n ↦
       let apart : (t.port == q) ≡ false = ne_eqb t.port q (λ is. true≢false (sym (passes t is) ∙ n)) in
       let dropped : ports_of (filter test (t ∷ ts)) ≡ ports_of (filter test ts) = ap ports_of (if_false (t ∷ filter test ts) _ n) in
-      stays _ _ _ _ (counted false q t.port (ports_of ts) apart) (ap (count_by (λ p. p == q)) dropped) (count_filter test q ts passes)
+      stays _ _ _ _ (count_after false q t.port (ports_of ts) apart) (ap (count_by (λ p. p == q)) dropped) (count_filter test q ts passes)
 ] where
   grows : (a b c m n : ℕ) → a ≡ c + m → b ≡ c + n → m ≤ n → a ≤ b
   grows a b c m n x y small = omega (arith, x, y, small)
@@ -242,8 +242,8 @@ count_filter test q (t ∷ ts) passes = elim (cases_Bool (test t)) [
 count_found : {X : Type 0} (q : ℕ) (es : List (ℕ × X)) (v : X) → lookup (at_port q) es ≡ Some v → 1 ≤ count_by (λ p. p == q) (keys_of es)
 count_found q [] v found = some_none (sym found)
 count_found {X} q (e ∷ es) v found = elim (cases_Bool (at_port q e.0)) [
-  | inl y ↦ omega (arith, counted true q e.0 (keys_of es) (sym (at_is q e.0) ∙ y))
-  | inr n ↦ omega (arith, counted false q e.0 (keys_of es) (sym (at_is q e.0) ∙ n), count_found q es v (sym (if_false (Some e.1) _ n) ∙ found))
+  | inl y ↦ omega (arith, count_after true q e.0 (keys_of es) (sym (at_is q e.0) ∙ y))
+  | inr n ↦ omega (arith, count_after false q e.0 (keys_of es) (sym (at_is q e.0) ∙ n), count_found q es v (sym (if_false (Some e.1) _ n) ∙ found))
 ]
 
 -- ---- what dallies has something left
@@ -316,7 +316,7 @@ none_left : (now settled per_host : _) (quiet : Bool) (timers : List Timer) (s n
     Falls (late_ports (Round now settled per_host) quiet timers s) s new → has_slot new ≡ false → (port : ℕ) → is_dallying port new ≡ true → ⊥
 none_left now settled per_host quiet timers s new tracks fits falls full port done =
     let mode = Round now settled per_host in
-    let more : 1 ≤ left_at port new = some_left (transfer_at port new) done (IfSome-lookup_from_All (λ (t : Transfer). IsEnd t.end) (at_port port) new.live fits.ends) in
+    let more : 1 ≤ left_of_port port new = some_left (transfer_at port new) done (IfSome-lookup_from_All (λ (t : Transfer). IsEnd t.end) (at_port port) new.live fits.ends) in
     let was = left_dallies (transfer_at port s) (omega (arith, more, falls.left port)) in
     let all_taken : has_slot s ≡ false = still_full (length new.live) (length s.live) falls.few full in
     let way : gives_way mode port s ≡ true = ap (λ b. not b && is_dallying port s) all_taken ∙ was.2 in
