@@ -13,3 +13,9 @@ loop-nth-preserved g c = up_to_next _ c.loop-nth.nth c.loop-nth.invariant (searc
 
 pub returns-in-loop-nth-clause-each : goal.returns-in-loop-nth-clause-each
 returns-in-loop-nth-clause-each g c = λ n first few. c.loop-nth.invariant n first (omega (arith, few, c.if-nth-least.false))
+
+pub returns-then-nth-least-clause-last : goal.returns-then-nth-least-clause-last
+returns-then-nth-least-clause-last g c = search rules
+
+pub returns-then-nth-least-clause-each : goal.returns-then-nth-least-clause-each
+returns-then-nth-least-clause-each g c = search rules
