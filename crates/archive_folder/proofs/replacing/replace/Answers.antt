@@ -1,3 +1,4 @@
+use Rattle.std.proofs.Common.{rules}
 use Rattle.tws_best.specs.Best.{collection_text}
 use Rattle.archive_folder.specs.declared.file_name.FileName.TheVariants.{Kept}
 use Rattle.archive_folder.proofs.Steps.{stays_then, replaces_by, replaces_after, kept_is_no_draft}
@@ -44,3 +45,6 @@ returns-in-Err-publish-clause-others g c = λ modelled other nk nd.
     let F = g.F.Folder in
     stays_then F.reads F.holds F.leaves F.moment F.left_since c.args.folder.now c.write_draft.new.folder c.publish.new.folder other
     (c.write_draft.ensures.others modelled other nd) (c.publish.ensures.others modelled other nd nk)
+
+pub returns-in-Err-clause-cleared : goal.returns-in-Err-clause-cleared
+returns-in-Err-clause-cleared g c = search rules

@@ -1,4 +1,4 @@
-use Rattle.std.proofs.Common.{◌∙◌, ap}
+use Rattle.std.proofs.Common.{◌∙◌, ap, rules}
 use Rattle.archive_folder.proofs.Past.{elapses_to}
 use Rattle.archive_folder.proofs.memory_folder.MemoryFolderFolder.sync.Goals as goal
 
@@ -11,3 +11,6 @@ pub returns-clause-time : goal.returns-clause-time
 returns-clause-time c = λ modelled.
     let past = c.in_ok-remember.ensures.past in
     elapses_to c.args.self.now c.remember.new.self.past.items c.remember.new.self.disk c.replace.new.self past.0 past.1 past.2
+
+pub returns-clause-held : goal.returns-clause-held
+returns-clause-held c = search rules
