@@ -6,7 +6,7 @@ use Rattle.archive_table.specs.Table.{Table}
 use Rattle.archive_turns.specs.Turn.{MakesMany, MakesPass, Pass, Server, ServesTurns, count_if, fresh_server, none, more}
 use Rattle.archive_turns.specs.Wire.{Entry}
 use Rattle.archive_turns.proofs.Turns.{many_none, many_more}
-use Rattle.tws_tool.specs.declared.commands.serve.Passes.{Passes}
+use Rattle.tws_tool.specs.declared.commands.passes.Passes.{Passes}
 use Rattle.tws_tool.specs.declared.commands.serve_arguments.ServeArguments.{ServeArguments}
 use Rattle.command_faults.specs.declared.tool_fault.ToolFault.{ToolFault}
 use Rattle.command_faults.specs.declared.tool_fault.ToolFault.TheVariants.{Read, Write, Unreadable, Memory, Socket, Transfer}

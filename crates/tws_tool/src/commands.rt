@@ -8,6 +8,7 @@ ghost use Rattle.command_line.specs.Arguments.{Answers};
 ghost use Rattle.tws_tool.specs.Commands.{AsksFor, JobRuns, tws_app};
 
 mod get;
+mod passes;
 mod put;
 mod serve;
 mod serve_arguments;
@@ -18,8 +19,9 @@ use clap::{ArgMatches, Command};
 use command_line::add_command;
 use file_commands::{FileJob, file_job_of, file_program, run_file_job};
 pub use get::{GetArguments, GetFault, get_file};
+pub use passes::Passes;
 pub use put::{PutArguments, put_file};
-pub use serve::{Passes, serve_archive};
+pub use serve::serve_archive;
 pub use serve_arguments::ServeArguments;
 use std::alloc::{AllocError, Global};
 use std::fs::File;

@@ -9,8 +9,8 @@ use Rattle.archive_table.specs.Table.{Table, empty_table}
 use Rattle.archive_table.specs.declared.limits.TheConstants.{LIVE}
 use Rattle.archive_turns.specs.Turn.{IsRound, IsTurn, MakesMany, Pass, Server, fresh_server}
 use Rattle.archive_turns.specs.Wire.{Entry}
-use Rattle.tws_tool.specs.declared.commands.serve.Passes.{Passes}
-use Rattle.tws_tool.specs.declared.commands.serve.Passes.TheVariants.{Turns, Rounds}
+use Rattle.tws_tool.specs.declared.commands.passes.Passes.{Passes}
+use Rattle.tws_tool.specs.declared.commands.passes.Passes.TheVariants.{Turns, Rounds}
 use Rattle.tws_tool.specs.declared.commands.serve_arguments.ServeArguments.{ServeArguments}
 use Rattle.tws_tool.specs.declared.limits.TheConstants.{PER_HOST, TURNS}
 use Rattle.command_faults.specs.declared.tool_fault.ToolFault.{ToolFault}

@@ -1,7 +1,7 @@
 use Rattle.std.proofs.Common.{rules, Bool, true, false, refl, subst, arith}
 use Rattle.archive_turns.specs.Turn.{IsRound, IsTurn, MakesPass}
-use Rattle.tws_tool.proofs.commands.serve.make_pass.Goals as goal
-use Rattle.tws_tool.proofs.commands.serve.make_pass.Goals.{in-Rounds, in-Turns}
+use Rattle.tws_tool.proofs.commands.passes.make_pass.Goals as goal
+use Rattle.tws_tool.proofs.commands.passes.make_pass.Goals.{in-Rounds, in-Turns}
 
 pub returns-then-took-clause-pass : goal.returns-then-took-clause-pass
 returns-then-took-clause-pass g c =

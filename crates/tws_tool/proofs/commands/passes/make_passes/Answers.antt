@@ -1,7 +1,7 @@
 use Rattle.std.proofs.Common.{refl, arith, sym, ◌∙◌}
 use Rattle.tws_tool.specs.Commands.Serve.{HasUsable}
 use Rattle.tws_tool.proofs.Listening.{passes_ended, passes_made, passes_unmade, some_more, some_none}
-use Rattle.tws_tool.proofs.commands.serve.make_passes.Goals as goal
+use Rattle.tws_tool.proofs.commands.passes.make_passes.Goals as goal
 
 pub returns-then-not-is_usable-clause-made : goal.returns-then-not-is_usable-clause-made
 returns-then-not-is_usable-clause-made g c =

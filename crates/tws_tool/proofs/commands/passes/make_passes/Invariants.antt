@@ -1,6 +1,6 @@
 use Rattle.tws_tool.specs.Commands.Serve.{HasUsable}
 use Rattle.tws_tool.proofs.Listening.{MakesSome}
-use Rattle.tws_tool.proofs.commands.serve.make_passes.Given as goal
+use Rattle.tws_tool.proofs.commands.passes.make_passes.Given as goal
 
 abbrev pub invariant-loop-pass : goal.invariant-loop-pass
 invariant-loop-pass g l =
