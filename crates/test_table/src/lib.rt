@@ -15,4 +15,6 @@ mod plain;
 #[cfg(test)]
 mod plain_file;
 #[cfg(test)]
+mod plain_packet;
+#[cfg(test)]
 mod schedules;
