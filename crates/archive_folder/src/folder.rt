@@ -13,6 +13,9 @@ use std::io::Write;
 /// A folder whose files outlive the program. Its model is what may be read under each name, and what a crash may leave
 /// there: what was synced stays; what was not synced may be lost, torn or kept; a rename may be undone until the folder
 /// is synced.
+///
+/// A call that fails returns `Device`, or `Memory` if an allocation was refused, and raises `faults`. It may have had its
+/// effect.
 pub trait Folder {
     /// A new file that is being written.
     type File: Write + Drop;
@@ -47,8 +50,7 @@ pub trait Folder {
         ensures more { faults self.old ≤ faults self.new }
         ensures fault { OnErr result (Rises (faults self.old) (faults self.new)) };
 
-    /// Makes a new, empty file under a name. Fails if there is something under it, so that no file is written to that is
-    /// there already.
+    /// Creates a new, empty file under a name. Fails if the name is in use, so that an existing file is never written to.
     fn create_new(&mut self, name: FileName) -> Result<Self::File, KeepFault>
         ensures empty { has_model ≡ true → IfOk result (λ file. Self.File.contents file ≡ Some []) }
         ensures others { has_model ≡ true → (other : FileName) → other ≢ name → NarrowsAt other (reads self.old) (reads self.new) (holds self.old) (holds self.new) (leaves self.old) (leaves self.new) }
@@ -72,7 +74,7 @@ pub trait Folder {
         ensures more { faults self.old ≤ faults self.new }
         ensures fault { OnErr result (Rises (faults self.old) (faults self.new)) };
 
-    /// Gives the file under one name the other, in place of the file there.
+    /// Renames the file under `from` to `to`, in place of the file there.
     fn rename(&mut self, from: FileName, to: FileName) -> Result<(), KeepFault>
         ensures moved { has_model ≡ true → OnOk result (Narrows (reads self.old from) (reads self.new to)) }
         ensures held { has_model ≡ true → OnOk result (Narrows (holds self.old from) (holds self.new to)) }

@@ -21,8 +21,8 @@ use tws_file::Ruleset;
 /// A keeper that has the collection of each ruleset in a file of a folder. It has no ghost log: its clauses say what a
 /// call makes of the folder.
 ///
-/// Once it is unknown whether a collection was kept, the keeper is no longer usable: every later keep returns `Device`.
-/// A server then has to end, since after a restart the new collection may be loaded or the last one.
+/// Once it is unknown whether a collection was kept, the keeper is no longer usable: every later call of `keep` returns
+/// `Device`. A server then has to end, since after a restart the new collection may be loaded or the last one.
 #[derive(Drop)]
 pub struct FolderKeeper<F: Folder> {
     folder: F,
@@ -31,7 +31,7 @@ pub struct FolderKeeper<F: Folder> {
 }
 
 impl<F: Folder> FolderKeeper<F> {
-    /// Returns a keeper over this folder. It calls nothing.
+    /// Returns a keeper over this folder. It makes no call of the folder.
     pub fn new(folder: F) -> Self
         ensures folder { result.folder ≡ folder }
         ensures failures { result.failures ≡ 0 }
@@ -44,7 +44,7 @@ impl<F: Folder> FolderKeeper<F> {
         }
     }
 
-    /// Whether it is known of every keep so far if the collection was kept.
+    /// Whether the outcome of every call of `keep` so far is known.
     pub fn is_usable(&self) -> bool
         ensures { result ≡ self.now.is_usable }
     {
@@ -66,8 +66,8 @@ impl<F: Folder> FolderKeeper<F> {
         folder
     }
 
-    /// Removes the drafts that are there, as a server that was killed leaves them. Each is made anew before, so that this
-    /// fails where nothing can be kept. The collections stay.
+    /// Removes the drafts that are there, as a server that was killed leaves them. Each is then created and removed once
+    /// more, so that this fails where nothing can be kept. The collections stay.
     ///
     /// # Errors
     ///
@@ -76,7 +76,7 @@ impl<F: Folder> FolderKeeper<F> {
         ensures cleared { F.has_model ≡ true → OnOk result ((rules : Ruleset) → Only None (F.reads self.new.folder (FileName.Draft rules))) }
         ensures kept { F.has_model ≡ true → (rules : Ruleset) → Stays F.reads F.holds F.leaves F.moment F.left_since self.old.folder self.new.folder (FileName.Kept rules) }
         ensures usable { self.new.is_usable ≡ self.old.is_usable }
-        // It does not give up by itself.
+        // It fails only if a call of the folder has failed.
         ensures fault { OnErr result (Rises (F.faults self.old.folder) (F.faults self.new.folder)) }
         ensures more { self.old.failures ≤ self.new.failures }
         ensures failed { result ≡ Err KeepFault.Device → FailsAt self.old.failures self.new.failures }
@@ -148,7 +148,7 @@ impl<F: Folder> Keeper for FolderKeeper<F> {
         ensures unusable { self.old.is_usable ≡ false → result ≡ Err KeepFault.Device }
         ensures untouched { self.old.is_usable ≡ false → self.new.folder ≡ self.old.folder }
         ensures for_good { self.old.is_usable ≡ false → self.new.is_usable ≡ false }
-        // It does not give up by itself.
+        // It fails only if a call of the folder has failed.
         ensures fault { self.old.is_usable ≡ true → OnErr result (Rises (F.faults self.old.folder) (F.faults self.new.folder)) }
         ensures more { self.old.failures ≤ self.new.failures }
         ensures failed { result ≡ Err KeepFault.Device → FailsAt self.old.failures self.new.failures }
@@ -173,7 +173,7 @@ impl<F: Folder> Keeper for FolderKeeper<F> {
         ensures found { F.has_model ≡ true → IfOk result (λ found. F.reads self.old.folder (FileName.Kept «ruleset») (texts_of found)) }
         ensures all { F.has_model ≡ true → (other : FileName) → Stays F.reads F.holds F.leaves F.moment F.left_since self.old.folder self.new.folder other }
         ensures usable { self.new.is_usable ≡ self.old.is_usable }
-        // It does not give up by itself.
+        // It fails only if a call of the folder has failed.
         ensures fault { OnErr result (Rises (F.faults self.old.folder) (F.faults self.new.folder)) }
         ensures more { self.old.failures ≤ self.new.failures }
         ensures failed { result ≡ Err KeepFault.Device → FailsAt self.old.failures self.new.failures }

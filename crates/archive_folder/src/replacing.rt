@@ -50,12 +50,12 @@ fn write_draft<F: Folder, A: Allocator>(
     let Err(fault) = write_file(folder, draft, collection) else {
         return Ok(());
     };
-    // What is left of the draft if this fails too, the next keep removes.
+    // What is left of the draft if this fails too is removed by the next `replace`.
     let _ = folder.remove(draft);
     Err(fault)
 }
 
-// Gives the file under one name the other, which is on the disk on success.
+// Renames a file and syncs the folder, so that on success the new name is on the disk.
 fn publish<F: Folder>(folder: &mut F, from: FileName, to: FileName) -> Result<(), KeepFault>
     ensures has { F.has_model ≡ true → OnOk result ((text : List ℕ) → IsWritten (F.reads folder.old) (F.holds folder.old) from text → HasOnly (F.reads folder.new) (F.holds folder.new) (F.leaves folder.new) to text) }
     ensures replaces { F.has_model ≡ true → (text : List ℕ) → IsWritten (F.reads folder.old) (F.holds folder.old) from text → Replaces F.reads F.leaves F.moment F.left_since folder.old folder.new to text }

@@ -97,8 +97,8 @@ fn write_file<H: HistoryFolder, A: Allocator>(
 ///
 /// # Errors
 ///
-/// The call of the folder that failed, `NoFreeName`, or `Memory`. Nothing is left but the draft, if that could not be
-/// removed again. Only after `SyncFolder` the file is there.
+/// The call of the folder that failed, `NoFreeName`, or `Memory`. After `SyncFolder` the file is in the history, but a
+/// crash may lose it. After any other fault it is not, and a draft is left only if it could not be removed.
 pub fn record<H: HistoryFolder, A: Allocator + Copy, B: Allocator>(
     alloc: A,
     folder: &mut H,

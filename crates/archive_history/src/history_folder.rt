@@ -11,6 +11,8 @@ pub struct CallFailed;
 
 /// A folder of files with names of their own. Its model is the file under each name, and what a crash would leave there:
 /// a file that was synced, under the name that it had when the folder was synced.
+///
+/// A call that fails returns `CallFailed` and raises `faults`.
 pub trait HistoryFolder {
     /// A new file that is being written.
     type File: Write + Drop;
@@ -37,7 +39,7 @@ pub trait HistoryFolder {
         ensures more { faults self.old ≤ faults self.new }
         ensures fault { OnErr result (Rises (faults self.old) (faults self.new)) };
 
-    /// Makes a new, empty file under a name. Fails if there is one, so that no file is written to that is there already.
+    /// Creates a new, empty file under a name. Fails if the name is in use, so that an existing file is never written to.
     fn create_new(&mut self, name: &str) -> Result<Self::File, CallFailed>
         ensures empty { has_model ≡ true → IfOk result (λ file. Self.File.contents file ≡ Some []) }
         ensures others { has_model ≡ true → SameBut name.now (file_at self.old) (file_at self.new) }
@@ -52,7 +54,7 @@ pub trait HistoryFolder {
         ensures more { faults self.old ≤ faults self.new }
         ensures fault { OnErr result (Rises (faults self.old) (faults self.new)) };
 
-    /// Gives the file under one name the other, in place of the file there. If it fails, the other name keeps its file.
+    /// Renames the file under `from` to `to`, in place of the file there. If it fails, `to` keeps its file.
     fn rename(&mut self, from: &str, to: &str) -> Result<(), CallFailed>
         ensures moved { has_model ≡ true → OnOk result (file_at self.new to.now ≡ file_at self.old from.now) }
         ensures synced { has_model ≡ true → OnOk result (is_synced self.new to.now ≡ is_synced self.old from.now) }

@@ -32,7 +32,7 @@ impl<R: Files<File = File> + AllocGlobal + Copy> HostHistory<R> {
         ensures dir { IfOk result (λ history. string_bytes history.dir ≡ dir.now) }
         ensures faults { IfOk result (λ history. history.faults ≡ 0) }
     {
-        // What is no folder is not opened: that might wait for ever.
+        // Only a folder is opened: to open anything else might block for ever.
         if !fs::metadata(&rt, dir)?.is_dir() {
             return Err(io::Error::from(ErrorKind::NotADirectory));
         }

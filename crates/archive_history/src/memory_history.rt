@@ -63,7 +63,7 @@ impl MemoryHistory {
         }
     }
 
-    /// Lets so many more calls pass. All later ones fail.
+    /// Lets `left` more calls pass. All later ones fail.
     pub fn fail_after(&mut self, left: u64)
         ensures left { self.new.left ≡ left }
         ensures changes { self.new.changes ≡ self.old.changes }

@@ -18,7 +18,7 @@ fn host_address(peer: Endpoint) -> Ipv4Addr
     Ipv4Addr::from(peer.host.to_be_bytes())
 }
 
-/// Returns what the names of a file begin with that was taken from a peer: `20261127T091500.123Z-127.0.0.1-5000-lynx`.
+/// Returns the stem of the names of a file that was taken from a peer: `20261127T091500.123Z-127.0.0.1-5000-lynx`.
 ///
 /// # Errors
 ///
@@ -37,7 +37,7 @@ pub fn stem_of<A: Allocator + Copy>(
     format!(in alloc; "{moment}-{host}-{port}-{ruleset}")
 }
 
-/// The name with this number, of which 0 is not written.
+/// The name with this number; 0 is not written.
 pub(crate) fn numbered<A: Allocator + Copy>(
     alloc: A,
     stem: &str,

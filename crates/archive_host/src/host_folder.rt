@@ -61,7 +61,7 @@ fn fault_of(e: &io::Error) -> KeepFault {
     }
 }
 
-// Opens a folder. What is no folder is not opened: that might wait for ever.
+// Opens a folder. Nothing else is opened: that might block for ever.
 fn open_folder<R: Files<File = File>>(rt: &R, dir: &str) -> io::Result<File> {
     if !fs::metadata(rt, dir)?.is_dir() {
         return Err(io::Error::from(ErrorKind::NotADirectory));
@@ -135,7 +135,7 @@ impl<R: Files<File = File> + AllocGlobal + Copy> HostFolder<R> {
         }
     }
 
-    // What the system knows of a file, if there is one. Fails if it is no regular file.
+    // What the system knows of a file, if there is one. Fails if it is not a regular file.
     fn metadata(&self, name: FileName) -> io::Result<Option<Metadata>> {
         match fs::symlink_metadata(&self.rt, self.paths.of(name)) {
             Ok(metadata) => {

@@ -78,7 +78,7 @@ impl OpenPorts {
         Some(&self.ports[i])
     }
 
-    /// The same, to be changed.
+    /// The open port with this number, to be changed.
     pub(crate) fn get_mut(&mut self, port: u16) -> Option<&mut OpenPort>
         ensures { IfSome result (λ o. o.now.port ≡ port) }
     {

@@ -9,7 +9,7 @@ use std::alloc::{AllocError, Global};
 // The least port for private use, RFC 6335 section 6. The greatest is 65535.
 const FIRST: u16 = 49152;
 
-/// The ports for private use, 49152 to 65535, in an order that nobody can foresee. A port that was taken is taken again
+/// The ports for private use, 49152 to 65535, in an unpredictable order. A port that was taken is taken again
 /// only after at least half of all the ports; one that was given back is taken next.
 #[derive(Drop)]
 pub(crate) struct PortDeck {

@@ -55,7 +55,7 @@ pub struct UdpWire<R: Net + Clock + RandomSource + AllocGlobal + Copy> {
     ghost laps: { lap < LAPS },
 }
 
-// A seed that nobody can foresee, if the system has a source of random bytes, and otherwise one that differs from one
+// An unpredictable seed, if the system has a source of random bytes, and otherwise one that differs from one
 // start of the program to the next.
 fn seed<R: Clock + RandomSource>(rt: &R) -> [u8; 32] {
     let mut seed = [0; 32];
@@ -115,7 +115,8 @@ impl<R: Net + Clock + RandomSource + AllocGlobal + Copy> UdpWire<R> {
         }
     }
 
-    /// The same at one address of this host, 0 for every address: later ports are opened there too.
+    /// Returns a wire that has the port of `at`, at that address of this host, 0 for every address. Later ports are opened
+    /// at the same address.
     ///
     /// # Errors
     ///

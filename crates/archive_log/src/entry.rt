@@ -13,7 +13,9 @@ use log::{Log, Metadata, Record, kv};
 /// An event with its time, which is one line of the log.
 #[derive(Clone, Copy)]
 pub struct Entry<'a> {
+    /// When it happened.
     pub time: &'a Stamp,
+    /// What happened.
     pub event: Event<'a>,
 }
 

@@ -28,7 +28,7 @@ pub enum Event<'a> {
     Dropped {
         peer: Endpoint,
     },
-    /// A put was taken, so many milliseconds after its request.
+    /// A put was taken, `millis` milliseconds after its request.
     Taken {
         upload: Upload,
         millis: u64,
@@ -46,14 +46,14 @@ pub enum Event<'a> {
         block: u16,
         why: Cause,
     },
-    /// A get was finished: its peer replied to the last block, so many milliseconds after the request.
+    /// A get was finished: its peer replied to the last block, `millis` milliseconds after the request.
     GetFinished {
         peer: Endpoint,
         ruleset: Option<Ruleset>,
         bytes: u64,
         millis: u64,
     },
-    /// A collection that would have had so many bytes was not kept, and why, in the words of the system or of a limit.
+    /// A collection of `bytes` bytes was not kept; `why` is in the words of the system or of a limit.
     KeepFailed {
         ruleset: Ruleset,
         bytes: u64,
@@ -90,7 +90,9 @@ impl Event<'_> {
         }
     }
 
-    /// How much it matters: a keep or a record that failed is an error, whatever else failed or was refused a warning.
+    /// The level of its line: `Error` if a collection was not kept or a file is not in the history; `Warn` if a request was
+    /// refused or dropped, a transfer failed for another reason, or a file that was taken is not known to be a solution
+    /// file; `Info` otherwise.
     pub fn level(&self) -> Level
         ensures { result ≡ level_of self.now }
     {

@@ -23,9 +23,11 @@ pub enum Kind {
 pub struct LoggedTransfer {
     /// Its port.
     pub port: u16,
+    /// The endpoint of its peer.
     pub peer: Endpoint,
-    /// When it was opened, in milliseconds.
+    /// When it was opened, in milliseconds of the monotonic clock.
     pub began: u64,
+    /// What it does.
     pub kind: Kind,
     /// The last block that the server acknowledged, or sent.
     pub block: u16,

@@ -23,7 +23,7 @@ const REFUSALS: [Refusal; 8] = [
 pub enum Sent {
     /// Nothing, or what no server sends.
     Nothing,
-    /// This block, with so many bytes. The ruleset is that of a file that begins with them.
+    /// This block, of `length` bytes. The ruleset is that of a file that begins with them.
     Data {
         block: u16,
         length: u16,

@@ -28,7 +28,7 @@ pub struct ServerLog<C: Clock, L: Log, H: HistoryFolder, A: Allocator + Copy = G
     history: Option<H>,
     transfers: LoggedTransfers,
     /// The table's count of what became better, as it was after the last step.
-    bettered: u64,
+    improvements: u64,
     taken: u64,
     served: u64,
 }
@@ -61,7 +61,7 @@ impl<C: Clock, L: Log, H: HistoryFolder, A: Allocator + Copy> ServerLog<C, L, H,
             log,
             history,
             transfers: LoggedTransfers::new(),
-            bettered: 0,
+            improvements: 0,
             taken: 0,
             served: 0,
         }
@@ -128,12 +128,12 @@ impl<C: Clock, L: Log, H: HistoryFolder, A: Allocator + Copy> ServerLog<C, L, H,
     }
 
     // What is said of the file that a step took, if it took one.
-    fn upload<T: Allocator>(&mut self, step: &Step<T>, bettered: u64) -> Option<Upload>
+    fn upload<T: Allocator>(&mut self, step: &Step<T>, improvements: u64) -> Option<Upload>
         ensures same { self.new ≡ self.old }
         ensures upload { IsUploadOf step.now.taken result }
     {
-        let better = bettered.saturating_sub(self.bettered);
-        self.bettered = bettered;
+        let better = improvements.saturating_sub(self.improvements);
+        self.improvements = improvements;
         match &step.taken {
             Some(taken) => Some(Upload::of(self.alloc, taken, better)),
             None => None,
@@ -176,20 +176,20 @@ impl<C: Clock, L: Log, H: HistoryFolder, A: Allocator + Copy> ServerLog<C, L, H,
         self.record(&time, taken, &upload);
     }
 
-    // Reports a step, if it is an event, and puts the file that it took into the history. `bettered` is the table's
+    // Reports a step, if it is an event, and puts the file that it took into the history. `improvements` is the table's
     // count after the step.
     fn follow<T: Allocator>(
         &mut self,
         port: u16,
         from: Option<Endpoint>,
         step: &Step<T>,
-        bettered: u64,
+        improvements: u64,
     )
         ensures transfers { FollowsStep port step.now self.old.transfers self.new.transfers }
         ensures history { H.has_model ≡ true → KeepsTaken step.now.taken (files_of H.file_at self.old.history) (files_of H.file_at self.new.history) }
     {
         let now = millis_now(&self.clock);
-        let upload = self.upload(step, bettered);
+        let upload = self.upload(step, improvements);
         if let Some(event) = self.transfers.on_step(now, port, from, upload, step) {
             self.report_and_record(event, step, upload);
         }
@@ -233,7 +233,7 @@ impl<C: Clock, L: Log, H: HistoryFolder, A: Allocator + Copy> Observer for Serve
         ensures transfers { FollowsStep port step.now self.old.transfers self.new.transfers }
         ensures history { H.has_model ≡ true → KeepsTaken step.now.taken (files_of H.file_at self.old.history) (files_of H.file_at self.new.history) }
     {
-        self.follow(port, from, step, table.bettered());
+        self.follow(port, from, step, table.improvements());
     }
 }
 

@@ -24,7 +24,7 @@ pub struct Upload {
     pub bytes: u64,
     /// The ruleset that its fifth byte says, if it is the code of one.
     pub ruleset: Option<Ruleset>,
-    /// Why it is not a solution file, if it is none. `Memory` says nothing of it.
+    /// Why it is not a solution file; `None` if it is one. With `Memory` that is not known.
     pub fault: Option<FileFault>,
     /// How many of its solutions were better than what was there for their key, or the first there, when they were merged.
     pub better: u64,
@@ -80,7 +80,8 @@ fn ruleset_in<A: Allocator>(file: &Received<A>) -> Option<Ruleset>
 }
 
 impl Upload {
-    /// What is said of a file, so many of whose solutions improved a collection. It is read once more.
+    /// Describes a file that was taken, `better` of whose solutions improved a collection. The file is read once more, to
+    /// find its fault.
     pub fn of<A: Allocator + Copy, B: Allocator>(alloc: A, taken: &Taken<B>, better: u64) -> Self
         ensures peer { result.peer ≡ taken.now.peer }
         ensures bytes { result.bytes ≡ length taken.now.file }

@@ -38,7 +38,7 @@ pub enum Entry<A: Allocator = Global> {
         until: Option<u64>,
         /// The ready port, if there is one.
         ready: Option<u16>,
-        /// The time.
+        /// The time, in milliseconds.
         now: u64,
         /// The time up to which all that arrived was handed out, if that was just found.
         settled: Option<u64>,

@@ -84,7 +84,7 @@ impl<A: Allocator + Copy> MemoryWire<A> {
         self.fails_in = n;
     }
 
-    /// Sets the clock.
+    /// Sets the clock, in milliseconds.
     pub fn set_time(&mut self, time: u64)
         ensures { self.new ≡ record self.old { time = time } }
     {

@@ -224,7 +224,7 @@ after_client e c a w =
       };
     }
 
--- ---- a begin
+-- ---- the start of an operation
 
 -- a new client that sends its request
 abbrev pub begins : Endpoint → Operation → World → World

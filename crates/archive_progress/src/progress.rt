@@ -8,7 +8,7 @@ use tftp_packet::BLOCK_SIZE;
 #[derive(Clone, Copy)]
 pub(crate) struct Progress {
     /// How many blocks the receiving end has acknowledged. The last of a transfer is never among them, since it ends the
-    /// transfer; all others have 512 bytes.
+    /// transfer; all others have `BLOCK_SIZE` bytes.
     pub blocks: u16,
     /// How many bytes the file has, if that is known.
     pub length: Option<u64>,
@@ -24,8 +24,7 @@ impl Progress {
         u64::from(self.blocks) * BLOCK_SIZE as u64
     }
 
-    /// How many bytes came in a second on average, rounded down; for a transfer that has run for no time, in a
-    /// millisecond.
+    /// The average rate in bytes per second, rounded down. A transfer that has run for 0 ms counts as one of 1 ms.
     pub(crate) fn rate(&self) -> u64
         ensures { result ≡ rate_of self.now }
     {

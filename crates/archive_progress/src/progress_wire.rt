@@ -44,13 +44,13 @@ impl<N: ReadyWire, W: Write> ProgressWire<N, W> {
         &self.wire
     }
 
-    /// The file that is to be sent has so many bytes.
-    pub fn expect(&mut self, length: u64)
+    /// Sets the length in bytes of the file that is to be sent.
+    pub fn set_length(&mut self, length: u64)
         ensures wire { self.new.wire ≡ self.old.wire }
         ensures tally { self.new.tally ≡ record self.old.tally { length = Some length } }
         ensures terminal { self.new.terminal ≡ self.old.terminal }
     {
-        self.tally.expect(length);
+        self.tally.set_length(length);
     }
 
     // Draws the line if that is due at this time.

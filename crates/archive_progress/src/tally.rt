@@ -59,8 +59,8 @@ impl Tally {
         }
     }
 
-    /// The file of the transfer has so many bytes.
-    pub(crate) fn expect(&mut self, length: u64)
+    /// Sets the length in bytes of the file of the transfer.
+    pub(crate) fn set_length(&mut self, length: u64)
         ensures { self.new ≡ record self.old { length = Some length } }
     {
         self.length = Some(length);

@@ -129,7 +129,7 @@ DalliesHappen pace host (round.more {mid = mid} {new = new} {added = added} late
 abbrev pub ClientAt : (texts : List (List ℕ)) → Maps → (host : ℕ) → Run → Moment → Type 0
 ClientAt texts maps host r m = IsReached texts maps m × (lookup (is_same (own_endpoint host r)) m.archive.clients ≡ Some r.client)
 
--- the moment after the begin of a client
+-- the moment after the start of a client
 abbrev pub after_begun : (host : ℕ) → Operation → Run → (calls : List Entry) → Moment → Moment
 after_begun host operation r calls m =
     then (after_begin host operation r calls m.archive) (does (starts (own_endpoint host r) operation) ∷ []) m

@@ -45,7 +45,7 @@ pub fn running_law()
 
 /// Whole calls are such moves. The turns or rounds that the contract of `serve_turns` or `serve_rounds` lists lead from
 /// one moment of the archive to another, if each receives only what was sent before it or is a stranger's, whatever others
-/// do in between; and so do the begin and the turns of `run_put` and `run_get`, the begin and the rounds of `put_in_rounds`
+/// do in between; and so do the start and the turns of `run_put` and `run_get`, the start and the rounds of `put_in_rounds`
 /// and `get_in_rounds`, and the rounds of a get that dallies. So where a put returned Ok, its file was taken exactly once,
 /// and what a get that returned Ok has written is the collection at one of its own requests, if the ports of its endpoint
 /// are its own.

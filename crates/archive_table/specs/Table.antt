@@ -110,7 +110,7 @@ abbrev pub is_done : End → Bool
 is_done (sending s) = false
 is_done (receiving r) = is_complete r.state
 
--- whether the transfer at a port has received its whole file, and only waits for a repeated last block
+-- whether the transfer at a port dallies: it has received its whole file, and waits only for a repeated last block
 abbrev pub is_dallying : (port : ℕ) → Table → Bool
 is_dallying port s = unwrap_or (option_map (λ t. is_done t.end) (transfer_at port s)) false
 

@@ -43,7 +43,8 @@ impl<A: Allocator + Copy> Incoming<A> {
     ///
     /// # Errors
     ///
-    /// `TooLong` if the block makes the file too long; `Memory` if it could not be kept. The receiver is then unchanged.
+    /// `TooLong` if the block makes the file too long; `Memory` if an allocation was refused. The receiver is then
+    /// unchanged.
     pub(crate) fn on_data(
         &mut self,
         n: u16,

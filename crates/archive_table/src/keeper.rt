@@ -12,14 +12,14 @@ pub trait Keeper {
     /// What it was given to keep, in order, if this keeper has a ghost log. One that has it always does.
     ghost log: { Self → Option (List Keeping) };
 
-    /// The number of calls of the device that failed so far, saturating at the greatest u64.
+    /// The number of calls of the device that failed so far, saturating at `u64::MAX`.
     ghost failed: { Self → ℕ };
 
     /// Keeps a collection of this ruleset in place of the last one.
     ///
     /// # Errors
     ///
-    /// `Device` only if `failures` rose in this call or is the greatest u64; `Memory` if an allocation was refused. If
+    /// `Device` only if `failures` rose in this call or is `u64::MAX`; `Memory` if an allocation was refused. If
     /// there is a log, what can be loaded does not change.
     fn keep<A: Allocator>(
         &mut self,
@@ -45,7 +45,7 @@ pub trait Keeper {
         ensures more { failed self.old ≤ failed self.new }
         ensures failed { result ≡ Err KeepFault.Device → FailsAt (failed self.old) (failed self.new) };
 
-    /// The number of calls of the device that failed so far, saturating at the greatest u64.
+    /// The number of calls of the device that failed so far, saturating at `u64::MAX`.
     fn failures(&self) -> u64
         ensures { result ≡ failed self.now };
 }

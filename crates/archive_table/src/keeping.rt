@@ -52,12 +52,12 @@ fn merge_and_keep<A: Allocator + Copy, K: Keeper>(
     Ok(true)
 }
 
-// Merges a received file into a collection, which is kept if that changed it; `bettered` counts the changes. Returns
+// Merges a received file into a collection, which is kept if that changed it; `improvements` counts the changes. Returns
 // whether it changed. On error it does not change.
 pub(crate) fn merge_into<A: Allocator + Copy, K: Keeper>(
     alloc: A,
     collection: &mut Collection<A>,
-    bettered: &mut u64,
+    improvements: &mut u64,
     keeper: &mut K,
     file: &Received<A>,
 ) -> Result<bool, Refusal>
@@ -69,14 +69,14 @@ pub(crate) fn merge_into<A: Allocator + Copy, K: Keeper>(
     ensures kept { OnOk result (KeepsOne collection.old collection.new (K.log keeper.old) (K.log keeper.new)) }
     ensures unkept { IfErr result (λ e. RefusesOne e file.now collection.old (K.log keeper.old) (K.log keeper.new)) }
     ensures untouched { result ≢ Err Refusal.NotKept → collection.new ≡ collection.old → keeper.new ≡ keeper.old }
-    ensures uncounted { result ≢ Ok true → bettered.new ≡ bettered.old }
+    ensures uncounted { result ≢ Ok true → improvements.new ≡ improvements.old }
 {
     let empty = Collection::new(alloc, collection.ruleset());
     let mut merge = Merge::of(mem::replace(collection, empty));
     match merge_and_keep(alloc, &mut merge, keeper, file) {
         Ok(changed) => {
             if changed {
-                *bettered = bettered.saturating_add(merge.changes() as u64);
+                *improvements = improvements.saturating_add(merge.changes() as u64);
                 *collection = merge.finish();
                 return Ok(true);
             }

@@ -13,8 +13,7 @@ use std::collections::BTreeMap;
 use std::marker::Model;
 use std::ops::Bound;
 
-// The number of slots of the cache. Ports for transfers are opened in turn, and any 64 ports in a row have different
-// slots, so live ports seldom share one.
+// The number of slots of the cache, one for each port that can be live. Ports that share a slot are found in the map.
 const CACHE_SIZE: u16 = 64;
 
 // A constant, since the proof of `Keys::new` refers to it by name.

@@ -17,12 +17,12 @@ use tftp_packet::Refusal;
 use tws_best::{Collection, Snapshot};
 
 /// A collection, and the snapshot of its text that downloads share, which is made at the first request and kept until
-/// the collection changes. `bettered` counts its changes, saturating.
+/// the collection changes. `improvements` counts its changes, saturating.
 #[derive(Drop)]
 pub(crate) struct Published<A: Allocator + Copy> {
     collection: Collection<A>,
     snapshot: Option<Rc<Snapshot<A>, A>>,
-    bettered: u64,
+    improvements: u64,
 }
 
 impl<A: Allocator + Copy> Model for Published<A> {
@@ -45,7 +45,7 @@ impl<A: Allocator + Copy> Published<A> {
         Published {
             collection,
             snapshot: None,
-            bettered: 0,
+            improvements: 0,
         }
     }
 
@@ -57,8 +57,8 @@ impl<A: Allocator + Copy> Published<A> {
     }
 
     /// The number of its changes so far. No contract speaks of it.
-    pub(crate) fn bettered(&self) -> u64 {
-        self.bettered
+    pub(crate) fn improvements(&self) -> u64 {
+        self.improvements
     }
 
     /// Returns the snapshot of its text, which must have fewer than 2^64 bytes. Does not allocate if the text was asked
@@ -102,7 +102,7 @@ impl<A: Allocator + Copy> Published<A> {
         match merge_into(
             alloc,
             &mut self.collection,
-            &mut self.bettered,
+            &mut self.improvements,
             keeper,
             file,
         ) {

@@ -52,7 +52,7 @@ impl<A: Allocator + Copy> Model for Table<A> {
 }
 
 impl<A: Allocator + Copy> Table<A> {
-    /// Returns a server with this request port, empty collections and no transfer. Does not allocate.
+    /// Returns a table with this request port, empty collections and no transfer. Does not allocate.
     pub fn new(alloc: A, request: u16) -> Self
         ensures server { result ≡ empty_table request }
         ensures fits { IsTable result }
@@ -66,7 +66,7 @@ impl<A: Allocator + Copy> Table<A> {
         }
     }
 
-    /// Returns a server with this request port, no transfer, and the collections that a keeper has, empty where it has
+    /// Returns a table with this request port, no transfer, and the collections that a keeper has, empty where it has
     /// none. Keeps nothing.
     ///
     /// # Errors
@@ -329,10 +329,12 @@ impl<A: Allocator + Copy> Table<A> {
         }
     }
 
-    /// How often, since the server was made, a file that was taken had a solution that was better than what its
-    /// collection had for that key, or the first there. It stays at the greatest u64, and no contract speaks of it.
-    pub fn bettered(&self) -> u64 {
-        self.lynx.bettered().saturating_add(self.ms.bettered())
+    /// The number of improvements since the table was made: how often a solution of a file that was taken was better than
+    /// what its collection had for its key, or the first there. Saturates at `u64::MAX`. No contract speaks of it.
+    pub fn improvements(&self) -> u64 {
+        self.lynx
+            .improvements()
+            .saturating_add(self.ms.improvements())
     }
 
     /// The number of transfers, at most `LIVE`.
@@ -367,7 +369,7 @@ impl<A: Allocator + Copy> Table<A> {
         }
     }
 
-    /// Whether the transfer at a port has received its whole file, and only waits for a repeated last block.
+    /// Whether the transfer at a port dallies: it has received its whole file, and waits only for a repeated last block.
     pub fn is_dallying(&self, port: u16) -> bool
         ensures { result ≡ dallies_at port self.now }
     {

@@ -38,7 +38,7 @@ impl<A: Allocator + Copy> Transfer<A> {
         from.host == self.peer.host && from.port == self.peer.port
     }
 
-    /// Whether it has received its whole file, and only waits for a repeated last block.
+    /// Whether it dallies: it has received its whole file, and waits only for a repeated last block.
     pub(crate) fn is_dallying(&self) -> bool
         ensures { result ≡ is_done self.now.end }
     {

@@ -24,7 +24,7 @@ pub record IsUnused (e : Endpoint) (w : World) : Type 0 where
   pub unbegun : has_begun e w.begun ≡ false
   pub unstrayed : has_strayed e w.strays ≡ false
 
--- after a begin, no port is reused exactly if nothing was at its endpoint
+-- after an operation begins, no port is reused exactly if nothing was at its endpoint
 abbrev pub BeginKeepsOwn : World → Endpoint → Operation → Type 0
 BeginKeepsOwn w e operation = HasOwnPorts (begins e operation w) ↔ IsUnused e w
 

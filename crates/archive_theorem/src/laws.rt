@@ -45,10 +45,10 @@ pub fn network_law()
     ensures one { (first second : List WorldStep) → asked_by first ≡ asked_by second → AllMerged first start → AllMerged second start → run first ≡ run second }
 {}
 
-/// The operations of the clients whose ports are their own are in one order, whatever others do: each put that is counted
+/// The operations of the clients whose ports are their own are linearizable, whatever others do: each put that is counted
 /// as sent takes effect at one step of the run, which takes its file, and each get that has fetched at one step, at which
-/// what it fetched is the server's collection; and that step comes after the begin of the operation and, as each beginning
-/// of a run is a run, before its end. So with what ends before something else begins: what was sent is fetched
+/// what it fetched is the server's collection; and that step comes after the start of the operation and, as each beginning
+/// of a run is a run, before its end. So where one operation ends before another begins, what was sent is fetched
 /// (`since`), a later get has fetched no less, and an earlier one has nothing of a later put.
 pub fn effects_law()
     ensures puts { (texts : List (List ℕ)) (maps : Maps) → AreOver texts maps → (steps : List WorldStep) → AllMerged steps (start_from texts maps) → (e : Endpoint) → IsOwn (run_from steps (start_from texts maps)) e → Contains (run_from steps (start_from texts maps)).sent e → TakesEffect (start_from texts maps) steps e }
@@ -96,7 +96,7 @@ pub fn trace_law()
 
 /// Some runs, so that nobody has to take it on trust that a run does something: a request that arrives twice, a last
 /// ACK that is late three times, a put that crosses a get, a put that nobody answers, a stranger, a restart, a file
-/// without bytes, a get from a server that has nothing, strays that may not happen.
+/// without bytes, a get from a server that has nothing, strays that are not allowed.
 pub fn sample_runs()
     ensures twice { summary_of (run request_twice) ≡ one_put_summary 6 (sample_opening 1 4000 to_write 0 ∷ sample_opening 1 4001 to_write 0 ∷ []) }
     ensures late { summary_of (run late_ack) ≡ one_put_summary 10 (sample_opening 1 4000 to_write 0 ∷ []) }
@@ -123,8 +123,9 @@ pub fn sample_runs()
     ensures strayed_there { FailsBy strayed_there (record { once = true; apart = true; unstrayed = false }) }
 {}
 
-/// The tests for the reuse of a port: a begin reuses none if neither an operation nor a stranger has been at its
-/// endpoint; an opening, if none before had its peer and its port; a stray, if no operation has begun at its endpoint.
+/// The tests for the reuse of a port: the start of an operation reuses none if neither an operation nor a stranger has
+/// been at its endpoint; an opening, if none before had its peer and its port; a stray, if no operation has begun at its
+/// endpoint.
 pub fn own_ports()
     ensures start { HasOwnPorts start }
     ensures begin { (w : World) → HasOwnPorts w → (e : Endpoint) (operation : Operation) → BeginKeepsOwn w e operation }

@@ -183,7 +183,7 @@ pub record MakesDally (rounds : ℕ) (old new : Run) (before after : Option (Lis
 
 -- ---- whole runs
 
--- a whole put by rounds: its begin, its rounds and its result
+-- a whole put by rounds: its start, its rounds and its result
 abbrev pub PutsInRounds : (server : Endpoint) (file : List ℕ) (rounds : ℕ) (result : Result ℕ RunFault) (before after : Option (List Entry)) → Type 0
 PutsInRounds server file rounds result before after = PutsBy (MakesRunRounds rounds) server file result before after
 

@@ -119,7 +119,7 @@ due_by Turn true = Some 0
 due_by Turn false = None
 due_by (Round now settled per_host) quiet = settled
 
--- Where all places are taken, a transfer that only waits for a repeated last block gives way.
+-- While all places are taken, a transfer that dallies gives way.
 abbrev pub gives_way : Mode → (port : ℕ) → Table → Bool
 gives_way Turn port s = false
 gives_way (Round now settled per_host) port s = not (has_slot s) && is_dallying port s
@@ -132,12 +132,12 @@ is_due None t = false
 abbrev pub giving_ports : Mode → List Timer → Table → List ℕ
 giving_ports mode timers s = ports_of (filter (λ t. gives_way mode t.port s) timers)
 
--- The ports that time out after a visit: those that are due, and those that give way. These do so twice, which ends each
--- dally (`DALLY` of `tftp_ends`), so that its place is there before another request is judged.
+-- The ports that time out after a visit: those that are due, and those that give way. The latter time out twice, which
+-- ends each dally (`DALLY` of `tftp_ends`), so that its place is free before another request is judged.
 abbrev pub late_ports : Mode → (quiet : Bool) → List Timer → Table → List ℕ
 late_ports mode quiet timers s = ports_of (filter (λ t. is_due (due_by mode quiet) t || gives_way mode t.port s) timers) ++ giving_ports mode timers s
 
--- after the time-outs of a round no transfer only waits for a repeated last block while all places are taken
+-- after the time-outs of a round no transfer dallies while all places are taken
 abbrev pub HasGivenWay : Mode → Table → Type 0
 HasGivenWay Turn s = Unit {0}
 HasGivenWay (Round now settled per_host) s = has_slot s ≡ false → (port : ℕ) → is_dallying port s ≡ false

@@ -8,11 +8,11 @@ use crate::limits::{DALLY_LIMIT, DALLY_PAUSE, TIMEOUT};
 pub struct Pace {
     /// How many milliseconds after it last sent it times out.
     pub pause: u64,
-    /// The moment beyond which it never waits.
+    /// The moment beyond which it never waits, in milliseconds of the wire's clock.
     pub until: u64,
 }
 
-/// The moment so many milliseconds after this time.
+/// The moment `pause` milliseconds after `time`.
 pub(crate) fn moment_after(pause: u64, time: u64) -> u64
     ensures { result ≡ moment_after pause time }
 {

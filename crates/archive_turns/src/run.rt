@@ -157,7 +157,7 @@ impl<C: RunClient> Run<C> {
         }
     }
 
-    // Looks at the clock, and has the client time out so many milliseconds later. Returns the time.
+    // Looks at the clock, and has the client time out `pause` milliseconds later. Returns the time.
     fn set_timer<W: ReadyWire>(&mut self, wire: &mut W, pause: u64) -> u64
         ensures { SetsTimer pause result self.old self.new (W.log wire.old) (W.log wire.new) }
     {

@@ -133,7 +133,8 @@ fn get_fault(state: State) -> RunFault
 }
 
 /// Puts a file by the clock of the wire: begins, and makes rounds until the client is over, at most `rounds`, each of
-/// which waits a second at most. Returns the file's length in bytes. `server` is the server's host and request port.
+/// which waits `TIMEOUT` milliseconds at most. Returns the file's length in bytes. `server` is the server's host and request
+/// port.
 ///
 /// # Errors
 ///
@@ -168,8 +169,8 @@ fn end_put_in_rounds<A: Allocator + Copy, W: ReadyWire>(
 }
 
 /// Gets the collection of a ruleset by the clock of the wire, and writes it: begins, makes rounds until the client has the
-/// file or has failed, at most `rounds`, each of which waits a second at most; then writes the file, if all of it was
-/// received. Returns its length in bytes, and the run, which can then dally.
+/// file or has failed, at most `rounds`, each of which waits `TIMEOUT` milliseconds at most; then writes the file, if all
+/// of it was received. Returns its length in bytes, and the run, which can then dally.
 ///
 /// # Errors
 ///

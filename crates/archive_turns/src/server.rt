@@ -164,7 +164,7 @@ impl<A: Allocator + Copy> Server<A> {
         }
     }
 
-    /// Sets how many transfers one host may have in rounds; a request beyond that is lost. Clients on the server's own
+    /// Sets how many transfers one host may have in rounds; a request beyond that is dropped. Clients on the server's own
     /// host, at addresses of the loopback range, are not counted. At first it is `LIVE`.
     pub fn limit_per_host(&mut self, per_host: usize)
         ensures { self.new ≡ record self.old { per_host = per_host } }
@@ -203,10 +203,9 @@ impl<A: Allocator + Copy> Server<A> {
     /// Makes one round: waits for a ready port, visits it as a turn does, and lets transfers time out. Returns whether a
     /// file was taken.
     ///
-    /// A datagram at the request port that is no request costs no port, and neither does one of a host that has as many
+    /// A datagram at the request port that is not a request opens no port, and neither does one of a host that has as many
     /// transfers as it may have. A transfer times out `TIMEOUT` milliseconds after it was opened or last sent to its
-    /// peer, once all that had arrived by then was handed out. One that only waits for a repeated last block gives way
-    /// when all places are taken.
+    /// peer, once all that had arrived by then was handed out. One that dallies gives way when `LIVE` transfers are live.
     ///
     /// The observer is notified of each step, time-outs too, after the step's calls of the wire, and of each request that is
     /// dropped for its host. It changes nothing.
@@ -217,7 +216,7 @@ impl<A: Allocator + Copy> Server<A> {
         observer: &mut O,
     ) -> bool
         ensures made { MakesRound self.old self.new result (W.log wire.old) (W.log wire.new) (K.log keeper.old) (K.log keeper.new) }
-        // So each transfer that only waits for a repeated last block has given its place up before the next request is judged.
+        // So each transfer that dallies has given its place up before the next request is judged.
         ensures given_way { has_slot self.new.table ≡ false → (port : ℕ) → is_dallying port self.new.table ≡ false }
     {
         let ready = wire.wait(self.last, self.timers.earliest());

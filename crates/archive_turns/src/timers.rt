@@ -115,7 +115,7 @@ fn is_due(by: Option<u64>, timer: Timer) -> bool
     }
 }
 
-// Whether the transfer at a port only waits for a repeated last block, while all places are taken.
+// Whether the transfer at a port dallies while all places are taken.
 fn gives_way<A: Allocator + Copy>(mode: Mode, port: u16, table: &Table<A>) -> bool
     ensures { result ≡ way_given mode port table.now }
 {

@@ -15,14 +15,14 @@ pub trait Wire {
     /// again.
     ghost log: { Self → Option (List Entry) };
 
-    /// The number of calls that failed so far, saturating at the greatest u64.
+    /// The number of calls that failed so far, saturating at `u64::MAX`.
     ghost failed: { Self → ℕ };
 
     /// Opens a port that the wire chooses. It need not be a fresh one.
     ///
     /// # Errors
     ///
-    /// `Open`, only if `failures` rose in this call or is the greatest u64.
+    /// `Open`, only if `failures` rose in this call or is `u64::MAX`.
     fn open(&mut self) -> Result<u16, WireFault>
         ensures log { Grows (log self.old) (log self.new) (opened (port_opened result) ∷ []) }
         ensures fault { IfErr result (λ e. e ≡ WireFault.Open) }
@@ -32,7 +32,7 @@ pub trait Wire {
     ///
     /// # Errors
     ///
-    /// `Close`, only if `failures` rose in this call or is the greatest u64.
+    /// `Close`, only if `failures` rose in this call or is `u64::MAX`.
     fn close(&mut self, port: u16) -> Result<(), WireFault>
         ensures log { Grows (log self.old) (log self.new) (closed port (was_done result) ∷ []) }
         ensures fault { IfErr result (λ e. e ≡ WireFault.Close) }
@@ -43,7 +43,7 @@ pub trait Wire {
     ///
     /// # Errors
     ///
-    /// `Receive`, only if `failures` rose in this call or is the greatest u64.
+    /// `Receive`, only if `failures` rose in this call or is `u64::MAX`.
     fn receive(
         &mut self,
         port: u16,
@@ -58,13 +58,13 @@ pub trait Wire {
     ///
     /// # Errors
     ///
-    /// `Send`, only if `failures` rose in this call or is the greatest u64.
+    /// `Send`, only if `failures` rose in this call or is `u64::MAX`.
     fn send(&mut self, out: &Out) -> Result<(), WireFault>
         ensures log { Grows (log self.old) (log self.new) (sent out.now (was_done result) ∷ []) }
         ensures fault { IfErr result (λ e. e ≡ WireFault.Send) }
         ensures failed { OnErr result (FailsAt (failed self.old) (failed self.new)) };
 
-    /// The number of calls that failed so far, saturating at the greatest u64.
+    /// The number of calls that failed so far, saturating at `u64::MAX`.
     fn failures(&self) -> u64
         ensures { result ≡ failed self.now };
 }

@@ -1,7 +1,7 @@
 /// Why an event fails.
 #[derive(Clone, Copy)]
 pub(crate) enum EventFault {
-    /// It may not happen.
+    /// It is not allowed at its place.
     Bad,
     /// A pair of endpoints would serve two transfers, or two ends would have one endpoint.
     Reused,

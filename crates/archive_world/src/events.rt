@@ -98,11 +98,11 @@ fn deliver<K: Keeper, A: Allocator + Copy>(
     arrive(machine, keeper, spare, &d)
 }
 
-/// Makes an event happen, if it may.
+/// Makes an event happen, if it is allowed.
 ///
 /// # Errors
 ///
-/// `Bad` if it may not happen; `Reused` if it would reuse a port; `NotLoaded` if the server cannot load its
+/// `Bad` if it is not allowed; `Reused` if it would reuse a port; `NotLoaded` if the server cannot load its
 /// collections; out of memory.
 pub(crate) fn happen<K: Keeper, A: Allocator + Copy>(
     machine: &mut Machine<A>,

@@ -9,7 +9,7 @@ use tws_file::Bytes;
 pub struct GotFile<A: Allocator = Global> {
     /// The client's endpoint.
     pub client: Endpoint,
-    /// Its bytes.
+    /// The bytes of the file.
     pub file: Bytes<A>,
 }
 

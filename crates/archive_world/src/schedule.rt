@@ -52,7 +52,7 @@ fn happen_all<K: Keeper, A: Allocator + Copy>(
 ///
 /// # Errors
 ///
-/// The first event that may not happen, that reuses a port, or at which the server cannot load its collections; out of
+/// The first event that is not allowed, that reuses a port, or at which the server cannot load its collections; out of
 /// memory. The keeper then has what the earlier steps have kept.
 pub fn replay<K: Keeper, A: Allocator + Copy>(
     alloc: A,

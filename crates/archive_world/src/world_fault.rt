@@ -3,7 +3,7 @@ use thiserror::Error;
 /// Why a list of events has no run. Events are counted from 0.
 #[derive(Clone, Copy, Debug, PartialEq, Eq, Error)]
 pub enum WorldFault {
-    /// This event may not happen.
+    /// This event is not allowed at its place.
     #[error("BadEvent({0})")]
     BadEvent(usize),
     /// With this event a pair of endpoints would serve two transfers, or two ends would have one endpoint.

@@ -69,8 +69,8 @@ answer_status (Err e) = status_of e
 abbrev pub fault_words : FileFault → List ℕ
 fault_words (file.ShortHeader len) = codes "the file ends inside its header, after " ++ (decimal len ++ codes " bytes")
 fault_words file.BadSignature = codes "the file does not begin with the bytes 35 33 9B 99"
-fault_words (file.BadRuleset byte) = codes "byte 4 is " ++ (decimal byte ++ codes ", which is no ruleset")
+fault_words (file.BadRuleset byte) = codes "byte 4 is " ++ (decimal byte ++ codes ", which is not the code of a ruleset")
 fault_words (file.ShortRecord at) = codes "the file ends inside the record at byte " ++ decimal at
-fault_words (file.BadSize at) = codes "the size at byte " ++ (decimal at ++ codes " is that of no record")
+fault_words (file.BadSize at) = codes "no record has the size at byte " ++ decimal at
 fault_words (file.MoveCut at) = codes "the moves end inside the move at byte " ++ decimal at
 fault_words file.Memory = codes "out of memory"

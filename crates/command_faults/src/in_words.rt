@@ -20,11 +20,14 @@ impl Display for InWords {
             FileFault::BadSignature => {
                 write!(f, "the file does not begin with the bytes 35 33 9B 99")
             }
-            FileFault::BadRuleset(byte) => write!(f, "byte 4 is {byte}, which is no ruleset"),
+            FileFault::BadRuleset(byte) => write!(
+                f,
+                "byte 4 is {byte}, which is not the code of a ruleset"
+            ),
             FileFault::ShortRecord(at) => {
                 write!(f, "the file ends inside the record at byte {at}")
             }
-            FileFault::BadSize(at) => write!(f, "the size at byte {at} is that of no record"),
+            FileFault::BadSize(at) => write!(f, "no record has the size at byte {at}"),
             FileFault::MoveCut(at) => write!(f, "the moves end inside the move at byte {at}"),
             FileFault::Memory => write!(f, "out of memory"),
         }

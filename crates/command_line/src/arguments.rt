@@ -65,6 +65,10 @@ pub fn text_given<'a>(words: &ArgMatches<'a>, name: &str) -> Option<&'a str>
 }
 
 /// A copy of the text that was given for this argument, if any.
+///
+/// # Errors
+///
+/// Out of memory.
 pub fn string_given(
     alloc: Global,
     words: &ArgMatches,
@@ -89,6 +93,10 @@ fn source_of(alloc: Global, name: &str) -> Result<Source, AllocError>
 }
 
 /// Where the one input is to be read from.
+///
+/// # Errors
+///
+/// Out of memory.
 pub fn source_given(alloc: Global, words: &ArgMatches) -> Result<Source, AllocError>
     ensures { IfOk result (HasSource (rows_of (found_of words.now))) }
 {
@@ -110,6 +118,10 @@ fn sources_of(alloc: Global, names: &[&str]) -> Result<Vec<Source>, AllocError>
 }
 
 /// Where several inputs are to be read from, in order.
+///
+/// # Errors
+///
+/// Out of memory.
 pub fn sources_given(alloc: Global, words: &ArgMatches) -> Result<Vec<Source>, AllocError>
     ensures { IfOk result (λ sources. HasSources (rows_of (found_of words.now)) sources.items) }
 {

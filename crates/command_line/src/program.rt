@@ -21,7 +21,11 @@ pub fn new_program<'a>(alloc: Global) -> Command<'a>
         .subcommand_required(true)
 }
 
-/// Adds a command to the command line of a program. Where one of them was not built, neither is this.
+/// Adds a command to the command line of a program.
+///
+/// # Errors
+///
+/// Out of memory, also if one of the two could not be built.
 pub fn add_command<'a>(
     program: Result<Command<'a>, AllocError>,
     command: Result<Command<'a>, AllocError>,

@@ -28,7 +28,7 @@ use tws_file::Ruleset;
 /// What `best` is asked for.
 #[derive(Drop)]
 pub struct BestArguments {
-    /// Of files of this ruleset.
+    /// The ruleset of the collection.
     pub ruleset: Ruleset,
     /// The files, which standard input may be among.
     pub files: Vec<Source>,
@@ -110,7 +110,7 @@ pub fn run_best<R: Read, W: Write>(
     Ok(())
 }
 
-// Does the same for these sources, where standard input has the bytes `standard`, and returns the status.
+// Runs `run_best` on these sources, where standard input has the bytes `standard`, and returns the status.
 fn run_over<S: FileSystem, W: Write, E: Write>(
     system: &S,
     alloc: Global,

@@ -28,7 +28,7 @@ pub struct CompareArguments {
     pub mine: String,
     /// The name of theirs.
     pub theirs: String,
-    /// For the collection of what is better in mine, and not for the comparison.
+    /// Whether to write what is better in mine, instead of the comparison.
     pub better: bool,
 }
 
@@ -171,7 +171,7 @@ fn write_compared<W: Write>(
 /// # Errors
 ///
 /// `Read` if a reader fails or does not end within `INPUT_READS` reads, `Unreadable` with the number of the first input
-/// that is no solution file, 0 for mine and 1 for theirs, and its fault, and `Memory` if an allocation was refused: then
+/// that is not a solution file, 0 for mine and 1 for theirs, and its fault, and `Memory` if an allocation was refused: then
 /// nothing was written. `Write` if the writer fails: then a proper prefix of the text was written.
 pub fn run_compare<R: Read, W: Write>(
     alloc: Global,

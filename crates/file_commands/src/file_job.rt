@@ -35,6 +35,10 @@ pub enum FileJob {
 
 /// The command line of the program with only the commands on files, with these names of the rulesets: `show`, `pack`,
 /// `without`, `best`, `compare` and `page`, in this order.
+///
+/// # Errors
+///
+/// Out of memory.
 pub fn file_program<'a>(alloc: Global, names: &'a [&'a str]) -> Result<Command<'a>, AllocError>
     ensures { IfOk result (λ command. app_of command ≡ files_app names.entry) }
 {
@@ -46,6 +50,10 @@ pub fn file_program<'a>(alloc: Global, names: &'a [&'a str]) -> Result<Command<'
 
 /// What the arguments of the command of this name ask for; `None` if they ask for nothing, or no command on files has this
 /// name.
+///
+/// # Errors
+///
+/// Out of memory.
 pub fn file_job_of(
     alloc: Global,
     name: &str,
@@ -65,9 +73,9 @@ pub fn file_job_of(
     }
 }
 
-/// Does what a command on files is asked for, and returns the exit status: 0 if all was done, 1 if what was typed is no
-/// password or two files are of different rulesets, 2 if reading, writing or memory failed, 3 for an input that is no
-/// solution file. A fault goes to `errors`.
+/// Does what a command on files is asked for, and returns the exit status: 0 if all was done, 1 if what was typed is not
+/// a password or two files are of different rulesets, 2 if reading, writing or memory failed, 3 for an input that is not
+/// a solution file. A fault goes to `errors`.
 ///
 /// Files are opened by their names in `system`, and all that are named are opened before one is read. Where standard input
 /// is among several inputs it is read, whole, before any other, and is the same each time that it is named.

@@ -94,7 +94,7 @@ pub fn run_page<R: Read, W: Write>(
     Ok(())
 }
 
-// Does the same for these sources, where standard input has the bytes `standard`, and returns the status.
+// Runs `run_page` on these sources, where standard input has the bytes `standard`, and returns the status.
 fn run_over<S: FileSystem, W: Write, E: Write>(
     system: &S,
     alloc: Global,

@@ -74,7 +74,7 @@ pub(crate) fn command<'a>(alloc: Global) -> Result<Command<'a>, AllocError>
         .arg(source_argument(alloc))
 }
 
-// The number of the level that was given; `None` if it is none.
+// The number of the level that was given; `None` if that is not a number in range.
 fn level_given(words: &ArgMatches) -> Option<u16>
     ensures { Answers (IsLevel (first_of level_rule.id (rows_of (found_of words.now)))) result }
 {
@@ -130,7 +130,7 @@ pub fn run_without<R: Read, W: Write>(
     Ok(())
 }
 
-// Does the same with the input of this source, and returns the status.
+// Runs `run_without` on the input of this source, and returns the status.
 fn run_from<S: FileSystem, R: Read, W: Write, E: Write>(
     system: &S,
     alloc: Global,
@@ -157,7 +157,7 @@ fn run_from<S: FileSystem, R: Read, W: Write, E: Write>(
     }
 }
 
-// Reports a password that is none, and returns the status.
+// Reports a text that is not a password, and returns the status.
 fn bad_password<E: Write>(errors: &mut E) -> u8
     ensures { result ≡ 1 }
 {

@@ -26,7 +26,7 @@ fn replayed(alloc: Global, events: &[Event]) -> Result<String, AllocError>
 ///
 /// # Errors
 ///
-/// `Line` with the number of the first line that has words and is no event; out of memory.
+/// `Line` with the number of the first line that has words and is not an event; out of memory.
 pub fn answer(alloc: Global, text: &[u8]) -> Result<String, ScheduleFault>
     ensures answered { IfOk result (λ lines. IsAnswer text.now (string_bytes lines)) }
     ensures line { (n : ℕ) → result ≡ Err (ScheduleFault.Line n) → IsFirstBadLine text.now n }

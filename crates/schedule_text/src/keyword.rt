@@ -1,4 +1,4 @@
-//! The words that a line begins with, and those of a begin.
+//! The words that a line begins with, and those of a `begin` line.
 
 ghost use Rattle.std.specs.Prelude.{◌≡◌};
 ghost use Rattle.schedule_text.specs.Words.{verb_word, verb_in, word_count, kind_word, kind_in, ruleset_in};
@@ -71,7 +71,7 @@ impl Verb {
     }
 }
 
-/// What a begin begins.
+/// What a `begin` line begins.
 #[derive(Clone, Copy, Debug, PartialEq, Eq)]
 pub enum Kind {
     Put,

@@ -9,7 +9,7 @@ use byte_output::put;
 use std::alloc::Global;
 use std::io::Write;
 
-/// Writes the answer to a schedule, and returns the exit status: 0 if the answer was written; 1 if a line is no event,
+/// Writes the answer to a schedule, and returns the exit status: 0 if the answer was written; 1 if a line is not an event,
 /// with its number as one line to `errors`; 2 if the writer failed or memory ran out. At 2 a part of the answer may have
 /// been written, or the line `out of memory`.
 pub fn print_answer<W: Write, E: Write>(
@@ -31,7 +31,7 @@ pub fn print_answer<W: Write, E: Write>(
         },
         Err(ScheduleFault::Line(number)) => {
             // There is nowhere left to report that this failed.
-            let _ = writeln!(errors, "replay_schedule: line {number} is no event");
+            let _ = writeln!(errors, "replay_schedule: line {number} is not an event");
             1
         }
         Err(ScheduleFault::Memory) => {

@@ -32,7 +32,7 @@ fn add_line(alloc: Global, events: &mut Vec<Event>, line: &[u8]) -> Result<bool,
 ///
 /// # Errors
 ///
-/// `Line` with the number of the first line that has words and is no event; out of memory.
+/// `Line` with the number of the first line that has words and is not an event; out of memory.
 pub fn read_schedule(alloc: Global, text: &[u8]) -> Result<Vec<Event>, ScheduleFault>
     ensures events { IfOk result (λ events. schedule_of text.now ≡ Some (events_of events.items)) }
     ensures line { (n : ℕ) → result ≡ Err (ScheduleFault.Line n) → IsFirstBadLine text.now n }

@@ -8,7 +8,7 @@ use thiserror::Error;
 #[derive(Clone, Copy, Debug, PartialEq, Eq, Error)]
 pub enum ScheduleFault {
     /// The line with this number, counted from 1, is the first that is neither an event nor empty.
-    #[error("line {0} is no event")]
+    #[error("line {0} is not an event")]
     Line(usize),
     /// Out of memory.
     #[error("out of memory")]

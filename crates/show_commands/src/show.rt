@@ -26,9 +26,9 @@ use tws_tables::{show, write_csv};
 pub struct ShowArguments {
     /// The solution file.
     pub source: Source,
-    /// With a line for each move.
+    /// Whether each move gets a line.
     pub moves: bool,
-    /// As comma-separated values, in which there are no lines for moves.
+    /// Whether to write comma-separated values, in which there are no lines for moves.
     pub csv: bool,
 }
 

@@ -25,6 +25,10 @@ pub enum ShowJob {
 }
 
 /// The command line of the program with only these commands: `show` and `pack`, in this order.
+///
+/// # Errors
+///
+/// Out of memory.
 pub fn show_program<'a>(alloc: Global) -> Result<Command<'a>, AllocError>
     ensures { IfOk result (λ command. app_of command ≡ shows_app) }
 {
@@ -33,6 +37,10 @@ pub fn show_program<'a>(alloc: Global) -> Result<Command<'a>, AllocError>
 }
 
 /// What the arguments of the command of this name ask for; `None` if no command here has this name.
+///
+/// # Errors
+///
+/// Out of memory.
 pub fn show_job_of(
     alloc: Global,
     name: &str,
@@ -48,7 +56,7 @@ pub fn show_job_of(
 }
 
 /// Does what a command is asked for, and returns the exit status: 0 if all was done, 2 if reading, writing or memory failed,
-/// 3 for an input that is no solution file. A fault goes to `errors`. A file is opened by its name in `system`.
+/// 3 for an input that is not a solution file. A fault goes to `errors`. A file is opened by its name in `system`.
 pub fn run_show_job<S: FileSystem, R: Read, W: Write, E: Write>(
     system: &S,
     alloc: Global,

@@ -27,7 +27,7 @@ pub(crate) struct Beside {
     made: Option<(File, PathBuf)>,
 }
 
-// The name of a draft, if so many names before it are taken.
+// The name of a draft, if `taken` names before it are in use.
 fn draft_name<P: AllocGlobal>(rt: &P, target: &PathBuf, taken: u32) -> io::Result<PathBuf> {
     let target = target.as_str();
     let name = if taken == 0 {

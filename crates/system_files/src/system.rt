@@ -12,6 +12,9 @@ use std::time::Clock;
 use std::{fs, io};
 
 /// The files of the system, as a runtime opens them. They have no ghost contents.
+///
+/// A draft is a file beside its target. Where none can be made there, or the target is new or not a regular file, it is
+/// written into the target itself.
 #[derive(Clone, Copy)]
 pub struct System<P: Files<File = File> + Clock + AllocGlobal + Copy>(pub P);
 

@@ -10,7 +10,7 @@ use std::time::Clock;
 // Where a draft is written.
 #[derive(Drop)]
 pub(crate) enum Place {
-    /// Into the file itself, which is new or is no regular file.
+    /// Into the file itself, which is new or is not a regular file.
     Itself(File),
     /// Over what the file has, since none can be made beside it.
     Over(File),

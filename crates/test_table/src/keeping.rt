@@ -314,7 +314,7 @@ fn counts(
     for (port, data, count) in rows {
         archive.ask(*port, client(2), WRQ)?;
         archive.handle(keeper, *port, client(2), data);
-        if archive.table().bettered() != *count {
+        if archive.table().improvements() != *count {
             return Ok(false);
         }
     }

@@ -159,7 +159,7 @@ impl<A: Allocator + Copy> Receiver<A> {
         }
     }
 
-    /// Its state.
+    /// The state of the receiver.
     pub fn state(&self) -> RecvState
         ensures { result ≡ self.now.state }
     {

@@ -120,7 +120,7 @@ impl<B: Blocks> Sender<B> {
         Some(self.data())
     }
 
-    /// Its state.
+    /// The state of the sender.
     pub fn state(&self) -> SendState
         ensures { result ≡ self.now.state }
     {

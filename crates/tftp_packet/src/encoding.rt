@@ -20,8 +20,8 @@ fn encode_request(opcode: u16, name: &[u8]) -> Dgram
     dgram
 }
 
-/// A request to read the file with this name, in mode octet: RRQ (RFC 1350 section 5), without options. The name has no
-/// zero byte, and at most 507 bytes, so that the request fits in a datagram.
+/// Encodes an RRQ (RFC 1350 section 5), without options: a request to read the file with this name, in mode octet. The name
+/// has no zero byte, and at most 507 bytes, so that the request fits in a datagram.
 #[tactic(auto, unfolding(crate::specs::Packet::encode))]
 pub fn encode_read(name: &[u8]) -> Dgram
     requires short { length name.now ≤ 507 }
@@ -32,8 +32,8 @@ pub fn encode_read(name: &[u8]) -> Dgram
     encode_request(READ, name)
 }
 
-/// A request to write a file under this name, in mode octet: WRQ (RFC 1350 section 5), without options. The name has no
-/// zero byte, and at most 507 bytes.
+/// Encodes a WRQ (RFC 1350 section 5), without options: a request to write a file under this name, in mode octet. The name
+/// has no zero byte, and at most 507 bytes.
 #[tactic(auto, unfolding(crate::specs::Packet::encode))]
 pub fn encode_write(name: &[u8]) -> Dgram
     requires short { length name.now ≤ 507 }
@@ -44,7 +44,7 @@ pub fn encode_write(name: &[u8]) -> Dgram
     encode_request(WRITE, name)
 }
 
-/// The block of a file with this number: DATA (RFC 1350 section 5). The body has at most `BLOCK_SIZE` bytes.
+/// Encodes a DATA (RFC 1350 section 5): the block of a file with this number and body, which has at most `BLOCK_SIZE` bytes.
 #[tactic(auto, unfolding(crate::specs::Packet::encode))]
 pub fn encode_data(block: u16, body: &[u8]) -> Dgram
     requires { length body.now ≤ BLOCK_SIZE }
@@ -57,8 +57,8 @@ pub fn encode_data(block: u16, body: &[u8]) -> Dgram
     dgram
 }
 
-/// Block `k` of a file, counted as in `Blocks`: DATA (RFC 1350 section 5). The file writes the block in place, so that
-/// it is copied only once.
+/// Encodes the DATA (RFC 1350 section 5) of block `k` of a file, counted as in `Blocks`. The file writes the block in
+/// place, so that it is copied only once.
 #[tactic(auto, unfolding(crate::specs::Packet::encode))]
 pub fn encode_block<B: Blocks>(blocks: &B, k: u16) -> Dgram
     requires first { 1 ≤ k }
@@ -72,7 +72,7 @@ pub fn encode_block<B: Blocks>(blocks: &B, k: u16) -> Dgram
     dgram
 }
 
-/// Acknowledges this block: ACK (RFC 1350 section 5). ACK 0 replies to a request to write.
+/// Encodes an ACK (RFC 1350 section 5) of this block. ACK 0 replies to a request to write.
 #[tactic(auto, unfolding(crate::specs::Packet::encode))]
 pub fn encode_ack(block: u16) -> Dgram
     ensures bytes { result ≡ encode (ack block) }
@@ -83,8 +83,7 @@ pub fn encode_ack(block: u16) -> Dgram
     dgram
 }
 
-/// Reports an error: ERROR (RFC 1350 section 5), with nothing after its text. The text has no zero byte, and at most
-/// 511 bytes.
+/// Encodes an ERROR (RFC 1350 section 5), with nothing after its text. The text has no zero byte, and at most 511 bytes.
 #[tactic(auto, unfolding(crate::specs::Packet::encode))]
 pub fn encode_error(code: u16, text: &[u8]) -> Dgram
     requires short { length text.now ≤ 511 }

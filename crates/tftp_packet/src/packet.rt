@@ -8,7 +8,7 @@ pub enum Packet<'a> {
     Read { name: &'a [u8], mode: &'a [u8] },
     /// A request to write a file, WRQ, in the same form.
     Write { name: &'a [u8], mode: &'a [u8] },
-    /// A block of a file, DATA: its number, counted from 1, and its bytes, at most 512. Fewer than 512 end the file.
+    /// A block of a file, DATA: its number, counted from 1, and its bytes, at most `BLOCK_SIZE`. Fewer end the file.
     Data { block: u16, body: &'a [u8] },
     /// Acknowledges this block, ACK. ACK 0 replies to a request to write.
     Ack { block: u16 },

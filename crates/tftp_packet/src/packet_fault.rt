@@ -7,7 +7,7 @@ pub enum PacketFault {
     /// There are fewer than two bytes, so no opcode.
     #[error("Short")]
     Short,
-    /// There are more than 516 bytes, which are the opcode, a block number and 512 bytes of a file.
+    /// There are more than `MAX_DATAGRAM` bytes, which are the opcode, a block number and a full block.
     #[error("TooLong")]
     TooLong,
     /// The opcode is not one of 1 to 5.

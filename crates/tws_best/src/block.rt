@@ -30,7 +30,7 @@ pub(crate) fn put_part(block: &mut [u8; BLOCK_SIZE], len: usize, bytes: &[u8]) -
     put(block, len, &bytes[..count])
 }
 
-// The same for a record without its first `skip` bytes.
+// Appends a record without its first `skip` bytes, as far as there is room. Returns the new length.
 pub(crate) fn put_record<A: Allocator>(
     block: &mut [u8; BLOCK_SIZE],
     len: usize,
@@ -50,7 +50,7 @@ pub(crate) fn put_record<A: Allocator>(
     }
 }
 
-// The same for the records of these bodies.
+// Appends the records of these bodies, as far as there is room. Returns the new length.
 pub(crate) fn put_bodies<A: Allocator>(
     block: &mut [u8; BLOCK_SIZE],
     len: usize,

@@ -68,7 +68,7 @@ impl<A: Allocator + Copy> Bodies<A> {
         ensures was_ordered { IsStrictlySortedBy key_cmp (keys_of self.old) }
     {
         let more = body.record_len();
-        // There are fewer than 2^63 records, each of less than 2^33 bytes: so the sum fits.
+        // `len` is called for its clause: there are fewer than 2^63 records, each of less than 2^33 bytes, so the sum fits.
         let _count = self.map.len();
         match self.map.insert(key, body) {
             Ok(old) => {
@@ -87,6 +87,7 @@ fn body_of<A: Allocator + Copy, B: Allocator>(
 ) -> Result<Body<A>, AllocError>
     ensures { IfOk result (λ body. body ≡ (keyed_body solution.now).body) }
 {
+    // The field is read because only then is the invariant of the solution known here.
     let _key = solution.key;
     let bytes = solution.body(alloc)?;
     Body::of(bytes)
@@ -146,6 +147,7 @@ impl<A: Allocator + Copy> Bodies<A> {
         ensures was_ordered { IsStrictlySortedBy key_cmp (keys_of self.old) }
     {
         let more = 4 + u128::from(solution.body_len());
+        // As in `insert`.
         let _count = self.map.len();
         match offer(alloc, &mut self.map, key, solution) {
             Ok(Some(old)) => {

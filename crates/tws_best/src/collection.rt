@@ -96,6 +96,7 @@ impl<A: Allocator + Copy> Collection<A> {
         ensures none { result.items ≡ [] }
         ensures fits { IsCollected self.now }
     {
+        // The field is read because only then is the invariant known here.
         let _ruleset = self.ruleset;
         Vec::new(self.alloc)
     }

@@ -40,7 +40,7 @@ impl<'a> Rank<'a> {
         }
     }
 
-    // The time that the solution takes.
+    // The time that the solution takes, in ticks of 1/20 second.
     pub(crate) fn ticks(&self) -> u32
         ensures { result ≡ self.now.ticks }
     {

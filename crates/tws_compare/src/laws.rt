@@ -13,7 +13,7 @@ ghost use Rattle.tws_compare.specs.Compare.{best_in, keys_of, sides_of, better_e
 ghost use Rattle.tws_compare.specs.Without.{records_without};
 ghost use Rattle.tws_compare.specs.Dropped.{IsSolutionOf, IsSubsequence};
 
-/// What is left of a file without a level are the records that are no solutions of it, in order.
+/// What is left of a file without a level are the records that are not solutions of it, in order.
 pub fn exactly_the_level()
     ensures left { (key : Level) (rs : List Plain) (r : Plain) → Contains (records_without key rs) r ↔ (Contains rs r × (IsSolutionOf key r → ⊥)) }
     ensures in_order { (key : Level) (rs : List Plain) → IsSubsequence (records_without key rs) rs }

@@ -57,7 +57,7 @@ fn digits_in(digits: &[u8]) -> Option<[u8; 4]>
     }
 }
 
-// The same for bytes that are no letters.
+// The password with these digits, if its bytes are not all letters.
 fn others_in(digits: &[u8]) -> Option<[u8; 4]>
     ensures digits { IfSome result (λ password. digits.now ≡ encode_lower password) }
     ensures four { IfSome result (λ password. length password ≡ 4) }
@@ -73,8 +73,8 @@ fn others_in(digits: &[u8]) -> Option<[u8; 4]>
     }
 }
 
-/// The password that a listing shows as this text: four letters, or an `x` and the eight hexadecimal digits of other
-/// bytes. `None` if it shows none so.
+/// The password that a listing shows as this text: four letters, or an `x` and the eight lower-case hexadecimal digits of
+/// four bytes that are not all letters. `None` for any other text.
 pub fn password_shown(text: &str) -> Option<[u8; 4]>
     ensures some { IfSome result (IsShown text.now) }
     ensures none { IfNone result ((password : List ℕ) → IsShown text.now password → ⊥) }

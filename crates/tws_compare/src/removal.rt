@@ -17,7 +17,7 @@ fn solves<A: Allocator>(key: Key, one: &Record<A>) -> bool
     }
 }
 
-// The records that are no solutions of a level, in order.
+// The records that are not solutions of a level, in order.
 fn records_without<A: Allocator>(key: Key, records: Records<A>) -> Records<A>
     ensures { result ≡ records_without key records }
 {

@@ -21,7 +21,7 @@ pub record IsKey (key : Key) : Type 0 where
   pub password : IsBytes key.password
   pub password_length : length key.password ≡ 4
 
--- the key that no level has: a record of the set of levels begins with it
+-- the key that no level has: the record of the level set begins with it
 abbrev pub set_key : Key
 set_key = record { number = 0; password = 0 ∷ 0 ∷ 0 ∷ 0 ∷ [] }
 

@@ -17,14 +17,14 @@ pub struct Key {
 impl Key {
     ghost use Rattle.tws_file.specs.Fields.{set_key};
 
-    /// The key that no level has, number 0 with four zero bytes. The record of the set of levels begins with it.
+    /// The key that no level has, number 0 with four zero bytes. The record of the level set begins with it.
     pub const SET: Key = Key {
         number: 0,
         password: [0; 4],
     };
 
     /// Whether this is the key that no level has.
-    pub fn is_set(self) -> bool
+    pub fn is_level_set(self) -> bool
         ensures { IsTrue result ↔ (self ≡ set_key) }
     {
         self == Self::SET

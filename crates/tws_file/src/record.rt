@@ -16,7 +16,8 @@ use std::alloc::{Allocator, Global};
 pub enum Record<A: Allocator = Global> {
     /// A record of size 0, which is empty.
     Pad,
-    /// The record of the set of levels: the bytes after its key, which is all zero.
+    /// The record of the level set, whose key is all zero: the bytes after the key, where Tile World writes the set's name.
+    /// They are kept as they are.
     Set { rest: Bytes<A> },
     /// A level that is known and not solved.
     Bare { key: Key },

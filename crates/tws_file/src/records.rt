@@ -30,7 +30,11 @@ impl<A: Allocator> Records<A> {
         Records { records }
     }
 
-    /// Appends records. The first ones are not copied. On error nothing changes.
+    /// Appends records. An empty list takes the vector over, without copying.
+    ///
+    /// # Errors
+    ///
+    /// Out of memory. Nothing changes.
     pub fn append(&mut self, more: Vec<Record<A>, A>) -> Result<(), AllocError>
         ensures ok { OnOk result (self.new ≡ self.old ++ records_of more.items) }
         ensures err { OnErr result (self.new ≡ self.old) }

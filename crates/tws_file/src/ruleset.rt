@@ -15,7 +15,7 @@ pub enum Ruleset {
 }
 
 impl Ruleset {
-    /// The code of this ruleset, which is that byte.
+    /// The code of this ruleset in byte 4 of a file: 1 for Lynx, 2 for MS.
     pub fn code(self) -> u8
         ensures { result ≡ ruleset_code self }
     {
@@ -37,8 +37,8 @@ impl Ruleset {
         }
     }
 
-    /// The ruleset of the solution file that begins with these bytes, of which there are five at least, unless the file
-    /// has fewer. Of bytes that begin no file it is any ruleset, or `None`.
+    /// The ruleset in byte 4 of the solution file that begins with these bytes; `None` if there are fewer than five, or
+    /// byte 4 is not the code of a ruleset. Nothing else is checked.
     pub fn of_file(start: &[u8]) -> Option<Self>
         ensures { (file : File) (bytes : List ℕ) (n : ℕ) → IsText bytes file → 5 ≤ n → start.now ≡ take n bytes → result ≡ Some file.«ruleset» }
     {

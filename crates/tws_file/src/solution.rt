@@ -13,7 +13,7 @@ use std::marker::Model;
 
 /// How a level was solved.
 ///
-/// Each value has a text: the key is not that of the set of levels, no move is cut, and the body's size fits in four
+/// Each value has a text: the key is not that of the level set, no move is cut, and the body's size fits in four
 /// bytes.
 #[derive(Drop)]
 #[derive_where(Debug)]
@@ -26,7 +26,7 @@ pub struct Solution<A: Allocator = Global> {
     pub start: u8,
     /// The random seed.
     pub seed: u32,
-    /// The time that the solution takes.
+    /// The time that the solution takes, in ticks of 1/20 second.
     pub ticks: u32,
     /// The moves as the file spells them.
     pub moves: Bytes<A>,

@@ -4,9 +4,9 @@ ghost use Rattle.tws_moves.specs.Steps.{ticks_limit};
 /// What a player does at one tick.
 #[derive(Clone, Copy, Debug, PartialEq, Eq)]
 pub enum Act {
-    /// A step in a direction, 0 to 7.
+    /// A step in a direction, numbered 0 to 7 as in Tile World's comments.
     Step(u8),
-    /// A code of nine bits, 0 to 511.
+    /// Any other move, as Tile World's code of nine bits, 0 to 511.
     Code(u16),
 }
 

@@ -9,6 +9,7 @@ use std::marker::Model;
 pub struct Move {
     /// The tick, counted from 0.
     pub at: u64,
+    /// What is done then.
     pub act: Act,
 }
 

@@ -216,7 +216,7 @@ impl<A: Allocator + Copy> PartReader<A> {
         }
     }
 
-    /// The same, but appends the records to a list. On error the list does not change.
+    /// Like `push`, but appends the records to a list. On error the list does not change.
     pub(crate) fn push_into(
         &mut self,
         piece: &[u8],

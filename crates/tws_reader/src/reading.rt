@@ -87,7 +87,7 @@ fn read_body<A: Allocator>(alloc: A, offset: u64, body: &[u8]) -> Result<Record<
     }
     let key = read_key(body);
     let rest = &body[6..];
-    if key.is_set() {
+    if key.is_level_set() {
         let rest = Bytes::of(Vec::from_slice(alloc, rest)?);
         return Ok(Record::Set { rest });
     }

@@ -9,6 +9,7 @@ use std::net::Ipv4Addr;
 /// An IPv4 address as a number. Its most significant byte is the first of the four numbers as they are written.
 #[derive(Clone, Copy, Debug, PartialEq, Eq)]
 pub struct Address {
+    /// The number.
     pub host: u32,
 }
 

@@ -8,7 +8,7 @@ pub(crate) const MAX_PORT: u16 = 65535;
 /// until it is stopped.
 pub const TURNS: u64 = 1_000_000_000;
 
-/// The most rounds that a client makes, each of which waits a second at most.
+/// The most rounds that a client makes, each of which waits `TIMEOUT` milliseconds of `archive_turns` at most.
 pub const ROUNDS: u64 = 1_000_000_000;
 
 /// How many transfers one host may have, unless `serve` is given another number: half of the places.

@@ -87,7 +87,7 @@ impl<N: HostWire> TransferWire for Overhearing<N> {
         self.wire.last_error()
     }
 
-    fn expect(&mut self, _length: u64) {}
+    fn set_length(&mut self, _length: u64) {}
 
     fn finish(&mut self) {}
 }

@@ -98,8 +98,8 @@ pub fn run_words_with<
     )
 }
 
-/// The same with the system's files, resolver and sockets, which have no ghost contents or logs. `put` and `get` show on
-/// `terminal`, if there is one, how far they have come.
+/// `run_words_with` over the system's files, resolver and sockets, which have no ghost contents or logs. `put` and `get`
+/// show on `terminal`, if there is one, how far they have come.
 pub fn run_words<
     P: Files<File = File> + Net + Clock + RandomSource + Eprint + AllocGlobal + Copy,
     R: Read,

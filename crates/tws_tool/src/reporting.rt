@@ -65,7 +65,7 @@ pub(crate) fn report_transfer<N: TransferWire, E: Write>(
     status
 }
 
-/// The same for a transfer that failed or succeeded.
+/// Like `report_transfer`, but reports nothing if the transfer succeeded.
 pub(crate) fn finish_transfer<N: TransferWire, E: Write>(
     done: Result<(), ToolFault>,
     wire: &N,

@@ -23,8 +23,8 @@ use tws_file::Ruleset;
 // How many bytes of a cause are reported at most.
 const CAUSE: usize = 256;
 
-/// A keeper over another one, which refuses what is longer than a limit or could not be served, and reports each keep that
-/// fails to a log. A line that cannot be written changes nothing else.
+/// A keeper over another one, which refuses what is longer than a limit or could not be served, and reports to a log each
+/// collection that is not kept. A line that cannot be written changes nothing else.
 #[derive(Drop)]
 pub(crate) struct ReportingKeeper<K: ServedKeeper, C: Clock, L: Log> {
     keeper: Limited<K>,
@@ -45,7 +45,7 @@ impl<K: ServedKeeper, C: Clock, L: Log> ReportingKeeper<K, C, L> {
         }
     }
 
-    // Reports that a collection of so many bytes was not kept.
+    // Reports that a collection of `bytes` bytes was not kept.
     fn report(&self, ruleset: Ruleset, bytes: u64, why: &str) {
         let time = Stamp::now(&self.clock);
         let event = Event::KeepFailed {

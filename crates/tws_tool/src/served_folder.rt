@@ -62,7 +62,7 @@ pub(crate) fn keeper_of<P: Files<File = File> + AllocGlobal + Copy, E: Write>(
     Some(keeper)
 }
 
-// Prints why these bytes are no collection of this ruleset, if they are none.
+// Prints why these bytes are not a collection of this ruleset, if they are not.
 fn report_text<E: Write>(
     alloc: Global,
     bytes: &[u8],

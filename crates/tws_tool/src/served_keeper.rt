@@ -11,11 +11,11 @@ use std::rt::Files;
 
 /// A keeper that a server can serve with, which reports when that has to end.
 pub trait ServedKeeper: Keeper {
-    /// Whether it is known of every keep so far if the collection was kept.
+    /// Whether the outcome of every call of `keep` so far is known.
     ghost usable: { Self → Bool };
 
-    /// Whether it is known of every keep so far if the collection was kept. Otherwise a restart may load the new
-    /// collection or the last one, so the server has to end.
+    /// Whether the outcome of every call of `keep` so far is known. Otherwise a restart may load the new collection or the
+    /// last one, so the server has to end.
     fn is_usable(&self) -> bool
         ensures { result ≡ usable self.now };
 

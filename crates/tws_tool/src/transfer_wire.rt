@@ -14,8 +14,8 @@ pub trait TransferWire: ReadyWire {
     /// What the system said of the port that was not opened, where that is known.
     fn last_error(&self) -> Option<io::Error>;
 
-    /// The file that is to be sent has so many bytes.
-    fn expect(&mut self, length: u64)
+    /// Sets the length in bytes of the file that is to be sent.
+    fn set_length(&mut self, length: u64)
         ensures { Self.log self.new ≡ Self.log self.old };
 
     /// The transfer has ended: nothing more is shown of it.
@@ -33,7 +33,7 @@ impl TransferWire for MemoryWire {
         None
     }
 
-    fn expect(&mut self, _length: u64) {}
+    fn set_length(&mut self, _length: u64) {}
 
     fn finish(&mut self) {}
 }
@@ -47,8 +47,8 @@ impl<N: TransferWire, W: Write> TransferWire for ProgressWire<N, W> {
         self.wire().last_error()
     }
 
-    fn expect(&mut self, length: u64) {
-        ProgressWire::expect(self, length);
+    fn set_length(&mut self, length: u64) {
+        ProgressWire::set_length(self, length);
     }
 
     fn finish(&mut self) {

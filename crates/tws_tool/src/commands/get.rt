@@ -157,14 +157,14 @@ fn fetch<S: FileSystem, N: TransferWire>(
 }
 
 /// Fetches the collection of this ruleset from the archive into the file of this name, in at most `ROUNDS` rounds; then
-/// prints its length in bytes, and goes on to acknowledge a repeated last block, for two seconds at most. `server` is the
-/// archive's host and request port. The file is created before a port is opened, and if there is one already it stays as
-/// it is until the whole collection is written.
+/// prints its length in bytes, and dallies (`Run::dally`). `server` is the archive's host and request port. The file is
+/// created before a port is opened, and if there is one already it stays as it is until the whole collection has arrived.
 ///
 /// # Errors
 ///
 /// `Socket` if no port was opened, and `Transfer` with the cause of the failed transfer: then no file is changed. `Write`
-/// if the file cannot be written, which then stays as it is, or the writer fails. `Memory` if an allocation was refused.
+/// if the file cannot be written, which then stays as it is unless it had to be written in place, or the writer fails.
+/// `Memory` if an allocation was refused.
 pub fn get_file<S: FileSystem, N: TransferWire, W: Write>(
     system: &mut S,
     wire: &mut N,

@@ -124,7 +124,7 @@ fn put_shown<N: TransferWire>(
 ) -> Result<u64, RunFault>
     ensures { PutsInRounds server bytes.items ROUNDS result (N.log wire.old) (N.log wire.new) }
 {
-    wire.expect(bytes.len() as u64);
+    wire.set_length(bytes.len() as u64);
     let sent = put_in_rounds(wire, server, bytes, ROUNDS);
     wire.finish();
     sent

@@ -74,7 +74,7 @@ fn not_known<E: Write>(name: &str, errors: &mut E) -> u8
     FAILED
 }
 
-// The same, of whose start and end an observer is notified.
+// Runs `serve_archive`, and notifies the observer when the server starts and stops.
 fn serve_observed<N: ReadyWire, K: ServedKeeper, O: ServedObserver, W: Write>(
     alloc: Global,
     folder: Option<&str>,
@@ -153,8 +153,8 @@ fn no_history<E: Write>(cause: &io::Error, name: &str, errors: &mut E) -> u8
     report_cause(FAILED, name, cause, errors)
 }
 
-// Makes the turns or rounds of a server at this wire, whose ports are at this address of this host, with this keeper, whose
-// name its faults are reported with, and returns the status.
+// Serves over this wire, whose ports are at `host`, with this keeper and observer, and returns the status. Faults of the
+// keeper are reported under `name`.
 fn serve_over<
     P: Net + Clock + RandomSource + AllocGlobal + Copy,
     K: ServedKeeper,
@@ -196,7 +196,7 @@ fn serve_over<
     end_serving(done, keeper.is_usable(), name, errors)
 }
 
-// The same at a new wire.
+// Opens a wire at this address of this host, and runs `serve_over` on it.
 fn serve_with<
     P: Net + Clock + RandomSource + AllocGlobal + Copy,
     K: ServedKeeper,
@@ -255,7 +255,7 @@ fn history_of<P: Files<File = File> + AllocGlobal + Copy, E: Write>(
     }
 }
 
-// The same as `serve_with`, with the log and the history that were asked for.
+// Runs `serve_with` with the log and the history that were asked for.
 fn serve_logged<
     P: Files<File = File> + Net + Clock + RandomSource + Eprint + AllocGlobal + Copy,
     K: ServedKeeper,
@@ -305,8 +305,8 @@ fn serve_logged<
     }
 }
 
-// The same with this server over this keeper, of which both end here. A collection that is longer than the limit is refused,
-// and each keep that fails is reported to the log.
+// Runs `serve_logged` with this server and a keeper over this one, which refuses a collection longer than the limit and
+// reports to the log each one that is not kept. Both end here.
 fn serve_limited<
     P: Files<File = File> + Net + Clock + RandomSource + Eprint + AllocGlobal + Copy,
     K: ServedKeeper + Drop,
@@ -416,7 +416,7 @@ fn serve_at<
 }
 
 // The host of the address that was given; 0, which is every address of this host, if none was. `None` if what was given
-// is no address.
+// is not an address.
 fn host_given(address: &Option<String>) -> Option<u32>
     ensures some { IfSome result (HasHost (option_map string_bytes address.now)) }
     ensures none { IfNone result (IsNoHost (option_map string_bytes address.now)) }

@@ -20,21 +20,21 @@ use tftp_ends::MAX_FILE;
 /// What `serve` is asked for.
 #[derive(Drop)]
 pub struct ServeArguments {
-    /// On this port.
+    /// The request port.
     pub port: u16,
-    /// For this many turns.
+    /// After how many turns the server stops; with `TURNS` it runs until it is stopped.
     pub turns: u64,
-    /// With at most this many transfers of one host.
+    /// The most transfers of one host.
     pub per_host: u64,
-    /// With collections whose texts have at most this many bytes.
+    /// The most bytes that the text of a collection may have.
     pub limit: u64,
-    /// At this address of this host, as it was typed; at every address if none was.
+    /// The address of this host to listen at, as it was typed; every address if `None`.
     pub address: Option<String>,
-    /// With the collections kept in this folder.
+    /// The folder that keeps the collections, if any.
     pub dir: Option<String>,
-    /// With a line on standard error for each event.
+    /// Whether each event is logged to standard error.
     pub log: bool,
-    /// With each file that changes a collection kept in this folder.
+    /// The folder that keeps each file that changes a collection, if any.
     pub history: Option<String>,
 }
 
