@@ -11,7 +11,8 @@ import socket
 import subprocess
 import sys
 import time
-
+from concurrent.futures import ThreadPoolExecutor
+from functools import partial
 
 from attacking import (
     FOLDER, Flood, HEADER, RRQ, Server, WRQ, check, counts, done, drain, end, file, loaded, memory_of, processes,
@@ -97,22 +98,23 @@ def strangers_keep_no_transfer_alive():
         check("a transfer that a stranger answers", 0 < lived < 7)
 
 
-def junk_is_no_progress():
-    """A get that nobody answers times out, whatever junk comes, from its server's host or from others."""
+def junk_is_no_progress(host):
+    """A get that nobody answers times out, whatever junk comes from this host."""
     silent = end()
-    for host in ("127.0.0.1", "127.0.0.2"):
-        process = run("get", "127.0.0.1", "lynx", os.path.join(FOLDER, "none"), "--port", silent.getsockname()[1])
-        _, (_, port) = silent.recvfrom(2000)
-        with Flood(port, 250, hosts=(host,), ends=5):
-            status, text, took = done(process, 20)
-        print(f"250 junk datagrams a second from {host}: the get timed out after {took:.1f} s")
-        check(f"a get with junk from {host}", status == 4 and text == b"tws: transfer failed: timed out\n" and took < 6)
-        silent.settimeout(0.01)
-        try:
-            while True:
-                silent.recvfrom(2000)
-        except OSError:
-            silent.settimeout(10)
+    process = run("get", "127.0.0.1", "lynx", os.path.join(FOLDER, f"none-{host}"), "--port", silent.getsockname()[1])
+    _, (_, port) = silent.recvfrom(2000)
+    with Flood(port, 250, hosts=(host,), ends=5):
+        status, text, took = done(process, 20)
+    print(f"250 junk datagrams a second from {host}: the get timed out after {took:.1f} s")
+    check(f"a get with junk from {host}", status == 4 and text == b"tws: transfer failed: timed out\n" and took < 6)
+
+
+def five_time_outs_end_a_transfer():
+    """The rows that wait for five time-outs, side by side: junk is from the server's host of a get, and from another."""
+    rows = [strangers_keep_no_transfer_alive, *(partial(junk_is_no_progress, host) for host in ("127.0.0.1", "127.0.0.2"))]
+    with ThreadPoolExecutor() as pool:
+        for row in [pool.submit(row) for row in rows]:
+            row.result()
 
 
 def floods_slow_gets_down_no_more_than_threefold():
@@ -395,8 +397,7 @@ def main():
         what_waits_is_not_timed_out,
         junk_costs_no_port,
         one_host_does_not_close_the_archive,
-        strangers_keep_no_transfer_alive,
-        junk_is_no_progress,
+        five_time_outs_end_a_transfer,
         floods_slow_gets_down_no_more_than_threefold,
         uploads_cost_their_bytes,
         a_put_that_changes_nothing_is_cheap,

@@ -1,3 +1,4 @@
+use Rattle.std.proofs.Common.{rules}
 use Rattle.archive_model.proofs.Growing.{step-adds, run-extends}
 use Rattle.archive_model.proofs.Entries.{stray-is_in, delivery-keeps}
 use Rattle.archive_model.proofs.laws.event_law.Goals as goal
@@ -13,3 +14,6 @@ returns-clause-stray c = stray-is_in
 
 pub returns-clause-keeps : goal.returns-clause-keeps
 returns-clause-keeps c = delivery-keeps
+
+pub returns-clause-restart : goal.returns-clause-restart
+returns-clause-restart c = search rules

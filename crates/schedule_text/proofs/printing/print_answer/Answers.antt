@@ -1,4 +1,4 @@
-use Rattle.std.proofs.Common.{◌≡◌, ap, Err}
+use Rattle.std.proofs.Common.{rules, ◌≡◌, ap, Err}
 use Rattle.schedule_text.specs.declared.schedule_fault.ScheduleFault.TheVariants.{Line}
 use Rattle.schedule_text.proofs.printing.print_answer.Goals as goal
 
@@ -8,3 +8,6 @@ returns-in-Err-Line-clause-line g c = λ _.
       c.in-Err-Line.number,
       c.in-Err-Line.ensures.line c.in-Err-Line.number (ap (λ fault. Err fault) same),
     )
+
+pub returns-in-Err-Line-clause-unwritten : goal.returns-in-Err-Line-clause-unwritten
+returns-in-Err-Line-clause-unwritten g c = search rules
