@@ -1,6 +1,7 @@
--- Linearizability: when operations take effect. Each put that is counted as sent, and each get that has fetched, takes
--- effect at one step of the run, after its start and before its end, as if the whole of it happened there: so the
--- operations of all clients whose ports are their own are in one order, that of these steps.
+-- When operations take effect, as linearizability asks. Each put that is counted as sent, and each get that has fetched,
+-- takes effect at one step of the run, after its start and before its end, as if the whole of it happened there: so the
+-- operations of all clients whose ports are their own are in one order, that of these steps. Files of others are taken in
+-- between.
 use Rattle.std.specs.Prelude.{◌≡◌, ◌≢◌, ℕ, ◌≤◌, false, List, [], ◌∷◌, ◌++◌, take, length, Contains}
 use Rattle.tftp_packet.specs.declared.endpoint.Endpoint.{Endpoint}
 use Rattle.tws_file.specs.declared.«ruleset».Ruleset.{Ruleset}

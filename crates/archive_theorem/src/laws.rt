@@ -45,7 +45,7 @@ pub fn network_law()
     ensures one { (first second : List WorldStep) → asked_by first ≡ asked_by second → AllMerged first start → AllMerged second start → run first ≡ run second }
 {}
 
-/// The operations of the clients whose ports are their own are linearizable, whatever others do: each put that is counted
+/// The operations of the clients whose ports are their own are in one order, whatever others do: each put that is counted
 /// as sent takes effect at one step of the run, which takes its file, and each get that has fetched at one step, at which
 /// what it fetched is the server's collection; and that step comes after the start of the operation and, as each beginning
 /// of a run is a run, before its end. So where one operation ends before another begins, what was sent is fetched

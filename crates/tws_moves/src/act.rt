@@ -6,7 +6,7 @@ ghost use Rattle.tws_moves.specs.Steps.{ticks_limit};
 pub enum Act {
     /// A step in a direction, numbered 0 to 7 as in Tile World's comments.
     Step(u8),
-    /// Any other move, as Tile World's code of nine bits, 0 to 511.
+    /// A move by Tile World's code of nine bits, 0 to 511.
     Code(u16),
 }
 
