@@ -155,7 +155,7 @@ class Names:
     """What a document may cite: one in a crate's folder what that crate sees, any other all of it."""
 
     def __init__(self, document):
-        folder = document.parts[1] if document.parts[0] == "crates" else None
+        folder = document.parts[1] if document.parts[0] == "crates" and len(document.parts) > 2 else None
         self.folder = document.parent
         self.crates = [crates()[name] for name in (below(folder) if folder else crates())]
 

@@ -20,8 +20,8 @@ use Rattle.tftp_ends.specs.Input.{Input, nothing, stray, refusal, acked, block, 
 use Rattle.tftp_ends.specs.Ends.{Verdict, granted, refused, Sender, SendAnswer, sender_start, sender_ack, sender_timeout, data_packet, IsSender, Receiver, RecvAnswer, DataAnswer, receiver_start, receiver_data, receiver_timeout, receiver_take, refusal_of, IsReceiver}
 use Rattle.tws_file.specs.declared.«ruleset».Ruleset.{Ruleset}
 use Rattle.tws_file.specs.Names.{file_name_of, upload_name}
-use Rattle.tftp_cause.specs.declared.cause.Cause.{Cause}
-use Rattle.tftp_cause.specs.declared.cause.Cause.TheVariants as cause
+use Rattle.tftp_packet.specs.declared.cause.Cause.{Cause}
+use Rattle.tftp_packet.specs.declared.cause.Cause.TheVariants as cause
 use Rattle.archive_client.specs.declared.state.State.{State}
 use Rattle.archive_client.specs.declared.state.State.TheVariants as state
 

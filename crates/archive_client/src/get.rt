@@ -11,9 +11,8 @@ use crate::phase::Phase;
 use crate::state::State;
 use std::alloc::{Allocator, Global};
 use std::marker::Model;
-use tftp_cause::Cause;
 use tftp_ends::{MAX_FILE, MISSES, Received, Receiver, RecvFault, RecvState};
-use tftp_packet::{BLOCK_SIZE, Endpoint, Out, Refusal, encode_read};
+use tftp_packet::{BLOCK_SIZE, Cause, Endpoint, Out, Refusal, encode_read};
 use tws_file::Ruleset;
 
 /// A client that fetches the collection of a ruleset. Only `on_datagram` allocates.

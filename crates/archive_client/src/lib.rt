@@ -21,5 +21,5 @@ pub use get::Get;
 pub use laws::{client_bounds, last_ack, one_port, other_host, over_client};
 pub use put::Put;
 pub use state::State;
-pub use tftp_cause::Cause;
+pub use tftp_packet::Cause;
 pub use too_long::TooLong;

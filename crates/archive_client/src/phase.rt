@@ -1,7 +1,7 @@
 ghost use Rattle.std.specs.Prelude.{◌≡◌};
 ghost use Rattle.archive_client.specs.View.{bound_peer};
 
-use tftp_cause::Cause;
+use tftp_packet::Cause;
 
 /// The phase of a client. `W` is what it asks for, and `E` its end of the transfer.
 #[derive(Debug, Drop)]

@@ -12,9 +12,8 @@ use crate::too_long::TooLong;
 use std::alloc::{Allocator, Global};
 use std::marker::Model;
 use std::mem;
-use tftp_cause::Cause;
 use tftp_ends::{MAX_FILE, MISSES, SendState, Sender};
-use tftp_packet::{Endpoint, Out, Owned, Refusal, encode_write};
+use tftp_packet::{Cause, Endpoint, Out, Owned, Refusal, encode_write};
 use tws_file::upload_file_name;
 
 /// A client that sends a file. None of its calls allocates.

@@ -1,4 +1,4 @@
-use tftp_cause::Cause;
+use tftp_packet::Cause;
 
 /// How far a client has got.
 #[derive(Clone, Copy, Debug, PartialEq, Eq)]

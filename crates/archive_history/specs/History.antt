@@ -25,10 +25,6 @@ draft_of name = name ++ codes ".new"
 
 -- ---- what calls do to a folder, which is a function from names to files
 
--- a count that grew, or has its greatest value
-abbrev pub Rises : (old new : ℕ) → Type 0
-Rises old new = (old < new) ⊎ (2 ^ 64 - 1 ≤ new)
-
 -- the files under all other names are as they were
 abbrev pub SameBut : (name : List ℕ) → (old new : List ℕ → Option (List ℕ)) → Type 0
 SameBut name old new = (other : List ℕ) → other ≢ name → new other ≡ old other

@@ -1,7 +1,8 @@
 //! Putting a file into the history.
 
 ghost use Rattle.std.specs.Prelude.{◌≡◌, ◌≢◌, ◌≤◌, ℕ, List, true, None, Some, Err, IfOk, IfErr, OnOk, OnErr, string_bytes};
-ghost use Rattle.archive_history.specs.History.{AddsNothing, Records, RecordsForGood, Rises, SameBut, HasNoFreeName, numbered};
+ghost use Rattle.archive_history.specs.History.{AddsNothing, Records, RecordsForGood, SameBut, HasNoFreeName, numbered};
+ghost use Rattle.byte_output.specs.Failures.{Rises};
 
 use crate::history_fault::HistoryFault;
 use crate::history_folder::HistoryFolder;

@@ -1,7 +1,8 @@
 //! A folder that keeps a history.
 
 ghost use Rattle.std.specs.Prelude.{◌≡◌, ◌≢◌, ◌≤◌, ℕ, Bool, true, [], List, Option, Some, is_some, OnOk, OnErr, IfOk};
-ghost use Rattle.archive_history.specs.History.{Rises, SameBut};
+ghost use Rattle.archive_history.specs.History.{SameBut};
+ghost use Rattle.byte_output.specs.Failures.{Rises};
 
 use std::io::Write;
 

@@ -2,7 +2,7 @@
 
 ghost use Rattle.std.specs.Prelude.{◌≡◌, ◌≤◌, false, None, IfOk, OnErr, string_bytes};
 ghost use Rattle.std.specs.Path.{path_buf_bytes, path_join};
-ghost use Rattle.archive_history.specs.History.{Rises};
+ghost use Rattle.byte_output.specs.Failures.{Rises};
 
 use crate::history_folder::{CallFailed, HistoryFolder};
 use std::alloc::AllocError;

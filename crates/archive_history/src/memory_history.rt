@@ -1,7 +1,8 @@
 //! A history in memory, for tests.
 
 ghost use Rattle.std.specs.Prelude.{◌≡◌, ◌≤◌, [], ◌++◌, ◌∷◌, IsErr, option_copied, OnOk, OnErr, IfOk};
-ghost use Rattle.archive_history.specs.History.{Rises, SameBut};
+ghost use Rattle.archive_history.specs.History.{SameBut};
+ghost use Rattle.byte_output.specs.Failures.{Rises};
 ghost use Rattle.archive_history.specs.MemoryHistory.{latest, contents_of, memory_file, memory_synced};
 
 use crate::history_folder::{CallFailed, HistoryFolder};

@@ -1,7 +1,7 @@
 -- Which port is read next, and which are open.
 use Rattle.std.specs.Prelude.{ℕ, nat_lt, Bool, true, false, ◌&&◌, ◌||◌, ◌≡◌, ◌≢◌, List, [], ◌∷◌, All, fold, slice_get, Option, None, Some}
 use Rattle.std.specs.List.{remove}
-use Rattle.archive_turns.specs.Wire.{lesser}
+use Rattle.archive_wire.specs.Wire.{lesser}
 use Rattle.archive_host.specs.declared.open_port.OpenPort.{OpenPort}
 use Rattle.archive_host.specs.declared.unread.Unread.{Unread}
 use Rattle.archive_host.specs.declared.unread.Unread.TheVariants.{Nothing, Perhaps, Reported}

@@ -2,8 +2,8 @@
 use Rattle.std.specs.declared.alloc.Global.{Global}
 use Rattle.std.specs.declared.path.PathBuf.{PathBuf}
 use Rattle.tws_file.specs.declared.«ruleset».Ruleset.TheVariants.{Lynx, Ms}
-use Rattle.archive_folder.specs.declared.file_name.FileName.{FileName}
-use Rattle.archive_folder.specs.declared.file_name.FileName.TheVariants.{Kept, Draft}
+use Rattle.archive_keepers.specs.declared.file_name.FileName.{FileName}
+use Rattle.archive_keepers.specs.declared.file_name.FileName.TheVariants.{Kept, Draft}
 use Rattle.archive_host.specs.declared.paths.Paths.{Paths}
 
 abbrev pub path_of : Paths → FileName → PathBuf Global

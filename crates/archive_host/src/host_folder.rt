@@ -2,11 +2,11 @@
 
 ghost use Rattle.std.specs.Prelude.{◌≡◌, ◌≤◌, codes, false, None, Some, IfOk, OnErr, IsSome};
 ghost use Rattle.std.specs.Path.{path_buf_bytes, path_join};
-ghost use Rattle.archive_folder.specs.Folder.{Rises};
+ghost use Rattle.byte_output.specs.Failures.{Rises};
 
 use crate::host_file::HostFile;
 use crate::paths::Paths;
-use archive_folder::{FileName, Folder, FolderKeeper};
+use archive_keepers::{FileName, Folder, FolderKeeper};
 use archive_table::KeepFault;
 use std::alloc::Allocator;
 use std::fs::{File, Metadata, OpenOptions, Permissions, TryLockError};
@@ -262,5 +262,11 @@ impl<R: Files<File = File> + AllocGlobal + Copy> Folder for HostFolder<R> {
     ) -> Result<Option<Vec<u8, A>>, KeepFault> {
         let result = self.read_file(alloc, name);
         self.counted(result)
+    }
+
+    fn last_error(&self) -> Option<io::Error>
+        ensures error { result ≡ self.now.error }
+    {
+        HostFolder::last_error(self)
     }
 }

@@ -4,7 +4,7 @@ ghost use Rattle.archive_host.specs.declared.unread.Unread.TheVariants.{Nothing,
 ghost use Rattle.archive_host.specs.Arrivals.{is_reported, may_have_more, marked_read};
 
 use crate::unread::Unread;
-use archive_turns::RECEIVE_SIZE;
+use archive_wire::RECEIVE_SIZE;
 use mio::net::UdpSocket;
 use mio::{Interest, Poll, Token};
 use std::io;

@@ -1,5 +1,5 @@
 ghost use Rattle.std.specs.Prelude.{◌≡◌, ◌≢◌, ◌<◌, ◌++◌, ◌∷◌, [], length, map, All, IfSome, IfNone, OnOk, OnErr, slice_get, Some};
-ghost use Rattle.archive_turns.specs.Wire.{lesser};
+ghost use Rattle.archive_wire.specs.Wire.{lesser};
 ghost use Rattle.archive_host.specs.Arrivals.{first_port, ready_least, ready_above, one_may_have_more, marked_read, Closes};
 
 use crate::open_port::OpenPort;

@@ -2,7 +2,7 @@ ghost use Rattle.std.specs.Prelude.{◌≡◌, codes, IfOk};
 ghost use Rattle.std.specs.Path.{path_bytes, path_buf_bytes, path_join};
 ghost use Rattle.archive_host.specs.Paths.{path_of};
 
-use archive_folder::FileName;
+use archive_keepers::FileName;
 use std::alloc::{AllocError, Global};
 use std::path::{Path, PathBuf};
 use tws_file::Ruleset;

@@ -2,14 +2,14 @@
 
 ghost use Rattle.std.specs.Prelude.{◌≡◌, ◌==◌, ◌≤◌, ◌<◌, ◌+◌, ◌-◌, ◌^◌, true, false, Some, None, is_ok, IfOk, IfSome, IfErr, OnErr, if◌then◌else◌};
 ghost use Rattle.archive_host.specs.Arrivals.{one_may_have_more, Closes};
-ghost use Rattle.archive_table.specs.Keeper.{FailsAt};
-ghost use Rattle.archive_host.specs.declared.udp_wire.TheConstants.{LAPS};
+ghost use Rattle.byte_output.specs.Failures.{Rises};
+ghost use Rattle.archive_host.specs.declared.udp_wire.TheConstants.{REREAD_EVERY};
 
 use crate::open_port::OpenPort;
 use crate::open_ports::OpenPorts;
 use crate::port_deck::{LEN, PortDeck};
 use crate::watch::Watch;
-use archive_turns::{RECEIVE_SIZE, Ready, ReadyWire, Wire, WireFault};
+use archive_wire::{RECEIVE_SIZE, Ready, ReadyWire, Wire, WireFault};
 use std::io;
 use std::io::ErrorKind;
 use std::net::Net;
@@ -20,17 +20,17 @@ use tftp_packet::{Endpoint, Out};
 // How long `receive` waits at most, in milliseconds.
 const WAIT: u64 = 5;
 
-// How many times `receive` looks at the system in that time, at most. Each arrival at another port ends a look, and the
+// How many times `receive` polls the system in that time, at most. Each arrival at another port ends a poll, and the
 // wait might never end if the system's clock or reports failed.
-const LOOKS: u32 = 1000;
+const POLLS: u32 = 1000;
 
-// In every `LAPS`th lap over the ports, those that were read are read again.
-const LAPS: u8 = 16;
+// After every `REREAD_EVERY`th poll of `wait`, the ports that were read are read again.
+const REREAD_EVERY: u8 = 16;
 
 /// A wire over UDP and IPv4, whose ports are open at every address of this host, or at one. `receive` waits 5 ms at most, and not
 /// at all at the port that `wait` has just returned. For `wait`, a port that was just read is ready again only if no
-/// other is, or in every sixteenth lap over the ports, and it may turn out to have nothing. The clock is in
-/// milliseconds. The wire has no ghost log.
+/// other is, or after every sixteenth poll of the system, and it may turn out to have nothing. The clock is in
+/// milliseconds. The wire has no ghost calls.
 ///
 /// Once a datagram was sent from a port, other than the one that listens, `receive` returns only datagrams from the
 /// host that it was sent to. The others are dropped.
@@ -44,15 +44,16 @@ pub struct UdpWire<R: Net + Clock + RandomSource + AllocGlobal + Copy> {
     deck: Option<PortDeck>,
     given: Option<u16>,
     listens: bool,
-    lap: u8,
-    // The time just before the look that began the lap, if since then each port that may have a datagram was to be read:
-    // the process may be stopped between the look and the clock, and what arrives then was not looked for.
-    began: Option<u64>,
+    // The number of the last poll of `wait`, modulo `REREAD_EVERY`.
+    poll_number: u8,
+    // The time just before that poll, if since then each port that may have a datagram was to be read: the process may be
+    // stopped between the poll and the clock, and what arrives then was not seen.
+    polled: Option<u64>,
     time: u64,
     failures: u64,
     // What the system said of the port that `open` opened last without success.
     error: Option<io::Error>,
-    ghost laps: { lap < LAPS },
+    ghost numbered: { poll_number < REREAD_EVERY },
 }
 
 // An unpredictable seed, if the system has a source of random bytes, and otherwise one that differs from one
@@ -83,8 +84,8 @@ impl<R: Net + Clock + RandomSource + AllocGlobal + Copy> UdpWire<R> {
             deck: None,
             given: None,
             listens: false,
-            lap: 0,
-            began: None,
+            poll_number: 0,
+            polled: None,
             time: 0,
             failures: 0,
             error: None,
@@ -134,7 +135,7 @@ impl<R: Net + Clock + RandomSource + AllocGlobal + Copy> UdpWire<R> {
 
     // Counts a failure.
     fn count_failure(&mut self)
-        ensures failed { FailsAt self.old.failures self.new.failures }
+        ensures failed { Rises self.old.failures self.new.failures }
         ensures ports { self.new.ports ≡ self.old.ports }
         ensures given { self.new.given ≡ self.old.given }
     {
@@ -222,12 +223,12 @@ impl<R: Net + Clock + RandomSource + AllocGlobal + Copy> UdpWire<R> {
         self.time
     }
 
-    // Looks for arrivals, for at most `millis` milliseconds. Returns whether the look was made.
-    fn look(&mut self, millis: Option<u64>) -> bool
+    // Polls the system for arrivals, for at most `millis` milliseconds. Returns whether the poll was made.
+    fn poll(&mut self, millis: Option<u64>) -> bool
         ensures failures { self.new.failures ≡ self.old.failures }
     {
         match &mut self.watch {
-            Some(watch) => watch.look(&mut self.ports, millis),
+            Some(watch) => watch.poll(&mut self.ports, millis),
             None => true,
         }
     }
@@ -257,13 +258,13 @@ impl<R: Net + Clock + RandomSource + AllocGlobal + Copy> UdpWire<R> {
         ensures failures { self.new.failures ≡ self.old.failures }
     {
         let end = self.now().saturating_add(WAIT);
-        for _ in 0..LOOKS {
+        for _ in 0..POLLS {
             let got = self.read(port, buffer)?;
             let left = end.saturating_sub(self.now());
             if got.is_some() || left == 0 {
                 return Ok(got);
             }
-            self.look(Some(left));
+            self.poll(Some(left));
         }
         Ok(None)
     }
@@ -281,27 +282,26 @@ impl<R: Net + Clock + RandomSource + AllocGlobal + Copy> UdpWire<R> {
         until.map(|moment| moment.saturating_sub(now))
     }
 
-    // Begins a lap over the ports: looks for arrivals. A port that was read mostly has no second datagram, so it is
-    // read again only if no other port is ready, or in every sixteenth lap, so that a datagram there is not held back
-    // for long.
-    fn begin_lap(&mut self, until: Option<u64>)
+    // Polls the system for ready ports. A port that was read mostly has no second datagram, so it is read again only if no
+    // other port is ready, or after every sixteenth poll, so that a datagram there is not held back for long.
+    fn poll_for_ready(&mut self, until: Option<u64>)
         ensures failures { self.new.failures ≡ self.old.failures }
     {
         let millis = self.millis_left(until);
-        let began = self.now();
-        let is_made = self.look(millis);
-        self.lap = (self.lap + 1) % LAPS;
-        self.began = None;
-        if self.lap == 0 || self.ports.ready_least().is_none() {
+        let polled = self.now();
+        let is_made = self.poll(millis);
+        self.poll_number = (self.poll_number + 1) % REREAD_EVERY;
+        self.polled = None;
+        if self.poll_number == 0 || self.ports.ready_least().is_none() {
             self.ports.mark_read();
             if is_made {
-                self.began = Some(began);
+                self.polled = Some(polled);
             }
         }
     }
 
-    // The next ready port, and the time up to which all that arrived was handed out, if that is known now. Once no port
-    // above `after` is ready a lap begins, so that arrivals are looked for once in each lap, however busy the ports are.
+    // The next ready port, and the time up to which all that arrived was handed out, if that is known now. The system is
+    // polled once no port above `after` is ready, however busy the ports are.
     fn next_ready(&mut self, after: u16, until: Option<u64>) -> (Option<u16>, Option<u64>)
         ensures failures { self.new.failures ≡ self.old.failures }
     {
@@ -310,18 +310,18 @@ impl<R: Net + Clock + RandomSource + AllocGlobal + Copy> UdpWire<R> {
         }
         let settled = match self.ports.ready_least() {
             Some(_) => None,
-            None => self.began,
+            None => self.polled,
         };
-        self.begin_lap(until);
+        self.poll_for_ready(until);
         match self.ports.ready_above(after).or(self.ports.ready_least()) {
             Some(port) => (Some(port), settled),
-            None => (None, self.began),
+            None => (None, self.polled),
         }
     }
 }
 
 impl<R: Net + Clock + RandomSource + AllocGlobal + Copy> Wire for UdpWire<R> {
-    ghost log = { λ _. None };
+    ghost calls = { λ _. None };
 
     ghost failed = { λ w. w.failures };
 
@@ -340,7 +340,7 @@ impl<R: Net + Clock + RandomSource + AllocGlobal + Copy> Wire for UdpWire<R> {
         // It fails only if the port was not open.
         ensures closes { Closes port (is_ok result) self.old.ports.ports.items self.new.ports.ports.items }
         ensures fault { IfErr result (λ e. e ≡ WireFault.Close) }
-        ensures failed { OnErr result (FailsAt self.old.failures self.new.failures) }
+        ensures failed { OnErr result (Rises self.old.failures self.new.failures) }
     {
         self.give_back(port);
         if self.ports.close(port) {
@@ -360,7 +360,7 @@ impl<R: Net + Clock + RandomSource + AllocGlobal + Copy> Wire for UdpWire<R> {
         ensures forgets { self.new.given ≡ None }
         ensures count { IfOk result (λ got. IfSome got (λ g. g.0 ≤ RECEIVE_SIZE)) }
         ensures fault { IfErr result (λ e. e ≡ WireFault.Receive) }
-        ensures failed { OnErr result (FailsAt self.old.failures self.new.failures) }
+        ensures failed { OnErr result (Rises self.old.failures self.new.failures) }
     {
         let got = if self.given == Some(port) {
             self.read(port, buffer)

@@ -8,7 +8,7 @@ use std::net::Net;
 use std::time::Duration;
 use tftp_packet::Endpoint;
 
-// The most reports that one look takes. The rest are left to the next look.
+// The most reports that one poll takes. The rest are left to the next one.
 const REPORTS: usize = 64;
 
 /// The system's reports about open ports.
@@ -42,9 +42,9 @@ impl Watch {
     }
 
     /// Waits until a datagram arrives at a port or `millis` milliseconds have passed, without limit if that is `None`,
-    /// and marks the ports with arrivals. If the system fails, no port is marked. Returns whether the look was made: one
+    /// and marks the ports with arrivals. If the system fails, no port is marked. Returns whether the poll was made: one
     /// that a signal interrupts, as when a process that was stopped goes on, was not.
-    pub(crate) fn look(&mut self, ports: &mut OpenPorts, millis: Option<u64>) -> bool {
+    pub(crate) fn poll(&mut self, ports: &mut OpenPorts, millis: Option<u64>) -> bool {
         let limit = millis.map(Duration::from_millis);
         if let Err(e) = self.poll.poll(&mut self.events, limit) {
             return e.kind() != ErrorKind::Interrupted;

@@ -1,4 +1,2 @@
-mod Shown
 mod Printing
 mod Recording
-mod Chunks

@@ -18,14 +18,16 @@ use Rattle.tws_file.specs.declared.«ruleset».Ruleset.{Ruleset}
 use Rattle.tws_file.specs.declared.«ruleset».Ruleset.TheVariants.{Lynx, Ms}
 use Rattle.tws_file.specs.declared.file_fault.FileFault.{FileFault}
 use Rattle.tws_file.specs.declared.file_fault.FileFault.TheVariants as fault
-use Rattle.archive_log.specs.declared.cause.Cause.{Cause}
-use Rattle.archive_log.specs.declared.cause.Cause.TheVariants.{Refused, PeerError, TimedOut}
+use Rattle.archive_table.specs.declared.step_event.FailureCause.{FailureCause}
+use Rattle.archive_table.specs.declared.step_event.FailureCause.TheVariants.{Refused, PeerError, TimedOut}
 use Rattle.archive_history.specs.declared.history_fault.HistoryFault.{HistoryFault}
 use Rattle.archive_history.specs.declared.history_fault.HistoryFault.TheVariants as history
-use Rattle.archive_log.specs.declared.event.Event.{Event}
-use Rattle.archive_log.specs.declared.event.Event.TheVariants as event
+use Rattle.archive_log.specs.declared.log_event.LogEvent.{LogEvent}
+use Rattle.archive_log.specs.declared.log_event.LogEvent.TheVariants as event
+use Rattle.byte_output.specs.Printable.{IsPrintable, shown, shown_byte}
+use Rattle.tws_file.specs.Words.{ruleset_name}
 use Rattle.archive_history.specs.HistoryFault.{history_fault_text}
-use Rattle.archive_log.specs.Lines.{IsPrintable, shown, shown_byte, peer_text, ruleset_text, fault_text, cause_text, message_of, level_of, folder_pairs, pairs_of, timed_pairs, line_of}
+use Rattle.archive_log.specs.Lines.{peer_text, ruleset_text, fault_text, cause_text, message_of, level_of, folder_pairs, pairs_of, timed_pairs, line_of}
 
 -- ---- texts
 
@@ -85,10 +87,13 @@ peer_plain e =
     let host = dotted_plain (slice_index o 0) (slice_index o 1) (slice_index o 2) (slice_index o 3) in
     join (ipv4_text o ++ codes ":") (decimal e.port) (join (ipv4_text o) (codes ":") host (word (codes ":") refl)) (number_plain e.port)
 
+name_plain : (rules : Ruleset) → Plain (ruleset_name rules)
+name_plain Lynx = word (codes "lynx") refl
+name_plain Ms = word (codes "ms") refl
+
 ruleset_plain : (rules : Option Ruleset) → Plain (ruleset_text rules)
 ruleset_plain None = word (codes "none") refl
-ruleset_plain (Some Lynx) = word (codes "lynx") refl
-ruleset_plain (Some Ms) = word (codes "ms") refl
+ruleset_plain (Some rules) = name_plain rules
 
 fault_plain : (e : Option FileFault) → Plain (fault_text e)
 fault_plain None = word (codes "none") refl
@@ -108,7 +113,7 @@ shown_plain : (text : List ℕ) → Plain (shown text)
 shown_plain [] = tt
 shown_plain (b ∷ bs) = (byte_plain b, shown_plain bs)
 
-cause_plain : (why : Cause) → Plain (cause_text why)
+cause_plain : (why : FailureCause) → Plain (cause_text why)
 cause_plain (Refused why) = shown_plain (refusal_text why)
 cause_plain PeerError = word (codes "error from the peer") refl
 cause_plain TimedOut = word (codes "timed out") refl
@@ -145,17 +150,17 @@ peer_key e = (word (codes "peer") refl, peer_plain e)
 number_key : (key : List ℕ) → is_plain key ≡ true → (n : ℕ) → Plain key × Plain (decimal n)
 number_key key is n = (word key is, number_plain n)
 
-rules_key : (rules : Option Ruleset) → Plain (codes "ruleset") × Plain (ruleset_text rules)
-rules_key rules = (word (codes "ruleset") refl, ruleset_plain rules)
+rules_key : (rules : Ruleset) → Plain (codes "ruleset") × Plain (ruleset_name rules)
+rules_key rules = (word (codes "ruleset") refl, name_plain rules)
 
-cause_key : (why : Cause) → Plain (codes "why") × Plain (cause_text why)
+cause_key : (why : FailureCause) → Plain (codes "why") × Plain (cause_text why)
 cause_key why = (word (codes "why") refl, cause_plain why)
 
 folder_plain : (folder : Option (List ℕ)) → PlainPairs (folder_pairs folder)
 folder_plain None = tt
 folder_plain (Some text) = ((word (codes "folder") refl, shown_plain text), tt)
 
-event_plain : (e : Event) → PlainPairs (pairs_of e)
+event_plain : (e : LogEvent) → PlainPairs (pairs_of e)
 event_plain (event.Started at lynx ms folder) =
     ((word (codes "at") refl, peer_plain at), (number_key (codes "lynx") refl lynx, (number_key (codes "ms") refl ms, folder_plain (option_map (λ f. f.now) folder))))
 event_plain (event.Refused peer why) = (peer_key peer, ((word (codes "why") refl, shown_plain (refusal_text why)), tt))
@@ -165,7 +170,7 @@ event_plain (event.Taken upload millis) = (
   (
     number_key (codes "bytes") refl upload.bytes,
     (
-      rules_key upload.«ruleset»,
+      (word (codes "ruleset") refl, ruleset_plain upload.«ruleset»),
       (
         (word (codes "fault") refl, fault_plain upload.fault),
         (number_key (codes "better") refl upload.better, (number_key (codes "millis") refl millis, tt)),
@@ -179,7 +184,7 @@ event_plain (event.GetFailed peer rules block why) =
 event_plain (event.GetFinished peer rules bytes millis) =
     (peer_key peer, (rules_key rules, (number_key (codes "bytes") refl bytes, (number_key (codes "millis") refl millis, tt))))
 event_plain (event.KeepFailed rules bytes why) =
-    (rules_key (Some rules), (number_key (codes "bytes") refl bytes, ((word (codes "why") refl, shown_plain why.now), tt)))
+    (rules_key rules, (number_key (codes "bytes") refl bytes, ((word (codes "why") refl, shown_plain why.now), tt)))
 event_plain (event.NotRecorded peer why) = (peer_key peer, ((word (codes "why") refl, history_fault_plain why), tt))
 event_plain (event.Stopped taken served) = (number_key (codes "taken") refl taken, (number_key (codes "served") refl served, tt))
 
@@ -192,7 +197,7 @@ header_plain level.Info = word (header_text level.Info (codes "tws")) refl
 header_plain level.Debug = word (header_text level.Debug (codes "tws")) refl
 header_plain level.Trace = word (header_text level.Trace (codes "tws")) refl
 
-message_plain : (e : Event) → Plain (message_of e)
+message_plain : (e : LogEvent) → Plain (message_of e)
 message_plain (event.Started at lynx ms folder) = word (codes "started") refl
 message_plain (event.Refused peer why) = word (codes "request refused") refl
 message_plain (event.Dropped peer) = word (codes "request dropped") refl
@@ -204,7 +209,7 @@ message_plain (event.KeepFailed rules bytes why) = word (codes "keep failed") re
 message_plain (event.NotRecorded peer why) = word (codes "not recorded") refl
 message_plain (event.Stopped taken served) = word (codes "stopped") refl
 
-pub line_printable : (time : List ℕ) (e : Event) → All IsPrintable time → All IsPrintable (line_of time e)
+pub line_printable : (time : List ℕ) (e : LogEvent) → All IsPrintable time → All IsPrintable (line_of time e)
 line_printable time e plain =
     let header = header_text (level_of e) (codes "tws") in
     let pairs = pairs_plain (timed_pairs time e) ((word (codes "time") refl, recursion_from_All IsPrintable time plain), event_plain e) in

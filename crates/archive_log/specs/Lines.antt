@@ -13,21 +13,14 @@ use Rattle.tws_file.specs.declared.«ruleset».Ruleset.{Ruleset}
 use Rattle.tws_file.specs.declared.file_fault.FileFault.{FileFault}
 use Rattle.tws_file.specs.declared.file_fault.FileFault.TheVariants as fault
 use Rattle.tws_file.specs.Words.{ruleset_name}
-use Rattle.archive_log.specs.declared.cause.Cause.{Cause}
-use Rattle.archive_log.specs.declared.cause.Cause.TheVariants.{Refused, PeerError, TimedOut}
+use Rattle.archive_table.specs.declared.step_event.FailureCause.{FailureCause}
+use Rattle.archive_table.specs.declared.step_event.FailureCause.TheVariants.{Refused, PeerError, TimedOut}
+use Rattle.byte_output.specs.Printable.{shown}
 use Rattle.archive_history.specs.HistoryFault.{history_fault_text}
-use Rattle.archive_log.specs.declared.event.Event.{Event}
-use Rattle.archive_log.specs.declared.event.Event.TheVariants as event
+use Rattle.archive_log.specs.declared.log_event.LogEvent.{LogEvent}
+use Rattle.archive_log.specs.declared.log_event.LogEvent.TheVariants as event
 
 -- ---- values
-
--- the byte itself if it is printable ASCII, else a question mark
-abbrev pub shown_byte : ℕ → ℕ
-shown_byte b = if nat_le 32 b && nat_le b 126 then b else 63
-
--- a text in printable ASCII alone
-abbrev pub shown : List ℕ → List ℕ
-shown bytes = map shown_byte bytes
 
 -- `127.0.0.1:5000`
 abbrev pub peer_text : Endpoint → List ℕ
@@ -48,14 +41,14 @@ fault_text (Some (fault.BadSize n)) = codes "BadSize"
 fault_text (Some (fault.MoveCut n)) = codes "MoveCut"
 fault_text (Some fault.Memory) = codes "Memory"
 
-abbrev pub cause_text : Cause → List ℕ
+abbrev pub cause_text : FailureCause → List ℕ
 cause_text (Refused why) = shown (refusal_text why)
 cause_text PeerError = codes "error from the peer"
 cause_text TimedOut = codes "timed out"
 
 -- ---- lines
 
-abbrev pub message_of : Event → List ℕ
+abbrev pub message_of : LogEvent → List ℕ
 message_of (event.Started at lynx ms folder) = codes "started"
 message_of (event.Refused peer why) = codes "request refused"
 message_of (event.Dropped peer) = codes "request dropped"
@@ -68,7 +61,7 @@ message_of (event.NotRecorded peer why) = codes "not recorded"
 message_of (event.Stopped taken served) = codes "stopped"
 
 -- a put that failed, and one whose file is unreadable
-abbrev pub failed_level : Cause → Level
+abbrev pub failed_level : FailureCause → Level
 failed_level (Refused refusal.NotKept) = level.Error
 failed_level _ = level.Warn
 
@@ -76,7 +69,7 @@ abbrev pub taken_level : Option FileFault → Level
 taken_level None = level.Info
 taken_level (Some e) = level.Warn
 
-abbrev pub level_of : Event → Level
+abbrev pub level_of : LogEvent → Level
 level_of (event.Started at lynx ms folder) = level.Info
 level_of (event.Refused peer why) = level.Warn
 level_of (event.Dropped peer) = level.Warn
@@ -93,7 +86,7 @@ abbrev pub folder_pairs : Option (List ℕ) → List Pair
 folder_pairs None = []
 folder_pairs (Some folder) = (codes "folder", shown folder) ∷ []
 
-abbrev pub pairs_of : Event → List Pair
+abbrev pub pairs_of : LogEvent → List Pair
 pairs_of (event.Started at lynx ms folder) =
     (codes "at", peer_text at) ∷ (codes "lynx", decimal lynx) ∷ (codes "ms", decimal ms) ∷ folder_pairs (option_map (λ f. f.now) folder)
 pairs_of (event.Refused peer why) = (codes "peer", peer_text peer) ∷ (codes "why", shown (refusal_text why)) ∷ []
@@ -104,23 +97,17 @@ pairs_of (event.Taken upload millis) =
 pairs_of (event.PutFailed peer block why) =
     (codes "peer", peer_text peer) ∷ (codes "block", decimal block) ∷ (codes "why", cause_text why) ∷ []
 pairs_of (event.GetFailed peer rules block why) =
-    (codes "peer", peer_text peer) ∷ (codes "ruleset", ruleset_text rules) ∷ (codes "block", decimal block) ∷ (codes "why", cause_text why) ∷ []
+    (codes "peer", peer_text peer) ∷ (codes "ruleset", ruleset_name rules) ∷ (codes "block", decimal block) ∷ (codes "why", cause_text why) ∷ []
 pairs_of (event.GetFinished peer rules bytes millis) =
-    (codes "peer", peer_text peer) ∷ (codes "ruleset", ruleset_text rules) ∷ (codes "bytes", decimal bytes) ∷ (codes "millis", decimal millis) ∷ []
+    (codes "peer", peer_text peer) ∷ (codes "ruleset", ruleset_name rules) ∷ (codes "bytes", decimal bytes) ∷ (codes "millis", decimal millis) ∷ []
 pairs_of (event.KeepFailed rules bytes why) =
     (codes "ruleset", ruleset_name rules) ∷ (codes "bytes", decimal bytes) ∷ (codes "why", shown why.now) ∷ []
 pairs_of (event.NotRecorded peer why) = (codes "peer", peer_text peer) ∷ (codes "why", history_fault_text why) ∷ []
 pairs_of (event.Stopped taken served) = (codes "taken", decimal taken) ∷ (codes "served", decimal served) ∷ []
 
-abbrev pub timed_pairs : (time : List ℕ) → Event → List Pair
+abbrev pub timed_pairs : (time : List ℕ) → LogEvent → List Pair
 timed_pairs time event = (codes "time", time) ∷ pairs_of event
 
 -- `[INFO  tws] put taken time=2026-11-27T09:15:00.123Z peer=127.0.0.1:5000 ..`
-abbrev pub line_of : (time : List ℕ) → Event → List ℕ
+abbrev pub line_of : (time : List ℕ) → LogEvent → List ℕ
 line_of time event = header_text (level_of event) (codes "tws") ++ message_of event ++ pairs_text (timed_pairs time event)
-
--- ---- what a line is made of
-
--- a character of ASCII that is no control character
-abbrev pub IsPrintable : (byte : ℕ) → Type 0
-IsPrintable byte = (32 ≤ byte) × (byte ≤ 126)

@@ -2,11 +2,12 @@
 
 ghost use Rattle.std.specs.Prelude.{ℕ, List};
 ghost use Rattle.std.specs.List.{All};
-ghost use Rattle.archive_log.specs.declared.event.Event.{Event};
-ghost use Rattle.archive_log.specs.Lines.{IsPrintable, line_of};
+ghost use Rattle.byte_output.specs.Printable.{IsPrintable};
+ghost use Rattle.archive_log.specs.declared.log_event.LogEvent.{LogEvent};
+ghost use Rattle.archive_log.specs.Lines.{line_of};
 
 /// A line is printable ASCII alone, whatever a peer, a folder's name or the system put into the event: so no event can end
 /// its line or begin another. `time` is what its clock showed.
 pub fn line_law()
-    ensures { (time : List ℕ) (event : Event) → All IsPrintable time → All IsPrintable (line_of time event) }
+    ensures { (time : List ℕ) (event : LogEvent) → All IsPrintable time → All IsPrintable (line_of time event) }
 {}

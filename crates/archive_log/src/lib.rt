@@ -1,27 +1,26 @@
-//! The log of a server, and the history of what it took.
+//! The log of a server, and the history of what it took: an observer of its steps, and a keeper that reports what is not kept.
 //!
-//! Read `specs/Events.antt` first: which event a step is. `specs/Lines.antt` has the line of each event.
+//! Read `specs/Events.antt` first: which event of the log a step is. `specs/Lines.antt` has the line of each event, and
+//! `specs/ServerLog.antt` what a step leaves in a history.
 #![tactic(auto)]
 
-mod cause;
-mod entry;
-mod event;
+mod cause_words;
 mod laws;
+mod log_event;
+mod log_line;
 mod logged_transfer;
 mod logged_transfers;
 mod pairs;
 mod peer;
-mod printable;
-mod sent;
+mod reporting_keeper;
 mod server_log;
 mod upload;
 
-pub use cause::Cause;
-pub use entry::Entry;
-pub use event::Event;
 pub use laws::line_law;
-pub use logged_transfer::{Kind, LoggedTransfer};
+pub use log_event::LogEvent;
+pub use log_line::LogLine;
+pub use logged_transfer::{LoggedTransfer, TransferKind};
 pub use logged_transfers::LoggedTransfers;
-pub use printable::Printable;
+pub use reporting_keeper::ReportingKeeper;
 pub use server_log::ServerLog;
 pub use upload::Upload;

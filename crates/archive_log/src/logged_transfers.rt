@@ -1,17 +1,16 @@
 //! The live transfers, as far as a log knows them.
 
 ghost use Rattle.std.specs.Prelude.{◌≡◌, ◌<◌, [], length, None, IfSome};
-ghost use Rattle.archive_log.specs.Events.{place_of, logged_at, without, opened_in, gone_on, millis_since, refused_event, event_of, transfers_by, transfers_after};
+ghost use Rattle.archive_log.specs.Events.{place_of, logged_at, without, opened_in, opened_for, millis_since, event_of, refused_event, taken_event, transfers_after};
 
-use crate::event::Event;
-use crate::logged_transfer::LoggedTransfer;
-use crate::sent::Sent;
+use crate::log_event::LogEvent;
+use crate::logged_transfer::{LoggedTransfer, TransferKind};
 use crate::upload::Upload;
-use archive_table::{LIVE, Step};
+use archive_table::{LIVE, Merged, Step, StepEvent, Taken};
 use arrayvec::ArrayVec;
 use std::alloc::Allocator;
 use std::marker::Model;
-use tftp_packet::Endpoint;
+use tftp_packet::{Endpoint, Refusal};
 
 /// What a log knows of the live transfers, of which there are at most `LIVE`. Never allocates.
 #[derive(Drop)]
@@ -73,41 +72,6 @@ impl LoggedTransfers {
         }
     }
 
-    // Lets the transfer at a port go on.
-    fn go_on(&mut self, port: u16, is_taken: bool, sent: Sent)
-        ensures { self.new ≡ gone_on port is_taken sent self.old }
-    {
-        let Some(place) = self.place_of(port) else {
-            return;
-        };
-        if let Some(transfer) = self.live.get_mut(place) {
-            *transfer = transfer.went_on(is_taken, sent);
-        }
-    }
-
-    // What a step is that took no file.
-    fn untaken_event<A: Allocator>(
-        &self,
-        now: u64,
-        port: u16,
-        from: Option<Endpoint>,
-        step: &Step<A>,
-    ) -> Option<Event<'static>>
-        ensures { result ≡ event_of now (logged_at port self.now) from None step.now }
-    {
-        let sent = Sent::of(&step.out);
-        match self.at(port) {
-            Some(transfer) => {
-                if step.closed {
-                    transfer.ended(now, from, sent)
-                } else {
-                    None
-                }
-            }
-            None => refused_event(from, sent),
-        }
-    }
-
     // How long the transfer at a port has lasted, in milliseconds; 0 if there is none.
     fn millis(&self, now: u64, port: u16) -> u64
         ensures { result ≡ millis_since now (logged_at port self.now) }
@@ -118,53 +82,96 @@ impl LoggedTransfers {
         }
     }
 
-    // Lets the transfers follow a step.
-    fn follow<A: Allocator>(&mut self, now: u64, port: u16, is_taken: bool, step: &Step<A>)
-        ensures { self.new ≡ transfers_by step.now.opened now port is_taken step.now self.old }
+    // The event that a file was taken.
+    fn taken<A: Allocator>(
+        &self,
+        now: u64,
+        port: u16,
+        taken: &Option<Taken<A>>,
+        merged: Merged,
+    ) -> Option<LogEvent<'static>>
+        ensures { result ≡ taken_event now (logged_at port self.now) taken.now merged }
     {
-        let sent = Sent::of(&step.out);
-        if step.opened {
-            if let Some(out) = &step.out {
-                self.open(LoggedTransfer::opened(now, out.from_port, out.to, sent));
-            }
-        } else if step.closed {
-            self.remove(port);
-        } else {
-            self.go_on(port, is_taken, sent);
+        let Some(taken) = taken else {
+            return None;
+        };
+        Some(LogEvent::Taken {
+            upload: Upload::of(taken, merged),
+            millis: self.millis(now, port),
+        })
+    }
+
+    // Which event of the log a step is, if any.
+    fn event_of<A: Allocator>(
+        &self,
+        now: u64,
+        port: u16,
+        from: Option<Endpoint>,
+        step: &Step<A>,
+    ) -> Option<LogEvent<'static>>
+        ensures { result ≡ event_of now (logged_at port self.now) from step.now }
+    {
+        match step.event() {
+            StepEvent::Nothing | StepEvent::OpenedPut | StepEvent::OpenedGet(_) => None,
+            StepEvent::Refused(why) => refused_event(from, why),
+            StepEvent::Taken(merged) => self.taken(now, port, &step.taken, merged),
+            StepEvent::Finished { bytes } => self.at(port)?.finished(now, bytes),
+            StepEvent::Failed { block, why } => Some(self.at(port)?.failed(block, why)),
         }
     }
 
-    /// Follows a step that was made at a port, and returns which event it is, if any. `now` is in milliseconds, `from`
-    /// the sender of the datagram of the step, and `upload` the file that the step took.
+    // Lets the transfers follow a step.
+    fn follow<A: Allocator>(&mut self, now: u64, port: u16, from: Option<Endpoint>, step: &Step<A>)
+        ensures { self.new ≡ transfers_after now port from step.now self.old }
+    {
+        match step.event() {
+            StepEvent::OpenedPut => self.open_for(now, port, from, TransferKind::Put),
+            StepEvent::OpenedGet(ruleset) => {
+                self.open_for(now, port, from, TransferKind::Get(ruleset));
+            }
+            _ => {
+                if step.closed {
+                    self.remove(port);
+                }
+            }
+        }
+    }
+
+    // Adds a transfer with this peer, if it is known.
+    fn open_for(&mut self, now: u64, port: u16, peer: Option<Endpoint>, kind: TransferKind)
+        ensures { self.new ≡ opened_for now port peer kind self.old }
+    {
+        if let Some(peer) = peer {
+            self.open(LoggedTransfer {
+                port,
+                peer,
+                began: now,
+                kind,
+            });
+        }
+    }
+
+    /// Follows a step that was made at a port, and returns which event of the log it is, if any. `now` is in milliseconds,
+    /// `port` that of the transfer, also of one that the step opened, and `from` the sender of the datagram of the step.
     pub fn on_step<A: Allocator>(
         &mut self,
         now: u64,
         port: u16,
         from: Option<Endpoint>,
-        upload: Option<Upload>,
         step: &Step<A>,
-    ) -> Option<Event<'static>>
-        ensures event { result ≡ event_of now (logged_at port self.old) from upload step.now }
-        ensures transfers { self.new ≡ transfers_after now port upload step.now self.old }
+    ) -> Option<LogEvent<'static>>
+        ensures event { result ≡ event_of now (logged_at port self.old) from step.now }
+        ensures transfers { self.new ≡ transfers_after now port from step.now self.old }
     {
-        let event = match upload {
-            Some(upload) => Some(Event::Taken {
-                upload,
-                millis: self.millis(now, port),
-            }),
-            None => self.untaken_event(now, port, from, step),
-        };
-        self.follow(now, port, upload.is_some(), step);
+        let event = self.event_of(now, port, from, step);
+        self.follow(now, port, from, step);
         event
     }
 }
 
-// What a step is at a port without a transfer: a request that was refused, or nothing.
-fn refused_event(from: Option<Endpoint>, sent: Sent) -> Option<Event<'static>>
-    ensures { result ≡ refused_event from sent }
+// A request that was refused, of a sender that is known.
+fn refused_event(from: Option<Endpoint>, why: Refusal) -> Option<LogEvent<'static>>
+    ensures { result ≡ refused_event from why }
 {
-    match (from, sent) {
-        (Some(peer), Sent::Error(why)) => Some(Event::Refused { peer, why }),
-        _ => None,
-    }
+    from.map(|peer| LogEvent::Refused { peer, why })
 }

@@ -4,12 +4,13 @@ ghost use Rattle.std.specs.Prelude.{◌≡◌, ◌∷◌, [], codes, decimal, op
 ghost use Rattle.std.specs.List.{FoldsTo};
 ghost use Rattle.archive_log.specs.Lines.{pairs_of, folder_pairs, peer_text, ruleset_text, fault_text, cause_text};
 
-use crate::cause::Cause;
-use crate::event::Event;
+use crate::cause_words::CauseWords;
+use crate::log_event::LogEvent;
 use crate::peer::peer_address;
-use crate::printable::Printable;
 use crate::upload::Upload;
 use archive_history::HistoryFault;
+use archive_table::FailureCause;
+use byte_output::Printable;
 use log::kv;
 use log::kv::{Source, ToValue, VisitSource, display};
 use tftp_packet::{Endpoint, Refusal};
@@ -21,8 +22,7 @@ fn ruleset_word(ruleset: Option<Ruleset>) -> &'static str
 {
     match ruleset {
         None => "none",
-        Some(Ruleset::Lynx) => "lynx",
-        Some(Ruleset::Ms) => "ms",
+        Some(ruleset) => ruleset.name(),
     }
 }
 
@@ -86,11 +86,15 @@ fn visit_numbers<V: VisitSource>(
 }
 
 // The last block of a transfer that failed, and why it did.
-fn visit_failure<V: VisitSource>(visitor: &mut V, block: u16, why: Cause) -> Result<(), kv::Error>
+fn visit_failure<V: VisitSource>(
+    visitor: &mut V,
+    block: u16,
+    why: FailureCause,
+) -> Result<(), kv::Error>
     ensures { OnOk result (FoldsTo V.visit_pair_gives visitor.old ((codes "block", decimal block) ∷ (codes "why", cause_text why) ∷ []) visitor.new) }
 {
     visit_pair(visitor, "block", &block)?;
-    visit_pair(visitor, "why", &display(why))
+    visit_pair(visitor, "why", &display(CauseWords(why)))
 }
 
 fn visit_started<V: VisitSource>(
@@ -100,7 +104,7 @@ fn visit_started<V: VisitSource>(
     ms: u64,
     folder: Option<&str>,
 ) -> Result<(), kv::Error>
-    ensures { OnOk result (FoldsTo V.visit_pair_gives visitor.old (pairs_of (Event.Started at lynx ms folder.entry)) visitor.new) }
+    ensures { OnOk result (FoldsTo V.visit_pair_gives visitor.old (pairs_of (LogEvent.Started at lynx ms folder.entry)) visitor.new) }
 {
     visit_pair(visitor, "at", &display(peer_address(at)))?;
     visit_pair(visitor, "lynx", &lynx)?;
@@ -113,14 +117,14 @@ fn visit_refused<V: VisitSource>(
     peer: Endpoint,
     why: Refusal,
 ) -> Result<(), kv::Error>
-    ensures { OnOk result (FoldsTo V.visit_pair_gives visitor.old (pairs_of (Event.Refused peer why)) visitor.new) }
+    ensures { OnOk result (FoldsTo V.visit_pair_gives visitor.old (pairs_of (LogEvent.Refused peer why)) visitor.new) }
 {
     visit_peer(visitor, peer)?;
     visit_pair(visitor, "why", &display(Printable::of(why.text())))
 }
 
 fn visit_dropped<V: VisitSource>(visitor: &mut V, peer: Endpoint) -> Result<(), kv::Error>
-    ensures { OnOk result (FoldsTo V.visit_pair_gives visitor.old (pairs_of (Event.Dropped peer)) visitor.new) }
+    ensures { OnOk result (FoldsTo V.visit_pair_gives visitor.old (pairs_of (LogEvent.Dropped peer)) visitor.new) }
 {
     visit_peer(visitor, peer)?;
     visit_pair(visitor, "why", &"too many transfers of its host")
@@ -131,7 +135,7 @@ fn visit_taken<V: VisitSource>(
     upload: &Upload,
     millis: u64,
 ) -> Result<(), kv::Error>
-    ensures { OnOk result (FoldsTo V.visit_pair_gives visitor.old (pairs_of (Event.Taken upload.now millis)) visitor.new) }
+    ensures { OnOk result (FoldsTo V.visit_pair_gives visitor.old (pairs_of (LogEvent.Taken upload.now millis)) visitor.new) }
 {
     visit_peer(visitor, upload.peer)?;
     visit_pair(visitor, "bytes", &upload.bytes)?;
@@ -144,9 +148,9 @@ fn visit_put_failed<V: VisitSource>(
     visitor: &mut V,
     peer: Endpoint,
     block: u16,
-    why: Cause,
+    why: FailureCause,
 ) -> Result<(), kv::Error>
-    ensures { OnOk result (FoldsTo V.visit_pair_gives visitor.old (pairs_of (Event.PutFailed peer block why)) visitor.new) }
+    ensures { OnOk result (FoldsTo V.visit_pair_gives visitor.old (pairs_of (LogEvent.PutFailed peer block why)) visitor.new) }
 {
     visit_peer(visitor, peer)?;
     visit_failure(visitor, block, why)
@@ -155,28 +159,28 @@ fn visit_put_failed<V: VisitSource>(
 fn visit_get_failed<V: VisitSource>(
     visitor: &mut V,
     peer: Endpoint,
-    ruleset: Option<Ruleset>,
+    ruleset: Ruleset,
     block: u16,
-    why: Cause,
+    why: FailureCause,
 ) -> Result<(), kv::Error>
-    ensures { OnOk result (FoldsTo V.visit_pair_gives visitor.old (pairs_of (Event.GetFailed peer «ruleset» block why)) visitor.new) }
+    ensures { OnOk result (FoldsTo V.visit_pair_gives visitor.old (pairs_of (LogEvent.GetFailed peer «ruleset» block why)) visitor.new) }
 {
     visit_peer(visitor, peer)?;
-    visit_pair(visitor, "ruleset", &ruleset_word(ruleset))?;
+    visit_pair(visitor, "ruleset", &ruleset.name())?;
     visit_failure(visitor, block, why)
 }
 
 fn visit_get_finished<V: VisitSource>(
     visitor: &mut V,
     peer: Endpoint,
-    ruleset: Option<Ruleset>,
+    ruleset: Ruleset,
     bytes: u64,
     millis: u64,
 ) -> Result<(), kv::Error>
-    ensures { OnOk result (FoldsTo V.visit_pair_gives visitor.old (pairs_of (Event.GetFinished peer «ruleset» bytes millis)) visitor.new) }
+    ensures { OnOk result (FoldsTo V.visit_pair_gives visitor.old (pairs_of (LogEvent.GetFinished peer «ruleset» bytes millis)) visitor.new) }
 {
     visit_peer(visitor, peer)?;
-    visit_pair(visitor, "ruleset", &ruleset_word(ruleset))?;
+    visit_pair(visitor, "ruleset", &ruleset.name())?;
     visit_numbers(visitor, ("bytes", bytes), ("millis", millis))
 }
 
@@ -186,9 +190,9 @@ fn visit_keep_failed<V: VisitSource>(
     bytes: u64,
     why: &str,
 ) -> Result<(), kv::Error>
-    ensures { OnOk result (FoldsTo V.visit_pair_gives visitor.old (pairs_of (Event.KeepFailed «ruleset» bytes why.entry)) visitor.new) }
+    ensures { OnOk result (FoldsTo V.visit_pair_gives visitor.old (pairs_of (LogEvent.KeepFailed «ruleset» bytes why.entry)) visitor.new) }
 {
-    visit_pair(visitor, "ruleset", &ruleset_word(Some(ruleset)))?;
+    visit_pair(visitor, "ruleset", &ruleset.name())?;
     visit_pair(visitor, "bytes", &bytes)?;
     visit_pair(visitor, "why", &display(Printable::of(why.as_bytes())))
 }
@@ -198,20 +202,20 @@ fn visit_not_recorded<V: VisitSource>(
     peer: Endpoint,
     why: HistoryFault,
 ) -> Result<(), kv::Error>
-    ensures { OnOk result (FoldsTo V.visit_pair_gives visitor.old (pairs_of (Event.NotRecorded peer why)) visitor.new) }
+    ensures { OnOk result (FoldsTo V.visit_pair_gives visitor.old (pairs_of (LogEvent.NotRecorded peer why)) visitor.new) }
 {
     visit_peer(visitor, peer)?;
     visit_pair(visitor, "why", &display(why))
 }
 
 fn visit_stopped<V: VisitSource>(visitor: &mut V, taken: u64, served: u64) -> Result<(), kv::Error>
-    ensures { OnOk result (FoldsTo V.visit_pair_gives visitor.old (pairs_of (Event.Stopped taken served)) visitor.new) }
+    ensures { OnOk result (FoldsTo V.visit_pair_gives visitor.old (pairs_of (LogEvent.Stopped taken served)) visitor.new) }
 {
     visit_numbers(visitor, ("taken", taken), ("served", served))
 }
 
 /// The pairs of its line, without the time.
-impl Source for Event<'_> {
+impl Source for LogEvent<'_> {
     ghost use Rattle.std.specs.Prelude.{Some};
     ghost use Rattle.archive_log.specs.Lines.{pairs_of};
 
@@ -219,35 +223,37 @@ impl Source for Event<'_> {
 
     fn visit<V: VisitSource>(&self, visitor: &mut V) -> Result<(), kv::Error> {
         match self {
-            Event::Started {
+            LogEvent::Started {
                 at,
                 lynx,
                 ms,
                 folder,
             } => visit_started(visitor, *at, *lynx, *ms, *folder),
-            Event::Refused { peer, why } => visit_refused(visitor, *peer, *why),
-            Event::Dropped { peer } => visit_dropped(visitor, *peer),
-            Event::Taken { upload, millis } => visit_taken(visitor, upload, *millis),
-            Event::PutFailed { peer, block, why } => visit_put_failed(visitor, *peer, *block, *why),
-            Event::GetFailed {
+            LogEvent::Refused { peer, why } => visit_refused(visitor, *peer, *why),
+            LogEvent::Dropped { peer } => visit_dropped(visitor, *peer),
+            LogEvent::Taken { upload, millis } => visit_taken(visitor, upload, *millis),
+            LogEvent::PutFailed { peer, block, why } => visit_put_failed(
+                visitor, *peer, *block, *why,
+            ),
+            LogEvent::GetFailed {
                 peer,
                 ruleset,
                 block,
                 why,
             } => visit_get_failed(visitor, *peer, *ruleset, *block, *why),
-            Event::GetFinished {
+            LogEvent::GetFinished {
                 peer,
                 ruleset,
                 bytes,
                 millis,
             } => visit_get_finished(visitor, *peer, *ruleset, *bytes, *millis),
-            Event::KeepFailed {
+            LogEvent::KeepFailed {
                 ruleset,
                 bytes,
                 why,
             } => visit_keep_failed(visitor, *ruleset, *bytes, *why),
-            Event::NotRecorded { peer, why } => visit_not_recorded(visitor, *peer, *why),
-            Event::Stopped { taken, served } => visit_stopped(visitor, *taken, *served),
+            LogEvent::NotRecorded { peer, why } => visit_not_recorded(visitor, *peer, *why),
+            LogEvent::Stopped { taken, served } => visit_stopped(visitor, *taken, *served),
         }
     }
 }

@@ -1,16 +1,18 @@
 //! The observer that writes the log and the history.
 
-ghost use Rattle.std.specs.Prelude.{◌≡◌, [], true, Some, option_copied};
+ghost use Rattle.std.specs.Prelude.{◌≡◌, [], length, true, option_copied};
+ghost use Rattle.tws_file.specs.declared.«ruleset».Ruleset.TheVariants.{Lynx, Ms};
 ghost use Rattle.archive_history.specs.Times.{ShowsMoment};
-ghost use Rattle.archive_log.specs.ServerLog.{FollowsStep, IsUploadOf, KeepsTaken, files_of};
+ghost use Rattle.archive_table.specs.Table.{map_of};
+ghost use Rattle.archive_log.specs.Events.{served_after, taken_after};
+ghost use Rattle.archive_log.specs.ServerLog.{FollowsStep, KeepsFile, KeepsTaken, files_of};
 
-use crate::entry::Entry;
-use crate::event::Event;
+use crate::log_event::LogEvent;
+use crate::log_line::LogLine;
 use crate::logged_transfers::LoggedTransfers;
-use crate::upload::Upload;
 use archive_history::{HistoryFault, HistoryFolder, Stamp, record as record_in, stem_of};
-use archive_table::{Observer, Step, Table, Taken};
-use archive_turns::ServerObserver;
+use archive_server::ServerObserver;
+use archive_table::{Merged, Observer, Step, StepEvent, Table, Taken};
 use log::Log;
 use std::alloc::{Allocator, Global};
 use std::marker::Model;
@@ -27,9 +29,9 @@ pub struct ServerLog<C: Clock, L: Log, H: HistoryFolder, A: Allocator + Copy = G
     log: L,
     history: Option<H>,
     transfers: LoggedTransfers,
-    /// The table's count of what became better, as it was after the last step.
-    improvements: u64,
+    /// How many files were taken.
     taken: u64,
+    /// How many gets were finished.
     served: u64,
 }
 
@@ -46,14 +48,13 @@ impl<C: Clock, L: Log, H: HistoryFolder, A: Allocator + Copy> Model for ServerLo
 
     ghost Value = { Logged H };
 
-    ghost view = { λ log. record { transfers = log.transfers; history = log.history } };
+    ghost view = { λ log. record { transfers = log.transfers; history = log.history; taken = log.taken; served = log.served } };
 }
 
 impl<C: Clock, L: Log, H: HistoryFolder, A: Allocator + Copy> ServerLog<C, L, H, A> {
     /// A log of a server that has made no step yet.
     pub fn new(alloc: A, clock: C, log: L, history: Option<H>) -> Self
-        ensures transfers { result.transfers ≡ [] }
-        ensures history { result.history ≡ history }
+        ensures { result ≡ record { transfers = []; history = history; taken = 0; served = 0 } }
     {
         ServerLog {
             alloc,
@@ -61,7 +62,6 @@ impl<C: Clock, L: Log, H: HistoryFolder, A: Allocator + Copy> ServerLog<C, L, H,
             log,
             history,
             transfers: LoggedTransfers::new(),
-            improvements: 0,
             taken: 0,
             served: 0,
         }
@@ -87,112 +87,94 @@ impl<C: Clock, L: Log, H: HistoryFolder, A: Allocator + Copy> ServerLog<C, L, H,
     }
 
     // Writes the line of an event.
-    fn report(&self, time: &Stamp, event: Event<'_>) {
-        Entry { time, event }.report(&self.log);
+    fn report(&self, time: &Stamp, event: LogEvent<'_>) {
+        LogLine { time, event }.report(&self.log);
     }
 
-    /// Reports that the server has started: the address and the port that it listens at, and its folder, if it has one.
-    pub fn started<T: Allocator + Copy>(
-        &self,
-        at: Endpoint,
-        folder: Option<&str>,
-        table: &Table<T>,
-    ) {
-        let event = Event::Started {
-            at,
-            lynx: table.collection(Ruleset::Lynx).len() as u64,
-            ms: table.collection(Ruleset::Ms).len() as u64,
-            folder,
-        };
+    // Writes the line of an event that happens now.
+    fn report_now(&self, event: LogEvent<'_>) {
         self.report(&Stamp::now(&self.clock), event);
     }
 
-    /// Reports that the server has stopped.
-    pub fn stopped(&self) {
-        let event = Event::Stopped {
+    // The event that the server stops.
+    fn stopped_event(&self) -> LogEvent<'static>
+        ensures { result ≡ LogEvent.Stopped self.now.taken self.now.served }
+    {
+        LogEvent::Stopped {
             taken: self.taken,
             served: self.served,
-        };
-        self.report(&Stamp::now(&self.clock), event);
+        }
     }
 
-    // Counts an event, of those that the last line has the numbers of.
-    fn count(&mut self, event: &Event<'_>)
-        ensures { self.new ≡ self.old }
+    // Counts what a step did, if the last line has the number of it.
+    fn count(&mut self, event: StepEvent)
+        ensures { self.new ≡ record self.old { taken = taken_after event self.old.taken; served = served_after event self.old.served } }
     {
         match event {
-            Event::Taken { .. } => self.taken = self.taken.saturating_add(1),
-            Event::GetFinished { .. } => self.served = self.served.saturating_add(1),
+            StepEvent::Taken(_) => self.taken = self.taken.saturating_add(1),
+            StepEvent::Finished { .. } => self.served = self.served.saturating_add(1),
             _ => {}
         }
     }
 
-    // What is said of the file that a step took, if it took one.
-    fn upload<T: Allocator>(&mut self, step: &Step<T>, improvements: u64) -> Option<Upload>
-        ensures same { self.new ≡ self.old }
-        ensures upload { IsUploadOf step.now.taken result }
-    {
-        let better = improvements.saturating_sub(self.improvements);
-        self.improvements = improvements;
-        match &step.taken {
-            Some(taken) => Some(Upload::of(self.alloc, taken, better)),
-            None => None,
-        }
-    }
-
     // Puts a file that was taken into the history, or reports why it is not there.
-    fn record<T: Allocator>(&mut self, time: &Stamp, taken: &Taken<T>, upload: &Upload)
-        requires said { IsUploadOf (Some taken.now) (Some upload.now) }
-        requires stamped { ShowsMoment time.now }
-        ensures transfers { self.new.transfers ≡ self.old.transfers }
-        ensures history { H.has_model ≡ true → KeepsTaken (Some taken.now) (files_of H.file_at self.old.history) (files_of H.file_at self.new.history) }
+    fn record<T: Allocator>(&mut self, time: &Stamp, taken: &Taken<T>, merged: Merged)
+        requires { ShowsMoment time.now }
+        ensures same { self.new ≡ record self.old { history = self.new.history } }
+        ensures history { H.has_model ≡ true → KeepsFile taken.now merged (files_of H.file_at self.old.history) (files_of H.file_at self.new.history) }
     {
-        if let Err(why) = add_to_history(self.alloc, &mut self.history, time, taken, upload) {
-            let peer = upload.peer;
-            self.report(time, Event::NotRecorded { peer, why });
+        if let Err(why) = add_to_history(self.alloc, &mut self.history, time, taken, merged) {
+            let peer = taken.peer;
+            self.report(time, LogEvent::NotRecorded { peer, why });
         }
     }
 
-    // Reports an event, and puts the file that its step took into the history.
-    fn report_and_record<T: Allocator>(
-        &mut self,
-        event: Event<'_>,
-        step: &Step<T>,
-        upload: Option<Upload>,
-    )
-        requires { IsUploadOf step.now.taken upload }
-        ensures transfers { self.new.transfers ≡ self.old.transfers }
-        ensures history { H.has_model ≡ true → KeepsTaken step.now.taken (files_of H.file_at self.old.history) (files_of H.file_at self.new.history) }
+    // Puts the file that a step took, if it took one, into the history.
+    fn record_step<T: Allocator>(&mut self, time: &Stamp, step: &Step<T>)
+        requires { ShowsMoment time.now }
+        ensures same { self.new ≡ record self.old { history = self.new.history } }
+        ensures history { H.has_model ≡ true → KeepsTaken step.now.taken step.now.event (files_of H.file_at self.old.history) (files_of H.file_at self.new.history) }
     {
-        let time = Stamp::now(&self.clock);
-        self.count(&event);
-        self.report(&time, event);
         let Some(taken) = &step.taken else {
             return;
         };
-        let Some(upload) = upload else {
-            return;
-        };
-        self.record(&time, taken, &upload);
+        if let StepEvent::Taken(merged) = step.event() {
+            self.record(time, taken, merged);
+        }
     }
 
-    // Reports a step, if it is an event, and puts the file that it took into the history. `improvements` is the table's
-    // count after the step.
-    fn follow<T: Allocator>(
-        &mut self,
-        port: u16,
-        from: Option<Endpoint>,
-        step: &Step<T>,
-        improvements: u64,
-    )
-        ensures transfers { FollowsStep port step.now self.old.transfers self.new.transfers }
-        ensures history { H.has_model ≡ true → KeepsTaken step.now.taken (files_of H.file_at self.old.history) (files_of H.file_at self.new.history) }
+    // Reports a step, if it is an event, and puts the file that it took into the history.
+    fn follow<T: Allocator>(&mut self, port: u16, from: Option<Endpoint>, step: &Step<T>)
+        ensures step { FollowsStep port from step.now self.old self.new }
+        ensures history { H.has_model ≡ true → KeepsTaken step.now.taken step.now.event (files_of H.file_at self.old.history) (files_of H.file_at self.new.history) }
     {
         let now = millis_now(&self.clock);
-        let upload = self.upload(step, improvements);
-        if let Some(event) = self.transfers.on_step(now, port, from, upload, step) {
-            self.report_and_record(event, step, upload);
+        let event = self.transfers.on_step(now, port, from, step);
+        self.count(step.event());
+        if event.is_none() && step.taken.is_none() {
+            return;
         }
+        let time = Stamp::now(&self.clock);
+        if let Some(event) = event {
+            self.report(&time, event);
+        }
+        self.record_step(&time, step);
+    }
+}
+
+// The event that a server starts.
+fn started_event<'a, T: Allocator + Copy>(
+    at: Endpoint,
+    folder: Option<&'a str>,
+    table: &Table<T>,
+) -> LogEvent<'a>
+    ensures { result ≡ LogEvent.Started at (length (map_of Lynx table.now.maps).entries) (length (map_of Ms table.now.maps).entries) folder.entry }
+{
+    LogEvent::Started {
+        at,
+        lynx: table.collection(Ruleset::Lynx).len() as u64,
+        ms: table.collection(Ruleset::Ms).len() as u64,
+        folder,
     }
 }
 
@@ -202,22 +184,21 @@ fn add_to_history<H: HistoryFolder, A: Allocator + Copy, T: Allocator>(
     history: &mut Option<H>,
     time: &Stamp,
     taken: &Taken<T>,
-    upload: &Upload,
+    merged: Merged,
 ) -> Result<(), HistoryFault>
-    requires said { IsUploadOf (Some taken.now) (Some upload.now) }
-    requires stamped { ShowsMoment time.now }
-    ensures { H.has_model ≡ true → KeepsTaken (Some taken.now) (files_of H.file_at history.old) (files_of H.file_at history.new) }
+    requires { ShowsMoment time.now }
+    ensures { H.has_model ≡ true → KeepsFile taken.now merged (files_of H.file_at history.old) (files_of H.file_at history.new) }
 {
-    let Some(ruleset) = upload.ruleset else {
+    if merged.better == 0 {
         return Ok(());
-    };
+    }
     let Some(history) = history else {
         return Ok(());
     };
-    if upload.better == 0 {
+    let Some(ruleset) = taken.ruleset() else {
         return Ok(());
-    }
-    let stem = stem_of(alloc, time, upload.peer, ruleset)?;
+    };
+    let stem = stem_of(alloc, time, taken.peer, ruleset)?;
     record_in(alloc, history, stem.as_str(), &taken.file)
 }
 
@@ -228,19 +209,38 @@ impl<C: Clock, L: Log, H: HistoryFolder, A: Allocator + Copy> Observer for Serve
         port: u16,
         from: Option<Endpoint>,
         step: &Step<T>,
-        table: &Table<T>,
+        _table: &Table<T>,
     )
-        ensures transfers { FollowsStep port step.now self.old.transfers self.new.transfers }
-        ensures history { H.has_model ≡ true → KeepsTaken step.now.taken (files_of H.file_at self.old.history) (files_of H.file_at self.new.history) }
+        ensures step { FollowsStep port from step.now self.old self.new }
+        ensures history { H.has_model ≡ true → KeepsTaken step.now.taken step.now.event (files_of H.file_at self.old.history) (files_of H.file_at self.new.history) }
     {
-        self.follow(port, from, step, table.improvements());
+        self.follow(port, from, step);
     }
 }
 
-/// A request that was dropped is reported.
+/// The server's start and stop are reported, and each request that was dropped.
 impl<C: Clock, L: Log, H: HistoryFolder, A: Allocator + Copy> ServerObserver
     for ServerLog<C, L, H, A> {
-    fn on_dropped(&mut self, from: Endpoint) {
-        self.report(&Stamp::now(&self.clock), Event::Dropped { peer: from });
+    fn on_started<T: Allocator + Copy>(
+        &mut self,
+        at: Endpoint,
+        folder: Option<&str>,
+        table: &Table<T>,
+    )
+        ensures same { self.new ≡ self.old }
+    {
+        self.report_now(started_event(at, folder, table));
+    }
+
+    fn on_dropped(&mut self, from: Endpoint)
+        ensures same { self.new ≡ self.old }
+    {
+        self.report_now(LogEvent::Dropped { peer: from });
+    }
+
+    fn on_stopped(&mut self)
+        ensures same { self.new ≡ self.old }
+    {
+        self.report_now(self.stopped_event());
     }
 }

@@ -6,7 +6,7 @@ use Rattle.std.proofs.lemmas.Bool.{ltb-false}
 use Rattle.std.proofs.lemmas.List.Quantifiers.{position-Some}
 use Rattle.std.proofs.lemmas.List.Sums.{fails_before_first}
 use Rattle.archive_memory.specs.declared.arrival.Arrival.{Arrival}
-use Rattle.archive_memory.specs.Noted.{Waiting, waiting_of, first_to, without_first}
+use Rattle.archive_memory.specs.MemoryWires.{Waiting, waiting_of, first_to, without_first}
 
 -- whether a datagram is addressed to this port
 abbrev to_port : {A : Type 0} → (port : ℕ) → Arrival A → Bool

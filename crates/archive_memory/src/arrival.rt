@@ -1,5 +1,5 @@
 ghost use Rattle.std.specs.Prelude.{◌≤◌, length};
-ghost use Rattle.archive_turns.specs.declared.wire.TheConstants.{RECEIVE_SIZE};
+ghost use Rattle.archive_wire.specs.declared.wire.TheConstants.{RECEIVE_SIZE};
 
 use std::alloc::{Allocator, Global};
 use tftp_packet::Endpoint;

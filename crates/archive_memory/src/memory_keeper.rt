@@ -1,7 +1,8 @@
 ghost use Rattle.std.specs.Prelude.{◌≡◌, ◌≢◌, ◌++◌, ◌-◌, ◌==◌, ◌&&◌, ◌≤◌, [], true, false, None, Some, Err, OnOk, IfOk, length, drop};
 ghost use Rattle.std.specs.Option.{option_map};
 ghost use Rattle.tws_best.specs.Best.{collection_text};
-ghost use Rattle.archive_table.specs.Keeper.{FailsAt, given, kept_by, last_kept, same_ruleset, texts_of};
+ghost use Rattle.archive_table.specs.Keeper.{given, kept_by, last_kept, same_ruleset, texts_of};
+ghost use Rattle.byte_output.specs.Failures.{Rises};
 
 use crate::kept::Kept;
 use archive_table::{KeepFault, Keeper};
@@ -118,7 +119,7 @@ impl<A: Allocator + Copy> MemoryKeeper<A> {
         ensures kept { self.new.kept ≡ self.old.kept }
         ensures count { self.new.fails_in ≡ self.old.fails_in - 1 }
         ensures more { self.old.failures ≤ self.new.failures }
-        ensures failed { result ≡ true → FailsAt self.old.failures self.new.failures }
+        ensures failed { result ≡ true → Rises self.old.failures self.new.failures }
         ensures steady { result ≡ false → self.new.failures ≡ self.old.failures }
     {
         let fails = self.fails_in == 1;
@@ -131,7 +132,7 @@ impl<A: Allocator + Copy> MemoryKeeper<A> {
 }
 
 impl<A: Allocator + Copy> Keeper for MemoryKeeper<A> {
-    ghost log = { λ k. Some k.kept.items };
+    ghost calls = { λ k. Some k.kept.items };
 
     ghost failed = { λ k. k.failures };
 
@@ -140,9 +141,9 @@ impl<A: Allocator + Copy> Keeper for MemoryKeeper<A> {
         ruleset: Ruleset,
         collection: &Collection<B>,
     ) -> Result<(), KeepFault>
-        ensures log { self.new.kept.items ≡ self.old.kept.items ++ kept_by result «ruleset» (collection_text collection.now) }
+        ensures calls { self.new.kept.items ≡ self.old.kept.items ++ kept_by result «ruleset» (collection_text collection.now) }
         ensures more { self.old.failures ≤ self.new.failures }
-        ensures failed { result ≡ Err KeepFault.Device → FailsAt self.old.failures self.new.failures }
+        ensures failed { result ≡ Err KeepFault.Device → Rises self.old.failures self.new.failures }
         ensures count { self.new.fails_in ≡ self.old.fails_in - 1 }
         ensures at { self.old.fails_in ≡ 1 → IfOk result (λ _. ⊥) }
         ensures alone { result ≡ Err KeepFault.Device → self.old.fails_in ≡ 1 }
@@ -173,10 +174,10 @@ impl<A: Allocator + Copy> Keeper for MemoryKeeper<A> {
         alloc: B,
         ruleset: Ruleset,
     ) -> Result<Option<Vec<u8, B>>, KeepFault>
-        ensures log { self.new.kept ≡ self.old.kept }
+        ensures calls { self.new.kept ≡ self.old.kept }
         ensures text { IfOk result (λ text. texts_of text ≡ last_kept «ruleset» self.old.kept.items) }
         ensures more { self.old.failures ≤ self.new.failures }
-        ensures failed { result ≡ Err KeepFault.Device → FailsAt self.old.failures self.new.failures }
+        ensures failed { result ≡ Err KeepFault.Device → Rises self.old.failures self.new.failures }
         ensures count { self.new.fails_in ≡ self.old.fails_in - 1 }
         ensures at { self.old.fails_in ≡ 1 → result ≡ Err KeepFault.Device }
         ensures alone { result ≡ Err KeepFault.Device → self.old.fails_in ≡ 1 }

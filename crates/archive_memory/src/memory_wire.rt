@@ -3,13 +3,13 @@
 ghost use Rattle.std.specs.Prelude.{◌≡◌, ◌≢◌, ◌==◌, ◌≤◌, [], ◌∷◌, length, map, drop, true, Some, OnOk, OnErr, IfOk, IfErr, IfSome, is_ok, if◌then◌else◌};
 ghost use Rattle.std.specs.List.{position};
 ghost use Rattle.std.specs.Option.{option_map};
-ghost use Rattle.archive_table.specs.Keeper.{FailsAt};
-ghost use Rattle.archive_memory.specs.Noted.{entry_of, entries_of, waiting_of, arrives_at, counts_call, rises, notes, log_of, SameButLog, first_in, port_taken, takes_port, first_to, without_first, receipt, takes_arrival, next_ready, settled_by, time_after};
-ghost use Rattle.archive_turns.specs.Wire.{lesser, Grows, opened, closed, sent, port_opened, was_done, came, received, quiet, failed, waited};
+ghost use Rattle.byte_output.specs.Failures.{Rises};
+ghost use Rattle.archive_memory.specs.MemoryWires.{entry_of, entries_of, waiting_of, arrives_at, counts_call, rises, notes, calls_of, SameButLog, first_in, port_taken, takes_port, first_to, without_first, receipt, takes_arrival, next_ready, settled_by, time_after};
+ghost use Rattle.archive_wire.specs.Wire.{lesser, Grows, opened, closed, sent, port_opened, was_done, came, received, quiet, failed, waited};
 
 use crate::arrival::Arrival;
 use crate::entry::Entry;
-use archive_turns::{RECEIVE_SIZE, Ready, ReadyWire, Wire, WireFault};
+use archive_wire::{RECEIVE_SIZE, Ready, ReadyWire, Wire, WireFault};
 use std::alloc::{AllocError, Allocator, Global};
 use std::marker::Model;
 use tftp_packet::{Endpoint, Out};
@@ -30,7 +30,7 @@ pub struct MemoryWire<A: Allocator = Global> {
 }
 
 impl<A: Allocator> Model for MemoryWire<A> {
-    ghost use Rattle.archive_memory.specs.Noted.{Memory, memory_of};
+    ghost use Rattle.archive_memory.specs.MemoryWires.{Memory, memory_of};
 
     ghost Value = { Memory };
 
@@ -177,13 +177,13 @@ impl<A: Allocator> MemoryWire<A> {
 
     // Ends a `receive` that found nothing.
     fn give_none(&mut self, port: u16) -> Result<Option<(usize, Endpoint)>, WireFault>
-        ensures log { Grows (log_of self.old) (log_of self.new) ((if is_ok result then quiet port else failed port) ∷ []) }
+        ensures calls { Grows (calls_of self.old) (calls_of self.new) ((if is_ok result then quiet port else failed port) ∷ []) }
         ensures none { IfOk result (λ got. got ≡ None) }
         ensures reported { self.new.telling ≡ true → is_ok result ≡ true }
         ensures left { SameButLog self.old self.new }
         ensures steady { OnOk result (self.new.failures ≡ self.old.failures) }
         ensures fault { IfErr result (λ e. e ≡ WireFault.Receive) }
-        ensures failed { OnErr result (FailsAt self.old.failures self.new.failures) }
+        ensures failed { OnErr result (Rises self.old.failures self.new.failures) }
     {
         if self.note(Entry::Quiet(port)) {
             return Ok(None);
@@ -199,14 +199,14 @@ impl<A: Allocator> MemoryWire<A> {
         arrival: Arrival<A>,
         buffer: &mut [u8; RECEIVE_SIZE],
     ) -> Result<Option<(usize, Endpoint)>, WireFault>
-        ensures log { Grows (log_of self.old) (log_of self.new) (received port result buffer.new ∷ []) }
+        ensures calls { Grows (calls_of self.old) (calls_of self.new) (received port result buffer.new ∷ []) }
         ensures given { OnOk result (received port result buffer.new ≡ came port arrival.from arrival.bytes) }
         ensures reported { self.new.telling ≡ true → is_ok result ≡ true }
         ensures left { SameButLog self.old self.new }
         ensures steady { OnOk result (self.new.failures ≡ self.old.failures) }
         ensures count { IfOk result (λ got. IfSome got (λ g. g.0 ≤ RECEIVE_SIZE)) }
         ensures fault { IfErr result (λ e. e ≡ WireFault.Receive) }
-        ensures failed { OnErr result (FailsAt self.old.failures self.new.failures) }
+        ensures failed { OnErr result (Rises self.old.failures self.new.failures) }
     {
         let Arrival { from, bytes, .. } = arrival;
         let count = bytes.len();
@@ -220,19 +220,19 @@ impl<A: Allocator> MemoryWire<A> {
 }
 
 impl<A: Allocator> Wire for MemoryWire<A> {
-    ghost use Rattle.archive_memory.specs.Noted.{log_of};
+    ghost use Rattle.archive_memory.specs.MemoryWires.{calls_of};
 
-    ghost log = { log_of };
+    ghost calls = { calls_of };
 
     ghost failed = { λ w. w.failures };
 
     fn open(&mut self) -> Result<u16, WireFault>
-        ensures log { Grows (log_of self.old) (log_of self.new) (opened (port_opened result) ∷ []) }
+        ensures calls { Grows (calls_of self.old) (calls_of self.new) (opened (port_opened result) ∷ []) }
         ensures port { IfOk result (λ port. port_taken self.old ≡ Some port) }
         ensures reported { self.new.telling ≡ true → port_opened result ≡ port_taken self.old }
         ensures left { SameButLog (takes_port self.old) self.new }
         ensures fault { IfErr result (λ e. e ≡ WireFault.Open) }
-        ensures failed { OnErr result (FailsAt self.old.failures self.new.failures) }
+        ensures failed { OnErr result (Rises self.old.failures self.new.failures) }
         ensures steady { OnOk result (self.new.failures ≡ self.old.failures) }
     {
         let port = if self.count_call() {
@@ -250,12 +250,12 @@ impl<A: Allocator> Wire for MemoryWire<A> {
     }
 
     fn close(&mut self, port: u16) -> Result<(), WireFault>
-        ensures log { Grows (log_of self.old) (log_of self.new) (closed port (was_done result) ∷ []) }
+        ensures calls { Grows (calls_of self.old) (calls_of self.new) (closed port (was_done result) ∷ []) }
         ensures done { OnOk result (self.old.fails_in ≢ 1) }
         ensures reported { self.new.telling ≡ true → self.old.fails_in ≢ 1 → is_ok result ≡ true }
         ensures left { SameButLog (counts_call self.old) self.new }
         ensures fault { IfErr result (λ e. e ≡ WireFault.Close) }
-        ensures failed { OnErr result (FailsAt self.old.failures self.new.failures) }
+        ensures failed { OnErr result (Rises self.old.failures self.new.failures) }
         ensures steady { OnOk result (self.new.failures ≡ self.old.failures) }
     {
         let ok = !self.count_call();
@@ -271,13 +271,13 @@ impl<A: Allocator> Wire for MemoryWire<A> {
         port: u16,
         buffer: &mut [u8; RECEIVE_SIZE],
     ) -> Result<Option<(usize, Endpoint)>, WireFault>
-        ensures log { Grows (log_of self.old) (log_of self.new) (received port result buffer.new ∷ []) }
+        ensures calls { Grows (calls_of self.old) (calls_of self.new) (received port result buffer.new ∷ []) }
         ensures given { OnOk result (received port result buffer.new ≡ receipt port self.old) }
         ensures reported { self.new.telling ≡ true → received port result buffer.new ≡ receipt port self.old }
         ensures left { SameButLog (takes_arrival port self.old) self.new }
         ensures count { IfOk result (λ got. IfSome got (λ g. g.0 ≤ RECEIVE_SIZE)) }
         ensures fault { IfErr result (λ e. e ≡ WireFault.Receive) }
-        ensures failed { OnErr result (FailsAt self.old.failures self.new.failures) }
+        ensures failed { OnErr result (Rises self.old.failures self.new.failures) }
         ensures steady { OnOk result (self.new.failures ≡ self.old.failures) }
     {
         if self.count_call() {
@@ -292,12 +292,12 @@ impl<A: Allocator> Wire for MemoryWire<A> {
     }
 
     fn send(&mut self, out: &Out) -> Result<(), WireFault>
-        ensures log { Grows (log_of self.old) (log_of self.new) (sent out.now (was_done result) ∷ []) }
+        ensures calls { Grows (calls_of self.old) (calls_of self.new) (sent out.now (was_done result) ∷ []) }
         ensures done { OnOk result (self.old.fails_in ≢ 1) }
         ensures reported { self.new.telling ≡ true → self.old.fails_in ≢ 1 → is_ok result ≡ true }
         ensures left { SameButLog (counts_call self.old) self.new }
         ensures fault { IfErr result (λ e. e ≡ WireFault.Send) }
-        ensures failed { OnErr result (FailsAt self.old.failures self.new.failures) }
+        ensures failed { OnErr result (Rises self.old.failures self.new.failures) }
         ensures steady { OnOk result (self.new.failures ≡ self.old.failures) }
     {
         let ok = !self.count_call();
@@ -363,7 +363,7 @@ fn settled_at(ready: Option<u16>, settled: Option<u64>, time: u64) -> Option<u64
 
 impl<A: Allocator> ReadyWire for MemoryWire<A> {
     fn wait(&mut self, after: u16, until: Option<u64>) -> Ready
-        ensures log { Grows (log_of self.old) (log_of self.new) (waited after until result.port result.time result.settled ∷ []) }
+        ensures calls { Grows (calls_of self.old) (calls_of self.new) (waited after until result.port result.time result.settled ∷ []) }
         ensures ready { result.port ≡ next_ready after self.old.inbox }
         ensures time { result.time ≡ time_after result.port until self.old.time }
         ensures settled { result.settled ≡ settled_by result.port self.old.settled result.time }

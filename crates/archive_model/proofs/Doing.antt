@@ -2,9 +2,9 @@
 -- or a stray; it ends all transfers, or it does nothing.
 use Rattle.std.proofs.Common.{◌≡◌, ℕ, Bool, true, false, ◌==◌, Option, None, Some, refl, slice_get}
 use Rattle.tftp_packet.specs.declared.endpoint.Endpoint.{Endpoint}
-use Rattle.archive_table.specs.Table.{Maps, Grant, Transfer, memory_verdict, transfer_at, table_request, table_datagram, table_timeout}
+use Rattle.archive_table.specs.Table.{Maps, Grant, Transfer, memory_verdict, transfer_at, table_request, table_datagram, table_timeout, Taken}
 use Rattle.archive_client.specs.Client.{Operation, Client, client_datagram, client_timeout, is_too_long}
-use Rattle.archive_model.specs.World.{Datagram, World, Event, begin, deliver, client_times_out, server_times_out, stray, restart, server_endpoint, client_at, has_begun, asked_of, after_request, after_transfer, after_client, begins, begins_unless, request_comes, server_receives, client_receives, arrives, delivers, client_waits, strays_in, strays_unless, restarts, event_happens}
+use Rattle.archive_model.specs.World.{Datagram, World, Event, begin, deliver, client_times_out, server_times_out, stray, restart, client_at, has_begun, asked_of, after_request, after_transfer, after_client, begins, begins_unless, request_comes, server_receives, client_receives, arrives, delivers, client_waits, strays_in, strays_unless, restarts, event_happens, unknown_keep, wanted_of, ends_at, ends, ends_if}
 
 -- the world after the event is one of these
 pub data Does (w : World) : Event → World → Type 0 where
@@ -22,6 +22,9 @@ pub data Does (w : World) : Event → World → Type 0 where
   waits : (e : Endpoint) (c : Client) → Does w (client_times_out e) (after_client e c (client_timeout c) w)
   strayed : (d : Datagram) → Does w (stray d) (strays_in d w)
   restarted : Does w restart (restarts w)
+  -- or it ends, since it does not know whether it has kept a file that this datagram completes
+  ended : (index : ℕ) (found : Bool) (maps : Maps) (d : Datagram) (t : Taken) → slice_get w.net index ≡ Some d →
+      wanted_of (d.target.host == w.home.host) d w ≡ Some t → Does w (unknown_keep index found) (ends found t maps d w)
 
 module _ (w : World) where
   begins_does : (ours long : Bool) (e : Endpoint) (operation : Operation) → Does w (begin e operation) (begins_unless ours long e operation w)
@@ -56,7 +59,17 @@ module _ (w : World) where
   delivers_does : (index spare : ℕ) (grant : Grant) (maps : Maps) (found : Option Datagram) → slice_get w.net index ≡ found →
       Does w (deliver index spare) (delivers found spare grant maps w)
   delivers_does index spare grant maps None is = nothing _
-  delivers_does index spare grant maps (Some d) is = arrives_does index spare grant maps d is (d.target.host == server_endpoint.host)
+  delivers_does index spare grant maps (Some d) is = arrives_does index spare grant maps d is (d.target.host == w.home.host)
+
+  ends_does : (index : ℕ) (found : Bool) (maps : Maps) (d : Datagram) → slice_get w.net index ≡ Some d → (file : Option Taken) →
+      wanted_of (d.target.host == w.home.host) d w ≡ file → Does w (unknown_keep index found) (ends_if file found maps d w)
+  ends_does index found maps d is None completes = nothing _
+  ends_does index found maps d is (Some t) completes = ended index found maps d t is completes
+
+  ends_at_does : (index : ℕ) (found : Bool) (maps : Maps) (sent : Option Datagram) → slice_get w.net index ≡ sent →
+      Does w (unknown_keep index found) (ends_at sent found maps w)
+  ends_at_does index found maps None is = nothing _
+  ends_at_does index found maps (Some d) is = ends_does index found maps d is _ refl
 
   waits_does : (e : Endpoint) (found : Option Client) → Does w (client_times_out e) (client_waits found e w)
   waits_does e None = nothing _
@@ -64,9 +77,10 @@ module _ (w : World) where
 
   -- so whatever the event
   pub event-does : (event : Event) (grant : Grant) (maps : Maps) → Does w event (event_happens event grant maps w)
-  event-does (begin e operation) grant maps = begins_does (e.host == server_endpoint.host) (is_too_long operation) e operation
+  event-does (begin e operation) grant maps = begins_does (e.host == w.home.host) (is_too_long operation) e operation
   event-does (deliver index spare) grant maps = delivers_does index spare grant maps (slice_get w.net index) refl
   event-does (client_times_out e) grant maps = waits_does e (client_at e w)
   event-does (server_times_out port) grant maps = expires port
-  event-does (stray d) grant maps = strays_does (d.source.host == server_endpoint.host) (has_begun d.source w.begun) d
+  event-does (stray d) grant maps = strays_does (d.source.host == w.home.host) (has_begun d.source w.begun) d
   event-does restart grant maps = restarted
+  event-does (unknown_keep index found) grant maps = ends_at_does index found maps (slice_get w.net index) refl

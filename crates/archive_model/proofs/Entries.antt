@@ -3,15 +3,15 @@ use Rattle.std.proofs.Common.{◌≡◌, ◌≢◌, ℕ, Bool, false, ◌==◌, 
 use Rattle.std.proofs.lemmas.Bool.{ne_eqb}
 use Rattle.archive_table.specs.Table.{Maps, Grant}
 use Rattle.archive_table.specs.Keeper.{Keeping}
-use Rattle.archive_model.specs.World.{Datagram, World, server_endpoint, has_begun, strays_in, strays_unless}
+use Rattle.archive_model.specs.World.{Datagram, World, has_begun, strays_in, strays_unless}
 use Rattle.archive_model.specs.Adding.{StraysIn, KeepsChange}
 use Rattle.archive_model.proofs.Places.{Has-contains, Has-last}
 
 -- a stray that may happen enters the network
-pub strays_fits : (w : World) (d : Datagram) → d.source.host ≢ server_endpoint.host → has_begun d.source w.begun ≡ false →
-    strays_unless (d.source.host == server_endpoint.host) (has_begun d.source w.begun) d w ≡ strays_in d w
+pub strays_fits : (w : World) (d : Datagram) → d.source.host ≢ w.home.host → has_begun d.source w.begun ≡ false →
+    strays_unless (d.source.host == w.home.host) (has_begun d.source w.begun) d w ≡ strays_in d w
 strays_fits w d away unbegun =
-    ap (λ (ours : Bool). strays_unless ours (has_begun d.source w.begun) d w) (ne_eqb d.source.host server_endpoint.host away)
+    ap (λ (ours : Bool). strays_unless ours (has_begun d.source w.begun) d w) (ne_eqb d.source.host w.home.host away)
     ∙ ap (λ (begun : Bool). strays_unless false begun d w) unbegun
 
 pub stray-is_in : (w : World) (d : Datagram) (grant : Grant) (maps : Maps) → StraysIn w d grant maps

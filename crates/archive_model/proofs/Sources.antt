@@ -1,7 +1,8 @@
 -- Where what an answer adds comes from: a file that the server takes is from the sender of the datagram, and a time-out takes
 -- no file and ends no operation of a client but by failing it.
-use Rattle.std.proofs.Common.{◌≡◌, ℕ, ◌+◌, ◌==◌, Bool, true, false, List, Option, None, Some, Result, Ok, Err, refl, sym}
+use Rattle.std.proofs.Common.{◌≡◌, ◌≢◌, ℕ, ◌+◌, ◌==◌, Bool, true, false, List, Option, None, Some, Result, Ok, Err, refl, sym, ap, ◌∙◌}
 use Rattle.std.specs.Prelude.{IfSome}
+use Rattle.std.proofs.lemmas.Bool.{eqb-true, eqb-false}
 use Rattle.tftp_packet.specs.declared.endpoint.Endpoint.{Endpoint}
 use Rattle.tftp_packet.specs.declared.packet_fault.PacketFault.{PacketFault}
 use Rattle.tftp_packet.specs.Packet.{Packet, read, write, data_block, ack, error}
@@ -19,7 +20,7 @@ use Rattle.archive_client.specs.declared.state.State.{State}
 use Rattle.archive_client.specs.declared.state.State.TheVariants as state
 use Rattle.archive_client.specs.Client.{Operation, Phase, Client, send_state, recv_state, phase_state, state_of, asks_again, put_waits, get_waits, phase_waits, client_timeout}
 use Rattle.archive_client.specs.Client as client
-use Rattle.archive_model.specs.World.{newly_sent, newly_got}
+use Rattle.archive_model.specs.World.{newly_sent, newly_got, World, Datagram, wanted_at, wanted_of}
 use Rattle.archive_model.proofs.Endpoints.{exact_endpoint}
 
 -- ---- the server
@@ -106,6 +107,33 @@ module _ (grant : Grant) (maps : Maps) (port : ℕ) (from : Endpoint) (s : Table
 pub datagram-takes : (grant : Grant) (maps : Maps) (port : ℕ) (from : Endpoint) (bytes : List ℕ) (s : Table) →
     IfSome (table_datagram grant maps port from bytes s).step.taken (λ t. t.peer ≡ from)
 datagram-takes grant maps port from bytes s = at_from grant maps port from s (transfer_at port s) bytes
+
+-- so is one that a datagram completes
+some_from : (from : Endpoint) (taken : Option Taken) (t : Taken) → IfSome taken (λ u. u.peer ≡ from) → taken ≡ Some t → t.peer ≡ from
+some_from from None t none is = absurd cc
+some_from from (Some u) t same is = let one : u ≡ t = cc in ap (λ (x : Taken). x.peer) (sym one) ∙ same
+
+-- a datagram that completes a file
+pub record Completes (w : World) (d : Datagram) (t : Taken) : Type 0 where
+  pub ours : d.target.host ≡ w.home.host
+  pub other : d.target.port ≢ w.server.request
+  pub takes : (table_datagram all w.server.maps d.target.port d.source d.bytes w.server).step.taken ≡ Some t
+
+at_completes : (w : World) (d : Datagram) (t : Taken) → d.target.host ≡ w.home.host → (request : Bool) → (d.target.port == w.server.request) ≡ request →
+    wanted_at request d w ≡ Some t → Completes w d t
+at_completes w d t ours true at is = absurd cc
+at_completes w d t ours false at is = record { ours = ours; other = eqb-false _ _ at; takes = is }
+
+of_completes : (w : World) (d : Datagram) (t : Taken) (ours : Bool) → (d.target.host == w.home.host) ≡ ours → wanted_of ours d w ≡ Some t → Completes w d t
+of_completes w d t true at is = at_completes w d t (eqb-true _ _ at) (d.target.port == w.server.request) refl is
+of_completes w d t false at is = absurd cc
+
+pub wanted-completes : (w : World) (d : Datagram) (t : Taken) → wanted_of (d.target.host == w.home.host) d w ≡ Some t → Completes w d t
+wanted-completes w d t is = of_completes w d t (d.target.host == w.home.host) refl is
+
+pub wanted-from : (w : World) (d : Datagram) (t : Taken) → wanted_of (d.target.host == w.home.host) d w ≡ Some t → t.peer ≡ d.source
+wanted-from w d t is =
+    some_from d.source _ t (datagram-takes all w.server.maps d.target.port d.source d.bytes w.server) (wanted-completes w d t is).takes
 
 -- ---- a client
 

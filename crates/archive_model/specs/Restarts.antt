@@ -1,13 +1,13 @@
 -- Why a restart does not change the collections: after each step the keeper has what the server has.
-use Rattle.std.specs.Prelude.{◌≡◌, ◌⊎◌, ℕ, Bool, true, false, ◌==◌, List, [], ◌∷◌, slice_get, Option, None, Some}
+use Rattle.std.specs.Prelude.{◌≡◌, ◌⊎◌, ℕ, List, [], ◌∷◌, ◌++◌, slice_get, Option, None, Some}
 use Rattle.tws_file.specs.declared.«ruleset».Ruleset.{Ruleset}
 use Rattle.tws_file.specs.declared.«ruleset».Ruleset.TheVariants.{Lynx, Ms}
 use Rattle.tws_best.specs.Best.{Collected, IsCollected, collection_text}
-use Rattle.archive_table.specs.Table.{Table, Maps, Taken, Grant, all, table_datagram}
-use Rattle.archive_table.specs.Keeper.{Keeping, last_kept, LoadedFrom, TableFails, StepKeeps}
+use Rattle.archive_table.specs.Table.{Table, Maps, Taken, Grant, all}
+use Rattle.archive_table.specs.Keeper.{Keeping, last_kept, IsLoaded, LoadedFrom, TableFails, KeepsMaps, StepKeeps}
 use Rattle.archive_table.specs.declared.load_fault.LoadFault.{LoadFault}
 use Rattle.archive_table.specs.declared.load_fault.LoadFault.TheVariants.{Keep, Unreadable, WrongRuleset, Memory}
-use Rattle.archive_model.specs.World.{Datagram, Event, begin, deliver, client_times_out, server_times_out, stray, restart, WorldStep, World, server_endpoint, restarts, happens}
+use Rattle.archive_model.specs.World.{Datagram, Event, begin, deliver, client_times_out, server_times_out, stray, restart, unknown_keep, WorldStep, World, wanted_by, restarts, happens}
 
 -- the text is the collection's; if there is none, the collection is empty
 abbrev pub IsTextAt : Ruleset → Option (List ℕ) → Collected → Type 0
@@ -18,6 +18,20 @@ IsTextAt rules (Some text) c = text ≡ collection_text c
 pub record HasKept (log : List Keeping) (maps : Maps) : Type 0 where
   pub lynx : IsTextAt Lynx (last_kept Lynx log) maps.lynx
   pub ms : IsTextAt Ms (last_kept Ms log) maps.ms
+
+-- For each ruleset, what was kept last is loaded as the current collection. It may be any readable file of the ruleset, as the
+-- real Tile World writes one: what a load gives has its solutions.
+pub record LoadsAs (log : List Keeping) (maps : Maps) : Type 0 where
+  pub lynx : IsLoaded Lynx (last_kept Lynx log) maps.lynx
+  pub ms : IsLoaded Ms (last_kept Ms log) maps.ms
+
+-- the texts that were kept last, at most one for each ruleset
+abbrev pub text_list : Option (List ℕ) → List (List ℕ)
+text_list None = []
+text_list (Some text) = text ∷ []
+
+abbrev pub kept_texts : List Keeping → List (List ℕ)
+kept_texts log = text_list (last_kept Lynx log) ++ text_list (last_kept Ms log)
 
 -- each collection is of its own ruleset
 pub record HaveOwnRuleset (maps : Maps) : Type 0 where
@@ -48,20 +62,6 @@ FailsOutside log = (fault : LoadFault) → TableFails (Some log) fault → IsOut
 
 -- ---- over a run
 
--- whether it arrives at the request port, where no file is taken
-abbrev pub wanted_at : (request : Bool) → Datagram → World → Option Taken
-wanted_at true d w = None
-wanted_at false d w = (table_datagram all w.server.maps d.target.port d.source d.bytes w.server).step.taken
-
--- whether it arrives at the server's host
-abbrev pub wanted_of : (ours : Bool) → Datagram → World → Option Taken
-wanted_of true d w = wanted_at (d.target.port == w.server.request) d w
-wanted_of false d w = None
-
-abbrev pub wanted_by : Option Datagram → World → Option Taken
-wanted_by None w = None
-wanted_by (Some d) w = wanted_of (d.target.host == server_endpoint.host) d w
-
 -- A delivery that does not change the collections and asks nothing of the keeper does not change its list. Any other
 -- delivery is a step of the server, and the list after it is as that step's contract says.
 abbrev pub DeliveryKeeps : Grant → (wanted : Option Taken) → (old new : Maps) → (before after : List Keeping) → Type 0
@@ -81,6 +81,9 @@ EventKeeps (client_times_out e) grant w v before after = after ≡ before
 EventKeeps (server_times_out port) grant w v before after = after ≡ before
 EventKeeps (stray d) grant w v before after = after ≡ before
 EventKeeps restart grant w v before after = AreAlike before after
+-- a keep whose outcome is unknown: what the next start finds, with the new collection or without
+EventKeeps (unknown_keep index found) grant w v before after =
+    (mid : List Keeping) × KeepsMaps w.server.maps v.server.maps (Some before) (Some mid) × AreAlike mid after
 
 -- what the keeper has after these steps, if it has `before` at first
 abbrev pub RunKeeps : List WorldStep → World → (before last : List Keeping) → Type 0

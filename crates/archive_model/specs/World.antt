@@ -1,6 +1,7 @@
 -- The server, its clients and the network between them, and what each event does to them. A step of the server is that
 -- of archive_table, a step of a client that of archive_client.
 use Rattle.std.specs.Prelude.{◌≡◌, ◌≢◌, ℕ, Bool, true, false, ◌==◌, cond, List, [], ◌∷◌, ◌++◌, map, length, slice_get, Option, None, Some, Result, Ok, Err}
+use Rattle.std.proofs.Common.{refl}
 use Rattle.std.specs.Map.{lookup, set_value}
 use Rattle.tftp_packet.specs.declared.endpoint.Endpoint.{Endpoint}
 use Rattle.tftp_packet.specs.declared.out.Out.{Out}
@@ -8,7 +9,10 @@ use Rattle.tftp_packet.specs.declared.packet_fault.PacketFault.{PacketFault}
 use Rattle.tftp_packet.specs.Packet.{Packet, read, write, data_block, ack, error}
 use Rattle.tftp_packet.specs.Decode.{decode_bytes}
 use Rattle.tws_file.specs.declared.«ruleset».Ruleset.{Ruleset}
-use Rattle.archive_table.specs.Table.{Table, Maps, empty_maps, Transfer, Taken, Grant, memory_verdict, is_same, transfer_at, table_request, table_datagram, table_timeout, IsMerged}
+use Rattle.tws_file.specs.declared.«ruleset».Ruleset.TheVariants.{Lynx, Ms}
+use Rattle.tws_best.specs.Best.{IsCollectionOf}
+use Rattle.tws_best.proofs.Sets.{no_texts}
+use Rattle.archive_table.specs.Table.{Table, Maps, empty_maps, Transfer, Taken, Grant, all, unkept, memory_verdict, is_same, transfer_at, table_request, table_datagram, table_timeout, IsMerged}
 use Rattle.tws_file.specs.Names.{ruleset_named}
 use Rattle.archive_table.specs.Table as table
 use Rattle.archive_client.specs.declared.state.State.{State}
@@ -51,12 +55,16 @@ pub record Got : Type 0 where
 
 -- What has happened, each list in order. It only grows: no event takes anything back.
 pub record Past : Type 0 where
+  -- where it happened: the server's host, and the port at which it takes requests; this stays
+  pub home : Endpoint
   -- all datagrams that were ever sent; none leaves the network
   pub net : List Datagram
   -- the operations that have begun
   pub begun : List Begun
   -- the files that the server has taken, each with its peer
   pub taken : List Taken
+  -- those of them whose peers were told that they were not kept: it was not known, and the next start found the collection
+  pub recovered : List Taken
   -- the clients that count their files as sent
   pub sent : List Endpoint
   pub got : List Got
@@ -72,9 +80,11 @@ pub record IsPrefix {A : Type 0} (old new : List A) : Type 0 where
 
 -- All that has happened by some moment is still there later.
 pub record Extends (past later : Past) : Type 0 where
+  pub home : later.home ≡ past.home
   pub net : IsPrefix past.net later.net
   pub begun : IsPrefix past.begun later.begun
   pub taken : IsPrefix past.taken later.taken
+  pub recovered : IsPrefix past.recovered later.recovered
   pub sent : IsPrefix past.sent later.sent
   pub got : IsPrefix past.got later.got
   pub opened : IsPrefix past.opened later.opened
@@ -103,6 +113,9 @@ pub data Event : Type 0 where
   stray : (datagram : Datagram) → Event
   -- the server restarts, with the collections that it has kept
   restart : Event
+  -- The datagram at this place completes a file, and it is not known whether the collection that it makes is kept. The server
+  -- answers that it is not, and ends; the next start finds the new collection, or the one that was kept before.
+  unknown_keep : (index : ℕ) (found : Bool) → Event
 
 -- an event, and what the network does not control
 pub record WorldStep : Type 0 where
@@ -112,27 +125,61 @@ pub record WorldStep : Type 0 where
   -- if the step takes a file, the collections after it
   pub maps : Maps
 
--- the server's host and its request port
+-- ---- the first world
+
+-- The collections of a server are the best over these texts.
+pub record AreOver (texts : List (List ℕ)) (maps : Maps) : Type 0 where
+  pub lynx : IsCollectionOf Lynx texts maps.lynx
+  pub ms : IsCollectionOf Ms texts maps.ms
+
+-- How a run begins: the server's endpoint, which may be any, and the collections that it has, as a real server has those of
+-- its folder. They are the best over some texts, such as their own two.
+pub record Origin : Type 0 where
+  pub home : Endpoint
+  pub texts : List (List ℕ)
+  pub maps : Maps
+  pub over : AreOver texts maps
+
+-- a text that the server had at first, as if it had taken it from itself
+abbrev pub given : (home : Endpoint) (text : List ℕ) → Taken
+given home text = record { peer = home; file = text }
+
+-- Nothing was sent, and the server has its first collections. Their texts count as the first files taken.
+abbrev pub first_world : Origin → World
+first_world o =
+    record {
+      server = record { request = o.home.port; maps = o.maps; live = [] };
+      clients = [];
+      past = record {
+        home = o.home;
+        net = [];
+        begun = [];
+        taken = map (given o.home) o.texts;
+        recovered = [];
+        sent = [];
+        got = [];
+        opened = [];
+        strays = [];
+      };
+    }
+
+-- a server that has nothing
+abbrev pub empty_origin : (home : Endpoint) → Origin
+empty_origin home =
+    record {
+      home = home;
+      texts = [];
+      maps = empty_maps;
+      over = record { lynx = no_texts Lynx empty_maps.lynx refl refl; ms = no_texts Ms empty_maps.ms refl refl };
+    }
+
+-- the server's endpoint in samples and replays
 abbrev pub server_endpoint : Endpoint
 server_endpoint = record { host = 1; port = 6969 }
 
--- a text that the server had at first, as if it had taken it from itself
-abbrev pub given : (text : List ℕ) → Taken
-given text = record { peer = server_endpoint; file = text }
-
--- Nothing was sent, and the server has these collections. They are the best over these texts, which count as the first
--- files taken: those of its folder, or none.
-abbrev pub start_from : (texts : List (List ℕ)) → Maps → World
-start_from texts maps =
-    record {
-      server = record { request = server_endpoint.port; maps = maps; live = [] };
-      clients = [];
-      past = record { net = []; begun = []; taken = map given texts; sent = []; got = []; opened = []; strays = [] };
-    }
-
--- nothing was sent, and the server has nothing
+-- nothing was sent, and the server there has nothing
 abbrev pub start : World
-start = start_from [] empty_maps
+start = first_world (empty_origin server_endpoint)
 
 -- ---- clients by their endpoints
 
@@ -168,7 +215,7 @@ after_request peer port asked a w =
     record w {
       server = a.server;
       past = record w.past {
-        net = net_with server_endpoint.host w.net a.step.out;
+        net = net_with w.home.host w.net a.step.out;
         opened = opened_with a.step.opened (record { peer = peer; port = port; asked = asked; taken = length w.taken }) w.opened;
       };
     }
@@ -179,7 +226,7 @@ after_transfer a w =
     record w {
       server = a.server;
       past = record w.past {
-        net = net_with server_endpoint.host w.net a.step.out;
+        net = net_with w.home.host w.net a.step.out;
         taken = taken_with a.step.taken w.taken;
       };
     }
@@ -230,9 +277,9 @@ after_client e c a w =
 abbrev pub begins : Endpoint → Operation → World → World
 begins e operation w =
     record w {
-      clients = (e, client_start e.port server_endpoint operation) ∷ w.clients;
+      clients = (e, client_start e.port w.home operation) ∷ w.clients;
       past = record w.past {
-        net = net_with e.host w.net (Some (request_out operation (client_start e.port server_endpoint operation)));
+        net = net_with e.host w.net (Some (request_out operation (client_start e.port w.home operation)));
         begun = w.begun ++ record { client = e; operation = operation; taken = length w.taken } ∷ [];
       };
     }
@@ -293,7 +340,53 @@ arrives false spare grant maps d w = client_receives (client_at d.target w) gran
 -- a place at which nothing was sent changes nothing
 abbrev pub delivers : Option Datagram → (spare : ℕ) → Grant → Maps → World → World
 delivers None spare grant maps w = w
-delivers (Some d) spare grant maps w = arrives (d.target.host == server_endpoint.host) spare grant maps d w
+delivers (Some d) spare grant maps w = arrives (d.target.host == w.home.host) spare grant maps d w
+
+-- ---- a keep whose outcome is unknown
+
+-- the file that a datagram completes if all is granted: at the request port none
+abbrev pub wanted_at : (request : Bool) → Datagram → World → Option Taken
+wanted_at true d w = None
+wanted_at false d w = (table_datagram all w.server.maps d.target.port d.source d.bytes w.server).step.taken
+
+-- whether it arrives at the server's host
+abbrev pub wanted_of : (ours : Bool) → Datagram → World → Option Taken
+wanted_of true d w = wanted_at (d.target.port == w.server.request) d w
+wanted_of false d w = None
+
+abbrev pub wanted_by : Option Datagram → World → Option Taken
+wanted_by None w = None
+wanted_by (Some d) w = wanted_of (d.target.host == w.home.host) d w
+
+-- whether the next start finds the collection that the file makes
+abbrev pub maps_found : (found : Bool) → (old new : Maps) → Maps
+maps_found true old new = new
+maps_found false old new = old
+
+abbrev pub taken_if : (found : Bool) → Taken → List Taken → List Taken
+taken_if true t ts = ts ++ t ∷ []
+taken_if false t ts = ts
+
+-- The server has answered as if the file was not kept, and has started again.
+abbrev pub ends : (found : Bool) → Taken → Maps → Datagram → World → World
+ends found t maps d w =
+    record w {
+      server = record { request = w.server.request; maps = maps_found found w.server.maps maps; live = [] };
+      past = record w.past {
+        net = net_with w.home.host w.net (table_datagram unkept maps d.target.port d.source d.bytes w.server).step.out;
+        taken = taken_if found t w.taken;
+        recovered = taken_if found t w.recovered;
+      };
+    }
+
+-- a datagram that completes no file asks for no keep
+abbrev pub ends_if : Option Taken → (found : Bool) → Maps → Datagram → World → World
+ends_if None found maps d w = w
+ends_if (Some t) found maps d w = ends found t maps d w
+
+abbrev pub ends_at : Option Datagram → (found : Bool) → Maps → World → World
+ends_at None found maps w = w
+ends_at (Some d) found maps w = ends_if (wanted_of (d.target.host == w.home.host) d w) found maps d w
 
 -- ---- the other events
 
@@ -321,13 +414,14 @@ restarts w = record w { server = record w.server { live = [] } }
 -- An event that may not happen changes nothing.
 abbrev pub event_happens : Event → Grant → Maps → World → World
 event_happens (begin e operation) grant maps w =
-    begins_unless (e.host == server_endpoint.host) (is_too_long operation) e operation w
+    begins_unless (e.host == w.home.host) (is_too_long operation) e operation w
 event_happens (deliver index spare) grant maps w = delivers (slice_get w.net index) spare grant maps w
 event_happens (client_times_out e) grant maps w = client_waits (client_at e w) e w
 event_happens (server_times_out port) grant maps w = after_transfer (table_timeout port w.server) w
 event_happens (stray d) grant maps w =
-    strays_unless (d.source.host == server_endpoint.host) (has_begun d.source w.begun) d w
+    strays_unless (d.source.host == w.home.host) (has_begun d.source w.begun) d w
 event_happens restart grant maps w = restarts w
+event_happens (unknown_keep index found) grant maps w = ends_at (slice_get w.net index) found maps w
 
 abbrev pub happens : WorldStep → World → World
 happens s w = event_happens s.event s.grant s.maps w
@@ -348,6 +442,15 @@ abbrev pub AllMerged : List WorldStep → World → Type 0
 AllMerged [] w = Unit {0}
 AllMerged (s ∷ steps) w = HasMerged s w × AllMerged steps (happens s w)
 
+-- a run from an origin, in which each file that is taken makes the collections after it
+pub record RunFrom (o : Origin) : Type 0 where
+  pub steps : List WorldStep
+  pub merged : AllMerged steps (first_world o)
+
+-- the world at its end
+abbrev pub last_world : {o : Origin} → RunFrom o → World
+last_world {o} r = run_from r.steps (first_world o)
+
 -- the events and grants of these steps; the collections follow from them
 abbrev pub asked_by : List WorldStep → List (Event × Grant)
 asked_by steps = map (λ (s : WorldStep). (s.event, s.grant)) steps
@@ -363,16 +466,24 @@ pub record IsFree (spare : ℕ) (w : World) : Type 0 where
 pub record MayDeliver (index spare : ℕ) (w : World) : Type 0 where
   pub datagram : Datagram
   pub is : slice_get w.net index ≡ Some datagram
-  pub spare_is : datagram.target ≡ record { host = server_endpoint.host; port = w.server.request } → IsFree spare w
+  pub spare_is : datagram.target ≡ record { host = w.home.host; port = w.server.request } → IsFree spare w
+
+-- a datagram was sent that completes a file
+pub record MayEnd (index : ℕ) (w : World) : Type 0 where
+  pub datagram : Datagram
+  pub is : slice_get w.net index ≡ Some datagram
+  pub file : Taken
+  pub completes : wanted_of (datagram.target.host == w.home.host) datagram w ≡ Some file
 
 -- A time-out of a port without a transfer may happen, and changes nothing.
 abbrev pub MayHappen : Event → World → Type 0
-MayHappen (begin e operation) w = (e.host ≢ server_endpoint.host) × (is_too_long operation ≡ false)
+MayHappen (begin e operation) w = (e.host ≢ w.home.host) × (is_too_long operation ≡ false)
 MayHappen (deliver index spare) w = MayDeliver index spare w
 MayHappen (client_times_out e) w = has_begun e w.begun ≡ true
 MayHappen (server_times_out port) w = Unit {0}
-MayHappen (stray d) w = (d.source.host ≢ server_endpoint.host) × (has_begun d.source w.begun ≡ false)
+MayHappen (stray d) w = (d.source.host ≢ w.home.host) × (has_begun d.source w.begun ≡ false)
 MayHappen restart w = Unit {0}
+MayHappen (unknown_keep index found) w = MayEnd index w
 
 abbrev pub AllMayHappen : List WorldStep → World → Type 0
 AllMayHappen [] w = Unit {0}

@@ -15,7 +15,7 @@ acknowledged (Ok (ack block)) = block
 acknowledged (Ok (error code text)) = 0
 acknowledged (Err e) = 0
 
--- when the transfer began, if one looks at this time: at the first look
+-- when the transfer began, if it is updated at this time: at the first update
 abbrev pub beginning : (time : ℕ) → Tally → ℕ
 beginning time t = unwrap_or t.began time
 
@@ -32,13 +32,13 @@ may_draw time (Some moment) = nat_le PAUSE (time - moment)
 abbrev pub is_due : (time : ℕ) → Tally → Bool
 is_due time t = not t.ended && nat_le DELAY (time - beginning time t) && may_draw time t.drawn
 
--- what is drawn at a look
+-- what is drawn at an update
 abbrev pub due_at : (time : ℕ) → Tally → Option Progress
 due_at time t = if is_due time t then Some (progress_at time t) else None
 
--- the tally after the look
-abbrev pub looked : (time : ℕ) → Tally → Tally
-looked time t = record t { began = Some (beginning time t); drawn = if is_due time t then Some time else t.drawn }
+-- the tally after the update
+abbrev pub updated : (time : ℕ) → Tally → Tally
+updated time t = record t { began = Some (beginning time t); drawn = if is_due time t then Some time else t.drawn }
 
 abbrev pub new_tally : Tally
 new_tally = record { length = None; blocks = 0; began = None; drawn = None; ended = false }

@@ -1,13 +1,13 @@
 ghost use Rattle.std.specs.Prelude.{◌≡◌, ◌≤◌, [], ◌∷◌, max, true, None, Some, is_some, OnErr, IfErr, IfOk, IfSome};
 ghost use Rattle.tftp_packet.specs.Decode.{decode_bytes};
-ghost use Rattle.archive_table.specs.Keeper.{FailsAt};
-ghost use Rattle.archive_turns.specs.Wire.{Grows, opened, closed, received, sent, waited, port_opened, was_done};
+ghost use Rattle.byte_output.specs.Failures.{Rises};
+ghost use Rattle.archive_wire.specs.Wire.{Grows, opened, closed, received, sent, waited, port_opened, was_done};
 ghost use Rattle.archive_progress.specs.Shown.{Draws, Erases, contents_of};
-ghost use Rattle.archive_progress.specs.Tally.{acknowledged, due_at, looked, new_tally};
+ghost use Rattle.archive_progress.specs.Tally.{acknowledged, due_at, updated, new_tally};
 
 use crate::drawing::{draw, erase};
 use crate::tally::Tally;
-use archive_turns::{RECEIVE_SIZE, Ready, ReadyWire, Wire, WireFault};
+use archive_wire::{RECEIVE_SIZE, Ready, ReadyWire, Wire, WireFault};
 use std::alloc::Global;
 use std::io::Write;
 use tftp_packet::{Endpoint, Out};
@@ -56,10 +56,10 @@ impl<N: ReadyWire, W: Write> ProgressWire<N, W> {
     // Draws the line if that is due at this time.
     fn show(&mut self, time: u64)
         ensures wire { self.new.wire ≡ self.old.wire }
-        ensures tally { self.new.tally ≡ looked time self.old.tally }
+        ensures tally { self.new.tally ≡ updated time self.old.tally }
         ensures shown { Draws (due_at time self.old.tally) (contents_of W.contents self.old.terminal) (contents_of W.contents self.new.terminal) }
     {
-        let due = self.tally.look(time);
+        let due = self.tally.update(time);
         if let (Some(progress), Some(terminal)) = (due, &mut self.terminal) {
             let _ = draw(self.alloc, &progress, terminal);
         }
@@ -81,14 +81,14 @@ impl<N: ReadyWire, W: Write> ProgressWire<N, W> {
 }
 
 impl<N: ReadyWire, W: Write> Wire for ProgressWire<N, W> {
-    ghost log = { λ w. N.log w.wire };
+    ghost calls = { λ w. N.calls w.wire };
 
     ghost failed = { λ w. N.failed w.wire };
 
     fn open(&mut self) -> Result<u16, WireFault>
-        ensures log { Grows (N.log self.old.wire) (N.log self.new.wire) (opened (port_opened result) ∷ []) }
+        ensures calls { Grows (N.calls self.old.wire) (N.calls self.new.wire) (opened (port_opened result) ∷ []) }
         ensures fault { IfErr result (λ e. e ≡ WireFault.Open) }
-        ensures failed { OnErr result (FailsAt (N.failed self.old.wire) (N.failed self.new.wire)) }
+        ensures failed { OnErr result (Rises (N.failed self.old.wire) (N.failed self.new.wire)) }
         ensures tally { self.new.tally ≡ self.old.tally }
         ensures terminal { self.new.terminal ≡ self.old.terminal }
     {
@@ -96,9 +96,9 @@ impl<N: ReadyWire, W: Write> Wire for ProgressWire<N, W> {
     }
 
     fn close(&mut self, port: u16) -> Result<(), WireFault>
-        ensures log { Grows (N.log self.old.wire) (N.log self.new.wire) (closed port (was_done result) ∷ []) }
+        ensures calls { Grows (N.calls self.old.wire) (N.calls self.new.wire) (closed port (was_done result) ∷ []) }
         ensures fault { IfErr result (λ e. e ≡ WireFault.Close) }
-        ensures failed { OnErr result (FailsAt (N.failed self.old.wire) (N.failed self.new.wire)) }
+        ensures failed { OnErr result (Rises (N.failed self.old.wire) (N.failed self.new.wire)) }
         ensures tally { self.new.tally ≡ self.old.tally }
         ensures terminal { self.new.terminal ≡ self.old.terminal }
     {
@@ -110,10 +110,10 @@ impl<N: ReadyWire, W: Write> Wire for ProgressWire<N, W> {
         port: u16,
         buffer: &mut [u8; RECEIVE_SIZE],
     ) -> Result<Option<(usize, Endpoint)>, WireFault>
-        ensures log { Grows (N.log self.old.wire) (N.log self.new.wire) (received port result buffer.new ∷ []) }
+        ensures calls { Grows (N.calls self.old.wire) (N.calls self.new.wire) (received port result buffer.new ∷ []) }
         ensures count { IfOk result (λ got. IfSome got (λ g. g.0 ≤ RECEIVE_SIZE)) }
         ensures fault { IfErr result (λ e. e ≡ WireFault.Receive) }
-        ensures failed { OnErr result (FailsAt (N.failed self.old.wire) (N.failed self.new.wire)) }
+        ensures failed { OnErr result (Rises (N.failed self.old.wire) (N.failed self.new.wire)) }
         ensures tally { self.new.tally ≡ self.old.tally }
         ensures terminal { self.new.terminal ≡ self.old.terminal }
     {
@@ -121,9 +121,9 @@ impl<N: ReadyWire, W: Write> Wire for ProgressWire<N, W> {
     }
 
     fn send(&mut self, out: &Out) -> Result<(), WireFault>
-        ensures log { Grows (N.log self.old.wire) (N.log self.new.wire) (sent out.now (was_done result) ∷ []) }
+        ensures calls { Grows (N.calls self.old.wire) (N.calls self.new.wire) (sent out.now (was_done result) ∷ []) }
         ensures fault { IfErr result (λ e. e ≡ WireFault.Send) }
-        ensures failed { OnErr result (FailsAt (N.failed self.old.wire) (N.failed self.new.wire)) }
+        ensures failed { OnErr result (Rises (N.failed self.old.wire) (N.failed self.new.wire)) }
         ensures tally { self.new.tally ≡ record self.old.tally { blocks = max self.old.tally.blocks (acknowledged (decode_bytes out.now.dgram)) } }
         ensures terminal { self.new.terminal ≡ self.old.terminal }
     {
@@ -138,9 +138,9 @@ impl<N: ReadyWire, W: Write> Wire for ProgressWire<N, W> {
 
 impl<N: ReadyWire, W: Write> ReadyWire for ProgressWire<N, W> {
     fn wait(&mut self, after: u16, until: Option<u64>) -> Ready
-        ensures log { Grows (N.log self.old.wire) (N.log self.new.wire) (waited after until result.port result.time result.settled ∷ []) }
+        ensures calls { Grows (N.calls self.old.wire) (N.calls self.new.wire) (waited after until result.port result.time result.settled ∷ []) }
         // The line is drawn if that is due at the time of the wire's clock.
-        ensures tally { self.new.tally ≡ looked result.time self.old.tally }
+        ensures tally { self.new.tally ≡ updated result.time self.old.tally }
         ensures shown { Draws (due_at result.time self.old.tally) (contents_of W.contents self.old.terminal) (contents_of W.contents self.new.terminal) }
     {
         let ready = self.wire.wait(after, until);

@@ -1,6 +1,6 @@
 ghost use Rattle.std.specs.Prelude.{◌≡◌, ◌-◌, max, true, Some, is_some};
 ghost use Rattle.tftp_packet.specs.Decode.{decode_bytes};
-ghost use Rattle.archive_progress.specs.Tally.{acknowledged, beginning, due_at, is_due, looked, may_draw, new_tally, progress_at};
+ghost use Rattle.archive_progress.specs.Tally.{acknowledged, beginning, due_at, is_due, updated, may_draw, new_tally, progress_at};
 
 use crate::limits::{DELAY, PAUSE};
 use crate::progress::Progress;
@@ -13,7 +13,7 @@ pub(crate) struct Tally {
     pub length: Option<u64>,
     /// How many blocks were acknowledged.
     pub blocks: u16,
-    /// When the transfer began: at the first look.
+    /// When the transfer began: at the first update.
     pub began: Option<u64>,
     /// When the line was drawn last, if it was.
     pub drawn: Option<u64>,
@@ -74,7 +74,7 @@ impl Tally {
         self.blocks = self.blocks.max(acknowledged(bytes));
     }
 
-    // When the transfer began, if one looks at this time.
+    // When the transfer began, if it is updated at this time.
     fn beginning(&self, time: u64) -> u64
         ensures { result ≡ beginning time self.now }
     {
@@ -104,10 +104,10 @@ impl Tally {
     }
 
     /// What the line has to show at this time, if it is to be drawn: once the transfer has run for `DELAY`, at most once
-    /// in `PAUSE`, and not after its end. The transfer begins at the first look.
-    pub(crate) fn look(&mut self, time: u64) -> Option<Progress>
+    /// in `PAUSE`, and not after its end. The transfer begins at the first update.
+    pub(crate) fn update(&mut self, time: u64) -> Option<Progress>
         ensures due { result ≡ due_at time self.old }
-        ensures noted { self.new ≡ looked time self.old }
+        ensures noted { self.new ≡ updated time self.old }
     {
         let progress = self.progress_at(time);
         let is_due = self.is_due(time);

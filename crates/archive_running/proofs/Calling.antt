@@ -6,15 +6,15 @@ use Rattle.tws_file.specs.declared.«ruleset».Ruleset.{Ruleset}
 use Rattle.archive_table.specs.Table.{Table, Maps, is_same}
 use Rattle.archive_table.specs.Keeper.{Keeping}
 use Rattle.archive_client.specs.Client.{Client, Operation, put, get, state_of}
-use Rattle.archive_turns.specs.declared.run_fault.RunFault.{RunFault}
-use Rattle.archive_turns.specs.Wire.{Entry}
-use Rattle.archive_turns.specs.Turn.{Receipt, datagram, nothing, fault, Server, Pass, IsTurn, IsRound, next_visit, turn_next, ready_next, ServesTurns}
-use Rattle.archive_turns.specs.Turn as turns
-use Rattle.archive_turns.specs.Run.{Run, RunAnswers, run_waited, run_received, run_turn, IsRunTurn, MakesRunTurns, Runs, RunStep, begin_opened, Begins, PutAfter, GetAfter, put_result, WritesGot}
-use Rattle.archive_turns.specs.Run as runs
-use Rattle.archive_turns.specs.declared.pace.Pace.{Pace}
-use Rattle.archive_turns.specs.Rounds.{asking, dallying, RoundAnswers, round_received, is_late, is_ready, round_goes, IsRunRound, has_ended, MakesRunRounds, Dallies, MakesDally, len_of, GetInRoundsAfter}
-use Rattle.archive_turns.specs.Rounds as rounds
+use Rattle.archive_runs.specs.declared.run_fault.RunFault.{RunFault}
+use Rattle.archive_wire.specs.Wire.{Entry, Receipt, datagram, nothing, fault}
+use Rattle.archive_server.specs.Turn.{Server, TurnOrRound, IsTurn, IsRound, next_visit, turn_next, ready_next, ServesTurns}
+use Rattle.archive_server.specs.Turn as turns
+use Rattle.archive_runs.specs.Run.{Run, RunAnswers, run_waited, run_received, run_turn, IsRunTurn, MakesRunTurns, Runs, RunStep, begin_opened, Begins, PutAfter, GetAfter, put_result, WritesGot}
+use Rattle.archive_runs.specs.Run as runs
+use Rattle.archive_runs.specs.declared.pace.Pace.{Pace}
+use Rattle.archive_runs.specs.Rounds.{asking, dallying, RoundAnswers, round_received, is_late, is_ready, round_goes, IsRunRound, has_ended, MakesRunRounds, Dallies, MakesDally, len_of, GetInRoundsAfter}
+use Rattle.archive_runs.specs.Rounds as rounds
 use Rattle.tftp_ends.specs.Ends.{Verdict}
 use Rattle.archive_model.specs.World.{Begun, server_endpoint}
 use Rattle.archive_theorem.specs.Headline.{IsOwn, AreOver}
@@ -26,7 +26,7 @@ use Rattle.archive_theorem.proofs.Keyed.{lookup-written}
 use Rattle.archive_running.specs.Members.{visit_members, late_members}
 use Rattle.archive_running.specs.Archive.{Archive, Brings, after_server, own_endpoint, after_client_turn, Moves, server_turns, server_rounds, server_restarts, client_begins, client_rounds, client_turns, Reaches}
 use Rattle.archive_running.specs.Archive as archive
-use Rattle.archive_running.specs.Calls.{Moment, IsReached, ServesAt, world_at, Meanwhile, still, others, LeavesServer, AfterPass, after_turn, after_round, PassesHappen, LeavesClient, RunMembers, turn_members, paced_members, RunStepHappens, RunsHappen, DalliesHappen, ClientAt, after_begun, PutHappens, GetHappens, PutInRoundsHappens, GetInRoundsHappens, PutWasTaken, GetWasWritten}
+use Rattle.archive_running.specs.Calls.{Moment, IsReached, ServesAt, world_at, Meanwhile, still, others, LeavesServer, AfterTurnOrRound, after_turn, after_round, ManyHappen, LeavesClient, RunMembers, turn_members, paced_members, RunStepHappens, RunsHappen, DalliesHappen, ClientAt, after_begun, PutHappens, GetHappens, PutInRoundsHappens, GetInRoundsHappens, PutWasTaken, GetWasWritten}
 use Rattle.archive_running.proofs.Running.{run-mirrors, run-sent, run-fetched}
 
 -- ---- others move
@@ -68,11 +68,11 @@ with_server a s k = record { server = s; clients = a.clients; begun = a.begun; t
 
 turn-moves : {old new : Server} {took : Bool} {calls : List Entry} {kept now : Option (List Keeping)} (t : IsTurn old new took calls kept now) (a : Archive) →
     a.server ≡ old.table → a.kept ≡ kept → Brings server_endpoint.host calls a →
-    Moves a (after_server new.table (next_visit (turn_next old) t.pass.answers old.table).taken calls now a)
-    (visit_members (turn_next old) t.pass.answers old.table ++ late_members t.pass.late)
+    Moves a (after_server new.table (next_visit (turn_next old) t.visits.answers old.table).taken calls now a)
+    (visit_members (turn_next old) t.visits.answers old.table ++ late_members t.visits.late)
 turn-moves {old} {new} {took} {calls} {kept} {now} t a server keeper brings =
-    let visit = next_visit (turn_next old) t.pass.answers old.table in
-    let added = visit_members (turn_next old) t.pass.answers old.table ++ late_members t.pass.late in
+    let visit = next_visit (turn_next old) t.visits.answers old.table in
+    let added = visit_members (turn_next old) t.visits.answers old.table ++ late_members t.visits.late in
     let Moved : Table → Option (List Keeping) → Type 0 =
     λ s k. Brings server_endpoint.host calls (with_server a s k) → Moves (with_server a s k) (after_server new.table visit.taken calls now a) added in
     let here : Moved old.table kept = λ b. server_turns (with_server a old.table kept) old.last old.timers old.per_host new took calls now t b in
@@ -81,11 +81,11 @@ turn-moves {old} {new} {took} {calls} {kept} {now} t a server keeper brings =
 
 round-moves : {old new : Server} {took : Bool} {calls : List Entry} {kept now : Option (List Keeping)} (t : IsRound old new took calls kept now) (a : Archive) →
     a.server ≡ old.table → a.kept ≡ kept → Brings server_endpoint.host calls a →
-    Moves a (after_server new.table (next_visit (ready_next t.ready old.table) t.pass.answers old.table).taken calls now a)
-    (visit_members (ready_next t.ready old.table) t.pass.answers old.table ++ late_members t.pass.late)
+    Moves a (after_server new.table (next_visit (ready_next t.ready old.table) t.visits.answers old.table).taken calls now a)
+    (visit_members (ready_next t.ready old.table) t.visits.answers old.table ++ late_members t.visits.late)
 round-moves {old} {new} {took} {calls} {kept} {now} t a server keeper brings =
-    let visit = next_visit (ready_next t.ready old.table) t.pass.answers old.table in
-    let added = visit_members (ready_next t.ready old.table) t.pass.answers old.table ++ late_members t.pass.late in
+    let visit = next_visit (ready_next t.ready old.table) t.visits.answers old.table in
+    let added = visit_members (ready_next t.ready old.table) t.visits.answers old.table ++ late_members t.visits.late in
     let Moved : Table → Option (List Keeping) → Type 0 =
     λ s k. Brings server_endpoint.host calls (with_server a s k) → Moves (with_server a s k) (after_server new.table visit.taken calls now a) added in
     let here : Moved old.table kept = λ b. server_rounds (with_server a old.table kept) old.last old.timers old.per_host new took calls now t b in
@@ -99,16 +99,16 @@ module _ (texts : List (List ℕ)) (maps : Maps) where
       let same = server-left waits in
       (meanwhile-reached texts maps waits there.0, same.0 ∙ there.1, same.1 ∙ there.2)
 
-  module _ (Is : Pass) (after : AfterPass Is)
+  module _ (Is : TurnOrRound) (after : AfterTurnOrRound Is)
       (one : (old new : Server) (took : Bool) (calls : List Entry) (kept now : Option (List Keeping)) (t : Is old new took calls kept now) (m : Moment) →
       Brings server_endpoint.host calls m.archive → ServesAt texts maps old.table kept m → ServesAt texts maps new.table now
       (after old new took calls kept now t m)) where
-    passes-serve : {count : ℕ} {old new : Server} {taken : ℕ} {calls : List Entry} {kept now : Option (List Keeping)}
+    many-serve : {count : ℕ} {old new : Server} {taken : ℕ} {calls : List Entry} {kept now : Option (List Keeping)}
         (all : ServesTurns Is count old new taken calls kept now) {first last : Moment} →
-        PassesHappen Is after all first last → ServesAt texts maps old.table kept first → ServesAt texts maps new.table now last
-    passes-serve (turns.none s kept) waits there = serves-meanwhile s.table kept waits there
-    passes-serve (turns.more {mid = mid} {new = new} {added = added} {between = between} {now = now} took earlier made) h there =
-        serves-meanwhile new.table now h.others (one mid new took added between now made h.moment h.brings (passes-serve earlier h.before there))
+        ManyHappen Is after all first last → ServesAt texts maps old.table kept first → ServesAt texts maps new.table now last
+    many-serve (turns.none s kept) waits there = serves-meanwhile s.table kept waits there
+    many-serve (turns.more {mid = mid} {new = new} {added = added} {between = between} {now = now} took earlier made) h there =
+        serves-meanwhile new.table now h.others (one mid new took added between now made h.moment h.brings (many-serve earlier h.before there))
 
   turn-serves : (old new : Server) (took : Bool) (calls : List Entry) (kept now : Option (List Keeping)) (t : IsTurn old new took calls kept now) (m : Moment) →
       Brings server_endpoint.host calls m.archive → ServesAt texts maps old.table kept m → ServesAt texts maps new.table now
@@ -123,13 +123,13 @@ module _ (texts : List (List ℕ)) (maps : Maps) where
 
   pub turns-serve : {count : ℕ} {old new : Server} {taken : ℕ} {calls : List Entry} {kept now : Option (List Keeping)}
       (all : ServesTurns IsTurn count old new taken calls kept now) {first last : Moment} →
-      PassesHappen IsTurn after_turn all first last → ServesAt texts maps old.table kept first → ServesAt texts maps new.table now last
-  turns-serve = passes-serve IsTurn after_turn turn-serves
+      ManyHappen IsTurn after_turn all first last → ServesAt texts maps old.table kept first → ServesAt texts maps new.table now last
+  turns-serve = many-serve IsTurn after_turn turn-serves
 
   pub rounds-serve : {count : ℕ} {old new : Server} {taken : ℕ} {calls : List Entry} {kept now : Option (List Keeping)}
       (all : ServesTurns IsRound count old new taken calls kept now) {first last : Moment} →
-      PassesHappen IsRound after_round all first last → ServesAt texts maps old.table kept first → ServesAt texts maps new.table now last
-  rounds-serve = passes-serve IsRound after_round round-serves
+      ManyHappen IsRound after_round all first last → ServesAt texts maps old.table kept first → ServesAt texts maps new.table now last
+  rounds-serve = many-serve IsRound after_round round-serves
 
 -- ---- a client
 

@@ -7,13 +7,13 @@ use Rattle.tws_file.specs.declared.«ruleset».Ruleset.TheVariants.{Lynx, Ms}
 use Rattle.tws_best.specs.Best.{Collected, IsCollected}
 use Rattle.archive_table.specs.Table.{Table, Maps, Taken, TableAnswer, Grant, all, no_memory, unkept, transfer_at, table_datagram}
 use Rattle.archive_table.specs.Keeper.{Keeping, KeepsOne, KeepsMaps, FailsKeepOf, StepKeeps}
-use Rattle.archive_turns.specs.Turn.{Replies, Receipt, datagram, nothing, fault, Answers, Asks, is_usable, request_used, request_spared, request_admitted, request_received, received_asks, transfer_received, KeepsAsked, Walk, walk_on, next_visit, next_asks, IsPass}
-use Rattle.archive_turns.specs.Timers.{timers_after, restart}
-use Rattle.archive_turns.specs.Wire.{Entry}
-use Rattle.archive_turns.specs.declared.mode.Mode.{Mode}
-use Rattle.archive_turns.specs.declared.next.Next.{Next}
-use Rattle.archive_turns.specs.declared.next.Next.TheVariants as next
-use Rattle.archive_turns.specs.declared.timer.Timer.{Timer}
+use Rattle.archive_server.specs.Turn.{Answers, Asks, is_usable, request_used, request_spared, request_admitted, request_received, received_asks, transfer_received, KeepsAsked, Walk, walk_on, next_visit, next_asks, IsTurnIn}
+use Rattle.archive_wire.specs.Wire.{Replies, Receipt, datagram, nothing, fault, Entry}
+use Rattle.archive_server.specs.Timers.{timers_after, restart}
+use Rattle.archive_server.specs.declared.mode.Mode.{Mode}
+use Rattle.archive_server.specs.declared.next.Next.{Next}
+use Rattle.archive_server.specs.declared.next.Next.TheVariants as next
+use Rattle.archive_server.specs.declared.timer.Timer.{Timer}
 use Rattle.archive_model.specs.Restarts.{HasKept, IsTextAt, HaveOwnRuleset}
 use Rattle.archive_theorem.proofs.Loading.{step-stays_kept, loads-the_same}
 use Rattle.archive_theorem.proofs.Remaining.{decoded_leaves, timeout_leaves, found_takes}
@@ -133,9 +133,9 @@ ends_kept asks old mid new kept now keeps fine is rules has =
     subst (KeptIn now) (sym is) (asked-kept asks old mid kept now keeps fine (subst HaveOwnRuleset is rules) has)
 
 -- after a turn or a round the keeper has what the server has
-pub pass-kept : (mode : Mode) (n : Next) (old new : Table) (timers left : List Timer) (took : Bool) (calls : List Entry) (kept now : Option (List Keeping)) →
-    IsPass mode n old new timers left took calls kept now → HaveOwnRuleset new.maps → KeptIn kept old.maps → KeptIn now new.maps
-pass-kept mode n old new timers left took calls kept now p rules has =
+pub turn-kept : (mode : Mode) (n : Next) (old new : Table) (timers left : List Timer) (took : Bool) (calls : List Entry) (kept now : Option (List Keeping)) →
+    IsTurnIn mode n old new timers left took calls kept now → HaveOwnRuleset new.maps → KeptIn kept old.maps → KeptIn now new.maps
+turn-kept mode n old new timers left took calls kept now p rules has =
     let v = next_visit n p.answers old in
     ends_kept (next_asks n p.answers old) old.maps v.server.maps new.maps kept now p.keeps
     (visit_fine old n p.answers)

@@ -12,14 +12,14 @@ use Rattle.tws_best.proofs.Texts.{file_from, is_text, file_solves, file_rules}
 use Rattle.archive_table.specs.Keeper.{Keeping, keeping, IsLoaded}
 use Rattle.archive_table.specs.Table.{Merges, all, empty_maps}
 use Rattle.archive_client.specs.Client.{Operation, put, get, client_start, is_over, request_out}
-use Rattle.archive_turns.specs.declared.limits.TheConstants.{QUIET_TURNS}
-use Rattle.archive_turns.specs.Wire.{Entry, waited, Grows}
-use Rattle.archive_turns.specs.declared.mode.Mode.{Mode}
-use Rattle.archive_turns.specs.declared.mode.Mode.TheVariants.{Round}
-use Rattle.archive_turns.specs.Timers.{timers_after, is_quiet, late_ports, earliest}
-use Rattle.archive_turns.specs.Turn.{datagram, Answers, Server, IsRound, Visited, Walk, KeepsAsked, next_asks, next_admits, next_visit, ready_next, walk_after, noted_or}
-use Rattle.archive_turns.specs.Run.{Run, RunAnswers, IsRunTurn, run_turn, Runs, begin_opened, RunsPut}
-use Rattle.archive_turns.specs.Run as runs
+use Rattle.archive_wire.specs.declared.limits.TheConstants.{QUIET_TURNS}
+use Rattle.archive_wire.specs.Wire.{Entry, waited, Grows, datagram}
+use Rattle.archive_server.specs.declared.mode.Mode.{Mode}
+use Rattle.archive_server.specs.declared.mode.Mode.TheVariants.{Round}
+use Rattle.archive_server.specs.Timers.{timers_after, is_quiet, late_ports, earliest}
+use Rattle.archive_server.specs.Turn.{Answers, Server, IsRound, Visited, Walk, KeepsAsked, next_asks, next_admits, next_visit, ready_next, walk_after, noted_or}
+use Rattle.archive_runs.specs.Run.{Run, RunAnswers, IsRunTurn, run_turn, Runs, begin_opened, RunsPut}
+use Rattle.archive_runs.specs.Run as runs
 use Rattle.archive_model.specs.World.{server_endpoint, start}
 use Rattle.archive_theorem.specs.Samples.{sample_file, sample_maps}
 use Rattle.archive_theorem.specs.Traces.{Member, starts, loads, trace_from}
@@ -33,7 +33,7 @@ use Rattle.archive_running.specs.Members.{visit_members, late_members, client_me
 use Rattle.archive_running.specs.Archive.{Archive, idle, server_in, after_server, after_begin, after_client_turn, after_restart, LoadsKept, Moves, server_rounds, server_restarts, client_begins, client_turns, Reaches, reported, more, IsByRounds, CanRestart}
 use Rattle.archive_running.specs.Calls.{Moment, world_at, then, after_begun, RunTurnsHappen, PutCanHappen}
 use Rattle.archive_running.specs.Calls as calls
-use Rattle.archive_running.proofs.Sampling.{brings_at, a_pass}
+use Rattle.archive_running.proofs.Sampling.{brings_at, a_visit}
 
 -- ---- one round, in which no port times out
 
@@ -68,7 +68,7 @@ a_round port a answers now merges keeps late let_in =
       time = 0;
       settled = None;
       others = (visited port a answers).calls ++ (ended port a answers).calls;
-      pass = a_pass mode (ready_next (Some port) a.server) a.server answers a.kept now merges keeps late let_in;
+      visits = a_visit mode (ready_next (Some port) a.server) a.server answers a.kept now merges keeps late let_in;
       calls_are = refl;
       last = refl;
       per_host = refl;
@@ -233,13 +233,13 @@ put_call =
     record {
       begun = Ok (asking hundred);
       mid = Some begin_calls;
-      begins = record { port = Some 5000; replies = record { sent = true; closed = true }; result_is = refl; log = grows-by [] begin_calls };
+      begins = record { port = Some 5000; replies = record { sent = true; closed = true }; result_is = refl; grows = grows-by [] begin_calls };
       ends = record {
         last = over;
         made = record {
           calls = [] ++ first_calls ++ last_calls;
           runs = record { made = 2; few = omega arith; runs = put_runs; ends = inl refl };
-          log = grows-by begin_calls ([] ++ first_calls ++ last_calls);
+          grows = grows-by begin_calls ([] ++ first_calls ++ last_calls);
         };
         result_is = refl;
       };

@@ -11,12 +11,11 @@ use Rattle.archive_table.specs.Keeper.{Keeping}
 use Rattle.archive_client.specs.declared.state.State.{State}
 use Rattle.archive_client.specs.declared.state.State.TheVariants as state
 use Rattle.archive_client.specs.Client.{Operation, Client, client_start, client_datagram, client_timeout, state_of, file_or_client, is_too_long}
-use Rattle.archive_turns.specs.declared.limits.TheConstants.{QUIET_TURNS}
-use Rattle.archive_turns.specs.Wire.{Entry}
-use Rattle.archive_turns.specs.Turn.{Replies, Receipt, datagram, nothing, fault}
-use Rattle.archive_turns.specs.Run.{Run, IsRunTurn, run_received, run_waited, begin_sized, begin_opened, put_result, WritesFetched, WritesGot}
-use Rattle.archive_turns.specs.declared.pace.Pace.{Pace}
-use Rattle.archive_turns.specs.Rounds.{RoundAnswers, round_received, round_goes, run_round, is_late, is_ready, IsRunRound}
+use Rattle.archive_wire.specs.declared.limits.TheConstants.{QUIET_TURNS}
+use Rattle.archive_wire.specs.Wire.{Entry, Replies, Receipt, datagram, nothing, fault}
+use Rattle.archive_runs.specs.Run.{Run, IsRunTurn, run_received, run_waited, begin_sized, begin_opened, put_result, WritesFetched, WritesGot}
+use Rattle.archive_runs.specs.declared.pace.Pace.{Pace}
+use Rattle.archive_runs.specs.Rounds.{RoundAnswers, round_received, round_goes, run_round, is_late, is_ready, IsRunRound}
 use Rattle.archive_model.specs.World.{Datagram, World, server_endpoint, start_from, start, run_from, AllMayHappen, AllMerged}
 use Rattle.archive_theorem.specs.Headline.{IsOwn, AreOver, HasOwnPorts, ClientsHeadline, Headline, SentOnce, IsFinishedGet}
 use Rattle.archive_theorem.specs.Traces.{Member, starts, loads, trace_from, trace_steps, AllDeedsMerged}
@@ -31,7 +30,7 @@ use Rattle.archive_running.specs.Archive.{Archive, idle, IsStrangers, Brings, ow
 use Rattle.archive_running.proofs.Fitting.{all-may, all-merged}
 use Rattle.archive_running.proofs.Showing.{Shows, with_client, shows-mirrors}
 use Rattle.archive_running.proofs.Coming.{Makes, IsBrought, begin-makes, client-makes, waits-makes, restart-makes}
-use Rattle.archive_running.proofs.Restarting.{KeptIn, pass-kept, restart-same}
+use Rattle.archive_running.proofs.Restarting.{KeptIn, turn-kept, restart-same}
 use Rattle.archive_running.proofs.Serving.{Brought, makes-then, sent-sendings, turn-makes, round-makes}
 
 -- ---- a turn of a client
@@ -225,11 +224,11 @@ module _ (texts : List (List ℕ)) (maps : Maps) (over : AreOver texts maps) whe
   moved {members} before (server_turns a last timers per_host new took calls now t brings) =
       served a _ members _ before
       (turn-makes a (trace_from members first) last timers per_host new took calls now t before.makes.shows (by_places server_endpoint.host calls a brings))
-      (λ rules. pass-kept _ _ a.server new.table _ _ took calls a.kept now t.pass rules before.kept)
+      (λ rules. turn-kept _ _ a.server new.table _ _ took calls a.kept now t.visits rules before.kept)
   moved {members} before (server_rounds a last timers per_host new took calls now t brings) =
       served a _ members _ before
       (round-makes a (trace_from members first) last timers per_host new took calls now t before.makes.shows (by_places server_endpoint.host calls a brings))
-      (λ rules. pass-kept _ _ a.server new.table _ _ took _ a.kept now t.pass rules before.kept)
+      (λ rules. turn-kept _ _ a.server new.table _ _ took _ a.kept now t.visits rules before.kept)
   moved {members} before (server_restarts a maps now has) = restarted a members maps now has before
   moved {members} before (client_begins a host operation port replies r away is) =
       asked a _ members _ before refl refl

@@ -9,17 +9,17 @@ use Rattle.tws_file.specs.declared.«ruleset».Ruleset.TheVariants.{Lynx}
 use Rattle.tws_best.specs.Best.{collection_text}
 use Rattle.archive_table.specs.Keeper.{Keeping}
 use Rattle.archive_table.specs.Table.{Table, Merges, all, port_above, empty_maps}
-use Rattle.archive_table.proofs.Merged.{keeps_all}
+use Rattle.archive_table.proofs.Grants.{keeps_all}
 use Rattle.archive_client.specs.declared.state.State.TheVariants as state
 use Rattle.archive_client.specs.Client.{Operation, put, get, client_start, request_out, state_of, file_or_client}
-use Rattle.archive_turns.specs.declared.limits.TheConstants.{QUIET_TURNS}
-use Rattle.archive_turns.specs.Wire.{Entry}
-use Rattle.archive_turns.specs.declared.mode.Mode.{Mode}
-use Rattle.archive_turns.specs.declared.mode.Mode.TheVariants.{Turn}
-use Rattle.archive_turns.specs.declared.next.Next.{Next}
-use Rattle.archive_turns.specs.Timers.{timers_after, is_quiet, late_ports}
-use Rattle.archive_turns.specs.Turn.{IsPass, Replies, datagram, Answers, Server, IsTurn, Visited, KeepsAsked, next_asks, next_admits, next_visit, turn_next, walk_after, noted}
-use Rattle.archive_turns.specs.Run.{Run, RunAnswers, run_turn, begin_opened}
+use Rattle.archive_wire.specs.declared.limits.TheConstants.{QUIET_TURNS}
+use Rattle.archive_wire.specs.Wire.{Entry, Replies, datagram}
+use Rattle.archive_server.specs.declared.mode.Mode.{Mode}
+use Rattle.archive_server.specs.declared.mode.Mode.TheVariants.{Turn}
+use Rattle.archive_server.specs.declared.next.Next.{Next}
+use Rattle.archive_server.specs.Timers.{timers_after, is_quiet, late_ports}
+use Rattle.archive_server.specs.Turn.{IsTurnIn, Answers, Server, IsTurn, Visited, KeepsAsked, next_asks, next_admits, next_visit, turn_next, walk_after, noted}
+use Rattle.archive_runs.specs.Run.{Run, RunAnswers, run_turn, begin_opened}
 use Rattle.archive_model.specs.World.{Datagram, server_endpoint, start}
 use Rattle.archive_theorem.specs.Traces.{Member, starts, trace_from}
 use Rattle.archive_theorem.specs.Headline.{HasOwnPorts}
@@ -45,16 +45,16 @@ brings_at host calls a x n come at d among =
     inl (Has-contains a.net d (record { position = n; is = at ∙ ap Some (sym same) }))
 
 -- one pass in which no port times out
-abbrev pub a_pass : (mode : Mode) (next : Next) (table : Table) (answers : Answers) (kept now : Option (List Keeping)) →
+abbrev pub a_visit : (mode : Mode) (next : Next) (table : Table) (answers : Answers) (kept now : Option (List Keeping)) →
     Merges (next_visit next answers table).taken table.maps (next_visit next answers table).server.maps →
     KeepsAsked (next_asks next answers table) table.maps (next_visit next answers table).server.maps kept now →
     [] ≡ late_ports mode (is_quiet (next_visit next answers table).change) (timers_after mode (next_visit next answers table).change [])
     (next_visit next answers table).server →
     answers.admitted ≡ next_admits mode next [] answers.receipt table →
-    IsPass mode next table (walk_after mode (next_visit next answers table) [] []).server []
+    IsTurnIn mode next table (walk_after mode (next_visit next answers table) [] []).server []
     (walk_after mode (next_visit next answers table) [] []).timers (is_some (next_visit next answers table).taken)
     ((next_visit next answers table).calls ++ (walk_after mode (next_visit next answers table) [] []).calls) kept now
-a_pass mode next table answers kept now merges keeps late let_in =
+a_visit mode next table answers kept now merges keeps late let_in =
     record {
       answers = answers;
       admitted = let_in;
@@ -102,7 +102,7 @@ abbrev a_turn : (a : Archive) (answers : Answers) → Merges (visited a answers)
     IsTurn (before a) (after a answers) (is_some (visited a answers).taken) (calls_of a answers) nothing_kept nothing_kept
 a_turn a answers merges keeps late let_in =
     record {
-      pass = a_pass Turn (turn_next (before a)) a.server answers nothing_kept nothing_kept merges keeps late let_in;
+      visits = a_visit Turn (turn_next (before a)) a.server answers nothing_kept nothing_kept merges keeps late let_in;
       last = refl;
       per_host = refl;
     }

@@ -7,14 +7,14 @@ use Rattle.tftp_packet.specs.declared.out.Out.{Out}
 use Rattle.tftp_ends.specs.Ends.{Verdict}
 use Rattle.archive_table.specs.Table.{Table, Transfer, Taken, Merges, transfer_at, port_above, table_timeout, table_request, table_datagram}
 use Rattle.archive_table.specs.Keeper.{Keeping}
-use Rattle.archive_turns.specs.declared.mode.Mode.{Mode}
-use Rattle.archive_turns.specs.declared.mode.Mode.TheVariants.{Turn, Round}
-use Rattle.archive_turns.specs.declared.next.Next.{Next}
-use Rattle.archive_turns.specs.declared.next.Next.TheVariants as next
-use Rattle.archive_turns.specs.declared.timer.Timer.{Timer}
-use Rattle.archive_turns.specs.Timers.{timers_after, restart}
-use Rattle.archive_turns.specs.Wire.{Entry}
-use Rattle.archive_turns.specs.Turn.{Replies, Receipt, datagram, nothing, fault, Answers, Visited, sendings, step_calls, transfer_received, is_usable, request_used, request_spared, request_admitted, request_received, Walk, walk_on, walk_after, next_visit, next_of, port_next, ready_next, turn_next, IsPass, Server, IsTurn, IsRound}
+use Rattle.archive_server.specs.declared.mode.Mode.{Mode}
+use Rattle.archive_server.specs.declared.mode.Mode.TheVariants.{Turn, Round}
+use Rattle.archive_server.specs.declared.next.Next.{Next}
+use Rattle.archive_server.specs.declared.next.Next.TheVariants as next
+use Rattle.archive_server.specs.declared.timer.Timer.{Timer}
+use Rattle.archive_server.specs.Timers.{timers_after, restart}
+use Rattle.archive_wire.specs.Wire.{Entry, Replies, Receipt, datagram, nothing, fault, sendings}
+use Rattle.archive_server.specs.Turn.{Answers, Visited, step_calls, transfer_received, is_usable, request_used, request_spared, request_admitted, request_received, Walk, walk_on, walk_after, next_visit, next_of, port_next, ready_next, turn_next, IsTurnIn, Server, IsTurn, IsRound}
 use Rattle.archive_model.specs.World.{Datagram, World, server_endpoint, taken_with}
 use Rattle.archive_theorem.specs.Traces.{Member, server_waits_long, after_deed, trace_from}
 use Rattle.archive_model.proofs.Places.{Has, Has-prefix, either}
@@ -239,11 +239,11 @@ keeps-makes now s took calls a ms w made =
     }
 
 -- a visit, and the time-outs after it
-pass-makes : (a : Archive) (w : World) (mode : Mode) (n : Next) (new : Table) (timers left : List Timer) (took : Bool) (calls : List Entry)
-    (now : Option (List Keeping)) (p : IsPass mode n a.server new timers left took calls a.kept now) →
+visit-makes : (a : Archive) (w : World) (mode : Mode) (n : Next) (new : Table) (timers left : List Timer) (took : Bool) (calls : List Entry)
+    (now : Option (List Keeping)) (p : IsTurnIn mode n a.server new timers left took calls a.kept now) →
     IsFit n a.server → Shows a w → Brought server_endpoint.host calls a →
     Makes (after_server new (next_visit n p.answers a.server).taken calls now a) (visit_members n p.answers a.server ++ late_members p.late) w
-pass-makes a w mode n new timers left took calls now p fit h brought =
+visit-makes a w mode n new timers left took calls now p fit h brought =
     let v = next_visit n p.answers a.server in
     let end = walk_after mode v p.late timers in
     let came : Brought server_endpoint.host v.calls a =
@@ -266,10 +266,10 @@ pub turn-makes : (a : Archive) (w : World) (last : ℕ) (timers : List Timer) (p
     (now : Option (List Keeping)) (t : IsTurn (server_in last timers per_host a) new took calls a.kept now) →
     Shows a w → Brought server_endpoint.host calls a →
     let n = turn_next (server_in last timers per_host a) in
-    Makes (after_server new.table (next_visit n t.pass.answers a.server).taken calls now a)
-    (visit_members n t.pass.answers a.server ++ late_members t.pass.late) w
+    Makes (after_server new.table (next_visit n t.visits.answers a.server).taken calls now a)
+    (visit_members n t.visits.answers a.server ++ late_members t.visits.late) w
 turn-makes a w last timers per_host new took calls now t h brought =
-    pass-makes a w Turn (turn_next (server_in last timers per_host a)) new.table timers new.timers took calls now t.pass
+    visit-makes a w Turn (turn_next (server_in last timers per_host a)) new.table timers new.timers took calls now t.visits
     (turn_fits last (port_above last a.server) a.server refl h.apart) h brought
 
 -- a port that is not the request port
@@ -287,11 +287,11 @@ pub round-makes : (a : Archive) (w : World) (last : ℕ) (timers : List Timer) (
     (calls : List Entry) (now : Option (List Keeping)) (t : IsRound (server_in last timers per_host a) new took calls a.kept now) →
     Shows a w → Brought server_endpoint.host calls a →
     let n = ready_next t.ready a.server in
-    Makes (after_server new.table (next_visit n t.pass.answers a.server).taken calls now a)
-    (visit_members n t.pass.answers a.server ++ late_members t.pass.late) w
+    Makes (after_server new.table (next_visit n t.visits.answers a.server).taken calls now a)
+    (visit_members n t.visits.answers a.server ++ late_members t.visits.late) w
 round-makes a w last timers per_host new took calls now t h brought =
     let n = ready_next t.ready a.server in
     let others : Brought server_endpoint.host t.others a = subst (λ (l : List Entry). Brought server_endpoint.host l a) t.calls_are brought in
-    let made = pass-makes a w (Round t.time t.settled per_host) n new.table timers new.timers took t.others now t.pass (ready_fits t.ready a.server) h others in
-    let make : List Entry → Archive = λ l. after_server new.table (next_visit n t.pass.answers a.server).taken l now a in
-    subst (λ (l : List Entry). Makes (make l) (visit_members n t.pass.answers a.server ++ late_members t.pass.late) w) (sym t.calls_are) made
+    let made = visit-makes a w (Round t.time t.settled per_host) n new.table timers new.timers took t.others now t.visits (ready_fits t.ready a.server) h others in
+    let make : List Entry → Archive = λ l. after_server new.table (next_visit n t.visits.answers a.server).taken l now a in
+    subst (λ (l : List Entry). Makes (make l) (visit_members n t.visits.answers a.server ++ late_members t.visits.late) w) (sym t.calls_are) made

@@ -10,12 +10,12 @@ use Rattle.archive_table.specs.Table.{Table, Maps, Taken, empty_maps, is_same}
 use Rattle.archive_table.specs.Keeper.{Keeping, LoadedFrom}
 use Rattle.archive_client.specs.declared.state.State.TheVariants as state
 use Rattle.archive_client.specs.Client.{Client, Operation, state_of, file_or_client}
-use Rattle.archive_turns.specs.Wire.{Entry}
-use Rattle.archive_turns.specs.declared.timer.Timer.{Timer}
-use Rattle.archive_turns.specs.Turn.{Replies, Server, IsTurn, IsRound, next_visit, turn_next, ready_next}
-use Rattle.archive_turns.specs.Run.{Run, begin_opened, IsRunTurn}
-use Rattle.archive_turns.specs.declared.pace.Pace.{Pace}
-use Rattle.archive_turns.specs.Rounds.{IsRunRound}
+use Rattle.archive_wire.specs.Wire.{Entry, Replies}
+use Rattle.archive_server.specs.declared.timer.Timer.{Timer}
+use Rattle.archive_server.specs.Turn.{Server, IsTurn, IsRound, next_visit, turn_next, ready_next}
+use Rattle.archive_runs.specs.Run.{Run, begin_opened, IsRunTurn}
+use Rattle.archive_runs.specs.declared.pace.Pace.{Pace}
+use Rattle.archive_runs.specs.Rounds.{IsRunRound}
 use Rattle.archive_model.specs.World.{Datagram, Begun, World, server_endpoint, given, taken_with, start}
 use Rattle.archive_theorem.specs.Headline.{HasOwnPorts, IsFinishedGet}
 use Rattle.archive_model.specs.Restarts.{HasKept, AreAlike}
@@ -128,9 +128,9 @@ server_in last timers per_host a = record { table = a.server; last = last; timer
 -- fails sends nothing and leaves no client, so it is not a move.
 pub data Moves : (old new : Archive) → List Member → Type 0 where
   -- the server makes a turn; the port that it visited last, its timers and its limit may be any
-  server_turns : (a : Archive) (last : ℕ) (timers : List Timer) (per_host : ℕ) (new : Server) (took : Bool) (calls : List Entry) (now : Option (List Keeping)) (t : IsTurn (server_in last timers per_host a) new took calls a.kept now) → Brings server_endpoint.host calls a → Moves a (after_server new.table (next_visit (turn_next (server_in last timers per_host a)) t.pass.answers a.server).taken calls now a) (visit_members (turn_next (server_in last timers per_host a)) t.pass.answers a.server ++ late_members t.pass.late)
+  server_turns : (a : Archive) (last : ℕ) (timers : List Timer) (per_host : ℕ) (new : Server) (took : Bool) (calls : List Entry) (now : Option (List Keeping)) (t : IsTurn (server_in last timers per_host a) new took calls a.kept now) → Brings server_endpoint.host calls a → Moves a (after_server new.table (next_visit (turn_next (server_in last timers per_host a)) t.visits.answers a.server).taken calls now a) (visit_members (turn_next (server_in last timers per_host a)) t.visits.answers a.server ++ late_members t.visits.late)
   -- the server makes a round
-  server_rounds : (a : Archive) (last : ℕ) (timers : List Timer) (per_host : ℕ) (new : Server) (took : Bool) (calls : List Entry) (now : Option (List Keeping)) (t : IsRound (server_in last timers per_host a) new took calls a.kept now) → Brings server_endpoint.host calls a → Moves a (after_server new.table (next_visit (ready_next t.ready a.server) t.pass.answers a.server).taken calls now a) (visit_members (ready_next t.ready a.server) t.pass.answers a.server ++ late_members t.pass.late)
+  server_rounds : (a : Archive) (last : ℕ) (timers : List Timer) (per_host : ℕ) (new : Server) (took : Bool) (calls : List Entry) (now : Option (List Keeping)) (t : IsRound (server_in last timers per_host a) new took calls a.kept now) → Brings server_endpoint.host calls a → Moves a (after_server new.table (next_visit (ready_next t.ready a.server) t.visits.answers a.server).taken calls now a) (visit_members (ready_next t.ready a.server) t.visits.answers a.server ++ late_members t.visits.late)
   server_restarts : (a : Archive) (maps : Maps) (now : Option (List Keeping)) → LoadsKept a.kept now a.server.maps maps → Moves a (after_restart maps now a) (does loads ∷ [])
   -- an operation begins on another host than the server's
   client_begins : (a : Archive) (host : ℕ) (operation : Operation) (port : Option ℕ) (replies : Replies) (r : Run) → host ≢ server_endpoint.host → (begin_opened port server_endpoint operation replies).result ≡ Ok r → Moves a (after_begin host operation r (begin_opened port server_endpoint operation replies).calls a) (does (starts (own_endpoint host r) operation) ∷ [])

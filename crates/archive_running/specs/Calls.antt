@@ -8,14 +8,14 @@ use Rattle.tws_file.specs.declared.«ruleset».Ruleset.{Ruleset}
 use Rattle.archive_table.specs.Table.{Table, Maps, empty_maps, is_same}
 use Rattle.archive_table.specs.Keeper.{Keeping}
 use Rattle.archive_client.specs.Client.{Client, Operation, put, get, is_over}
-use Rattle.archive_turns.specs.declared.run_fault.RunFault.{RunFault}
-use Rattle.archive_turns.specs.Wire.{Entry}
-use Rattle.archive_turns.specs.Turn.{Server, Pass, IsTurn, IsRound, next_visit, turn_next, ready_next, ServesTurns, none, more}
-use Rattle.archive_turns.specs.declared.pace.Pace.{Pace}
-use Rattle.archive_turns.specs.Run.{Run, RunStep, IsRunTurn, MakesRunTurns, Runs, begin_opened, Begins, PutAfter, GetAfter, RunsPut}
-use Rattle.archive_turns.specs.Run as run
-use Rattle.archive_turns.specs.Rounds.{asking, IsRunRound, has_ended, MakesRunRounds, Dallies, GetInRoundsAfter}
-use Rattle.archive_turns.specs.Rounds as round
+use Rattle.archive_runs.specs.declared.run_fault.RunFault.{RunFault}
+use Rattle.archive_wire.specs.Wire.{Entry}
+use Rattle.archive_server.specs.Turn.{Server, TurnOrRound, IsTurn, IsRound, next_visit, turn_next, ready_next, ServesTurns, none, more}
+use Rattle.archive_runs.specs.declared.pace.Pace.{Pace}
+use Rattle.archive_runs.specs.Run.{Run, RunStep, IsRunTurn, MakesRunTurns, Runs, begin_opened, Begins, PutAfter, GetAfter, RunsPut}
+use Rattle.archive_runs.specs.Run as run
+use Rattle.archive_runs.specs.Rounds.{asking, IsRunRound, has_ended, MakesRunRounds, Dallies, GetInRoundsAfter}
+use Rattle.archive_runs.specs.Rounds as round
 use Rattle.archive_model.specs.World.{World, server_endpoint, start_from}
 use Rattle.archive_theorem.specs.Headline.{IsOwn, SentOnce}
 use Rattle.archive_theorem.specs.Traces.{Member, starts, trace_from}
@@ -56,19 +56,19 @@ abbrev pub LeavesServer : (old new : Archive) → Type 0
 LeavesServer old new = (new.server ≡ old.server) × (new.kept ≡ old.kept)
 
 -- the moment after a turn or round
-abbrev pub AfterPass : Pass → Type 0
-AfterPass Is =
+abbrev pub AfterTurnOrRound : TurnOrRound → Type 0
+AfterTurnOrRound Is =
     (old new : Server) (took : Bool) (calls : List Entry) (kept now : Option (List Keeping)) → Is old new took calls kept now → Moment → Moment
 
-abbrev pub after_turn : AfterPass IsTurn
+abbrev pub after_turn : AfterTurnOrRound IsTurn
 after_turn old new took calls kept now t m =
-    then (after_server new.table (next_visit (turn_next old) t.pass.answers old.table).taken calls now m.archive)
-    (visit_members (turn_next old) t.pass.answers old.table ++ late_members t.pass.late) m
+    then (after_server new.table (next_visit (turn_next old) t.visits.answers old.table).taken calls now m.archive)
+    (visit_members (turn_next old) t.visits.answers old.table ++ late_members t.visits.late) m
 
-abbrev pub after_round : AfterPass IsRound
+abbrev pub after_round : AfterTurnOrRound IsRound
 after_round old new took calls kept now t m =
-    then (after_server new.table (next_visit (ready_next t.ready old.table) t.pass.answers old.table).taken calls now m.archive)
-    (visit_members (ready_next t.ready old.table) t.pass.answers old.table ++ late_members t.pass.late) m
+    then (after_server new.table (next_visit (ready_next t.ready old.table) t.visits.answers old.table).taken calls now m.archive)
+    (visit_members (ready_next t.ready old.table) t.visits.answers old.table ++ late_members t.visits.late) m
 
 -- One more turn or round: it receives only what was sent before it or is a stranger's, and then others move.
 pub record PassHappens (Before : Moment → Type 0) (calls : List Entry) (after : Moment → Moment) (last : Moment) : Type 0 where
@@ -78,11 +78,11 @@ pub record PassHappens (Before : Moment → Type 0) (calls : List Entry) (after 
   pub others : Meanwhile LeavesServer (after moment) last
 
 -- These turns or rounds happen, one after another, from the first moment to the last.
-abbrev pub PassesHappen : (Is : Pass) → AfterPass Is → {count : ℕ} {old new : Server} {taken : ℕ} {calls : List Entry} {kept now : Option (List Keeping)} →
+abbrev pub ManyHappen : (Is : TurnOrRound) → AfterTurnOrRound Is → {count : ℕ} {old new : Server} {taken : ℕ} {calls : List Entry} {kept now : Option (List Keeping)} →
     ServesTurns Is count old new taken calls kept now → (first last : Moment) → Type 0
-PassesHappen Is after (none s kept) first last = Meanwhile LeavesServer first last
-PassesHappen Is after (more {mid = mid} {new = new} {added = added} {between = between} {now = now} took turns made) first last =
-    PassHappens (PassesHappen Is after turns first) added (after mid new took added between now made) last
+ManyHappen Is after (none s kept) first last = Meanwhile LeavesServer first last
+ManyHappen Is after (more {mid = mid} {new = new} {added = added} {between = between} {now = now} took turns made) first last =
+    PassHappens (ManyHappen Is after turns first) added (after mid new took added between now made) last
 
 -- ---- a call of a client
 

@@ -1,16 +1,16 @@
--- What the turns of archive_turns are in the world of archive_model: a datagram that is received and not dropped is a
+-- What the turns of archive_server and archive_runs are in the world of archive_model: a datagram that is received and not dropped is a
 -- `receives`, and a time-out is a `client_waits_long` or a `server_waits_long`.
 use Rattle.std.specs.Prelude.{ℕ, Bool, true, false, nat_le, List, [], ◌∷◌, map, flat_map, Option, None, Some}
 use Rattle.tftp_packet.specs.declared.endpoint.Endpoint.{Endpoint}
 use Rattle.tftp_ends.specs.Ends.{Verdict, granted, refused}
 use Rattle.archive_table.specs.Table.{Table, Maps, Grant, all, no_memory, empty_maps}
-use Rattle.archive_turns.specs.declared.next.Next.{Next}
-use Rattle.archive_turns.specs.declared.next.Next.TheVariants as next
-use Rattle.archive_turns.specs.Wire.{Entry, opened, closed, came, quiet, failed, sent, waited}
-use Rattle.archive_turns.specs.Turn.{Replies, Receipt, datagram, nothing, fault, Answers, is_usable}
-use Rattle.archive_turns.specs.Run.{Run, RunAnswers}
-use Rattle.archive_turns.specs.declared.pace.Pace.{Pace}
-use Rattle.archive_turns.specs.Rounds.{RoundAnswers, is_late, is_ready}
+use Rattle.archive_server.specs.declared.next.Next.{Next}
+use Rattle.archive_server.specs.declared.next.Next.TheVariants as next
+use Rattle.archive_wire.specs.Wire.{Entry, opened, closed, came, quiet, failed, sent, waited, Replies, Receipt, datagram, nothing, fault}
+use Rattle.archive_server.specs.Turn.{Answers, is_usable}
+use Rattle.archive_runs.specs.Run.{Run, RunAnswers}
+use Rattle.archive_runs.specs.declared.pace.Pace.{Pace}
+use Rattle.archive_runs.specs.Rounds.{RoundAnswers, is_late, is_ready}
 use Rattle.archive_model.specs.World.{Datagram, server_endpoint, datagram_of}
 use Rattle.archive_theorem.specs.Traces.{Deed, receives, client_waits_long, server_waits_long, Member}
 

@@ -8,19 +8,19 @@ ghost use Rattle.archive_client.specs.Client.{Client, state_of, file_or_client};
 ghost use Rattle.archive_client.specs.declared.state.State.TheVariants.{Sent};
 ghost use Rattle.tws_file.specs.declared.«ruleset».Ruleset.{Ruleset};
 ghost use Rattle.archive_table.specs.Keeper.{Keeping};
-ghost use Rattle.archive_turns.specs.declared.run_fault.RunFault.{RunFault};
-ghost use Rattle.archive_turns.specs.Wire.{Entry};
-ghost use Rattle.archive_turns.specs.Turn.{Server, IsTurn, IsRound, MakesTurns, MakesRounds};
-ghost use Rattle.archive_turns.specs.Run.{Run, put_result, WritesGot, RunsPut, RunsGet};
-ghost use Rattle.archive_turns.specs.Rounds.{dallying, MakesDally, PutsInRounds, GetsInRounds};
+ghost use Rattle.archive_runs.specs.declared.run_fault.RunFault.{RunFault};
+ghost use Rattle.archive_wire.specs.Wire.{Entry};
+ghost use Rattle.archive_server.specs.Turn.{Server, IsTurn, IsRound, MakesTurns, MakesRounds};
+ghost use Rattle.archive_runs.specs.Run.{Run, put_result, WritesGot, RunsPut, RunsGet};
+ghost use Rattle.archive_runs.specs.Rounds.{dallying, MakesDally, PutsInRounds, GetsInRounds};
 ghost use Rattle.archive_model.specs.World.{start_from, start, server_endpoint, AllMayHappen, AllMerged};
 ghost use Rattle.archive_theorem.specs.Headline.{IsOwn, AreOver, HasOwnPorts, ClientsHeadline, Headline, SentOnce};
 ghost use Rattle.archive_theorem.specs.Traces.{Member, trace_from, trace_steps};
 ghost use Rattle.archive_theorem.specs.Samples.{sample_file};
 ghost use Rattle.archive_running.specs.Archive.{Archive, Reaches, Mirrors, WritesFinished, CanReach, CanRestart};
-ghost use Rattle.archive_running.specs.Calls.{Moment, IsReached, ServesAt, world_at, PassesHappen, after_turn, after_round, DalliesHappen, ClientAt, PutHappens, GetHappens, PutInRoundsHappens, GetInRoundsHappens, PutWasTaken, GetWasWritten, PutCanHappen};
+ghost use Rattle.archive_running.specs.Calls.{Moment, IsReached, ServesAt, world_at, ManyHappen, after_turn, after_round, DalliesHappen, ClientAt, PutHappens, GetHappens, PutInRoundsHappens, GetInRoundsHappens, PutWasTaken, GetWasWritten, PutCanHappen};
 
-/// Every run of a server and its clients, made of turns as archive_turns defines them, in which whatever is received
+/// Every run of a server and its clients, made of turns as archive_server and archive_runs define them, in which whatever is received
 /// was sent before or is a stranger's, is a trace whose events may all happen; the world after it mirrors the archive.
 /// The server may have collections at first, which are the best over some texts, such as those of its folder. So the
 /// headline holds for it, for each client whose ports are its own: the file of a put that returned Ok was taken exactly
@@ -50,8 +50,8 @@ pub fn running_law()
 /// and what a get that returned Ok has written is the collection at one of its own requests, if the ports of its endpoint
 /// are its own.
 pub fn calls_law()
-    ensures turns { (texts : List (List ℕ)) (maps : Maps) (turns : ℕ) (old new : Server) (taken : ℕ) (before after : Option (List Entry)) (kept now : Option (List Keeping)) (call : MakesTurns turns old new taken before after kept now) (first last : Moment) → PassesHappen IsTurn after_turn call.served first last → ServesAt texts maps old.table kept first → ServesAt texts maps new.table now last }
-    ensures rounds { (texts : List (List ℕ)) (maps : Maps) (rounds : ℕ) (old new : Server) (taken : ℕ) (before after : Option (List Entry)) (kept now : Option (List Keeping)) (call : MakesRounds rounds old new taken before after kept now) (first last : Moment) → PassesHappen IsRound after_round call.served first last → ServesAt texts maps old.table kept first → ServesAt texts maps new.table now last }
+    ensures turns { (texts : List (List ℕ)) (maps : Maps) (turns : ℕ) (old new : Server) (taken : ℕ) (before after : Option (List Entry)) (kept now : Option (List Keeping)) (call : MakesTurns turns old new taken before after kept now) (first last : Moment) → ManyHappen IsTurn after_turn call.served first last → ServesAt texts maps old.table kept first → ServesAt texts maps new.table now last }
+    ensures rounds { (texts : List (List ℕ)) (maps : Maps) (rounds : ℕ) (old new : Server) (taken : ℕ) (before after : Option (List Entry)) (kept now : Option (List Keeping)) (call : MakesRounds rounds old new taken before after kept now) (first last : Moment) → ManyHappen IsRound after_round call.served first last → ServesAt texts maps old.table kept first → ServesAt texts maps new.table now last }
     ensures put { (texts : List (List ℕ)) (maps : Maps) → AreOver texts maps → (host : ℕ) → host ≢ server_endpoint.host → (file : List ℕ) (turns : ℕ) (result : Result ℕ RunFault) (before after : Option (List Entry)) (call : RunsPut server_endpoint file turns result before after) (first last : Moment) → PutHappens host file turns result before call.mid after call.begun call.begins call.ends first last → IsReached texts maps first → IsReached texts maps last × ((n : ℕ) → result ≡ Ok n → PutWasTaken host file call.begun (world_at texts maps last)) }
     ensures get { (texts : List (List ℕ)) (maps : Maps) → AreOver texts maps → (host : ℕ) → host ≢ server_endpoint.host → («ruleset» : Ruleset) (turns : ℕ) (result : Result ℕ RunFault) (before after : Option (List Entry)) (written now : Option (List ℕ)) (call : RunsGet server_endpoint «ruleset» turns result before after written now) (first last : Moment) → GetHappens host «ruleset» turns result before call.mid after written now call.begun call.begins call.ends first last → IsReached texts maps first → IsReached texts maps last × ((len : ℕ) → result ≡ Ok len → GetWasWritten host «ruleset» call.begun len (world_at texts maps last) written now) }
     // The same by rounds; and the run that a get returns is its client's, which may then dally.

@@ -1,11 +1,13 @@
 -- A datagram at a port has the effect of its packet there.
 use Rattle.std.specs.Prelude.{◌≡◌, ℕ, List, Option, None, Some, Ok, Err}
-use Rattle.std.proofs.Common.{refl, ap}
+use Rattle.std.proofs.Common.{refl, ap, subst}
 use Rattle.tftp_packet.specs.declared.endpoint.Endpoint.{Endpoint}
 use Rattle.tftp_packet.specs.declared.packet_fault.PacketFault.{PacketFault}
 use Rattle.tftp_packet.specs.Packet.{Packet}
 use Rattle.tftp_packet.specs.Decode.{decode_bytes}
-use Rattle.archive_table.specs.Table.{Grant, Maps, Table, Transfer, table_stays, transfer_at, transfer_by_input, transfer_input_decoded, datagram_at, table_datagram}
+use Rattle.archive_table.specs.declared.step_event.StepEvent.{StepEvent}
+use Rattle.archive_table.specs.Events.{IsInputEvent, IsPacketEvent, IsDatagramEvent}
+use Rattle.archive_table.specs.Table.{Step, Grant, Maps, Table, Transfer, table_stays, transfer_at, transfer_by_input, transfer_input_decoded, datagram_at, table_datagram}
 use Rattle.archive_table.specs.Steps.{packet_live}
 
 -- bytes that were received at a port
@@ -25,3 +27,9 @@ module _ (grant : Grant) (maps : Maps) (port : ℕ) (from : Endpoint) (bytes : L
   -- bytes that are no packet have no effect
   pub nothing_come : (fault : PacketFault) → Err fault ≡ decode_bytes bytes → table_stays s ≡ table_datagram grant maps port from bytes s
   nothing_come fault is = none_at (transfer_at port s) fault is
+
+-- what a step did with the packet that bytes are decoded as, it did with the bytes
+pub event_come : (t : Option Transfer) (from : Endpoint) (bytes : List ℕ) (old new : Maps) (step : Step) (event : StepEvent) (packet : Packet) →
+    Ok packet ≡ decode_bytes bytes → IsPacketEvent t from packet old new step event → IsDatagramEvent t from bytes old new step event
+event_come (Some t) from bytes old new step event packet is h = subst (λ r. IsInputEvent (transfer_input_decoded t.peer from r) t.end old new step event) is h
+event_come None from bytes old new step event packet is h = h

@@ -1,11 +1,12 @@
 -- A received file that is merged chunk by chunk is merged as a whole.
-use Rattle.std.specs.Prelude.{◌≡◌, MatchBool, is_err, ℕ, ◌+◌, ◌*◌, ◌<◌, ◌≤◌, ◌^◌, Bool, true, false, List, [], ◌++◌, length, take, Contains, Option, None, Some, Result, Ok, Err}
+use Rattle.std.specs.Prelude.{◌≡◌, ◌∷◌, MatchBool, MatchOption, is_err, is_some, nat_lt, ℕ, zero, suc, ◌+◌, ◌*◌, ◌<◌, ◌≤◌, ◌^◌, Bool, true, false, List, [], ◌++◌, length, take, Contains, Option, None, Some, unwrap_or, option_and_then, slice_get, Result, Ok, Err}
 use Rattle.std.proofs.Common.{refl, sym, ap, ◌∙◌, inl, inr, subst}
 use native.Mathlib.Omega.{arith}
 use Rattle.std.proofs.lemmas.List.{append-nil, append_assoc, length-append, length-take, take_all}
 use Rattle.tws_file.specs.declared.«ruleset».Ruleset.{Ruleset}
 use Rattle.tws_file.specs.declared.«ruleset».Ruleset.TheVariants.{Lynx, Ms}
 use Rattle.tws_file.specs.declared.file_fault.FileFault.{FileFault}
+use Rattle.tws_file.specs.Fields.{ruleset_in, ruleset_with}
 use Rattle.tws_file.specs.Text.{File, Record, IsText, IsReadable}
 use Rattle.tws_file.specs.Fault.{HasFileFault}
 use Rattle.tws_reader.specs.PartReader.{PartReading, HasRead, HasRoom, IsTextWith}
@@ -26,8 +27,10 @@ use Rattle.archive_table.specs.declared.keep_fault.KeepFault.{KeepFault}
 use Rattle.archive_table.specs.declared.keep_fault.KeepFault.TheVariants.{Device, Memory}
 use Rattle.archive_table.specs.Table.{Maps, MergesIntoOwn, IsMerged}
 use Rattle.archive_table.specs.Keeper.{Keeping, KeeperGrows, FailsKeep, RefusesFile, kept_by}
-use Rattle.archive_table.specs.FileMerge.{MergesFile, RefusesOne, TakesChunk, HasMerged, MergesText}
-use Rattle.archive_table.proofs.Merged.{both}
+use Rattle.std.proofs.lemmas.Bool.Decides.{nat_tests}
+use Rattle.tws_best.specs.Merge.{Merging}
+use Rattle.archive_table.specs.FileMerge.{MergesFile, RefusesOne, TakesChunk, HasMerged, MergesText, left_by}
+use Rattle.archive_table.proofs.Grants.{both}
 
 -- ---- the chunks
 
@@ -81,10 +84,10 @@ merges_text old now r file h ends =
     let end = ends h.records file h.read in
     record { file = _; text = end.text; best = h.best }
 
-pub not_readable : (first : List KeyedBody) (r : PartReading) (c : Collected) (file : List ℕ) (e : FileFault) →
-    HasMerged first r c file → ((records : List Record) (bytes : List ℕ) → HasRead r records bytes → HasFileFault bytes e) →
-    IsReadable file → ⊥
-not_readable first r c file e h ends readable = text_without_fault file readable.0 e readable.1 (ends h.records file h.read)
+-- the fault with which the reading ends is that of the file
+pub faults_of : (first : List KeyedBody) (r : PartReading) (c : Collected) (file : List ℕ) (e : FileFault) →
+    HasMerged first r c file → ((records : List Record) (bytes : List ℕ) → HasRead r records bytes → HasFileFault bytes e) → HasFileFault file e
+faults_of first r c file e h ends = ends h.records file h.read
 
 -- ---- the file
 
@@ -107,12 +110,29 @@ merges_file bytes old new rules m = record {
   unreadable = λ never. absurd (never m.file m.text);
 }
 
-pub merges_nothing : (bytes : List ℕ) (c : Collected) → (IsReadable bytes → ⊥) → MergesFile bytes c c
-merges_nothing bytes c never = record { readable = λ file text own. absurd (never (file, text)); unreadable = λ none. refl }
+-- bytes with a fault change nothing
+pub merges_nothing : (bytes : List ℕ) (c : Collected) (e : FileFault) → HasFileFault bytes e → MergesFile bytes c c
+merges_nothing bytes c e fault = record { readable = λ file text own. absurd (text_without_fault bytes file e text fault); unreadable = λ none. refl }
 
 -- all that a merge took is merged into what was there at first
 pub merges_read : (bytes : List ℕ) (first old now : Collected) → old ≡ first → now.ruleset ≡ old.ruleset → MergesText bytes old now → MergesFile bytes first now
 merges_read bytes first old now begun rules text = subst (λ (c : Collected). MergesFile bytes c now) begun (merges_file bytes old now rules text)
+
+-- what the end of a reading says of the file, by whether it has a fault
+pub with_fault : (P : Type 0) (Q : FileFault → Type 0) (fault : Option FileFault) (b : Bool) → b ≡ is_some fault → b ≡ true → MatchOption fault P Q → (e : FileFault) × Q e
+with_fault P Q None b is true-is h = absurd (true≢false (sym true-is ∙ is))
+with_fault P Q (Some e) b is true-is h = (e, h)
+
+pub without_fault : (P : Type 0) (Q : FileFault → Type 0) (fault : Option FileFault) (b : Bool) → b ≡ is_some fault → b ≡ false → MatchOption fault P Q → P
+without_fault P Q None b is false-is h = h
+without_fault P Q (Some e) b is false-is h = absurd (true≢false (sym is ∙ false-is))
+
+-- what is left of a merge, by the number of its changes
+pub left_none : (n : ℕ) (m : Merging) → n ≡ 0 → left_by (nat_lt 0 n) m ≡ m.first
+left_none n m none = ap (λ (k : ℕ). left_by (nat_lt 0 k) m) none
+
+pub left_some : (n : ℕ) (m : Merging) → (n ≡ 0 → ⊥) → left_by (nat_lt 0 n) m ≡ m.now
+left_some n m some = let positive : nat_lt 0 n ≡ true = grind (arith, nat_tests) in ap (λ (b : Bool). left_by b m) positive
 
 pub when_true : (P Q : Type 0) (b : Bool) → b ≡ true → MatchBool b P Q → P
 when_true P Q true is p = p
@@ -139,6 +159,10 @@ fails_keep r rules given now before after failed rules-is same grows =
 some_same : (r s : Ruleset) → Some r ≡ Some s → s ≡ r
 some_same r s is = cc
 
+-- the ruleset that a text was found to have, if its file has one
+pub of_text : (r own : Ruleset) (found : Option Ruleset) (chosen : Ruleset) → chosen ≡ r → chosen ≡ unwrap_or found Lynx → found ≡ Some own → Some r ≡ Some own
+of_text r own found chosen is by text = ap Some (sym is ∙ by ∙ ap (λ (o : Option Ruleset). unwrap_or o Lynx) text)
+
 module _ (bytes : List ℕ) (lynx ms new : Collected) where
   pub lynx_merged : ((f : File) → IsText bytes f → Some Lynx ≡ Some f.«ruleset») → lynx.ruleset ≡ Lynx → MergesFile bytes lynx new → IsMerged bytes (both lynx ms) (both new ms)
   lynx_merged own rules m = record {
@@ -155,13 +179,6 @@ module _ (bytes : List ℕ) (lynx ms new : Collected) where
         subst (λ r. MergesIntoOwn r f (both lynx ms) (both lynx new)) (sym is) (m.readable f t (is ∙ sym rules), refl);
     unreadable = λ never. ap (λ (c : Collected). both lynx c) (m.unreadable never);
   }
-
--- bytes of no ruleset change nothing
-pub none_merged : (bytes : List ℕ) (found : Option Ruleset) (old : Maps) → found ≡ None → ((f : File) → IsText bytes f → found ≡ Some f.«ruleset») → IsMerged bytes old old
-none_merged bytes found old none own = record {
-  readable = λ f t. absurd (let some = own f t in cc);
-  unreadable = λ never. refl;
-}
 
 module _ (why : Refusal) (bytes : List ℕ) (lynx ms : Collected) (before after : Option (List Keeping)) where
   pub lynx_refused : ((f : File) → IsText bytes f → Some Lynx ≡ Some f.«ruleset») → lynx.ruleset ≡ Lynx → RefusesOne why bytes lynx before after → RefusesFile why bytes (both lynx ms) before after
@@ -181,3 +198,22 @@ no_file bytes f none text = omega (arith, none, ap length text.text, text_long f
 pub first_chunk : (file : List ℕ) → chunk_of file 0 ≡ take CHUNK_SIZE file
 unfolding chunk_of
 first_chunk file = refl
+
+slice_get-take : (n : ℕ) (xs : List ℕ) (i : ℕ) → i < n → slice_get (take n xs) i ≡ slice_get xs i
+slice_get-take zero xs i h = absurd (omega (arith, h))
+slice_get-take (suc n) [] i h = refl
+slice_get-take (suc n) (x ∷ xs) zero h = refl
+slice_get-take (suc n) (x ∷ xs) (suc i) h = slice_get-take n xs i (omega (arith, h))
+
+-- the first chunk has the fifth byte of the file
+pub first_ruleset : (file chunk : List ℕ) → chunk ≡ chunk_of file 0 → ruleset_in chunk ≡ ruleset_in file
+unfolding chunk_of
+first_ruleset file chunk is = ap ruleset_in is ∙ ap (option_and_then ruleset_with) (slice_get-take CHUNK_SIZE file 4 (omega arith))
+
+-- a file without a chunk has no byte
+no_chunk : (file : List ℕ) → chunk_count file ≡ 0 → length file ≡ 0
+no_chunk file none = omega (arith, none)
+
+pub no_ruleset : (file : List ℕ) → chunk_count file ≡ 0 → None ≡ ruleset_in file
+no_ruleset [] none = refl
+no_ruleset (x ∷ xs) none = absurd (omega (arith, no_chunk (x ∷ xs) none))

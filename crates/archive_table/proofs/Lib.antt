@@ -5,7 +5,7 @@ pub mod Cached
 pub mod Held
 pub mod Serving
 pub mod Blocks
-pub mod Merged
+pub mod Grants
 pub mod FileMerges
 pub mod SamePort
 pub mod Decoded

@@ -140,10 +140,6 @@ StepKeeps all wanted old new before after = KeepsMaps old new before after
 StepKeeps no_memory wanted old new before after = KeeperGrows before after []
 StepKeeps unkept wanted old new before after = RefusesKeep wanted old before after
 
--- the count rose in this call, or is at its greatest value
-abbrev pub FailsAt : (old new : ℕ) → Type 0
-FailsAt old new = (old < new) ⊎ (new ≡ 2 ^ 64 - 1)
-
 abbrev pub texts_of : {A : Type 0} → Option (Vec ℕ A) → Option (List ℕ)
 texts_of None = None
 texts_of (Some v) = Some v.items

@@ -8,3 +8,4 @@ pub mod Ports
 pub mod Lends
 pub mod View
 pub mod FileMerge
+pub mod Events

@@ -1,7 +1,9 @@
 //! A received file is read from its chunks, and merged chunk by chunk, so that its records are never held together.
 
-ghost use Rattle.std.specs.Prelude.{◌≡◌, ◌≤◌, Some, IfOk, OnOk, MatchBool};
-ghost use Rattle.tws_file.specs.Text.{File, IsText, IsReadable};
+ghost use Rattle.std.specs.Prelude.{◌≡◌, ◌≤◌, Some, IfOk, OnOk, MatchOption};
+ghost use Rattle.tws_file.specs.Fault.{HasFileFault};
+ghost use Rattle.tws_file.specs.Fields.{ruleset_in};
+ghost use Rattle.tws_file.specs.Text.{File, IsText};
 ghost use Rattle.tws_reader.specs.PartReader.{HasRoom};
 ghost use Rattle.tws_best.specs.Best.{IsCollected};
 ghost use Rattle.archive_table.specs.FileMerge.{TakesChunk, MergesText};
@@ -12,9 +14,10 @@ use tws_best::Merge;
 use tws_file::{FileFault, Ruleset};
 use tws_reader::PartReader;
 
-// The ruleset of a received file. Of bytes that are not a solution file it may be any, or none.
+/// The ruleset that the fifth byte of a received file says.
 pub(crate) fn ruleset_of<A: Allocator>(file: &Received<A>) -> Option<Ruleset>
-    ensures { (read : File) → IsText file.now read → result ≡ Some read.«ruleset» }
+    ensures code { result ≡ ruleset_in file.now }
+    ensures text { (read : File) → IsText file.now read → result ≡ Some read.«ruleset» }
 {
     if file.chunk_count() == 0 {
         return None;
@@ -45,16 +48,17 @@ fn take_chunk<A: Allocator + Copy>(
     }
 }
 
-// Merges all records of a received file. Returns whether it is a solution file. On error all that was merged is undone.
+/// Merges all records of a received file. Returns why it is not a solution file, if it is none. On error all that was merged
+/// is undone.
 pub(crate) fn merge_chunks<A: Allocator + Copy>(
     alloc: A,
     merge: &mut Merge<A>,
     file: &Received<A>,
-) -> Result<bool, AllocError>
+) -> Result<Option<FileFault>, AllocError>
     requires fits { IsCollected merge.old.now }
     ensures first { merge.new.first ≡ merge.old.first }
     ensures rules { merge.new.now.ruleset ≡ merge.old.now.ruleset }
-    ensures read { IfOk result (λ readable. MatchBool readable (MergesText file.now merge.old.now merge.new.now) (IsReadable file.now → ⊥)) }
+    ensures read { IfOk result (λ fault. MatchOption fault (MergesText file.now merge.old.now merge.new.now) (HasFileFault file.now)) }
 {
     // By this call it is known that all bytes can be counted.
     let _len = file.len();
@@ -63,7 +67,7 @@ pub(crate) fn merge_chunks<A: Allocator + Copy>(
         take_chunk(&mut reader, merge, file.chunk(i))?;
     }
     match reader.finish() {
-        Ok(()) => Ok(true),
-        Err(_) => Ok(false),
+        Ok(()) => Ok(None),
+        Err(fault) => Ok(Some(fault)),
     }
 }

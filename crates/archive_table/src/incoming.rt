@@ -82,6 +82,13 @@ impl<A: Allocator + Copy> Incoming<A> {
         }
     }
 
+    /// How many blocks were received.
+    pub(crate) fn count(&self) -> u16
+        ensures { result ≡ self.now.count }
+    {
+        self.receiver.count()
+    }
+
     /// The receiver's state.
     pub(crate) fn state(&self) -> RecvState
         ensures { result ≡ self.now.state }

@@ -1,10 +1,11 @@
 //! The server's table: each call takes one datagram or one time-out, changes the state, and returns at most one
 //! datagram to send.
 //!
-//! Read `specs/Table.antt` first: what a server is, and what each call does to it. README.md shows how the crate is
-//! called.
+//! Read `specs/Table.antt` first: what a server is, and what each call does to it. `specs/Events.antt` says what a step
+//! did. README.md shows how the crate is called.
 #![tactic(auto)]
 
+mod collections;
 mod end;
 mod file_merge;
 mod incoming;
@@ -20,6 +21,7 @@ mod observer;
 mod ports;
 mod published;
 mod step;
+mod step_event;
 mod table;
 mod taken;
 mod transfer;
@@ -31,5 +33,6 @@ pub use limits::LIVE;
 pub use load_fault::LoadFault;
 pub use observer::{NoObserver, Observer};
 pub use step::Step;
+pub use step_event::{FailureCause, Merged, StepEvent};
 pub use table::Table;
 pub use taken::Taken;

@@ -1,7 +1,8 @@
 //! Loads the collections that a keeper has.
 
 ghost use Rattle.std.specs.Prelude.{◌≡◌, ◌≤◌, Some, Err, IfOk, IfErr};
-ghost use Rattle.archive_table.specs.Keeper.{IsLoaded, LoadedFrom, IsMisread, FailsToLoad, FailsAt};
+ghost use Rattle.archive_table.specs.Keeper.{IsLoaded, LoadedFrom, IsMisread, FailsToLoad};
+ghost use Rattle.byte_output.specs.Failures.{Rises};
 
 use crate::keep_fault::KeepFault;
 use crate::keeper::Keeper;
@@ -42,12 +43,12 @@ pub(crate) fn load_collection<A: Allocator + Copy, K: Keeper>(
     keeper: &mut K,
     ruleset: Ruleset,
 ) -> Result<Collection<A>, LoadFault>
-    ensures log { K.log keeper.new ≡ K.log keeper.old }
-    ensures loaded { IfOk result (λ c. LoadedFrom «ruleset» (K.log keeper.old) c) }
+    ensures calls { K.calls keeper.new ≡ K.calls keeper.old }
+    ensures loaded { IfOk result (λ c. LoadedFrom «ruleset» (K.calls keeper.old) c) }
     ensures rules { IfOk result (λ c. c.ruleset ≡ «ruleset») }
-    ensures fault { IfErr result (λ e. FailsToLoad «ruleset» (K.log keeper.old) e) }
+    ensures fault { IfErr result (λ e. FailsToLoad «ruleset» (K.calls keeper.old) e) }
     ensures more { K.failed keeper.old ≤ K.failed keeper.new }
-    ensures failed { result ≡ Err (LoadFault.Keep KeepFault.Device) → FailsAt (K.failed keeper.old) (K.failed keeper.new) }
+    ensures failed { result ≡ Err (LoadFault.Keep KeepFault.Device) → Rises (K.failed keeper.old) (K.failed keeper.new) }
 {
     let text = match keeper.load(alloc, ruleset) {
         Ok(text) => text,

@@ -1,13 +1,15 @@
 //! A collection that players can fetch.
 
-ghost use Rattle.std.specs.Prelude.{◌≡◌, ◌≢◌, ◌⊎◌, ◌<◌, ◌^◌, length, Err, IfOk, IfErr, OnOk, OnErr};
+ghost use Rattle.std.specs.Prelude.{◌≡◌, ◌≢◌, ◌⊎◌, ◌<◌, ◌^◌, length, nat_lt, MatchBool, Err, IfOk, IfErr, OnOk, OnErr};
 ghost use Rattle.tws_best.specs.Best.{collection_text};
 ghost use Rattle.tws_best.specs.Frozen.{frozen_text};
+ghost use Rattle.archive_table.specs.Events.{IsFaultOf};
 ghost use Rattle.archive_table.specs.FileMerge.{MergesFile, RefusesOne};
 ghost use Rattle.archive_table.specs.Keeper.{KeepsOne};
 
 use crate::keeper::Keeper;
 use crate::keeping::merge_into;
+use crate::step_event::Merged;
 use std::alloc::{AllocError, Allocator};
 use std::clone::Clone;
 use std::marker::Model;
@@ -17,12 +19,11 @@ use tftp_packet::Refusal;
 use tws_best::{Collection, Snapshot};
 
 /// A collection, and the snapshot of its text that downloads share, which is made at the first request and kept until
-/// the collection changes. `improvements` counts its changes, saturating.
+/// the collection changes.
 #[derive(Drop)]
 pub(crate) struct Published<A: Allocator + Copy> {
     collection: Collection<A>,
     snapshot: Option<Rc<Snapshot<A>, A>>,
-    improvements: u64,
 }
 
 impl<A: Allocator + Copy> Model for Published<A> {
@@ -45,7 +46,6 @@ impl<A: Allocator + Copy> Published<A> {
         Published {
             collection,
             snapshot: None,
-            improvements: 0,
         }
     }
 
@@ -54,11 +54,6 @@ impl<A: Allocator + Copy> Published<A> {
         ensures { result.now ≡ self.now }
     {
         &self.collection
-    }
-
-    /// The number of its changes so far. No contract speaks of it.
-    pub(crate) fn improvements(&self) -> u64 {
-        self.improvements
     }
 
     /// Returns the snapshot of its text, which must have fewer than 2^64 bytes. Does not allocate if the text was asked
@@ -90,27 +85,23 @@ impl<A: Allocator + Copy> Published<A> {
         alloc: A,
         keeper: &mut K,
         file: &Received<A>,
-    ) -> Result<(), Refusal>
+    ) -> Result<Merged, Refusal>
+        ensures fault { IfOk result (λ merged. IsFaultOf file.now merged.fault) }
+        ensures better { IfOk result (λ merged. MatchBool (nat_lt 0 merged.better) (self.new ≢ self.old) (self.new ≡ self.old)) }
         ensures merged { OnOk result (MergesFile file.now self.old self.new) }
         ensures unchanged { OnErr result (self.new ≡ self.old) }
         ensures rules { self.new.ruleset ≡ self.old.ruleset }
         ensures refusal { IfErr result (λ e. (e ≡ Refusal.OutOfMemory) ⊎ (e ≡ Refusal.NotKept)) }
-        ensures kept { OnOk result (KeepsOne self.old self.new (K.log keeper.old) (K.log keeper.new)) }
-        ensures unkept { IfErr result (λ e. RefusesOne e file.now self.old (K.log keeper.old) (K.log keeper.new)) }
+        ensures kept { OnOk result (KeepsOne self.old self.new (K.calls keeper.old) (K.calls keeper.new)) }
+        ensures unkept { IfErr result (λ e. RefusesOne e file.now self.old (K.calls keeper.old) (K.calls keeper.new)) }
         ensures untouched { result ≢ Err Refusal.NotKept → self.new ≡ self.old → keeper.new ≡ keeper.old }
     {
-        match merge_into(
-            alloc,
-            &mut self.collection,
-            &mut self.improvements,
-            keeper,
-            file,
-        ) {
-            Ok(changed) => {
-                if changed {
+        match merge_into(alloc, &mut self.collection, keeper, file) {
+            Ok(merged) => {
+                if merged.better > 0 {
                     self.snapshot = None;
                 }
-                Ok(())
+                Ok(merged)
             }
             Err(why) => Err(why),
         }

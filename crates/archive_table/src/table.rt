@@ -1,12 +1,16 @@
 //! The table of a server.
 
-ghost use Rattle.std.specs.Prelude.{◌≡◌, ◌≢◌, ◌<◌, ◌≤◌, ◌^◌, None, Some, Err, IfOk, IfErr, true, length, is_some};
+ghost use Rattle.std.specs.Prelude.{◌≡◌, ◌≢◌, ◌<◌, ◌≤◌, ◌^◌, [], None, Some, Ok, Err, IfOk, IfErr, true, length, is_some};
 ghost use Rattle.archive_table.specs.Table.{empty_table, is_dallying as dallies_at, empty_step, peer_at, refuses, opens_if, request_verdict, table_request, table_timeout, transfer_at, has_slot, read_asked, read_with_slot, write_asked, map_of, port_above, IsEnd, IsTable, table_datagram, grant_of, all, unkept, Merges};
-ghost use Rattle.tftp_packet.specs.Packet.{is_octet as octet_mode};
+ghost use Rattle.tftp_packet.specs.Packet.{is_octet as octet_mode, read, write};
+ghost use Rattle.tftp_packet.specs.Decode.{decode_bytes};
 ghost use Rattle.tws_best.specs.Best.{collection_text};
 ghost use Rattle.tws_best.specs.Frozen.{frozen_text};
-ghost use Rattle.archive_table.specs.Keeper.{StepKeeps, HasLoaded, TableFails, FailsAt};
+ghost use Rattle.archive_table.specs.Keeper.{StepKeeps, HasLoaded, TableFails};
+ghost use Rattle.byte_output.specs.Failures.{Rises};
 ghost use Rattle.archive_table.specs.View.{end_of};
+ghost use Rattle.archive_table.specs.declared.step_event.StepEvent.TheVariants.{Nothing};
+ghost use Rattle.archive_table.specs.Events.{IsDatagramEvent, IsNamedEvent, IsRequestEvent, made, opened_or_refused, reported, timeout_event};
 
 mod datagram;
 
@@ -20,6 +24,7 @@ use crate::load_fault::LoadFault;
 use crate::ports::Ports;
 use crate::published::Published;
 use crate::step::Step;
+use crate::step_event::{FailureCause, StepEvent};
 use crate::transfer::Transfer;
 use std::alloc::{AllocError, Allocator, Global};
 use std::marker::Model;
@@ -74,10 +79,10 @@ impl<A: Allocator + Copy> Table<A> {
     /// Fails at the first of these, for Lynx and then for MS: the keeper fails; what was kept is not a solution file;
     /// it is a file of the other ruleset. It may run out of memory at any point.
     pub fn load<K: Keeper>(alloc: A, request: u16, keeper: &mut K) -> Result<Self, LoadFault>
-        ensures loaded { IfOk result (HasLoaded request (K.log keeper.old)) }
-        ensures fault { IfErr result (TableFails (K.log keeper.old)) }
-        ensures log { K.log keeper.new ≡ K.log keeper.old }
-        ensures failed { result ≡ Err (LoadFault.Keep KeepFault.Device) → FailsAt (K.failed keeper.old) (K.failed keeper.new) }
+        ensures loaded { IfOk result (HasLoaded request (K.calls keeper.old)) }
+        ensures fault { IfErr result (TableFails (K.calls keeper.old)) }
+        ensures calls { K.calls keeper.new ≡ K.calls keeper.old }
+        ensures failed { result ≡ Err (LoadFault.Keep KeepFault.Device) → Rises (K.failed keeper.old) (K.failed keeper.new) }
         ensures fits { IfOk result IsTable }
     {
         let lynx = load_collection(alloc, keeper, Ruleset::Lynx)?;
@@ -93,29 +98,32 @@ impl<A: Allocator + Copy> Table<A> {
 
     // Refuses a request, from the request port.
     fn refuse(&self, from: Endpoint, why: Refusal) -> Step<A>
-        ensures step { result ≡ (refuses why from self.now).step }
+        ensures step { result ≡ reported (refuses why from self.now).step (StepEvent.Refused why) }
         ensures fits { IsTable self.now }
     {
         let mut step = Step::nothing();
         step.set_out(self.request, from, Some(why.dgram()));
+        step.event = StepEvent::Refused(why);
         step
     }
 
-    // Opens a transfer at the spare port and sends its first datagram from there, or refuses the request if out of
-    // memory.
+    // Opens a transfer at the spare port, which is this event, and sends its first datagram from there, or refuses the
+    // request if out of memory.
     fn open(
         &mut self,
         spare: u16,
         from: Endpoint,
         end: End<Sender<Rc<Snapshot<A>, A>>, Incoming<A>>,
         first: Dgram,
+        event: StepEvent,
     ) -> Step<A>
         requires slot { has_slot self.old ≡ true }
         requires end { IsEnd (end_of end) }
         requires other { spare ≢ self.old.request }
         requires free { transfer_at spare self.old ≡ None }
         ensures server { self.new ≡ (opens_if (request_verdict result.opened) spare from (end_of end) first self.old).server }
-        ensures step { result ≡ (opens_if (request_verdict result.opened) spare from (end_of end) first self.old).step }
+        ensures step { made result ≡ (opens_if (request_verdict result.opened) spare from (end_of end) first self.old).step }
+        ensures event { result.event ≡ opened_or_refused result.opened event }
         ensures fits { IsTable self.new }
     {
         match self.live.insert(spare, Transfer { peer: from, end }) {
@@ -128,6 +136,7 @@ impl<A: Allocator + Copy> Table<A> {
                 opened: true,
                 taken: None,
                 closed: false,
+                event,
             },
             Err(_) => self.refuse(from, Refusal::OutOfMemory),
         }
@@ -138,7 +147,8 @@ impl<A: Allocator + Copy> Table<A> {
         requires other { spare ≢ self.old.request }
         requires free { transfer_at spare self.old ≡ None }
         ensures server { self.new ≡ (write_asked (octet_mode mode.now) (request_verdict result.opened) spare from self.old).server }
-        ensures step { result ≡ (write_asked (octet_mode mode.now) (request_verdict result.opened) spare from self.old).step }
+        ensures step { made result ≡ (write_asked (octet_mode mode.now) (request_verdict result.opened) spare from self.old).step }
+        ensures event { IsRequestEvent result.opened (Ok (write [] mode.now)) result.out result.event }
         ensures fits { IsTable self.new }
     {
         if !is_octet(mode) {
@@ -148,7 +158,13 @@ impl<A: Allocator + Copy> Table<A> {
             return self.refuse(from, Refusal::ServerBusy);
         }
         let incoming = Incoming::new(self.alloc);
-        self.open(spare, from, End::Receiving(incoming), encode_ack(0))
+        self.open(
+            spare,
+            from,
+            End::Receiving(incoming),
+            encode_ack(0),
+            StepEvent::OpenedPut,
+        )
     }
 
     // Handles a request to read.
@@ -156,7 +172,8 @@ impl<A: Allocator + Copy> Table<A> {
         requires other { spare ≢ self.old.request }
         requires free { transfer_at spare self.old ≡ None }
         ensures server { self.new ≡ (read_asked (octet_mode mode.now) (request_verdict result.opened) spare from name.now self.old).server }
-        ensures step { result ≡ (read_asked (octet_mode mode.now) (request_verdict result.opened) spare from name.now self.old).step }
+        ensures step { made result ≡ (read_asked (octet_mode mode.now) (request_verdict result.opened) spare from name.now self.old).step }
+        ensures event { IsRequestEvent result.opened (Ok (read name.now mode.now)) result.out result.event }
         ensures fits { IsTable self.new }
     {
         if !is_octet(mode) {
@@ -173,7 +190,8 @@ impl<A: Allocator + Copy> Table<A> {
         requires other { spare ≢ self.old.request }
         requires free { transfer_at spare self.old ≡ None }
         ensures server { self.new ≡ (read_with_slot (has_slot self.old) (request_verdict result.opened) spare from (map_of «ruleset» self.old.maps) self.old).server }
-        ensures step { result ≡ (read_with_slot (has_slot self.old) (request_verdict result.opened) spare from (map_of «ruleset» self.old.maps) self.old).step }
+        ensures step { made result ≡ (read_with_slot (has_slot self.old) (request_verdict result.opened) spare from (map_of «ruleset» self.old.maps) self.old).step }
+        ensures event { IsNamedEvent result.opened «ruleset» result.out result.event }
         ensures fits { IsTable self.new }
     {
         if !self.has_slot() {
@@ -186,7 +204,13 @@ impl<A: Allocator + Copy> Table<A> {
             return self.refuse(from, Refusal::OutOfMemory);
         };
         let (sender, first) = Sender::start(snapshot);
-        self.open(spare, from, End::Sending(sender), first)
+        self.open(
+            spare,
+            from,
+            End::Sending(sender),
+            first,
+            StepEvent::OpenedGet(ruleset),
+        )
     }
 
     // The snapshot of a collection's text.
@@ -215,7 +239,8 @@ impl<A: Allocator + Copy> Table<A> {
         requires other { spare ≢ self.old.request }
         requires free { transfer_at spare self.old ≡ None }
         ensures server { self.new ≡ (table_request (request_verdict result.opened) spare from bytes.now self.old).server }
-        ensures step { result ≡ (table_request (request_verdict result.opened) spare from bytes.now self.old).step }
+        ensures step { made result ≡ (table_request (request_verdict result.opened) spare from bytes.now self.old).step }
+        ensures event { IsRequestEvent result.opened (decode_bytes bytes.now) result.out result.event }
         ensures request { self.new.request ≡ self.old.request }
         ensures fits { IsTable self.new }
     {
@@ -235,7 +260,7 @@ impl<A: Allocator + Copy> Table<A> {
 
     // Handles any other datagram at the request port. The field is read because only then is the invariant known here.
     fn ignore(&self) -> Step<A>
-        ensures step { result ≡ empty_step }
+        ensures step { result ≡ reported empty_step Nothing }
         ensures fits { IsTable self.now }
     {
         let _request = self.request;
@@ -261,10 +286,11 @@ impl<A: Allocator + Copy> Table<A> {
         bytes: &[u8],
     ) -> Step<A>
         ensures server { self.new ≡ (table_datagram (grant_of result.out) self.new.maps port from bytes.now self.old).server }
-        ensures step { result ≡ (table_datagram (grant_of result.out) self.new.maps port from bytes.now self.old).step }
+        ensures step { made result ≡ (table_datagram (grant_of result.out) self.new.maps port from bytes.now self.old).step }
+        ensures event { IsDatagramEvent (transfer_at port self.old) from bytes.now self.old.maps self.new.maps (made result) result.event }
         ensures merges { Merges result.taken self.old.maps self.new.maps }
         ensures request { self.new.request ≡ self.old.request }
-        ensures keeps { StepKeeps (grant_of result.out) (table_datagram all self.old.maps port from bytes.now self.old).step.taken self.old.maps self.new.maps (K.log keeper.old) (K.log keeper.new) }
+        ensures keeps { StepKeeps (grant_of result.out) (table_datagram all self.old.maps port from bytes.now self.old).step.taken self.old.maps self.new.maps (K.calls keeper.old) (K.calls keeper.new) }
         // The keeper is called only for a collection that changes, or that would change if it were kept.
         ensures untouched { grant_of result.out ≢ unkept → self.new.maps ≡ self.old.maps → keeper.new ≡ keeper.old }
         ensures fits { IsTable self.new }
@@ -277,28 +303,30 @@ impl<A: Allocator + Copy> Table<A> {
     // Handles a time-out at a port. The step is written in place, like that of a datagram.
     #[tactic(auto, using(crate::proofs::Live::remove_set, crate::proofs::Live::set_same))]
     fn time_out(&mut self, port: u16, step: &mut Step<A>)
-        requires new { step.old ≡ empty_step }
+        requires new { step.old ≡ reported empty_step Nothing }
         ensures server { self.new ≡ (table_timeout port self.old).server }
-        ensures step { step.new ≡ (table_timeout port self.old).step }
+        ensures step { made step.new ≡ (table_timeout port self.old).step }
+        ensures event { step.new.event ≡ timeout_event (transfer_at port self.old) step.new.closed }
         ensures fits { IsTable self.new }
     {
         let Some(transfer) = self.live.get_mut(port) else {
             return;
         };
         let peer = transfer.peer;
+        let ended = transfer.broken_by(FailureCause::TimedOut);
         match &mut transfer.end {
             End::Sending(sender) => {
                 step.set_out(port, peer, sender.on_timeout());
                 match sender.state() {
                     SendState::Running => {}
-                    SendState::Finished | SendState::TimedOut => self.close(port, step),
+                    SendState::Finished | SendState::TimedOut => self.close(port, ended, step),
                 }
             }
             End::Receiving(incoming) => {
                 step.set_out(port, peer, incoming.on_timeout());
                 match incoming.state() {
                     RecvState::Running | RecvState::Complete => {}
-                    RecvState::TimedOut | RecvState::Over => self.close(port, step),
+                    RecvState::TimedOut | RecvState::Over => self.close(port, ended, step),
                 }
             }
         }
@@ -310,7 +338,8 @@ impl<A: Allocator + Copy> Table<A> {
     #[tactic(auto, using(crate::proofs::SamePort::timeout_same))]
     pub fn on_timeout(&mut self, port: u16) -> Step<A>
         ensures server { self.new ≡ (table_timeout port self.old).server }
-        ensures step { result ≡ (table_timeout port self.old).step }
+        ensures step { made result ≡ (table_timeout port self.old).step }
+        ensures event { result.event ≡ timeout_event (transfer_at port self.old) result.closed }
         ensures request { self.new.request ≡ self.old.request }
         ensures fits { IsTable self.new }
     {
@@ -327,14 +356,6 @@ impl<A: Allocator + Copy> Table<A> {
             Ruleset::Lynx => self.lynx.collection(),
             Ruleset::Ms => self.ms.collection(),
         }
-    }
-
-    /// The number of improvements since the table was made: how often a solution of a file that was taken was better than
-    /// what its collection had for its key, or the first there. Saturates at `u64::MAX`. No contract speaks of it.
-    pub fn improvements(&self) -> u64 {
-        self.lynx
-            .improvements()
-            .saturating_add(self.ms.improvements())
     }
 
     /// The number of transfers, at most `LIVE`.

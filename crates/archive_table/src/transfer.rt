@@ -2,9 +2,11 @@
 
 ghost use Rattle.std.specs.Prelude.{◌≡◌};
 ghost use Rattle.archive_table.specs.Table.{is_done, is_same};
+ghost use Rattle.archive_table.specs.Events.{block_of, broken_by, finished_by};
 
 use crate::end::End;
 use crate::incoming::Incoming;
+use crate::step_event::{FailureCause, StepEvent};
 use std::alloc::Allocator;
 use std::marker::Model;
 use std::rc::Rc;
@@ -45,6 +47,42 @@ impl<A: Allocator + Copy> Transfer<A> {
         match &self.end {
             End::Sending(_) => false,
             End::Receiving(incoming) => incoming.is_complete(),
+        }
+    }
+
+    // The last block that the server sent or received.
+    fn block(&self) -> u16
+        ensures { result ≡ block_of self.now.end }
+    {
+        match &self.end {
+            End::Sending(sender) => sender.current(),
+            End::Receiving(incoming) => incoming.count(),
+        }
+    }
+
+    /// What it means that the transfer ends for this reason.
+    pub(crate) fn broken_by(&self, why: FailureCause) -> StepEvent
+        ensures { result ≡ broken_by why self.now.end }
+    {
+        if self.is_dallying() {
+            StepEvent::Nothing
+        } else {
+            StepEvent::Failed {
+                block: self.block(),
+                why,
+            }
+        }
+    }
+
+    /// What it means that an ACK ends the transfer.
+    pub(crate) fn finished(&self) -> StepEvent
+        ensures { result ≡ finished_by self.now.end }
+    {
+        match &self.end {
+            End::Sending(sender) => StepEvent::Finished {
+                bytes: sender.file_len(),
+            },
+            End::Receiving(_) => StepEvent::Nothing,
         }
     }
 }

@@ -22,12 +22,12 @@ use Rattle.archive_theorem.proofs.Sending.{SendsHonest, from_port, sends_packet,
 
 -- what it sends is a block of the collection
 block_says : (w : World) (port : ℕ) (peer : Endpoint) (s : Sender) → IsServing w.past peer port s → (out : Option Packet) (n : ℕ) →
-    IfSome out (λ p. p ≡ data_packet s.file n) → IfSome out (Says w.past (from_port port) peer)
+    IfSome out (λ p. p ≡ data_packet s.file n) → IfSome out (Says w.past (from_port w port) peer)
 block_says w port peer s serving None n sends = tt
 block_says w port peer s serving (Some p) n sends =
-    let served : ServesBlock w.past (from_port port) peer n (block_of s.file n) =
+    let served : ServesBlock w.past (from_port w port) peer n (block_of s.file n) =
     record { ours = refl; rules = serving.rules; file = s.file; serves = serving.serves; is_block = refl } in
-    subst (Says w.past (from_port port) peer) (sym sends) (inr served)
+    subst (Says w.past (from_port w port) peer) (sym sends) (inr served)
 
 -- after a step of its sender a transfer still serves the same collection
 pub serving-after : (w : World) (port : ℕ) (peer : Endpoint) (s : Sender) (a : SendAnswer) → IsServing w.past peer port s → KeepsSender s a →
@@ -85,11 +85,11 @@ acks-put w e file r recv.Over is bounds began come = absurd come
 
 -- what is sent is an ACK of the receiver
 pub ack_says : (w : World) (port : ℕ) (peer : Endpoint) (out : Option Packet) (n : ℕ) → IfSome out (λ p. p ≡ ack n) →
-    (IsOwn w peer → AcksPut w.past peer n) → IfSome out (Says w.past (from_port port) peer)
+    (IsOwn w peer → AcksPut w.past peer n) → IfSome out (Says w.past (from_port w port) peer)
 ack_says w port peer None n sends whom = tt
 ack_says w port peer (Some p) n sends whom =
-    let acks : ServerAcks w.past (from_port port) peer n = record { ours = refl; whom = whom } in
-    subst (Says w.past (from_port port) peer) (sym sends) (inr acks)
+    let acks : ServerAcks w.past (from_port w port) peer n = record { ours = refl; whom = whom } in
+    subst (Says w.past (from_port w port) peer) (sym sends) (inr acks)
 
 -- ---- a time-out of a receiver
 

@@ -1,5 +1,5 @@
 -- A datagram arrives at a client, or the client times out, and the invariant still holds.
-use Rattle.std.proofs.Common.{◌≡◌, ℕ, ◌+◌, Bool, true, false, ◌==◌, List, Option, None, Some, Result, Ok, Err, refl, ap, ◌∙◌, subst, arith}
+use Rattle.std.proofs.Common.{◌≡◌, ℕ, ◌+◌, Bool, true, false, ◌==◌, List, Option, None, Some, Result, Ok, Err, refl, ap, ◌∙◌, subst, arith, sym}
 use Rattle.std.proofs.lemmas.Bool.{eqb-true}
 use Rattle.tftp_packet.specs.declared.endpoint.Endpoint.{Endpoint}
 use Rattle.tftp_packet.specs.declared.packet_fault.PacketFault.{PacketFault}
@@ -14,10 +14,10 @@ use Rattle.tftp_ends.specs.Input.{Input, nothing, stray, refusal, acked, block, 
 use Rattle.tws_file.specs.declared.«ruleset».Ruleset.{Ruleset}
 use Rattle.tws_file.specs.declared.«ruleset».Ruleset.TheVariants.{Lynx, Ms}
 use Rattle.tws_file.specs.Names.{file_name_of, upload_name, ruleset_named}
-use Rattle.tftp_cause.specs.declared.cause.Cause.TheVariants as cause
+use Rattle.tftp_packet.specs.declared.cause.Cause.TheVariants as cause
 use Rattle.archive_client.specs.declared.state.State.TheVariants as state
 use Rattle.archive_client.specs.Client.{Operation, put, get, Phase, asking, sending, receiving, failed, Client, operation_request, request_out, phase_state, phase_peer, is_over, client_input_decoded, client_input_at, client_input, ack_received, data_received, refusal_received, client_by_input, client_unless_over, client_datagram, asks_again, phase_waits, client_timeout, client_input_at_port}
-use Rattle.archive_model.specs.World.{Datagram, World, server_endpoint, after_client, client_at}
+use Rattle.archive_model.specs.World.{Datagram, World, after_client, client_at, asked_of, to_write, to_read, asked_decoded, asked_named}
 use Rattle.archive_theorem.specs.Headline.{IsOwn}
 use Rattle.archive_model.proofs.Places.{Has}
 use Rattle.archive_theorem.proofs.Claims.{Serves, ServesBlock, Says, Binds, IsAskingFor, IsGetting, IsPursuing, MayBind}
@@ -25,7 +25,7 @@ use Rattle.archive_theorem.proofs.Owning.{one_served}
 use Rattle.archive_theorem.proofs.Invariant.{Holds}
 use Rattle.archive_theorem.proofs.Changing.{never_sent, never_got, moves-holds, stays-holds, fails-holds, stray-holds, sends_it}
 use Rattle.archive_theorem.proofs.Putting.{acked_by, answered-holds, acked-holds, put_waits-holds}
-use Rattle.archive_theorem.proofs.Getting.{served_by, took-holds, get_answered-holds, get_refused-holds, get_waits-holds}
+use Rattle.archive_theorem.proofs.Getting.{served_by, took-holds, get_answered-holds, get_refused-holds, get_waits-holds, get_running}
 
 -- ---- what an ACK or a DATA for the client is
 
@@ -93,7 +93,7 @@ module _ (w : World) (h : Holds w) (d : Datagram) (among : Has w.net d) (c : Cli
   host = c.server.host
 
   -- a datagram from the server's host
-  from_server : d.source.host ≡ host → d.source.host ≡ server_endpoint.host
+  from_server : d.source.host ≡ host → d.source.host ≡ w.home.host
   from_server same = same ∙ ap (λ (x : Endpoint). x.host) (h.clients e c is).server
 
   -- an ACK
@@ -126,7 +126,8 @@ module _ (w : World) (h : Holds w) (d : Datagram) (among : Has w.net d) (c : Cli
   data_row n body (sending peer s) at there knows = stays-holds w h e c is
   data_row n body (receiving peer r) at there knows =
       let serves = served_by w h d among (from_server knows.0) n body knows.1 in
-      took-holds w h e c is peer (λ q m. subst (λ (x : Phase). MayBind x q) at m) r there verdict n body (data_size d.bytes n body knows.1)
+      took-holds w h e c is peer (λ q m. subst (λ (x : Phase). MayBind x q) at m) r there
+      (λ run. get_running r.state (sym (ap phase_state at) ∙ run)) verdict n body (data_size d.bytes n body knows.1)
       (same_text peer r there n body knows.2 serves)
   data_row n body (failed why) at there knows = stays-holds w h e c is
 
@@ -167,6 +168,13 @@ pub own_name : (rules : Ruleset) → ruleset_named (file_name_of rules) ≡ Some
 own_name Lynx = refl
 own_name Ms = refl
 
+-- what its request asks for
+pub put_asked : (file : List ℕ) → asked_of (encode (operation_request (put file))) ≡ to_write
+put_asked file = ap asked_decoded (request_fields (put file))
+
+pub get_asked : (rules : Ruleset) → asked_of (encode (operation_request (get rules))) ≡ to_read rules
+get_asked rules = ap asked_decoded (request_fields (get rules)) ∙ ap asked_named (own_name rules)
+
 -- a request says what has begun
 pub request_says : (w : World) (e target : Endpoint) (operation : Operation) → IsAskingFor w.past e operation → Says w.past e target (operation_request operation)
 request_says w e target (put file) there = record { file = file; began = record { count = there.count; among = there.among } }
@@ -202,6 +210,7 @@ module _ (w : World) (h : Holds w) (e : Endpoint) (c : Client) (is : client_at e
   waits_row (sending peer s) at there = put_waits-holds w h e c is peer s at there
   waits_row (receiving peer r) at there =
       get_waits-holds w h e c is peer (λ q m. subst (λ (x : Phase). MayBind x q) at m) r there
+      (λ run. get_running r.state (sym (ap phase_state at) ∙ run))
   waits_row (failed why) at there = stays-holds w h e c is
 
   -- a time-out of a client keeps the invariant

@@ -8,7 +8,7 @@ use Rattle.tftp_packet.specs.Decode.{decode_bytes}
 use Rattle.tftp_ends.specs.declared.limits.TheConstants.{MAX_FILE}
 use Rattle.archive_table.specs.Table.{is_same}
 use Rattle.archive_client.specs.Client.{Operation, put, get, Client, IsOperation, client_start, operation_request, is_too_long}
-use Rattle.archive_model.specs.World.{Datagram, Begun, World, server_endpoint, client_at, begins, Extends}
+use Rattle.archive_model.specs.World.{Datagram, Begun, World, client_at, begins, Extends}
 use Rattle.archive_theorem.specs.Headline.{IsOwn}
 use Rattle.archive_model.proofs.Doing as doing
 use Rattle.archive_model.proofs.Places.{Has, Has-last, Has-push, IsPrefix-push, at-prefix, at-last, before_last, either}
@@ -29,10 +29,11 @@ pub record BindsBy (d : Datagram) (f : Endpoint) (port : ℕ) : Type 0 where
   pub binds : Binds (decode_bytes d.bytes)
 
 -- an endpoint that is bound was bound before, or the new datagram binds it
-pub bound_split : (w v : World) (d : Datagram) → v.net ≡ w.net ++ d ∷ [] → (f : Endpoint) (port : ℕ) → IsBound v.past f port → IsBound w.past f port ⊎ BindsBy d f port
-bound_split w v d net f port b =
+pub bound_split : (w v : World) (d : Datagram) → v.home ≡ w.home → v.net ≡ w.net ++ d ∷ [] → (f : Endpoint) (port : ℕ) →
+    IsBound v.past f port → IsBound w.past f port ⊎ BindsBy d f port
+bound_split w v d home net f port b =
     either
-    (λ old. record { datagram = b.datagram; among = old; source = b.source; target = b.target; binds = b.binds })
+    (λ old. record { datagram = b.datagram; among = old; source = b.source; target = b.target ∙ ap (λ (x : Endpoint). record { host = x.host; port = port }) home; binds = b.binds })
     (λ new.
     record {
       source = ap (λ (x : Datagram). x.source) (sym new) ∙ b.source;
@@ -47,7 +48,7 @@ pub may_begin : (operation : Operation) → is_too_long operation ≡ false → 
 may_begin (put file) short = ltb-false MAX_FILE (length file) short
 may_begin (get rules) short = tt
 
-module _ (w : World) (h : Holds w) (e : Endpoint) (operation : Operation) (away : e.host ≢ server_endpoint.host) (may : IsOperation operation) where
+module _ (w : World) (h : Holds w) (e : Endpoint) (operation : Operation) (away : e.host ≢ w.home.host) (may : IsOperation operation) where
   -- the world after that
   abbrev after : World
   after = begins e operation w
@@ -57,7 +58,7 @@ module _ (w : World) (h : Holds w) (e : Endpoint) (operation : Operation) (away 
   began = record { client = e; operation = operation; taken = length w.taken }
 
   abbrev request : Datagram
-  request = record { source = e; target = server_endpoint; bytes = encode (operation_request operation) }
+  request = record { source = e; target = w.home; bytes = encode (operation_request operation) }
 
   grows : Extends w.past after.past
   grows = does-extends {w = w} (doing.begun e operation)
@@ -69,7 +70,7 @@ module _ (w : World) (h : Holds w) (e : Endpoint) (operation : Operation) (away 
   -- the request is honest
   new_honest : IsHonest after.past request
   new_honest =
-      honest_packet after e server_endpoint (operation_request operation) (request_fields operation) (request_says after e server_endpoint operation asking)
+      honest_packet after e w.home (operation_request operation) (request_fields operation) (request_says after e w.home operation asking)
 
   -- ports that are an endpoint's own now were its own before
   own_then : (f : Endpoint) → IsOwn after f → IsOwn w f
@@ -116,16 +117,16 @@ module _ (w : World) (h : Holds w) (e : Endpoint) (operation : Operation) (away 
   -- the request binds nobody
   before : (f : Endpoint) (port : ℕ) → IsBound after.past f port → IsBound w.past f port
   before f port b = ⊎_elim (λ old. old) (λ (new : BindsBy request f port). absurd (request_binds operation new.binds))
-      (bound_split w after request refl f port b)
+      (bound_split w after request refl refl f port b)
 
   -- ---- the clients
 
   -- the client is the new one, or one of those before
   abbrev NewOr : Endpoint → Client → Type 0
-  NewOr f c = ((f ≡ e) × (c ≡ client_start e.port server_endpoint operation)) ⊎ (client_at f w ≡ Some c)
+  NewOr f c = ((f ≡ e) × (c ≡ client_start e.port w.home operation)) ⊎ (client_at f w ≡ Some c)
 
   found_in : (f : Endpoint) (c : Client) (here : Bool) → is_same f e ≡ here →
-      cond here (Some (client_start e.port server_endpoint operation)) (client_at f w) ≡ Some c → NewOr f c
+      cond here (Some (client_start e.port w.home operation)) (client_at f w) ≡ Some c → NewOr f c
   found_in f c true is found = inl (exact_endpoint f e is, cc)
   found_in f c false is found = inr found
 
@@ -135,8 +136,8 @@ module _ (w : World) (h : Holds w) (e : Endpoint) (operation : Operation) (away 
   -- each client is as the claims say
   faithful : (f : Endpoint) (c : Client) → NewOr f c → IsFaithful after.past f c
   faithful f c (inl new) =
-      let here : IsFaithful after.past e (client_start e.port server_endpoint operation) = record { port = refl; server = refl; phase = asking } in
-      subst (IsFaithful after.past f) (sym new.1) (subst (λ (x : Endpoint). IsFaithful after.past x (client_start e.port server_endpoint operation)) (sym new.0) here)
+      let here : IsFaithful after.past e (client_start e.port w.home operation) = record { port = refl; server = refl; phase = asking } in
+      subst (IsFaithful after.past f) (sym new.1) (subst (λ (x : Endpoint). IsFaithful after.past x (client_start e.port w.home operation)) (sym new.0) here)
   faithful f c (inr old) = faithful-lasts grows f c (h.clients f c old)
 
   -- each is bound where its endpoint is

@@ -8,16 +8,16 @@ use Rattle.tftp_packet.specs.Packet.{Packet, encode}
 use Rattle.tftp_packet.specs.Refusal.{refusal_packet}
 use Rattle.tftp_packet.specs.Decode.{decode_bytes}
 use Rattle.tftp_packet.proofs.Sent.{sent_refusal}
-use Rattle.tftp_cause.specs.declared.cause.Cause.{Cause}
+use Rattle.tftp_packet.specs.declared.cause.Cause.{Cause}
 use Rattle.archive_client.specs.declared.state.State.{State}
 use Rattle.archive_client.specs.declared.state.State.TheVariants as state
 use Rattle.archive_client.specs.Client.{Phase, failed, Client, in_phase, out_to, client_stays, moves, fails, phase_state, phase_file}
-use Rattle.archive_model.specs.World.{World, Got, newly_sent, newly_got, sent_with, got_with, after_client, client_at, IsPrefix}
+use Rattle.archive_model.specs.World.{World, Got, newly_sent, newly_got, sent_with, got_with, after_client, client_at, IsPrefix, Past, Extends}
 use Rattle.archive_model.proofs.Places.{Has, Has-push, IsPrefix-same, IsPrefix-push}
 use Rattle.archive_model.proofs.Endpoints.{endpoint_is}
 use Rattle.archive_theorem.proofs.Claims.{Says, Binds, IsPursuing, MayBind, IsSent, IsGot}
 use Rattle.archive_theorem.proofs.Invariant.{Holds}
-use Rattle.archive_theorem.proofs.Sending.{honest_packet}
+use Rattle.archive_theorem.proofs.Sending.{honest_packet, net-prefix}
 use Rattle.archive_theorem.proofs.ClientMoves.{SendsHonestly, BindsTo, acted-holds}
 
 -- ---- states
@@ -91,13 +91,13 @@ sent_by w e true sends x has =
 sent_by w e false sends x has = inl has
 
 -- what is listed was listed before, or was fetched
-got_by : (w : World) (e : Endpoint) (newly : Bool) (file : Option (List ℕ)) →
-    (newly ≡ true → (f : List ℕ) → file ≡ Some f → IsGot w.past (record { client = e; file = f })) → (g : Got) →
-    Has (got_with newly e file w.got) g → Has w.got g ⊎ IsGot w.past g
-got_by w e true (Some f) gets g has =
-    ⊎_elim (λ old. inl old) (λ is. inr (subst (IsGot w.past) (sym is) (gets refl f refl))) (Has-push w.got _ g has)
-got_by w e true None gets g has = inl has
-got_by w e false file gets g has = inl has
+got_by : (got : List Got) (later : Past) (e : Endpoint) (newly : Bool) (file : Option (List ℕ)) →
+    (newly ≡ true → (f : List ℕ) → file ≡ Some f → IsGot later (record { client = e; file = f })) → (g : Got) →
+    Has (got_with newly e file got) g → Has got g ⊎ IsGot later g
+got_by got later e true (Some f) gets g has =
+    ⊎_elim (λ old. inl old) (λ is. inr (subst (IsGot later) (sym is) (gets refl f refl))) (Has-push got _ g has)
+got_by got later e true None gets g has = inl has
+got_by got later e false file gets g has = inl has
 
 -- ---- a step by its next phase
 
@@ -105,10 +105,26 @@ got_by w e false file gets g has = inl has
 pub record Changing (w : World) (e : Endpoint) (c : Client) (phase : Phase) (out : Option Out) : Type 0 where
   pub pursuing : IsPursuing w.past e phase
   pub sending : IfSome out (SendsHonestly w e)
-  pub binding : IfSome out (BindsTo c (in_phase phase c))
+  pub binding : IfSome out (BindsTo w c (in_phase phase c))
   pub still : (p : ℕ) → MayBind c.phase p → MayBind phase p
   pub sends : newly_sent (phase_state c.phase) (phase_state phase) ≡ true → IsSent w.past e
-  pub gets : newly_got (phase_state c.phase) (phase_state phase) ≡ true → (f : List ℕ) → phase_file phase ≡ Some f → IsGot w.past (record { client = e; file = f })
+  pub gets : newly_got (phase_state c.phase) (phase_state phase) ≡ true → (f : List ℕ) → phase_file phase ≡ Some f →
+      IsGot (after_client e c (moves phase out c) w).past (record { client = e; file = f })
+
+-- it adds to what has happened
+pub changed-extends : (w : World) (e : Endpoint) (c : Client) (phase : Phase) (out : Option Out) → Extends w.past (after_client e c (moves phase out c) w).past
+changed-extends w e c phase out =
+    record {
+      home = refl;
+      net = net-prefix e.host w.net out;
+      begun = IsPrefix-same w.begun;
+      taken = IsPrefix-same w.taken;
+      recovered = IsPrefix-same w.recovered;
+      sent = sent_prefix _ e w.sent;
+      got = got_prefix _ e (phase_file phase) w.got;
+      opened = IsPrefix-same w.opened;
+      strays = IsPrefix-same w.strays;
+    }
 
 module _ (w : World) (h : Holds w) (e : Endpoint) (c : Client) (is : client_at e w ≡ Some c) where
   -- a step to another phase keeps the invariant
@@ -127,7 +143,7 @@ module _ (w : World) (h : Holds w) (e : Endpoint) (c : Client) (is : client_at e
         more_sent = sent_prefix newly_s e w.sent;
         more_got = got_prefix newly_g e (phase_file phase) w.got;
         sents = sent_by w e newly_s k.sends;
-        gots = got_by w e newly_g (phase_file phase) k.gets;
+        gots = got_by w.got (after_client e c (moves phase out c) w).past e newly_g (phase_file phase) k.gets;
       })
 
   -- a step that changes nothing keeps the invariant
@@ -152,7 +168,7 @@ module _ (w : World) (h : Holds w) (e : Endpoint) (c : Client) (is : client_at e
   failed_got why = λ apart. cc
 
   -- it fails, and may send an ERROR
-  pub fails_with : (why : Cause) (out : Option Out) → IfSome out (SendsHonestly w e) → IfSome out (BindsTo c (in_phase (failed why) c)) →
+  pub fails_with : (why : Cause) (out : Option Out) → IfSome out (SendsHonestly w e) → IfSome out (BindsTo w c (in_phase (failed why) c)) →
       Holds (after_client e c (moves (failed why) out c) w)
   fails_with why out sending binding =
       moves-holds (failed why) out
@@ -172,7 +188,7 @@ module _ (w : World) (h : Holds w) (e : Endpoint) (c : Client) (is : client_at e
   -- ---- what is sent
 
   -- the client sends from its own endpoint
-  own_endpoint : e ≡ record { host = e.host; port = c.port }
+  pub own_endpoint : e ≡ record { host = e.host; port = c.port }
   own_endpoint = endpoint_is e e.host c.port refl (sym (h.clients e c is).port)
 
   -- a packet that reads back and says what has begun is sent honestly
@@ -187,7 +203,7 @@ module _ (w : World) (h : Holds w) (e : Endpoint) (c : Client) (is : client_at e
   sends_refusal port why = sends_it port (refusal_packet why) (sent_refusal why) tt
 
   -- an ERROR binds nobody
-  pub refusal_binds : (port : ℕ) (why : Refusal) (next : Client) → BindsTo c next (out_to port (refusal_packet why) c)
+  pub refusal_binds : (port : ℕ) (why : Refusal) (next : Client) → BindsTo w c next (out_to port (refusal_packet why) c)
   refusal_binds port why next binds = absurd (subst Binds (sent_refusal why) binds)
 
   -- answering a stray with an ERROR keeps the invariant
@@ -205,7 +221,7 @@ module _ (w : World) (h : Holds w) (e : Endpoint) (c : Client) (is : client_at e
 
   -- a packet to the port that the next phase is bound to binds the client there
   pub binds_there : (port : ℕ) (p : Packet) (next : Client) → ((q : ℕ) → q ≡ port → MayBind next.phase q) →
-      ((q : ℕ) → MayBind c.phase q → q ≡ port) → BindsTo c next (out_to port p c)
+      ((q : ℕ) → MayBind c.phase q → q ≡ port) → BindsTo w c next (out_to port p c)
   binds_there port p next there was binds q to =
       let same : q ≡ port = sym (ap (λ (x : Endpoint). x.port) to) in
       (there q same, λ o m. was o m ∙ sym same)

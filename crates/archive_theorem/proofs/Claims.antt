@@ -16,7 +16,7 @@ use Rattle.tws_file.specs.Names.{ruleset_named}
 use Rattle.archive_table.specs.Table as table
 use Rattle.archive_client.specs.Client.{Operation, put, get, Phase, Client, IsOperation}
 use Rattle.archive_client.specs.Client as client
-use Rattle.archive_model.specs.World.{Datagram, Begun, Asked, to_write, to_read, Opening, Got, Past, server_endpoint}
+use Rattle.archive_model.specs.World.{Datagram, Begun, Asked, to_write, to_read, Opening, Got, Past}
 use Rattle.archive_theorem.specs.Headline.{IsBestOver, files_of, Owns}
 use Rattle.archive_model.proofs.Places.{Has}
 
@@ -84,7 +84,7 @@ pub record PutsBlock (past : Past) (source : Endpoint) (n : ℕ) (body : List �
 
 -- the server sends a block of a collection
 pub record ServesBlock (past : Past) (source target : Endpoint) (n : ℕ) (body : List ℕ) : Type 0 where
-  pub ours : source.host ≡ server_endpoint.host
+  pub ours : source.host ≡ past.home.host
   pub rules : Ruleset
   pub file : List ℕ
   pub serves : Serves past target source.port rules file
@@ -104,7 +104,7 @@ pub record AcksPut (past : Past) (target : Endpoint) (n : ℕ) : Type 0 where
 
 -- an ACK of the server to an endpoint whose ports are its own
 pub record ServerAcks (past : Past) (source target : Endpoint) (n : ℕ) : Type 0 where
-  pub ours : source.host ≡ server_endpoint.host
+  pub ours : source.host ≡ past.home.host
   pub whom : Owns past target → AcksPut past target n
 
 -- what each packet of the server or a client says is so
@@ -133,7 +133,7 @@ pub record IsBound (past : Past) (e : Endpoint) (port : ℕ) : Type 0 where
   pub datagram : Datagram
   pub among : Has past.net datagram
   pub source : datagram.source ≡ e
-  pub target : datagram.target ≡ record { host = server_endpoint.host; port = port }
+  pub target : datagram.target ≡ record { host = past.home.host; port = port }
   pub binds : Binds (decode_bytes datagram.bytes)
 
 -- ---- a transfer
@@ -172,7 +172,7 @@ IsLiveEnd past e port (table.receiving r) = IsReceivingAt past e port r
 
 -- a transfer with a peer that is not on the server's host, and its end
 pub record IsLive (past : Past) (port : ℕ) (t : Transfer) : Type 0 where
-  pub away : t.peer.host ≢ server_endpoint.host
+  pub away : t.peer.host ≢ past.home.host
   pub end : IsLiveEnd past t.peer port t.end
 
 -- a receiver that still waits for blocks
@@ -222,7 +222,7 @@ IsPursuing past e (client.failed why) = Unit {0}
 -- a client has the port of its endpoint and the server's endpoint, and pursues its operation
 pub record IsFaithful (past : Past) (e : Endpoint) (c : Client) : Type 0 where
   pub port : c.port ≡ e.port
-  pub server : c.server ≡ server_endpoint
+  pub server : c.server ≡ past.home
   pub phase : IsPursuing past e c.phase
 
 -- to which ports of the server a client in this phase has sent a DATA or an ACK
@@ -262,11 +262,12 @@ pub record IsSent (past : Past) (e : Endpoint) : Type 0 where
   pub began : HasPut past e file
   pub is_taken : Owns past e → HasTaken past e file
 
--- the collection that a get has fetched, from where it was served, and no earlier than the get began
+-- the collection that a get has fetched, from the port that it is bound to, and no earlier than the get began
 pub record IsFetched (past : Past) (g : Got) (rules : Ruleset) (count : ℕ) : Type 0 where
   pub port : ℕ
   pub serves : Serves past g.client port rules g.file
   pub since : count ≤ serves.count
+  pub bound : IsBound past g.client port
 
 -- a file that was fetched is that of a get
 pub record IsGot (past : Past) (g : Got) : Type 0 where

@@ -6,7 +6,7 @@ use Rattle.tftp_packet.specs.declared.out.Out.{Out}
 use Rattle.tftp_packet.specs.Decode.{decode_bytes}
 use Rattle.archive_table.specs.Table.{Taken, Transfer, transfer_at, is_same}
 use Rattle.archive_client.specs.Client.{Client}
-use Rattle.archive_model.specs.World.{Datagram, World, Got, server_endpoint, datagram_of, net_with, client_at, Extends, IsPrefix}
+use Rattle.archive_model.specs.World.{Datagram, World, Got, datagram_of, net_with, client_at, Extends, IsPrefix}
 use Rattle.archive_theorem.specs.Headline.{IsOwn}
 use Rattle.archive_model.proofs.Places.{Has, IsPrefix-same, Has-push, either}
 use Rattle.archive_theorem.proofs.Keyed.{NewOrOld, lookup-set, lookup-written}
@@ -30,9 +30,9 @@ pub record SendsHonestly (w : World) (e : Endpoint) (o : Out) : Type 0 where
   pub honest : IsHonest w.past (datagram_of e.host o)
 
 -- it binds the client to no other port than the one that it is bound to
-abbrev pub BindsTo : (was next : Client) → Out → Type 0
-BindsTo was next o =
-    Binds (decode_bytes o.dgram) → (port : ℕ) → o.to ≡ record { host = server_endpoint.host; port = port } → MayBind next.phase port
+abbrev pub BindsTo : World → (was next : Client) → Out → Type 0
+BindsTo w was next o =
+    Binds (decode_bytes o.dgram) → (port : ℕ) → o.to ≡ record { host = w.home.host; port = port } → MayBind next.phase port
     × ((p : ℕ) → MayBind was.phase p → p ≡ port)
 
 -- what must be shown
@@ -40,12 +40,12 @@ pub record Acting (w : World) (e : Endpoint) (was next : Client) (out : Option O
   pub is : client_at e w ≡ Some was
   pub client : IsFaithful w.past e next
   pub sending : IfSome out (SendsHonestly w e)
-  pub binding : IfSome out (BindsTo was next)
+  pub binding : IfSome out (BindsTo w was next)
   pub still : (p : ℕ) → MayBind was.phase p → MayBind next.phase p
   pub more_sent : IsPrefix w.sent sent
   pub more_got : IsPrefix w.got got
   pub sents : (x : Endpoint) → Has sent x → Has w.sent x ⊎ IsSent w.past x
-  pub gots : (g : Got) → Has got g → Has w.got g ⊎ IsGot w.past g
+  pub gots : (g : Got) → Has got g → Has w.got g ⊎ IsGot (acted e next out sent got w).past g
 
 module _ (w : World) (h : Holds w) (e : Endpoint) (was next : Client) (out : Option Out) (sent : List Endpoint) (got : List Got)
     (a : Acting w e was next out sent got) where
@@ -56,9 +56,11 @@ module _ (w : World) (h : Holds w) (e : Endpoint) (was next : Client) (out : Opt
   grows : Extends w.past after.past
   grows =
       record {
+        home = refl;
         net = net-prefix e.host w.net out;
         begun = IsPrefix-same w.begun;
         taken = IsPrefix-same w.taken;
+        recovered = IsPrefix-same w.recovered;
         sent = a.more_sent;
         got = a.more_got;
         opened = IsPrefix-same w.opened;
@@ -72,7 +74,7 @@ module _ (w : World) (h : Holds w) (e : Endpoint) (was next : Client) (out : Opt
     pub out_of : Out
     pub is_out : out ≡ Some out_of
     pub by : f ≡ e
-    pub to : out_of.to ≡ record { host = server_endpoint.host; port = port }
+    pub to : out_of.to ≡ record { host = w.home.host; port = port }
     pub binds : Binds (decode_bytes out_of.dgram)
 
   -- what is sent is from the endpoint
@@ -81,7 +83,7 @@ module _ (w : World) (h : Holds w) (e : Endpoint) (was next : Client) (out : Opt
 
   -- who is bound was bound before, or is so by what is sent
   bound_by : (sends : Option Out) → out ≡ sends → IfSome sends (SendsHonestly w e) → (f : Endpoint) (port : ℕ) (d : Datagram) →
-      Has (net_with e.host w.net sends) d → d.source ≡ f → d.target ≡ record { host = server_endpoint.host; port = port } →
+      Has (net_with e.host w.net sends) d → d.source ≡ f → d.target ≡ record { host = w.home.host; port = port } →
       Binds (decode_bytes d.bytes) → IsBound w.past f port ⊎ NewBound f port
   bound_by None is sending f port d has source target binds =
       inl (record { datagram = d; among = has; source = source; target = target; binds = binds })
@@ -105,7 +107,7 @@ module _ (w : World) (h : Holds w) (e : Endpoint) (was next : Client) (out : Opt
   -- a step binds the client only to the port that its next phase is bound to
   binding_of : (f : Endpoint) (port : ℕ) → NewBound f port → MayBind next.phase port × ((p : ℕ) → MayBind was.phase p → p ≡ port)
   binding_of f port b =
-      let binding = subst (λ (o : Option Out). IfSome o (BindsTo was next)) b.is_out a.binding in
+      let binding = subst (λ (o : Option Out). IfSome o (BindsTo w was next)) b.is_out a.binding in
       binding b.binds port b.to
 
   -- each datagram of the network is still honest
@@ -159,7 +161,7 @@ module _ (w : World) (h : Holds w) (e : Endpoint) (was next : Client) (out : Opt
   one_target f p q b c =
       let same_out : Some b.out_of ≡ Some c.out_of = sym b.is_out ∙ c.is_out in
       let same : b.out_of ≡ c.out_of = cc in
-      let to : record { host = server_endpoint.host; port = p } ≡ record { host = server_endpoint.host; port = q } =
+      let to : record { host = w.home.host; port = p } ≡ record { host = w.home.host; port = q } =
       sym b.to ∙ ap (λ (o : Out). o.to) same ∙ c.to in
       ap (λ (x : Endpoint). x.port) to
 
@@ -205,6 +207,6 @@ module _ (w : World) (h : Holds w) (e : Endpoint) (was next : Client) (out : Opt
         taken = λ t has other. is_taken-lasts grows t (h.taken t has other);
         once = h.once;
         sent = λ x has. sent-lasts grows x (⊎_elim (h.sent x) (λ now. now) (a.sents x has));
-        got = λ g has. got-lasts grows g (⊎_elim (h.got g) (λ now. now) (a.gots g has));
+        got = λ g has. ⊎_elim (λ old. got-lasts grows g (h.got g old)) (λ now. now) (a.gots g has);
         best = h.best;
       }

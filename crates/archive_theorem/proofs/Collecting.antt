@@ -9,8 +9,8 @@ use Rattle.tws_best.specs.Best.{KeyedBody, IsKeyedBody, Collected, IsCollected, 
 use Rattle.tws_best.proofs.Members.{all_at, all_from}
 use Rattle.tws_best.proofs.Taking.{solved_entries}
 use Rattle.archive_table.specs.Table.{Maps, Taken, Grant, IsMerged, empty_maps}
-use Rattle.archive_model.specs.World.{World, WorldStep, start, happens, run_from, HasMerged, AllMerged}
-use Rattle.archive_theorem.proofs.Invariant.{AreBest, none-over, start_from-best}
+use Rattle.archive_model.specs.World.{World, WorldStep, start, happens, run_from, HasMerged, AllMerged, Origin, RunFrom, last_world, first_world}
+use Rattle.archive_theorem.proofs.Invariant.{AreBest, first-best}
 use Rattle.archive_theorem.proofs.Merging.{best-taken}
 use Rattle.archive_theorem.proofs.Remaining.{StepTakes, step-takes}
 
@@ -43,24 +43,24 @@ best-collected rules texts c of =
 -- ---- a run
 
 -- a step that takes a file, or none
-step_by : (w v : World) (grant : Grant) → ((t : Taken) → v.taken ≡ w.taken ++ t ∷ [] → IsMerged t.file w.server.maps v.server.maps) →
-    StepTakes grant w v → AreBest w.taken w.server.maps → AreBest v.taken v.server.maps
-step_by w v grant merged (inl remain) best =
+step_by : (w v : World) (Granted : Type 0) → ((t : Taken) → v.taken ≡ w.taken ++ t ∷ [] → IsMerged t.file w.server.maps v.server.maps) →
+    StepTakes Granted w v → AreBest w.taken w.server.maps → AreBest v.taken v.server.maps
+step_by w v Granted merged (inl remain) best =
     subst (λ (m : Maps). AreBest v.taken m) (sym remain.1) (subst (λ (ts : List Taken). AreBest ts w.server.maps) (sym remain.0) best)
-step_by w v grant merged (inr takes) best =
+step_by w v Granted merged (inr takes) best =
     subst (λ (ts : List Taken). AreBest ts v.server.maps) (sym takes.1)
     (best-taken w.taken takes.0 w.server.maps v.server.maps best (merged takes.0 takes.1))
 
 -- after a step the collections are the best over the files taken
 pub step-best : (w : World) (s : WorldStep) → HasMerged s w → AreBest w.taken w.server.maps → AreBest (happens s w).taken (happens s w).server.maps
-step-best w s merged best = step_by w (happens s w) s.grant merged (step-takes w s) best
-
--- at the start the collections are the best over the files taken
-pub start-best : AreBest start.taken start.server.maps
-start-best = start_from-best [] empty_maps none-over
+step-best w s merged best = step_by w (happens s w) _ merged (step-takes w s) best
 
 -- after any steps the collections are the best over the files taken
 pub run_from-best : (steps : List WorldStep) (w : World) → AllMerged steps w → AreBest w.taken w.server.maps →
     AreBest (run_from steps w).taken (run_from steps w).server.maps
 run_from-best [] w merged best = best
 run_from-best (s ∷ steps) w merged best = run_from-best steps (happens s w) merged.1 (step-best w s merged.0 best)
+
+-- after any run the collections are the best over the files taken
+pub last-best : (o : Origin) (r : RunFrom o) → AreBest (last_world r).taken (last_world r).server.maps
+last-best o r = run_from-best r.steps (first_world o) r.merged (first-best o)

@@ -1,19 +1,22 @@
 -- The headline of each client follows from the invariant, and with it the headline if no port is reused.
-use Rattle.std.proofs.Common.{◌≡◌, ◌≢◌, ◌⊎◌, ℕ, List, [], Contains, Some, slice_get, refl, ap, sym, ◌∙◌, subst, inl, inr}
+use Rattle.std.proofs.Common.{◌≡◌, ◌≢◌, ◌⊎◌, ℕ, ◌≤◌, List, [], map, take, length, Contains, Some, slice_get, refl, ap, sym, ◌∙◌, subst, inl, inr, arith, le_refl, take_all}
+use Rattle.std.proofs.lemmas.List.{length-map}
 use Rattle.tftp_packet.specs.declared.endpoint.Endpoint.{Endpoint}
-use Rattle.archive_table.specs.Table.{Maps, Taken, empty_maps}
+use Rattle.archive_table.specs.Table.{Taken}
 use Rattle.archive_client.specs.Client.{put}
-use Rattle.archive_model.specs.World.{Begun, to_write, Got, World, WorldStep, server_endpoint, start_from, start, run_from, run, AllMerged}
-use Rattle.archive_theorem.specs.Headline.{IsOwn, HasOwnPorts, HasOperation, AreOver, IsStrayFrom, TakenOnce, SentOnce, IsFinishedGet, ClientHeadline, ClientsHeadline, Headline}
-use Rattle.archive_model.proofs.Places.{Has-contains, Has-from_contains}
+use Rattle.archive_model.specs.World.{Begun, to_write, Got, World, Origin, empty_origin, RunFrom, given, first_world, last_world, IsPrefix}
+use Rattle.archive_theorem.specs.Headline.{IsOwn, HasOwnPorts, HasOperation, IsStrayFrom, TakenOnce, SentOnce, IsFinishedGet, ClientHeadline, ClientsHeadline, Headline}
+use Rattle.archive_model.proofs.Places.{Has, Has-contains, Has-from_contains, take-prefix}
+use Rattle.archive_model.proofs.Growing.{run-extends}
 use Rattle.archive_theorem.proofs.Claims.{HasBegun, HasPut, IsStranger, IsAskedBy, IsTaken, IsSent, IsGot}
 use Rattle.archive_theorem.proofs.Owning.{own-each, put_begun, get_begun}
 use Rattle.archive_theorem.proofs.ServerMoves.{begun_away}
-use Rattle.archive_theorem.proofs.Invariant.{Holds, none-over, start_from-holds}
-use Rattle.archive_theorem.proofs.Happening.{run_from-holds}
+use Rattle.archive_theorem.proofs.Invariant.{Holds}
+use Rattle.archive_theorem.proofs.Happening.{last-holds}
 use Rattle.archive_theorem.proofs.Strangers.{AreFromOthers, run-from_others}
 
-module _ (w : World) (h : Holds w) where
+module _ (o : Origin) (w : World) (h : Holds w) (same : w.home ≡ o.home) (start : IsPrefix (map (given o.home) o.texts) w.taken)
+    (others : AreFromOthers o.home (length o.texts) w.taken) where
   -- an operation that has begun, in the headline's terms
   begun_there : (e : Endpoint) → HasBegun w.past e → HasOperation w.begun e
   begun_there e b = (b.begun, Has-contains w.begun b.begun b.among, b.client)
@@ -27,15 +30,25 @@ module _ (w : World) (h : Holds w) where
   known t i (inl stranger) = inr (stranger.datagram, Has-contains w.strays _ stranger.among, stranger.source)
   known t i (inr asked) = inl (begun_there t.peer (put_begun t.peer asked.0 asked.1))
 
-  -- the same for each file that was taken
-  taken_known : (t : Taken) → IsTaken w.past t → HasOperation w.begun t.peer ⊎ IsStrayFrom w.strays t.peer
-  taken_known t i = known t i (h.opened _ i.opened.among).whose
+  -- the same for each file that was taken, after the first texts
+  taken_known : (i : ℕ) (t : Taken) → length o.texts ≤ i → slice_get w.taken i ≡ Some t → HasOperation w.begun t.peer ⊎ IsStrayFrom w.strays t.peer
+  taken_known i t later at =
+      let away : t.peer.host ≢ w.home.host = λ ours. others i t later at (ours ∙ ap (λ (e : Endpoint). e.host) same) in
+      let is = h.taken t (record { position = i; is = at }) away in
+      known t is (h.opened _ is.opened.among).whose
+
+  -- the first texts are the first files taken
+  first_taken : take (length o.texts) w.taken ≡ map (given o.home) o.texts
+  first_taken =
+      let texts = map (given o.home) o.texts in
+      let size : length o.texts ≡ length texts = sym (length-map o.texts (given o.home)) in
+      ap (λ (n : ℕ). take n w.taken) size ∙ take-prefix texts w.taken (length texts) start (le_refl (length texts)) ∙ take_all (length texts) texts (le_refl (length texts))
 
   -- ---- a client whose ports are its own
 
   module _ (e : Endpoint) (operation : HasOperation w.begun e) (own : IsOwn w e) where
     -- it is not on the server's host
-    away : (x : Endpoint) → x ≡ e → x.host ≢ server_endpoint.host
+    away : (x : Endpoint) → x ≡ e → x.host ≢ w.home.host
     away x same =
         let begun : HasBegun w.past e = record { begun = operation.0; among = Has-from_contains w.begun operation.0 operation.1; client = operation.2 } in
         λ ours. begun_away w h e begun (ap (λ (y : Endpoint). y.host) (sym same) ∙ ours)
@@ -101,10 +114,11 @@ module _ (w : World) (h : Holds w) where
         }
 
   -- the headline holds for each client whose ports are its own
-  pub clients : ClientsHeadline w
+  pub clients : ClientsHeadline o w
   clients =
       record {
-        taken = λ t among other. taken_known t (h.taken t (Has-from_contains w.taken t among) other);
+        first = first_taken;
+        taken = taken_known;
         sent = λ e among. let s = h.sent e (Has-from_contains w.sent e among) in begun_there e (put_begun e s.file s.began);
         got = λ g among.
             let is = h.got g (Has-from_contains w.got g among) in
@@ -116,16 +130,19 @@ module _ (w : World) (h : Holds w) where
 
 -- ---- if no port is reused, and the server had nothing at first
 
-module _ (w : World) (all : ClientsHeadline w) (others : AreFromOthers w.taken) (own : HasOwnPorts w) where
+module _ (home : Endpoint) (w : World) (all : ClientsHeadline (empty_origin home) w) (own : HasOwnPorts w) where
   -- the headline holds for each operation
   each : (e : Endpoint) → HasOperation w.begun e → ClientHeadline w.past e
   each e operation = all.client e operation (own-each w own e operation)
+
+  known_all : (t : Taken) → Has w.taken t → HasOperation w.begun t.peer ⊎ IsStrayFrom w.strays t.peer
+  known_all t has = all.taken has.position t (omega arith) has.is
 
   -- each file is taken at most once, unchanged
   taken_once : TakenOnce w.past
   taken_once =
       record {
-        known = λ t among. all.taken t among (others t (Has-from_contains w.taken t among));
+        known = λ t among. known_all t (Has-from_contains w.taken t among);
         unchanged = λ t among operation. (each t.peer operation).unchanged t among refl;
         once = λ i j t u at_i at_j operation same. (each t.peer operation).once i j t u at_i at_j refl (sym same);
       }
@@ -141,17 +158,12 @@ module _ (w : World) (all : ClientsHeadline w) (others : AreFromOthers w.taken) 
         got = λ g among. (each g.client (all.got g among)).got g among refl;
       }
 
--- after any steps of a server that begins with collections over these texts
-pub run_from-clients : (texts : List (List ℕ)) (maps : Maps) → AreOver texts maps → (steps : List WorldStep) →
-    AllMerged steps (start_from texts maps) → ClientsHeadline (run_from steps (start_from texts maps))
-run_from-clients texts maps over steps merged =
-    let w = start_from texts maps in
-    clients (run_from steps w) (run_from-holds steps w (start_from-holds texts maps over) merged)
-
 -- after any run
-pub run-clients : (steps : List WorldStep) → AllMerged steps start → ClientsHeadline (run steps)
-run-clients steps merged = run_from-clients [] empty_maps none-over steps merged
+pub run-clients : (o : Origin) (r : RunFrom o) → ClientsHeadline o (last_world r)
+run-clients o r =
+    let more = run-extends r.steps (first_world o) in
+    clients o (last_world r) (last-holds o r) more.home more.taken (run-from_others o r)
 
--- after any run in which no port is reused
-pub run-headline : (steps : List WorldStep) → HasOwnPorts (run steps) → AllMerged steps start → Headline (run steps)
-run-headline steps own merged = headline (run steps) (run-clients steps merged) (run-from_others steps merged) own
+-- after any run from nothing in which no port is reused
+pub run-headline : (home : Endpoint) (r : RunFrom (empty_origin home)) → HasOwnPorts (last_world r) → Headline (last_world r)
+run-headline home r own = headline home (last_world r) (run-clients (empty_origin home) r) own

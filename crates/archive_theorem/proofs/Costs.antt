@@ -1,7 +1,7 @@
 -- No step sends more than one datagram, so the network never has more datagrams than steps.
 use Rattle.std.proofs.Common.{ℕ, suc, ◌+◌, ◌≤◌, List, [], ◌∷◌, length, ap, inl, inr, arith, length-append}
 use Rattle.archive_table.specs.Table.{Maps}
-use Rattle.archive_model.specs.World.{Datagram, WorldStep, World, happens, run_from, start_from}
+use Rattle.archive_model.specs.World.{Datagram, WorldStep, World, happens, run_from, Origin, first_world}
 use Rattle.archive_model.specs.Adding.{AddsOne}
 use Rattle.archive_model.proofs.Growing.{step-adds}
 
@@ -19,7 +19,7 @@ run_from-sends (s ∷ steps) w =
     omega (arith, now, rest)
 
 -- so in a run no more datagrams than steps
-pub run-sends : (texts : List (List ℕ)) (maps : Maps) (steps : List WorldStep) → length (run_from steps (start_from texts maps)).net ≤ length steps
-run-sends texts maps steps =
-    let all : length (run_from steps (start_from texts maps)).net ≤ 0 + length steps = run_from-sends steps (start_from texts maps) in
+pub run-sends : (o : Origin) (steps : List WorldStep) → length (run_from steps (first_world o)).net ≤ length steps
+run-sends o steps =
+    let all : length (run_from steps (first_world o)).net ≤ 0 + length steps = run_from-sends steps (first_world o) in
     omega arith

@@ -1,7 +1,7 @@
 -- Every operation that has begun is that of an event, and its count of files taken is that of the run before it.
 use Rattle.std.proofs.Common.{◌≡◌, ℕ, List, length, Contains, inl, inr}
 use Rattle.archive_table.specs.Table.{Maps}
-use Rattle.archive_model.specs.World.{Begun, begin, World, WorldStep, run_from, start_from}
+use Rattle.archive_model.specs.World.{Begun, begin, World, WorldStep, run_from, Origin, first_world}
 use Rattle.archive_theorem.specs.Headline.{BeganBy}
 use Rattle.archive_model.proofs.Places.{Has-from_contains}
 use Rattle.archive_model.proofs.Growing.{step-adds}
@@ -13,10 +13,9 @@ abbrev Begins : World → WorldStep → Begun → Type 0
 Begins w s b = (s.event ≡ begin b.client b.operation) × (b.taken ≡ length w.taken)
 
 -- in a run each operation begins with an event
-pub began-by : (texts : List (List ℕ)) (maps : Maps) (steps : List WorldStep) (b : Begun) → Contains (run_from steps (start_from texts maps)).begun b →
-    BeganBy (start_from texts maps) steps b
-began-by texts maps steps b among =
-    let w = start_from texts maps in
+pub began-by : (o : Origin) (steps : List WorldStep) (b : Begun) → Contains (run_from steps (first_world o)).begun b → BeganBy (first_world o) steps b
+began-by o steps b among =
+    let w = first_world o in
     let has = Has-from_contains (run_from steps w).begun b among in
     elim (added-in (λ (v : World). v.begun) Begins (λ v s. (step-adds v s).begun) steps w has.position b has.is) [
       | inl old ↦ none_at b (record { position = has.position; is = old })

@@ -16,18 +16,18 @@ use Rattle.tws_best.proofs.Texts.{file_from, is_text, file_solves, file_rules}
 use Rattle.archive_table.specs.Table.{Maps, Taken, map_of}
 use Rattle.archive_table.specs.Keeper.{Keeping}
 use Rattle.archive_client.specs.Client.{put}
-use Rattle.archive_model.specs.World.{Begun, Got, WorldStep, World, start_from, run_from, happens, AllMerged, IsPrefix}
-use Rattle.archive_theorem.specs.Headline.{IsOwn, AreOver, IsBestOver, files_of}
-use Rattle.archive_model.specs.Restarts.{HasKept, RunKeeps, RestartsFrom}
+use Rattle.archive_model.specs.World.{Begun, Got, WorldStep, World, Origin, RunFrom, first_world, last_world, run_from, happens, HasMerged, AllMerged, IsPrefix}
+use Rattle.archive_theorem.specs.Headline.{IsOwn, IsBestOver, files_of}
+use Rattle.archive_model.specs.Restarts.{HasKept, RunKeeps, LoadsAs}
 use Rattle.archive_theorem.specs.Durable.{HasNoWorse, AreNoWorse, HoldsFile, HoldsPromised, LoadsPromised, CutsShort}
 use Rattle.archive_model.proofs.Places.{Has, IsPrefix-same, IsPrefix-on, Has-contains, Has-from_contains, Has-prefix}
 use Rattle.archive_theorem.proofs.Owning.{one_operation}
-use Rattle.archive_theorem.proofs.Invariant.{AreBest, Holds, start_from-holds}
+use Rattle.archive_theorem.proofs.Invariant.{AreBest, Holds, first-holds}
 use Rattle.archive_theorem.proofs.Collecting.{best-collected}
 use Rattle.archive_theorem.proofs.Remaining.{step-takes}
-use Rattle.archive_theorem.proofs.Happening.{merged-first, merged-rest, step-holds, run_from-holds}
-use Rattle.archive_theorem.proofs.Loading.{loads-the_same}
-use Rattle.archive_theorem.proofs.Persisting.{own-ruleset, event-kept, maps-are, run_from-kept, loads-from}
+use Rattle.archive_theorem.proofs.Happening.{merged-first, step-holds, run_from-holds, last-holds}
+use Rattle.archive_theorem.proofs.Loading.{loads-the_same, loads-as}
+use Rattle.archive_theorem.proofs.Persisting.{own-ruleset, maps-are, has-kept, last-loads, step-loads}
 use Rattle.archive_model.proofs.Growing.{step-extends, end-extends}
 
 -- ---- one collection
@@ -157,64 +157,41 @@ module _ (w : World) (h : Holds w) (taken : List Taken) (maps : Maps) (more : Is
 
 -- what a later world has kept holds what an earlier one has promised
 loads_later : (w : World) (steps : List WorldStep) (v : World) (log : List Keeping) → Holds (run_from steps w) →
-    IsPrefix (run_from steps w).taken v.taken → AreBest v.taken v.server.maps → HasKept log v.server.maps → LoadsPromised w steps log
-loads_later w steps v log h more best kept lynx ms from_lynx from_ms =
-    let same =
-    loads-the_same log v.server.maps kept (best-collected Lynx _ v.server.maps.lynx best.lynx)
-    (best-collected Ms _ v.server.maps.ms best.ms) lynx ms from_lynx from_ms in
+    IsPrefix (run_from steps w).taken v.taken → AreBest v.taken v.server.maps → LoadsAs log v.server.maps → LoadsPromised w steps log
+loads_later w steps v log h more best loads lynx ms from_lynx from_ms =
+    let same = loads-as log v.server.maps loads lynx ms from_lynx from_ms in
     subst (HoldsPromised (run_from steps w)) (maps-are lynx ms v.server.maps same.0 same.1)
     (holds-promised (run_from steps w) h v.taken v.server.maps more best)
 
-module _ (texts : List (List ℕ)) (maps : Maps) (over : AreOver texts maps) where
-  -- the world at first
-  abbrev first : World
-  first = start_from texts maps
-
-  -- the invariant holds at first
-  at_first : Holds first
-  at_first = start_from-holds texts maps over
-
+module _ (o : Origin) (r : RunFrom o) where
   -- no steps make a collection worse
-  pub never-worse : (before after : List WorldStep) → AllMerged (before ++ after) first →
-      AreNoWorse (run_from before first).server.maps (run_from (before ++ after) first).server.maps
-  never-worse before after merged =
+  pub never-worse : (before after : List WorldStep) → r.steps ≡ before ++ after →
+      AreNoWorse (run_from before (first_world o)).server.maps (last_world r).server.maps
+  never-worse before after split =
+      let first = first_world o in
       let w = run_from before first in
       let v = run_from (before ++ after) first in
-      let more : IsPrefix w.taken v.taken = (end-extends before after first).taken in
-      let h = run_from-holds before first at_first (merged-first before after first merged) in
-      none-worse w h v.taken v.server.maps more (run_from-holds (before ++ after) first at_first merged).best
+      let merged = subst (λ (l : List WorldStep). AllMerged l first) split r.merged in
+      let h = run_from-holds before first (first-holds o) (merged-first before after first merged) in
+      let worse = none-worse w h v.taken v.server.maps (end-extends before after first).taken (run_from-holds (before ++ after) first (first-holds o) merged).best in
+      subst (λ (l : List WorldStep). AreNoWorse w.server.maps (run_from l first).server.maps) (sym split) worse
 
-  module _ (log : List Keeping) (kept : HasKept log maps) where
-    -- after any steps it has what the server has
-    has_kept : (steps : List WorldStep) (last : List Keeping) → AllMerged steps first → RunKeeps steps first log last →
-        HasKept last (run_from steps first).server.maps
-    has_kept steps last merged keeps = run_from-kept steps first log last merged at_first.best keeps kept
+  module _ (log : List Keeping) (loads : LoadsAs log o.maps) where
+    -- what a keeper loads after it has all that was promised
+    pub loads-promised : (last : List Keeping) → RunKeeps r.steps (first_world o) log last → LoadsPromised (first_world o) r.steps last
+    loads-promised last keeps =
+        let h = last-holds o r in
+        loads_later (first_world o) r.steps (last_world r) last h (IsPrefix-same (last_world r).taken) h.best (last-loads o r log last keeps loads)
 
-    -- so a restart loads the current collections
-    pub run_from-restarts : (steps : List WorldStep) (last : List Keeping) → AllMerged steps first → RunKeeps steps first log last →
-        HasKept last (run_from steps first).server.maps × RestartsFrom last (run_from steps first)
-    run_from-restarts steps last merged keeps =
-        let now = has_kept steps last merged keeps in
-        (now, loads-from (run_from steps first) last (run_from-holds steps first at_first merged).best now)
-
-    -- what it loads has all that was promised
-    pub loads-promised : (steps : List WorldStep) (last : List Keeping) → AllMerged steps first → RunKeeps steps first log last → LoadsPromised first steps last
-    loads-promised steps last merged keeps =
-        let w = run_from steps first in
-        let h = run_from-holds steps first at_first merged in
-        loads_later first steps w last h (IsPrefix-same w.taken) h.best (has_kept steps last merged keeps)
-
-    -- if a crash cuts a step short, what is then loaded has all that was promised
-    pub cut-promised : (steps : List WorldStep) (s : WorldStep) (before last : List Keeping) → AllMerged (steps ++ s ∷ []) first →
-        RunKeeps steps first log before → CutsShort first steps s before last → LoadsPromised first steps last
-    cut-promised steps s before last merged keeps (after, by, inl early) =
-        subst (LoadsPromised first steps) (sym early) (loads-promised steps before (merged-first steps (s ∷ []) first merged) keeps)
-    cut-promised steps s before last merged keeps (after, by, inr late) =
-        let w = run_from steps first in
+    -- if a crash cuts the next step short, what is then loaded has all that was promised
+    pub cut-promised : (s : WorldStep) (before last : List Keeping) → HasMerged s (last_world r) → RunKeeps r.steps (first_world o) log before →
+        CutsShort (first_world o) r.steps s before last → LoadsPromised (first_world o) r.steps last
+    cut-promised s before last merged keeps (after, by, inl early) =
+        subst (LoadsPromised (first_world o) r.steps) (sym early) (loads-promised before keeps)
+    cut-promised s before last merged keeps (after, by, inr late) =
+        let w = last_world r in
         let v = happens s w in
-        let early = merged-first steps (s ∷ []) first merged in
-        let h = run_from-holds steps first at_first early in
-        let best = (step-holds w s h (merged-rest steps (s ∷ []) first merged).0).best in
-        let now =
-        event-kept w s.event s.grant s.maps before after (step-takes w s) (own-ruleset v.taken v.server.maps best) by (has_kept steps before early keeps) in
-        subst (LoadsPromised first steps) (sym late) (loads_later first steps v after h (step-extends w s).taken best now)
+        let h = last-holds o r in
+        let best = (step-holds w s h merged).best in
+        let now = step-loads w s before after best by (last-loads o r log before keeps loads) in
+        subst (LoadsPromised (first_world o) r.steps) (sym late) (loads_later (first_world o) r.steps v after h (step-extends w s).taken best now)

@@ -17,13 +17,12 @@ use Rattle.archive_table.specs.Table.{Table, Maps, Taken, all, Transfer, receivi
 use Rattle.archive_table.specs.Table as table
 use Rattle.archive_client.specs.Client.{put, sending, asking, Client, operation_request, client_start, put_sent, put_answered, client_by_input, client_datagram}
 use Rattle.archive_client.specs.Client as client
-use Rattle.archive_model.specs.World.{server_endpoint}
 use Rattle.archive_model.proofs.Endpoints.{same_endpoint}
 use Rattle.archive_theorem.proofs.Answering.{request_fields}
 
 -- ---- the ends
 
-module _ (file : List ℕ) (short : length file ≤ MAX_FILE) (e : Endpoint) (p : ℕ) (m : Maps) where
+module _ (home : Endpoint) (file : List ℕ) (short : length file ≤ MAX_FILE) (e : Endpoint) (p : ℕ) (m : Maps) where
   -- the server's receiver after n blocks, and after the last one, whose file it has handed out
   abbrev pub blocks_in : (n : ℕ) → Receiver
   blocks_in n = record { count = n; file = Some (first_blocks file n); misses = 0; state = recv.Running }
@@ -38,7 +37,7 @@ module _ (file : List ℕ) (short : length file ≤ MAX_FILE) (e : Endpoint) (p 
   -- the client that has sent block n
   abbrev pub block_out : (n : ℕ) → Client
   block_out n =
-      record { port = e.port; server = server_endpoint; phase = sending p (record { file = file; current = n; misses = 0; state = send.Running }) }
+      record { port = e.port; server = home; phase = sending p (record { file = file; current = n; misses = 0; state = send.Running }) }
 
   -- the blocks' numbers fit in two bytes
   few_blocks : block_count file < 65536
@@ -106,12 +105,12 @@ module _ (file : List ℕ) (short : length file ≤ MAX_FILE) (e : Endpoint) (p 
 
   -- the server's endpoint of the transfer
   abbrev pub from_server : Endpoint
-  from_server = record { host = server_endpoint.host; port = p }
+  from_server = record { host = home.host; port = p }
 
   -- to the client an ACK from there means that ACK
-  received_ack : (n : ℕ) → n < 2 ^ 16 → client.client_input server_endpoint.host (Some p) from_server (encode (ack n)) ≡ acked n
+  received_ack : (n : ℕ) → n < 2 ^ 16 → client.client_input home.host (Some p) from_server (encode (ack n)) ≡ acked n
   received_ack n small =
-      ap (λ (b : Bool). client.client_input_at b (Some p) p (encode (ack n))) (eq-eqb server_endpoint.host server_endpoint.host refl)
+      ap (λ (b : Bool). client.client_input_at b (Some p) p (encode (ack n))) (eq-eqb home.host home.host refl)
       ∙ ap (λ (x : Result Packet PacketFault). client.client_input_decoded (Some p) p x) (ack-reads_back n small).decoded
       ∙ ap (λ (b : Bool). input_of_packet b (ack n)) (eq-eqb p p refl)
 
@@ -154,8 +153,8 @@ module _ (file : List ℕ) (short : length file ≤ MAX_FILE) (e : Endpoint) (p 
 
   -- its ACK makes the client send the first block
   pub first-acked : client_datagram granted from_server (encode (ack 0))
-      (client_start e.port server_endpoint (put file)) ≡ put_answered true p file (client_start e.port server_endpoint (put file))
+      (client_start e.port home (put file)) ≡ put_answered true p file (client_start e.port home (put file))
   first-acked =
-      let c = client_start e.port server_endpoint (put file) in
-      ap (λ (b : Bool). client_by_input (client.client_input_at b None p (encode (ack 0))) granted p c) (eq-eqb server_endpoint.host server_endpoint.host refl)
+      let c = client_start e.port home (put file) in
+      ap (λ (b : Bool). client_by_input (client.client_input_at b None p (encode (ack 0))) granted p c) (eq-eqb home.host home.host refl)
       ∙ ap (λ (x : Result Packet PacketFault). client_by_input (client.client_input_decoded None p x) granted p c) (ack-reads_back 0 (omega arith)).decoded

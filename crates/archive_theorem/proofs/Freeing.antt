@@ -9,15 +9,14 @@ use Rattle.tftp_ends.specs.declared.recv_state.RecvState.{RecvState}
 use Rattle.tftp_ends.specs.declared.recv_state.RecvState.TheVariants as recv
 use Rattle.tftp_ends.specs.Ends.{Sender, Receiver, sender_missed, sender_stays, sender_timeout_in, receiver_missed, receiver_dallied, receiver_timeout_in}
 use Rattle.archive_table.specs.Table.{Table, Maps, Taken, End, Transfer, sending, receiving, TableAnswer, at_port, transfer_at, sending_goes_on, receiving_goes_on, waits_at, timeout_at, table_timeout}
-use Rattle.archive_model.specs.World.{WorldStep, World, after_transfer, taken_with, start_from, run_from, AllMerged}
-use Rattle.archive_theorem.specs.Headline.{AreOver}
+use Rattle.archive_model.specs.World.{WorldStep, World, after_transfer, taken_with, run_from, AllMerged, Origin, RunFrom, last_world}
 use Rattle.archive_theorem.specs.Freeing.{time_out, time_outs, IsFreed}
 use Rattle.archive_theorem.proofs.Claims.{IsLiveEnd}
-use Rattle.archive_theorem.proofs.Invariant.{same_port, Holds, start_from-holds}
+use Rattle.archive_theorem.proofs.Invariant.{same_port, Holds}
 use Rattle.archive_theorem.proofs.Acking.{timeout-holds}
 use Rattle.archive_theorem.proofs.Remaining.{Remain, timeout_leaves}
 use Rattle.archive_theorem.proofs.Totality.{not_more}
-use Rattle.archive_theorem.proofs.Happening.{run-append, run_from-holds}
+use Rattle.archive_theorem.proofs.Happening.{run-append, run_from-holds, last-holds}
 
 -- ---- one time-out
 
@@ -157,7 +156,7 @@ free_now : (k : ℕ) (w : World) (port : ℕ) (rest : List (ℕ × Transfer)) �
 free_now k w port rest is =
     free_on k w port rest (record { ports = []; few = omega arith; live = is; remain = (refl, refl) })
 
--- so many time-outs as are missing to five free the first transfer's port
+-- as many time-outs as the first transfer lacks of five free its port
 abbrev FreesFirst : (k : ℕ) → Type 0
 FreesFirst k =
     (w : World) → Holds w → (port : ℕ) (t : Transfer) (rest : List (ℕ × Transfer)) → w.server.live ≡ (port, t) ∷ rest → 5 ≤ misses_of t.end + k → Freed k w rest
@@ -228,9 +227,6 @@ holds-freed w h =
     let f = free_all w.server.live w h refl in
     record { ports = f.ports; few = f.few; idle = f.live; taken = f.remain.0; maps = f.remain.1 }
 
--- after any steps of a server that begins with collections over these texts, time-outs free every port
-pub run_from-freed : (texts : List (List ℕ)) (maps : Maps) → AreOver texts maps → (steps : List WorldStep) →
-    AllMerged steps (start_from texts maps) → IsFreed (run_from steps (start_from texts maps))
-run_from-freed texts maps over steps merged =
-    let w = start_from texts maps in
-    holds-freed (run_from steps w) (run_from-holds steps w (start_from-holds texts maps over) merged)
+-- after any run time-outs free every port
+pub run_from-freed : (o : Origin) (r : RunFrom o) → IsFreed (last_world r)
+run_from-freed o r = holds-freed (last_world r) (last-holds o r)

@@ -15,15 +15,14 @@ use Rattle.tftp_ends.specs.Input.{Input, acked, input_of_packet}
 use Rattle.tftp_ends.proofs.Steps.{data-reads_back, ack-reads_back}
 use Rattle.tws_file.specs.declared.«ruleset».Ruleset.{Ruleset}
 use Rattle.tws_best.specs.Best.{collection_text}
-use Rattle.archive_table.specs.Table.{Table, Maps, all, Transfer, sending, goes_on, opens, map_of, has_slot, has_long_text, transfer_at, transfer_by_input, datagram_at, table_datagram, read_fits, read_with_slot, read_named, request_decoded, table_request}
+use Rattle.archive_table.specs.Table.{Table, Maps, all, Transfer, sending, goes_on, closes, opens, map_of, has_slot, has_long_text, transfer_at, transfer_by_input, datagram_at, table_datagram, read_fits, read_with_slot, read_named, request_decoded, table_request}
 use Rattle.archive_table.specs.Table as table
 use Rattle.archive_client.specs.Client.{get, receiving, Client, ClientAnswer, moves, out_to, operation_request, client_start, get_took, get_sent, client_by_input, client_datagram}
 use Rattle.archive_client.specs.Client as client
-use Rattle.archive_model.specs.World.{server_endpoint}
 use Rattle.archive_model.proofs.Endpoints.{same_endpoint}
 use Rattle.archive_theorem.proofs.Answering.{request_fields, own_name}
 
-module _ (text : List ℕ) (short : length text ≤ MAX_FILE) (e : Endpoint) (p : ℕ) where
+module _ (home : Endpoint) (text : List ℕ) (short : length text ≤ MAX_FILE) (e : Endpoint) (p : ℕ) where
   -- the client's receiver after n blocks, and after the last one
   abbrev pub blocks_in : (n : ℕ) → Receiver
   blocks_in n = record { count = n; file = Some (first_blocks text n); misses = 0; state = recv.Running }
@@ -33,7 +32,7 @@ module _ (text : List ℕ) (short : length text ≤ MAX_FILE) (e : Endpoint) (p 
 
   -- the client with this receiver
   abbrev pub fetching : Receiver → Client
-  fetching r = record { port = e.port; server = server_endpoint; phase = receiving p r }
+  fetching r = record { port = e.port; server = home; phase = receiving p r }
 
   -- the client that has n blocks
   abbrev pub has_blocks : (n : ℕ) → Client
@@ -49,7 +48,7 @@ module _ (text : List ℕ) (short : length text ≤ MAX_FILE) (e : Endpoint) (p 
 
   -- the server's endpoint of the transfer
   abbrev pub from_server : Endpoint
-  from_server = record { host = server_endpoint.host; port = p }
+  from_server = record { host = home.host; port = p }
 
   -- the blocks' numbers fit in two bytes
   few_blocks : block_count text < 65536
@@ -77,6 +76,18 @@ module _ (text : List ℕ) (short : length text ≤ MAX_FILE) (e : Endpoint) (p 
         ∙ ap (λ (x : Input). transfer_by_input x all m p e (serves n) s) received_ack
         ∙ ap (λ (b : Bool). table.sender_answered p e (sender_acked b (sender_at n)) s) (eq-eqb n n refl)
         ∙ ap (λ (b : Bool). table.sender_answered p e (sender_goes_on b (sender_at n)) s) (ne_eqb n (block_count text) other)
+
+  -- the last ACK closes the transfer
+  pub last-asked : (m : Maps) (s : Table) (n : ℕ) → transfer_at p s ≡ Some (serves n) → n ≡ block_count text →
+      table_datagram all m p e (encode (ack n)) s ≡ closes p e None s
+  last-asked m s n found is =
+      let few = few_blocks in
+      ap (λ (o : Option Transfer). datagram_at o all m p e (encode (ack n)) s) found
+      ∙ ap (λ (x : Result Packet PacketFault). transfer_by_input (table.transfer_input_decoded e e x) all m p e (serves n) s)
+      (ack-reads_back n (omega (arith, few, is))).decoded
+      ∙ ap (λ (b : Bool). transfer_by_input (input_of_packet b (ack n)) all m p e (serves n) s) (same_endpoint e)
+      ∙ ap (λ (b : Bool). table.sender_answered p e (sender_acked b (sender_at n)) s) (eq-eqb n n refl)
+      ∙ ap (λ (b : Bool). table.sender_answered p e (sender_goes_on b (sender_at n)) s) (eq-eqb n (block_count text) is)
 
   -- ---- a block arrives at the client
 
@@ -128,19 +139,19 @@ module _ (text : List ℕ) (short : length text ≤ MAX_FILE) (e : Endpoint) (p 
   block-received n within =
       let c = has_blocks n in
       let bytes = encode (data_packet text (n + 1)) in
-      ap (λ (b : Bool). client_by_input (client.client_input_at b (Some p) p bytes) granted p c) (eq-eqb server_endpoint.host server_endpoint.host refl)
+      ap (λ (b : Bool). client_by_input (client.client_input_at b (Some p) p bytes) granted p c) (eq-eqb home.host home.host refl)
       ∙ ap (λ (x : Result Packet PacketFault). client_by_input (client.client_input_decoded (Some p) p x) granted p c)
       (data-reads_back text (n + 1) (small n within)).decoded
       ∙ ap (λ (b : Bool). client_by_input (input_of_packet b (data_packet text (n + 1))) granted p c) (eq-eqb p p refl)
 
   -- it binds
   pub first-received : (rules : Ruleset) → 1 ≤ block_count text →
-      client_datagram granted from_server (encode (data_packet text 1)) (client_start e.port server_endpoint (get rules)) ≡ get_sent p
-      (receiver_data granted 1 (block_of text 1) receiver_start) (client_start e.port server_endpoint (get rules))
+      client_datagram granted from_server (encode (data_packet text 1)) (client_start e.port home (get rules)) ≡ get_sent p
+      (receiver_data granted 1 (block_of text 1) receiver_start) (client_start e.port home (get rules))
   first-received rules within =
-      let c = client_start e.port server_endpoint (get rules) in
+      let c = client_start e.port home (get rules) in
       let bytes = encode (data_packet text 1) in
-      ap (λ (b : Bool). client_by_input (client.client_input_at b None p bytes) granted p c) (eq-eqb server_endpoint.host server_endpoint.host refl)
+      ap (λ (b : Bool). client_by_input (client.client_input_at b None p bytes) granted p c) (eq-eqb home.host home.host refl)
       ∙ ap (λ (x : Result Packet PacketFault). client_by_input (client.client_input_decoded None p x) granted p c)
       (data-reads_back text 1 (small 0 within)).decoded
 

@@ -9,7 +9,7 @@ use Rattle.tftp_packet.specs.Decode.{decode_bytes}
 use Rattle.tftp_packet.proofs.Sent.{data_size}
 use Rattle.tftp_ends.specs.Input.{input_of_packet, input_from_peer, input_from_other}
 use Rattle.archive_table.specs.Table.{Maps, Grant, End, Transfer, sending, receiving, transfer_at, out_from, is_same, transfer_input_decoded, transfer_by_input, data_at, ack_at, datagram_at, table_datagram}
-use Rattle.archive_model.specs.World.{Datagram, World, server_endpoint, after_transfer}
+use Rattle.archive_model.specs.World.{Datagram, World, after_transfer}
 use Rattle.archive_theorem.specs.Headline.{IsOwn}
 use Rattle.archive_model.proofs.Places.{Has}
 use Rattle.archive_model.proofs.Endpoints.{endpoint_is, exact_endpoint}
@@ -20,7 +20,7 @@ use Rattle.archive_theorem.proofs.Sending.{from_port, honest_refusal, replies-ho
 use Rattle.archive_theorem.proofs.Acking.{ack-holds}
 use Rattle.archive_theorem.proofs.Receiving.{MergesTaken, data-holds}
 
-module _ (w : World) (h : Holds w) (d : Datagram) (among : Has w.net d) (ours : d.target.host ≡ server_endpoint.host) (grant : Grant)
+module _ (w : World) (h : Holds w) (d : Datagram) (among : Has w.net d) (ours : d.target.host ≡ w.home.host) (grant : Grant)
     (maps : Maps) (t : Transfer) (is : transfer_at d.target.port w.server ≡ Some t) where
   abbrev port : ℕ
   port = d.target.port
@@ -32,7 +32,7 @@ module _ (w : World) (h : Holds w) (d : Datagram) (among : Has w.net d) (ours : 
         datagram = d;
         among = among;
         source = same;
-        target = endpoint_is d.target server_endpoint.host port ours refl;
+        target = endpoint_is d.target w.home.host port ours refl;
         binds = subst Binds (sym reads) binds;
       }
 
@@ -75,7 +75,7 @@ module _ (w : World) (h : Holds w) (d : Datagram) (among : Has w.net d) (ours : 
   -- a packet from another endpoint is answered with an ERROR
   refused : Holds (after_transfer (transfer_by_input (input_from_other (ack 0)) grant maps port d.source t w.server) w)
   refused =
-      replies-holds w h (out_from port d.source (refusal_packet UnknownTransfer)) (honest_refusal w (from_port port) d.source UnknownTransfer)
+      replies-holds w h (out_from port d.source (refusal_packet UnknownTransfer)) (honest_refusal w (from_port w port) d.source UnknownTransfer)
 
   -- any packet from another endpoint
   other_received : (p : Packet) → Holds (after_transfer (transfer_by_input (input_from_other p) grant maps port d.source t w.server) w)
@@ -99,7 +99,7 @@ module _ (w : World) (h : Holds w) (d : Datagram) (among : Has w.net d) (ours : 
   decoded_received (Ok p) reads joined = packet_received p reads (is_same d.source t.peer) refl joined
   decoded_received (Err e) reads joined = h
 
-module _ (w : World) (h : Holds w) (d : Datagram) (among : Has w.net d) (ours : d.target.host ≡ server_endpoint.host) (grant : Grant) (maps : Maps) where
+module _ (w : World) (h : Holds w) (d : Datagram) (among : Has w.net d) (ours : d.target.host ≡ w.home.host) (grant : Grant) (maps : Maps) where
   -- by the transfer at the port
   found_received : (found : Option Transfer) → transfer_at d.target.port w.server ≡ found →
       MergesTaken w (datagram_at found grant maps d.target.port d.source d.bytes w.server) →

@@ -4,12 +4,10 @@ use Rattle.std.proofs.Common.{◌≡◌, ◌≢◌, ℕ, zero, suc, ◌≤◌, t
 use Rattle.std.specs.Cmp.{nat_cmp_is}
 use Rattle.std.proofs.lemmas.Map.Lookups.{exact_unsigned}
 use Rattle.tftp_packet.specs.declared.endpoint.Endpoint.{Endpoint}
-use Rattle.tws_file.specs.declared.«ruleset».Ruleset.TheVariants.{Lynx, Ms}
-use Rattle.tws_best.proofs.Sets.{no_texts}
-use Rattle.archive_table.specs.Table.{Maps, Taken, Transfer, at_port, transfer_at, empty_maps}
+use Rattle.archive_table.specs.Table.{Maps, Taken, Transfer, at_port, transfer_at}
 use Rattle.archive_client.specs.Client.{Client}
-use Rattle.archive_model.specs.World.{Datagram, Begun, Opening, Got, World, given, start_from, client_at, server_endpoint, Past}
-use Rattle.archive_theorem.specs.Headline.{Owns, IsOwn, AreOver, files_of}
+use Rattle.archive_model.specs.World.{Datagram, Begun, Opening, Got, World, Origin, AreOver, given, first_world, client_at, Past}
+use Rattle.archive_theorem.specs.Headline.{Owns, IsOwn, files_of}
 use Rattle.archive_model.proofs.Places.{Has}
 use Rattle.archive_theorem.proofs.Keyed.{IsApart}
 use Rattle.archive_theorem.proofs.Claims.{HasBegun, IsHonest, IsBound, IsLive, IsUntaken, IsFaithful, MayBind, IsOpening, IsTaken, IsSent, IsGot}
@@ -35,11 +33,11 @@ AreBest taken maps = AreOver (files_of taken) maps
 abbrev pub TakesOnce : Past → Type 0
 TakesOnce past =
     (i j : ℕ) (t u : Taken) → slice_get past.taken i ≡ Some t → slice_get past.taken j ≡ Some u → t.peer ≡ u.peer → t.peer.host ≢
-    server_endpoint.host → Owns past t.peer → i ≡ j
+    past.home.host → Owns past t.peer → i ≡ j
 
 -- an operation that has begun is not on the server's host, and counts no more files than are taken now
 pub record IsBegun (past : Past) (b : Begun) : Type 0 where
-  pub away : b.client.host ≢ server_endpoint.host
+  pub away : b.client.host ≢ past.home.host
   pub counted : b.taken ≤ length past.taken
 
 -- the invariant
@@ -54,10 +52,10 @@ pub record Holds (w : World) : Type 0 where
   -- a client binds to one port
   pub one_port : (e : Endpoint) (p q : ℕ) → HasBegun w.past e → IsOwn w e → IsBound w.past e p → IsBound w.past e q → p ≡ q
   pub begun : (b : Begun) → Has w.begun b → IsBegun w.past b
-  pub strays : (d : Datagram) → Has w.strays d → d.source.host ≢ server_endpoint.host
+  pub strays : (d : Datagram) → Has w.strays d → d.source.host ≢ w.home.host
   pub opened : (o : Opening) → Has w.opened o → IsOpening w.past o
   -- what the server had at first is from its own host
-  pub taken : (t : Taken) → Has w.taken t → t.peer.host ≢ server_endpoint.host → IsTaken w.past t
+  pub taken : (t : Taken) → Has w.taken t → t.peer.host ≢ w.home.host → IsTaken w.past t
   pub once : TakesOnce w.past
   pub sent : (e : Endpoint) → Has w.sent e → IsSent w.past e
   pub got : (g : Got) → Has w.got g → IsGot w.past g
@@ -66,30 +64,26 @@ pub record Holds (w : World) : Type 0 where
 pub none_at : {A : Type 0} {P : Type 0} (x : A) → Has [] x → P
 none_at x h = let is : None ≡ Some x = h.is in absurd cc
 
--- ---- the start
+-- ---- the first world
 
 -- a text that the server had at first counts as taken from its own host
-pub given-at : (texts : List (List ℕ)) (i : ℕ) (t : Taken) → slice_get (map given texts) i ≡ Some t → t.peer.host ≡ server_endpoint.host
-given-at [] i t is = absurd cc
-given-at (x ∷ texts) zero t is = let same : given x ≡ t = cc in ap (λ (u : Taken). u.peer.host) (sym same)
-given-at (x ∷ texts) (suc i) t is = given-at texts i t is
+pub given-at : (home : Endpoint) (texts : List (List ℕ)) (i : ℕ) (t : Taken) → slice_get (map (given home) texts) i ≡ Some t → t.peer.host ≡ home.host
+given-at home [] i t is = absurd cc
+given-at home (x ∷ texts) zero t is = let same : given home x ≡ t = cc in ap (λ (u : Taken). u.peer.host) (sym same)
+given-at home (x ∷ texts) (suc i) t is = given-at home texts i t is
 
 -- the files of these are the texts
-given_files : (texts : List (List ℕ)) → files_of (map given texts) ≡ texts
-given_files [] = refl
-given_files (x ∷ texts) = ap (λ (l : List (List ℕ)). x ∷ l) (given_files texts)
+given_files : (home : Endpoint) (texts : List (List ℕ)) → files_of (map (given home) texts) ≡ texts
+given_files home [] = refl
+given_files home (x ∷ texts) = ap (λ (l : List (List ℕ)). x ∷ l) (given_files home texts)
 
 -- so the collections at first are the best over the files taken
-pub start_from-best : (texts : List (List ℕ)) (maps : Maps) → AreOver texts maps → AreBest (start_from texts maps).taken maps
-start_from-best texts maps over = subst (λ (l : List (List ℕ)). AreOver l maps) (sym (given_files texts)) over
+pub first-best : (o : Origin) → AreBest (first_world o).taken o.maps
+first-best o = subst (λ (l : List (List ℕ)). AreOver l o.maps) (sym (given_files o.home o.texts)) o.over
 
--- the empty collections are the best over no texts
-pub none-over : AreOver [] empty_maps
-none-over = record { lynx = no_texts Lynx _ refl refl; ms = no_texts Ms _ refl refl }
-
--- the invariant holds at the start of a server with collections over these texts
-pub start_from-holds : (texts : List (List ℕ)) (maps : Maps) → AreOver texts maps → Holds (start_from texts maps)
-start_from-holds texts maps over =
+-- the invariant holds at first
+pub first-holds : (o : Origin) → Holds (first_world o)
+first-holds o =
     record {
       net = λ d h. none_at d h;
       apart = tt;
@@ -101,9 +95,9 @@ start_from-holds texts maps over =
       begun = λ b h. none_at b h;
       strays = λ d h. none_at d h;
       opened = λ o h. none_at o h;
-      taken = λ t h away. absurd (away (given-at texts h.position t h.is));
-      once = λ i j t u at_i at_j same away. absurd (away (given-at texts i t at_i));
+      taken = λ t h away. absurd (away (given-at o.home o.texts h.position t h.is));
+      once = λ i j t u at_i at_j same away. absurd (away (given-at o.home o.texts i t at_i));
       sent = λ e h. none_at e h;
       got = λ g h. none_at g h;
-      best = start_from-best texts maps over;
+      best = first-best o;
     }

@@ -122,6 +122,16 @@ module _ {K X : Type 0} (same : K → K → Bool) (exact : (a b : K) → same a 
   lookup-remove (entry ∷ es) k q x apart e =
       remove_at es entry.0 entry.1 k q x apart (lookup-remove es k q x apart.1) (same k entry.0) e
 
+  removed_at : (es : List (K × X)) (key : K) (old : X) (k : K) → lookup (same key) es ≡ None → lookup (same k) (remove_entry (same k) es) ≡ None →
+      (there : Bool) → same k key ≡ there → lookup (same k) (cond there es ((key, old) ∷ remove_entry (same k) es)) ≡ None
+  removed_at es key old k apart later true is = ap (λ x. lookup (same x) es) (exact k key is) ∙ apart
+  removed_at es key old k apart later false is = ap (λ b. cond b (Some old) (lookup (same k) (remove_entry (same k) es))) is ∙ later
+
+  -- what was removed is not found
+  pub lookup-removed : (es : List (K × X)) (k : K) → IsApart es → lookup (same k) (remove_entry (same k) es) ≡ None
+  lookup-removed [] k apart = refl
+  lookup-removed (entry ∷ es) k apart = removed_at es entry.0 entry.1 k apart.0 (lookup-removed es k apart.1) (same k entry.0) refl
+
   set_apart_at : (es : List (K × X)) (key : K) (old v : X) (k : K) → IsApart ((key, old) ∷ es) → IsApart (set_value (same k) es v) →
       (there : Bool) → IsApart (cond there ((key, v) ∷ es) ((key, old) ∷ set_value (same k) es v))
   set_apart_at es key old v k apart later true = apart
@@ -218,3 +228,18 @@ module _ {K X : Type 0} (cmp : K → K → Ordering) (exact : (a b : K) → is_e
   apart-insert_entry reflexive (entry ∷ es) k v none apart =
       let rest = none_rest (same_by cmp k entry.0) entry.1 (lookup (same_by cmp k) es) none in
       insert_apart_at reflexive es entry.0 entry.1 v k none apart (apart-insert_entry reflexive es k v rest apart.1) (cmp k entry.0)
+
+  inserted_at : (reflexive : (a : K) → same_by cmp a a ≡ true) (es : List (K × X)) (key : K) (old v : X) (k : K) →
+      lookup (same_by cmp k) (insert_entry cmp es k v) ≡ Some v → (order : Ordering) → cmp k key ≡ order →
+      lookup (same_by cmp k) (match_ordering order ((k, v) ∷ (key, old) ∷ es) ((key, v) ∷ es) ((key, old) ∷ insert_entry cmp es k v)) ≡ Some v
+  inserted_at reflexive es key old v k later Less is = ap (λ b. cond b (Some v) (lookup (same_by cmp k) ((key, old) ∷ es))) (reflexive k)
+  inserted_at reflexive es key old v k later Equal is = ap (λ b. cond b (Some v) (lookup (same_by cmp k) es)) (ap is_eq is)
+  inserted_at reflexive es key old v k later Greater is =
+      ap (λ b. cond b (Some old) (lookup (same_by cmp k) (insert_entry cmp es k v))) (ap is_eq is) ∙ later
+
+  -- what was inserted is found
+  pub lookup-inserted : (reflexive : (a : K) → same_by cmp a a ≡ true) (es : List (K × X)) (k : K) (v : X) →
+      lookup (same_by cmp k) (insert_entry cmp es k v) ≡ Some v
+  lookup-inserted reflexive [] k v = ap (λ b. cond b (Some v) None) (reflexive k)
+  lookup-inserted reflexive (entry ∷ es) k v =
+      inserted_at reflexive es entry.0 entry.1 v k (lookup-inserted reflexive es k v) (cmp k entry.0) refl

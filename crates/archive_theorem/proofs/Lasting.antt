@@ -1,5 +1,5 @@
 -- Each claim lasts, whatever else happens.
-use Rattle.std.proofs.Common.{ℕ, List, sym, subst, le_trans}
+use Rattle.std.proofs.Common.{ℕ, List, sym, subst, le_trans, ◌≡◌, ◌∙◌, ap, ◌≤◌}
 use Rattle.tftp_packet.specs.declared.endpoint.Endpoint.{Endpoint}
 use Rattle.tftp_packet.specs.Packet.{Packet, read, write, data_block, ack, error}
 use Rattle.tftp_ends.specs.declared.recv_state.RecvState.{RecvState}
@@ -26,6 +26,10 @@ text-grown old new count rules text more t =
     }
 
 module _ {past later : Past} (more : Extends past later) where
+  -- the server's host is the same
+  home_host : later.home.host ≡ past.home.host
+  home_host = ap (λ (e : Endpoint). e.host) more.home
+
   -- what holds of an endpoint as long as its ports are its own
   pub own-lasts : {A B : Type 0} (e : Endpoint) → (A → B) → (Owns past e → A) → Owns later e → B
   own-lasts e lasts claim own = lasts (claim (own-before more e own))
@@ -64,7 +68,7 @@ module _ {past later : Past} (more : Extends past later) where
   serves_block_lasts : (source target : Endpoint) (n : ℕ) (body : List ℕ) → ServesBlock past source target n body → ServesBlock later source target n body
   serves_block_lasts source target n body h =
       record {
-        ours = h.ours;
+        ours = h.ours ∙ sym home_host;
         rules = h.rules;
         file = h.file;
         serves = serves-lasts target source.port h.rules h.file h.serves;
@@ -84,7 +88,7 @@ module _ {past later : Past} (more : Extends past later) where
 
   server_acks_lasts : (source target : Endpoint) (n : ℕ) → ServerAcks past source target n → ServerAcks later source target n
   server_acks_lasts source target n h =
-      record { ours = h.ours; whom = own-lasts target (acks_lasts target n) h.whom }
+      record { ours = h.ours ∙ sym home_host; whom = own-lasts target (acks_lasts target n) h.whom }
 
   pub says-lasts : (source target : Endpoint) (p : Packet) → Says past source target p → Says later source target p
   says-lasts source target (read name mode) h =
@@ -107,7 +111,7 @@ module _ {past later : Past} (more : Extends past later) where
         datagram = h.datagram;
         among = Has-prefix past.net later.net h.datagram more.net h.among;
         source = h.source;
-        target = h.target;
+        target = h.target ∙ ap (λ (host : ℕ). record { host = host; port = port }) (sym home_host);
         binds = h.binds;
       }
 
@@ -135,7 +139,7 @@ module _ {past later : Past} (more : Extends past later) where
       }
 
   pub live-lasts : (port : ℕ) (t : Transfer) → IsLive past port t → IsLive later port t
-  live-lasts port t h = record { away = h.away; end = end-lasts t.peer port t.end h.end }
+  live-lasts port t h = record { away = λ ours. h.away (ours ∙ home_host); end = end-lasts t.peer port t.end h.end }
 
   -- ---- a client
 
@@ -158,7 +162,7 @@ module _ {past later : Past} (more : Extends past later) where
   pursuing-lasts e (client.failed why) h = tt
 
   pub faithful-lasts : (e : Endpoint) (c : Client) → IsFaithful past e c → IsFaithful later e c
-  faithful-lasts e c h = record { port = h.port; server = h.server; phase = pursuing-lasts e c.phase h.phase }
+  faithful-lasts e c h = record { port = h.port; server = h.server ∙ sym more.home; phase = pursuing-lasts e c.phase h.phase }
 
   -- ---- openings, files taken, files sent and fetched
 
@@ -193,10 +197,17 @@ module _ {past later : Past} (more : Extends past later) where
         is_taken = own-lasts e (taken-lasts e h.file) h.is_taken;
       }
 
+  -- what was served is fetched later, where the client is bound by then
+  pub fetched-later : (e : Endpoint) (port : ℕ) (rules : Ruleset) (text : List ℕ) (s : Serves past e port rules text) (count : ℕ) → count ≤ s.count →
+      IsBound later e port → IsFetched later (record { client = e; file = text }) rules count
+  unfolding serves-lasts
+  fetched-later e port rules text s count since bound =
+      record { port = port; serves = serves-lasts e port rules text s; since = since; bound = bound }
+
   fetched_lasts : (got : Got) (rules : Ruleset) (count : ℕ) → IsFetched past got rules count → IsFetched later got rules count
   unfolding serves-lasts
   fetched_lasts got rules count h =
-      record { port = h.port; serves = serves-lasts got.client h.port rules got.file h.serves; since = h.since }
+      record { port = h.port; serves = serves-lasts got.client h.port rules got.file h.serves; since = h.since; bound = bound-lasts got.client h.port h.bound }
 
   pub got-lasts : (got : Got) → IsGot past got → IsGot later got
   got-lasts got h =

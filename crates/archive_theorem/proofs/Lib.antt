@@ -21,6 +21,8 @@ pub mod Getting
 pub mod Answering
 pub mod Beginning
 pub mod Straying
+pub mod Peers
+pub mod Ending
 pub mod Happening
 pub mod Strangers
 pub mod Concluding
@@ -48,9 +50,11 @@ pub mod Costs
 pub mod Freeing
 pub mod Exchanging
 pub mod InTurn
+pub mod RequestPort
 pub mod Finishing
 pub mod GetExchanging
 pub mod GetFinishing
 pub mod Effects
 pub mod RealTime
 pub mod Entering
+pub mod Error_Table

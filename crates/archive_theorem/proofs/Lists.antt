@@ -7,14 +7,14 @@ use Rattle.tws_file.specs.declared.«ruleset».Ruleset.TheVariants.{Lynx, Ms}
 use Rattle.tws_file.specs.Text.{File, IsReadable}
 use Rattle.tws_best.specs.Best.{Collected, IsCollected, IsCollectionOf, collection_text}
 use Rattle.tws_best.proofs.Sets.{own_collection, one_collection}
-use Rattle.archive_table.specs.Table.{Maps, Taken, Grant, MergesIntoOwn, IsMerged}
+use Rattle.archive_table.specs.Table.{Maps, Taken, Grant, MergesIntoOwn, IsMerged, all}
 use Rattle.archive_table.specs.Keeper.{Keeping, keeping, KeepsOne, KeepsMaps, StepKeeps}
-use Rattle.archive_model.specs.World.{Event, begin, deliver, client_times_out, server_times_out, stray, restart, World, WorldStep, start, happens, AllMerged}
+use Rattle.archive_model.specs.World.{Event, begin, deliver, client_times_out, server_times_out, stray, restart, World, WorldStep, Origin, RunFrom, first_world, happens, AllMerged, unknown_keep}
 use Rattle.archive_model.specs.Restarts.{DeliveryKeeps, EventKeeps, RunKeeps}
 use Rattle.archive_theorem.proofs.Readability.{readable_or_not}
-use Rattle.archive_theorem.proofs.Invariant.{AreBest}
-use Rattle.archive_theorem.proofs.Remaining.{StepTakes, step-takes}
-use Rattle.archive_theorem.proofs.Collecting.{best-collected, step-best, start-best}
+use Rattle.archive_theorem.proofs.Invariant.{AreBest, first-best}
+use Rattle.archive_theorem.proofs.Remaining.{StepTakes, step-takes, GrantedBy}
+use Rattle.archive_theorem.proofs.Collecting.{best-collected, step-best}
 
 -- ---- whether a collection has changed
 
@@ -76,7 +76,7 @@ module _ (few more : List Taken) (old new : Maps) (before : List Keeping) (was :
   maps_list bytes merged (inr never) = stay_list (merged.unreadable (λ f text. never (f, text)))
 
 -- for each delivery there is a list
-delivery_list : (w v : World) (grant : Grant) (wanted : Option Taken) (before : List Keeping) → StepTakes grant w v →
+delivery_list : (w v : World) (grant : Grant) (wanted : Option Taken) (before : List Keeping) → StepTakes (grant ≡ all) w v →
     ((t : Taken) → v.taken ≡ w.taken ++ t ∷ [] → IsMerged t.file w.server.maps v.server.maps) → AreBest w.taken w.server.maps →
     AreBest v.taken v.server.maps → (after : List Keeping) × DeliveryKeeps grant wanted w.server.maps v.server.maps before after
 delivery_list w v grant wanted before (inl remain) merged was is = (before, inl (remain.1, refl))
@@ -85,8 +85,17 @@ delivery_list w v grant wanted before (inr takes) merged was is =
     let list = maps_list w.taken v.taken w.server.maps v.server.maps before was is file (merged takes.0 takes.1) (readable_or_not file) in
     (list.0, inr (subst (λ (g : Grant). StepKeeps g wanted w.server.maps v.server.maps (Some before) (Some list.0)) (sym takes.2) list.1))
 
+-- for each keep whose outcome is unknown
+ends_list : (w v : World) (before : List Keeping) → StepTakes (Unit {0}) w v →
+    ((t : Taken) → v.taken ≡ w.taken ++ t ∷ [] → IsMerged t.file w.server.maps v.server.maps) → AreBest w.taken w.server.maps →
+    AreBest v.taken v.server.maps → (after : List Keeping) × KeepsMaps w.server.maps v.server.maps (Some before) (Some after)
+ends_list w v before (inl remain) merged was is = stay_list w.taken v.taken w.server.maps v.server.maps before was is remain.1
+ends_list w v before (inr takes) merged was is =
+    let file = takes.0.file in
+    maps_list w.taken v.taken w.server.maps v.server.maps before was is file (merged takes.0 takes.1) (readable_or_not file)
+
 -- for each event
-event_list : (w v : World) (event : Event) (grant : Grant) (before : List Keeping) → StepTakes grant w v →
+event_list : (w v : World) (event : Event) (grant : Grant) (before : List Keeping) → StepTakes (GrantedBy event grant) w v →
     ((t : Taken) → v.taken ≡ w.taken ++ t ∷ [] → IsMerged t.file w.server.maps v.server.maps) → AreBest w.taken w.server.maps →
     AreBest v.taken v.server.maps → (after : List Keeping) × EventKeeps event grant w v before after
 event_list w v (begin e operation) grant before takes merged was is = (before, refl)
@@ -95,11 +104,14 @@ event_list w v (client_times_out e) grant before takes merged was is = (before, 
 event_list w v (server_times_out port) grant before takes merged was is = (before, refl)
 event_list w v (stray d) grant before takes merged was is = (before, refl)
 event_list w v restart grant before takes merged was is = (before, λ rules. refl)
+event_list w v (unknown_keep index found) grant before takes merged was is =
+    let list = ends_list w v before takes merged was is in
+    (list.0, (list.0, list.1, λ rules. refl))
 
 -- ---- a run
 
 -- for any steps there is a list of what the keeper has
-pub list_from : (steps : List WorldStep) (w : World) (before : List Keeping) → AllMerged steps w → AreBest w.taken w.server.maps →
+list_from : (steps : List WorldStep) (w : World) (before : List Keeping) → AllMerged steps w → AreBest w.taken w.server.maps →
     (last : List Keeping) × RunKeeps steps w before last
 list_from [] w before merged best = (before, refl)
 list_from (s ∷ steps) w before merged best =
@@ -109,5 +121,5 @@ list_from (s ∷ steps) w before merged best =
     (rest.0, (list.0, list.1, rest.1))
 
 -- for each run there is a list of what the keeper has
-pub run-list : (steps : List WorldStep) → AllMerged steps start → (log : List Keeping) × RunKeeps steps start [] log
-run-list steps merged = list_from steps start [] merged start-best
+pub run-list : (o : Origin) (r : RunFrom o) (first : List Keeping) → (last : List Keeping) × RunKeeps r.steps (first_world o) first last
+run-list o r first = list_from r.steps (first_world o) first r.merged (first-best o)

@@ -15,7 +15,7 @@ use Rattle.tws_file.specs.declared.«ruleset».Ruleset.TheVariants.{Lynx, Ms}
 use Rattle.tws_best.specs.Best.{collection_text}
 use Rattle.archive_table.specs.Table.{End, Taken, Transfer, sending, at_port, with_live, transfer_at, map_of, out_from, refuses}
 use Rattle.tws_file.specs.Names.{ruleset_named}
-use Rattle.archive_model.specs.World.{Datagram, World, Opening, Asked, to_write, to_read, server_endpoint, after_request, Extends}
+use Rattle.archive_model.specs.World.{Datagram, World, Opening, Asked, to_write, to_read, after_request, Extends}
 use Rattle.archive_theorem.specs.Headline.{IsOwn, IsBestOver, files_of}
 use Rattle.archive_model.proofs.Places.{Has, Has-last, Has-push, at-prefix, at-last, before_last, IsPrefix-same, IsPrefix-push, either}
 use Rattle.archive_theorem.proofs.Keyed.{NewOrOld, lookup-insert_entry, apart-insert_entry}
@@ -44,32 +44,32 @@ module _ (w : World) (h : Holds w) (spare : ℕ) (free : transfer_at spare w.ser
 
     -- the datagrams with its first one
     abbrev sends : List Datagram
-    sends = w.net ++ record { source = from_port spare; target = from; bytes = first } ∷ []
+    sends = w.net ++ record { source = from_port w spare; target = from; bytes = first } ∷ []
 
     -- the world after it
     abbrev pub opened : World
-    opened = served sends (with_live more w.server) w.taken (w.opened ++ opening ∷ []) w
+    opened = served sends (with_live more w.server) w.taken w.recovered (w.opened ++ opening ∷ []) w
 
     pub grows : Extends w.past opened.past
     grows =
-        served-extends w.past (IsPrefix-push w.net _) (IsPrefix-same w.taken) (IsPrefix-push w.opened opening)
+        served-extends w.past (IsPrefix-push w.net _) (IsPrefix-same w.taken) (IsPrefix-same w.recovered) (IsPrefix-push w.opened opening)
 
     -- what must be shown
     pub record IsFine : Type 0 where
-      pub away : from.host ≢ server_endpoint.host
+      pub away : from.host ≢ w.home.host
       pub live : IsLiveEnd opened.past from spare end
-      pub honest : IsHonest opened.past (record { source = from_port spare; target = from; bytes = first })
+      pub honest : IsHonest opened.past (record { source = from_port w spare; target = from; bytes = first })
       pub whose : IsStranger opened.past from ⊎ IsAskedBy opened.past opening asked
 
     module _ (f : IsFine) where
       -- a new datagram is honest, and from the server's host
-      from_us : (d : Datagram) → Has sends d → Has w.net d ⊎ ((d.source.host ≡ server_endpoint.host) × IsHonest opened.past d)
+      from_us : (d : Datagram) → Has sends d → Has w.net d ⊎ ((d.source.host ≡ w.home.host) × IsHonest opened.past d)
       from_us d has =
           either (λ old. old) (λ is. (ap (λ (x : Datagram). x.source.host) is, subst (IsHonest opened.past) (sym is) f.honest)) (Has-push w.net _ d has)
 
       -- no client is newly bound
-      before : (e : Endpoint) (q : ℕ) → e.host ≢ server_endpoint.host → IsBound opened.past e q → IsBound w.past e q
-      before = bound_before w h sends (with_live more w.server) w.taken (w.opened ++ opening ∷ [])
+      before : (e : Endpoint) (q : ℕ) → e.host ≢ w.home.host → IsBound opened.past e q → IsBound w.past e q
+      before = bound_before w h sends (with_live more w.server) w.taken w.recovered (w.opened ++ opening ∷ [])
           (λ d has. either (λ old. old) (λ ours. ours.0) (from_us d has))
 
       -- each transfer is as the claims say
@@ -102,7 +102,7 @@ module _ (w : World) (h : Holds w) (spare : ℕ) (free : transfer_at spare w.ser
       -- so none was taken at the new transfer
       untaken_new : IsUntaken opened.past spare transfer
       untaken_new running own u has same bound =
-          let other = λ (ours : u.peer.host ≡ server_endpoint.host). f.away (ap (λ (x : Endpoint). x.host) (sym same) ∙ ours) in
+          let other = λ (ours : u.peer.host ≡ w.home.host). f.away (ap (λ (x : Endpoint). x.host) (sym same) ∙ ours) in
           taken_before u same (before from spare f.away bound) (h.taken u has other) own
 
       -- nor at any other that still waits for blocks
@@ -125,7 +125,7 @@ module _ (w : World) (h : Holds w) (spare : ℕ) (free : transfer_at spare w.ser
       -- opening a transfer keeps the invariant
       pub opened-holds : Holds opened
       opened-holds =
-          served-holds w h sends (with_live more w.server) w.taken (w.opened ++ opening ∷ [])
+          served-holds w h sends (with_live more w.server) w.taken w.recovered (w.opened ++ opening ∷ [])
           (record {
             more = grows;
             honest = from_us;
@@ -150,23 +150,23 @@ module _ (w : World) (h : Holds w) (d : Datagram) (among : Has w.net d) where
   writes name mode is = either (λ s. s) (λ says. says (write name mode) is) (h.net d among).says
 
   -- a stranger is not on the server's host
-  stranger_away : (e : Endpoint) → IsStranger w.past e → e.host ≢ server_endpoint.host
+  stranger_away : (e : Endpoint) → IsStranger w.past e → e.host ≢ w.home.host
   stranger_away e s ours = h.strays s.datagram s.among (ap (λ (x : Endpoint). x.host) s.source ∙ ours)
 
   -- whoever reads is not on the server's host
-  reader_away : (name : List ℕ) → IsStranger w.past d.source ⊎ AsksToRead w.past d.source name → d.source.host ≢ server_endpoint.host
+  reader_away : (name : List ℕ) → IsStranger w.past d.source ⊎ AsksToRead w.past d.source name → d.source.host ≢ w.home.host
   reader_away name (inl stranger) = stranger_away d.source stranger
   reader_away name (inr asks) = begun_away w h d.source (get_begun d.source asks.rules asks.count asks.began)
 
   -- whoever writes is not on the server's host
-  pub writer_away : IsStranger w.past d.source ⊎ AsksToWrite w.past d.source → d.source.host ≢ server_endpoint.host
+  pub writer_away : IsStranger w.past d.source ⊎ AsksToWrite w.past d.source → d.source.host ≢ w.home.host
   writer_away (inl stranger) = stranger_away d.source stranger
   writer_away (inr asks) = begun_away w h d.source (put_begun d.source asks.file asks.began)
 
   -- a refusal changes nothing but the network
   pub refuses-holds : (spare : ℕ) (asked : Asked) (why : Refusal) → Holds (after_request d.source spare asked (refuses why d.source w.server) w)
   refuses-holds spare asked why =
-      replies-holds w h (out_from w.server.request d.source (refusal_packet why)) (honest_refusal w (from_port w.server.request) d.source why)
+      replies-holds w h (out_from w.server.request d.source (refusal_packet why)) (honest_refusal w (from_port w w.server.request) d.source why)
 
   module _ (verdict : Verdict) (spare : ℕ) (free : transfer_at spare w.server ≡ None) where
     -- ---- the text of a collection
@@ -210,7 +210,7 @@ module _ (w : World) (h : Holds w) (d : Datagram) (among : Has w.net d) where
       serves = record { count = length w.taken; opened = has_opened; is_text = is_text rules }
 
       -- it has sent the first block
-      serves_first : ServesBlock reading.past (from_port spare) d.source 1 (block_of text 1)
+      serves_first : ServesBlock reading.past (from_port w spare) d.source 1 (block_of text 1)
       serves_first = record { ours = refl; rules = rules; file = text; serves = serves; is_block = refl }
 
       -- a get that asks for it has begun
@@ -235,6 +235,6 @@ module _ (w : World) (h : Holds w) (d : Datagram) (among : Has w.net d) where
           record {
             away = reader_away name whose;
             live = record { rules = rules; serves = serves; bounds = IsSender-start text short };
-            honest = honest_packet reading (from_port spare) d.source (data_packet text 1) (start-reads_back text short).decoded (inr serves_first);
+            honest = honest_packet reading (from_port w spare) d.source (data_packet text 1) (start-reads_back text short).decoded (inr serves_first);
             whose = either (stranger-lasts g d.source) (asked_by name is) whose;
           }

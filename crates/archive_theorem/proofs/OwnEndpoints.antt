@@ -3,7 +3,7 @@ use Rattle.std.proofs.Common.{◌≡◌, ℕ, zero, suc, Bool, true, false, ◌=
 use Rattle.std.proofs.lemmas.Bool.{and_parts, eqb-true}
 use Rattle.tftp_packet.specs.declared.endpoint.Endpoint.{Endpoint}
 use Rattle.archive_table.specs.Table.{is_same}
-use Rattle.archive_model.specs.World.{Datagram, Begun, Opening, World, start, has_begun}
+use Rattle.archive_model.specs.World.{Datagram, Begun, Opening, World, Origin, first_world, has_begun}
 use Rattle.archive_theorem.specs.Headline.{IsOwn}
 use Rattle.archive_theorem.specs.Reuse.{has_strayed, was_opened, is_opening_at, begins_once, opens_apart, OwnTests, own_tests, IsOwnByTests}
 use Rattle.archive_model.proofs.Places.{Has-contains, Has-from_contains}
@@ -183,8 +183,8 @@ pub own-by_tests : (w : World) (e : Endpoint) → IsOwnByTests w e
 own-by_tests w e = (own_passes w e, own-if w e)
 
 -- at the start each endpoint's ports are its own
-pub start-own_each : (e : Endpoint) → IsOwn start e
-start-own_each e =
+pub start-own_each : (o : Origin) (e : Endpoint) → IsOwn (first_world o) e
+start-own_each o e =
     record {
       operations = λ i j b c at_i. absurd cc;
       openings = λ i j o p at_i. absurd cc;

@@ -8,10 +8,10 @@ use Rattle.tftp_ends.specs.declared.send_state.SendState.{SendState}
 use Rattle.tftp_ends.specs.declared.send_state.SendState.TheVariants as send
 use Rattle.tftp_ends.specs.Ends.{Sender, SendAnswer, data_packet, sender_start, sender_ack, sender_timeout}
 use Rattle.tftp_ends.proofs.Steps.{ReadsBack, KeepsSender, IsSender-start, start-reads_back, sender_ack-keeps, sender_ack-finishes, sender_timeout-keeps, sender_timeout-finishes, sends-reads_back}
-use Rattle.tftp_cause.specs.declared.cause.Cause.TheVariants as cause
+use Rattle.tftp_packet.specs.declared.cause.Cause.TheVariants as cause
 use Rattle.archive_client.specs.declared.state.State.TheVariants as state
 use Rattle.archive_client.specs.Client.{put, Phase, asking, sending, Client, in_phase, out_to, sends_to, put_answered, put_sent, put_waited, put_waits, send_state, phase_state}
-use Rattle.archive_model.specs.World.{Datagram, World, server_endpoint, newly_sent, after_client, client_at}
+use Rattle.archive_model.specs.World.{Datagram, World, newly_sent, after_client, client_at}
 use Rattle.archive_theorem.specs.Headline.{IsOwn}
 use Rattle.archive_model.proofs.Places.{Has}
 use Rattle.archive_theorem.proofs.Claims.{HasPut, HasTaken, IsStranger, PutsBlock, Fetches, ServerAcks, AcksPut, Says, IsAskingFor, IsPutting, MayBind, IsSent}
@@ -24,14 +24,14 @@ use Rattle.archive_theorem.proofs.Changing.{never_sent, never_got, newly_sent-fr
 -- ---- what the server's host says
 
 -- no stranger is there
-pub server_says : (w : World) → Holds w → (d : Datagram) → Has w.net d → d.source.host ≡ server_endpoint.host → (p : Packet) →
+pub server_says : (w : World) → Holds w → (d : Datagram) → Has w.net d → d.source.host ≡ w.home.host → (p : Packet) →
     decode_bytes d.bytes ≡ Ok p → Says w.past d.source d.target p
 server_says w h d among ours p reads =
     ⊎_elim (λ (s : IsStranger w.past d.source). absurd (h.strays s.datagram s.among (ap (λ (x : Endpoint). x.host) s.source ∙ ours)))
     (λ says. says p reads) (h.net d among).says
 
 -- an ACK from the server's host is one of the put, if the client's ports are its own
-pub acked_by : (w : World) → Holds w → (d : Datagram) → Has w.net d → d.source.host ≡ server_endpoint.host → (n : ℕ) →
+pub acked_by : (w : World) → Holds w → (d : Datagram) → Has w.net d → d.source.host ≡ w.home.host → (n : ℕ) →
     decode_bytes d.bytes ≡ Ok (ack n) → IsOwn w d.target → AcksPut w.past d.target n
 acked_by w h d among ours n reads own =
     ⊎_elim
@@ -105,7 +105,7 @@ module _ (w : World) (h : Holds w) (e : Endpoint) (c : Client) (is : client_at e
         sends_it w h e c is peer p back.decoded (subst (Says w.past e (record { host = c.server.host; port = peer })) (sym sends) (inl puts))
 
     -- and binds it to no other port
-    block_binds : (next : Sender) → (out : Option Packet) → IfSome (sends_to peer out c) (BindsTo c (in_phase (sending peer next) c))
+    block_binds : (next : Sender) → (out : Option Packet) → IfSome (sends_to peer out c) (BindsTo w c (in_phase (sending peer next) c))
     block_binds next None = tt
     block_binds next (Some p) = binds_there w h e c is peer p (in_phase (sending peer next) c) (λ q same. same) bound_there
 

@@ -165,9 +165,9 @@ module _ (w : World) (h : Holds w) (port : ℕ) (t : Transfer) (is : transfer_at
     file_grant all bound whose joined =
         takes-holds w h maps port t file took.receiver (sends_from port t.peer (dgram_of out)) (taking bound (joined (taken_of t file) refl) whose)
     file_grant no_memory bound whose joined =
-        closes-holds w h port t.peer (Some (refusal_dgram OutOfMemory)) (honest_refusal w (from_port port) t.peer OutOfMemory)
+        closes-holds w h port t.peer (Some (refusal_dgram OutOfMemory)) (honest_refusal w (from_port w port) t.peer OutOfMemory)
     file_grant unkept bound whose joined =
-        closes-holds w h port t.peer (Some (refusal_dgram NotKept)) (honest_refusal w (from_port port) t.peer NotKept)
+        closes-holds w h port t.peer (Some (refusal_dgram NotKept)) (honest_refusal w (from_port w port) t.peer NotKept)
 
   -- ---- the step
 
@@ -199,7 +199,7 @@ module _ (w : World) (h : Holds w) (port : ℕ) (t : Transfer) (is : transfer_at
         Holds (after_transfer (block_answered (answer_of result) grant maps port t.peer came.receiver w.server) w)
     block_in (Ok out) e joined = file_found took.file refl out e joined
     block_in (Err fault) e joined =
-        closes-holds w h port t.peer (Some (refusal_dgram (refusal_of fault))) (honest_refusal w (from_port port) t.peer (refusal_of fault))
+        closes-holds w h port t.peer (Some (refusal_dgram (refusal_of fault))) (honest_refusal w (from_port w port) t.peer (refusal_of fault))
 
     -- a DATA to a receiver of the server keeps the invariant
     pub data-holds : MergesTaken w (data_at (receiving r) grant maps port t.peer n body w.server) →

@@ -16,7 +16,7 @@ use Rattle.tws_best.specs.Best.{Collected}
 use Rattle.archive_table.specs.Table.{Table, Maps, Transfer, Taken, TableAnswer, End, sending, receiving, Grant, all, no_memory, unkept, memory_verdict, map_of, has_slot, opens_if, read_fits, read_with_slot, read_named, read_asked, write_with_slot, write_asked, request_by_packet, request_decoded, transfer_input, transfer_at, file_come, file_asked, block_answered, data_at, sending_goes_on, ack_at, transfer_by_input, datagram_at, table_datagram, receiving_goes_on, waits_at, timeout_at, table_timeout, has_long_text}
 use Rattle.tws_file.specs.Names.{ruleset_named}
 use Rattle.archive_client.specs.Client.{Operation, is_too_long, Client}
-use Rattle.archive_model.specs.World.{Datagram, Event, begin, deliver, client_times_out, server_times_out, restart, WorldStep, World, server_endpoint, client_at, has_begun, begins_unless, request_comes, server_receives, client_receives, arrives, delivers, client_waits, strays_unless, event_happens, happens}
+use Rattle.archive_model.specs.World.{Datagram, Event, begin, deliver, client_times_out, server_times_out, restart, WorldStep, World, client_at, has_begun, begins_unless, request_comes, server_receives, client_receives, arrives, delivers, client_waits, strays_unless, event_happens, happens, unknown_keep, ends, ends_if, ends_at, net_with, wanted_of}
 use Rattle.archive_model.specs.World as world
 
 -- ---- an answer of the server
@@ -26,7 +26,7 @@ abbrev Leaves : TableAnswer → Table → Type 0
 Leaves a s = (a.step.taken ≡ None) × (a.server.maps ≡ s.maps)
 
 -- the answer, by the collections that a file would make: either it leaves them, or a file is taken and makes them
-abbrev TakesOrLeaves : Grant → (Maps → TableAnswer) → Table → Type 0
+abbrev pub TakesOrLeaves : Grant → (Maps → TableAnswer) → Table → Type 0
 TakesOrLeaves grant a s =
     ((one : TableAnswer) × Leaves one s × ((maps : Maps) → a maps ≡ one))
     ⊎ ((t : Taken) × ((maps : Maps) → ((a maps).step.taken ≡ Some t) × ((a maps).server.maps ≡ maps)) × (grant ≡ all))
@@ -150,15 +150,42 @@ abbrev pub Remain : (w v : World) → Type 0
 Remain w v = (v.taken ≡ w.taken) × (v.server.maps ≡ w.server.maps)
 
 -- The world after the event, by the collections that a file would make: either they remain, or a file is taken, which
--- makes them, and everything was granted.
-abbrev pub TakesOrRemain : Grant → World → (Maps → World) → Type 0
-TakesOrRemain grant w v =
+-- makes them, and this holds of what was granted.
+abbrev pub TakesOrRemain : (Granted : Type 0) → World → (Maps → World) → Type 0
+TakesOrRemain Granted w v =
     ((one : World) × Remain w one × ((maps : Maps) → v maps ≡ one))
-    ⊎ ((t : Taken) × ((maps : Maps) → ((v maps).taken ≡ w.taken ++ t ∷ []) × ((v maps).server.maps ≡ maps)) × (grant ≡ all))
+    ⊎ ((t : Taken) × ((maps : Maps) → ((v maps).taken ≡ w.taken ++ t ∷ []) × ((v maps).server.maps ≡ maps)) × Granted)
+
+-- a delivery takes a file only if everything is granted
+abbrev pub GrantedBy : Event → Grant → Type 0
+GrantedBy (unknown_keep index found) grant = Unit {0}
+GrantedBy event grant = grant ≡ all
 
 -- a world that remains whatever a file would make
-remains : (grant : Grant) (w one : World) → Remain w one → TakesOrRemain grant w (λ maps. one)
-remains grant w one is = inl (one, is, λ maps. refl)
+remains : (Granted : Type 0) (w one : World) → Remain w one → TakesOrRemain Granted w (λ maps. one)
+remains Granted w one is = inl (one, is, λ maps. refl)
+
+pub unkept_other : unkept ≡ all → ⊥
+unkept_other e = cc
+
+-- an answer without a keep leaves a world of which only the network differs
+module _ (w : World) where
+  ends_remain : (t : Taken) (d : Datagram) →
+      TakesOrLeaves unkept (λ maps. table_datagram unkept maps d.target.port d.source d.bytes w.server) w.server →
+      TakesOrRemain (Unit {0}) w (λ maps. ends false t maps d w)
+  ends_remain t d (inl stays) =
+      inl (
+        record w {
+          server = record { request = w.server.request; maps = w.server.maps; live = [] };
+          past = record w.past { net = net_with w.home.host w.net stays.0.step.out };
+        },
+        (refl, refl),
+        λ maps. ap (λ (a : TableAnswer). record w {
+          server = record { request = w.server.request; maps = w.server.maps; live = [] };
+          past = record w.past { net = net_with w.home.host w.net a.step.out };
+        }) (stays.2 maps),
+      )
+  ends_remain t d (inr takes) = absurd (unkept_other takes.2)
 
 module _ (w : World) where
   -- a begin takes no file
@@ -175,7 +202,7 @@ module _ (w : World) where
       (refl, (decoded_leaves (memory_verdict grant) spare d.source (decode_bytes d.bytes) w.server).1)
 
   -- the server's answer, in the world
-  answer_takes : (grant : Grant) (a : Maps → TableAnswer) → TakesOrLeaves grant a w.server → TakesOrRemain grant w (λ maps. world.after_transfer (a maps) w)
+  answer_takes : (grant : Grant) (a : Maps → TableAnswer) → TakesOrLeaves grant a w.server → TakesOrRemain (grant ≡ all) w (λ maps. world.after_transfer (a maps) w)
   answer_takes grant a (inl leaves) =
       inl (
         world.after_transfer leaves.0 w,
@@ -190,9 +217,9 @@ module _ (w : World) where
       )
 
   -- a datagram at the server's host
-  server_takes : (request : Bool) (spare : ℕ) (grant : Grant) (d : Datagram) → TakesOrRemain grant w (λ maps. server_receives request spare grant maps d w)
+  server_takes : (request : Bool) (spare : ℕ) (grant : Grant) (d : Datagram) → TakesOrRemain (grant ≡ all) w (λ maps. server_receives request spare grant maps d w)
   server_takes true spare grant d =
-      remains grant w _ (request_remains (spare == w.server.request) (transfer_at spare w.server) spare grant d)
+      remains (grant ≡ all) w _ (request_remains (spare == w.server.request) (transfer_at spare w.server) spare grant d)
   server_takes false spare grant d =
       answer_takes grant (λ maps. table_datagram grant maps d.target.port d.source d.bytes w.server)
       (found_takes (transfer_at d.target.port w.server) grant d.target.port d.source d.bytes w.server)
@@ -203,14 +230,14 @@ module _ (w : World) where
   client_remains (Some c) grant d = (refl, refl)
 
   -- a datagram at any host
-  arrives_takes : (ours : Bool) (spare : ℕ) (grant : Grant) (d : Datagram) → TakesOrRemain grant w (λ maps. arrives ours spare grant maps d w)
+  arrives_takes : (ours : Bool) (spare : ℕ) (grant : Grant) (d : Datagram) → TakesOrRemain (grant ≡ all) w (λ maps. arrives ours spare grant maps d w)
   arrives_takes true spare grant d = server_takes (d.target.port == w.server.request) spare grant d
-  arrives_takes false spare grant d = remains grant w _ (client_remains (client_at d.target w) grant d)
+  arrives_takes false spare grant d = remains (grant ≡ all) w _ (client_remains (client_at d.target w) grant d)
 
   -- a delivery
-  delivers_takes : (found : Option Datagram) (spare : ℕ) (grant : Grant) → TakesOrRemain grant w (λ maps. delivers found spare grant maps w)
-  delivers_takes None spare grant = remains grant w _ (refl, refl)
-  delivers_takes (Some d) spare grant = arrives_takes (d.target.host == server_endpoint.host) spare grant d
+  delivers_takes : (found : Option Datagram) (spare : ℕ) (grant : Grant) → TakesOrRemain (grant ≡ all) w (λ maps. delivers found spare grant maps w)
+  delivers_takes None spare grant = remains (grant ≡ all) w _ (refl, refl)
+  delivers_takes (Some d) spare grant = arrives_takes (d.target.host == w.home.host) spare grant d
 
   -- a client's time-out takes no file
   pub waits_remain : (found : Option Client) (e : Endpoint) → Remain w (client_waits found e w)
@@ -223,34 +250,48 @@ module _ (w : World) where
   strays_remain false true d = (refl, refl)
   strays_remain false false d = (refl, refl)
 
+  -- a keep whose outcome is unknown: what is sent does not depend on the collections that the file makes
+  ends_takes : (found : Bool) (t : Taken) (d : Datagram) → TakesOrRemain (Unit {0}) w (λ maps. ends found t maps d w)
+  ends_takes true t d = inr (t, (λ maps. (refl, refl)), tt)
+  ends_takes false t d = ends_remain w t d (found_takes (transfer_at d.target.port w.server) unkept d.target.port d.source d.bytes w.server)
+
+  ends_if_takes : (found : Bool) (d : Datagram) (file : Option Taken) → TakesOrRemain (Unit {0}) w (λ maps. ends_if file found maps d w)
+  ends_if_takes found d None = remains (Unit {0}) w w (refl, refl)
+  ends_if_takes found d (Some t) = ends_takes found t d
+
+  ends_at_takes : (found : Bool) (sent : Option Datagram) → TakesOrRemain (Unit {0}) w (λ maps. ends_at sent found maps w)
+  ends_at_takes found None = remains (Unit {0}) w w (refl, refl)
+  ends_at_takes found (Some d) = ends_if_takes found d (wanted_of (d.target.host == w.home.host) d w)
+
   -- any event
-  event_takes : (event : Event) (grant : Grant) → TakesOrRemain grant w (λ maps. event_happens event grant maps w)
+  event_takes : (event : Event) (grant : Grant) → TakesOrRemain (GrantedBy event grant) w (λ maps. event_happens event grant maps w)
   event_takes (begin e operation) grant =
-      remains grant w _ (begins_remain (e.host == server_endpoint.host) (is_too_long operation) e operation)
+      remains (grant ≡ all) w _ (begins_remain (e.host == w.home.host) (is_too_long operation) e operation)
   event_takes (deliver index spare) grant = delivers_takes (slice_get w.net index) spare grant
-  event_takes (client_times_out e) grant = remains grant w _ (waits_remain (client_at e w) e)
+  event_takes (client_times_out e) grant = remains (grant ≡ all) w _ (waits_remain (client_at e w) e)
   event_takes (server_times_out port) grant =
       answer_takes grant (λ maps. table_timeout port w.server)
       (leaves grant _ w.server (timeout_leaves (transfer_at port w.server) port w.server))
   event_takes (world.stray d) grant =
-      remains grant w _ (strays_remain (d.source.host == server_endpoint.host) (has_begun d.source w.begun) d)
-  event_takes restart grant = remains grant w _ (refl, refl)
+      remains (grant ≡ all) w _ (strays_remain (d.source.host == w.home.host) (has_begun d.source w.begun) d)
+  event_takes restart grant = remains (grant ≡ all) w _ (refl, refl)
+  event_takes (unknown_keep index found) grant = ends_at_takes found (slice_get w.net index)
 
 -- whatever collections a file would make
-pub event-takes : (w : World) (event : Event) (grant : Grant) → TakesOrRemain grant w (λ maps. event_happens event grant maps w)
+pub event-takes : (w : World) (event : Event) (grant : Grant) → TakesOrRemain (GrantedBy event grant) w (λ maps. event_happens event grant maps w)
 event-takes w event grant = event_takes w event grant
 
 -- ---- a step
 
--- no file is taken and the collections remain, or a file is taken and everything was granted
-abbrev pub StepTakes : Grant → (w v : World) → Type 0
-StepTakes grant w v = Remain w v ⊎ ((t : Taken) × (v.taken ≡ w.taken ++ t ∷ []) × (grant ≡ all))
+-- no file is taken and the collections remain, or a file is taken and this holds of what was granted
+abbrev pub StepTakes : (Granted : Type 0) → (w v : World) → Type 0
+StepTakes Granted w v = Remain w v ⊎ ((t : Taken) × (v.taken ≡ w.taken ++ t ∷ []) × Granted)
 
 -- with the collections that a file makes
-step_by : (w : World) (grant : Grant) (v : Maps → World) (maps : Maps) → TakesOrRemain grant w v → StepTakes grant w (v maps)
-step_by w grant v maps (inl remain) = inl (subst (Remain w) (sym (remain.2 maps)) remain.1)
-step_by w grant v maps (inr takes) = inr (takes.0, (takes.1 maps).0, takes.2)
+step_by : (w : World) (Granted : Type 0) (v : Maps → World) (maps : Maps) → TakesOrRemain Granted w v → StepTakes Granted w (v maps)
+step_by w Granted v maps (inl remain) = inl (subst (Remain w) (sym (remain.2 maps)) remain.1)
+step_by w Granted v maps (inr takes) = inr (takes.0, (takes.1 maps).0, takes.2)
 
--- a step takes no file and leaves the collections, or takes one with everything granted
-pub step-takes : (w : World) (s : WorldStep) → StepTakes s.grant w (happens s w)
-step-takes w s = step_by w s.grant _ s.maps (event-takes w s.event s.grant)
+-- a step takes no file and leaves the collections, or takes one
+pub step-takes : (w : World) (s : WorldStep) → StepTakes (GrantedBy s.event s.grant) w (happens s w)
+step-takes w s = step_by w (GrantedBy s.event s.grant) _ s.maps (event-takes w s.event s.grant)

@@ -92,7 +92,7 @@ module _ (w : World) (h : Holds w) (d : Datagram) (among : Has w.net d) (spare :
   write_fine : IsStranger w.past d.source ⊎ AsksToWrite w.past d.source → IsFine w h spare free d.source to_write (receiving receiver_start) (encode (ack 0))
   write_fine whose =
       let g = grows w h spare free d.source to_write (receiving receiver_start) (encode (ack 0)) in
-      let acks : ServerAcks writing.past (from_port spare) d.source 0 = record { ours = refl; whom = λ own. none_acked (own_asks whose own) } in
+      let acks : ServerAcks writing.past (from_port w spare) d.source 0 = record { ours = refl; whom = λ own. none_acked (own_asks whose own) } in
       record {
         away = writer_away w h d among whose;
         live = record {
@@ -101,7 +101,7 @@ module _ (w : World) (h : Holds w) (d : Datagram) (among : Has w.net d) (spare :
           opened = record { among = Has-last w.opened _ };
           whose = λ own. none_come (own_asks whose own);
         };
-        honest = honest_packet writing (from_port spare) d.source (ack 0) (ack-reads_back 0 (omega arith)).decoded (inr acks);
+        honest = honest_packet writing (from_port w spare) d.source (ack 0) (ack-reads_back 0 (omega arith)).decoded (inr acks);
         whose = either (stranger-lasts g d.source)
             (λ (asks : AsksToWrite w.past d.source). (asks.file, put-lasts g d.source asks.file asks.began)) whose;
       }

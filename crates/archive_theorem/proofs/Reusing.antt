@@ -5,7 +5,7 @@ use Rattle.std.proofs.lemmas.Bool.{eqb-true, eq-eqb}
 use Rattle.tftp_packet.specs.declared.endpoint.Endpoint.{Endpoint}
 use Rattle.archive_table.specs.Table.{is_same}
 use Rattle.archive_client.specs.Client.{Operation}
-use Rattle.archive_model.specs.World.{Datagram, Begun, Opening, World, start, has_begun, begins, strays_in}
+use Rattle.archive_model.specs.World.{Datagram, Begun, Opening, World, Origin, first_world, has_begun, begins, strays_in}
 use Rattle.archive_theorem.specs.Headline.{OwnPorts, HasOwnPorts, HasOperation}
 use Rattle.archive_theorem.specs.Reuse.{has_strayed, is_opening_at, was_opened, IsUnused, BeginKeepsOwn, OpeningKeepsOwn, StrayKeepsOwn}
 use Rattle.archive_model.proofs.Places.{Has, Has-last, Has-push, Has-contains, Has-from_contains, OldOrLast, at-push, at-append, at-last, before_last}
@@ -222,8 +222,8 @@ pub none_there : {A P : Type 0} (x : A) → Contains [] x → P
 none_there x c = absurd (omega (arith, c.1))
 
 -- at the start no port is reused
-pub start-own : HasOwnPorts start
-start-own =
+pub start-own : (o : Origin) → HasOwnPorts (first_world o)
+start-own o =
     record {
       operations = λ i j b c at_i. absurd cc;
       openings = λ i j o p at_i. absurd cc;

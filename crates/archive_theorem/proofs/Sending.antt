@@ -11,7 +11,7 @@ use Rattle.tftp_packet.proofs.Sent.{sent_refusal}
 use Rattle.tftp_ends.specs.Ends.{dgram_of}
 use Rattle.tftp_ends.proofs.Steps.{ReadsBack}
 use Rattle.archive_table.specs.Table.{End, Transfer, at_port, with_live, transfer_at, sends_from, refusal_dgram, replies, goes_on, closes}
-use Rattle.archive_model.specs.World.{Datagram, World, server_endpoint, datagram_of, net_with, after_transfer, Extends, IsPrefix}
+use Rattle.archive_model.specs.World.{Datagram, World, datagram_of, net_with, after_transfer, Extends, IsPrefix}
 use Rattle.archive_model.proofs.Places.{Has, IsPrefix-same, IsPrefix-push, Has-push, either}
 use Rattle.archive_theorem.proofs.Keyed.{IsApart, NewOrOld, lookup-set, lookup-remove, apart-set, apart-remove}
 use Rattle.archive_theorem.proofs.Claims.{Says, IsHonest, IsLiveEnd, IsLive, IsRunning, IsUntaken}
@@ -37,17 +37,17 @@ honest_refusal w source target why = honest_packet w source target (refusal_pack
 
 -- what is sent from the server's host is honest
 abbrev pub SendsHonest : World → Option Out → Type 0
-SendsHonest w out = IfSome out (λ o. IsHonest w.past (datagram_of server_endpoint.host o))
+SendsHonest w out = IfSome out (λ o. IsHonest w.past (datagram_of w.home.host o))
 
 -- the server's endpoint with this port
-abbrev pub from_port : ℕ → Endpoint
-from_port port = record { host = server_endpoint.host; port = port }
+abbrev pub from_port : World → ℕ → Endpoint
+from_port w port = record { host = w.home.host; port = port }
 
 -- what an end sends is honest, if it reads back and says what is so
 pub sends_packet : (w : World) (port : ℕ) (peer : Endpoint) (out : Option Packet) → IfSome out ReadsBack →
-    IfSome out (Says w.past (from_port port) peer) → SendsHonest w (sends_from port peer (dgram_of out))
+    IfSome out (Says w.past (from_port w port) peer) → SendsHonest w (sends_from port peer (dgram_of out))
 sends_packet w port peer None back says = tt
-sends_packet w port peer (Some p) back says = honest_packet w (from_port port) peer p back.decoded says
+sends_packet w port peer (Some p) back says = honest_packet w (from_port w port) peer p back.decoded says
 
 -- ---- the network
 
@@ -58,41 +58,42 @@ net-prefix host net (Some out) = IsPrefix-push net (datagram_of host out)
 
 -- a new datagram of the network is honest, and from the server's host
 net_honest : (w v : World) → Extends w.past v.past → (out : Option Out) → SendsHonest w out → (d : Datagram) →
-    Has (net_with server_endpoint.host w.net out) d → Has w.net d ⊎ ((d.source.host ≡ server_endpoint.host) × IsHonest v.past d)
+    Has (net_with w.home.host w.net out) d → Has w.net d ⊎ ((d.source.host ≡ w.home.host) × IsHonest v.past d)
 net_honest w v g None honest d has = inl has
 net_honest w v g (Some out) honest d has =
     either (λ old. old)
-    (λ is. (ap (λ (x : Datagram). x.source.host) is, subst (IsHonest v.past) (sym is) (honest-lasts g (datagram_of server_endpoint.host out) honest)))
-    (Has-push w.net (datagram_of server_endpoint.host out) d has)
+    (λ is. (ap (λ (x : Datagram). x.source.host) is, subst (IsHonest v.past) (sym is) (honest-lasts g (datagram_of w.home.host out) honest)))
+    (Has-push w.net (datagram_of w.home.host out) d has)
 
 -- a new datagram is from the server's host, and honest by what holds after the step
 pub net_from_server : (w v : World) → Extends w.past v.past → (out : Option Out) → SendsHonest v out → (d : Datagram) →
-    Has (net_with server_endpoint.host w.net out) d → Has w.net d ⊎ ((d.source.host ≡ server_endpoint.host) × IsHonest v.past d)
+    Has (net_with w.home.host w.net out) d → Has w.net d ⊎ ((d.source.host ≡ w.home.host) × IsHonest v.past d)
 net_from_server w v g None honest d has = inl has
 net_from_server w v g (Some out) honest d has =
-    either (λ old. old) (λ is. (ap (λ (x : Datagram). x.source.host) is, subst (IsHonest v.past) (sym is) honest))
-    (Has-push w.net (datagram_of server_endpoint.host out) d has)
+    let here = subst (λ (e : Endpoint). IsHonest v.past (datagram_of e.host out)) g.home honest in
+    either (λ old. old) (λ is. (ap (λ (x : Datagram). x.source.host) is, subst (IsHonest v.past) (sym is) here))
+    (Has-push w.net (datagram_of w.home.host out) d has)
 
 -- ---- the steps
 
 module _ (w : World) (h : Holds w) where
   -- the world with these transfers, after this was sent
   abbrev pub moved : List (ℕ × Transfer) → Option Out → World
-  moved live out = served (net_with server_endpoint.host w.net out) (with_live live w.server) w.taken w.opened w
+  moved live out = served (net_with w.home.host w.net out) (with_live live w.server) w.taken w.recovered w.opened w
 
   -- the lists have only grown
   moved_grows : (live : List (ℕ × Transfer)) (out : Option Out) → Extends w.past (moved live out).past
   moved_grows live out =
-      served-extends w.past (net-prefix server_endpoint.host w.net out) (IsPrefix-same w.taken) (IsPrefix-same w.opened)
+      served-extends w.past (net-prefix w.home.host w.net out) (IsPrefix-same w.taken) (IsPrefix-same w.recovered) (IsPrefix-same w.opened)
 
   -- no file is newly taken
   untaken_after : (live : List (ℕ × Transfer)) (out : Option Out) → SendsHonest w out → (port : ℕ) (t : Transfer) →
-      t.peer.host ≢ server_endpoint.host → IsUntaken w.past port t → IsUntaken (moved live out).past port t
+      t.peer.host ≢ w.home.host → IsUntaken w.past port t → IsUntaken (moved live out).past port t
   untaken_after live out honest port t away untaken running own u among same bound =
       let g = moved_grows live out in
-      let from_us : (d : Datagram) → Has (net_with server_endpoint.host w.net out) d → Has w.net d ⊎ (d.source.host ≡ server_endpoint.host) =
+      let from_us : (d : Datagram) → Has (net_with w.home.host w.net out) d → Has w.net d ⊎ (d.source.host ≡ w.home.host) =
       λ d has. either (λ old. old) (λ ours. ours.0) (net_honest w (moved live out) g out honest d has) in
-      let before = bound_before w h (net_with server_endpoint.host w.net out) (with_live live w.server) w.taken w.opened from_us t.peer port away bound in
+      let before = bound_before w h (net_with w.home.host w.net out) (with_live live w.server) w.taken w.recovered w.opened from_us t.peer port away bound in
       untaken running own u among same before
 
   -- each of these transfers is as the invariant says
@@ -100,7 +101,7 @@ module _ (w : World) (h : Holds w) where
       ((port : ℕ) (t : Transfer) → lookup (at_port port) live ≡ Some t → IsLive w.past port t × IsUntaken w.past port t) → Holds (moved live out)
   moved-holds live out honest apart fits =
       let g = moved_grows live out in
-      served-holds w h (net_with server_endpoint.host w.net out) (with_live live w.server) w.taken w.opened
+      served-holds w h (net_with w.home.host w.net out) (with_live live w.server) w.taken w.recovered w.opened
       (record {
         more = g;
         honest = net_honest w (moved live out) g out honest;
@@ -114,7 +115,7 @@ module _ (w : World) (h : Holds w) where
       })
 
   -- a datagram that is honest is sent, and nothing else changes: the invariant still holds
-  pub replies-holds : (out : Out) → IsHonest w.past (datagram_of server_endpoint.host out) → Holds (after_transfer (replies out w.server) w)
+  pub replies-holds : (out : Out) → IsHonest w.past (datagram_of w.home.host out) → Holds (after_transfer (replies out w.server) w)
   replies-holds out honest =
       moved-holds w.server.live (Some out) honest h.apart (λ port t is. (h.live port t is, h.untaken port t is))
 

@@ -4,7 +4,7 @@ use Rattle.tftp_packet.specs.declared.endpoint.Endpoint.{Endpoint}
 use Rattle.archive_table.specs.Table.{Table, Taken, Transfer, at_port, transfer_at}
 use Rattle.archive_client.specs.Client.{Phase, Client, put, get}
 use Rattle.archive_client.specs.Client as client
-use Rattle.archive_model.specs.World.{Datagram, Opening, World, server_endpoint, Extends, IsPrefix, Past}
+use Rattle.archive_model.specs.World.{Datagram, Opening, World, Extends, IsPrefix, Past}
 use Rattle.archive_model.proofs.Places.{Has, IsPrefix-same, length-prefix, either}
 use Rattle.archive_theorem.proofs.Keyed.{IsApart}
 use Rattle.archive_theorem.proofs.Claims.{HasBegun, IsHonest, IsBound, IsLive, IsUntaken, IsPursuing, MayBind, IsOpening, IsTaken}
@@ -13,18 +13,21 @@ use Rattle.archive_theorem.proofs.Owning.{own-before, put_begun, get_begun}
 use Rattle.archive_theorem.proofs.Invariant.{exact_port, AreBest, TakesOnce, Holds}
 
 -- the world after a step of the server
-abbrev pub served : (net : List Datagram) (server : Table) (taken : List Taken) (opened : List Opening) → World → World
-served net server taken opened w =
-    record w { server = server; past = record w.past { net = net; taken = taken; opened = opened } }
+abbrev pub served : (net : List Datagram) (server : Table) (taken recovered : List Taken) (opened : List Opening) → World → World
+served net server taken recovered opened w =
+    record w { server = server; past = record w.past { net = net; taken = taken; recovered = recovered; opened = opened } }
 
 -- which only adds to these lists
-pub served-extends : (past : Past) {net : List Datagram} {taken : List Taken} {opened : List Opening} → IsPrefix past.net net →
-    IsPrefix past.taken taken → IsPrefix past.opened opened → Extends past (record past { net = net; taken = taken; opened = opened })
-served-extends past net taken opened =
+pub served-extends : (past : Past) {net : List Datagram} {taken recovered : List Taken} {opened : List Opening} → IsPrefix past.net net →
+    IsPrefix past.taken taken → IsPrefix past.recovered recovered → IsPrefix past.opened opened →
+    Extends past (record past { net = net; taken = taken; recovered = recovered; opened = opened })
+served-extends past net taken recovered opened =
     record {
+      home = refl;
       net = net;
       begun = IsPrefix-same past.begun;
       taken = taken;
+      recovered = recovered;
       sent = IsPrefix-same past.sent;
       got = IsPrefix-same past.got;
       opened = opened;
@@ -32,29 +35,29 @@ served-extends past net taken opened =
     }
 
 -- no operation begins on the server's host
-pub begun_away : (w : World) → Holds w → (e : Endpoint) → HasBegun w.past e → e.host ≢ server_endpoint.host
+pub begun_away : (w : World) → Holds w → (e : Endpoint) → HasBegun w.past e → e.host ≢ w.home.host
 begun_away w h e b = λ ours. (h.begun b.begun b.among).away (ap (λ (f : Endpoint). f.host) b.client ∙ ours)
 
 -- what must be shown
-pub record Serving (w : World) (net : List Datagram) (server : Table) (taken : List Taken) (opened : List Opening) : Type 0 where
-  pub more : Extends w.past (served net server taken opened w).past
-  pub honest : (d : Datagram) → Has net d → Has w.net d ⊎ ((d.source.host ≡ server_endpoint.host) × IsHonest (served net server taken opened w).past d)
+pub record Serving (w : World) (net : List Datagram) (server : Table) (taken recovered : List Taken) (opened : List Opening) : Type 0 where
+  pub more : Extends w.past (served net server taken recovered opened w).past
+  pub honest : (d : Datagram) → Has net d → Has w.net d ⊎ ((d.source.host ≡ w.home.host) × IsHonest (served net server taken recovered opened w).past d)
   pub apart : IsApart at_port exact_port server.live
-  pub live : (port : ℕ) (t : Transfer) → transfer_at port server ≡ Some t → IsLive (served net server taken opened w).past port t
-  pub untaken : (port : ℕ) (t : Transfer) → transfer_at port server ≡ Some t → IsUntaken (served net server taken opened w).past port t
-  pub openings : (o : Opening) → Has opened o → Has w.opened o ⊎ IsOpening (served net server taken opened w).past o
-  pub files : (t : Taken) → Has taken t → Has w.taken t ⊎ IsTaken (served net server taken opened w).past t
-  pub once : TakesOnce (served net server taken opened w).past
+  pub live : (port : ℕ) (t : Transfer) → transfer_at port server ≡ Some t → IsLive (served net server taken recovered opened w).past port t
+  pub untaken : (port : ℕ) (t : Transfer) → transfer_at port server ≡ Some t → IsUntaken (served net server taken recovered opened w).past port t
+  pub openings : (o : Opening) → Has opened o → Has w.opened o ⊎ IsOpening (served net server taken recovered opened w).past o
+  pub files : (t : Taken) → Has taken t → Has w.taken t ⊎ IsTaken (served net server taken recovered opened w).past t
+  pub once : TakesOnce (served net server taken recovered opened w).past
   pub best : AreBest taken server.maps
 
-module _ (w : World) (h : Holds w) (net : List Datagram) (server : Table) (taken : List Taken) (opened : List Opening) where
+module _ (w : World) (h : Holds w) (net : List Datagram) (server : Table) (taken recovered : List Taken) (opened : List Opening) where
   -- the world after it
   abbrev after : World
-  after = served net server taken opened w
+  after = served net server taken recovered opened w
 
   -- what the server sends binds nobody
-  pub bound_before : ((d : Datagram) → Has net d → Has w.net d ⊎ (d.source.host ≡ server_endpoint.host)) → (e : Endpoint) (port : ℕ) →
-      e.host ≢ server_endpoint.host → IsBound after.past e port → IsBound w.past e port
+  pub bound_before : ((d : Datagram) → Has net d → Has w.net d ⊎ (d.source.host ≡ w.home.host)) → (e : Endpoint) (port : ℕ) →
+      e.host ≢ w.home.host → IsBound after.past e port → IsBound w.past e port
   bound_before new e port away b =
       ⊎_elim
       (λ old. record { datagram = b.datagram; among = old; source = b.source; target = b.target; binds = b.binds })
@@ -62,7 +65,7 @@ module _ (w : World) (h : Holds w) (net : List Datagram) (server : Table) (taken
       (new b.datagram b.among)
 
   -- each client is bound where its endpoint is
-  bound_in : (e : Endpoint) (phase : Phase) (port : ℕ) → (e.host ≢ server_endpoint.host → IsBound after.past e port → IsBound w.past e port) →
+  bound_in : (e : Endpoint) (phase : Phase) (port : ℕ) → (e.host ≢ w.home.host → IsBound after.past e port → IsBound w.past e port) →
       IsPursuing w.past e phase → (IsBound w.past e port → MayBind phase port) → IsBound after.past e port → MayBind phase port
   bound_in e (client.asking operation misses) port before p may b =
       may (before (begun_away w h e (record { begun = _; among = p.among; client = refl })) b)
@@ -73,9 +76,9 @@ module _ (w : World) (h : Holds w) (net : List Datagram) (server : Table) (taken
   bound_in e (client.failed why) port before p may b = tt
 
   -- a step of the server for which all this is shown keeps the invariant
-  pub served-holds : Serving w net server taken opened → Holds after
+  pub served-holds : Serving w net server taken recovered opened → Holds after
   served-holds s =
-      let new : (d : Datagram) → Has net d → Has w.net d ⊎ (d.source.host ≡ server_endpoint.host) =
+      let new : (d : Datagram) → Has net d → Has w.net d ⊎ (d.source.host ≡ w.home.host) =
       λ d has. either (λ old. old) (λ ours. ours.0) (s.honest d has) in
       let before = bound_before new in
       record {

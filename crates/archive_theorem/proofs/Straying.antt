@@ -2,7 +2,7 @@
 use Rattle.std.proofs.Common.{◌≡◌, ◌≢◌, ◌⊎◌, ℕ, [], refl, ap, sym, ◌∙◌, subst, inl, ⊎_elim}
 use Rattle.tftp_packet.specs.declared.endpoint.Endpoint.{Endpoint}
 use Rattle.archive_table.specs.Table.{Table}
-use Rattle.archive_model.specs.World.{Datagram, World, server_endpoint, strays_in, restarts, Extends}
+use Rattle.archive_model.specs.World.{Datagram, World, strays_in, restarts, Extends}
 use Rattle.archive_theorem.specs.Headline.{IsOwn}
 use Rattle.archive_model.proofs.Doing as doing
 use Rattle.archive_model.proofs.Places.{Has-last, Has-push}
@@ -17,7 +17,7 @@ use Rattle.archive_model.proofs.Growing.{Extends-same, does-extends}
 -- ---- a stray
 
 -- a stranger's datagram enters
-module _ (w : World) (h : Holds w) (d : Datagram) (away : d.source.host ≢ server_endpoint.host) where
+module _ (w : World) (h : Holds w) (d : Datagram) (away : d.source.host ≢ w.home.host) where
   -- the world after that
   abbrev after : World
   after = strays_in d w
@@ -35,7 +35,7 @@ module _ (w : World) (h : Holds w) (d : Datagram) (away : d.source.host ≢ serv
 
   -- an endpoint that is bound was bound before, or this datagram binds it
   split : (f : Endpoint) (port : ℕ) → IsBound after.past f port → IsBound w.past f port ⊎ BindsBy d f port
-  split f port b = bound_split w after d refl f port b
+  split f port b = bound_split w after d refl refl f port b
 
   -- and then it is a stranger's
   strange : (f : Endpoint) (port : ℕ) → BindsBy d f port → IsStranger after.past f
@@ -83,7 +83,7 @@ fresh s = record { request = s.request; maps = s.maps; live = [] }
 -- a restart keeps the invariant
 pub restarts-holds : (w : World) → Holds w → Holds (restarts w)
 restarts-holds w h =
-    served-holds w h w.net (fresh w.server) w.taken w.opened
+    served-holds w h w.net (fresh w.server) w.taken w.recovered w.opened
     (record {
       more = Extends-same w.past;
       honest = λ d has. inl has;

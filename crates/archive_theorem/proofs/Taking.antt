@@ -6,7 +6,7 @@ use Rattle.tftp_packet.specs.declared.out.Out.{Out}
 use Rattle.tftp_ends.specs.declared.recv_state.RecvState.TheVariants as recv
 use Rattle.tftp_ends.specs.Ends.{Receiver}
 use Rattle.archive_table.specs.Table.{Table, Maps, Taken, Transfer, receiving, at_port, transfer_at}
-use Rattle.archive_model.specs.World.{Datagram, World, server_endpoint, net_with, to_write, Extends}
+use Rattle.archive_model.specs.World.{Datagram, World, net_with, to_write, Extends}
 use Rattle.archive_theorem.specs.Headline.{IsOwn}
 use Rattle.archive_model.proofs.Places.{Has, IsPrefix-same, IsPrefix-push, Has-push, OldOrLast, at-push, either}
 use Rattle.archive_theorem.proofs.Keyed.{NewOrOld, lookup-set, lookup-written, apart-set}
@@ -32,13 +32,13 @@ server_with maps port t s = record { request = s.request; maps = maps; live = se
 -- the world after it
 abbrev pub world_taken : Maps → (port : ℕ) → Transfer → (file : List ℕ) → Receiver → Option Out → World → World
 world_taken maps port t file next out w =
-    served (net_with server_endpoint.host w.net out) (server_with maps port (with_end t next) w.server) (w.taken ++ taken_of t file ∷ []) w.opened w
+    served (net_with w.home.host w.net out) (server_with maps port (with_end t next) w.server) (w.taken ++ taken_of t file ∷ []) w.recovered w.opened w
 
 -- which only adds the file, and what is sent
 pub taken-extends : (w : World) (maps : Maps) (port : ℕ) (t : Transfer) (file : List ℕ) (next : Receiver) (out : Option Out) →
     Extends w.past (world_taken maps port t file next out w).past
 taken-extends w maps port t file next out =
-    served-extends w.past (net-prefix server_endpoint.host w.net out) (IsPrefix-push w.taken (taken_of t file)) (IsPrefix-same w.opened)
+    served-extends w.past (net-prefix w.home.host w.net out) (IsPrefix-push w.taken (taken_of t file)) (IsPrefix-same w.recovered) (IsPrefix-same w.opened)
 
 -- what must be shown
 pub record Taking (w : World) (maps : Maps) (port : ℕ) (t : Transfer) (file : List ℕ) (next : Receiver) (out : Option Out) : Type 0 where
@@ -63,13 +63,13 @@ module _ (w : World) (h : Holds w) (maps : Maps) (port : ℕ) (t : Transfer) (fi
   grows = taken-extends w maps port t file next out
 
   -- a new datagram is from the server's host
-  from_us : (d : Datagram) → Has (net_with server_endpoint.host w.net out) d → Has w.net d ⊎ (d.source.host ≡ server_endpoint.host)
+  from_us : (d : Datagram) → Has (net_with w.home.host w.net out) d → Has w.net d ⊎ (d.source.host ≡ w.home.host)
   from_us d has = either (λ old. old) (λ ours. ours.0) (net_from_server w after grows out k.honest d has)
 
   -- so no client is newly bound
-  before : (e : Endpoint) (q : ℕ) → e.host ≢ server_endpoint.host → IsBound after.past e q → IsBound w.past e q
-  before = bound_before w h (net_with server_endpoint.host w.net out) (server_with maps port (with_end t next) w.server)
-      (w.taken ++ taken_of t file ∷ []) w.opened from_us
+  before : (e : Endpoint) (q : ℕ) → e.host ≢ w.home.host → IsBound after.past e q → IsBound w.past e q
+  before = bound_before w h (net_with w.home.host w.net out) (server_with maps port (with_end t next) w.server)
+      (w.taken ++ taken_of t file ∷ []) w.recovered w.opened from_us
 
   -- ---- the transfers
 
@@ -122,7 +122,7 @@ module _ (w : World) (h : Holds w) (maps : Maps) (port : ℕ) (t : Transfer) (fi
 
   -- files are still taken once
   once_in : (i j : ℕ) (a b : Taken) → OldOrLast w.taken (taken_of t file) i a → OldOrLast w.taken (taken_of t file) j b → a.peer ≡ b.peer →
-      a.peer.host ≢ server_endpoint.host → IsOwn w a.peer → i ≡ j
+      a.peer.host ≢ w.home.host → IsOwn w a.peer → i ≡ j
   once_in i j a b (inl at_i) (inl at_j) same other own = h.once i j a b at_i at_j same other own
   once_in i j a b (inl at_i) (inr last) same other own =
       let peers : a.peer ≡ t.peer = same ∙ ap (λ (x : Taken). x.peer) last.1 in
@@ -145,7 +145,7 @@ module _ (w : World) (h : Holds w) (maps : Maps) (port : ℕ) (t : Transfer) (fi
   -- a step that takes a file keeps the invariant
   pub takes-holds : Holds (world_taken maps port t file next out w)
   takes-holds =
-      served-holds w h (net_with server_endpoint.host w.net out) (server_with maps port (with_end t next) w.server) (w.taken ++ taken_of t file ∷ []) w.opened
+      served-holds w h (net_with w.home.host w.net out) (server_with maps port (with_end t next) w.server) (w.taken ++ taken_of t file ∷ []) w.recovered w.opened
       (record {
         more = grows;
         honest = net_from_server w after grows out k.honest;

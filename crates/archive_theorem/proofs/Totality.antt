@@ -9,13 +9,13 @@ use Rattle.tws_best.specs.Choice.{best_of}
 use Rattle.tws_best.proofs.Choices.{best_of_is}
 use Rattle.tws_best.proofs.Sets.{one_collection}
 use Rattle.archive_table.specs.Table.{Maps, Taken, Grant, IsFileMerge, MergesIntoOwn, IsMerged}
-use Rattle.archive_model.specs.World.{Event, World, WorldStep, start, event_happens, happens, run_from, run, AllMerged, asked_by}
+use Rattle.archive_model.specs.World.{Event, World, WorldStep, Origin, RunFrom, first_world, last_world, event_happens, happens, run_from, AllMerged, asked_by}
 use Rattle.archive_model.proofs.Places.{at-last}
 use Rattle.archive_theorem.proofs.Readability.{readable_or_not}
-use Rattle.archive_theorem.proofs.Invariant.{AreBest}
+use Rattle.archive_theorem.proofs.Invariant.{AreBest, first-best}
 use Rattle.archive_theorem.proofs.Merging.{best-taken}
 use Rattle.archive_theorem.proofs.Remaining.{TakesOrRemain, event-takes}
-use Rattle.archive_theorem.proofs.Collecting.{step-best, start-best}
+use Rattle.archive_theorem.proofs.Collecting.{step-best}
 
 -- ---- the collections that a file makes
 
@@ -63,12 +63,12 @@ one_last ts t u e =
     cc
 
 -- for each step there are collections that its file makes
-maps_for : (w : World) (grant : Grant) (v : Maps → World) → TakesOrRemain grant w v → (maps : Maps) × MergesTo w (v maps)
-maps_for w grant v (inl remain) =
+maps_for : (w : World) (Granted : Type 0) (v : Maps → World) → TakesOrRemain Granted w v → (maps : Maps) × MergesTo w (v maps)
+maps_for w Granted v (inl remain) =
     let maps = w.server.maps in
     let taken : (v maps).taken ≡ w.taken = ap (λ (x : World). x.taken) (remain.2 maps) ∙ remain.1.0 in
     (maps, λ t e. not_more w.taken t (sym taken ∙ e))
-maps_for w grant v (inr takes) =
+maps_for w Granted v (inr takes) =
     let new = merged-of takes.0.file w.server.maps in
     let after = takes.1 new.0 in
     let merged : IsMerged takes.0.file w.server.maps (v new.0).server.maps = subst (IsMerged takes.0.file w.server.maps) (sym after.1) new.1 in
@@ -84,10 +84,10 @@ one_maps taken m n first second =
     whole
 
 -- so a step leads to one world
-one_after : (w : World) (grant : Grant) (v : Maps → World) (m n : Maps) → TakesOrRemain grant w v → AreBest w.taken w.server.maps →
+one_after : (w : World) (Granted : Type 0) (v : Maps → World) (m n : Maps) → TakesOrRemain Granted w v → AreBest w.taken w.server.maps →
     MergesTo w (v m) → MergesTo w (v n) → v m ≡ v n
-one_after w grant v m n (inl remain) best first second = remain.2 m ∙ sym (remain.2 n)
-one_after w grant v m n (inr takes) best first second =
+one_after w Granted v m n (inl remain) best first second = remain.2 m ∙ sym (remain.2 n)
+one_after w Granted v m n (inr takes) best first second =
     let t = takes.0 in
     let at : (x : Maps) → MergesTo w (v x) → AreBest (w.taken ++ t ∷ []) x =
     λ x merged. let after = takes.1 x in best-taken w.taken t w.server.maps x best (subst (IsMerged t.file w.server.maps) after.1 (merged t after.0)) in
@@ -96,17 +96,17 @@ one_after w grant v m n (inr takes) best first second =
 -- ---- a run
 
 -- for any events and grants there are steps that merge each file
-pub total_from : (asked : List (Event × Grant)) (w : World) → (steps : List WorldStep) × (asked_by steps ≡ asked) × AllMerged steps w
+total_from : (asked : List (Event × Grant)) (w : World) → (steps : List WorldStep) × (asked_by steps ≡ asked) × AllMerged steps w
 total_from [] w = ([], refl, tt)
 total_from (a ∷ asked) w =
-    let maps = maps_for w a.1 (λ m. event_happens a.0 a.1 m w) (event-takes w a.0 a.1) in
+    let maps = maps_for w _ (λ m. event_happens a.0 a.1 m w) (event-takes w a.0 a.1) in
     let s : WorldStep = record { event = a.0; grant = a.1; maps = maps.0 } in
     let rest = total_from asked (happens s w) in
     (s ∷ rest.0, ap (λ (l : List (Event × Grant)). a ∷ l) rest.1, (maps.1, rest.2))
 
 -- for any events and grants there is a run
-pub run-total : (asked : List (Event × Grant)) → (steps : List WorldStep) × (asked_by steps ≡ asked) × AllMerged steps start
-run-total asked = total_from asked start
+pub run-total : (o : Origin) (asked : List (Event × Grant)) → (r : RunFrom o) × (asked_by r.steps ≡ asked)
+run-total o asked = let steps = total_from asked (first_world o) in (record { steps = steps.0; merged = steps.2 }, steps.1)
 
 -- two steps with the same event and grant lead to one world
 one_step : (w : World) (x y : WorldStep) → x.event ≡ y.event → x.grant ≡ y.grant → AreBest w.taken w.server.maps →
@@ -114,7 +114,7 @@ one_step : (w : World) (x y : WorldStep) → x.event ≡ y.event → x.grant ≡
 one_step w x y event grant best first second =
     let moved : happens y w ≡ event_happens x.event x.grant y.maps w =
     ap (λ (e : Event). event_happens e y.grant y.maps w) (sym event) ∙ ap (λ (g : Grant). event_happens x.event g y.maps w) (sym grant) in
-    one_after w x.grant (λ m. event_happens x.event x.grant m w) x.maps y.maps (event-takes w x.event x.grant) best first (subst (MergesTo w) moved second)
+    one_after w _ (λ m. event_happens x.event x.grant m w) x.maps y.maps (event-takes w x.event x.grant) best first (subst (MergesTo w) moved second)
     ∙ sym moved
 
 first_pair : (e f : Event) (g h : Grant) (xs ys : List (Event × Grant)) → (e, g) ∷ xs ≡ (f, h) ∷ ys → (e ≡ f) × (g ≡ h) × (xs ≡ ys)
@@ -125,7 +125,7 @@ first_pair e f g h xs ys same =
     (ap (λ (p : Event × Grant). p.0) pair, ap (λ (p : Event × Grant). p.1) pair, rest)
 
 -- steps with the same events and grants lead to one world
-pub one_from : (xs ys : List WorldStep) (w : World) → asked_by xs ≡ asked_by ys → AllMerged xs w → AllMerged ys w →
+one_from : (xs ys : List WorldStep) (w : World) → asked_by xs ≡ asked_by ys → AllMerged xs w → AllMerged ys w →
     AreBest w.taken w.server.maps → run_from xs w ≡ run_from ys w
 one_from [] [] w same first second best = refl
 one_from [] (y ∷ ys) w same first second best = absurd cc
@@ -137,5 +137,5 @@ one_from (x ∷ xs) (y ∷ ys) w same first second best =
     ∙ ap (run_from ys) now
 
 -- for any events and grants there is at most one run
-pub run-one : (xs ys : List WorldStep) → asked_by xs ≡ asked_by ys → AllMerged xs start → AllMerged ys start → run xs ≡ run ys
-run-one xs ys same first second = one_from xs ys start same first second start-best
+pub run-one : (o : Origin) (r s : RunFrom o) → asked_by r.steps ≡ asked_by s.steps → last_world r ≡ last_world s
+run-one o r s same = one_from r.steps s.steps (first_world o) same r.merged s.merged (first-best o)

@@ -8,12 +8,11 @@ use Rattle.std.proofs.lemmas.Slice.Eq.{bytes_eq-Decides}
 use Rattle.tftp_packet.specs.declared.endpoint.Endpoint.{Endpoint}
 use Rattle.archive_table.specs.Table.{Maps, Grant, Taken, IsMerged, Transfer, is_same, transfer_at, empty_maps}
 use Rattle.archive_client.specs.Client.{Operation, is_too_long}
-use Rattle.archive_model.specs.World.{Datagram, deliver, stray, WorldStep, World, server_endpoint, begins, begins_unless, request_comes, server_receives, arrives, delivers, strays_in, event_happens, happens, run_from, start_from, start, IsFree, MayDeliver, AllMayHappen, AllMerged}
-use Rattle.archive_theorem.specs.Traces.{Deed, starts, receives, client_waits_long, server_waits_long, loads, Member, is_same_datagram, position_after, position_of, named_in, server_comes, comes, after_deed, trace_from, delivery, events_of, steps_with, member_steps, trace_steps, AllDeedsMerged}
-use Rattle.archive_theorem.specs.Headline.{AreOver, HasOwnPorts, ClientsHeadline, Headline}
+use Rattle.archive_model.specs.World.{Datagram, deliver, stray, WorldStep, World, begins, begins_unless, request_comes, server_receives, arrives, delivers, strays_in, event_happens, happens, run_from, start, IsFree, MayDeliver, AllMayHappen, AllMerged, Origin, RunFrom, last_world, empty_origin, first_world}
+use Rattle.archive_theorem.specs.Traces.{Deed, starts, receives, client_waits_long, server_waits_long, loads, Member, is_same_datagram, position_after, position_of, named_in, server_comes, comes, after_deed, trace_from, delivery, events_of, steps_with, member_steps, trace_steps, AllDeedsMerged, TraceFrom, trace_end}
+use Rattle.archive_theorem.specs.Headline.{HasOwnPorts, ClientsHeadline, Headline}
 use Rattle.archive_theorem.proofs.Happening.{run-append}
-use Rattle.archive_theorem.proofs.Concluding.{run_from-clients, headline}
-use Rattle.archive_theorem.proofs.Invariant.{none-over}
+use Rattle.archive_theorem.proofs.Concluding.{headline, run-clients}
 use Rattle.archive_theorem.proofs.Strangers.{AreFromOthers, run-from_others}
 use Rattle.archive_model.proofs.Places.{at-last}
 use Rattle.archive_model.proofs.Endpoints.{endpoint_is, exact_endpoint}
@@ -76,28 +75,28 @@ server_fits w d spare grant maps false free = refl
 
 -- and one at any host
 arrives_fits : (w : World) (d : Datagram) (spare : ℕ) (grant : Grant) (maps : Maps) (ours : Bool) →
-    (d.target.host == server_endpoint.host) ≡ ours →
-    (d.target ≡ record { host = server_endpoint.host; port = w.server.request } → IsFree spare w) →
+    (d.target.host == w.home.host) ≡ ours →
+    (d.target ≡ record { host = w.home.host; port = w.server.request } → IsFree spare w) →
     arrives ours spare grant maps d w ≡ comes ours spare grant maps d w
 arrives_fits w d spare grant maps true at free =
     server_fits w d spare grant maps (d.target.port == w.server.request)
-    (λ request. free (endpoint_is d.target server_endpoint.host w.server.request (eqb-true _ _ at) (eqb-true _ _ request)))
+    (λ request. free (endpoint_is d.target w.home.host w.server.request (eqb-true _ _ at) (eqb-true _ _ request)))
 arrives_fits w d spare grant maps false at free = refl
 
 -- a delivery that may happen does what the deed does
 pub delivers_fits : (w : World) (d : Datagram) (index spare : ℕ) (grant : Grant) (maps : Maps) → slice_get w.net index ≡ Some d →
     MayDeliver index spare w →
-    event_happens (deliver index spare) grant maps w ≡ comes (d.target.host == server_endpoint.host) spare grant maps d w
+    event_happens (deliver index spare) grant maps w ≡ comes (d.target.host == w.home.host) spare grant maps d w
 delivers_fits w d index spare grant maps is may =
     let same : may.datagram ≡ d = same_found (slice_get w.net index) may.datagram d may.is is in
     ap (λ (o : Option Datagram). delivers o spare grant maps w) is
-    ∙ arrives_fits w d spare grant maps (d.target.host == server_endpoint.host) refl (λ to. may.spare_is (ap (λ (x : Datagram). x.target) same ∙ to))
+    ∙ arrives_fits w d spare grant maps (d.target.host == w.home.host) refl (λ to. may.spare_is (ap (λ (x : Datagram). x.target) same ∙ to))
 
 -- an operation that may begin begins
-pub begins_fits : (w : World) (e : Endpoint) (operation : Operation) → e.host ≢ server_endpoint.host → is_too_long operation ≡ false →
-    begins_unless (e.host == server_endpoint.host) (is_too_long operation) e operation w ≡ begins e operation w
+pub begins_fits : (w : World) (e : Endpoint) (operation : Operation) → e.host ≢ w.home.host → is_too_long operation ≡ false →
+    begins_unless (e.host == w.home.host) (is_too_long operation) e operation w ≡ begins e operation w
 begins_fits w e operation away short =
-    ap (λ (ours : Bool). begins_unless ours (is_too_long operation) e operation w) (ne_eqb e.host server_endpoint.host away)
+    ap (λ (ours : Bool). begins_unless ours (is_too_long operation) e operation w) (ne_eqb e.host w.home.host away)
     ∙ ap (λ (long : Bool). begins_unless false long e operation w) short
 
 -- ---- one member
@@ -105,7 +104,7 @@ begins_fits w e operation away short =
 -- a datagram that is named is delivered, after it has entered if it is new
 receives_fits : (w : World) (d : Datagram) (spare : ℕ) (grant : Grant) (maps : Maps) (position : Option ℕ) →
     position_of d w.net ≡ position → AllMayHappen (steps_with grant maps (delivery position d spare w.net)) w →
-    run_from (steps_with grant maps (delivery position d spare w.net)) w ≡ comes (d.target.host == server_endpoint.host) spare grant maps d
+    run_from (steps_with grant maps (delivery position d spare w.net)) w ≡ comes (d.target.host == w.home.host) spare grant maps d
     (named_in position d w)
 receives_fits w d spare grant maps (Some position) is may = delivers_fits w d position spare grant maps (found_at d w.net position is) may.0
 receives_fits w d spare grant maps None is may =
@@ -153,7 +152,7 @@ none_taken w t e = let more = ap length e ∙ length-append w.taken (t ∷ []) i
 -- the file that a deed takes is that of its steps
 receives_merged : (w : World) (d : Datagram) (spare : ℕ) (grant : Grant) (maps : Maps) (position : Option ℕ) →
     position_of d w.net ≡ position → AllMayHappen (steps_with grant maps (delivery position d spare w.net)) w →
-    MergesTo w (comes (d.target.host == server_endpoint.host) spare grant maps d (named_in position d w)) →
+    MergesTo w (comes (d.target.host == w.home.host) spare grant maps d (named_in position d w)) →
     AllMerged (steps_with grant maps (delivery position d spare w.net)) w
 receives_merged w d spare grant maps (Some position) is may merged =
     (subst (MergesTo w) (sym (receives_fits w d spare grant maps (Some position) is may)) merged, tt)
@@ -192,19 +191,20 @@ trace_merged (m ∷ members) w may merged =
     merged_append steps (trace_steps members (run_from steps w)) w (deed_merged w m.deed m.grant m.maps parts.0 merged.0)
     (trace_merged members (run_from steps w) parts.1 rest)
 
+-- the run of a trace's steps
+trace_run : {o : Origin} → TraceFrom o → RunFrom o
+trace_run {o} t =
+    record { steps = trace_steps t.members (first_world o); merged = trace_merged t.members (first_world o) t.may t.merged }
+
+-- it ends in the trace's world
+run_ends : {o : Origin} (t : TraceFrom o) → last_world (trace_run t) ≡ trace_end t
+unfolding trace_run
+run_ends {o} t = trace-makes t.members (first_world o) t.may
+
 -- the headline holds for each client of a trace whose ports are its own
-pub trace-clients : (texts : List (List ℕ)) (maps : Maps) → AreOver texts maps → (members : List Member) →
-    AllMayHappen (trace_steps members (start_from texts maps)) (start_from texts maps) → AllDeedsMerged members (start_from texts maps) →
-    ClientsHeadline (trace_from members (start_from texts maps))
-trace-clients texts maps over members may merged =
-    let w = start_from texts maps in
-    subst ClientsHeadline (trace-makes members w may) (run_from-clients texts maps over (trace_steps members w) (trace_merged members w may merged))
+pub trace-clients : (o : Origin) (t : TraceFrom o) → ClientsHeadline o (trace_end t)
+trace-clients o t = subst (ClientsHeadline o) (run_ends t) (run-clients o (trace_run t))
 
 -- the headline holds for a trace in which no port is reused
-pub trace-headline : (members : List Member) → AllMayHappen (trace_steps members start) start → HasOwnPorts (trace_from members start) →
-    AllDeedsMerged members start → Headline (trace_from members start)
-trace-headline members may own merged =
-    let others =
-    subst (λ (w : World). AreFromOthers w.taken) (trace-makes members start may)
-    (run-from_others (trace_steps members start) (trace_merged members start may merged)) in
-    headline (trace_from members start) (trace-clients [] empty_maps none-over members may merged) others own
+pub trace-headline : (home : Endpoint) (t : TraceFrom (empty_origin home)) → HasOwnPorts (trace_end t) → Headline (trace_end t)
+trace-headline home t own = headline home (trace_end t) (trace-clients (empty_origin home) t) own

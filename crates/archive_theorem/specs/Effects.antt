@@ -8,7 +8,7 @@ use Rattle.tws_file.specs.declared.«ruleset».Ruleset.{Ruleset}
 use Rattle.tws_best.specs.Best.{collection_text}
 use Rattle.archive_table.specs.Table.{Taken, IsMerged, map_of}
 use Rattle.archive_client.specs.Client.{Operation, put, get, is_too_long}
-use Rattle.archive_model.specs.World.{Begun, begin, to_read, Got, WorldStep, World, server_endpoint, happens, run_from}
+use Rattle.archive_model.specs.World.{Begun, begin, to_read, Got, WorldStep, World, happens, run_from}
 use Rattle.archive_theorem.specs.Headline.{IsOwn, IsBestOver, files_of}
 
 -- this operation has begun at the endpoint
@@ -22,9 +22,11 @@ pub record PutsAt (w : World) (s : WorldStep) (e : Endpoint) (file : List ℕ) :
   pub takes : (happens s w).taken ≡ w.taken ++ record { peer = e; file = file } ∷ []
   pub merges : IsMerged file w.server.maps (happens s w).server.maps
 
--- The step opens a transfer for a get that has begun, of the collection as it is then, and that is what it fetches.
+-- The step opens a transfer for a get that has begun and has not fetched yet, of the collection as it is then, and that is
+-- what it fetches.
 pub record GetsAt (w : World) (s : WorldStep) (e : Endpoint) (rules : Ruleset) (file : List ℕ) : Type 0 where
   pub began : HasBegunWith w e (get rules)
+  pub unfetched : (g : Got) → Contains w.got g → g.client ≡ e → ⊥
   pub port : ℕ
   pub opens : (happens s w).opened ≡ w.opened ++ record { peer = e; port = port; asked = to_read rules; taken = length w.taken } ∷ []
   pub file_is : file ≡ collection_text (map_of rules w.server.maps)
@@ -65,4 +67,4 @@ FetchesNoLess w before after s =
 -- What a get has fetched that ended before a put began has nothing of that put.
 abbrev pub FetchesNone : World → (before after : List WorldStep) → WorldStep → Type 0
 FetchesNone w before after s =
-    (e : Endpoint) (file : List ℕ) → s.event ≡ begin e (put file) → e.host ≢ server_endpoint.host → is_too_long (put file) ≡ false → IsOwn (run_from (before ++ s ∷ after) w) e → (g : Got) → Contains (run_from before w).got g → IsOwn (run_from before w) g.client → (count : ℕ) × IsFetchedOver (run_from (before ++ s ∷ after) w) g count × ((t : Taken) → Contains (take count (run_from (before ++ s ∷ after) w).taken) t → t.peer ≡ e → ⊥)
+    (e : Endpoint) (file : List ℕ) → s.event ≡ begin e (put file) → e.host ≢ w.home.host → is_too_long (put file) ≡ false → IsOwn (run_from (before ++ s ∷ after) w) e → (g : Got) → Contains (run_from before w).got g → IsOwn (run_from before w) g.client → (count : ℕ) × IsFetchedOver (run_from (before ++ s ∷ after) w) g count × ((t : Taken) → Contains (take count (run_from (before ++ s ∷ after) w).taken) t → t.peer ≡ e → ⊥)

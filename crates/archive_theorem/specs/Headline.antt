@@ -1,13 +1,13 @@
 -- What holds for every run, about the operations that began, the files that were taken, sent and fetched, and the
 -- collections.
-use Rattle.std.specs.Prelude.{◌≡◌, ◌≢◌, ◌⊎◌, ℕ, ◌≤◌, List, [], ◌∷◌, ◌++◌, map, take, length, slice_get, Contains, Some}
+use Rattle.std.specs.Prelude.{◌≡◌, ◌⊎◌, ℕ, ◌≤◌, List, [], ◌∷◌, ◌++◌, map, take, length, slice_get, Contains, Some}
 use Rattle.tftp_packet.specs.declared.endpoint.Endpoint.{Endpoint}
 use Rattle.tws_file.specs.declared.«ruleset».Ruleset.{Ruleset}
 use Rattle.tws_file.specs.declared.«ruleset».Ruleset.TheVariants.{Lynx, Ms}
 use Rattle.tws_best.specs.Best.{Collected, IsCollectionOf, collection_text}
-use Rattle.archive_table.specs.Table.{Maps, Taken}
+use Rattle.archive_table.specs.Table.{Taken}
 use Rattle.archive_client.specs.Client.{put, get}
-use Rattle.archive_model.specs.World.{Datagram, Begun, begin, stray, WorldStep, run_from, run, Opening, to_read, Got, Past, World, server_endpoint}
+use Rattle.archive_model.specs.World.{Datagram, Begun, Origin, given, begin, stray, WorldStep, run_from, Opening, to_read, Got, Past, World}
 
 -- ---- own ports: no port is reused
 
@@ -99,22 +99,18 @@ pub record ClientHeadline (past : Past) (e : Endpoint) : Type 0 where
   pub sent : Contains past.sent e → SentOnce past e
   pub got : (g : Got) → Contains past.got g → g.client ≡ e → IsFinishedGet past g
 
--- What holds whatever the network does and whoever reuses a port: each file taken is from the endpoint of an operation
--- or of a stranger, if it is not a text that the server had at first; whoever counts a file as sent, or has fetched one,
--- has begun an operation; each collection is the best over the files taken; and each client whose ports are its own has
--- the headline, whatever others do.
-pub record ClientsHeadline (w : World) : Type 0 where
-  pub taken : (t : Taken) → Contains w.taken t → t.peer.host ≢ server_endpoint.host → HasOperation w.begun t.peer ⊎ IsStrayFrom w.strays t.peer
+-- What holds whatever the network does and whoever reuses a port: the first files taken are the texts that the server had at
+-- first, in their order, and each later one is from the endpoint of an operation or of a stranger; whoever counts a file
+-- as sent, or has fetched one, has begun an operation; each collection is the best over the files taken; and each client
+-- whose ports are its own has the headline, whatever others do.
+pub record ClientsHeadline (o : Origin) (w : World) : Type 0 where
+  pub first : take (length o.texts) w.taken ≡ map (given o.home) o.texts
+  pub taken : (i : ℕ) (t : Taken) → length o.texts ≤ i → slice_get w.taken i ≡ Some t → HasOperation w.begun t.peer ⊎ IsStrayFrom w.strays t.peer
   pub sent : (e : Endpoint) → Contains w.sent e → HasOperation w.begun e
   pub got : (g : Got) → Contains w.got g → HasOperation w.begun g.client
   pub lynx : IsBestOver Lynx (files_of w.taken) (collection_text w.server.maps.lynx)
   pub ms : IsBestOver Ms (files_of w.taken) (collection_text w.server.maps.ms)
   pub client : (e : Endpoint) → HasOperation w.begun e → IsOwn w e → ClientHeadline w.past e
-
--- The collections of a server are the best over these texts.
-pub record AreOver (texts : List (List ℕ)) (maps : Maps) : Type 0 where
-  pub lynx : IsCollectionOf Lynx texts maps.lynx
-  pub ms : IsCollectionOf Ms texts maps.ms
 
 -- Whatever the network does: a put's file is taken at most once and unchanged, and exactly once if its client counts it
 -- as sent. The collections are the best over the files taken. A finished get is the collection at one of its own
@@ -126,24 +122,34 @@ pub record Headline (w : World) : Type 0 where
   pub ms : IsBestOver Ms (files_of w.taken) (collection_text w.server.maps.ms)
   pub got : (g : Got) → Contains w.got g → IsFinishedGet w.past g
 
--- What was fetched is the best of this ruleset over the first `count` files taken, and the file that was sent from this
--- endpoint is among them.
-pub record IsFetchedWith (rules : Ruleset) (taken : List Taken) (sent : Endpoint) (g : Got) : Type 0 where
+-- What was fetched by the second world is the best of this ruleset over the first files taken, no fewer than those of the
+-- first world, in which the file of the put at this endpoint had been taken.
+pub record IsFetchedWith (rules : Ruleset) (w v : World) (sent : Endpoint) (g : Got) : Type 0 where
   pub count : ℕ
-  pub best : IsBestOver rules (files_of (take count taken)) g.file
+  pub best : IsBestOver rules (files_of (take count v.taken)) g.file
+  pub since : length w.taken ≤ count
   pub file : List ℕ
-  pub among : Contains (take count taken) (record { peer = sent; file = file })
+  pub began : (b : Begun) × Contains w.begun b × (b.client ≡ sent) × (b.operation ≡ put file)
+  -- its place among the files taken
+  pub position : ℕ
+  pub is_taken : slice_get w.taken position ≡ Some (record { peer = sent; file = file })
 
 -- What was counted as sent before a get began is in what it has fetched, if the ports of the get's endpoint are its own at
 -- the end, and those of the sender's when the get began.
 abbrev pub FetchesOwnSent : World → (before after : List WorldStep) → WorldStep → Type 0
 FetchesOwnSent w before after s =
-    (e : Endpoint) (rules : Ruleset) → s.event ≡ begin e (get rules) → IsOwn (run_from (before ++ s ∷ after) w) e → (x : Endpoint) → Contains (run_from before w).sent x → IsOwn (run_from before w) x → (g : Got) → Contains (run_from (before ++ s ∷ after) w).got g → g.client ≡ e → IsFetchedWith rules (run_from (before ++ s ∷ after) w).taken x g
+    (e : Endpoint) (rules : Ruleset) → s.event ≡ begin e (get rules) → IsOwn (run_from (before ++ s ∷ after) w) e →
+    (x : Endpoint) → Contains (run_from before w).sent x → IsOwn (run_from before w) x →
+    (g : Got) → Contains (run_from (before ++ s ∷ after) w).got g → g.client ≡ e →
+    IsFetchedWith rules (run_from before w) (run_from (before ++ s ∷ after) w) x g
 
--- the same if no port is reused, from a server that has nothing at first
-abbrev pub FetchesSent : (before after : List WorldStep) → WorldStep → Type 0
-FetchesSent before after s =
-    (e : Endpoint) (rules : Ruleset) → s.event ≡ begin e (get rules) → (x : Endpoint) → Contains (run before).sent x → (g : Got) → Contains (run (before ++ s ∷ after)).got g → g.client ≡ e → IsFetchedWith rules (run (before ++ s ∷ after)).taken x g
+-- the same if no port is reused
+abbrev pub FetchesSent : World → (before after : List WorldStep) → WorldStep → Type 0
+FetchesSent w before after s =
+    (e : Endpoint) (rules : Ruleset) → s.event ≡ begin e (get rules) →
+    (x : Endpoint) → Contains (run_from before w).sent x →
+    (g : Got) → Contains (run_from (before ++ s ∷ after) w).got g → g.client ≡ e →
+    IsFetchedWith rules (run_from before w) (run_from (before ++ s ∷ after) w) x g
 
 -- An operation that has begun in this run from a first world is that of an event, and it counts the files that were
 -- taken before that event.

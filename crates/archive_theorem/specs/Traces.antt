@@ -7,7 +7,7 @@ use Rattle.std.specs.Str.{bytes_eq}
 use Rattle.tftp_packet.specs.declared.endpoint.Endpoint.{Endpoint}
 use Rattle.archive_table.specs.Table.{Maps, Grant, Taken, IsMerged, memory_verdict, is_same, table_request, table_datagram, table_timeout}
 use Rattle.archive_client.specs.Client.{Operation}
-use Rattle.archive_model.specs.World.{Datagram, Event, begin, deliver, client_times_out, server_times_out, stray, restart, WorldStep, World, server_endpoint, client_at, after_request, after_transfer, asked_of, begins, client_receives, client_waits, strays_in, restarts, run_from}
+use Rattle.archive_model.specs.World.{Datagram, Event, begin, deliver, client_times_out, server_times_out, stray, restart, WorldStep, World, Origin, first_world, client_at, after_request, after_transfer, asked_of, begins, client_receives, client_waits, strays_in, restarts, run_from, AllMayHappen}
 
 -- what one end does
 pub data Deed : Type 0 where
@@ -61,7 +61,7 @@ comes false spare grant maps d w = client_receives (client_at d.target w) grant 
 abbrev pub after_deed : Deed → Grant → Maps → World → World
 after_deed (starts e operation) grant maps w = begins e operation w
 after_deed (receives d spare) grant maps w =
-    comes (d.target.host == server_endpoint.host) spare grant maps d (named_in (position_of d w.net) d w)
+    comes (d.target.host == w.home.host) spare grant maps d (named_in (position_of d w.net) d w)
 after_deed (client_waits_long e) grant maps w = client_waits (client_at e w) e w
 after_deed (server_waits_long port) grant maps w = after_transfer (table_timeout port w.server) w
 after_deed loads grant maps w = restarts w
@@ -103,3 +103,14 @@ member_steps m w = steps_with m.grant m.maps (events_of m.deed w.net)
 abbrev pub trace_steps : List Member → World → List WorldStep
 trace_steps [] w = []
 trace_steps (m ∷ ms) w = member_steps m w ++ trace_steps ms (run_from (member_steps m w) w)
+
+-- A trace from an origin whose events may happen, so that each datagram that it names was sent before or is a stranger's,
+-- and in which each file that is taken makes the collections after it.
+pub record TraceFrom (o : Origin) : Type 0 where
+  pub members : List Member
+  pub may : AllMayHappen (trace_steps members (first_world o)) (first_world o)
+  pub merged : AllDeedsMerged members (first_world o)
+
+-- the world at its end
+abbrev pub trace_end : {o : Origin} → TraceFrom o → World
+trace_end {o} t = trace_from t.members (first_world o)

@@ -1,48 +1,49 @@
 //! What holds for every run. These functions do nothing: each contract is a theorem.
 
-ghost use Rattle.std.specs.Prelude.{◌≡◌, ◌≢◌, ℕ, ◌≤◌, true, false, List, length, [], ◌∷◌, ◌++◌, Contains, Option};
+ghost use Rattle.std.specs.Prelude.{◌≡◌, ◌≢◌, ℕ, ◌≤◌, true, false, List, length, [], ◌∷◌, ◌++◌, Contains, Some, Option};
 ghost use Rattle.archive_theorem.specs.Samples.{request_twice, late_ack, crossed_get, unanswered, strange_put, restart_between, empty_put, empty_get, barred_strays, opened_again, reused_elsewhere, begun_twice, opened_twice, strayed_there, FailsBy, sample_client, summary_of, sample_opening, one_put_summary, no_file_summary, crossed_get_summary, strange_put_summary, restart_summary, empty_put_summary, empty_get_summary};
 ghost use Rattle.tftp_packet.specs.declared.endpoint.Endpoint.{Endpoint};
 ghost use Rattle.archive_client.specs.Client.{Operation, put, is_too_long};
 ghost use Rattle.archive_theorem.specs.Reuse.{BeginKeepsOwn, OpeningKeepsOwn, StrayKeepsOwn, IsOwnByTests};
-ghost use Rattle.archive_model.specs.World.{Begun, Datagram, Got, Opening, to_write, World, Event, WorldStep, happens, start, start_from, run, run_from, server_endpoint, AllMerged, asked_by, AllMayHappen};
-ghost use Rattle.archive_table.specs.Table.{Grant, Maps, Taken, empty_maps, map_of, has_long_text};
+ghost use Rattle.archive_model.specs.World.{Begun, Datagram, Got, Opening, to_write, World, Event, WorldStep, AreOver, Origin, empty_origin, RunFrom, first_world, last_world, happens, start, run, run_from, HasMerged, AllMerged, asked_by, AllMayHappen};
+ghost use Rattle.archive_table.specs.Table.{Grant, Maps, Taken, empty_maps, map_of, has_long_text, has_slot};
 ghost use Rattle.tws_file.specs.declared.«ruleset».Ruleset.{Ruleset};
 ghost use Rattle.tws_file.specs.declared.«ruleset».Ruleset.TheVariants.{Lynx, Ms};
 ghost use Rattle.tws_best.specs.Best.{Collected, IsCollected, collection_text};
-ghost use Rattle.archive_table.specs.Keeper.{Keeping};
-ghost use Rattle.archive_model.specs.Restarts.{HasKept, StepStaysKept, LoadsTheSame, FailsOutside, RunKeeps, RestartsFrom};
+ghost use Rattle.archive_table.specs.Keeper.{Keeping, LoadedFrom};
+ghost use Rattle.archive_model.specs.Restarts.{HasKept, HaveOwnRuleset, LoadsAs, kept_texts, StepStaysKept, LoadsTheSame, FailsOutside, RunKeeps, RestartsFrom};
 ghost use Rattle.archive_theorem.specs.Effects.{TakesEffect, ReadsAtOnce, FetchesNoLess, FetchesNone};
 ghost use Rattle.archive_theorem.specs.Freeing.{IsFreed};
-ghost use Rattle.archive_theorem.specs.Progress.{IsUnstuck, GetIsUnstuck};
+ghost use Rattle.archive_theorem.specs.Progress.{CanPut, IsUnstuck, CanGet, GetIsUnstuck};
 ghost use Rattle.archive_theorem.specs.Durable.{AreNoWorse, LoadsPromised, CutsShort};
-ghost use Rattle.archive_theorem.specs.Traces.{Member, trace_from, trace_steps, AllDeedsMerged};
-ghost use Rattle.archive_theorem.specs.Headline.{IsOwn, AreOver, HasOwnPorts, HasOperation, ClientsHeadline, Headline, FetchesOwnSent, FetchesSent, BeganBy, StraysBy};
+ghost use Rattle.archive_theorem.specs.Traces.{Member, trace_from, trace_steps, TraceFrom, trace_end};
+ghost use Rattle.archive_theorem.specs.Headline.{IsOwn, HasOwnPorts, HasOperation, ClientsHeadline, Headline, FetchesOwnSent, FetchesSent, BeganBy, StraysBy};
 
 /// For every list of begins, deliveries of any datagram ever sent, losses, time-outs, strangers' datagrams and
-/// restarts, whatever memory is refused and whatever is not kept: each collection is the best over the files taken. And
-/// for each client whose ports are its own, so that no other operation begins at its endpoint, no port of the server is
-/// opened for it twice and no stranger sends from there: a put's file is taken at most once and unchanged, and exactly
-/// once if its client counts it as sent; and a finished get is the collection at one of its own requests. If a step
-/// takes a file, the collections after it are those that the server's contract says.
+/// restarts, wherever the server is, whatever collections it has at first, whatever memory is refused and whatever is not
+/// kept: each collection is the best over the files taken. And for each client whose ports are its own, so that no other
+/// operation begins at its endpoint, no port of the server is opened for it twice and no stranger sends from there: a
+/// put's file is taken at most once and unchanged, and exactly once if its client counts it as sent; and a finished get is
+/// the collection at one of its own requests. If a step takes a file, the collections after it are those that the server's
+/// contract says.
 pub fn network_law()
-    ensures clients { (steps : List WorldStep) → AllMerged steps start → ClientsHeadline (run steps) }
-    // So if no port is reused, all of this holds of every client.
-    ensures headline { (steps : List WorldStep) → HasOwnPorts (run steps) → AllMerged steps start → Headline (run steps) }
-    // From any first collections, every operation that has begun is that of an event, with the number of files that were
-    // taken before that event.
-    ensures began { (texts : List (List ℕ)) (maps : Maps) (steps : List WorldStep) (b : Begun) → Contains (run_from steps (start_from texts maps)).begun b → BeganBy (start_from texts maps) steps b }
+    ensures clients { (o : Origin) (r : RunFrom o) → ClientsHeadline o (last_world r) }
+    // So if the server has nothing at first and no port is reused, all of this holds of every client.
+    ensures headline { (home : Endpoint) (r : RunFrom (empty_origin home)) → HasOwnPorts (last_world r) → Headline (last_world r) }
+    // Every operation that has begun is that of an event, with the number of files that were taken before that event.
+    ensures began { (o : Origin) (steps : List WorldStep) (b : Begun) → Contains (run_from steps (first_world o)).begun b →
+        BeganBy (first_world o) steps b }
     // The strays are those of the events.
-    ensures strays { (texts : List (List ℕ)) (maps : Maps) (steps : List WorldStep) (d : Datagram) → Contains (run_from steps (start_from texts maps)).strays d → StraysBy steps d }
-    // So a put that was counted as sent before a get began is among the files over which what that get has fetched is the
-    // best.
-    ensures since { (before after : List WorldStep) (s : WorldStep) → HasOwnPorts (run (before ++ s ∷ after)) → AllMerged (before ++ s ∷ after) start → FetchesSent before after s }
+    ensures strays { (o : Origin) (steps : List WorldStep) (d : Datagram) → Contains (run_from steps (first_world o)).strays d → StraysBy steps d }
+    // A put that was counted as sent before a get began is among the files over which what that get has fetched is the best.
+    ensures since { (home : Endpoint) (r : RunFrom (empty_origin home)) → HasOwnPorts (last_world r) →
+        (before after : List WorldStep) (s : WorldStep) → r.steps ≡ before ++ s ∷ after → FetchesSent (first_world (empty_origin home)) before after s }
     // No step sends more than one datagram.
-    ensures cost { (texts : List (List ℕ)) (maps : Maps) (steps : List WorldStep) → length (run_from steps (start_from texts maps)).net ≤ length steps }
+    ensures cost { (o : Origin) (steps : List WorldStep) → length (run_from steps (first_world o)).net ≤ length steps }
     // For all events and grants there are collections as the server's contract says, and the world after them is
     // unique.
-    ensures total { (asked : List (Event × Grant)) → (steps : List WorldStep) × (asked_by steps ≡ asked) × AllMerged steps start }
-    ensures one { (first second : List WorldStep) → asked_by first ≡ asked_by second → AllMerged first start → AllMerged second start → run first ≡ run second }
+    ensures total { (o : Origin) (asked : List (Event × Grant)) → (r : RunFrom o) × (asked_by r.steps ≡ asked) }
+    ensures one { (o : Origin) (r s : RunFrom o) → asked_by r.steps ≡ asked_by s.steps → last_world r ≡ last_world s }
 {}
 
 /// The operations of the clients whose ports are their own are in one order, whatever others do: each put that is counted
@@ -51,47 +52,55 @@ pub fn network_law()
 /// of a run is a run, before its end. So where one operation ends before another begins, what was sent is fetched
 /// (`since`), a later get has fetched no less, and an earlier one has nothing of a later put.
 pub fn effects_law()
-    ensures puts { (texts : List (List ℕ)) (maps : Maps) → AreOver texts maps → (steps : List WorldStep) → AllMerged steps (start_from texts maps) → (e : Endpoint) → IsOwn (run_from steps (start_from texts maps)) e → Contains (run_from steps (start_from texts maps)).sent e → TakesEffect (start_from texts maps) steps e }
-    ensures gets { (texts : List (List ℕ)) (maps : Maps) → AreOver texts maps → (steps : List WorldStep) → AllMerged steps (start_from texts maps) → (g : Got) → IsOwn (run_from steps (start_from texts maps)) g.client → Contains (run_from steps (start_from texts maps)).got g → ReadsAtOnce (start_from texts maps) steps g }
-    ensures since { (texts : List (List ℕ)) (maps : Maps) → AreOver texts maps → (before after : List WorldStep) (s : WorldStep) → AllMerged (before ++ s ∷ after) (start_from texts maps) → FetchesOwnSent (start_from texts maps) before after s }
-    ensures no_less { (texts : List (List ℕ)) (maps : Maps) → AreOver texts maps → (before after : List WorldStep) (s : WorldStep) → AllMerged (before ++ s ∷ after) (start_from texts maps) → FetchesNoLess (start_from texts maps) before after s }
-    ensures none { (texts : List (List ℕ)) (maps : Maps) → AreOver texts maps → (before after : List WorldStep) (s : WorldStep) → AllMerged (before ++ s ∷ after) (start_from texts maps) → FetchesNone (start_from texts maps) before after s }
+    ensures puts { (o : Origin) (r : RunFrom o) (e : Endpoint) → IsOwn (last_world r) e → Contains (last_world r).sent e →
+        TakesEffect (first_world o) r.steps e }
+    ensures gets { (o : Origin) (r : RunFrom o) (g : Got) → IsOwn (last_world r) g.client → Contains (last_world r).got g →
+        ReadsAtOnce (first_world o) r.steps g }
+    ensures since { (o : Origin) (r : RunFrom o) (before after : List WorldStep) (s : WorldStep) → r.steps ≡ before ++ s ∷ after →
+        FetchesOwnSent (first_world o) before after s }
+    ensures no_less { (o : Origin) (r : RunFrom o) (before after : List WorldStep) (s : WorldStep) → r.steps ≡ before ++ s ∷ after →
+        FetchesNoLess (first_world o) before after s }
+    ensures none { (o : Origin) (r : RunFrom o) (before after : List WorldStep) (s : WorldStep) → r.steps ≡ before ++ s ∷ after →
+        FetchesNone (first_world o) before after s }
 {}
 
-/// A run may start from a server that has collections, as a real one has those of its folder. They are the best over
-/// some texts, such as their own two, which count as the first files taken; an empty server is the case of no texts.
-/// From there too the headline holds of each client whose ports are its own; the collections never get worse, so that
-/// later, at each key, they have a body, and none of higher rank; and a keeper that has the first collections has, after
-/// each step, what the server has. So what a load gives holds all that was promised by then, and also if the step that
-/// comes next is cut short.
+/// A run may begin with the collections that are loaded from a folder, which are the best over its two texts: those of
+/// collections, or any others that are readable. The collections never get worse: later, at each key, they have a body, and
+/// none of higher rank. What a keeper of which the first collections were loaded loads after the run, and also if the step
+/// that comes next is cut short, holds all that was promised by then. And nothing gets stuck.
 pub fn folder_law()
-    ensures empty { AreOver [] empty_maps }
-    ensures own { (lynx ms : Collected) → IsCollected lynx → IsCollected ms → lynx.«ruleset» ≡ Lynx → ms.«ruleset» ≡ Ms → AreOver (collection_text lynx ∷ collection_text ms ∷ []) (record { lynx = lynx; ms = ms }) }
-    ensures clients { (texts : List (List ℕ)) (maps : Maps) → AreOver texts maps → (steps : List WorldStep) → AllMerged steps (start_from texts maps) → ClientsHeadline (run_from steps (start_from texts maps)) }
-    // Also from there, for all events and grants, there are collections as the server's contract says, and lists of what a
-    // keeper has; and the world after them is unique.
-    ensures total { (texts : List (List ℕ)) (maps : Maps) (asked : List (Event × Grant)) → (steps : List WorldStep) × (asked_by steps ≡ asked) × AllMerged steps (start_from texts maps) }
-    ensures one { (texts : List (List ℕ)) (maps : Maps) → AreOver texts maps → (first second : List WorldStep) → asked_by first ≡ asked_by second → AllMerged first (start_from texts maps) → AllMerged second (start_from texts maps) → run_from first (start_from texts maps) ≡ run_from second (start_from texts maps) }
-    ensures list { (texts : List (List ℕ)) (maps : Maps) → AreOver texts maps → (steps : List WorldStep) (first : List Keeping) → AllMerged steps (start_from texts maps) → (last : List Keeping) × RunKeeps steps (start_from texts maps) first last }
-    ensures no_worse { (texts : List (List ℕ)) (maps : Maps) → AreOver texts maps → (before after : List WorldStep) → AllMerged (before ++ after) (start_from texts maps) → AreNoWorse (run_from before (start_from texts maps)).server.maps (run_from (before ++ after) (start_from texts maps)).server.maps }
-    ensures restarts { (texts : List (List ℕ)) (maps : Maps) → AreOver texts maps → (first : List Keeping) → HasKept first maps → (steps : List WorldStep) (last : List Keeping) → AllMerged steps (start_from texts maps) → RunKeeps steps (start_from texts maps) first last → HasKept last (run_from steps (start_from texts maps)).server.maps × RestartsFrom last (run_from steps (start_from texts maps)) }
-    ensures promised { (texts : List (List ℕ)) (maps : Maps) → AreOver texts maps → (first : List Keeping) → HasKept first maps → (steps : List WorldStep) (last : List Keeping) → AllMerged steps (start_from texts maps) → RunKeeps steps (start_from texts maps) first last → LoadsPromised (start_from texts maps) steps last }
-    ensures cut { (texts : List (List ℕ)) (maps : Maps) → AreOver texts maps → (first : List Keeping) → HasKept first maps → (steps : List WorldStep) (s : WorldStep) (before last : List Keeping) → AllMerged (steps ++ s ∷ []) (start_from texts maps) → RunKeeps steps (start_from texts maps) first before → CutsShort (start_from texts maps) steps s before last → LoadsPromised (start_from texts maps) steps last }
+    ensures loaded { (log : List Keeping) (maps : Maps) → LoadsAs log maps → AreOver (kept_texts log) maps }
+    ensures own { (lynx ms : Collected) → IsCollected lynx → IsCollected ms → lynx.«ruleset» ≡ Lynx → ms.«ruleset» ≡ Ms →
+        AreOver (collection_text lynx ∷ collection_text ms ∷ []) (record { lynx = lynx; ms = ms }) }
+    ensures no_worse { (o : Origin) (r : RunFrom o) (before after : List WorldStep) → r.steps ≡ before ++ after →
+        AreNoWorse (run_from before (first_world o)).server.maps (last_world r).server.maps }
+    ensures promised { (o : Origin) (r : RunFrom o) (first : List Keeping) → LoadsAs first o.maps →
+        (last : List Keeping) → RunKeeps r.steps (first_world o) first last → LoadsPromised (first_world o) r.steps last }
+    ensures cut { (o : Origin) (r : RunFrom o) (first : List Keeping) → LoadsAs first o.maps →
+        (s : WorldStep) (before last : List Keeping) → HasMerged s (last_world r) → RunKeeps r.steps (first_world o) first before →
+        CutsShort (first_world o) r.steps s before last → LoadsPromised (first_world o) r.steps last }
     // No transfer stays for ever: whatever has happened, time-outs alone free every port.
-    ensures freed { (texts : List (List ℕ)) (maps : Maps) → AreOver texts maps → (steps : List WorldStep) → AllMerged steps (start_from texts maps) → IsFreed (run_from steps (start_from texts maps)) }
-    // Nothing gets stuck: then a put that begins anywhere can be counted as sent, and a get can fetch the collection,
-    // unless that is too long.
-    ensures unstuck { (texts : List (List ℕ)) (maps : Maps) → AreOver texts maps → (steps : List WorldStep) → AllMerged steps (start_from texts maps) → (e : Endpoint) (file : List ℕ) → e.host ≢ server_endpoint.host → is_too_long (put file) ≡ false → IsUnstuck (run_from steps (start_from texts maps)) e file }
-    ensures get_unstuck { (texts : List (List ℕ)) (maps : Maps) → AreOver texts maps → (steps : List WorldStep) → AllMerged steps (start_from texts maps) → (e : Endpoint) («ruleset» : Ruleset) → e.host ≢ server_endpoint.host → has_long_text (map_of «ruleset» (run_from steps (start_from texts maps)).server.maps) ≡ false → GetIsUnstuck (run_from steps (start_from texts maps)) e «ruleset» }
+    ensures freed { (o : Origin) (r : RunFrom o) → IsFreed (last_world r) }
+    // Nothing gets stuck. While there is a place for a transfer, a put that begins anywhere is counted as sent if its datagrams
+    // are delivered in turn, and a get fetches the collection, unless that is too long. After the time-outs there is a place.
+    ensures in_turn { (o : Origin) (r : RunFrom o) (e : Endpoint) (file : List ℕ) → e.host ≢ o.home.host → is_too_long (put file) ≡ false →
+        has_slot (last_world r).server ≡ true → CanPut (last_world r) e file }
+    ensures get_in_turn { (o : Origin) (r : RunFrom o) (e : Endpoint) («ruleset» : Ruleset) → e.host ≢ o.home.host →
+        has_long_text (map_of «ruleset» (last_world r).server.maps) ≡ false → has_slot (last_world r).server ≡ true → CanGet (last_world r) e «ruleset» }
+    ensures unstuck { (o : Origin) (r : RunFrom o) (e : Endpoint) (file : List ℕ) → e.host ≢ o.home.host → is_too_long (put file) ≡ false →
+        IsUnstuck (last_world r) e file }
+    ensures get_unstuck { (o : Origin) (r : RunFrom o) (e : Endpoint) («ruleset» : Ruleset) → e.host ≢ o.home.host →
+        has_long_text (map_of «ruleset» (last_world r).server.maps) ≡ false → GetIsUnstuck (last_world r) e «ruleset» }
 {}
 
 /// For every trace, which names the datagrams that arrive: if each event that it makes may happen, so that each
 /// datagram that it names was sent before or is a stranger's, the run of these events, with what the trace was granted,
 /// does exactly the trace's deeds. So the headline holds for every client of such a trace whose ports are its own.
 pub fn trace_law()
-    ensures run { (texts : List (List ℕ)) (maps : Maps) (members : List Member) → AllMayHappen (trace_steps members (start_from texts maps)) (start_from texts maps) → run_from (trace_steps members (start_from texts maps)) (start_from texts maps) ≡ trace_from members (start_from texts maps) }
-    ensures clients { (texts : List (List ℕ)) (maps : Maps) → AreOver texts maps → (members : List Member) → AllMayHappen (trace_steps members (start_from texts maps)) (start_from texts maps) → AllDeedsMerged members (start_from texts maps) → ClientsHeadline (trace_from members (start_from texts maps)) }
-    ensures headline { (members : List Member) → AllMayHappen (trace_steps members start) start → HasOwnPorts (trace_from members start) → AllDeedsMerged members start → Headline (trace_from members start) }
+    ensures run { (o : Origin) (members : List Member) → AllMayHappen (trace_steps members (first_world o)) (first_world o) →
+        run_from (trace_steps members (first_world o)) (first_world o) ≡ trace_from members (first_world o) }
+    ensures clients { (o : Origin) (t : TraceFrom o) → ClientsHeadline o (trace_end t) }
+    ensures headline { (home : Endpoint) (t : TraceFrom (empty_origin home)) → HasOwnPorts (trace_end t) → Headline (trace_end t) }
 {}
 
 /// Some runs, so that nobody has to take it on trust that a run does something: a request that arrives twice, a last
@@ -127,7 +136,7 @@ pub fn sample_runs()
 /// been at its endpoint; an opening, if none before had its peer and its port; a stray, if no operation has begun at its
 /// endpoint.
 pub fn own_ports()
-    ensures start { HasOwnPorts start }
+    ensures start { (o : Origin) → HasOwnPorts (first_world o) }
     ensures begin { (w : World) → HasOwnPorts w → (e : Endpoint) (operation : Operation) → BeginKeepsOwn w e operation }
     ensures opening { (w : World) → HasOwnPorts w → (o : Opening) → OpeningKeepsOwn w o }
     ensures stray { (w : World) → HasOwnPorts w → (d : Datagram) → StrayKeepsOwn w d }
@@ -136,23 +145,33 @@ pub fn own_ports()
     // The ports of one endpoint are its own exactly if the tests say so. They are so at the start; once they are not,
     // they stay so; and if no port is reused, those of each endpoint with an operation are its own.
     ensures tests { (w : World) (e : Endpoint) → IsOwnByTests w e }
-    ensures own_start { (e : Endpoint) → IsOwn start e }
+    ensures own_start { (o : Origin) (e : Endpoint) → IsOwn (first_world o) e }
     ensures own_before { (w : World) (s : WorldStep) (e : Endpoint) → IsOwn (happens s w) e → IsOwn w e }
     ensures each { (w : World) → HasOwnPorts w → (e : Endpoint) → HasOperation w.begun e → IsOwn w e }
 {}
 
-/// After each step a keeper has what the server has, and that is what a table loads from it: so a restart does not
-/// change the collections. A keeper that holds nothing has the empty collections; each step of the server keeps what it
-/// changes; a load returns what was kept last. So for every run whose steps keep as the server's contract says, what is
-/// loaded at a restart is what the world has after it, and if nothing is loaded, the keeper has failed or an allocation
-/// was refused.
+/// After each step a keeper has what is loaded as the server's collections: so a restart does not change the collections. A
+/// keeper that holds nothing has the empty collections; each step of the server keeps what it changes; a load returns what
+/// was kept last. So for every run whose steps keep as the server's contract says, what is loaded at a restart is what the
+/// world has after it, and if nothing is loaded, the keeper has failed or an allocation was refused.
 pub fn restart_law()
     ensures start { HasKept [] empty_maps }
     ensures step { (grant : Grant) (wanted : Option Taken) (old new : Maps) (before after : List Keeping) → StepStaysKept grant wanted old new before after }
     ensures load { (log : List Keeping) (maps : Maps) → LoadsTheSame log maps }
-    // For every run, from a keeper that holds nothing. The beginning of a run is a run, so this holds at each restart.
-    ensures run { (steps : List WorldStep) (log : List Keeping) → AllMerged steps start → RunKeeps steps start [] log → HasKept log (run steps).server.maps × RestartsFrom log (run steps) }
-    ensures fails { (steps : List WorldStep) (log : List Keeping) → AllMerged steps start → RunKeeps steps start [] log → FailsOutside log }
-    // Every run with merged collections has such a list.
-    ensures list { (steps : List WorldStep) → AllMerged steps start → (log : List Keeping) × RunKeeps steps start [] log }
+    // What has the collections' own texts is loaded as these; and one list is loaded as one pair of collections.
+    ensures own { (log : List Keeping) (maps : Maps) → HasKept log maps → IsCollected maps.lynx → IsCollected maps.ms → HaveOwnRuleset maps →
+        LoadsAs log maps }
+    ensures same { (log : List Keeping) (maps : Maps) → LoadsAs log maps → (lynx ms : Collected) → LoadedFrom Lynx (Some log) lynx →
+        LoadedFrom Ms (Some log) ms → (lynx ≡ maps.lynx) × (ms ≡ maps.ms) }
+    // For every run, from a keeper of which the first collections were loaded. The beginning of a run is a run, so this holds
+    // at each restart.
+    ensures run { (o : Origin) (r : RunFrom o) (first last : List Keeping) → RunKeeps r.steps (first_world o) first last → LoadsAs first o.maps →
+        LoadsAs last (last_world r).server.maps × RestartsFrom last (last_world r) }
+    ensures fails { (o : Origin) (r : RunFrom o) (first last : List Keeping) → RunKeeps r.steps (first_world o) first last → LoadsAs first o.maps →
+        FailsOutside last }
+    // If it had the first collections' own texts, it has those of the last ones.
+    ensures kept { (o : Origin) (r : RunFrom o) (first last : List Keeping) → RunKeeps r.steps (first_world o) first last → HasKept first o.maps →
+        HasKept last (last_world r).server.maps }
+    // Every run has such a list.
+    ensures list { (o : Origin) (r : RunFrom o) (first : List Keeping) → (last : List Keeping) × RunKeeps r.steps (first_world o) first last }
 {}

@@ -73,7 +73,7 @@ pub record IsBadAt (events : List Event) (reported now : Option (List Keeping)) 
   pub happened : HasHappened (take i events) reported now world
   pub bad : MayHappen event world → ⊥
 
--- The event may happen, but with what it was granted a port is reused after it.
+-- The event may happen, but after it, with what it was granted, a port would have been used twice.
 pub record Reuses (e : Event) (w : World) : Type 0 where
   pub may : MayHappen e w
   pub grant : Grant

@@ -186,10 +186,10 @@ pub(crate) fn restart<K: Keeper, A: Allocator + Copy>(
     keeper: &mut K,
 ) -> Result<(), LoadFault>
     requires request { machine.old.server.request ≡ server_endpoint.port }
-    ensures made { OnOk result ((log : List Keeping) → K.log keeper.old ≡ Some log → HasKept log machine.old.server.maps → IsCollected machine.old.server.maps.lynx → IsCollected machine.old.server.maps.ms → machine.new ≡ restarts machine.old) }
+    ensures made { OnOk result ((log : List Keeping) → K.calls keeper.old ≡ Some log → HasKept log machine.old.server.maps → IsCollected machine.old.server.maps.lynx → IsCollected machine.old.server.maps.ms → machine.new ≡ restarts machine.old) }
     ensures request { OnOk result (machine.new.server.request ≡ machine.old.server.request) }
-    ensures log { K.log keeper.new ≡ K.log keeper.old }
-    ensures fault { IfErr result (TableFails (K.log keeper.old)) }
+    ensures calls { K.calls keeper.new ≡ K.calls keeper.old }
+    ensures fault { IfErr result (TableFails (K.calls keeper.old)) }
     ensures err { OnErr result (machine.new ≡ machine.old) }
 {
     machine.restart(keeper)

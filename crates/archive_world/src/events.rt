@@ -52,7 +52,7 @@ fn transfer<K: Keeper, A: Allocator + Copy>(
     requires request { machine.old.server.request ≡ server_endpoint.port }
     requires ours { d.now.target.host ≡ server_endpoint.host }
     requires other { d.now.target.port ≢ server_endpoint.port }
-    ensures { (index spare : ℕ) → slice_get machine.old.net index ≡ Some d.now → Comes result (deliver index spare) (K.log keeper.old) (K.log keeper.new) machine.old machine.new }
+    ensures { (index spare : ℕ) → slice_get machine.old.net index ≡ Some d.now → Comes result (deliver index spare) (K.calls keeper.old) (K.calls keeper.new) machine.old machine.new }
 {
     match machine.transfer(keeper, d) {
         Ok(()) => Ok(()),
@@ -68,7 +68,7 @@ fn arrive<K: Keeper, A: Allocator + Copy>(
     d: &Datagram<A>,
 ) -> Result<(), EventFault>
     requires request { machine.old.server.request ≡ server_endpoint.port }
-    ensures { (index : ℕ) → slice_get machine.old.net index ≡ Some d.now → Comes result (deliver index spare) (K.log keeper.old) (K.log keeper.new) machine.old machine.new }
+    ensures { (index : ℕ) → slice_get machine.old.net index ≡ Some d.now → Comes result (deliver index spare) (K.calls keeper.old) (K.calls keeper.new) machine.old machine.new }
 {
     let to = d.to;
     if to.host != SERVER.host {
@@ -88,7 +88,7 @@ fn deliver<K: Keeper, A: Allocator + Copy>(
     spare: u16,
 ) -> Result<(), EventFault>
     requires request { machine.old.server.request ≡ server_endpoint.port }
-    ensures { Comes result (deliver index spare) (K.log keeper.old) (K.log keeper.new) machine.old machine.new }
+    ensures { Comes result (deliver index spare) (K.calls keeper.old) (K.calls keeper.new) machine.old machine.new }
 {
     let d = match machine.datagram(index) {
         Ok(Some(d)) => d,
@@ -110,7 +110,7 @@ pub(crate) fn happen<K: Keeper, A: Allocator + Copy>(
     event: &Event<A>,
 ) -> Result<(), EventFault>
     requires request { machine.old.server.request ≡ server_endpoint.port }
-    ensures { Comes result (event_of event.now) (K.log keeper.old) (K.log keeper.new) machine.old machine.new }
+    ensures { Comes result (event_of event.now) (K.calls keeper.old) (K.calls keeper.new) machine.old machine.new }
 {
     match event {
         Event::Begin(op) => begin(machine, op),

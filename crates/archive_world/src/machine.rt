@@ -4,6 +4,7 @@ ghost use Rattle.std.specs.Prelude.{◌≡◌, false, true, is_some, ◌≢◌, 
 ghost use Rattle.archive_client.specs.Client.{is_too_long};
 ghost use Rattle.archive_table.specs.Table.{request_verdict, table_request, table_datagram, table_timeout, grant_of, transfer_at, is_same, Grant};
 ghost use Rattle.tws_file.specs.Names.{ruleset_named};
+ghost use Rattle.archive_table.specs.Events.{made};
 ghost use Rattle.archive_table.specs.Keeper.{HasLoaded, TableFails};
 ghost use Rattle.archive_world.specs.View.{asked_as, operation_of};
 ghost use Rattle.archive_model.specs.World.{World, start, has_begun, begins, server_endpoint, net_with, taken_with, opened_with, got_with, asked_of, asked_named, after_request, after_transfer, strays_in, client_at, client_waits, client_receives};
@@ -111,7 +112,7 @@ impl<A: Allocator + Copy> Machine<A> {
 
     // Records what a step of the server returned, for any input other than a request.
     fn add_step(&mut self, step: Step<A>) -> Result<(), AllocError>
-        ensures { OnOk result (self.new ≡ after_transfer (record { server = self.old.server; step = step }) self.old) }
+        ensures { OnOk result (self.new ≡ after_transfer (record { server = self.old.server; step = made step }) self.old) }
     {
         let Step { out, taken, .. } = step;
         self.send(SERVER.host, out)?;
@@ -155,7 +156,7 @@ impl<A: Allocator + Copy> Machine<A> {
         keeper: &mut K,
         d: &Datagram<A>,
     ) -> Result<(), AllocError>
-        ensures { (world : World) × ReceivesAtPort d.now (K.log keeper.old) (K.log keeper.new) self.old world × OnOk result (self.new ≡ world) }
+        ensures { (world : World) × ReceivesAtPort d.now (K.calls keeper.old) (K.calls keeper.new) self.old world × OnOk result (self.new ≡ world) }
     {
         let step = self
             .table
@@ -170,10 +171,10 @@ impl<A: Allocator + Copy> Machine<A> {
     /// Those of `Table::load`; nothing changes then.
     pub(crate) fn restart<K: Keeper>(&mut self, keeper: &mut K) -> Result<(), LoadFault>
         requires request { self.old.server.request ≡ server_endpoint.port }
-        ensures loaded { OnOk result (HasLoaded self.old.server.request (K.log keeper.old) self.new.server) }
+        ensures loaded { OnOk result (HasLoaded self.old.server.request (K.calls keeper.old) self.new.server) }
         ensures world { OnOk result (self.new ≡ record self.old { server = self.new.server }) }
-        ensures log { K.log keeper.new ≡ K.log keeper.old }
-        ensures fault { IfErr result (TableFails (K.log keeper.old)) }
+        ensures calls { K.calls keeper.new ≡ K.calls keeper.old }
+        ensures fault { IfErr result (TableFails (K.calls keeper.old)) }
         ensures err { OnErr result (self.new ≡ self.old) }
     {
         self.table = Table::load(self.alloc, SERVER.port, keeper)?;

@@ -8,7 +8,7 @@
 ghost use Rattle.std.specs.Prelude.{◌≤◌, length};
 ghost use Rattle.tftp_packet.specs.declared.sizes.TheConstants.{BLOCK_SIZE};
 
-use archive_memory::NoKeeper;
+use archive_keepers::NoKeeper;
 use archive_table::Table;
 use std::alloc::{AllocError, Global};
 use std::io::{self, Read};

@@ -1,2 +1,4 @@
 pub mod Bytes
 pub mod Output
+pub mod Failures
+pub mod Printable

@@ -2,3 +2,4 @@ mod Given
 mod Sources
 pub mod Building
 pub mod Finding
+pub mod Statuses

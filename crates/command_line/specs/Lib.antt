@@ -1,2 +1,6 @@
 pub mod Arguments
 pub mod CommandLine
+pub mod Faults
+pub mod Help
+pub mod Inputs
+pub mod Reading

@@ -13,13 +13,11 @@ use clap::{Arg, ArgMatches, Command};
 use std::alloc::{AllocError, Global};
 use tws_file::Ruleset;
 
-const RULESETS: [&str; 2] = ["lynx", "ms"];
-
 /// The names of the rulesets.
 pub fn ruleset_names() -> &'static [&'static str]
     ensures { AreRulesetNames result }
 {
-    &RULESETS
+    &Ruleset::NAMES
 }
 
 /// A command without arguments: what its help begins and ends with.
@@ -139,24 +137,12 @@ pub fn number_up_to(text: &str, most: u64) -> Option<u64>
     }
 }
 
-// The ruleset with this name.
-fn ruleset_of(name: &str) -> Option<Ruleset>
-    ensures some { IfSome result (λ «ruleset». name.now ≡ ruleset_name «ruleset») }
-    ensures none { IfNone result ((«ruleset» : Ruleset) → name.now ≢ ruleset_name «ruleset») }
-{
-    match name {
-        "lynx" => Some(Ruleset::Lynx),
-        "ms" => Some(Ruleset::Ms),
-        _ => None,
-    }
-}
-
 /// The ruleset that was given; `None` if there is none of its name.
 pub fn ruleset_given(words: &ArgMatches) -> Option<Ruleset>
     ensures { Answers (HasRuleset (rows_of (found_of words.now))) result }
 {
     match text_given(words, "ruleset") {
-        Some(name) => ruleset_of(name),
+        Some(name) => Ruleset::from_name(name),
         None => None,
     }
 }

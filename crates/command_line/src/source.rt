@@ -1,3 +1,5 @@
+//! Where an input is read from.
+
 /// Where an input is read from.
 #[derive(Drop)]
 pub enum Source {

@@ -10,10 +10,11 @@ use Rattle.tws_file.specs.Text.{File, IsText, IsReadable}
 use Rattle.tws_file.specs.Fault.{HasFileFault}
 use Rattle.tws_best.specs.Best.{Collected, IsBestOf, IsCollectionOf, solutions_of}
 use Rattle.tws_best.proofs.Sets.{no_texts, one_more_text}
-use Rattle.command_faults.specs.declared.tool_fault.ToolFault.{ToolFault}
-use Rattle.command_faults.specs.declared.tool_fault.ToolFault.TheVariants.{Read, Write, Unreadable, Memory, Socket, Transfer}
-use Rattle.command_faults.specs.Faults.{ReadFails, IsReadOut, answer_status}
-use Rattle.file_commands.specs.Best.{AreReported, Collects, CollectFails, IsFirstUnreadable, AreReadOut, FilesFail, FilesRan}
+use Rattle.command_line.specs.declared.tool_fault.ToolFault.{ToolFault}
+use Rattle.command_line.specs.declared.tool_fault.ToolFault.TheVariants.{Read, Write, Unreadable, Memory, Socket, Transfer}
+use Rattle.command_line.specs.Faults.{ReadFails, IsReadOut, answer_status}
+use Rattle.file_commands.specs.SeveralInputs.{AreReported, CollectFails, IsFirstUnreadable, AreReadOut, FilesFail, FilesRan}
+use Rattle.file_commands.specs.Best.{Collects}
 
 -- ---- what is known
 

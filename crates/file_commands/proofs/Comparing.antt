@@ -1,8 +1,8 @@
 -- What `compare` did, by its result.
 use Rattle.std.proofs.Common.{◌≡◌, ℕ, zero, suc, Bool, true, false, List, Option, Result, Ok, Err, IfOk, IfErr, inl, inr, arith}
 use Rattle.tws_file.specs.declared.file_fault.FileFault.{FileFault}
-use Rattle.command_faults.specs.declared.tool_fault.ToolFault.{ToolFault}
-use Rattle.command_faults.specs.declared.tool_fault.ToolFault.TheVariants.{Read, Write, Unreadable, Memory, Socket, Transfer}
+use Rattle.command_line.specs.declared.tool_fault.ToolFault.{ToolFault}
+use Rattle.command_line.specs.declared.tool_fault.ToolFault.TheVariants.{Read, Write, Unreadable, Memory, Socket, Transfer}
 use Rattle.tws_file.specs.Text.{File}
 use Rattle.file_commands.specs.Compare.{AreTexts, Compares, ComparesFiles, ComparesInputs, CompareFails, FilesFail, compare_status}
 

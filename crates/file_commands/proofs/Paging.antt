@@ -4,11 +4,11 @@ use Rattle.std.specs.List.{AllByRecursion}
 use Rattle.std.proofs.Math.Seq.{take-length}
 use Rattle.byte_output.proofs.Lists.{at_some}
 use Rattle.tws_file.specs.Text.{File, IsText, IsReadable}
-use Rattle.file_commands.specs.Best.{AreReported}
+use Rattle.file_commands.specs.SeveralInputs.{AreReported}
 use Rattle.byte_output.specs.Output.{AppendsPrefix}
 use Rattle.byte_output.specs.declared.out_fault.OutFault.{OutFault}
 use Rattle.byte_output.specs.declared.out_fault.OutFault.TheVariants as out
-use Rattle.command_faults.specs.Faults.{written_fault}
+use Rattle.command_line.specs.Faults.{written_fault}
 use Rattle.tws_tables.specs.Page.{page_of}
 use Rattle.file_commands.specs.Page.{AreFiles, PageFails}
 

@@ -11,11 +11,11 @@ use Rattle.tws_best.specs.Best.{collection_text}
 use Rattle.tws_compare.specs.Compare.{rows_of, better_of}
 use Rattle.tws_compare.specs.Lines.{comparison_text}
 use Rattle.file_commands.specs.declared.compare.CompareArguments.{CompareArguments}
-use Rattle.command_faults.specs.declared.tool_fault.ToolFault.{ToolFault}
-use Rattle.command_faults.specs.declared.tool_fault.ToolFault.TheVariants.{Read, Write, Unreadable, Memory, Socket, Transfer}
+use Rattle.command_line.specs.declared.tool_fault.ToolFault.{ToolFault}
+use Rattle.command_line.specs.declared.tool_fault.ToolFault.TheVariants.{Read, Write, Unreadable, Memory, Socket, Transfer}
 use Rattle.command_line.specs.Arguments.{HasFlag}
-use Rattle.command_faults.specs.Faults.{status_of}
-use Rattle.command_faults.specs.Inputs.{IsUnreadable}
+use Rattle.command_line.specs.Faults.{status_of}
+use Rattle.command_line.specs.Inputs.{IsUnreadable}
 
 abbrev pub compare_name : Text
 compare_name = codes "compare"

@@ -1,6 +1,7 @@
 pub mod Opening
+pub mod SeveralInputs
 pub mod Without
 pub mod Best
 pub mod Compare
 pub mod Page
-pub mod FileJobs
+pub mod Knowing

@@ -6,10 +6,9 @@ use Rattle.tws_file.specs.Text.{File, IsText}
 use Rattle.byte_output.specs.Output.{AppendsPrefix}
 use Rattle.tws_tables.specs.Page.{page_of}
 use Rattle.file_commands.specs.declared.page.PageArguments.{PageArguments}
-use Rattle.command_faults.specs.declared.tool_fault.ToolFault.{ToolFault}
+use Rattle.command_line.specs.declared.tool_fault.ToolFault.{ToolFault}
 use Rattle.command_line.specs.Arguments.{HasSources, files_rule}
-use Rattle.command_faults.specs.Inputs.{ReadsAmong, knowns_of}
-use Rattle.file_commands.specs.Best.{FilesFail, FilesRan}
+use Rattle.file_commands.specs.SeveralInputs.{FilesFail, FilesRanFrom}
 
 abbrev pub page_name : Text
 page_name = codes "page"
@@ -40,9 +39,7 @@ PagePrefix knowns old new = (files : List File) × AreFiles knowns files × Appe
 abbrev pub PageFails : List (Option (List ℕ)) → (old new : Option (List ℕ)) → ToolFault → Type 0
 PageFails knowns old new = FilesFail (PagePrefix knowns old new) knowns old new
 
--- What it did, by the exit status, given what is known of the bytes of the file with each name, and what holds if standard
--- input was not read: what standard input had and has left, and the output before and after.
+-- What it did, by the exit status, given what is known of the bytes of the file with each name, and what holds if
+-- standard input was not read: what standard input had and has left, and the output before and after.
 abbrev pub PageRan : (bytes_of : List ℕ → Option (List ℕ)) → (Unread : Type 0) → PageArguments → (status : ℕ) → (given left old new : Option (List ℕ)) → Type 0
-PageRan bytes_of Unread arguments status given left old new =
-    let knowns : List (Option (List ℕ)) = knowns_of bytes_of given arguments.files.items in
-    ReadsAmong arguments.files.items Unread status left × FilesRan (PageWrites knowns old new) (PagePrefix knowns old new) knowns status old new
+PageRan bytes_of Unread arguments status given left old new = FilesRanFrom arguments.files.items bytes_of Unread PageWrites PagePrefix status given left old new

@@ -1,22 +1,22 @@
 //! The command `best`: the best solutions of several files.
 
-ghost use Rattle.std.specs.Prelude.{◌≡◌, ◌≢◌, false, Some, map, OnOk, IfOk, IfErr};
+ghost use Rattle.std.specs.Prelude.{◌≡◌, ◌≢◌, ◌≤◌, false, map, OnOk, IfOk, IfErr};
 ghost use Rattle.std.specs.List.{AllByRecursion};
 ghost use Rattle.std.specs.Io.KnownBytes.{IsAtEnd};
 ghost use Rattle.clap.specs.Matches.{found_of};
 ghost use Rattle.clap.specs.Words.{app_of, rows_of};
 ghost use Rattle.clap.specs.declared.builder.command.Command.TheViews.{out-Command};
 ghost use Rattle.command_line.specs.Arguments.{Answers};
-ghost use Rattle.file_commands.specs.Best.{AsksForBest, Collects, CollectFails, AreReadOut, BestWrites, BestPrefix, BestFails, BestRan, FilesRan, best_app};
-ghost use Rattle.command_faults.specs.Inputs.{knowns_of};
+ghost use Rattle.file_commands.specs.Best.{AsksForBest, Collects, BestWrites, BestPrefix, BestFails, BestRan, best_app};
+ghost use Rattle.file_commands.specs.SeveralInputs.{AreReadOut, CollectFails};
+ghost use Rattle.file_commands.specs.Knowing.{best_prefix_less, best_writes_less};
 
 use crate::arguments::files_argument;
-use crate::opening::{NotOpened, open_all};
-use crate::reporting::{finish_among, report_unopened};
-use crate::standard::{has_standard, read_bytes};
+use crate::several_inputs::{SeveralInputsCommand, run_several_inputs};
 use clap::{ArgMatches, Command};
-use command_faults::{ToolFault, report};
-use command_line::{Source, new_command, ruleset_argument, ruleset_given, sources_given};
+use command_line::{
+    Source, ToolFault, new_command, ruleset_argument, ruleset_given, sources_given,
+};
 use show_commands::read_input;
 use std::alloc::{AllocError, Global};
 use std::io::{Read, Write};
@@ -41,7 +41,11 @@ const HELP: &str =
     "The best has the fewest ticks. The collection goes to standard output.\n\nExample: tws best lynx mine.tws yours.tws > best.tws";
 
 /// The command, as `clap` reads it, with these names of the rulesets.
-pub(crate) fn command<'a>(alloc: Global, names: &'a [&'a str]) -> Result<Command<'a>, AllocError>
+///
+/// # Errors
+///
+/// Out of memory.
+pub fn command<'a>(alloc: Global, names: &'a [&'a str]) -> Result<Command<'a>, AllocError>
     ensures app { IfOk result (λ command. app_of command ≡ best_app names.entry) }
     ensures local { IfOk result (λ command. (out-Command command).has_globals ≡ false) }
 {
@@ -51,7 +55,11 @@ pub(crate) fn command<'a>(alloc: Global, names: &'a [&'a str]) -> Result<Command
 }
 
 /// What the arguments ask for; `None` if the ruleset is unknown.
-pub(crate) fn asked(alloc: Global, words: &ArgMatches) -> Result<Option<BestArguments>, AllocError>
+///
+/// # Errors
+///
+/// Out of memory.
+pub fn asked(alloc: Global, words: &ArgMatches) -> Result<Option<BestArguments>, AllocError>
     ensures { IfOk result (Answers (AsksForBest (rows_of (found_of words.now)))) }
 {
     let Some(ruleset) = ruleset_given(words) else {
@@ -110,33 +118,31 @@ pub fn run_best<R: Read, W: Write>(
     Ok(())
 }
 
-// Runs `run_best` on these sources, where standard input has the bytes `standard`, and returns the status.
-fn run_over<S: FileSystem, W: Write, E: Write>(
-    system: &S,
-    alloc: Global,
-    arguments: &BestArguments,
-    standard: &[u8],
-    out: &mut W,
-    errors: &mut E,
-) -> u8
-    ensures ran { FilesRan (BestWrites arguments.now.ruleset (knowns_of (S.bytes_of system.now) (Some standard.now) arguments.now.files.items) (W.contents out.old) (W.contents out.new)) (BestPrefix arguments.now.ruleset (knowns_of (S.bytes_of system.now) (Some standard.now) arguments.now.files.items) (W.contents out.old) (W.contents out.new)) (knowns_of (S.bytes_of system.now) (Some standard.now) arguments.now.files.items) result (W.contents out.old) (W.contents out.new) }
-    ensures unreadable { result ≡ 3 → out.new ≡ out.old }
-    ensures silent { result ≡ 0 → errors.new ≡ errors.old }
-{
-    let sources = &arguments.files;
-    match open_all(system, alloc, sources, standard) {
-        Ok(mut inputs) => {
-            let done = run_best(alloc, arguments.ruleset, &mut inputs, out);
-            finish_among(done, sources, errors)
-        }
-        Err(NotOpened::Memory) => report(ToolFault::Memory, &[], errors),
-        Err(NotOpened::File { index, cause }) => report_unopened(sources, index, &cause, errors),
+impl SeveralInputsCommand for BestArguments {
+    ghost writes = { λ arguments. BestWrites arguments.«ruleset» };
+
+    ghost prefix = { λ arguments. BestPrefix arguments.«ruleset» };
+
+    fn run_over<R: Read, W: Write>(
+        &self,
+        alloc: Global,
+        inputs: &mut [R],
+        out: &mut W,
+    ) -> Result<(), ToolFault> {
+        run_best(alloc, self.ruleset, inputs, out)
     }
+
+    ghost writes_less = { λ arguments. best_writes_less arguments.«ruleset» };
+
+    ghost prefix_less = { λ arguments. best_prefix_less arguments.«ruleset» };
 }
 
-/// Runs `best` over these sources, and returns the status. Standard input, if it is among them, is read whole before any other
-/// input, and is the same each time that it is named.
-pub(crate) fn run<S: FileSystem, R: Read, W: Write, E: Write>(
+/// Runs `best` over its files, and returns the exit status: 0 if all was done, 2 if reading, writing or memory
+/// failed, 3 for an input that is not a solution file. A fault goes to `errors`.
+///
+/// Files are opened by their names in `system`, all of them before one is read. Standard input, if it is among the
+/// inputs, is read whole before any other, and is the same each time that it is named.
+pub fn run<S: FileSystem, R: Read, W: Write, E: Write>(
     system: &S,
     alloc: Global,
     arguments: &BestArguments,
@@ -145,14 +151,12 @@ pub(crate) fn run<S: FileSystem, R: Read, W: Write, E: Write>(
     errors: &mut E,
 ) -> u8
     ensures ran { BestRan (S.bytes_of system.now) (input.new ≡ input.old) arguments.now result (R.remaining input.old) (R.remaining input.new) (W.contents out.old) (W.contents out.new) }
+    // The clauses below hold also for readers and writers without ghost contents.
+    ensures usage { result ≢ 1 }
+    ensures few { result ≤ 3 }
     ensures unreadable { result ≡ 3 → out.new ≡ out.old }
     ensures silent { result ≡ 0 → errors.new ≡ errors.old }
 {
-    if !has_standard(&arguments.files) {
-        return run_over(system, alloc, arguments, &[], out, errors);
-    }
-    match read_bytes(alloc, input) {
-        Ok(bytes) => run_over(system, alloc, arguments, &bytes, out, errors),
-        Err(fault) => report(fault, &[], errors),
-    }
+    let sources = &arguments.files;
+    run_several_inputs(arguments, system, alloc, sources, input, out, errors)
 }

@@ -1,18 +1,17 @@
 //! The command `compare`: two solution files compared, or what is better in the first.
 
-ghost use Rattle.std.specs.Prelude.{◌≡◌, ◌≢◌, true, false, Ok, OnOk, IfOk, IfErr};
+ghost use Rattle.std.specs.Prelude.{◌≡◌, ◌≢◌, ◌≤◌, true, false, Ok, OnOk, IfOk, IfErr};
 ghost use Rattle.std.specs.Io.KnownBytes.{IsAtEnd};
 ghost use Rattle.clap.specs.Matches.{found_of};
 ghost use Rattle.clap.specs.Words.{app_of, rows_of, rule_of};
 ghost use Rattle.clap.specs.declared.builder.command.Command.TheViews.{out-Command};
 ghost use Rattle.command_line.specs.Arguments.{Answers};
 ghost use Rattle.file_commands.specs.Compare.{AsksToCompare, CompareFails, CompareRan, Compares, ComparesFiles, FilesFail, better_rule, compare_app, compare_status, mine_rule, theirs_rule};
-ghost use Rattle.command_faults.specs.Faults.{status_of};
+ghost use Rattle.command_line.specs.Faults.{status_of};
 
 use byte_output::put;
 use clap::{Arg, ArgAction, ArgMatches, Command};
-use command_faults::{DONE, ToolFault, USAGE, report, report_file};
-use command_line::{new_command, string_given};
+use command_line::{DONE, ToolFault, USAGE, new_command, report, report_file, string_given};
 use show_commands::read_input;
 use std::alloc::{AllocError, Global};
 use std::io::{Read, Write};
@@ -69,7 +68,11 @@ const HELP: &str =
     "Writes a line for each level number and password, and one with their counts.\n\nExample: tws compare mine.tws lynx.tws";
 
 /// The command, as `clap` reads it.
-pub(crate) fn command<'a>(alloc: Global) -> Result<Command<'a>, AllocError>
+///
+/// # Errors
+///
+/// Out of memory.
+pub fn command<'a>(alloc: Global) -> Result<Command<'a>, AllocError>
     ensures app { IfOk result (λ command. app_of command ≡ compare_app) }
     ensures local { IfOk result (λ command. (out-Command command).has_globals ≡ false) }
 {
@@ -80,10 +83,11 @@ pub(crate) fn command<'a>(alloc: Global) -> Result<Command<'a>, AllocError>
 }
 
 /// What the arguments ask for; `None` if a file has no name.
-pub(crate) fn asked(
-    alloc: Global,
-    words: &ArgMatches,
-) -> Result<Option<CompareArguments>, AllocError>
+///
+/// # Errors
+///
+/// Out of memory.
+pub fn asked(alloc: Global, words: &ArgMatches) -> Result<Option<CompareArguments>, AllocError>
     ensures { IfOk result (Answers (AsksToCompare (rows_of (found_of words.now)))) }
 {
     let Some(mine) = string_given(alloc, words, "mine")? else {
@@ -170,9 +174,9 @@ fn write_compared<W: Write>(
 ///
 /// # Errors
 ///
-/// `Read` if a reader fails or does not end within `INPUT_READS` reads, `Unreadable` with the number of the first input
-/// that is not a solution file, 0 for mine and 1 for theirs, and its fault, and `Memory` if an allocation was refused: then
-/// nothing was written. `Write` if the writer fails: then a proper prefix of the text was written.
+/// `Read` if a reader fails or does not end within `INPUT_READS` reads, `Unreadable` with the number of the first
+/// input that is not a solution file, 0 for mine and 1 for theirs, and its fault, and `Memory` if an allocation was
+/// refused: then nothing was written. `Write` if the writer fails: then a proper prefix of the text was written.
 pub fn run_compare<R: Read, W: Write>(
     alloc: Global,
     is_better: bool,
@@ -225,8 +229,10 @@ fn end<E: Write>(done: Result<bool, ToolFault>, arguments: &CompareArguments, er
     }
 }
 
-/// Runs `compare` over the files of these names, and returns the status.
-pub(crate) fn run<S: FileSystem, W: Write, E: Write>(
+/// Runs `compare` over the files of its names, and returns the exit status: 0 if all was done, 1 if the files are of
+/// different rulesets, 2 if reading, writing or memory failed, 3 for a file that is not a solution file. A fault goes
+/// to `errors`. Both files are opened in `system` before one is read.
+pub fn run<S: FileSystem, W: Write, E: Write>(
     system: &S,
     alloc: Global,
     arguments: &CompareArguments,
@@ -234,7 +240,9 @@ pub(crate) fn run<S: FileSystem, W: Write, E: Write>(
     errors: &mut E,
 ) -> u8
     ensures ran { CompareRan (S.bytes_of system.now) arguments.now result (W.contents out.old) (W.contents out.new) }
+    // The clauses below hold also for a writer without ghost contents.
     ensures usage { result ≡ 1 → out.new ≡ out.old }
+    ensures few { result ≤ 3 }
     ensures unreadable { result ≡ 3 → out.new ≡ out.old }
     ensures silent { result ≡ 0 → errors.new ≡ errors.old }
 {

@@ -2,7 +2,7 @@
 
 ghost use Rattle.std.specs.Prelude.{◌≡◌, Some, length, map, IfOk, IfErr};
 ghost use Rattle.either.specs.Either.{either};
-ghost use Rattle.command_faults.specs.Inputs.{known_of, knowns_of};
+ghost use Rattle.command_line.specs.Inputs.{known_of, knowns_of};
 ghost use Rattle.file_commands.specs.Opening.{IsWithin};
 ghost use Rattle.file_commands.specs.declared.opening.NotOpened.TheVariants as NotOpened;
 

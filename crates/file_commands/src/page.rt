@@ -1,23 +1,20 @@
 //! The command `page`: the solutions of several files as a page of HTML.
 
-ghost use Rattle.std.specs.Prelude.{◌≡◌, false, Some, map, OnOk, IfOk, IfErr};
+ghost use Rattle.std.specs.Prelude.{◌≡◌, ◌≢◌, ◌≤◌, false, map, OnOk, IfOk, IfErr};
 ghost use Rattle.std.specs.List.{AllByRecursion};
 ghost use Rattle.std.specs.Io.KnownBytes.{IsAtEnd};
 ghost use Rattle.clap.specs.Matches.{found_of};
 ghost use Rattle.clap.specs.Words.{app_of, rows_of};
 ghost use Rattle.clap.specs.declared.builder.command.Command.TheViews.{out-Command};
-ghost use Rattle.file_commands.specs.Best.{AreReadOut, CollectFails, FilesRan};
+ghost use Rattle.file_commands.specs.SeveralInputs.{AreReadOut, CollectFails};
 ghost use Rattle.file_commands.specs.Page.{AreFiles, AsksForPage, PageFails, PagePrefix, PageRan, PageWrites, page_app};
-ghost use Rattle.command_faults.specs.Faults.{IsBeforeOutput};
-ghost use Rattle.command_faults.specs.Inputs.{knowns_of};
+ghost use Rattle.command_line.specs.Faults.{IsBeforeOutput};
+ghost use Rattle.file_commands.specs.Knowing.{page_prefix_less, page_writes_less};
 
 use crate::arguments::files_argument;
-use crate::opening::{NotOpened, open_all};
-use crate::reporting::{finish_among, report_unopened};
-use crate::standard::{has_standard, read_bytes};
+use crate::several_inputs::{SeveralInputsCommand, run_several_inputs};
 use clap::{ArgMatches, Command};
-use command_faults::{ToolFault, report};
-use command_line::{Source, new_command, sources_given};
+use command_line::{Source, ToolFault, new_command, sources_given};
 use show_commands::read_input;
 use std::alloc::{AllocError, Global};
 use std::io::{Read, Write};
@@ -39,7 +36,11 @@ const HELP: &str =
     "The page needs no other file. It goes to standard output.\n\nExample: tws page lynx.tws ms.tws > best.html";
 
 /// The command, as `clap` reads it.
-pub(crate) fn command<'a>(alloc: Global) -> Result<Command<'a>, AllocError>
+///
+/// # Errors
+///
+/// Out of memory.
+pub fn command<'a>(alloc: Global) -> Result<Command<'a>, AllocError>
     ensures app { IfOk result (λ command. app_of command ≡ page_app) }
     ensures local { IfOk result (λ command. (out-Command command).has_globals ≡ false) }
 {
@@ -47,7 +48,11 @@ pub(crate) fn command<'a>(alloc: Global) -> Result<Command<'a>, AllocError>
 }
 
 /// What the arguments ask for.
-pub(crate) fn asked(alloc: Global, words: &ArgMatches) -> Result<PageArguments, AllocError>
+///
+/// # Errors
+///
+/// Out of memory.
+pub fn asked(alloc: Global, words: &ArgMatches) -> Result<PageArguments, AllocError>
     ensures { IfOk result (AsksForPage (rows_of (found_of words.now))) }
 {
     let files = sources_given(alloc, words)?;
@@ -73,10 +78,10 @@ fn read_all<R: Read>(alloc: Global, inputs: &mut [R]) -> Result<Vec<TwsFile>, To
 ///
 /// # Errors
 ///
-/// The first input that fails decides. `Read` if it fails or does not end within `INPUT_READS` reads, and `Unreadable`
-/// with its number, counted from 0, and the fault of its bytes: then nothing was written. `Write` if the writer fails:
-/// then a proper prefix of the page was written. `Memory` if an allocation was refused: then nothing or such a prefix was
-/// written.
+/// The first input that fails decides. `Read` if it fails or does not end within `INPUT_READS` reads, and
+/// `Unreadable` with its number, counted from 0, and the fault of its bytes: then nothing was written. `Write` if the
+/// writer fails: then a proper prefix of the page was written. `Memory` if an allocation was refused: then nothing or
+/// such a prefix was written.
 pub fn run_page<R: Read, W: Write>(
     alloc: Global,
     inputs: &mut [R],
@@ -94,33 +99,27 @@ pub fn run_page<R: Read, W: Write>(
     Ok(())
 }
 
-// Runs `run_page` on these sources, where standard input has the bytes `standard`, and returns the status.
-fn run_over<S: FileSystem, W: Write, E: Write>(
-    system: &S,
-    alloc: Global,
-    arguments: &PageArguments,
-    standard: &[u8],
-    out: &mut W,
-    errors: &mut E,
-) -> u8
-    ensures ran { FilesRan (PageWrites (knowns_of (S.bytes_of system.now) (Some standard.now) arguments.now.files.items) (W.contents out.old) (W.contents out.new)) (PagePrefix (knowns_of (S.bytes_of system.now) (Some standard.now) arguments.now.files.items) (W.contents out.old) (W.contents out.new)) (knowns_of (S.bytes_of system.now) (Some standard.now) arguments.now.files.items) result (W.contents out.old) (W.contents out.new) }
-    ensures unreadable { result ≡ 3 → out.new ≡ out.old }
-    ensures silent { result ≡ 0 → errors.new ≡ errors.old }
-{
-    let sources = &arguments.files;
-    match open_all(system, alloc, sources, standard) {
-        Ok(mut inputs) => {
-            let done = run_page(alloc, &mut inputs, out);
-            finish_among(done, sources, errors)
-        }
-        Err(NotOpened::Memory) => report(ToolFault::Memory, &[], errors),
-        Err(NotOpened::File { index, cause }) => report_unopened(sources, index, &cause, errors),
+impl SeveralInputsCommand for PageArguments {
+    ghost writes = { λ _. PageWrites };
+
+    ghost prefix = { λ _. PagePrefix };
+
+    fn run_over<R: Read, W: Write>(
+        &self,
+        alloc: Global,
+        inputs: &mut [R],
+        out: &mut W,
+    ) -> Result<(), ToolFault> {
+        run_page(alloc, inputs, out)
     }
+
+    ghost writes_less = { λ _. page_writes_less };
+
+    ghost prefix_less = { λ _. page_prefix_less };
 }
 
-/// Runs `page` over these sources, and returns the status. Standard input, if it is among them, is read whole before any other
-/// input, and is the same each time that it is named.
-pub(crate) fn run<S: FileSystem, R: Read, W: Write, E: Write>(
+/// Runs `page` over its files, and returns the exit status, which is that of `best::run`; the inputs are read as there.
+pub fn run<S: FileSystem, R: Read, W: Write, E: Write>(
     system: &S,
     alloc: Global,
     arguments: &PageArguments,
@@ -129,14 +128,12 @@ pub(crate) fn run<S: FileSystem, R: Read, W: Write, E: Write>(
     errors: &mut E,
 ) -> u8
     ensures ran { PageRan (S.bytes_of system.now) (input.new ≡ input.old) arguments.now result (R.remaining input.old) (R.remaining input.new) (W.contents out.old) (W.contents out.new) }
+    // The clauses below hold also for readers and writers without ghost contents.
+    ensures usage { result ≢ 1 }
+    ensures few { result ≤ 3 }
     ensures unreadable { result ≡ 3 → out.new ≡ out.old }
     ensures silent { result ≡ 0 → errors.new ≡ errors.old }
 {
-    if !has_standard(&arguments.files) {
-        return run_over(system, alloc, arguments, &[], out, errors);
-    }
-    match read_bytes(alloc, input) {
-        Ok(bytes) => run_over(system, alloc, arguments, &bytes, out, errors),
-        Err(fault) => report(fault, &[], errors),
-    }
+    let sources = &arguments.files;
+    run_several_inputs(arguments, system, alloc, sources, input, out, errors)
 }

@@ -1,10 +1,9 @@
 //! Reports of why a command of several inputs failed, and its exit status.
 
 ghost use Rattle.std.specs.Prelude.{◌≡◌};
-ghost use Rattle.command_faults.specs.Faults.{status_of, answer_status};
+ghost use Rattle.command_line.specs.Faults.{status_of, answer_status};
 
-use command_faults::{DONE, ToolFault, report, report_file};
-use command_line::Source;
+use command_line::{DONE, Source, ToolFault, report, report_file};
 use std::io::Write;
 use std::{io, slice};
 

@@ -2,12 +2,10 @@
 
 ghost use Rattle.std.specs.Prelude.{◌≡◌, IfOk, IfErr, IfSome, OnOk};
 ghost use Rattle.std.specs.Io.KnownBytes.{IsAtEnd};
-ghost use Rattle.command_faults.specs.Faults.{IsReadFault};
-ghost use Rattle.command_faults.specs.Inputs.{has_standard};
+ghost use Rattle.command_line.specs.Faults.{IsReadFault};
+ghost use Rattle.command_line.specs.Inputs.{has_standard};
 
-use command_faults::ToolFault;
-use command_line::Source;
-use show_commands::INPUT_READS;
+use command_line::{Source, ToolFault, read_to_end};
 use std::alloc::Global;
 use std::io::Read;
 
@@ -27,15 +25,6 @@ pub(crate) fn read_bytes<R: Read>(alloc: Global, input: &mut R) -> Result<Vec<u8
     ensures fault { IfErr result IsReadFault }
 {
     let mut bytes = Vec::new(alloc);
-    let mut piece = [0; 1 << 16];
-    for _ in 0..INPUT_READS {
-        let Ok(count) = input.read(&mut piece) else {
-            return Err(ToolFault::Read);
-        };
-        if count == 0 {
-            return Ok(bytes);
-        }
-        bytes.extend_from_slice(&piece[..count])?;
-    }
-    Err(ToolFault::Read)
+    read_to_end(input, &mut bytes)?;
+    Ok(bytes)
 }

@@ -1,6 +1,6 @@
 //! The command `without`: a solution file without the solutions of a level.
 
-ghost use Rattle.std.specs.Prelude.{◌≡◌, ◌≢◌, false, OnOk, IfOk, IfErr};
+ghost use Rattle.std.specs.Prelude.{◌≡◌, ◌≢◌, ◌≤◌, false, OnOk, IfOk, IfErr};
 ghost use Rattle.std.specs.Io.KnownBytes.{IsAtEnd};
 ghost use Rattle.clap.specs.Matches.{found_of};
 ghost use Rattle.clap.specs.Words.{app_of, first_of, rows_of, rule_of};
@@ -8,19 +8,18 @@ ghost use Rattle.clap.specs.declared.builder.command.Command.TheViews.{out-Comma
 ghost use Rattle.tws_compare.specs.Without.{text_without};
 ghost use Rattle.command_line.specs.Arguments.{Answers};
 ghost use Rattle.file_commands.specs.Without.{AsksForWithout, IsLevel, WithoutRan, level_rule, password_rule, without_app};
-ghost use Rattle.command_faults.specs.Faults.{IsReadOut};
-ghost use Rattle.show_commands.specs.Written.{RanFrom, Writes, WriteFails};
+ghost use Rattle.command_line.specs.Faults.{IsReadOut};
+ghost use Rattle.show_commands.specs.Written.{Writes, WriteFails};
 
 use clap::builder::ValueParser;
 use clap::{Arg, ArgMatches, Command};
-use command_faults::{ToolFault, USAGE, finish, report_file};
 use command_line::{
-    Source, new_command, number_up_to, source_argument, source_given, string_given, text_given,
+    Source, ToolFault, USAGE, new_command, number_up_to, source_argument, source_given,
+    string_given, text_given,
 };
-use show_commands::read_input;
+use show_commands::{OneInputCommand, read_input, run_one_input};
 use std::alloc::{AllocError, Global};
 use std::io::{Read, Write};
-use std::slice;
 use system_files::FileSystem;
 use tws_compare::{password_shown, without};
 use tws_file::{Key, write_file};
@@ -64,7 +63,11 @@ const HELP: &str =
     "Everything else stays as it is. The file goes to standard output.\n\nExample: tws without 1 BDHP lynx.tws > mended.tws";
 
 /// The command, as `clap` reads it.
-pub(crate) fn command<'a>(alloc: Global) -> Result<Command<'a>, AllocError>
+///
+/// # Errors
+///
+/// Out of memory.
+pub fn command<'a>(alloc: Global) -> Result<Command<'a>, AllocError>
     ensures app { IfOk result (λ command. app_of command ≡ without_app) }
     ensures local { IfOk result (λ command. (out-Command command).has_globals ≡ false) }
 {
@@ -84,10 +87,11 @@ fn level_given(words: &ArgMatches) -> Option<u16>
 }
 
 /// What the arguments ask for; `None` if the number of the level is out of range.
-pub(crate) fn asked(
-    alloc: Global,
-    words: &ArgMatches,
-) -> Result<Option<WithoutArguments>, AllocError>
+///
+/// # Errors
+///
+/// Out of memory.
+pub fn asked(alloc: Global, words: &ArgMatches) -> Result<Option<WithoutArguments>, AllocError>
     ensures { IfOk result (Answers (AsksForWithout (rows_of (found_of words.now)))) }
 {
     let Some(level) = level_given(words) else {
@@ -130,30 +134,23 @@ pub fn run_without<R: Read, W: Write>(
     Ok(())
 }
 
-// Runs `run_without` on the input of this source, and returns the status.
-fn run_from<S: FileSystem, R: Read, W: Write, E: Write>(
-    system: &S,
-    alloc: Global,
+// The command, once the password that it was given is known to be one.
+#[derive(Clone, Copy)]
+struct Removal {
+    // The level whose solutions are left out.
     key: Key,
-    source: &Source,
-    input: &mut R,
-    out: &mut W,
-    errors: &mut E,
-) -> u8
-    ensures ran { RanFrom source.now (S.bytes_of system.now) (input.new ≡ input.old) (text_without key) result (R.remaining input.old) (R.remaining input.new) (W.contents out.old) (W.contents out.new) }
-    ensures usage { result ≢ 1 }
-    ensures unreadable { result ≡ 3 → out.new ≡ out.old }
-    ensures silent { result ≡ 0 → errors.new ≡ errors.old }
-{
-    match source {
-        Source::Standard => finish(run_without(alloc, key, input, out), &[], errors),
-        Source::Named(name) => match system.open(name.as_str()) {
-            Ok(mut file) => {
-                let done = run_without(alloc, key, &mut file, out);
-                finish(done, slice::from_ref(name), errors)
-            }
-            Err(cause) => report_file(ToolFault::Read, name.as_str(), &cause, errors),
-        },
+}
+
+impl OneInputCommand for Removal {
+    ghost text = { λ removal. text_without removal.key };
+
+    fn run_over<R: Read, W: Write>(
+        &self,
+        alloc: Global,
+        input: &mut R,
+        out: &mut W,
+    ) -> Result<(), ToolFault> {
+        run_without(alloc, self.key, input, out)
     }
 }
 
@@ -165,8 +162,9 @@ fn bad_password<E: Write>(errors: &mut E) -> u8
     USAGE
 }
 
-/// Runs `without`, and returns the status.
-pub(crate) fn run<S: FileSystem, R: Read, W: Write, E: Write>(
+/// Runs `without`, and returns the exit status: 1 if what was typed is not a password, and otherwise that of
+/// `run_one_input`.
+pub fn run<S: FileSystem, R: Read, W: Write, E: Write>(
     system: &S,
     alloc: Global,
     arguments: &WithoutArguments,
@@ -175,7 +173,9 @@ pub(crate) fn run<S: FileSystem, R: Read, W: Write, E: Write>(
     errors: &mut E,
 ) -> u8
     ensures ran { WithoutRan (S.bytes_of system.now) (input.new ≡ input.old) arguments.now result (R.remaining input.old) (R.remaining input.new) (W.contents out.old) (W.contents out.new) }
+    // The clauses below hold also for readers and writers without ghost contents.
     ensures usage { result ≡ 1 → (input.new ≡ input.old) × (out.new ≡ out.old) }
+    ensures few { result ≤ 3 }
     ensures unreadable { result ≡ 3 → out.new ≡ out.old }
     ensures silent { result ≡ 0 → errors.new ≡ errors.old }
 {
@@ -183,8 +183,10 @@ pub(crate) fn run<S: FileSystem, R: Read, W: Write, E: Write>(
     match password_shown(arguments.password.as_str()) {
         Some(password) => {
             let number = arguments.level;
-            let key = Key { number, password };
-            run_from(system, alloc, key, source, input, out, errors)
+            let removal = Removal {
+                key: Key { number, password },
+            };
+            run_one_input(&removal, system, alloc, source, input, out, errors)
         }
         None => bad_password(errors),
     }

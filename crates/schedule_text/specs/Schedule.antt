@@ -6,8 +6,8 @@ use Rattle.archive_client.specs.Client.{put, get}
 use Rattle.archive_model.specs.World.{Event, begin, deliver, client_times_out, server_times_out, stray, restart}
 use Rattle.schedule_text.specs.declared.keyword.Verb.{Verb}
 use Rattle.schedule_text.specs.declared.keyword.Verb.TheVariants.{Begin, Deliver, ClientTimeout, ServerTimeout, Stray, Restart}
-use Rattle.schedule_text.specs.declared.keyword.Kind.{Kind}
-use Rattle.schedule_text.specs.declared.keyword.Kind.TheVariants.{Put, Get}
+use Rattle.schedule_text.specs.declared.keyword.OperationKind.{OperationKind}
+use Rattle.schedule_text.specs.declared.keyword.OperationKind.TheVariants.{Put, Get}
 use Rattle.schedule_text.specs.Words.{verb_in, word_count, kind_in, ruleset_in, number_in, endpoint_in, bytes_in}
 
 -- ---- the lines of a text, and the words of a line
@@ -44,7 +44,7 @@ words_of line = words_after [] line
 abbrev pub word_at : List (List ℕ) → (place : ℕ) → List ℕ
 word_at words place = slice_index_or words place []
 
-abbrev pub begin_of : Option Kind → Endpoint → (what : List ℕ) → Option Event
+abbrev pub begin_of : Option OperationKind → Endpoint → (what : List ℕ) → Option Event
 begin_of None client what = None
 begin_of (Some Put) client what = option_map (λ file. begin client (put file)) (bytes_in what)
 begin_of (Some Get) client what = option_map (λ rules. begin client (get rules)) (ruleset_in what)

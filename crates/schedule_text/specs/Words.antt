@@ -9,8 +9,8 @@ use Rattle.tws_file.specs.declared.«ruleset».Ruleset.TheVariants.{Lynx, Ms}
 use Rattle.tws_file.specs.Words.{ruleset_name}
 use Rattle.schedule_text.specs.declared.keyword.Verb.{Verb}
 use Rattle.schedule_text.specs.declared.keyword.Verb.TheVariants.{Begin, Deliver, ClientTimeout, ServerTimeout, Stray, Restart}
-use Rattle.schedule_text.specs.declared.keyword.Kind.{Kind}
-use Rattle.schedule_text.specs.declared.keyword.Kind.TheVariants.{Put, Get}
+use Rattle.schedule_text.specs.declared.keyword.OperationKind.{OperationKind}
+use Rattle.schedule_text.specs.declared.keyword.OperationKind.TheVariants.{Put, Get}
 
 -- ---- keywords
 
@@ -41,11 +41,11 @@ verb_in word =
     (cond (bytes_eq word (verb_word Stray)) (Some Stray)
     (cond (bytes_eq word (verb_word Restart)) (Some Restart) None)))))
 
-abbrev pub kind_word : Kind → List ℕ
+abbrev pub kind_word : OperationKind → List ℕ
 kind_word Put = codes "put"
 kind_word Get = codes "get"
 
-abbrev pub kind_in : (word : List ℕ) → Option Kind
+abbrev pub kind_in : (word : List ℕ) → Option OperationKind
 kind_in word = cond (bytes_eq word (kind_word Put)) (Some Put) (cond (bytes_eq word (kind_word Get)) (Some Get) None)
 
 abbrev pub ruleset_in : (word : List ℕ) → Option Ruleset

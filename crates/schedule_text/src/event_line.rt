@@ -6,14 +6,14 @@ ghost use Rattle.archive_world.specs.View.{event_of};
 ghost use Rattle.schedule_text.specs.Schedule.{event_in, begin_of, begin_in, deliver_in, client_timeout_in, server_timeout_in, stray_in};
 
 use crate::fields::{bytes, endpoint, index, port};
-use crate::keyword::{Kind, Verb, ruleset_named};
+use crate::keyword::{OperationKind, Verb, ruleset_named};
 use crate::words::word_at;
 use archive_world::{Datagram, Event, Op, OpKind};
 use std::alloc::{AllocError, Global};
 use tftp_packet::Endpoint;
 
 fn put(alloc: Global, client: Endpoint, hex: &[u8]) -> Result<Option<Event>, AllocError>
-    ensures { IfOk result (λ found. option_map event_of found ≡ begin_of (Some Kind.Put) client hex.now) }
+    ensures { IfOk result (λ found. option_map event_of found ≡ begin_of (Some OperationKind.Put) client hex.now) }
 {
     match bytes(alloc, hex)? {
         Some(file) => {
@@ -25,7 +25,7 @@ fn put(alloc: Global, client: Endpoint, hex: &[u8]) -> Result<Option<Event>, All
 }
 
 fn get(client: Endpoint, name: &[u8]) -> Option<Event>
-    ensures { option_map event_of result ≡ begin_of (Some Kind.Get) client name.now }
+    ensures { option_map event_of result ≡ begin_of (Some OperationKind.Get) client name.now }
 {
     match ruleset_named(name) {
         Some(ruleset) => {
@@ -47,9 +47,9 @@ fn begin(
     let Some(client) = client else {
         return Ok(None);
     };
-    match Kind::from_word(kind) {
-        Some(Kind::Put) => put(alloc, client, what),
-        Some(Kind::Get) => Ok(get(client, what)),
+    match OperationKind::from_word(kind) {
+        Some(OperationKind::Put) => put(alloc, client, what),
+        Some(OperationKind::Get) => Ok(get(client, what)),
         None => Ok(None),
     }
 }

@@ -73,18 +73,18 @@ impl Verb {
 
 /// What a `begin` line begins.
 #[derive(Clone, Copy, Debug, PartialEq, Eq)]
-pub enum Kind {
+pub enum OperationKind {
     Put,
     Get,
 }
 
-impl Kind {
+impl OperationKind {
     fn word(self) -> &'static [u8]
         ensures { result.now ≡ kind_word self }
     {
         match self {
-            Kind::Put => b"put",
-            Kind::Get => b"get",
+            OperationKind::Put => b"put",
+            OperationKind::Get => b"get",
         }
     }
 
@@ -92,22 +92,13 @@ impl Kind {
     pub(crate) fn from_word(word: &[u8]) -> Option<Self>
         ensures { result ≡ kind_in word.now }
     {
-        if word == Kind::Put.word() {
-            return Some(Kind::Put);
+        if word == OperationKind::Put.word() {
+            return Some(OperationKind::Put);
         }
-        if word == Kind::Get.word() {
-            return Some(Kind::Get);
+        if word == OperationKind::Get.word() {
+            return Some(OperationKind::Get);
         }
         None
-    }
-}
-
-fn name_of(ruleset: Ruleset) -> &'static [u8]
-    ensures { result.now ≡ ruleset_name «ruleset» }
-{
-    match ruleset {
-        Ruleset::Lynx => b"lynx",
-        Ruleset::Ms => b"ms",
     }
 }
 
@@ -115,10 +106,10 @@ fn name_of(ruleset: Ruleset) -> &'static [u8]
 pub(crate) fn ruleset_named(word: &[u8]) -> Option<Ruleset>
     ensures { result ≡ ruleset_in word.now }
 {
-    if word == name_of(Ruleset::Lynx) {
+    if word == Ruleset::Lynx.name().as_bytes() {
         return Some(Ruleset::Lynx);
     }
-    if word == name_of(Ruleset::Ms) {
+    if word == Ruleset::Ms.name().as_bytes() {
         return Some(Ruleset::Ms);
     }
     None

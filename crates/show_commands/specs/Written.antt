@@ -3,12 +3,12 @@ use Rattle.std.specs.Prelude.{◌≡◌, ◌≢◌, ◌⊎◌, ℕ, ◌≤◌, L
 use Rattle.std.specs.Io.KnownBytes.{Appends, IsAtEnd}
 use Rattle.tws_file.specs.Text.{File, IsText}
 use Rattle.byte_output.specs.Output.{AppendsPrefix}
-use Rattle.command_faults.specs.declared.tool_fault.ToolFault.{ToolFault}
-use Rattle.command_faults.specs.declared.tool_fault.ToolFault.TheVariants.{Read, Write, Unreadable, Memory, Socket, Transfer}
+use Rattle.command_line.specs.declared.tool_fault.ToolFault.{ToolFault}
+use Rattle.command_line.specs.declared.tool_fault.ToolFault.TheVariants.{Read, Write, Unreadable, Memory, Socket, Transfer}
 use Rattle.command_line.specs.declared.source.Source.{Source}
 use Rattle.command_line.specs.declared.source.Source.TheVariants.{Standard, Named}
-use Rattle.command_faults.specs.Faults.{ReadFails}
-use Rattle.command_faults.specs.Inputs.{IsUnreadable}
+use Rattle.command_line.specs.Faults.{ReadFails}
+use Rattle.command_line.specs.Inputs.{IsUnreadable}
 
 -- the bytes that were read are a file's text, and this text of the file was written
 abbrev pub Writes : (File → List ℕ) → (known old new : Option (List ℕ)) → Type 0

@@ -1,23 +1,23 @@
-//! The commands `show` and `pack`, over any reader and writer, the list of them, and the program that has only these. Read
-//! `specs/ShowJobs.antt` first, then `specs/Written.antt`, and for a command the file of its name. The crate's README shows
-//! how it is called.
+//! The commands `show` and `pack` of the program `tws`, over any reader and writer, the list of them, and the program
+//! that has only these. Read `specs/ShowJobs.antt` first, then `specs/Written.antt`, and for a command the file of
+//! its name. The crate's README shows how it is called.
 //!
-//! Each command is a module with `command`, its command line, `asked`, what its arguments ask for, `run`, which does that,
-//! and a function over any reader and writer, such as `run_show`. The list is in `show_job.rt`; `input.rt` reads a whole
-//! input, for every command on files.
+//! Each command is a module with `command`, its command line, `asked`, what its arguments ask for, and `run`, which
+//! does that, beside a function over any reader and writer, such as `run_show`. The list is in `show_job.rt`;
+//! `input.rt` reads a solution file to the end of an input, and `one_input.rt` runs a command of one input, for every
+//! command on files.
 #![tactic(auto)]
 
 mod input;
-mod laws;
-mod limits;
-mod pack;
+mod one_input;
+pub mod pack;
 mod program;
-mod show;
+mod reader_sink;
+pub mod show;
 mod show_job;
 
 pub use input::read_input;
-pub use laws::limit_values;
-pub use limits::INPUT_READS;
+pub use one_input::{OneInputCommand, run_one_input};
 pub use pack::{PackArguments, run_pack};
 pub use program::run_show_words;
 pub use show::{ShowArguments, run_csv, run_show};

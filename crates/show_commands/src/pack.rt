@@ -1,22 +1,21 @@
 //! The command `pack`.
 
-ghost use Rattle.std.specs.Prelude.{◌≡◌, ◌≢◌, false, OnOk, IfOk, IfErr};
+ghost use Rattle.std.specs.Prelude.{◌≡◌, ◌≢◌, ◌≤◌, false, OnOk, IfOk, IfErr};
 ghost use Rattle.std.specs.Io.KnownBytes.{IsAtEnd};
 ghost use Rattle.clap.specs.Matches.{found_of};
 ghost use Rattle.clap.specs.Words.{app_of, rows_of};
 ghost use Rattle.clap.specs.declared.builder.command.Command.TheViews.{out-Command};
 ghost use Rattle.tws_file.specs.Packing.{packed_text};
 ghost use Rattle.show_commands.specs.Pack.{AsksToPack, PackRan, pack_app};
-ghost use Rattle.command_faults.specs.Faults.{IsReadOut};
+ghost use Rattle.command_line.specs.Faults.{IsReadOut};
 ghost use Rattle.show_commands.specs.Written.{Writes, WriteFails};
 
 use crate::input::read_input;
+use crate::one_input::{OneInputCommand, run_one_input};
 use clap::{ArgMatches, Command};
-use command_faults::{ToolFault, finish, report_file};
-use command_line::{Source, new_command, source_argument, source_given};
+use command_line::{Source, ToolFault, new_command, source_argument, source_given};
 use std::alloc::{AllocError, Global};
 use std::io::{Read, Write};
-use std::slice;
 use system_files::FileSystem;
 use tws_file::{pack, write_file};
 
@@ -34,7 +33,11 @@ const HELP: &str =
     "Nothing but the bytes of the moves changes. The file goes to standard output.\n\nExample: tws pack mine.tws > packed.tws";
 
 /// The command, as `clap` reads it.
-pub(crate) fn command<'a>(alloc: Global) -> Result<Command<'a>, AllocError>
+///
+/// # Errors
+///
+/// Out of memory.
+pub fn command<'a>(alloc: Global) -> Result<Command<'a>, AllocError>
     ensures app { IfOk result (λ command. app_of command ≡ pack_app) }
     ensures local { IfOk result (λ command. (out-Command command).has_globals ≡ false) }
 {
@@ -42,7 +45,11 @@ pub(crate) fn command<'a>(alloc: Global) -> Result<Command<'a>, AllocError>
 }
 
 /// What the arguments ask for.
-pub(crate) fn asked(alloc: Global, words: &ArgMatches) -> Result<PackArguments, AllocError>
+///
+/// # Errors
+///
+/// Out of memory.
+pub fn asked(alloc: Global, words: &ArgMatches) -> Result<PackArguments, AllocError>
     ensures { IfOk result (AsksToPack (rows_of (found_of words.now))) }
 {
     let source = source_given(alloc, words)?;
@@ -74,8 +81,21 @@ pub fn run_pack<R: Read, W: Write>(
     Ok(())
 }
 
-/// Runs `pack`, and returns the status.
-pub(crate) fn run<S: FileSystem, R: Read, W: Write, E: Write>(
+impl OneInputCommand for PackArguments {
+    ghost text = { λ _. packed_text };
+
+    fn run_over<R: Read, W: Write>(
+        &self,
+        alloc: Global,
+        input: &mut R,
+        out: &mut W,
+    ) -> Result<(), ToolFault> {
+        run_pack(alloc, input, out)
+    }
+}
+
+/// Runs `pack`, and returns the exit status, which is that of `run_one_input`.
+pub fn run<S: FileSystem, R: Read, W: Write, E: Write>(
     system: &S,
     alloc: Global,
     arguments: &PackArguments,
@@ -84,17 +104,12 @@ pub(crate) fn run<S: FileSystem, R: Read, W: Write, E: Write>(
     errors: &mut E,
 ) -> u8
     ensures ran { PackRan (S.bytes_of system.now) (input.new ≡ input.old) arguments.now result (R.remaining input.old) (R.remaining input.new) (W.contents out.old) (W.contents out.new) }
+    // The clauses below hold also for readers and writers without ghost contents.
+    ensures usage { result ≢ 1 }
+    ensures few { result ≤ 3 }
     ensures unreadable { result ≡ 3 → out.new ≡ out.old }
     ensures silent { result ≡ 0 → errors.new ≡ errors.old }
 {
-    match &arguments.source {
-        Source::Standard => finish(run_pack(alloc, input, out), &[], errors),
-        Source::Named(name) => match system.open(name.as_str()) {
-            Ok(mut file) => {
-                let done = run_pack(alloc, &mut file, out);
-                finish(done, slice::from_ref(name), errors)
-            }
-            Err(cause) => report_file(ToolFault::Read, name.as_str(), &cause, errors),
-        },
-    }
+    let source = &arguments.source;
+    run_one_input(arguments, system, alloc, source, input, out, errors)
 }

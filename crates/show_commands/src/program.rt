@@ -7,8 +7,7 @@ ghost use Rattle.show_commands.specs.ShowJobs.{AnswersShowWords, FindsShowComman
 
 use crate::show_job::{ShowJob, run_show_job, show_job_of, show_program};
 use clap::ArgMatches;
-use command_faults::report_job_fault;
-use command_line::{JobFault, found_in, unknown_command};
+use command_line::{JobFault, found_in, report_job_fault, unknown_command};
 use std::alloc::Global;
 use std::io::{Read, Write};
 use system_files::FileSystem;

@@ -1,6 +1,6 @@
 //! The command `show`.
 
-ghost use Rattle.std.specs.Prelude.{◌≡◌, false, OnOk, IfOk, IfErr};
+ghost use Rattle.std.specs.Prelude.{◌≡◌, ◌≢◌, ◌≤◌, false, OnOk, IfOk, IfErr};
 ghost use Rattle.std.specs.Io.KnownBytes.{IsAtEnd};
 ghost use Rattle.clap.specs.Matches.{found_of};
 ghost use Rattle.clap.specs.Words.{app_of, rows_of, rule_of};
@@ -8,16 +8,15 @@ ghost use Rattle.clap.specs.declared.builder.command.Command.TheViews.{out-Comma
 ghost use Rattle.tws_tables.specs.Listing.{listing_of};
 ghost use Rattle.tws_tables.specs.Csv.{csv_of};
 ghost use Rattle.show_commands.specs.Show.{AsksToShow, ShowRan, csv_rule, moves_rule, show_app, shown_text};
-ghost use Rattle.command_faults.specs.Faults.{IsBeforeOutput, IsReadOut};
+ghost use Rattle.command_line.specs.Faults.{IsBeforeOutput, IsReadOut};
 ghost use Rattle.show_commands.specs.Written.{Writes, WriteFails};
 
 use crate::input::read_input;
+use crate::one_input::{OneInputCommand, run_one_input};
 use clap::{Arg, ArgAction, ArgMatches, Command};
-use command_faults::{ToolFault, finish, report_file};
-use command_line::{Source, new_command, source_argument, source_given};
+use command_line::{Source, ToolFault, new_command, source_argument, source_given};
 use std::alloc::{AllocError, Global};
 use std::io::{Read, Write};
-use std::slice;
 use system_files::FileSystem;
 use tws_tables::{show, write_csv};
 
@@ -59,7 +58,11 @@ const HELP: &str =
     "Writes a line for the header, one for each record, and one for their number.\n\nExample: tws show --moves mine.tws";
 
 /// The command, as `clap` reads it.
-pub(crate) fn command<'a>(alloc: Global) -> Result<Command<'a>, AllocError>
+///
+/// # Errors
+///
+/// Out of memory.
+pub fn command<'a>(alloc: Global) -> Result<Command<'a>, AllocError>
     ensures app { IfOk result (λ command. app_of command ≡ show_app) }
     ensures local { IfOk result (λ command. (out-Command command).has_globals ≡ false) }
 {
@@ -70,7 +73,11 @@ pub(crate) fn command<'a>(alloc: Global) -> Result<Command<'a>, AllocError>
 }
 
 /// What the arguments ask for.
-pub(crate) fn asked(alloc: Global, words: &ArgMatches) -> Result<ShowArguments, AllocError>
+///
+/// # Errors
+///
+/// Out of memory.
+pub fn asked(alloc: Global, words: &ArgMatches) -> Result<ShowArguments, AllocError>
     ensures { IfOk result (AsksToShow (rows_of (found_of words.now))) }
 {
     let source = source_given(alloc, words)?;
@@ -126,29 +133,26 @@ pub fn run_csv<R: Read, W: Write>(
     Ok(())
 }
 
-// Reads a solution file to its end, and writes it as it is asked for.
-#[tactic(auto, unfolding(crate::specs::Show::shown_text))]
-fn show_input<R: Read, W: Write>(
-    alloc: Global,
-    arguments: &ShowArguments,
-    input: &mut R,
-    out: &mut W,
-) -> Result<(), ToolFault>
-    ensures end { OnOk result (IsAtEnd (R.remaining input.new)) }
-    ensures unreadable { IfErr result (IsReadOut (R.remaining input.new)) }
-    ensures shown { OnOk result (Writes (shown_text arguments.now) (R.remaining input.old) (W.contents out.old) (W.contents out.new)) }
-    ensures fails { IfErr result (WriteFails (shown_text arguments.now) (R.remaining input.old) (W.contents out.old) (W.contents out.new)) }
-    ensures unwritten { IfErr result (λ e. IsBeforeOutput e → out.new ≡ out.old) }
-{
-    if arguments.csv {
-        run_csv(alloc, input, out)
-    } else {
-        run_show(alloc, input, out, arguments.moves)
+impl OneInputCommand for ShowArguments {
+    ghost text = { shown_text };
+
+    #[tactic(auto, unfolding(crate::specs::Show::shown_text))]
+    fn run_over<R: Read, W: Write>(
+        &self,
+        alloc: Global,
+        input: &mut R,
+        out: &mut W,
+    ) -> Result<(), ToolFault> {
+        if self.csv {
+            run_csv(alloc, input, out)
+        } else {
+            run_show(alloc, input, out, self.moves)
+        }
     }
 }
 
-/// Runs `show`, and returns the status.
-pub(crate) fn run<S: FileSystem, R: Read, W: Write, E: Write>(
+/// Runs `show`, and returns the exit status, which is that of `run_one_input`.
+pub fn run<S: FileSystem, R: Read, W: Write, E: Write>(
     system: &S,
     alloc: Global,
     arguments: &ShowArguments,
@@ -157,17 +161,12 @@ pub(crate) fn run<S: FileSystem, R: Read, W: Write, E: Write>(
     errors: &mut E,
 ) -> u8
     ensures ran { ShowRan (S.bytes_of system.now) (input.new ≡ input.old) arguments.now result (R.remaining input.old) (R.remaining input.new) (W.contents out.old) (W.contents out.new) }
+    // The clauses below hold also for readers and writers without ghost contents.
+    ensures usage { result ≢ 1 }
+    ensures few { result ≤ 3 }
     ensures unreadable { result ≡ 3 → out.new ≡ out.old }
     ensures silent { result ≡ 0 → errors.new ≡ errors.old }
 {
-    match &arguments.source {
-        Source::Standard => finish(show_input(alloc, arguments, input, out), &[], errors),
-        Source::Named(name) => match system.open(name.as_str()) {
-            Ok(mut file) => {
-                let done = show_input(alloc, arguments, &mut file, out);
-                finish(done, slice::from_ref(name), errors)
-            }
-            Err(cause) => report_file(ToolFault::Read, name.as_str(), &cause, errors),
-        },
-    }
+    let source = &arguments.source;
+    run_one_input(arguments, system, alloc, source, input, out, errors)
 }

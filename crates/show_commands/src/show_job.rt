@@ -18,8 +18,8 @@ use system_files::FileSystem;
 /// What a command of one solution file is asked to do.
 #[derive(Drop)]
 pub enum ShowJob {
-    /// To list it.
-    List(ShowArguments),
+    /// To list it, or to write its solutions as comma-separated values.
+    Show(ShowArguments),
     /// To write it with its moves in the fewest bytes.
     Pack(PackArguments),
 }
@@ -49,14 +49,15 @@ pub fn show_job_of(
     ensures { IfOk result (Answers (AsksToShowFile (name.now, rows_of (found_of words.now)))) }
 {
     match name {
-        "show" => Ok(Some(ShowJob::List(show::asked(alloc, words)?))),
+        "show" => Ok(Some(ShowJob::Show(show::asked(alloc, words)?))),
         "pack" => Ok(Some(ShowJob::Pack(pack::asked(alloc, words)?))),
         _ => Ok(None),
     }
 }
 
-/// Does what a command is asked for, and returns the exit status: 0 if all was done, 2 if reading, writing or memory failed,
-/// 3 for an input that is not a solution file. A fault goes to `errors`. A file is opened by its name in `system`.
+/// Does what a command is asked for, and returns the exit status: 0 if all was done, 2 if reading, writing or memory
+/// failed, 3 for an input that is not a solution file. A fault goes to `errors`. A file is opened by its name in
+/// `system`.
 pub fn run_show_job<S: FileSystem, R: Read, W: Write, E: Write>(
     system: &S,
     alloc: Global,
@@ -73,7 +74,7 @@ pub fn run_show_job<S: FileSystem, R: Read, W: Write, E: Write>(
     ensures silent { result ≡ 0 → errors.new ≡ errors.old }
 {
     match job {
-        ShowJob::List(arguments) => show::run(system, alloc, arguments, input, out, errors),
+        ShowJob::Show(arguments) => show::run(system, alloc, arguments, input, out, errors),
         ShowJob::Pack(arguments) => pack::run(system, alloc, arguments, input, out, errors),
     }
 }

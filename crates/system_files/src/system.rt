@@ -2,7 +2,7 @@
 
 ghost use Rattle.std.specs.Prelude.{None};
 
-use crate::beside::Beside;
+use crate::draft_file::DraftFile;
 use crate::file_system::FileSystem;
 use crate::system_draft::{Place, SystemDraft};
 use std::fs::{File, Metadata, OpenOptions};
@@ -58,7 +58,7 @@ impl<P: Files<File = File> + Clock + AllocGlobal + Copy> System<P> {
     // before the draft is written.
     fn begin_beside(&self, name: &str, metadata: Metadata) -> io::Result<SystemDraft<P>> {
         let target = fs::canonicalize(&self.0, name)?;
-        let mut beside = Beside::new(target, metadata);
+        let mut beside = DraftFile::new(target, metadata);
         match beside.make(&self.0) {
             Ok(()) => {
                 beside.remove(&self.0);

@@ -1,6 +1,6 @@
 ghost use Rattle.std.specs.Prelude.{◌≤◌, length, IfOk};
 
-use crate::beside::Beside;
+use crate::draft_file::DraftFile;
 use std::fs::File;
 use std::io;
 use std::io::Write;
@@ -15,7 +15,7 @@ pub(crate) enum Place {
     /// Over what the file has, since none can be made beside it.
     Over(File),
     /// Into a file beside it.
-    Beside(Beside),
+    Beside(DraftFile),
 }
 
 /// What is to become the contents of a file of the system. It has no ghost contents.

@@ -1,7 +1,7 @@
 // A wire over sockets of the system with two ports, each of which is visited when it is ready.
-use crate::wires::{ack, listening, loopback};
 use archive_host::UdpWire;
-use archive_turns::{RECEIVE_SIZE, ReadyWire, Wire, WireFault};
+use archive_wire::{RECEIVE_SIZE, ReadyWire, Wire, WireFault};
+use crate::wires::{ack, listening, loopback};
 use std::test::Fail;
 use std::time::Instant;
 use tftp_packet::{Endpoint, Packet, decode};
@@ -248,7 +248,7 @@ fn new_pair_visits_above(rt: HostRuntime) -> Result<u32, Fail> {
     visits_above(&mut pair)
 }
 
-// The upper port is read twice within twenty laps.
+// The upper port is read twice within twenty polls.
 #[test]
 fn a_second_datagram_is_not_kept_back(rt: HostRuntime) -> Result<(), Fail> {
     assert_eq!(rt; new_pair_visits_above(rt)?, 2);

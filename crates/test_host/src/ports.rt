@@ -1,6 +1,6 @@
 // The port that a wire opens next.
 use archive_host::UdpWire;
-use archive_turns::{Wire, WireFault};
+use archive_wire::{Wire, WireFault};
 
 // A port that was open and is closed again, unused.
 pub(crate) fn past_port(wire: &mut UdpWire<HostRuntime>) -> Result<u16, WireFault> {

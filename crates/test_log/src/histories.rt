@@ -3,8 +3,8 @@ ghost use Rattle.std.specs.Prelude.{None, false};
 
 use crate::site::{Input, Morning, log_steps};
 use archive_history::{CallFailed, HistoryFolder, MemoryHistory};
+use archive_keepers::NoKeeper;
 use archive_log::ServerLog;
-use archive_memory::NoKeeper;
 use archive_table::Table;
 use log::Log;
 use log::sink::{Discard, Memory};

@@ -1,6 +1,6 @@
 // Steps of the server's table, and what they do.
 use crate::answers::goes;
-use archive_memory::NoKeeper;
+use archive_keepers::NoKeeper;
 use archive_table::{Step, Table};
 use refusing::Outcome;
 use std::alloc::Allocator;

@@ -3,7 +3,7 @@ use crate::archive::{
     Archive, Input, Left, NOTHING, Row, Then, client, has_texts, is_live, other_of,
 };
 use archive_memory::MemoryKeeper;
-use archive_table::{KeepFault, LoadFault};
+use archive_table::{KeepFault, LoadFault, Step, StepEvent};
 use std::alloc::Global;
 use std::test::Fail;
 use test_samples::{
@@ -305,16 +305,23 @@ fn starting_again(rt: HostRuntime) -> Result<(), Fail> {
 const DATA_TWO_LEVELS: &[u8; 52] =
     b"\0\x03\0\x01\x35\x33\x9B\x99\x02\0\0\0\x10\0\0\0\x01\0BDHP\0\0\0\0\0\0\x64\0\0\0\x10\0\0\0\x02\0JXMJ\0\0\0\0\0\0\x64\0\0\0";
 
-// Whether, after each of these files was put, the table has counted this many solutions that became better.
+// How many solutions a file improved that a step took; `None` if it took none.
+fn better(step: &Step) -> Option<u64> {
+    match step.event() {
+        StepEvent::Taken(merged) => Some(merged.better),
+        _ => None,
+    }
+}
+
+// Whether each of these files improves this many solutions, or is not taken.
 fn counts(
     archive: &mut Archive,
     keeper: &mut MemoryKeeper,
-    rows: &[(u16, &[u8], u64)],
+    rows: &[(u16, &[u8], Option<u64>)],
 ) -> Result<bool, Fail> {
     for (port, data, count) in rows {
         archive.ask(*port, client(2), WRQ)?;
-        archive.handle(keeper, *port, client(2), data);
-        if archive.table().improvements() != *count {
+        if better(&archive.handle(keeper, *port, client(2), data)) != *count {
             return Ok(false);
         }
     }
@@ -322,22 +329,22 @@ fn counts(
 }
 
 // Whether a new table counts so, whose second keep fails.
-fn counts_at_new(alloc: Global, rows: &[(u16, &[u8], u64)]) -> Result<bool, Fail> {
+fn counts_at_new(alloc: Global, rows: &[(u16, &[u8], Option<u64>)]) -> Result<bool, Fail> {
     let mut keeper = MemoryKeeper::new(alloc);
     keeper.fail_at(2);
     counts(&mut Archive::new(alloc), &mut keeper, rows)
 }
 
-// A file that changes nothing is not counted, nor one that is not kept.
+// A file that changes nothing is taken, one that is not kept is not.
 #[test]
 fn what_became_better(rt: HostRuntime) -> Result<(), Fail> {
-    const ROWS: &[(u16, &[u8], u64)] = &[
-        (4000, DATA_HUNDRED, 1),
-        (4001, DATA_HUNDRED, 1),
-        (4002, DATA_NINETY, 1),
-        (4003, DATA_NINETY, 2),
-        (4004, DATA_TWO_LEVELS, 4),
-        (4005, DATA_UNREADABLE, 4),
+    const ROWS: &[(u16, &[u8], Option<u64>)] = &[
+        (4000, DATA_HUNDRED, Some(1)),
+        (4001, DATA_HUNDRED, Some(0)),
+        (4002, DATA_NINETY, None),
+        (4003, DATA_NINETY, Some(1)),
+        (4004, DATA_TWO_LEVELS, Some(2)),
+        (4005, DATA_UNREADABLE, Some(0)),
     ];
     assert!(rt; counts_at_new(rt.alloc(), ROWS)?);
     Ok(())

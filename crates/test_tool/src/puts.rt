@@ -4,7 +4,7 @@ use archive_memory::MemoryWire;
 use std::io;
 use std::test::Fail;
 use test_samples::{ALICE, HUNDRED, SERVER};
-use tftp_cause::Cause;
+use tftp_packet::Cause;
 use tws_file::FileFault;
 use tws_tool::{ToolFault, put_file};
 

@@ -1,7 +1,7 @@
 // Inputs for the tests, and what is said of one that failed.
 use std::io;
 use std::io::Read;
-use tws_tool::{Noted, report_streams};
+use tws_tool::{WithLastError, report_streams};
 
 // Fails at its first read, and returns these bytes after that.
 #[derive(Drop)]
@@ -55,7 +55,7 @@ impl io::Read for Breaks<'_> {
 
 // What is printed of an input that fails at its second read, after so many reads, at this status.
 fn said_after(rt: &HostRuntime, reads: u32, status: u8) -> Vec<u8> {
-    let mut input = Noted::new(Breaks {
+    let mut input = WithLastError::new(Breaks {
         bytes: Some(b"ab"),
         kind: io::ErrorKind::PermissionDenied,
     });
@@ -63,7 +63,7 @@ fn said_after(rt: &HostRuntime, reads: u32, status: u8) -> Vec<u8> {
     for _ in 0..reads {
         let _ = input.read(&mut buffer);
     }
-    let out = Noted::new(io::sink());
+    let out = WithLastError::new(io::sink());
     let mut errors = Vec::new(rt.alloc());
     let _ = report_streams(status, &input, &out, &mut errors);
     errors

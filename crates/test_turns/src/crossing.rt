@@ -2,8 +2,10 @@
 // another when the test says so, also more than once.
 use crate::wires::*;
 use archive_client::State;
-use archive_memory::{Entry, MemoryWire, NoKeeper};
-use archive_turns::{GetRun, PutRun, Server, serve_turns};
+use archive_keepers::NoKeeper;
+use archive_memory::{Entry, MemoryWire};
+use archive_runs::{GetRun, PutRun};
+use archive_server::{Server, serve_turns};
 use std::alloc::Global;
 use std::test::Fail;
 use test_samples::{

@@ -1,8 +1,8 @@
 // Servers with a keeper, over wires in memory: a put that is not kept, one that is, and a start with what was kept.
 use crate::wires::*;
 use archive_memory::{MemoryKeeper, MemoryWire};
+use archive_server::{Server, serve_rounds, serve_turns};
 use archive_table::{KeepFault, LoadFault, NoObserver, Table};
-use archive_turns::{Server, serve_rounds, serve_turns};
 use std::alloc::{AllocError, Global};
 use std::test::Fail;
 use test_samples::{

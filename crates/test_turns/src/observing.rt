@@ -1,8 +1,10 @@
 // What an observer is notified of: each step, its sender, and what it made, after the calls of the wire for it.
 use crate::wires::*;
-use archive_memory::{MemoryWire, NoKeeper};
+use archive_keepers::NoKeeper;
+use archive_memory::MemoryWire;
+use archive_server::{Server, ServerObserver};
 use archive_table::{Observer, Step, Table};
-use archive_turns::{RECEIVE_SIZE, Ready, ReadyWire, Server, ServerObserver, Wire, WireFault};
+use archive_wire::{RECEIVE_SIZE, Ready, ReadyWire, Wire, WireFault};
 use std::alloc::{Allocator, Global};
 use std::cell::Cell;
 use std::test::Fail;
@@ -23,9 +25,9 @@ impl CountedWire<'_> {
 }
 
 impl Wire for CountedWire<'_> {
-    ghost use Rattle.archive_memory.specs.Noted.{log_of};
+    ghost use Rattle.archive_memory.specs.MemoryWires.{calls_of};
 
-    ghost log = { λ w. log_of w.wire };
+    ghost calls = { λ w. calls_of w.wire };
 
     ghost failed = { λ w. w.wire.failures };
 
@@ -139,12 +141,21 @@ impl Observer for Collecting<'_> {
 
 // None of these requests is dropped.
 impl ServerObserver for Collecting<'_> {
+    fn on_started<A: Allocator + Copy>(
+        &mut self,
+        _at: Endpoint,
+        _folder: Option<&str>,
+        _table: &Table<A>,
+    ) {}
+
     fn on_dropped(&mut self, from: Endpoint) {
         let _ = self.seen.push(Seen {
             from: Some(from),
             ..NOTHING
         });
     }
+
+    fn on_stopped(&mut self) {}
 }
 
 // Makes a round for each of these datagrams, which arrive one by one.

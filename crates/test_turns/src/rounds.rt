@@ -1,8 +1,10 @@
 // Rounds of a server over wires in memory whose clock the test sets.
 use crate::wires::*;
-use archive_memory::{MemoryWire, NoKeeper};
+use archive_keepers::NoKeeper;
+use archive_memory::MemoryWire;
+use archive_server::{Server, serve_rounds};
 use archive_table::NoObserver;
-use archive_turns::{RECEIVE_SIZE, Ready, ReadyWire, Server, Wire, serve_rounds};
+use archive_wire::{RECEIVE_SIZE, Ready, ReadyWire, Wire};
 use std::alloc::Global;
 use std::test::Fail;
 use test_samples::{ACK_0, ACK_1, ALICE, BUSY, DATA_HUNDRED, WRQ};

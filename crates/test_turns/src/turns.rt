@@ -1,7 +1,9 @@
 // The server that counts turns, over wires in memory.
 use crate::wires::*;
-use archive_memory::{MemoryWire, NoKeeper};
-use archive_turns::{Server, Wire, serve_turns};
+use archive_keepers::NoKeeper;
+use archive_memory::MemoryWire;
+use archive_server::{Server, serve_turns};
+use archive_wire::Wire;
 use std::alloc::Global;
 use std::test::Fail;
 use test_samples::{ACK_0, ACK_1, ALICE, DATA_HUNDRED, WRQ};

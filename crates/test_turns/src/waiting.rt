@@ -2,7 +2,8 @@
 use crate::wires::*;
 use archive_client::Cause;
 use archive_memory::MemoryWire;
-use archive_turns::{GetRun, ReadyWire, RunFault, get_in_rounds, put_in_rounds};
+use archive_runs::{GetRun, RunFault, get_in_rounds, put_in_rounds};
+use archive_wire::ReadyWire;
 use std::alloc::Global;
 use std::test::Fail;
 use test_samples::{DATA_HUNDRED, HUNDRED, SERVER, at};

@@ -1,7 +1,7 @@
 // Wires in memory for the tests, the datagrams of a put and a get by hand, RFC 1350, and tests of a log's entries.
 use archive_memory::{Entry, Kept, MemoryKeeper, MemoryWire};
+use archive_runs::PutRun;
 use archive_table::Table;
-use archive_turns::PutRun;
 use std::alloc::Global;
 use std::test::Fail;
 use test_samples::{ACK_0, ACK_1, ACK_2, ALICE, DATA_HUNDRED, HUNDRED, SERVER, WRQ, at};

@@ -130,6 +130,13 @@ impl<A: Allocator + Copy> Receiver<A> {
         Ok(Some(encode_ack(n)))
     }
 
+    /// How many blocks it has received.
+    pub fn count(&self) -> u16
+        ensures { result ≡ self.now.count }
+    {
+        self.count
+    }
+
     /// Handles a time-out: while blocks are missing, the last ACK is sent again, ACK 0 before the first block; time-out
     /// number `MISSES` in a row sends nothing and ends the transfer. After the last block nothing is sent, and the
     /// receiver is over at time-out number `DALLY`. After either end nothing changes any more.

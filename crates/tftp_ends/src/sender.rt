@@ -126,4 +126,18 @@ impl<B: Blocks> Sender<B> {
     {
         self.state
     }
+
+    /// The number of the block that it sent last.
+    pub fn current(&self) -> u16
+        ensures { result ≡ self.now.current }
+    {
+        self.current
+    }
+
+    /// The length in bytes of the file that it sends.
+    pub fn file_len(&self) -> u64
+        ensures { result ≡ length self.now.file }
+    {
+        self.blocks.file_len()
+    }
 }

@@ -1,7 +1,7 @@
 //! What holds of every datagram and of every file in blocks, whatever code sends them. These functions do nothing: each
 //! contract is a theorem.
 
-ghost use Rattle.std.specs.Prelude.{◌≡◌, ◌⊎◌, ◌↔◌, ℕ, ◌+◌, ◌^◌, ◌<◌, ◌≤◌, List, ◌++◌, length, Ok, Err};
+ghost use Rattle.std.specs.Prelude.{◌≡◌, ◌⊎◌, ◌↔◌, ℕ, ◌+◌, ◌^◌, ◌<◌, ◌≤◌, List, ◌∷◌, ◌++◌, length, Ok, Err};
 ghost use Rattle.std.specs.List.{concat};
 ghost use Rattle.tftp_packet.specs.declared.packet_fault.PacketFault as fault;
 ghost use Rattle.byte_output.specs.Bytes.{IsBytes};
@@ -11,8 +11,14 @@ ghost use Rattle.tftp_packet.specs.Packet.{Packet, data_block, IsPacket, HasPack
 ghost use Rattle.tftp_packet.specs.Fault.{HasPacketFault, IsFirstFault};
 ghost use Rattle.tftp_packet.specs.Decode.{decode_bytes};
 ghost use Rattle.tftp_packet.specs.Blocks.{block_count, block_of, first_blocks, blocks_to, blocks_of};
+ghost use Rattle.tftp_packet.specs.declared.refusal.TheConstants.Refusal.{ALL};
 
 use crate::sizes::{BLOCK_SIZE, MAX_DATAGRAM};
+
+/// Each refusal is among all of them.
+pub fn all_refusals()
+    ensures { (r : Refused) → (before after : List Refused) × (ALL ≡ before ++ r ∷ after) }
+{}
 
 /// Bytes are at most one packet.
 pub fn one_packet()

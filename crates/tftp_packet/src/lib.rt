@@ -6,10 +6,11 @@
 //! blocks of a file. `laws` has what holds of every datagram and every file.
 //!
 //! `decoding` goes from bytes to packets, `encoding` from packets to the bytes of a `dgram`; `refusal` has the errors
-//! that are sent. `blocks` is a file in blocks, `owned` one in a vector.
+//! that are sent, and `cause` why a transfer failed. `blocks` is a file in blocks, `owned` one in a vector.
 #![tactic(auto)]
 
 mod blocks;
+mod cause;
 mod decoding;
 mod dgram;
 mod encoding;
@@ -25,6 +26,7 @@ mod refusal;
 mod sizes;
 
 pub use blocks::Blocks;
+pub use cause::Cause;
 pub use decoding::decode;
 pub use dgram::Dgram;
 pub use encoding::{
@@ -32,9 +34,9 @@ pub use encoding::{
 };
 pub use endpoint::Endpoint;
 pub use laws::{
-    block_sizes, data_size, file_end, first_fault, function_and_relations, joined_blocks,
-    next_block, one_fault, one_packet, packet_or_fault, packet_without_fault, sent_packet,
-    sent_refusal, size_values,
+    all_refusals, block_sizes, data_size, file_end, first_fault, function_and_relations,
+    joined_blocks, next_block, one_fault, one_packet, packet_or_fault, packet_without_fault,
+    sent_packet, sent_refusal, size_values,
 };
 pub use mode::is_octet;
 pub use out::Out;

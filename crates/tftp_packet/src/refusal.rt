@@ -1,3 +1,5 @@
+//! The ERRORs that are sent.
+
 ghost use Rattle.std.specs.Prelude.{◌≡◌};
 ghost use Rattle.tftp_packet.specs.Packet.{IsPacket, encode};
 ghost use Rattle.tftp_packet.specs.Refusal.{refusal_code, refusal_text, refusal_packet};
@@ -28,6 +30,18 @@ pub enum Refusal {
 }
 
 impl Refusal {
+    /// All of them, in the order of their declaration.
+    pub const ALL: [Refusal; 8] = [
+        Refusal::OctetOnly,
+        Refusal::NoSuchFile,
+        Refusal::ServerBusy,
+        Refusal::CollectionTooLong,
+        Refusal::OutOfMemory,
+        Refusal::FileTooLong,
+        Refusal::UnknownTransfer,
+        Refusal::NotKept,
+    ];
+
     /// The error code of RFC 1350 section 5: 0 not defined, 1 file not found, 3 disk full or allocation exceeded, 5
     /// unknown transfer ID.
     pub fn code(self) -> u16

@@ -4,11 +4,11 @@
 use std::io::IsTerminal;
 use std::process::ExitCode;
 use std::{env, io};
-use tws_tool::{Noted, report_arguments, report_streams, run_words};
+use tws_tool::{WithLastError, report_arguments, report_streams, run_words};
 
 fn run(rt: &HostRuntime) -> io::Result<u8> {
     let words: Vec<String> = env::args(rt)?.collect(rt.alloc())?;
-    let (mut input, mut out) = (Noted::new(rt.stdin()), Noted::new(rt.stdout()));
+    let (mut input, mut out) = (WithLastError::new(rt.stdin()), WithLastError::new(rt.stdout()));
     let mut errors = rt.stderr();
     let terminal = if errors.is_terminal() {
         Some(rt.stderr())

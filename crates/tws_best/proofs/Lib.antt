@@ -6,7 +6,7 @@ pub mod Texts
 pub mod Sets
 pub mod Choices
 pub mod Found
-pub mod Changes
+pub mod ChangeLists
 pub mod Taking
 pub mod Merges
 pub mod Solved

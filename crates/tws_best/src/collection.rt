@@ -10,7 +10,7 @@ ghost use Rattle.tws_best.specs.Steps.{LeadsBack};
 ghost use Rattle.tws_best.specs.Frozen.{frozen, frozen_text};
 
 use crate::bodies::Bodies;
-use crate::merging::{Changes, add, undo};
+use crate::changes::{Changes, add, undo};
 use crate::snapshot::Snapshot;
 use crate::text::write_parts;
 use byte_output::OutFault;

@@ -4,7 +4,7 @@
 //! Read `specs/Best.antt` first: it defines what is best of a set, by the rank of a solution, and a collection's text.
 //! `specs/Rank.antt` defines the rank, `specs/Frozen.antt` a snapshot.
 //!
-//! `merge` merges records part after part, and `merging` takes those that are better or undoes all; `text` writes a
+//! `merge` merges records part after part, and `changes` takes those that are better or undoes all; `text` writes a
 //! collection; `bodies` are those of a collection, with the length of their records; `body` is what collections and
 //! snapshots share; `block` is a block of a snapshot's text.
 #![tactic(auto)]
@@ -12,10 +12,10 @@
 mod block;
 mod bodies;
 mod body;
+mod changes;
 mod collection;
 mod laws;
 mod merge;
-mod merging;
 mod rank;
 mod snapshot;
 mod text;

@@ -4,8 +4,8 @@ ghost use Rattle.tws_file.specs.Text.{IsRecord};
 ghost use Rattle.tws_file.specs.Record.{records_of};
 ghost use Rattle.tws_best.specs.Best.{IsBestOf, IsCollected, solved_in};
 
+use crate::changes::Changes;
 use crate::collection::Collection;
-use crate::merging::Changes;
 use std::alloc::{AllocError, Allocator, Global};
 use std::marker::Model;
 use tws_file::Record;

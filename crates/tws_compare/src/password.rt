@@ -1,4 +1,4 @@
-//! Passwords as listings show them.
+//! Passwords that are given as listings show them.
 
 ghost use Rattle.std.specs.Prelude.{◌≡◌, ℕ, true, false, List, length, IfSome, IfNone};
 ghost use Rattle.std.specs.List.{list_all};
@@ -8,12 +8,7 @@ ghost use Rattle.hex.specs.Hex.{encode_lower};
 ghost use Rattle.tws_compare.specs.Password.{IsShown};
 
 use hex::{FromHex, encode_to_slice};
-
-fn is_letters(bytes: &[u8]) -> bool
-    ensures { result ≡ list_all is_ascii_alphabetic bytes.now }
-{
-    bytes.iter().all(|b| b.is_ascii_alphabetic())
-}
+use tws_file::Password;
 
 // The password that these four letters are.
 fn letters_in(bytes: &[u8]) -> Option<[u8; 4]>
@@ -24,7 +19,7 @@ fn letters_in(bytes: &[u8]) -> Option<[u8; 4]>
     ensures none { IfNone result (length bytes.now ≡ 4 → list_all is_ascii_alphabetic bytes.now ≡ false) }
 {
     let password = bytes.as_array::<4>()?;
-    if is_letters(password) {
+    if Password(*password).is_letters() {
         Some(*password)
     } else {
         None
@@ -66,7 +61,7 @@ fn others_in(digits: &[u8]) -> Option<[u8; 4]>
     ensures none { IfNone result ((password : List ℕ) → IsBytes password → length password ≡ 4 → list_all is_ascii_alphabetic password ≡ false → digits.now ≡ encode_lower password → ⊥) }
 {
     let password = digits_in(digits)?;
-    if is_letters(&password) {
+    if Password(password).is_letters() {
         None
     } else {
         Some(password)

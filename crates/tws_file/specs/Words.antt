@@ -1,8 +1,10 @@
--- Rulesets, bytes, passwords and levels in words, and a line of text.
+-- Rulesets, bytes, passwords, levels and the faults of files in words, and a line of text.
 use Rattle.std.specs.Prelude.{ℕ, ◌/◌, ◌%◌, false, List, [], ◌∷◌, ◌++◌, codes, decimal, if◌then◌else◌}
 use Rattle.std.specs.List.{flat_map, list_all}
 use Rattle.std.specs.Char.{is_ascii_alphabetic}
 use Rattle.std.specs.Fmt.{digit_glyph}
+use Rattle.tws_file.specs.declared.file_fault.FileFault.{FileFault}
+use Rattle.tws_file.specs.declared.file_fault.FileFault.TheVariants as fault
 use Rattle.tws_file.specs.declared.key.Key.{Key}
 use Rattle.tws_file.specs.declared.«ruleset».Ruleset.{Ruleset}
 use Rattle.tws_file.specs.declared.«ruleset».Ruleset.TheVariants.{Lynx, Ms}
@@ -30,3 +32,13 @@ key_text key = decimal key.number ++ codes " " ++ password_text key.password
 -- a text, and a line feed after it
 abbrev pub line : List ℕ → List ℕ
 line text = text ++ 10 ∷ []
+
+-- why a file is unreadable
+abbrev pub fault_words : FileFault → List ℕ
+fault_words (fault.ShortHeader len) = codes "the file ends inside its header, after " ++ (decimal len ++ codes " bytes")
+fault_words fault.BadSignature = codes "the file does not begin with the bytes 35 33 9B 99"
+fault_words (fault.BadRuleset byte) = codes "byte 4 is " ++ (decimal byte ++ codes ", which is not the code of a ruleset")
+fault_words (fault.ShortRecord at) = codes "the file ends inside the record at byte " ++ decimal at
+fault_words (fault.BadSize at) = codes "no record has the size at byte " ++ decimal at
+fault_words (fault.MoveCut at) = codes "the moves end inside the move at byte " ++ decimal at
+fault_words fault.Memory = codes "out of memory"

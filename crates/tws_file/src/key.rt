@@ -1,8 +1,6 @@
-ghost use Rattle.std.specs.Prelude.{◌≡◌, ◌↔◌, true, false, IsTrue, MatchOption};
-ghost use Rattle.std.specs.List.{list_all};
-ghost use Rattle.std.specs.Char.{is_ascii_alphabetic};
+ghost use Rattle.std.specs.Prelude.{◌≡◌, ◌↔◌, IsTrue};
 
-use crate::hex::Hex;
+use crate::password::Password;
 use std::fmt;
 
 /// Identifies a level: its number, and its password of four bytes. Keys are ordered by number, then by password.
@@ -31,26 +29,7 @@ impl Key {
     }
 }
 
-fn is_letters(bytes: &[u8]) -> bool
-    ensures { result ≡ list_all is_ascii_alphabetic bytes.now }
-{
-    bytes.iter().all(|b| b.is_ascii_alphabetic())
-}
-
-// The bytes as text, if all of them are letters.
-fn letters(bytes: &[u8]) -> Option<&str>
-    ensures { MatchOption result
-        (list_all is_ascii_alphabetic bytes.now ≡ false)
-        (λ text. (list_all is_ascii_alphabetic bytes.now ≡ true) × (text.now ≡ bytes.now)) }
-{
-    if is_letters(bytes) {
-        str::from_utf8(bytes).ok()
-    } else {
-        None
-    }
-}
-
-/// The number and the password: four letters as they are, or else an `x` and the bytes as hexadecimal digits.
+/// The number and the password, as `Password` shows it.
 impl fmt::Display for Key {
     ghost use Rattle.std.specs.Prelude.{Some};
     ghost use Rattle.tws_file.specs.Words.{key_text};
@@ -58,9 +37,6 @@ impl fmt::Display for Key {
     ghost output = { λ k. Some (key_text k) };
 
     fn fmt<W: fmt::Write>(&self, f: &mut fmt::Formatter<W>) -> fmt::Result {
-        match letters(&self.password) {
-            Some(text) => write!(f, "{} {text}", self.number),
-            None => write!(f, "{} x{}", self.number, Hex(&self.password)),
-        }
+        write!(f, "{} {}", self.number, Password(self.password))
     }
 }

@@ -1,7 +1,10 @@
+//! The ruleset of a file.
+
 ghost use Rattle.std.specs.Prelude.{◌≡◌, ◌≢◌, ◌≤◌, ℕ, List, Some, take, IfSome, IfNone};
-ghost use Rattle.tws_file.specs.Fields.{ruleset_code};
+ghost use Rattle.tws_file.specs.Fields.{ruleset_code, ruleset_in, ruleset_with};
 ghost use Rattle.tws_file.specs.Names.{file_name_of, ruleset_named};
 ghost use Rattle.tws_file.specs.Text.{File, IsText};
+ghost use Rattle.tws_file.specs.Words.{ruleset_name};
 
 use std::fmt;
 
@@ -15,6 +18,33 @@ pub enum Ruleset {
 }
 
 impl Ruleset {
+    /// The names of the rulesets.
+    pub const NAMES: [&'static str; 2] = ["lynx", "ms"];
+
+    /// The name of this ruleset.
+    pub fn name(self) -> &'static str
+        ensures { result.now ≡ ruleset_name self }
+    {
+        match self {
+            Ruleset::Lynx => "lynx",
+            Ruleset::Ms => "ms",
+        }
+    }
+
+    /// The ruleset of this name, if there is one.
+    pub fn from_name(name: &str) -> Option<Self>
+        ensures known { IfSome result (λ «ruleset». name.now ≡ ruleset_name «ruleset») }
+        ensures unknown { IfNone result ((«ruleset» : Ruleset) → name.now ≢ ruleset_name «ruleset») }
+    {
+        if name == Ruleset::Lynx.name() {
+            return Some(Ruleset::Lynx);
+        }
+        if name == Ruleset::Ms.name() {
+            return Some(Ruleset::Ms);
+        }
+        None
+    }
+
     /// The code of this ruleset in byte 4 of a file: 1 for Lynx, 2 for MS.
     pub fn code(self) -> u8
         ensures { result ≡ ruleset_code self }
@@ -27,6 +57,7 @@ impl Ruleset {
 
     /// The ruleset with this code, if there is one.
     pub fn from_code(code: u8) -> Option<Self>
+        ensures is { result ≡ ruleset_with code }
         ensures known { IfSome result (λ «ruleset». ruleset_code «ruleset» ≡ code) }
         ensures unknown { IfNone result ((code ≢ 1) × (code ≢ 2)) }
     {
@@ -40,12 +71,13 @@ impl Ruleset {
     /// The ruleset in byte 4 of the solution file that begins with these bytes; `None` if there are fewer than five, or
     /// byte 4 is not the code of a ruleset. Nothing else is checked.
     pub fn of_file(start: &[u8]) -> Option<Self>
-        ensures { (file : File) (bytes : List ℕ) (n : ℕ) → IsText bytes file → 5 ≤ n → start.now ≡ take n bytes → result ≡ Some file.«ruleset» }
+        ensures code { result ≡ ruleset_in start.now }
+        ensures text { (file : File) (bytes : List ℕ) (n : ℕ) → IsText bytes file → 5 ≤ n → start.now ≡ take n bytes → result ≡ Some file.«ruleset» }
     {
-        if start.len() < 5 {
-            return None;
+        match start.get(4) {
+            Some(code) => Ruleset::from_code(*code),
+            None => None,
         }
-        Ruleset::from_code(start[4])
     }
 
     /// The name under which the collection of this ruleset is fetched and kept, in ASCII.
@@ -82,9 +114,6 @@ impl fmt::Display for Ruleset {
     ghost output = { λ «ruleset». Some (ruleset_name «ruleset») };
 
     fn fmt<W: fmt::Write>(&self, f: &mut fmt::Formatter<W>) -> fmt::Result {
-        f.write_str(match self {
-            Ruleset::Lynx => "lynx",
-            Ruleset::Ms => "ms",
-        })
+        f.write_str(self.name())
     }
 }

@@ -2,15 +2,15 @@
 //! until the whole program is there.
 #![tactic(auto)]
 
-use command_faults::{report_arguments, report_streams};
+use command_line::{report_arguments, report_streams};
 use show_commands::run_show_words;
 use std::process::ExitCode;
 use std::{env, io};
-use system_files::{Noted, System};
+use system_files::{WithLastError, System};
 
 fn run(rt: &HostRuntime) -> io::Result<u8> {
     let words: Vec<String> = env::args(rt)?.collect(rt.alloc())?;
-    let (mut input, mut out) = (Noted::new(rt.stdin()), Noted::new(rt.stdout()));
+    let (mut input, mut out) = (WithLastError::new(rt.stdin()), WithLastError::new(rt.stdout()));
     let mut errors = rt.stderr();
     let status = run_show_words(
         &System(*rt),

@@ -6,10 +6,9 @@ ghost use Rattle.tws_tables.specs.Steps.{csv_level, csv_lengths, csv_details};
 
 use crate::hex_byte::HexByte;
 use crate::move_count::move_count;
-use crate::password::Password;
 use crate::seconds::Seconds;
 use std::alloc::{AllocError, Allocator};
-use tws_file::{Key, Ruleset, Solution};
+use tws_file::{Key, Password, Ruleset, Solution};
 
 /// Appends the line with the names of the columns.
 pub(crate) fn push_names<A: Allocator>(text: &mut String<A>) -> Result<(), AllocError>

@@ -3,11 +3,11 @@ use Rattle.std.specs.Prelude.{◌≡◌, List, [], ◌∷◌, Result}
 use Rattle.clap.specs.Words.{Text, fault_of}
 use Rattle.clap.specs.declared.error.kind.ErrorKind.{ErrorKind}
 use Rattle.clap.specs.declared.parser.matches.ArgMatches.{ArgMatches}
-use Rattle.tws_tool.specs.declared.commands.Job.{Job}
+use Rattle.tws_tool.specs.declared.job.Job.{Job}
 use Rattle.command_line.specs.declared.job_fault.JobFault.{JobFault}
 use Rattle.command_line.specs.Arguments.{AreRulesetNames, RulesetNames}
 use Rattle.command_line.specs.CommandLine.{AnswersIn, AsksIn, FindsCommand}
-use Rattle.tws_tool.specs.Commands.{AsksFor, tws_app}
+use Rattle.tws_tool.specs.Jobs.{AsksFor, tws_app}
 
 -- what was found in the arguments, which have no fault
 abbrev pub FindsWords : List Text → ArgMatches → Type 0

@@ -1,7 +1,2 @@
-pub mod Address
-pub mod Arguments
-pub mod Faults
-pub mod Known
-pub mod Lines
-pub mod Commands
+pub mod Jobs
 pub mod CommandLine

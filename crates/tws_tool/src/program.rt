@@ -1,20 +1,16 @@
 //! The whole program, except where its arguments and streams come from.
 
 ghost use Rattle.std.specs.Prelude.{◌≡◌, ◌⊎◌, ◌≤◌, None, Result, map, string_bytes};
-ghost use Rattle.tws_tool.specs.declared.commands.Job.{Job};
+ghost use Rattle.tws_tool.specs.declared.job.Job.{Job};
 ghost use Rattle.command_line.specs.declared.job_fault.JobFault.{JobFault};
-ghost use Rattle.tws_tool.specs.Commands.{JobRuns};
+ghost use Rattle.tws_tool.specs.Jobs.{JobRuns};
 ghost use Rattle.tws_tool.specs.CommandLine.{AnswersWords};
 
-use crate::commands::{Job, run_job};
-use crate::job::job_of;
-use crate::overhearing::Overhearing;
-use crate::resolver::Resolver;
-use crate::transfer_wire::TransferWire;
-use archive_host::UdpWire;
-use archive_progress::ProgressWire;
-use command_faults::report_job_fault;
-use command_line::JobFault;
+use crate::client_network::ClientNetwork;
+use crate::job::{Job, run_job};
+use crate::words::job_of;
+use archive_commands::{Network, Resolver};
+use command_line::{JobFault, report_job_fault};
 use std::alloc::Global;
 use std::fs::File;
 use std::io::{Read, Write};
@@ -27,14 +23,14 @@ use system_files::{FileSystem, System};
 // Does a job, or reports why there is none, and returns the status.
 fn run_answer<
     S: FileSystem + Resolver,
-    N: TransferWire,
+    N: Network,
     P: Files<File = File> + Net + Clock + RandomSource + Eprint + AllocGlobal + Copy,
     R: Read,
     W: Write,
     E: Write,
 >(
     system: &mut S,
-    wire: &mut N,
+    network: &mut N,
     rt: &P,
     alloc: Global,
     job: &Result<Job, JobFault>,
@@ -42,35 +38,35 @@ fn run_answer<
     out: &mut W,
     errors: &mut E,
 ) -> u8
-    ensures ran { JobRuns (record { bytes_of = S.bytes_of system.old; drafted_of = S.drafted_of system.old; host_of = S.host_of system.old }) (S.bytes_of system.new) (input.new ≡ input.old) job.now result (N.log wire.old) (N.log wire.new) (R.remaining input.old) (R.remaining input.new) (W.contents out.old) (W.contents out.new) }
+    ensures ran { JobRuns (record { bytes_of = S.bytes_of system.old; drafted_of = S.drafted_of system.old; host_of = S.host_of system.old }) (S.bytes_of system.new) (input.new ≡ input.old) (N.first_calls network.old) job.now result (R.remaining input.old) (R.remaining input.new) (W.contents out.old) (W.contents out.new) }
     ensures usage { result ≡ 1 → (input.new ≡ input.old) × (out.new ≡ out.old) }
     ensures status { result ≤ 4 }
     ensures unreadable { result ≡ 3 → out.new ≡ out.old }
     ensures silent { result ≡ 0 → errors.new ≡ errors.old }
 {
     match job {
-        Ok(job) => run_job(system, wire, *rt, alloc, job, input, out, errors),
+        Ok(job) => run_job(system, network, *rt, alloc, job, input, out, errors),
         Err(fault) => report_job_fault(alloc, fault, out, errors),
     }
 }
 
 /// Does what the arguments ask for, and returns the exit status. The first argument is the program's name. The files of
-/// `system` are read and replaced, and `put` and `get` go over `wire` to the hosts that `system` finds; the folder and the
-/// sockets of `serve` are the runtime's.
+/// `system` are read and replaced, and `put` and `get` go over a wire of `network` to the hosts that `system` finds; the
+/// folder and the sockets of `serve` are the runtime's.
 ///
 /// A fault goes to `errors`, on one line or two. The status is 0 if all was done, and for help, whose text goes to `out`; 1 for
 /// a usage error or a bad address; 2 if reading, writing, a socket or memory failed; 3 for an unreadable solution file;
 /// 4 for a failed transfer.
 pub fn run_words_with<
     S: FileSystem + Resolver,
-    N: TransferWire,
+    N: Network,
     P: Files<File = File> + Net + Clock + RandomSource + Eprint + AllocGlobal + Copy,
     R: Read,
     W: Write,
     E: Write,
 >(
     system: &mut S,
-    wire: &mut N,
+    network: &mut N,
     rt: &P,
     alloc: Global,
     words: &[String],
@@ -79,7 +75,7 @@ pub fn run_words_with<
     errors: &mut E,
 ) -> u8
     // The job is the one that the arguments ask for, with the files that they name.
-    ensures ran { (job : Result Job JobFault) × AnswersWords (map string_bytes words.now) job × JobRuns (record { bytes_of = S.bytes_of system.old; drafted_of = S.drafted_of system.old; host_of = S.host_of system.old }) (S.bytes_of system.new) (input.new ≡ input.old) job result (N.log wire.old) (N.log wire.new) (R.remaining input.old) (R.remaining input.new) (W.contents out.old) (W.contents out.new) }
+    ensures ran { (job : Result Job JobFault) × AnswersWords (map string_bytes words.now) job × JobRuns (record { bytes_of = S.bytes_of system.old; drafted_of = S.drafted_of system.old; host_of = S.host_of system.old }) (S.bytes_of system.new) (input.new ≡ input.old) (N.first_calls network.old) job result (R.remaining input.old) (R.remaining input.new) (W.contents out.old) (W.contents out.new) }
     // A usage error leaves input and output untouched, and an unreadable file the output.
     ensures usage { result ≡ 1 → (input.new ≡ input.old) × (out.new ≡ out.old) }
     ensures status { result ≤ 4 }
@@ -88,7 +84,7 @@ pub fn run_words_with<
 {
     run_answer(
         system,
-        wire,
+        network,
         rt,
         alloc,
         &job_of(alloc, words),
@@ -115,17 +111,16 @@ pub fn run_words<
     out: &mut W,
     errors: &mut E,
 ) -> u8
-    ensures ran { (job : Result Job JobFault) × AnswersWords (map string_bytes words.now) job × JobRuns (record { bytes_of = λ name. None; drafted_of = λ name. None; host_of = λ name. None }) (λ name. None) (input.new ≡ input.old) job result None None (R.remaining input.old) (R.remaining input.new) (W.contents out.old) (W.contents out.new) }
+    ensures ran { (job : Result Job JobFault) × AnswersWords (map string_bytes words.now) job × JobRuns (record { bytes_of = λ name. None; drafted_of = λ name. None; host_of = λ name. None }) (λ name. None) (input.new ≡ input.old) None job result (R.remaining input.old) (R.remaining input.new) (W.contents out.old) (W.contents out.new) }
     ensures usage { result ≡ 1 → (input.new ≡ input.old) × (out.new ≡ out.old) }
     ensures status { result ≤ 4 }
     ensures unreadable { result ≡ 3 → out.new ≡ out.old }
     ensures silent { result ≡ 0 → errors.new ≡ errors.old }
 {
-    let wire = Overhearing::new(UdpWire::new(*rt));
-    let mut wire = ProgressWire::new(alloc, wire, terminal);
+    let network = &mut ClientNetwork::new(*rt, terminal);
     run_words_with(
         &mut System(*rt),
-        &mut wire,
+        network,
         rt,
         alloc,
         words,

@@ -2,16 +2,16 @@
 
 ghost use Rattle.std.specs.Prelude.{◌≡◌, IfSome};
 
-use crate::served_keeper::ServedKeeper;
 use archive_host::{DirKeeper, HostFolder, OpenFault};
-use command_faults::{FAILED, InWords, report_cause};
+use archive_keepers::ServedKeeper;
+use command_line::{FAILED, report_cause};
 use std::alloc::Global;
 use std::fs::File;
 use std::io;
 use std::io::Write;
 use std::path::Path;
 use std::rt::Files;
-use tws_file::Ruleset;
+use tws_file::{InWords, Ruleset};
 use tws_reader::read_file;
 
 // Reports that a folder's collections could not be loaded.

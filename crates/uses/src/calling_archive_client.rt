@@ -1,3 +1,5 @@
+//! A caller of `archive_client`.
+
 use archive_client::Get;
 use std::alloc::{AllocError, Global};
 use tftp_ends::Received;

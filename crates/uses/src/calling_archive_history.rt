@@ -1,3 +1,5 @@
+//! A caller of `archive_history`.
+
 use archive_history::{HistoryFault, HistoryFolder, Stamp, record, stem_of};
 use std::alloc::Global;
 use tftp_ends::Received;

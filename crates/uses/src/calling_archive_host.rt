@@ -1,6 +1,9 @@
+//! A caller of `archive_host`.
+
 use archive_host::UdpWire;
-use archive_memory::NoKeeper;
-use archive_turns::{Server, WireFault, serve_turns};
+use archive_keepers::NoKeeper;
+use archive_server::{Server, serve_turns};
+use archive_wire::WireFault;
 use std::alloc::Global;
 use std::net::Net;
 use std::random::RandomSource;

@@ -1,3 +1,5 @@
+//! A caller of `archive_log`.
+
 use archive_history::HistoryFolder;
 use archive_log::ServerLog;
 use archive_table::{Keeper, Observer, Table};

@@ -1,8 +1,11 @@
-ghost use Rattle.std.specs.Prelude.{◌≤◌, length};
-ghost use Rattle.archive_turns.specs.declared.wire.TheConstants.{RECEIVE_SIZE};
+//! A caller of `archive_memory`.
 
-use archive_memory::{MemoryWire, NoKeeper};
-use archive_turns::{Server, serve_turns};
+ghost use Rattle.std.specs.Prelude.{◌≤◌, length};
+ghost use Rattle.archive_wire.specs.declared.wire.TheConstants.{RECEIVE_SIZE};
+
+use archive_keepers::NoKeeper;
+use archive_memory::MemoryWire;
+use archive_server::{Server, serve_turns};
 use std::alloc::{AllocError, Global};
 use tftp_packet::Endpoint;
 

@@ -1,5 +1,8 @@
+//! A caller of `archive_progress`.
+
 use archive_progress::ProgressWire;
-use archive_turns::{ReadyWire, RunFault, put_in_rounds};
+use archive_runs::{RunFault, put_in_rounds};
+use archive_wire::ReadyWire;
 use std::alloc::Global;
 use std::io::Write;
 use tftp_packet::Endpoint;

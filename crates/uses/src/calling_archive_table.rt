@@ -1,3 +1,5 @@
+//! A caller of `archive_table`.
+
 use archive_table::{Step, Table};
 use tftp_packet::{Endpoint, Out};
 

@@ -1,3 +1,5 @@
+//! A caller of `archive_world`.
+
 use archive_memory::MemoryKeeper;
 use archive_world::{Event, WorldFault, replay};
 use std::alloc::Global;

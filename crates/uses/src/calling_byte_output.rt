@@ -1,3 +1,5 @@
+//! A caller of `byte_output`.
+
 use byte_output::{Buffer, LARGE, OutFault, put};
 use std::io::Write;
 

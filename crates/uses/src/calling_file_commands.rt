@@ -1,8 +1,10 @@
+//! A caller of `file_commands`.
+
 ghost use Rattle.std.specs.Prelude.{[], IfOk, Some};
 ghost use Rattle.tws_compare.specs.Without.{text_without};
 ghost use Rattle.show_commands.specs.Written.{Writes};
 
-use command_faults::ToolFault;
+use command_line::ToolFault;
 use file_commands::run_without;
 use std::alloc::Global;
 use tws_file::Key;

@@ -1,8 +1,10 @@
+//! A caller of `refusing`.
+
 use refusing::{Complaint, Outcome, Refusing, refuse_each};
 use std::alloc::Global;
 
-/// Copies five bytes with each request for memory refused in turn, of which there is at least one. The copy that was
-/// refused nothing must be whole.
+/// Copies five bytes again and again: each time the next request for memory is refused, until none is left to refuse. At
+/// least one request is made, and the copy in which none was refused is whole.
 pub fn copy_refused(global: Global) -> Result<(), Complaint> {
     refuse_each(
         global,

@@ -1,8 +1,10 @@
+//! A caller of `show_commands`.
+
 ghost use Rattle.std.specs.Prelude.{[], true, IfOk, Some};
 ghost use Rattle.tws_tables.specs.Listing.{listing_of};
 ghost use Rattle.show_commands.specs.Written.{Writes};
 
-use command_faults::ToolFault;
+use command_line::ToolFault;
 use show_commands::run_show;
 use std::alloc::Global;
 

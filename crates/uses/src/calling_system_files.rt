@@ -1,3 +1,5 @@
+//! A caller of `system_files`.
+
 ghost use Rattle.std.specs.Prelude.{◌≡◌, IfOk};
 
 use std::io;

@@ -1,3 +1,5 @@
+//! A caller of `tftp_ends`.
+
 use tftp_ends::{Received, Receiver, RecvFault};
 use tftp_packet::{Dgram, Packet, decode};
 

@@ -1,3 +1,5 @@
+//! A caller of `tftp_packet`.
+
 use tftp_packet::{Dgram, Packet, decode, encode_ack};
 
 /// The ACK for a DATA; `None` for any other datagram.

@@ -1,3 +1,5 @@
+//! A caller of `tws_best`.
+
 use std::alloc::{AllocError, Global};
 use tws_best::{Collection, Snapshot};
 use tws_file::{Ruleset, TwsFile};

@@ -1,3 +1,5 @@
+//! A caller of `tws_compare`.
+
 use std::alloc::Global;
 use tws_compare::{CompareFault, compare, comparison_text};
 use tws_file::TwsFile;

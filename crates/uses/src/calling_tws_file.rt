@@ -1,3 +1,5 @@
+//! A caller of `tws_file`.
+
 ghost use Rattle.std.specs.Prelude.{◌≡◌, IfOk};
 ghost use Rattle.tws_file.specs.Packing.{packed_text};
 

@@ -1,3 +1,5 @@
+//! A caller of `tws_moves`.
+
 ghost use Rattle.std.specs.Prelude.{◌≡◌, ◌<◌, ◌^◌, length, IfOk, IsTrue};
 ghost use Rattle.tws_moves.specs.Shortest.{packed_bytes};
 

@@ -1,3 +1,5 @@
+//! A caller of `tws_reader`.
+
 ghost use Rattle.std.specs.Prelude.{OnOk};
 ghost use Rattle.tws_file.specs.Text.{IsReadable};
 

@@ -1,3 +1,5 @@
+//! A caller of `tws_tables`.
+
 ghost use Rattle.std.specs.Prelude.{◌≡◌, IfOk};
 ghost use Rattle.tws_tables.specs.Csv.{csv_of};
 

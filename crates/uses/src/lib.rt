@@ -3,24 +3,24 @@
 #![tactic(auto)]
 
 pub mod calling_archive_client;
-pub mod calling_archive_folder;
+pub mod calling_archive_commands;
 pub mod calling_archive_history;
 pub mod calling_archive_host;
-pub mod calling_archive_limit;
+pub mod calling_archive_keepers;
 pub mod calling_archive_log;
 pub mod calling_archive_memory;
 pub mod calling_archive_progress;
+pub mod calling_archive_runs;
+pub mod calling_archive_server;
 pub mod calling_archive_table;
-pub mod calling_archive_turns;
+pub mod calling_archive_wire;
 pub mod calling_archive_world;
 pub mod calling_byte_output;
-pub mod calling_command_faults;
 pub mod calling_command_line;
 pub mod calling_file_commands;
 pub mod calling_refusing;
 pub mod calling_show_commands;
 pub mod calling_system_files;
-pub mod calling_tftp_cause;
 pub mod calling_tftp_ends;
 pub mod calling_tftp_packet;
 pub mod calling_tws_best;

@@ -1,4 +1,4 @@
-use Rattle.archive_turns.proofs.Rows.{written_more}
+use Rattle.byte_output.proofs.Rows.{written_more}
 use Rattle.archive_host.proofs.open_ports.mark_read_in.Goals as goal
 
 pub loop-open-preserved : goal.loop-open-preserved

@@ -1,6 +1,6 @@
 use Rattle.std.proofs.Common.{ℕ, List, Option, Some, ap, ◌∙◌, subst, sym}
 use Rattle.archive_table.specs.Table.{Taken}
-use Rattle.archive_log.specs.ServerLog.{KeepsTaken, files_of}
+use Rattle.archive_log.specs.ServerLog.{KeepsFile, files_of}
 use Rattle.archive_log.proofs.Recording.{keeps_by}
 use Rattle.archive_log.proofs.server_log.add_to_history.Goals as goal
 
@@ -8,10 +8,10 @@ pub returns : goal.returns
 returns g c = λ modelled.
     let Files : Type 0 = List ℕ → Option (List ℕ) in
     let file_at = g.H.HistoryFolder.file_at in
-    let old : Files = file_at c.in-Some-history.history in
+    let old : Files = file_at c.in-Some.history in
     let new : Files = file_at c.record.new.folder in
     let taken = c.args.taken.now in
-    subst (λ (h : Option _). KeepsTaken (Some taken) (files_of file_at h) new) (sym c.in-Some-history.is)
-    (keeps_by c.record.result taken c.args.upload.now c.args.time.now c.in-Some.«ruleset» c.as_str.result.now c.taken.inside.file old new
-    (g.H.HistoryFolder.left_at c.record.new.folder) c.requires.stamped c.requires.said c.in-Some.is (c.as_str.ensures.value ∙ c.in_ok-stem.ensures)
+    subst (λ (h : Option _). KeepsFile taken c.args.merged (files_of file_at h) new) (sym c.in-Some.is)
+    (keeps_by c.record.result taken c.args.merged c.args.time.now c.in-Some-ruleset.«ruleset» c.as_str.result.now c.taken.inside.file old new
+    (g.H.HistoryFolder.left_at c.record.new.folder) c.requires c.if-merged-eq0.false (sym c.ruleset.ensures ∙ c.in-Some-ruleset.is) (c.as_str.ensures.value ∙ c.in_ok-stem.ensures ∙ ap (λ (t : Taken). Rattle.archive_history.specs.History.stem_text c.args.time.now t.peer c.in-Some-ruleset.«ruleset») c.taken.view_is)
     (ap (λ (t : Taken). t.file) c.taken.view_is) (c.record.ensures.recorded modelled) (c.record.ensures.unsynced modelled) (c.record.ensures.failed modelled))

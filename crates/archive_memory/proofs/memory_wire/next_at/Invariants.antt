@@ -1,5 +1,5 @@
 use Rattle.std.proofs.Common.{◌≡◌, map, take}
-use Rattle.archive_memory.specs.Noted.{waiting_of, least_above, least_port}
+use Rattle.archive_memory.specs.MemoryWires.{waiting_of, least_above, least_port}
 use Rattle.archive_memory.proofs.memory_wire.next_at.Given as goal
 
 abbrev pub invariant-loop-arrival : goal.invariant-loop-arrival

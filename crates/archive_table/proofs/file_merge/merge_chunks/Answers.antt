@@ -1,5 +1,5 @@
 use Rattle.std.proofs.Common.{refl, ◌∙◌, arith}
-use Rattle.archive_table.proofs.FileMerges.{merged_none, merged_more, merged_all, chunk_room, not_readable}
+use Rattle.archive_table.proofs.FileMerges.{merged_none, merged_more, merged_all, chunk_room, faults_of}
 use Rattle.archive_table.proofs.file_merge.merge_chunks.Goals as goal
 
 pub loop-i-init : goal.loop-i-init
@@ -26,4 +26,4 @@ pub returns-in-Err-clause-read : goal.returns-in-Err-clause-read
 returns-in-Err-clause-read g c =
     let now = c.loop-i in
     let all = merged_all c.args.merge.now.now.entries now.reader now.merge.now c.args.file.now now.i (omega (arith, c.loop-i-test.false, c.chunk_count-i-end.ensures)) now.invariant.merged in
-    not_readable c.args.merge.now.now.entries now.reader now.merge.now c.args.file.now _ all c.in-Err.ensures
+    faults_of c.args.merge.now.now.entries now.reader now.merge.now c.args.file.now _ all c.in-Err.ensures

@@ -1,3 +1,4 @@
+use Rattle.archive_theorem.proofs.Happening.{merged-as}
 use Rattle.archive_theorem.proofs.Effects.{puts-at, gets-at}
 use Rattle.archive_theorem.proofs.Fetching.{fetches-own_sent}
 use Rattle.archive_theorem.proofs.RealTime.{fetches-no_less, fetches-none}
@@ -10,10 +11,10 @@ pub returns-clause-gets : goal.returns-clause-gets
 returns-clause-gets c = gets-at
 
 pub returns-clause-since : goal.returns-clause-since
-returns-clause-since c = fetches-own_sent
+returns-clause-since c = λ o r before after s split. fetches-own_sent o before after s (merged-as o r _ split)
 
 pub returns-clause-no_less : goal.returns-clause-no_less
-returns-clause-no_less c = fetches-no_less
+returns-clause-no_less c = λ o r before after s split. fetches-no_less o before after s (merged-as o r _ split)
 
 pub returns-clause-none : goal.returns-clause-none
-returns-clause-none c = fetches-none
+returns-clause-none c = λ o r before after s split. fetches-none o before after s (merged-as o r _ split)

@@ -1,3 +1,7 @@
+use Rattle.std.proofs.Common.{List, subst}
+use Rattle.archive_model.specs.World.{WorldStep, empty_origin, first_world, run_from}
+use Rattle.archive_theorem.specs.Headline.{HasOwnPorts}
+use Rattle.archive_theorem.proofs.Happening.{merged-as}
 use Rattle.archive_theorem.proofs.Counting.{began-by}
 use Rattle.archive_theorem.proofs.Costs.{run-sends}
 use Rattle.archive_theorem.proofs.Entering.{strays-by}
@@ -13,7 +17,9 @@ pub returns-clause-headline : goal.returns-clause-headline
 returns-clause-headline c = run-headline
 
 pub returns-clause-since : goal.returns-clause-since
-returns-clause-since c = fetches-sent
+returns-clause-since c = λ home r own before after s split.
+    fetches-sent home before after s (subst (λ (l : List WorldStep). HasOwnPorts (run_from l (first_world (empty_origin home)))) split own)
+    (merged-as (empty_origin home) r _ split)
 
 pub returns-clause-began : goal.returns-clause-began
 returns-clause-began c = began-by

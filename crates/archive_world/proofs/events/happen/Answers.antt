@@ -7,7 +7,7 @@ use Rattle.archive_world.proofs.events.happen.Goals as goal
 
 pub returns-in-Begin : goal.returns-in-Begin
 returns-in-Begin g c =
-    let reported = g.K.Keeper.log c.args.keeper.now in
+    let reported = g.K.Keeper.calls c.args.keeper.now in
     let w = c.args.machine.now in
     let client = c.in-Begin.op.client in
     let operation = operation_of c.in-Begin.op.kind in
@@ -17,7 +17,7 @@ returns-in-Begin g c =
 
 pub returns-in-ClientTimeout : goal.returns-in-ClientTimeout
 returns-in-ClientTimeout g c =
-    let reported = g.K.Keeper.log c.args.keeper.now in
+    let reported = g.K.Keeper.calls c.args.keeper.now in
     let w = c.args.machine.now in
     let v = c.client_timeout.new.machine in
     let client = c.in-ClientTimeout.client in
@@ -27,7 +27,7 @@ returns-in-ClientTimeout g c =
 
 pub returns-in-ServerTimeout : goal.returns-in-ServerTimeout
 returns-in-ServerTimeout g c =
-    let reported = g.K.Keeper.log c.args.keeper.now in
+    let reported = g.K.Keeper.calls c.args.keeper.now in
     let w = c.args.machine.now in
     let v = c.server_timeout.new.machine in
     let port = c.in-ServerTimeout.port in
@@ -36,7 +36,7 @@ returns-in-ServerTimeout g c =
 
 pub returns-in-Stray : goal.returns-in-Stray
 returns-in-Stray g c =
-    let reported = g.K.Keeper.log c.args.keeper.now in
+    let reported = g.K.Keeper.calls c.args.keeper.now in
     let w = c.args.machine.now in
     let v = c.stray.new.machine in
     comes-at (event_of c.args.event.now) (stray c.in-Stray.d) c.stray.result reported reported w v (ap event_of c.in-Stray.is)
@@ -45,9 +45,9 @@ returns-in-Stray g c =
 
 pub returns-in-Ok : goal.returns-in-Ok
 returns-in-Ok g c =
-    let reported = g.K.Keeper.log c.args.keeper.now in
-    let now = g.K.Keeper.log c.restart.new.keeper in
+    let reported = g.K.Keeper.calls c.args.keeper.now in
+    let now = g.K.Keeper.calls c.restart.new.keeper in
     let w = c.args.machine.now in
     let v = c.restart.new.machine in
     comes-at (event_of c.args.event.now) restart (Ok tt) reported now w v (ap event_of c.in-Restart.is)
-    (restart-comes w v reported now c.restart.ensures.log c.in-Ok.ensures.request c.in-Ok.ensures.made)
+    (restart-comes w v reported now c.restart.ensures.calls c.in-Ok.ensures.request c.in-Ok.ensures.made)

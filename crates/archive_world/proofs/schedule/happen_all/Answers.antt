@@ -8,13 +8,13 @@ loop-i-init g c =
     record {
       within = omega arith;
       request = ap (λ (w : World). w.server.request) c.requires.start;
-      so_far = λ ready. happened-start (g.K.Keeper.log c.args.keeper.now) c.args.machine.now c.requires.start;
+      so_far = λ ready. happened-start (g.K.Keeper.calls c.args.keeper.now) c.args.machine.now c.requires.start;
     }
 
 pub returns-in-Err : goal.returns-in-Err
 returns-in-Err g c =
-    ends-at c.args.events.now c.loop-i.i c.index-events-i.result c.loop-i-test.true c.index-events-i.is (g.K.Keeper.log c.args.keeper.now)
-    (g.K.Keeper.log c.loop-i.keeper) (g.K.Keeper.log c.happen.new.keeper) c.loop-i.machine c.happen.new.machine
+    ends-at c.args.events.now c.loop-i.i c.index-events-i.result c.loop-i-test.true c.index-events-i.is (g.K.Keeper.calls c.args.keeper.now)
+    (g.K.Keeper.calls c.loop-i.keeper) (g.K.Keeper.calls c.happen.new.keeper) c.loop-i.machine c.happen.new.machine
     c.loop-i.invariant.so_far c.fault_at.result c.in-Err.fault c.fault_at.ensures c.in-Err.ensures
 
 pub loop-i-preserved : goal.loop-i-preserved
@@ -24,6 +24,6 @@ loop-i-preserved g c =
       within = omega arith;
       request = made.0 ∙ c.loop-i.invariant.request;
       so_far = one-more c.args.events.now c.loop-i.i c.index-events-i.result c.loop-i-test.true c.index-events-i.is
-          (g.K.Keeper.log c.args.keeper.now) (g.K.Keeper.log c.loop-i.keeper) (g.K.Keeper.log c.happen.new.keeper) c.loop-i.machine
+          (g.K.Keeper.calls c.args.keeper.now) (g.K.Keeper.calls c.loop-i.keeper) (g.K.Keeper.calls c.happen.new.keeper) c.loop-i.machine
           c.happen.new.machine c.loop-i.invariant.so_far made;
     }

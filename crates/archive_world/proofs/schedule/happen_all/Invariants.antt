@@ -9,8 +9,8 @@ abbrev pub invariant-loop-i : goal.invariant-loop-i
 invariant-loop-i g l = record {
   within : l.i ≤ length l.events;
   request : l.machine.server.request ≡ server_endpoint.port;
-  so_far : IsReady (g.K.Keeper.log l.initial.keeper) (events_of l.events) →
-      HasHappened (events_of (take l.i l.events)) (g.K.Keeper.log l.initial.keeper) (g.K.Keeper.log l.keeper) l.machine;
+  so_far : IsReady (g.K.Keeper.calls l.initial.keeper) (events_of l.events) →
+      HasHappened (events_of (take l.i l.events)) (g.K.Keeper.calls l.initial.keeper) (g.K.Keeper.calls l.keeper) l.machine;
 }
 
 abbrev pub decreases-loop-i : goal.decreases-loop-i

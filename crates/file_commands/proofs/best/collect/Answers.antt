@@ -1,7 +1,7 @@
 use Rattle.std.proofs.Common.{ℕ, List, Option, arith, refl, sym, subst, map, take, IfSome}
 use Rattle.std.proofs.lemmas.Result.{err_from_is_err_and}
 use Rattle.tws_file.specs.Text.{IsText}
-use Rattle.command_faults.specs.Faults.{ReadFails}
+use Rattle.command_line.specs.Faults.{ReadFails}
 use Rattle.file_commands.proofs.Collecting.{collects_none, collects_more, known_more, input_fails, all_collected, one_more_ended, others_stay, set_count, read_out}
 use Rattle.file_commands.proofs.best.collect.Goals as goal
 

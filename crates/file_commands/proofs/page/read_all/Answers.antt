@@ -1,7 +1,7 @@
 use Rattle.std.proofs.Common.{ℕ, List, Option, arith, sym, subst, map, take, IfSome}
 use Rattle.std.proofs.lemmas.Result.{err_from_is_err_and}
 use Rattle.tws_file.specs.Text.{IsText}
-use Rattle.command_faults.specs.Faults.{ReadFails}
+use Rattle.command_line.specs.Faults.{ReadFails}
 use Rattle.file_commands.proofs.Collecting.{known_more, input_fails, one_more_ended, others_stay, set_count, read_out}
 use Rattle.file_commands.proofs.Paging.{all_files, are_readable, files_more}
 use Rattle.file_commands.proofs.page.read_all.Goals as goal

@@ -10,7 +10,9 @@ returns-in_err-write_page-clause-fails g c =
     let knowns = map (λ input. g.R.Read.remaining input) c.args.inputs.now in
     let are = subst (λ (files : List File). AreFiles knowns files) (sym c.deref.ensures.value) c.in_ok-files.ensures.read in
     let p = err_from_is_err_and c.from_residual-in_err-write_page.result c.from_residual-in_err-write_page.ensures.1 in
-    rw (p.1, p.2) (page_fails c.in_err-write_page.field-0.0 knowns c.deref.result.now _ _ are c.in_err-write_page.ensures.err)
+    let old = g.W.Write.contents c.args.out.now in
+    let new = g.W.Write.contents c.write_page.new.out in
+    rw (p.1, p.2) (page_fails c.in_err-write_page.field-0.0 knowns c.deref.result.now old new are c.in_err-write_page.ensures.err)
 
 pub returns-clause-written : goal.returns-clause-written
 returns-clause-written g c =

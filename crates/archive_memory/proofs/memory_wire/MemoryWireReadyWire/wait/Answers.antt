@@ -1,8 +1,8 @@
 use Rattle.std.proofs.Common.{rules}
 use Rattle.archive_memory.proofs.memory_wire.MemoryWireReadyWire.wait.Goals as goal
 
-pub returns-clause-log : goal.returns-clause-log
-returns-clause-log g c = search rules
+pub returns-clause-calls : goal.returns-clause-calls
+returns-clause-calls g c = search rules
 
 pub returns-clause-ready : goal.returns-clause-ready
 returns-clause-ready g c = search rules

@@ -1,5 +1,5 @@
 use Rattle.std.proofs.Common.{rules}
 use Rattle.archive_memory.proofs.memory_wire.MemoryWireWire.send.Goals as goal
 
-pub returns-clause-log : goal.returns-clause-log
-returns-clause-log g c = search rules
+pub returns-clause-calls : goal.returns-clause-calls
+returns-clause-calls g c = search rules

@@ -1,8 +1,8 @@
 use Rattle.std.proofs.Common.{rules}
 use Rattle.archive_progress.proofs.progress_wire.ProgressWireWire.receive.Goals as goal
 
-pub returns-clause-log : goal.returns-clause-log
-returns-clause-log g c = search rules
+pub returns-clause-calls : goal.returns-clause-calls
+returns-clause-calls g c = search rules
 
 pub returns-clause-tally : goal.returns-clause-tally
 returns-clause-tally g c = search rules

@@ -1,0 +1,5 @@
+pub mod Addresses
+pub mod Fetching
+pub mod Listening
+pub mod Sending
+pub mod Statuses

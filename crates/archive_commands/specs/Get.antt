@@ -1,0 +1,112 @@
+-- The command `get`: what it does over any wire, any file and any output.
+use Rattle.std.specs.Prelude.{◌≡◌, ◌≢◌, ◌⊎◌, ℕ, List, Option, Some, Result, Ok, Err, OnOk, IfErr, string_bytes, codes}
+use Rattle.std.specs.Io.KnownBytes.{Appends}
+use Rattle.clap.specs.Words.{App, Row, Text, first_of, new_app, with_rule}
+use Rattle.tws_file.specs.declared.«ruleset».Ruleset.{Ruleset}
+use Rattle.tftp_packet.specs.declared.endpoint.Endpoint.{Endpoint}
+use Rattle.archive_runs.specs.declared.run_fault.RunFault.{RunFault}
+use Rattle.archive_runs.specs.declared.run_fault.RunFault.TheVariants as run
+use Rattle.archive_wire.specs.Wire.{Entry}
+use Rattle.archive_runs.specs.Run.{Run}
+use Rattle.archive_runs.specs.Rounds.{GetsInRounds, MakesDally}
+use Rattle.archive_commands.specs.declared.get.GetArguments.{GetArguments}
+use Rattle.archive_commands.specs.declared.limits.TheConstants.{ROUNDS}
+use Rattle.command_line.specs.declared.tool_fault.ToolFault.{ToolFault}
+use Rattle.command_line.specs.declared.tool_fault.ToolFault.TheVariants.{Read, Write, Unreadable, Memory, Socket, Transfer}
+use Rattle.archive_commands.specs.Address.{Locates}
+use Rattle.command_line.specs.Arguments.{HasRuleset, RulesetNames, ruleset_rule}
+use Rattle.archive_commands.specs.Arguments.{HasTarget, address_rule, file_rule, number_rule, port_option}
+use Rattle.command_line.specs.Faults.{answer_status}
+use Rattle.system_files.specs.Files.{Keeps, Publishes}
+use Rattle.archive_commands.specs.Known.{Known}
+use Rattle.archive_commands.specs.Lines.{LineFails, Transfers, got_line}
+
+abbrev pub get_name : Text
+get_name = codes "get"
+
+-- `get ADDRESS RULESET FILE [--port N]`
+abbrev pub get_app : RulesetNames → App
+get_app names = with_rule (with_rule (with_rule (with_rule (new_app get_name) address_rule) (ruleset_rule names)) file_rule) (number_rule port_option)
+
+-- what was found for its arguments
+pub record AsksToGet (rows : List Row) (arguments : GetArguments) : Type 0 where
+  pub rules_are : HasRuleset rows arguments.ruleset
+  pub file_is : first_of file_rule.id rows ≡ Some (string_bytes arguments.file)
+  pub target_is : HasTarget rows arguments.target
+
+-- ---- what it does
+
+-- a complete run of a get into a draft, with this result
+abbrev pub GetRuns : (server : Endpoint) (rules : Ruleset) (result : Result (ℕ × Run) RunFault) (before after : Option (List Entry)) (drafted : Option (List ℕ)) → Type 0
+GetRuns server rules result before after drafted = (written : Option (List ℕ)) × GetsInRounds server rules ROUNDS result before after drafted written
+
+-- the collection was fetched into a draft, which became the file
+pub record Fetches (server : Endpoint) (rules : Ruleset) (name : List ℕ) (got : ℕ × Run) (before after : Option (List Entry)) (drafted : Option (List ℕ)) (files now : List ℕ → Option (List ℕ)) : Type 0 where
+  pub written : Option (List ℕ)
+  pub fetched : GetsInRounds server rules ROUNDS (Ok got) before after drafted written
+  pub published : Publishes name written files now
+
+-- why no collection became the file
+abbrev pub FetchFault : (server : Endpoint) (rules : Ruleset) (before after : Option (List Entry)) (drafted : Option (List ℕ)) → ToolFault → Type 0
+FetchFault server rules before after drafted Read = ⊥
+FetchFault server rules before after drafted Write = GetRuns server rules (Err run.Write) before after drafted ⊎ ((got : ℕ × Run) × GetRuns server rules (Ok got) before after drafted)
+FetchFault server rules before after drafted (Unreadable index fault) = ⊥
+FetchFault server rules before after drafted Memory = GetRuns server rules (Err run.Memory) before after drafted
+FetchFault server rules before after drafted Socket = GetRuns server rules (Err run.Socket) before after drafted
+FetchFault server rules before after drafted (Transfer why) = GetRuns server rules (Err (run.Transfer why)) before after drafted
+
+-- then each file is as it was
+pub record FetchFails (server : Endpoint) (rules : Ruleset) (before after : Option (List Entry)) (drafted : Option (List ℕ)) (files now : List ℕ → Option (List ℕ)) (e : ToolFault) : Type 0 where
+  pub fault : FetchFault server rules before after drafted e
+  pub kept : Keeps files now
+
+-- the collection was fetched, and after what was done about its line the client dallied
+pub record GetEnded (server : Endpoint) (rules : Ruleset) (name : List ℕ) (before after : Option (List Entry)) (drafted : Option (List ℕ)) (files now : List ℕ → Option (List ℕ)) (Line : List ℕ → Type 0) : Type 0 where
+  pub len : ℕ
+  pub run : Run
+  pub last : Run
+  pub mid : Option (List Entry)
+  pub got : Fetches server rules name (len, run) before mid drafted files now
+  pub line : Line (got_line len)
+  pub dallied : MakesDally ROUNDS run last mid after
+
+-- it was fetched, and the line that reports it was written
+abbrev pub Gets : (server : Endpoint) (rules : Ruleset) (name : List ℕ) (before after : Option (List Entry)) (drafted : Option (List ℕ)) (files now : List ℕ → Option (List ℕ)) (old new : Option (List ℕ)) → Type 0
+Gets server rules name before after drafted files now old new = GetEnded server rules name before after drafted files now (Appends old new)
+
+-- no draft was begun, and nothing was sent
+pub record GetUnbegun (before after : Option (List Entry)) (files now : List ℕ → Option (List ℕ)) (old new : Option (List ℕ)) (e : ToolFault) : Type 0 where
+  pub fault_is : e ≡ Write
+  pub silent : after ≡ before
+  pub kept : Keeps files now
+  pub unsaid : new ≡ old
+
+-- no collection became the file, or none was reported
+abbrev pub GetFails : (server : Endpoint) (rules : Ruleset) (name : List ℕ) (before after : Option (List Entry)) (drafted : Option (List ℕ)) (files now : List ℕ → Option (List ℕ)) (old new : Option (List ℕ)) → ToolFault → Type 0
+GetFails server rules name before after drafted files now old new e =
+    GetUnbegun before after files now old new e
+    ⊎ (FetchFails server rules before after drafted files now e × (new ≡ old))
+    ⊎ GetEnded server rules name before after drafted files now (λ (line : List ℕ). LineFails line old new e)
+
+-- a get of this ruleset into the file of this name, from the server at this host and port, ended with this status
+pub record GetEnds (server : Endpoint) (rules : Ruleset) (name : List ℕ) (status : ℕ) (before after : Option (List Entry)) (drafted : Option (List ℕ)) (files now : List ℕ → Option (List ℕ)) (old new : Option (List ℕ)) : Type 0 where
+  pub done : Result (Unit {0}) ToolFault
+  pub status_is : status ≡ answer_status done
+  pub gets : OnOk done (Gets server rules name before after drafted files now old new)
+  pub fails : IfErr done (GetFails server rules name before after drafted files now old new)
+
+-- what is known that a draft for its file begins with
+abbrev pub get_drafted : (drafted_of : List ℕ → Option (List ℕ)) → GetArguments → Option (List ℕ)
+get_drafted drafted_of arguments = drafted_of (string_bytes arguments.file)
+
+-- What it did, by the exit status, given what is known of files and hosts, and of the bytes of the files afterwards. The
+-- server is at the host to which the address that was given leads, and at the port. Only a get whose whole collection
+-- was written changes a file, that of its name.
+pub record GetRan (known : Known) (arguments : GetArguments) (status : ℕ) (before after : Option (List Entry)) (now : List ℕ → Option (List ℕ)) (old new : Option (List ℕ)) : Type 0 where
+  pub found : Option ℕ
+  pub located : Locates known.host_of (string_bytes arguments.target.address) found
+  pub transfers : Transfers found got_line status old new
+  pub readable : status ≢ 3
+  pub ended : status ≢ 1 → (host : ℕ) × (found ≡ Some host) × GetEnds (record { host = host; port = arguments.target.port }) arguments.ruleset (string_bytes arguments.file) status before after (get_drafted known.drafted_of arguments) known.bytes_of now old new
+  pub nowhere : status ≡ 1 → (after ≡ before) × Keeps known.bytes_of now
+  pub harmless : status ≢ 0 → status ≢ 2 → Keeps known.bytes_of now

@@ -1,0 +1,133 @@
+-- The command `put`: what it does over any wire, any file and any output.
+use Rattle.std.specs.Prelude.{◌≡◌, ◌≢◌, ◌⊎◌, ℕ, ◌<◌, ◌≤◌, List, length, Option, Some, IfSome, Result, Ok, Err, OnOk, IfErr, string_bytes, codes}
+use Rattle.std.specs.Io.KnownBytes.{Appends, Consumes}
+use Rattle.clap.specs.Words.{App, Row, Text, new_app, with_rule}
+use Rattle.byte_output.specs.Output.{AppendsPrefix}
+use Rattle.tws_file.specs.Text.{IsReadable}
+use Rattle.tws_file.specs.Fault.{HasFileFault}
+use Rattle.tftp_packet.specs.declared.endpoint.Endpoint.{Endpoint}
+use Rattle.tftp_ends.specs.declared.limits.TheConstants.{MAX_FILE}
+use Rattle.tftp_packet.specs.declared.cause.Cause.TheVariants as cause
+use Rattle.archive_runs.specs.declared.run_fault.RunFault.{RunFault}
+use Rattle.archive_runs.specs.declared.run_fault.RunFault.TheVariants as run
+use Rattle.archive_wire.specs.Wire.{Entry}
+use Rattle.archive_runs.specs.Rounds.{PutsInRounds}
+use Rattle.archive_commands.specs.declared.put.PutArguments.{PutArguments}
+use Rattle.archive_commands.specs.declared.limits.TheConstants.{ROUNDS}
+use Rattle.command_line.specs.declared.tool_fault.ToolFault.{ToolFault}
+use Rattle.command_line.specs.declared.tool_fault.ToolFault.TheVariants.{Read, Write, Unreadable, Memory, Socket, Transfer}
+use Rattle.archive_commands.specs.Address.{Locates}
+use Rattle.archive_commands.specs.Arguments.{HasTarget, address_rule, file_rule, number_rule, port_option}
+use Rattle.command_line.specs.Faults.{answer_status}
+use Rattle.command_line.specs.Arguments.{HasSource}
+use Rattle.command_line.specs.Inputs.{IsUnreadable, ReadsSource, known_of}
+use Rattle.archive_commands.specs.Lines.{Transfers, sent_line}
+
+abbrev pub put_name : Text
+put_name = codes "put"
+
+-- `put ADDRESS FILE [--port N]`
+abbrev pub put_app : App
+put_app = with_rule (with_rule (with_rule (new_app put_name) address_rule) file_rule) (number_rule port_option)
+
+-- what was found for its arguments
+pub record AsksToPut (rows : List Row) (arguments : PutArguments) : Type 0 where
+  pub source_is : HasSource rows arguments.source
+  pub target_is : HasTarget rows arguments.target
+
+-- ---- what it does
+
+-- at most so many bytes of an input were read
+pub record ReadsAtMost (most : ℕ) (old new : Option (List ℕ)) : Type 0 where
+  pub bytes : List ℕ
+  pub consumed : Consumes old new bytes
+  pub few : length bytes ≤ most
+
+-- the bytes, if they are known, are more than a file may have
+abbrev pub IsLong : (known : Option (List ℕ)) → Type 0
+IsLong known = IfSome known (λ (bytes : List ℕ). MAX_FILE < length bytes)
+
+-- an input was not read to its end, perhaps because it is too long
+abbrev pub InputFails : (known : Option (List ℕ)) → ToolFault → Type 0
+InputFails known Read = Unit {0}
+InputFails known Write = ⊥
+InputFails known (Unreadable index fault) = ⊥
+InputFails known Memory = Unit {0}
+InputFails known Socket = ⊥
+InputFails known (Transfer why) = (why ≡ cause.TooLong) × IsLong known
+
+-- it is not a file's text either
+abbrev pub WholeFails : (known : Option (List ℕ)) → ToolFault → Type 0
+WholeFails known Read = Unit {0}
+WholeFails known Write = ⊥
+WholeFails known (Unreadable index fault) = (index ≡ 0) × IfSome known (λ (bytes : List ℕ). HasFileFault bytes fault)
+WholeFails known Memory = Unit {0}
+WholeFails known Socket = ⊥
+WholeFails known (Transfer why) = (why ≡ cause.TooLong) × IsLong known
+
+-- the whole input is these bytes, which are the text of a file that can be sent
+pub record IsWholeInput (known : Option (List ℕ)) (bytes : List ℕ) : Type 0 where
+  pub known_is : IfSome known (λ (xs : List ℕ). bytes ≡ xs)
+  pub readable : IsReadable bytes
+  pub short : length bytes ≤ MAX_FILE
+
+-- a complete run of a put of these bytes, with this result
+pub record PutRuns (known : Option (List ℕ)) (server : Endpoint) (result : Result ℕ RunFault) (before after : Option (List Entry)) : Type 0 where
+  pub bytes : List ℕ
+  pub whole : IsWholeInput known bytes
+  pub runs : PutsInRounds server bytes ROUNDS result before after
+
+-- the whole input was put, and the line that reports it was written
+pub record Puts (known : Option (List ℕ)) (server : Endpoint) (before after : Option (List Entry)) (old new : Option (List ℕ)) : Type 0 where
+  pub len : ℕ
+  pub put : PutRuns known server (Ok len) before after
+  pub said : Appends old new (sent_line len)
+
+-- a put that ran but was not reported: a proper prefix of the line was written
+pub record PutUnsaid (known : Option (List ℕ)) (server : Endpoint) (before after : Option (List Entry)) (old new : Option (List ℕ)) : Type 0 where
+  pub len : ℕ
+  pub put : PutRuns known server (Ok len) before after
+  pub prefix : AppendsPrefix old new (sent_line len)
+
+-- Nothing is sent over the wire if the input is too long, is not read to its end, or is not a solution file.
+abbrev pub PutFails : (known : Option (List ℕ)) (server : Endpoint) (before after : Option (List Entry)) (old new : Option (List ℕ)) → ToolFault → Type 0
+PutFails known server before after old new Read = (after ≡ before) × (new ≡ old)
+PutFails known server before after old new Write = PutUnsaid known server before after old new
+PutFails known server before after old new (Unreadable index fault) = (after ≡ before) × (new ≡ old) × (index ≡ 0) × IfSome known (λ (bytes : List ℕ). HasFileFault bytes fault)
+PutFails known server before after old new Memory = (new ≡ old) × ((after ≡ before) ⊎ PutRuns known server (Err run.Memory) before after ⊎ ((len : ℕ) × PutRuns known server (Ok len) before after))
+PutFails known server before after old new Socket = (new ≡ old) × PutRuns known server (Err run.Socket) before after
+PutFails known server before after old new (Transfer why) = (new ≡ old) × (PutRuns known server (Err (run.Transfer why)) before after ⊎ ((why ≡ cause.TooLong) × (after ≡ before) × IsLong known))
+
+-- the whole input is a file's text, and the line with its length was written
+abbrev pub SaysSent : (known old new : Option (List ℕ)) → Type 0
+SaysSent known old new = IfSome known (λ (bytes : List ℕ). IsReadable bytes × Appends old new (sent_line (length bytes)))
+
+-- an input that is reported as unreadable has that fault
+abbrev pub IsBlamed : (known : Option (List ℕ)) → ToolFault → Type 0
+IsBlamed known Read = Unit {0}
+IsBlamed known Write = Unit {0}
+IsBlamed known (Unreadable index fault) = IfSome known (λ (bytes : List ℕ). HasFileFault bytes fault)
+IsBlamed known Memory = Unit {0}
+IsBlamed known Socket = Unit {0}
+IsBlamed known (Transfer why) = Unit {0}
+
+-- a put of a file with these bytes, to the server at this host and port, ended with this status
+pub record PutEnds (known : Option (List ℕ)) (server : Endpoint) (status : ℕ) (before after : Option (List Entry)) (old new : Option (List ℕ)) : Type 0 where
+  pub done : Result (Unit {0}) ToolFault
+  pub status_is : status ≡ answer_status done
+  pub puts : OnOk done (Puts known server before after old new)
+  pub fails : IfErr done (PutFails known server before after old new)
+
+-- What it did, by the exit status, given what is known of the bytes of the file with each name, and of the hosts of
+-- names, and what holds if standard input was not read: the log of the wire before and after, what standard input had and
+-- has left, and the output before and after. The server is at the host to which the address that was given leads, and at
+-- the port.
+pub record PutRan (bytes_of : List ℕ → Option (List ℕ)) (host_of : List ℕ → Option (Option ℕ)) (Unread : Type 0) (arguments : PutArguments) (status : ℕ) (before after : Option (List Entry)) (given left old new : Option (List ℕ)) : Type 0 where
+  pub found : Option ℕ
+  pub located : Locates host_of (string_bytes arguments.target.address) found
+  pub transfers : Transfers found sent_line status old new
+  pub sent : status ≡ 0 → SaysSent (known_of bytes_of given arguments.source) old new
+  pub unreadable : status ≡ 3 → IsUnreadable (known_of bytes_of given arguments.source)
+  pub ended : status ≢ 1 → (host : ℕ) × (found ≡ Some host) × PutEnds (known_of bytes_of given arguments.source) (record { host = host; port = arguments.target.port }) status before after old new
+  pub nowhere : status ≡ 1 → after ≡ before
+  pub input : ReadsSource arguments.source Unread status left

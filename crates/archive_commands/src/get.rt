@@ -1,0 +1,236 @@
+//! The command `get`.
+
+ghost use Rattle.std.specs.Prelude.{◌≡◌, ◌≢◌, ◌⊎◌, false, OnOk, IfOk, IfErr};
+ghost use Rattle.clap.specs.Matches.{found_of};
+ghost use Rattle.clap.specs.Words.{app_of, rows_of};
+ghost use Rattle.clap.specs.declared.builder.command.Command.TheViews.{out-Command};
+ghost use Rattle.command_line.specs.Arguments.{Answers};
+ghost use Rattle.archive_commands.specs.Get.{AsksToGet, FetchFails, Fetches, GetFails, GetRan, Gets, get_app};
+ghost use Rattle.command_line.specs.Faults.{status_of};
+ghost use Rattle.archive_commands.specs.Faults.{run_fault};
+ghost use Rattle.archive_commands.specs.Lines.{Unless};
+
+use crate::address::locate;
+use crate::arguments::{address_argument, file_argument, port_argument, target_given};
+use crate::limits::ROUNDS;
+use crate::line::write_line;
+use crate::reporting::{no_host, report_transfer};
+use crate::resolver::Resolver;
+use crate::run_fault::of_run;
+use crate::target::Target;
+use crate::transfer_wire::TransferWire;
+use archive_runs::{GetRun, RunFault, get_in_rounds};
+use clap::{ArgMatches, Command};
+use command_line::{
+    DONE, ToolFault, new_command, report_file, ruleset_argument, ruleset_given, string_given,
+};
+use std::alloc::{AllocError, Global};
+use std::io;
+use std::io::Write;
+use system_files::FileSystem;
+use tftp_packet::Endpoint;
+use tws_file::Ruleset;
+
+/// What `get` is asked for.
+#[derive(Drop)]
+pub struct GetArguments {
+    /// The collection of this ruleset.
+    pub ruleset: Ruleset,
+    /// The name of the file that is written.
+    pub file: String,
+    /// Where the archive is.
+    pub target: Target,
+}
+
+// What the help of the command begins and ends with.
+const ABOUT: &str = "Fetch an archive's collection";
+
+const HELP: &str =
+    "A file that is there stays as it is until the whole collection has come.\n\nExample: tws get 192.0.2.1 lynx best.tws";
+
+/// The command line of `get`, with these names of the rulesets.
+///
+/// # Errors
+///
+/// If an allocation was refused.
+pub fn command<'a>(alloc: Global, names: &'a [&'a str]) -> Result<Command<'a>, AllocError>
+    ensures app { IfOk result (λ command. app_of command ≡ get_app names.entry) }
+    ensures local { IfOk result (λ command. (out-Command command).has_globals ≡ false) }
+{
+    new_command(alloc, "get", ABOUT, HELP)
+        .arg(address_argument(alloc))?
+        .arg(ruleset_argument(alloc, names))?
+        .arg(file_argument(alloc, "The file to write"))?
+        .arg(port_argument(alloc))
+}
+
+/// What the arguments ask for; `None` if the ruleset is unknown, or they name no target.
+pub fn asked(alloc: Global, words: &ArgMatches) -> Result<Option<GetArguments>, AllocError>
+    ensures { IfOk result (Answers (AsksToGet (rows_of (found_of words.now)))) }
+{
+    let Some(ruleset) = ruleset_given(words) else {
+        return Ok(None);
+    };
+    let Some(file) = string_given(alloc, words, "file")? else {
+        return Ok(None);
+    };
+    let Some(target) = target_given(alloc, words)? else {
+        return Ok(None);
+    };
+    Ok(Some(GetArguments {
+        ruleset,
+        file,
+        target,
+    }))
+}
+
+/// Why a collection was not fetched, or not reported.
+#[derive(Debug, Drop)]
+pub struct GetFault {
+    /// What failed.
+    pub fault: ToolFault,
+    /// What the system said of the file, if that failed.
+    pub cause: Option<io::Error>,
+}
+
+impl GetFault {
+    // The file cannot be written.
+    fn of_file(cause: io::Error) -> Self
+        ensures { result.fault ≡ ToolFault.Write }
+    {
+        GetFault {
+            fault: ToolFault::Write,
+            cause: Some(cause),
+        }
+    }
+
+    // The transfer failed, whose file the system said this of, if a write into it failed.
+    fn of_run(fault: RunFault, cause: Option<io::Error>) -> Self
+        ensures { result.fault ≡ run_fault fault }
+    {
+        let cause = match fault {
+            RunFault::Write => cause,
+            RunFault::Socket | RunFault::Transfer(_) | RunFault::Memory => None,
+        };
+        GetFault {
+            fault: of_run(fault),
+            cause,
+        }
+    }
+}
+
+// Reports why a collection was not fetched into the file of this name, and returns the status.
+fn report_get<N: TransferWire, E: Write>(
+    fault: GetFault,
+    name: &str,
+    wire: &N,
+    errors: &mut E,
+) -> u8
+    ensures { result ≡ status_of fault.fault }
+{
+    match fault.cause {
+        Some(cause) => report_file(fault.fault, name, &cause, errors),
+        None => report_transfer(fault.fault, wire, &[], errors),
+    }
+}
+
+// Fetches a collection into a draft, which then takes the place of the file of this name. Returns how many bytes it has,
+// and the run, which is to dally.
+fn fetch<S: FileSystem, N: TransferWire>(
+    system: &mut S,
+    wire: &mut N,
+    alloc: Global,
+    server: Endpoint,
+    ruleset: Ruleset,
+    name: &str,
+    mut draft: S::Draft,
+) -> Result<(u64, GetRun), GetFault>
+    ensures fetched { IfOk result (λ got. Fetches server «ruleset» name.now got (N.calls wire.old) (N.calls wire.new) (S.Draft.contents draft) (S.bytes_of system.old) (S.bytes_of system.new)) }
+    ensures fails { IfErr result (λ e. FetchFails server «ruleset» (N.calls wire.old) (N.calls wire.new) (S.Draft.contents draft) (S.bytes_of system.old) (S.bytes_of system.new) e.fault) }
+{
+    let fetched = get_in_rounds(alloc, wire, server, ruleset, ROUNDS, &mut draft);
+    wire.finish();
+    match fetched {
+        Ok(got) => match system.publish(name, draft) {
+            Ok(()) => Ok(got),
+            Err(cause) => Err(GetFault::of_file(cause)),
+        },
+        Err(fault) => {
+            let cause = system.abandon(draft);
+            Err(GetFault::of_run(fault, cause))
+        }
+    }
+}
+
+/// Fetches the collection of this ruleset from the archive into the file of this name, in at most `ROUNDS` rounds; then
+/// prints its length in bytes, and dallies (`Run::dally`). `server` is the archive's host and request port. The file is
+/// created before a port is opened, and if there is one already it stays as it is until the whole collection has arrived.
+///
+/// # Errors
+///
+/// `Socket` if no port was opened, and `Transfer` with the cause of the failed transfer: then no file is changed. `Write`
+/// if the file cannot be written, which then stays as it is unless it had to be written in place, or the writer fails.
+/// `Memory` if an allocation was refused.
+pub fn get_file<S: FileSystem, N: TransferWire, W: Write>(
+    system: &mut S,
+    wire: &mut N,
+    alloc: Global,
+    server: Endpoint,
+    ruleset: Ruleset,
+    name: &str,
+    out: &mut W,
+) -> Result<(), GetFault>
+    ensures got { OnOk result (Gets server «ruleset» name.now (N.calls wire.old) (N.calls wire.new) (S.drafted_of system.old name.now) (S.bytes_of system.old) (S.bytes_of system.new) (W.contents out.old) (W.contents out.new)) }
+    ensures fails { IfErr result (λ e. GetFails server «ruleset» name.now (N.calls wire.old) (N.calls wire.new) (S.drafted_of system.old name.now) (S.bytes_of system.old) (S.bytes_of system.new) (W.contents out.old) (W.contents out.new) e.fault) }
+    // Holds also for a writer without ghost contents.
+    ensures unwritten { IfErr result (λ e. Unless (out.new ≡ out.old) e.fault) }
+{
+    let draft = match system.begin(name) {
+        Ok(draft) => draft,
+        Err(cause) => return Err(GetFault::of_file(cause)),
+    };
+    match fetch(system, wire, alloc, server, ruleset, name, draft) {
+        Ok((len, mut run)) => {
+            let said = write_line(alloc, "got ", len, " bytes", out);
+            run.dally(wire, ROUNDS);
+            match said {
+                Ok(()) => Ok(()),
+                Err(fault) => Err(GetFault { fault, cause: None }),
+            }
+        }
+        Err(fault) => Err(fault),
+    }
+}
+
+/// Runs `get` over this wire, and returns the status.
+pub fn run<S: FileSystem + Resolver, N: TransferWire, W: Write, E: Write>(
+    system: &mut S,
+    wire: &mut N,
+    alloc: Global,
+    arguments: &GetArguments,
+    out: &mut W,
+    errors: &mut E,
+) -> u8
+    ensures ran { GetRan (record { bytes_of = S.bytes_of system.old; drafted_of = S.drafted_of system.old; host_of = S.host_of system.old }) arguments.now result (N.calls wire.old) (N.calls wire.new) (S.bytes_of system.new) (W.contents out.old) (W.contents out.new) }
+    ensures unwritten { result ≢ 0 → result ≢ 2 → out.new ≡ out.old }
+    ensures silent { result ≡ 0 → errors.new ≡ errors.old }
+{
+    let target = &arguments.target;
+    let Some(host) = locate(system, target.address.as_str()) else {
+        return no_host(target.address.as_str(), errors);
+    };
+    let port = target.port;
+    let done = get_file(
+        system,
+        wire,
+        alloc,
+        Endpoint { host, port },
+        arguments.ruleset,
+        arguments.file.as_str(),
+        out,
+    );
+    match done {
+        Ok(()) => DONE,
+        Err(fault) => report_get(fault, arguments.file.as_str(), wire, errors),
+    }
+}

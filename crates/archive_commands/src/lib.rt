@@ -1,0 +1,37 @@
+//! The commands of the archive over any wire and keeper: what `put`, `get` and `serve` are asked for, and what they do.
+//!
+//! Read `specs/Lines.antt` first, then `specs/Put.antt`, `specs/Get.antt` and `specs/Serve.antt`. The crate's README shows
+//! how it is called.
+#![tactic(auto)]
+
+mod address;
+mod arguments;
+mod file_bytes;
+pub mod get;
+mod laws;
+mod limits;
+mod line;
+mod network;
+pub mod put;
+mod reporting;
+mod resolver;
+mod run_fault;
+pub mod serve;
+mod service;
+mod target;
+mod transfer_wire;
+mod turn_limit;
+
+pub use address::Address;
+pub use get::{GetArguments, GetFault, get_file};
+pub use laws::limit_values;
+pub use limits::{PER_HOST, PORT, ROUNDS, TURNS};
+pub use network::Network;
+pub use put::{PutArguments, put_file};
+pub use reporting::bad_address;
+pub use resolver::Resolver;
+pub use serve::ServeArguments;
+pub use service::Service;
+pub use target::Target;
+pub use transfer_wire::TransferWire;
+pub use turn_limit::TurnLimit;

@@ -1,0 +1,189 @@
+//! The command `put`.
+
+ghost use Rattle.std.specs.Prelude.{◌≡◌, ◌≢◌, ◌⊎◌, ◌≤◌, ◌+◌, length, false, Ok, Err, OnOk, IfOk, IfErr, IfSome, string_bytes};
+ghost use Rattle.std.specs.Io.KnownBytes.{IsAtEnd};
+ghost use Rattle.clap.specs.Matches.{found_of};
+ghost use Rattle.clap.specs.Words.{app_of, rows_of};
+ghost use Rattle.clap.specs.declared.builder.command.Command.TheViews.{out-Command};
+ghost use Rattle.archive_runs.specs.Rounds.{PutsInRounds};
+ghost use Rattle.tws_file.specs.Text.{IsReadable};
+ghost use Rattle.tws_file.specs.Fault.{HasFileFault};
+ghost use Rattle.tftp_ends.specs.declared.limits.TheConstants.{MAX_FILE};
+ghost use Rattle.archive_commands.specs.declared.limits.TheConstants.{ROUNDS};
+ghost use Rattle.command_line.specs.declared.limits.TheConstants.{INPUT_PIECE};
+ghost use Rattle.command_line.specs.Arguments.{Answers};
+ghost use Rattle.archive_commands.specs.Put.{AsksToPut, InputFails, IsWholeInput, PutFails, PutRan, PutRuns, Puts, ReadsAtMost, WholeFails, put_app};
+ghost use Rattle.command_line.specs.Faults.{IsReadOut};
+ghost use Rattle.archive_commands.specs.Faults.{run_fault};
+ghost use Rattle.archive_commands.specs.Lines.{Unless};
+
+use crate::address::locate;
+use crate::arguments::{address_argument, file_argument, port_argument, target_given};
+use crate::file_bytes::FileBytes;
+use crate::limits::ROUNDS;
+use crate::line::write_line;
+use crate::reporting::{finish_transfer, no_host};
+use crate::resolver::Resolver;
+use crate::run_fault::of_run;
+use crate::target::Target;
+use crate::transfer_wire::TransferWire;
+use archive_runs::{RunFault, put_in_rounds};
+use clap::{ArgMatches, Command};
+use command_line::{Source, ToolFault, new_command, read_to_end, report_file, source_given};
+use std::alloc::{AllocError, Global};
+use std::io::{Read, Write};
+use std::slice;
+use system_files::FileSystem;
+use tftp_ends::MAX_FILE;
+use tftp_packet::Endpoint;
+use tws_reader::read_file;
+
+/// What `put` is asked for.
+#[derive(Drop)]
+pub struct PutArguments {
+    /// The solution file.
+    pub source: Source,
+    /// Where it is sent.
+    pub target: Target,
+}
+
+// What the help of the command begins and ends with.
+const ABOUT: &str = "Send a solution file to an archive";
+
+const HELP: &str =
+    "The archive takes the whole file, and keeps what is better than what it has.\n\nExample: tws put 192.0.2.1 mine.tws";
+
+/// The command line of `put`.
+///
+/// # Errors
+///
+/// If an allocation was refused.
+pub fn command<'a>(alloc: Global) -> Result<Command<'a>, AllocError>
+    ensures app { IfOk result (λ command. app_of command ≡ put_app) }
+    ensures local { IfOk result (λ command. (out-Command command).has_globals ≡ false) }
+{
+    new_command(alloc, "put", ABOUT, HELP)
+        .arg(address_argument(alloc))?
+        .arg(file_argument(alloc, "The solution file; standard input if it is -"))?
+        .arg(port_argument(alloc))
+}
+
+/// What the arguments ask for; `None` if they name no target.
+pub fn asked(alloc: Global, words: &ArgMatches) -> Result<Option<PutArguments>, AllocError>
+    ensures { IfOk result (Answers (AsksToPut (rows_of (found_of words.now)))) }
+{
+    let Some(target) = target_given(alloc, words)? else {
+        return Ok(None);
+    };
+    let source = source_given(alloc, words)?;
+    Ok(Some(PutArguments { source, target }))
+}
+
+// Reads all bytes of an input. One that is longer than a file may be is left once it is known to be.
+fn read_bytes<R: Read>(alloc: Global, input: &mut R) -> Result<Vec<u8>, ToolFault>
+    ensures bytes { IfOk result (λ bytes. IfSome (R.remaining input.old) (λ xs. bytes.items ≡ xs)) }
+    ensures short { IfOk result (λ bytes. length bytes.items ≤ MAX_FILE) }
+    ensures end { OnOk result (IsAtEnd (R.remaining input.new)) }
+    ensures fault { IfErr result (InputFails (R.remaining input.old)) }
+    ensures most { ReadsAtMost (MAX_FILE + INPUT_PIECE) (R.remaining input.old) (R.remaining input.new) }
+{
+    let mut sink = FileBytes::new(alloc);
+    read_to_end(input, &mut sink)?;
+    Ok(sink.bytes)
+}
+
+// Reads all bytes of an input, which must be the text of a solution file.
+fn read_whole<R: Read>(alloc: Global, input: &mut R) -> Result<Vec<u8>, ToolFault>
+    ensures whole { IfOk result (λ bytes. IsWholeInput (R.remaining input.old) bytes.items) }
+    ensures end { OnOk result (IsAtEnd (R.remaining input.new)) }
+    ensures unreadable { IfErr result (IsReadOut (R.remaining input.new)) }
+    ensures fault { IfErr result (WholeFails (R.remaining input.old)) }
+    ensures most { ReadsAtMost (MAX_FILE + INPUT_PIECE) (R.remaining input.old) (R.remaining input.new) }
+{
+    let bytes = read_bytes(alloc, input)?;
+    match read_file(alloc, &bytes) {
+        Ok(_) => Ok(bytes),
+        Err(fault) => Err(ToolFault::of_input(0, fault)),
+    }
+}
+
+// Puts a file in at most `ROUNDS` rounds, and shows how far it has come.
+fn put_shown<N: TransferWire>(
+    wire: &mut N,
+    server: Endpoint,
+    bytes: Vec<u8>,
+) -> Result<u64, RunFault>
+    ensures { PutsInRounds server bytes.items ROUNDS result (N.calls wire.old) (N.calls wire.new) }
+{
+    wire.set_length(bytes.len() as u64);
+    let sent = put_in_rounds(wire, server, bytes, ROUNDS);
+    wire.finish();
+    sent
+}
+
+/// Reads a solution file to its end, and sends it to the archive in at most `ROUNDS` rounds; then prints its length
+/// in bytes. `server` is the archive's host and request port.
+///
+/// # Errors
+///
+/// `Read` if the reader fails or does not end within `INPUT_READS` reads, `Transfer(TooLong)` if the input has more than
+/// `MAX_FILE` bytes, of which at most 65,536 beyond these are read, and `Unreadable` with index 0 and the fault of the
+/// bytes: then nothing is sent. `Socket` if no port was opened, and `Transfer` with the cause of the failed transfer.
+/// `Write` if the writer fails, after the file was sent. `Memory` if an allocation was refused.
+pub fn put_file<R: Read, N: TransferWire, W: Write>(
+    alloc: Global,
+    input: &mut R,
+    wire: &mut N,
+    server: Endpoint,
+    out: &mut W,
+) -> Result<(), ToolFault>
+    ensures end { OnOk result (IsAtEnd (R.remaining input.new)) }
+    ensures unreadable { IfErr result (IsReadOut (R.remaining input.new)) }
+    ensures most { ReadsAtMost (MAX_FILE + INPUT_PIECE) (R.remaining input.old) (R.remaining input.new) }
+    ensures sent { OnOk result (Puts (R.remaining input.old) server (N.calls wire.old) (N.calls wire.new) (W.contents out.old) (W.contents out.new)) }
+    ensures fails { IfErr result (PutFails (R.remaining input.old) server (N.calls wire.old) (N.calls wire.new) (W.contents out.old) (W.contents out.new)) }
+    // Holds also for a writer without ghost contents.
+    ensures unwritten { IfErr result (Unless (out.new ≡ out.old)) }
+{
+    let bytes = read_whole(alloc, input)?;
+    match put_shown(wire, server, bytes) {
+        Ok(len) => write_line(alloc, "sent ", len, " bytes", out),
+        Err(fault) => Err(of_run(fault)),
+    }
+}
+
+/// Runs `put` over this wire, and returns the status.
+pub fn run<S: FileSystem + Resolver, N: TransferWire, R: Read, W: Write, E: Write>(
+    system: &S,
+    wire: &mut N,
+    alloc: Global,
+    arguments: &PutArguments,
+    input: &mut R,
+    out: &mut W,
+    errors: &mut E,
+) -> u8
+    ensures ran { PutRan (S.bytes_of system.now) (S.host_of system.now) (input.new ≡ input.old) arguments.now result (N.calls wire.old) (N.calls wire.new) (R.remaining input.old) (R.remaining input.new) (W.contents out.old) (W.contents out.new) }
+    ensures usage { result ≡ 1 → input.new ≡ input.old }
+    ensures unwritten { result ≢ 0 → result ≢ 2 → out.new ≡ out.old }
+    ensures silent { result ≡ 0 → errors.new ≡ errors.old }
+{
+    let target = &arguments.target;
+    let Some(host) = locate(system, target.address.as_str()) else {
+        return no_host(target.address.as_str(), errors);
+    };
+    let port = target.port;
+    let server = Endpoint { host, port };
+    match &arguments.source {
+        Source::Standard => {
+            let done = put_file(alloc, input, wire, server, out);
+            finish_transfer(done, wire, &[], errors)
+        }
+        Source::Named(name) => match system.open(name.as_str()) {
+            Ok(mut file) => {
+                let done = put_file(alloc, &mut file, wire, server, out);
+                finish_transfer(done, wire, slice::from_ref(name), errors)
+            }
+            Err(cause) => report_file(ToolFault::Read, name.as_str(), &cause, errors),
+        },
+    }
+}

@@ -1,0 +1,206 @@
+//! The command `serve`: its arguments.
+
+ghost use Rattle.std.specs.Prelude.{◌≡◌, false, IfOk, IfSome, IfNone, Some, None, option_map, string_bytes};
+ghost use Rattle.clap.specs.Matches.{found_of};
+ghost use Rattle.clap.specs.Words.{app_of, rows_of, rule_of};
+ghost use Rattle.clap.specs.declared.builder.command.Command.TheViews.{out-Command};
+ghost use Rattle.command_line.specs.Arguments.{Answers};
+ghost use Rattle.archive_commands.specs.Arguments.{number_rule};
+ghost use Rattle.archive_commands.specs.Serve.{AsksToServe, HasHost, IsNoHost, given_address, limit_option, log_rule, numbers_app, per_host_option, places_app, serve_app, text_rule, turns_option};
+
+use crate::address::Address;
+use crate::arguments::{flag_given, number_argument, number_given, port_argument, port_given};
+use crate::limits::{PER_HOST, TURNS};
+use archive_table::LIVE;
+use clap::builder::ArgAction;
+use clap::{Arg, ArgMatches, Command};
+use command_line::{new_command, string_given};
+use std::alloc::{AllocError, Global};
+use tftp_ends::MAX_FILE;
+
+/// What `serve` is asked for.
+#[derive(Drop)]
+pub struct ServeArguments {
+    /// The request port.
+    pub port: u16,
+    /// After how many turns the server stops; with `TURNS` it runs until it is stopped.
+    pub turns: u64,
+    /// The most transfers of one host.
+    pub per_host: u64,
+    /// The most bytes that the text of a collection may have.
+    pub limit: u64,
+    /// The address of this host to listen at, as it was typed; every address if `None`.
+    pub address: Option<String>,
+    /// The folder that keeps the collections, if any.
+    pub dir: Option<String>,
+    /// Whether each event is logged to standard error.
+    pub log: bool,
+    /// The folder that keeps each file that changes a collection, if any.
+    pub history: Option<String>,
+}
+
+impl ServeArguments {
+    /// The folder that keeps the collections, if one was given.
+    pub fn folder(&self) -> Option<&str>
+        ensures some { IfSome result (λ dir. option_map string_bytes self.now.dir ≡ Some dir.now) }
+        ensures none { IfNone result (self.now.dir ≡ None) }
+    {
+        match &self.dir {
+            Some(dir) => Some(dir.as_str()),
+            None => None,
+        }
+    }
+
+    /// The host of the address that was given; 0, which is every address of this host, if none was. `None` if what was
+    /// given is not an address.
+    pub fn host(&self) -> Option<u32>
+        ensures some { IfSome result (HasHost (given_address self.now)) }
+        ensures none { IfNone result (IsNoHost (given_address self.now)) }
+    {
+        let Some(text) = &self.address else {
+            return Some(0);
+        };
+        match Address::read(text.as_str()) {
+            Some(address) => Some(address.host),
+            None => None,
+        }
+    }
+}
+
+// An option with a text.
+fn text_argument<'a>(alloc: Global, name: &'a str, value: &'a str, help: &'a str) -> Arg<'a>
+    ensures rule { rule_of result ≡ text_rule name.now }
+    ensures local { result.global ≡ false }
+{
+    Arg::new(alloc, name)
+        .long(name)
+        .value_name(value)
+        .help(help)
+}
+
+fn log_argument<'a>(alloc: Global) -> Arg<'a>
+    ensures rule { rule_of result ≡ log_rule }
+    ensures local { result.global ≡ false }
+{
+    Arg::new(alloc, "log")
+        .long("log")
+        .action(ArgAction::SetTrue)
+        .help("With a line on standard error for each event")
+}
+
+fn turns_argument<'a>(alloc: Global) -> Arg<'a>
+    ensures rule { rule_of result ≡ number_rule turns_option }
+    ensures local { result.global ≡ false }
+{
+    number_argument(alloc, "turns", "N", TURNS, "Stop after this many turns")
+}
+
+fn per_host_argument<'a>(alloc: Global) -> Arg<'a>
+    ensures rule { rule_of result ≡ number_rule per_host_option }
+    ensures local { result.global ≡ false }
+{
+    number_argument(
+        alloc,
+        "per-host",
+        "N",
+        LIVE as u64,
+        "At most this many transfers of one host, 32 if none is given",
+    )
+}
+
+fn limit_argument<'a>(alloc: Global) -> Arg<'a>
+    ensures rule { rule_of result ≡ number_rule limit_option }
+    ensures local { result.global ≡ false }
+{
+    number_argument(
+        alloc,
+        "limit",
+        "BYTES",
+        MAX_FILE,
+        "Keep no collection of more bytes; all that can be served if none is given",
+    )
+}
+
+// The command with only its options that are numbers.
+fn numbers_command<'a>(alloc: Global) -> Result<Command<'a>, AllocError>
+    ensures app { IfOk result (λ command. app_of command ≡ numbers_app) }
+    ensures local { IfOk result (λ command. (out-Command command).has_globals ≡ false) }
+{
+    new_command(alloc, "serve", ABOUT, HELP)
+        .arg(port_argument(alloc))?
+        .arg(turns_argument(alloc))?
+        .arg(per_host_argument(alloc))?
+        .arg(limit_argument(alloc))
+}
+
+// What the help of the command begins and ends with.
+const ABOUT: &str = "Serve the archive by TFTP";
+
+const HELP: &str =
+    "Takes files that are sent, and serves lynx.tws and ms.tws, until it is stopped.\n\nExample: tws serve --dir /var/lib/tws";
+
+// The command with the options that say where it serves, and what keeps the collections.
+fn places_command<'a>(alloc: Global) -> Result<Command<'a>, AllocError>
+    ensures app { IfOk result (λ command. app_of command ≡ places_app) }
+    ensures local { IfOk result (λ command. (out-Command command).has_globals ≡ false) }
+{
+    numbers_command(alloc)?
+        .arg(text_argument(
+            alloc,
+            "address",
+            "ADDRESS",
+            "This IPv4 address of this host, every one if none is given",
+        ))?
+        .arg(text_argument(alloc, "dir", "DIR", "The folder that keeps the collections"))
+}
+
+/// The command line of `serve`.
+///
+/// # Errors
+///
+/// If an allocation was refused.
+pub fn command<'a>(alloc: Global) -> Result<Command<'a>, AllocError>
+    ensures app { IfOk result (λ command. app_of command ≡ serve_app) }
+    ensures local { IfOk result (λ command. (out-Command command).has_globals ≡ false) }
+{
+    places_command(alloc)?
+        .arg(log_argument(alloc))?
+        .arg(text_argument(
+            alloc,
+            "history",
+            "DIR",
+            "The folder that keeps each file that changes a collection",
+        ))
+}
+
+/// What the arguments ask for; `None` if a number is out of range.
+pub fn asked(alloc: Global, words: &ArgMatches) -> Result<Option<ServeArguments>, AllocError>
+    ensures { IfOk result (Answers (AsksToServe (rows_of (found_of words.now)))) }
+{
+    let Some(port) = port_given(words) else {
+        return Ok(None);
+    };
+    let Some(turns) = number_given(words, "turns", TURNS, TURNS) else {
+        return Ok(None);
+    };
+    let Some(per_host) = number_given(words, "per-host", PER_HOST, LIVE as u64) else {
+        return Ok(None);
+    };
+    let Some(limit) = number_given(words, "limit", MAX_FILE, MAX_FILE) else {
+        return Ok(None);
+    };
+    let address = string_given(alloc, words, "address")?;
+    let dir = string_given(alloc, words, "dir")?;
+    let log = flag_given(words, "log");
+    let history = string_given(alloc, words, "history")?;
+    Ok(Some(ServeArguments {
+        port,
+        turns,
+        per_host,
+        limit,
+        address,
+        dir,
+        log,
+        history,
+    }))
+}

@@ -1,5 +1,0 @@
-use Rattle.std.proofs.Common.{rules}
-use Rattle.archive_folder.proofs.folder_keeper.FolderKeeper.is_usable.Goals as goal
-
-pub returns : goal.returns
-returns g c = search rules

@@ -1,5 +1,0 @@
-pub mod Folder
-pub mod Memory
-pub mod Names
-pub mod Replacing
-pub mod Stored

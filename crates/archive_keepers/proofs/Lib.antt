@@ -1,0 +1,4 @@
+pub mod Past
+pub mod Steps
+pub mod Logs
+pub mod Lifetimes

@@ -1,0 +1,60 @@
+//! What a running server asks of its keeper.
+
+ghost use Rattle.std.specs.Prelude.{◌≡◌, Bool, true};
+
+use crate::folder::Folder;
+use crate::folder_keeper::FolderKeeper;
+use crate::limited::Limited;
+use crate::no_keeper::NoKeeper;
+use archive_table::Keeper;
+use std::io;
+
+/// A keeper that a server can serve with, which reports when that has to end.
+pub trait ServedKeeper: Keeper {
+    /// Whether the outcome of every call of `keep` so far is known.
+    ghost usable: { Self → Bool };
+
+    /// Whether the outcome of every call of `keep` so far is known. Otherwise a restart may load the new collection or the
+    /// last one, so the server has to end.
+    fn is_usable(&self) -> bool
+        ensures { result ≡ usable self.now };
+
+    /// What the system said of its call that failed last, if one has and that is known.
+    fn last_error(&self) -> Option<io::Error>;
+}
+
+impl ServedKeeper for NoKeeper {
+    ghost usable = { λ _. true };
+
+    fn is_usable(&self) -> bool {
+        true
+    }
+
+    fn last_error(&self) -> Option<io::Error> {
+        None
+    }
+}
+
+impl<F: Folder> ServedKeeper for FolderKeeper<F> {
+    ghost usable = { λ k. k.is_usable };
+
+    fn is_usable(&self) -> bool {
+        FolderKeeper::is_usable(self)
+    }
+
+    fn last_error(&self) -> Option<io::Error> {
+        self.folder().last_error()
+    }
+}
+
+impl<K: ServedKeeper> ServedKeeper for Limited<K> {
+    ghost usable = { λ l. K.usable l.keeper };
+
+    fn is_usable(&self) -> bool {
+        self.keeper().is_usable()
+    }
+
+    fn last_error(&self) -> Option<io::Error> {
+        self.keeper().last_error()
+    }
+}

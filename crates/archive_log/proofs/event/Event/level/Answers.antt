@@ -1,5 +1,0 @@
-use Rattle.std.proofs.Common.{rules}
-use Rattle.archive_log.proofs.event.Event.level.Goals as goal
-
-pub returns-in-NotRecorded : goal.returns-in-NotRecorded
-returns-in-NotRecorded c = search rules

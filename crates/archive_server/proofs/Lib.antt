@@ -1,0 +1,9 @@
+pub mod Acting
+pub mod Visits
+pub mod Requests
+pub mod Ports
+pub mod Noticing
+pub mod Transfers
+pub mod Following
+pub mod Dallying
+pub mod Turns

@@ -1,0 +1,4 @@
+pub mod Timers
+pub mod Turn
+pub mod Parts
+pub mod View

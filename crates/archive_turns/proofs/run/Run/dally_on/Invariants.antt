@@ -1,7 +1,0 @@
-use Rattle.std.specs.Prelude.{false}
-use Rattle.archive_turns.specs.Rounds.{MakesDallies}
-use Rattle.archive_turns.proofs.run.Run.dally_on.Given as goal
-
-abbrev pub invariant-loop-round : goal.invariant-loop-round
-invariant-loop-round g l =
-    MakesDallies l.fn.pace false l._round l.initial.self l.self (g.W.Wire.log l.initial.wire) (g.W.Wire.log l.wire)

@@ -1,5 +1,0 @@
-use Rattle.std.proofs.Common.{rules}
-use Rattle.archive_turns.proofs.server.Server.of.Goals as goal
-
-pub returns : goal.returns
-returns g c = search rules

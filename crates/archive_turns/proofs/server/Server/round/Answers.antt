@@ -1,5 +1,0 @@
-use Rattle.archive_turns.proofs.Turns.{round_made}
-use Rattle.archive_turns.proofs.server.Server.round.Goals as goal
-
-pub returns-clause-made : goal.returns-clause-made
-returns-clause-made g c = round_made _ _ _ _ _ _ _ _ _ _ _ _ _ _ c.self.view_is c.earliest.ensures c.next_ready-next.ensures c.noted_ready-self-inside.ensures c.wait-ready.ensures c.pass.ensures.passes

@@ -1,6 +1,0 @@
-use Rattle.std.proofs.Common.{◌≡◌, None, fold, take}
-use Rattle.archive_turns.specs.Timers.{earlier}
-use Rattle.archive_turns.proofs.timers.Timers.earliest.Given as goal
-
-abbrev pub invariant-loop-timer : goal.invariant-loop-timer
-invariant-loop-timer l = l.least ≡ fold earlier None (take l.timer-index l.timer-items)

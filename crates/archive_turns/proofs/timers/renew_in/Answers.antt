@@ -1,6 +1,0 @@
-use Rattle.archive_turns.proofs.Rows.{written_more}
-use Rattle.archive_turns.proofs.timers.renew_in.Goals as goal
-
-pub loop-timer-preserved : goal.loop-timer-preserved
-loop-timer-preserved c =
-    written_more _ _ _ _ _ _ c.loop-timer-test.true c.loop-timer.auto.row c.loop-timer.invariant c.begun_anew.ensures

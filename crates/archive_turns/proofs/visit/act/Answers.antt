@@ -1,5 +1,0 @@
-use Rattle.archive_turns.proofs.Acting.{acts_both}
-use Rattle.archive_turns.proofs.visit.act.Goals as goal
-
-pub returns : goal.returns
-returns g c = acts_both _ _ _ c.send.ensures c.close.ensures

@@ -1,9 +1,0 @@
-use Rattle.archive_turns.specs.Wire.{was_done}
-use Rattle.archive_turns.proofs.Acting.{acts_close, acts_keep}
-use Rattle.archive_turns.proofs.visit.close.Goals as goal
-
-pub returns-then-closes : goal.returns-then-closes
-returns-then-closes g c = acts_close _ _ (was_done c.close.result) c.if-closes.true c.close.ensures.log
-
-pub returns-else-closes : goal.returns-else-closes
-returns-else-closes g c = acts_keep _ _ _ c.if-closes.false

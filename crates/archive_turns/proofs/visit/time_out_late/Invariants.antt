@@ -1,9 +1,0 @@
-use Rattle.std.proofs.Common.{take}
-use Rattle.archive_turns.specs.Timers.{Tracks, restart}
-use Rattle.archive_turns.specs.Parts.{Walks}
-use Rattle.archive_turns.proofs.Dallying.{Falls}
-use Rattle.archive_turns.proofs.visit.time_out_late.Given as goal
-
-abbrev pub invariant-loop-port : goal.invariant-loop-port
-invariant-loop-port g l =
-    Walks (take l.port-index l.port-items) (restart l.mode) l.initial.table l.table l.initial.timers l.timers (g.W.Wire.log l.initial.wire) (g.W.Wire.log l.wire) × Tracks l.table l.timers × Falls (take l.port-index l.port-items) l.initial.table l.table

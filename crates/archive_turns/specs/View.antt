@@ -1,6 +1,0 @@
--- The plain value of a server, without its layout in memory.
-use Rattle.archive_turns.specs.declared.server.Server.TheInside as servers
-use Rattle.archive_turns.specs.Turn.{Server}
-
-abbrev pub server_of : {A : Type 0} → servers.Inside A → Server
-server_of s = record { table = s.table; last = s.last; timers = s.timers; per_host = s.per_host }

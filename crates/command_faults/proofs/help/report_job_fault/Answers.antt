@@ -1,5 +1,0 @@
-use Rattle.std.proofs.Common.{rules}
-use Rattle.command_faults.proofs.help.report_job_fault.Goals as goal
-
-pub returns-in-Memory-clause-ran : goal.returns-in-Memory-clause-ran
-returns-in-Memory-clause-ran g c = search rules

@@ -1,0 +1,89 @@
+//! Why a command failed.
+
+ghost use Rattle.std.specs.Prelude.{◌≡◌};
+ghost use Rattle.command_line.specs.Faults.{written_fault, input_fault, status_of};
+ghost use Rattle.command_line.specs.declared.tool_fault.ToolFault.TheVariants.{Memory};
+
+use crate::status::{FAILED, NOT_TRANSFERRED, UNREADABLE};
+use std::alloc::{AllocError, AllocFailed};
+use tftp_packet::Cause;
+use thiserror::Error;
+use tws_file::{FileFault, OutFault};
+
+/// Why a command failed.
+#[derive(Clone, Copy, Debug, PartialEq, Eq, Error)]
+pub enum ToolFault {
+    /// A reader failed, or did not end.
+    #[error("read fault")]
+    Read,
+    /// The writer failed.
+    #[error("write fault")]
+    Write,
+    /// An input is not a solution file.
+    #[error("input {index}: unreadable: {fault}")]
+    Unreadable {
+        /// Which input, counted from 0.
+        index: usize,
+        fault: FileFault,
+    },
+    /// Out of memory.
+    #[error("out of memory")]
+    Memory,
+    /// A port could not be opened.
+    #[error("socket fault")]
+    Socket,
+    /// A transfer failed.
+    #[error("transfer failed: {0}")]
+    Transfer(Cause),
+}
+
+impl ToolFault {
+    /// The fault of a command that could not read the input with this index. Running out of memory is not the file's
+    /// fault.
+    pub fn of_input(index: usize, fault: FileFault) -> Self
+        ensures { result ≡ input_fault index fault }
+    {
+        match fault {
+            FileFault::Memory => ToolFault::Memory,
+            fault => ToolFault::Unreadable { index, fault },
+        }
+    }
+
+    /// The exit status of a program that failed with this fault.
+    pub fn status(self) -> u8
+        ensures { result ≡ status_of self }
+    {
+        match self {
+            ToolFault::Read | ToolFault::Write | ToolFault::Memory | ToolFault::Socket => FAILED,
+            ToolFault::Unreadable { .. } => UNREADABLE,
+            ToolFault::Transfer(_) => NOT_TRANSFERRED,
+        }
+    }
+}
+
+impl From<AllocError> for ToolFault {
+    ghost from_gives = { λ _ e. e ≡ Memory };
+
+    fn from(_error: AllocError) -> Self {
+        ToolFault::Memory
+    }
+}
+
+impl<T: Drop> From<AllocFailed<T>> for ToolFault {
+    ghost from_gives = { λ _ e. e ≡ Memory };
+
+    fn from(_error: AllocFailed<T>) -> Self {
+        ToolFault::Memory
+    }
+}
+
+impl From<OutFault> for ToolFault {
+    ghost from_gives = { λ fault e. e ≡ written_fault fault };
+
+    fn from(fault: OutFault) -> Self {
+        match fault {
+            OutFault::Io => ToolFault::Write,
+            OutFault::Memory => ToolFault::Memory,
+        }
+    }
+}

@@ -1,5 +1,0 @@
-use Rattle.std.proofs.Common.{rules}
-use Rattle.system_files.proofs.noted.Noted.new.Goals as goal
-
-pub returns-clause-error : goal.returns-clause-error
-returns-clause-error g c = search rules

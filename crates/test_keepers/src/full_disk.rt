@@ -1,0 +1,139 @@
+// A folder whose files take only so many bytes.
+ghost use Rattle.std.specs.Prelude.{false};
+
+use crate::samples::*;
+use archive_keepers::{FileName, Folder, FolderKeeper, MemoryFolder};
+use archive_table::{KeepFault, Keeper};
+use std::alloc::Allocator;
+use std::io;
+use std::io::{ErrorKind, Write};
+use std::test::Fail;
+use test_samples::NINETY;
+use tws_file::Ruleset;
+
+// A file, and how many more bytes it takes.
+#[derive(Drop)]
+struct Limited {
+    file: Vec<u8>,
+    room: usize,
+}
+
+impl Write for Limited {
+    fn write(&mut self, buf: &[u8]) -> io::Result<usize> {
+        if self.room == 0 {
+            return Err(io::Error::from(ErrorKind::StorageFull));
+        }
+        let count = buf.len().min(self.room);
+        self.room -= count;
+        self.file.write(&buf[..count])
+    }
+
+    fn flush(&mut self) -> io::Result<()> {
+        Ok(())
+    }
+}
+
+// A folder without a model, each file of which takes this many bytes.
+#[derive(Drop)]
+struct FullFolder {
+    folder: MemoryFolder,
+    room: usize,
+}
+
+impl Folder for FullFolder {
+    type File = Limited;
+
+    ghost has_model = { false };
+
+    ghost reads = { λ _ _ _. Unit {0} };
+
+    ghost holds = { λ _ _ _. Unit {0} };
+
+    ghost leaves = { λ _ _ _. Unit {0} };
+
+    ghost moment = { λ _. 0 };
+
+    ghost left_since = { λ _ _ _ _. Unit {0} };
+
+    ghost faults = { λ s. ⟦<MemoryFolder as Folder>⟧.faults s.folder };
+
+    ghost counts_now = { λ _ _ _ _ _ _ _. tt };
+
+    ghost only_now = { λ _ _ _ _ _. tt };
+
+    fn remove(&mut self, name: FileName) -> Result<(), KeepFault> {
+        self.folder.remove(name)
+    }
+
+    fn create_new(&mut self, name: FileName) -> Result<Limited, KeepFault> {
+        let file = self.folder.create_new(name)?;
+        let room = self.room;
+        Ok(Limited { file, room })
+    }
+
+    fn abandon(&mut self, file: Limited) {
+        self.folder.abandon(file.file);
+    }
+
+    fn sync(&mut self, name: FileName, file: Limited) -> Result<(), KeepFault> {
+        self.folder.sync(name, file.file)
+    }
+
+    fn rename(&mut self, from: FileName, to: FileName) -> Result<(), KeepFault> {
+        self.folder.rename(from, to)
+    }
+
+    fn sync_folder(&mut self) -> Result<(), KeepFault> {
+        self.folder.sync_folder()
+    }
+
+    fn read<A: Allocator>(
+        &mut self,
+        alloc: A,
+        name: FileName,
+    ) -> Result<Option<Vec<u8, A>>, KeepFault> {
+        self.folder.read(alloc, name)
+    }
+
+    fn last_error(&self) -> Option<io::Error> {
+        self.folder.last_error()
+    }
+}
+
+// Whether there is a draft.
+fn has_draft(rt: HostRuntime, folder: FullFolder) -> Result<bool, KeepFault> {
+    let mut folder = folder;
+    let draft = folder.read(rt.alloc(), FileName::Draft(Ruleset::Lynx))?;
+    Ok(draft.is_some())
+}
+
+// The result of a keep of NINETY over HUNDRED, and what is loaded then.
+fn keep_and_load<K: Keeper>(
+    rt: HostRuntime,
+    keeper: &mut K,
+) -> Result<(Result<(), KeepFault>, u8), Fail> {
+    let result = keep(rt, keeper, NINETY)?;
+    Ok((result, loaded(rt, keeper)?))
+}
+
+// The same in a folder whose files take this many bytes; whether there is a draft, and whether the keeper can still be
+// used.
+fn kept_in(
+    rt: HostRuntime,
+    room: usize,
+) -> Result<((Result<(), KeepFault>, u8), bool, bool), Fail> {
+    let folder = folder(rt)?;
+    let mut keeper = FolderKeeper::new(FullFolder { folder, room });
+    let kept = keep_and_load(rt, &mut keeper)?;
+    let usable = keeper.is_usable();
+    Ok((kept, has_draft(rt, keeper.into_folder())?, usable))
+}
+
+#[test]
+fn a_write_that_fails(rt: HostRuntime) -> Result<(), Fail> {
+    let failed = (Err(KeepFault::Device), 1);
+    for (room, kept) in [(0, failed), (27, failed), (28, (Ok(()), 2))] {
+        assert_eq!(rt; kept_in(rt, room)?, (kept, false, true));
+    }
+    Ok(())
+}

@@ -1,0 +1,13 @@
+//! Tests only: keeps in a folder, each call of which fails in turn, and what a crash leaves; keeps with a limit.
+#![tactic(auto)]
+
+#[cfg(test)]
+mod crashes;
+#[cfg(test)]
+mod full_disk;
+#[cfg(test)]
+mod fuse;
+#[cfg(test)]
+mod limits;
+#[cfg(test)]
+mod samples;

@@ -1,5 +1,0 @@
-use Rattle.std.proofs.Common.{rules}
-use Rattle.tws_tool.proofs.address.number_of.Goals as goal
-
-pub returns : goal.returns
-returns c = search rules

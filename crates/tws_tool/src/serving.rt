@@ -1,0 +1,203 @@
+//! The command `serve` over the system: its folder, its port, its log and its history.
+
+ghost use Rattle.std.specs.Prelude.{◌≡◌, ◌≤◌, List, min, Some, None, IfSome, option_map, string_bytes};
+ghost use Rattle.tftp_ends.specs.declared.limits.TheConstants.{MAX_FILE};
+ghost use Rattle.archive_keepers.specs.Limited.{own_calls};
+ghost use Rattle.archive_table.specs.Keeper.{Keeping};
+ghost use Rattle.archive_table.specs.declared.limits.TheConstants.{LIVE};
+ghost use Rattle.archive_server.specs.Turn.{fresh_server};
+ghost use Rattle.archive_commands.specs.Serve.{ServeRan, Served, ServedFrom};
+
+use crate::served_folder::{keeper_of, report_unloaded};
+use archive_commands::{ServeArguments, Service, bad_address};
+use archive_history::HostHistory;
+use archive_host::{DirKeeper, UdpWire};
+use archive_keepers::{NoKeeper, ServedKeeper};
+use archive_log::{ReportingKeeper, ServerLog};
+use archive_server::{Server, ServerObserver};
+use archive_table::NoObserver;
+use arrayvec::ArrayString;
+use command_line::{FAILED, ToolFault, report, report_cause};
+use log::sink::Console;
+use std::alloc::Global;
+use std::fmt::Write as _;
+use std::fs::File;
+use std::io;
+use std::io::Write;
+use std::net::Net;
+use std::random::RandomSource;
+use std::rt::Files;
+use std::time::Clock;
+use tftp_packet::Endpoint;
+
+// The longest name of a port, `port 65535`.
+const PORT_NAME: usize = 10;
+
+// Reports that the request port cannot be opened, with the system's cause on a second line, and returns the status.
+fn no_port<E: Write>(port: u16, cause: &io::Error, errors: &mut E) -> u8
+    ensures { result ≡ 2 }
+{
+    let status = report(ToolFault::Socket, &[], errors);
+    let mut name = ArrayString::<PORT_NAME>::new();
+    let _ = write!(name, "port {port}");
+    report_cause(status, name.as_str(), cause, errors)
+}
+
+// Reports that the folder of the history cannot be opened, with the system's cause on a second line, and returns the
+// status.
+fn no_history<E: Write>(cause: &io::Error, name: &str, errors: &mut E) -> u8
+    ensures { result ≡ 2 }
+{
+    let _ = writeln!(errors, "tws: {name}: no folder");
+    report_cause(FAILED, name, cause, errors)
+}
+
+// Standard error, if there is to be a log.
+fn console<P: Eprint + Copy>(rt: P, is_logged: bool) -> Option<Console<P>> {
+    if is_logged { Some(Console(rt)) } else { None }
+}
+
+// The history that was asked for, if one was. `None` if its folder cannot be opened, which is reported.
+fn history_of<P: Files<File = File> + AllocGlobal + Copy, E: Write>(
+    rt: P,
+    arguments: &ServeArguments,
+    errors: &mut E,
+) -> Option<Option<HostHistory<P>>>
+    ensures silent { IfSome result (λ _. errors.new ≡ errors.old) }
+{
+    let Some(dir) = &arguments.history else {
+        return Some(None);
+    };
+    match HostHistory::open(rt, dir.as_str()) {
+        Ok(history) => Some(Some(history)),
+        Err(cause) => {
+            no_history(&cause, dir.as_str(), errors);
+            None
+        }
+    }
+}
+
+// Where and how a server serves: this host's address, and what was asked for.
+#[derive(Drop)]
+struct Serving<'a, P> {
+    rt: P,
+    alloc: Global,
+    arguments: &'a ServeArguments,
+    host: u32,
+}
+
+impl<'a, P: Files<File = File> + Net + Clock + RandomSource + Eprint + AllocGlobal + Copy> Serving<
+    'a,
+    P,
+> {
+    // Serves with this server, keeper and observer, and returns the status.
+    fn serve_observed<K: ServedKeeper + Drop, O: ServerObserver + Drop, W: Write, E: Write>(
+        &self,
+        server: Server,
+        keeper: ReportingKeeper<K, P, Option<Console<P>>>,
+        observer: O,
+        out: &mut W,
+        errors: &mut E,
+    ) -> u8
+        requires fresh { server ≡ fresh_server LIVE server.table }
+        requires port { server.table.request ≡ self.now.arguments.now.port }
+        // What is longer is refused by such a keeper.
+        requires limit { keeper.keeper.limit ≡ min self.now.arguments.now.limit MAX_FILE }
+        ensures served { (last : K) × (entries : List Keeping) × Served self.now.arguments.now.port self.now.arguments.now.turns self.now.arguments.now.per_host server.table result (K.usable last) None None (own_calls (K.calls keeper.keeper.keeper) keeper.keeper.entries) (own_calls (K.calls last) entries) (W.contents out.old) (W.contents out.new) }
+        ensures silent { result ≡ 0 → errors.new ≡ errors.old }
+    {
+        let (host, port) = (self.host, self.arguments.port);
+        match UdpWire::listen_at(self.rt, Endpoint { host, port }) {
+            Ok(mut wire) => Service::new(self.arguments, host, server, keeper, observer).run(
+                self.alloc, &mut wire, out, errors,
+            ),
+            Err(cause) => no_port(port, &cause, errors),
+        }
+    }
+
+    // Serves with this server and keeper, with the log and the history that were asked for.
+    fn serve_kept<K: ServedKeeper + Drop, W: Write, E: Write>(
+        &self,
+        server: Server,
+        keeper: K,
+        out: &mut W,
+        errors: &mut E,
+    ) -> u8
+        requires fresh { server ≡ fresh_server LIVE server.table }
+        requires port { server.table.request ≡ self.now.arguments.now.port }
+        ensures served { (last : K) × (entries more : List Keeping) × Served self.now.arguments.now.port self.now.arguments.now.turns self.now.arguments.now.per_host server.table result (K.usable last) None None (own_calls (K.calls keeper) entries) (own_calls (K.calls last) more) (W.contents out.old) (W.contents out.new) }
+        ensures silent { result ≡ 0 → errors.new ≡ errors.old }
+    {
+        let arguments = self.arguments;
+        let log = console(self.rt, arguments.log);
+        let keeper = ReportingKeeper::new(keeper, arguments.limit, self.rt, log);
+        if !arguments.log && arguments.history.is_none() {
+            return self.serve_observed(server, keeper, NoObserver, out, errors);
+        }
+        match history_of(self.rt, arguments, errors) {
+            Some(history) => {
+                let log = console(self.rt, arguments.log);
+                let observer = ServerLog::new(self.alloc, self.rt, log, history);
+                self.serve_observed(server, keeper, observer, out, errors)
+            }
+            None => FAILED,
+        }
+    }
+
+    // Serves with what this keeper of the folder of this name has.
+    fn serve_folder<W: Write, E: Write>(
+        &self,
+        mut keeper: DirKeeper<P>,
+        name: &str,
+        out: &mut W,
+        errors: &mut E,
+    ) -> u8
+        requires { option_map string_bytes self.now.arguments.now.dir ≡ Some name.now }
+        ensures served { ServedFrom self.now.arguments.now result (W.contents out.old) (W.contents out.new) }
+        ensures silent { result ≡ 0 → errors.new ≡ errors.old }
+    {
+        match Server::load(self.alloc, self.arguments.port, &mut keeper) {
+            Ok(server) => self.serve_kept(server, keeper, out, errors),
+            Err(_) => report_unloaded(self.alloc, &mut keeper, name, errors),
+        }
+    }
+
+    // Serves with the collections kept in the folder that was given, if one was.
+    fn serve<W: Write, E: Write>(&self, out: &mut W, errors: &mut E) -> u8
+        ensures served { ServedFrom self.now.arguments.now result (W.contents out.old) (W.contents out.new) }
+        ensures silent { result ≡ 0 → errors.new ≡ errors.old }
+    {
+        let Some(dir) = self.arguments.folder() else {
+            let server = Server::new(self.alloc, self.arguments.port);
+            return self.serve_kept(server, NoKeeper, out, errors);
+        };
+        match keeper_of(self.rt, dir, errors) {
+            Some(keeper) => self.serve_folder(keeper, dir, out, errors),
+            None => FAILED,
+        }
+    }
+}
+
+/// Runs `serve`, and returns the status.
+pub(crate) fn run<
+    P: Files<File = File> + Net + Clock + RandomSource + Eprint + AllocGlobal + Copy,
+    W: Write,
+    E: Write,
+>(rt: P, alloc: Global, arguments: &ServeArguments, out: &mut W, errors: &mut E) -> u8
+    ensures ran { ServeRan arguments.now result (W.contents out.old) (W.contents out.new) }
+    ensures usage { result ≡ 1 → out.new ≡ out.old }
+    ensures status { result ≤ 2 }
+    ensures silent { result ≡ 0 → errors.new ≡ errors.old }
+{
+    let Some(host) = arguments.host() else {
+        let address = arguments.address.as_deref().unwrap_or("");
+        return bad_address(address, "not an IPv4 address", errors);
+    };
+    let serving = Serving {
+        rt,
+        alloc,
+        arguments,
+        host,
+    };
+    serving.serve(out, errors)
+}
